@@ -1,0 +1,663 @@
+-- Each check says what `Validate` says of the part that the reader of `File` finds at its position.
+use mathlib.Core.Path.{_≡_, refl, sym, ap, _∙_, subst}
+use mathlib.Core.List.{List, [], _∷_, _++_}
+use mathlib.Core.Bool.{Bool, true, false, _||_, not}
+use mathlib.Core.Option.{Option, none, some}
+use Prim.Native.Nat.{ℕ, zero, suc, _+_, _-_, _≤_, _<_}
+use native.Mathlib.Omega.{arith}
+use native.Mathlib.Decide.{decLt}
+use lib.ListN.{length, getD}
+use lib.Dec.{ltb, leb, eqb}
+use borrow.Author.Tests.{lt-ltb, le-ltb, le-leb, lt-leb, eq-eqb, ne-eqb, eqb-true, eqb-false}
+use Rattle.texts.specs.Lists.{if_then_else_, absent, listed, any, find}
+use Rattle.texts.specs.Texts.{Text, text, eqT, memT}
+use Rattle.model.specs.Answer.{Answer, answer, refused, Verdict, accept, _>>=_, _and_, _when_, each-accepted}
+use Rattle.model.specs.Model.{
+  Source,
+  observational,
+  Entity,
+  Predicate,
+  state,
+  Trigger,
+  Effect,
+  toggle,
+  delay,
+  condition,
+  choose,
+  wait,
+  Actions,
+  done,
+  act,
+  Branches,
+  no-branch,
+  branch,
+  named,
+}
+use Rattle.model.specs.File.{_>>=_ as _>>=ᵣ_}
+use Rattle.model.specs.File.{
+  Got,
+  got,
+  broken,
+  Reader,
+  give,
+  refuse,
+  u8,
+  u16,
+  u32,
+  times,
+  counted,
+  flag,
+  source,
+  place,
+  predicate,
+  trigger,
+  entity,
+  branches,
+  effect,
+  actions-of,
+  actions,
+  ascending,
+}
+use Rattle.model.specs.Validate.{
+  day,
+  undecided,
+  counting,
+  check-value,
+  check-predicate,
+  check-trigger,
+  check-effect,
+  check-actions,
+  check-branches,
+}
+use Rattle.model_walk.proofs.Found.{
+  Case,
+  is-true,
+  is-false,
+  case,
+  Bound,
+  bound,
+  given,
+  Wide,
+  u8-wide,
+  u16-wide,
+  source-wide,
+  kind-wide,
+  Counted,
+  counted-found,
+  Kind,
+  kind-found,
+  Place,
+  place-found,
+  Value?,
+  Place?,
+  EntityParts,
+  entity-found,
+  TriggerParts,
+  trigger-found,
+}
+use Rattle.model_walk.proofs.Found as found
+use Rattle.model_walk.proofs.Sees.{sees-flag}
+use Rattle.model_parts.specs.Stand.{Reads, Stand}
+use Rattle.model_parts.proofs.Stands.{More, more}
+use Rattle.model_order.specs.Order.{Fixed}
+use Rattle.model_check.specs.declared.Checked.{Checked}
+use Rattle.model_check.specs.declared.Checked.the-variants as checked
+use Rattle.model_check.specs.declared.Declared.{Declared}
+use Rattle.model_check.specs.Checks.{
+  Check,
+  and-then,
+  _⨾_,
+  by,
+  stay,
+  refuse-if,
+  skipC,
+  timesC,
+  countC,
+  place-is,
+  among,
+  listed-at,
+  first-from,
+  number-of,
+  entity-valueC,
+  valueC,
+  pairC,
+  predicateC,
+  predicatesC,
+  declaredC,
+  optionalC,
+  trigger-ofC,
+  triggerC,
+  triggersC,
+  toggleC,
+  waitC,
+  simpleC,
+  branchC,
+  choiceC,
+  actionC,
+  actionsC,
+}
+use Rattle.model_check.proofs.Laws as laws
+
+-- ---- verdicts
+
+-- what a check says where the definition says x of a part that ends at q
+unfoldable pub after : ℕ → Answer ℕ → Checked
+after q (answer m) = checked.To q m
+after q (refused k) = checked.Refused k
+
+pub after-same : (q : ℕ) {x y : Answer ℕ} → x ≡ y → after q x ≡ after q y
+after-same q e = ap (after q) e
+
+pub and-bind : (v : Verdict) (n : ℕ) (f : ℕ → Answer ℕ) → ((v and answer n) >>= f) ≡ (v and f n)
+unfolding _>>=_ _and_
+and-bind (answer tt) n f = refl
+and-bind (refused k) n f = refl
+
+pub and-assoc : {A : Type 0} (v w : Verdict) (a : Answer A) → ((v and w) and a) ≡ (v and w and a)
+unfolding _and_
+and-assoc (answer tt) w a = refl
+and-assoc (refused k) w a = refl
+
+pub and-then-bind : (v : Verdict) (x : Answer ℕ) (f : ℕ → Answer ℕ) → ((v and x) >>= f) ≡ (v and (x >>= f))
+unfolding _>>=_ _and_
+and-then-bind (answer tt) x f = refl
+and-then-bind (refused k) x f = refl
+
+bind-bind : (x : Answer ℕ) (f g : ℕ → Answer ℕ) → ((x >>= f) >>= g) ≡ (x >>= λ m. f m >>= g)
+unfolding _>>=_
+bind-bind (answer m) f g = refl
+bind-bind (refused k) f g = refl
+
+pub accept-and : {A : Type 0} (a : Answer A) → (accept and a) ≡ a
+unfolding _and_
+accept-and a = refl
+
+-- ---- one check after the other
+
+module _ (s : List ℕ) where
+  pub by-got : (r : Reader ℕ) (f : ℕ → Check) (p n : ℕ) {v q : ℕ} → r s p ≡ got v q → by r f s p n ≡ f v s q n
+  unfolding by
+  by-got r f p n e = rw (e, by)
+
+  -- a first part that ends at q, and then a check of what follows
+  pub next : (k l : Check) (p n q t : ℕ) (x : Answer ℕ) (f : ℕ → Answer ℕ) → k s p n ≡ after q x → ((m : ℕ) → l s q m ≡ after t (f m)) → (k ⨾ l) s p n ≡ after t (x >>= f)
+  unfolding _⨾_ and-then after _>>=_
+  next k l p n q t x f e h = ap (λ (y : Checked). and-then y (l s)) e ∙ cases x
+    where
+      cases : (y : Answer ℕ) → and-then (after q y) (l s) ≡ after t (y >>= f)
+      cases (answer m) = h m
+      cases (refused k) = refl
+
+  -- a verdict that counts nothing, and then a check
+  pub next-and : (k l : Check) (p n q t : ℕ) (v : Verdict) (f : ℕ → Answer ℕ) → k s p n ≡ after q (v and answer n) → ((m : ℕ) → l s q m ≡ after t (f m)) → (k ⨾ l) s p n ≡ after t (v and f n)
+  next-and k l p n q t v f e h = next k l p n q t (v and answer n) f e h ∙ after-same t (and-bind v n f)
+
+  pub skip-wide : (w p n : ℕ) {q : ℕ} → Wide w s p q → skipC w s p n ≡ checked.To q n
+  skip-wide w p n h = laws.skip-in s p n w (h .inside) ∙ ap (λ (x : ℕ). checked.To x n) (sym (h .ends))
+
+  -- bytes that aren't looked at, and then a check
+  pub skip-then : (w : ℕ) (l : Check) (p n : ℕ) {q : ℕ} → Wide w s p q → (skipC w ⨾ l) s p n ≡ l s q n
+  skip-then w l p n h = laws.to s p n (skipC w) l refl (skip-wide w p n h)
+
+  pub refuse-if-is : (k : ℕ) (b : Bool) (p n : ℕ) → refuse-if k b s p n ≡ after p (k when b and answer n)
+  unfolding _when_ _and_ after
+  refuse-if-is k true p n = laws.refuse-yes s p n k refl
+  refuse-if-is k false p n = laws.refuse-no s p n k refl
+
+  pub stays : (p n : ℕ) → stay s p n ≡ after p (accept and answer n)
+  unfolding stay after _and_
+  stays p n = refl
+
+  pub skips : (w p n : ℕ) {q : ℕ} → Wide w s p q → skipC w s p n ≡ after q (accept and answer n)
+  unfolding after _and_
+  skips w p n h = skip-wide w p n h
+
+  -- a list: its members' verdicts, one after the other
+  module _ {A : Type 0} (r : Reader A) (c : A → Verdict) (k : Check) (h : (p n : ℕ) (a : A) (q : ℕ) → r s p ≡ got a q → k s p n ≡ after q (c a and answer n)) where
+    none-agrees : (p n : ℕ) (l : List A) (q : ℕ) → times zero r s p ≡ got l q → timesC zero k s p n ≡ after q (each-accepted c l and answer n)
+    unfolding times give timesC stay each-accepted after _and_
+    none-agrees p n l q e = let z : l ≡ [] = cc in let y : p ≡ q = cc in rw (z, y)
+
+    more-agrees : (i p n : ℕ) (l : List A) (q : ℕ) (m : More r s i p q l) → (k ⨾ timesC i k) s p n ≡ after q (c (m .first) and (each-accepted c (m .others) and answer n)) → timesC (suc i) k s p n ≡ after q (each-accepted c l and answer n)
+    unfolding timesC each-accepted
+    more-agrees i p n l q m g =
+        g
+        ∙ after-same q (sym (and-assoc (c (m .first)) (each-accepted c (m .others)) (answer n))
+        ∙ ap (λ (x : List A). each-accepted c x and answer n) (sym (m .both)))
+
+    pub times-agrees : (i p n : ℕ) (l : List A) (q : ℕ) → times i r s p ≡ got l q → timesC i k s p n ≡ after q (each-accepted c l and answer n)
+    times-agrees zero p n l q e = none-agrees p n l q e
+    times-agrees (suc i) p n l q e =
+        let m = more r s i p e in
+        more-agrees i p n l q m (
+        next-and k (timesC i k) p n (m .after) q (c (m .first)) (λ j. each-accepted c (m .others) and answer j)
+        (h p n (m .first) (m .after) (m .is-first))
+        (λ j. times-agrees i (m .after) j (m .others) q (m .are-others)))
+
+-- ---- what a model declares
+
+-- what the file declares: its texts ascend, its entities stand where `d` says, and the fixed texts too
+pub record Grounded (s : List ℕ) (d : Declared) (ts : List Text) (es : List Entity) : Type 0 where
+  pub same : (i j : ℕ) → i < length ts → j < length ts → eqT (getD ts i []) (getD ts j []) ≡ eqb i j
+  pub counts : d .entities .count ≡ length es
+  pub few : length es ≤ 100
+  pub stand : Stand (entity ts) s (d .entities .starts) es
+  pub on : Fixed ts (d .on) (text "on")
+  pub off : Fixed ts (d .off) (text "off")
+  pub unknown : Fixed ts (d .unknown) (text "unknown")
+  pub unavailable : Fixed ts (d .unavailable) (text "unavailable")
+
+-- ---- values
+
+pub eqb-sym : (a b : ℕ) → eqb a b ≡ eqb b a
+eqb-sym a b = cases (case (eqb a b))
+  where
+    cases : Case (eqb a b) → eqb a b ≡ eqb b a
+    cases (is-true h) = h ∙ sym (eq-eqb b a (sym (eqb-true a b h)))
+    cases (is-false h) = h ∙ sym (ne-eqb b a (λ e. eqb-false a b h (sym e)))
+
+pub or-is : (a b : Bool) → (elim a [ true ↦ true | false ↦ b ]) ≡ (a || b)
+or-is true b = refl
+or-is false b = refl
+
+-- where the first entity with a name stands among the positions from the i-th on
+data First (x : Text) (l : List Entity) (d : Entity) (found : ℕ) (i : ℕ) : Type 0 where
+  here : (j : ℕ) → j < length l → find (named x) l ≡ some (getD l j d) → found ≡ i + j → First x l d found i
+  nowhere : find (named x) l ≡ none → found ≡ i + length l → First x l d found i
+
+module _ (s : List ℕ) (ts : List Text) (same : (i j : ℕ) → i < length ts → j < length ts → eqT (getD ts i []) (getD ts j []) ≡ eqb i j) where
+  -- the places that were read are those of the texts
+  pub among-agrees : (v : ℕ) → v < length ts → (i p : ℕ) (l : List Text) (q : ℕ) → times i (place ts) s p ≡ got l q → among i s p v ≡ memT (getD ts v []) l
+  unfolding times give among memT any
+  among-agrees v h zero p l q e = let z : l ≡ [] = cc in rw z
+  among-agrees v h (suc i) p l q e =
+      let m = more (place ts) s i p e in
+      let x = place-found ts (m .is-first) in
+      let t : eqT (getD ts v []) (m .first) ≡ eqb (x .at) v = ap (eqT (getD ts v [])) (x .is-text) ∙ same v (x .at) h (x .is-in) ∙ eqb-sym v (x .at) in
+      let rest = among-agrees v h i (m .after) (m .others) q (m .are-others) in
+      rw (x .is-place, among) (
+      or-is (eqb (x .at) v) (among i s (m .after) v)
+      ∙ ap (λ (b : Bool). eqb (x .at) v || b) rest
+      ∙ ap (λ (b : Bool). b || any (eqT (getD ts v [])) (m .others)) (sym t)
+      ∙ ap (any (eqT (getD ts v []))) (sym (m .both)))
+
+  -- a place at the start of an entity is that of its name
+  name-is : (x : ℕ) → x < length ts → (p : ℕ) (e : Entity) → Reads (entity ts) s p e → place-is s p x ≡ named (getD ts x []) e
+  unfolding place-is named
+  name-is x h p e r =
+      let n = entity-found ts (r .1) .name in
+      rw (n .is-place, place-is) (sym (same (n .at) x (n .is-in) h) ∙ ap (λ (y : Text). eqT y (getD ts x [])) (sym (n .is-text)))
+
+  first-step : (starts : List ℕ) (x : ℕ) → x < length ts → (d e : Entity) (l : List Entity) (i : ℕ) → place-is s (getD starts i 0) x ≡ named (getD ts x []) e →
+      First (getD ts x []) l d (first-from starts x s (length l) (i + 1)) (i + 1) → First (getD ts x []) (e ∷ l) d (first-from starts x s (suc (length l)) i) i
+  unfolding find first-from
+  first-step starts x h d e l i t rest = cases (case (place-is s (getD starts i 0) x)) rest
+    where
+      cases : Case (place-is s (getD starts i 0) x) → First (getD ts x []) l d (first-from starts x s (length l) (i + 1)) (i + 1) → First (getD ts x []) (e ∷ l) d (first-from starts x s (suc (length l)) i) i
+      cases (is-true b) r = here 0 (omega arith) (rw (sym t ∙ b)) (rw (b, first-from) (omega arith))
+      cases (is-false b) (here j g f o) = here (suc j) (omega arith) (rw (sym t ∙ b) f) (rw (b, first-from) (o ∙ (omega arith)))
+      cases (is-false b) (nowhere f o) = nowhere (rw (sym t ∙ b) f) (rw (b, first-from) (o ∙ (omega arith)))
+
+  first-agrees : (starts : List ℕ) (x : ℕ) → x < length ts → (d : Entity) (l : List Entity) (i : ℕ) →
+      ((j : ℕ) → j < length l → Reads (entity ts) s (getD starts (i + j) 0) (getD l j d)) → First (getD ts x []) l d (first-from starts x s (length l) i) i
+  unfolding find first-from
+  first-agrees starts x h d [] i f = nowhere refl (omega arith)
+  first-agrees starts x h d (e ∷ l) i f =
+      let z : i + 0 ≡ i = omega arith in
+      let r = subst (λ (k : ℕ). Reads (entity ts) s (getD starts k 0) e) z (f 0 (omega arith)) in
+      first-step starts x h d e l i (name-is x h (getD starts i 0) e r) (first-agrees starts x h d l (i + 1) (λ j g.
+      let y : i + suc j ≡ i + 1 + j = omega arith in
+      subst (λ (k : ℕ). Reads (entity ts) s (getD starts k 0) (getD l j d)) y (f (suc j) (omega arith))))
+
+-- ---- the parts, over a file whose declarations are known
+module _ (s : List ℕ) (d : Declared) (ts : List Text) (es : List Entity) (g : Grounded s d ts es) where
+  -- the text at a place
+  abbrev T : ℕ → Text
+  T x = getD ts x []
+
+  -- a test of a place against a fixed text
+  pub fixed-is : (v x : ℕ) (w : Text) → v < length ts → Fixed ts x w → eqT (T v) w ≡ eqb v x
+  fixed-is v x w h f = ap (eqT (T v)) (sym (f .is-text)) ∙ g .same v x h (f .is-in)
+
+  undecided-is : (v : ℕ) → v < length ts → undecided (T v) ≡ (eqb v (d .unknown) || eqb v (d .unavailable))
+  unfolding undecided
+  undecided-is v h =
+      ap (λ (b : Bool). b || eqT (T v) (text "unavailable")) (fixed-is v (d .unknown) (text "unknown") h (g .unknown))
+      ∙ ap (λ (b : Bool). eqb v (d .unknown) || b) (fixed-is v (d .unavailable) (text "unavailable") h (g .unavailable))
+
+  -- where the entity with the name at x is
+  number-agrees : (x : ℕ) → x < length ts → (e₀ : Entity) → First (T x) es e₀ (number-of (d .entities) x s) 0
+  number-agrees x h e₀ =
+      subst (λ (c : ℕ). First (T x) es e₀ (first-from (d .entities .starts) x s c 0) 0) (sym (g .counts))
+      (first-agrees s ts (g .same) (d .entities .starts) x h e₀ es 0 (λ j k.
+      let z : j ≡ 0 + j = omega arith in
+      subst (λ (i : ℕ). Reads (entity ts) s (getD (d .entities .starts) i 0) (getD es j e₀)) z (g .stand e₀ j (omega (arith, g .few)) k)))
+
+  -- the values that the i-th entity may have
+  domain-agrees : (v : ℕ) → v < length ts → (p : ℕ) (e : Entity) → Reads (entity ts) s p e → listed-at s (p + 2) v ≡ memT (T v) (e .domain)
+  unfolding listed-at
+  domain-agrees v h p e r =
+      let f = entity-found ts (r .1) in
+      let w = u16-wide s p (f .name .is-place) in
+      let c = f .domain .is-count in
+      let o : u16 s (p + 2) ≡ got (f .domain .count) (f .domain .start) = ap (u16 s) (sym (w .ends)) ∙ c in
+      rw (o, listed-at) (among-agrees s ts (g .same) v h (f .domain .count) (f .domain .start) (e .domain) (f .at-initial) (f .domain .are-values))
+
+  -- the tests of a value, in the code's order and in the definition's
+  tests-agree : (a b c : Bool) (p n : ℕ) → (if a then checked.To p n else if b then checked.To p n else if c then checked.To p n else checked.Refused 8) ≡ after p (8 when not ((a || b) || c) and answer n)
+  unfolding _when_ _and_ after
+  tests-agree true b c p n = refl
+  tests-agree false true c p n = refl
+  tests-agree false false true p n = refl
+  tests-agree false false false p n = refl
+
+  check-none : (x v : Text) → find (named x) es ≡ none → check-value es x v ≡ refused 7
+  unfolding check-value
+  check-none x v f = rw (f, check-value)
+
+  check-some : (x v : Text) {e : Entity} → find (named x) es ≡ some e → check-value es x v ≡ 8 when not (undecided v || memT v (e .domain))
+  unfolding check-value
+  check-some x v f = rw (f, check-value)
+
+  -- a value of the i-th entity
+  entity-value-agrees : (i v p n : ℕ) (e : Entity) → i < length es → v < length ts → Reads (entity ts) s (getD (d .entities .starts) i 0) e → entity-valueC d i v s p n ≡ after p (8 when not (undecided (T v) || memT (T v) (e .domain)) and answer n)
+  unfolding entity-valueC
+  entity-value-agrees i v p n e h k r =
+      rw (lt-leb (d .entities .count) i (omega (arith, g .counts))) (
+      ap (λ (b : Bool). if eqb v (d .unknown) then checked.To p n else if eqb v (d .unavailable) then checked.To p n else if b then checked.To p n else checked.Refused 8) (domain-agrees v k (getD (d .entities .starts) i 0) e r)
+      ∙ tests-agree (eqb v (d .unknown)) (eqb v (d .unavailable)) (memT (T v) (e .domain)) p n
+      ∙ ap (λ (b : Bool). after p (8 when not (b || memT (T v) (e .domain)) and answer n)) (sym (undecided-is v k)))
+
+  pub value-agrees : (x v : ℕ) → x < length ts → v < length ts → (p n : ℕ) → valueC d x v s p n ≡ after p (check-value es (T x) (T v) and answer n)
+  unfolding _and_ after
+  value-agrees x v h k p n = laws.value-is d s p n x v _ refl ∙ cases (number-agrees x h e₀)
+    where
+      -- any entity
+      e₀ : Entity
+      e₀ = record { name = []; domain = []; initial = []; tier = observational; stale-after = none }
+
+      cases : First (T x) es e₀ (number-of (d .entities) x s) 0 → entity-valueC d (number-of (d .entities) x s) v s p n ≡ after p (check-value es (T x) (T v) and answer n)
+      cases (here j q f o) =
+          let z : number-of (d .entities) x s ≡ j = omega arith in
+          ap (λ (i : ℕ). entity-valueC d i v s p n) z
+          ∙ entity-value-agrees j v p n (getD es j e₀) q k (g .stand e₀ j (omega (arith, g .few)) q)
+          ∙ ap (λ (y : Verdict). after p (y and answer n)) (sym (check-some (T x) (T v) f))
+      cases (nowhere f o) =
+          laws.value-7 d s p n (number-of (d .entities) x s) v (omega (arith, g .counts))
+          ∙ ap (λ (y : Verdict). after p (y and answer n)) (sym (check-none (T x) (T v) f))
+
+  -- 15
+  pub declared-agrees : (x : ℕ) → x < length ts → (p n : ℕ) → declaredC d x s p n ≡ after p (15 when absent (find (named (T x)) es) and answer n)
+  unfolding absent _when_ _and_ after
+  declared-agrees x h p n = cases (number-agrees x h e₀)
+    where
+      e₀ : Entity
+      e₀ = record { name = []; domain = []; initial = []; tier = observational; stale-after = none }
+
+      cases : First (T x) es e₀ (number-of (d .entities) x s) 0 → declaredC d x s p n ≡ after p (15 when absent (find (named (T x)) es) and answer n)
+      cases (here j q f o) = laws.declared-yes d s p n x _ refl (omega (arith, g .counts)) ∙ ap (λ (y : Option Entity). after p (15 when absent y and answer n)) (sym f)
+      cases (nowhere f o) = laws.declared-no d s p n x _ refl (omega (arith, g .counts)) ∙ ap (λ (y : Option Entity). after p (15 when absent y and answer n)) (sym f)
+
+  -- ---- predicates
+
+  pub pair-agrees : (p n : ℕ) {x v : Text} {q t : ℕ} → place ts s p ≡ got x q → place ts s q ≡ got v t → pairC d s p n ≡ after t (check-value es x v and answer n)
+  pair-agrees p n {x} {v} {q} {t} e f =
+      let a = place-found ts e in
+      let b = place-found ts f in
+      laws.pair-is d s p n
+      ∙ by-got s u16 _ p n (a .is-place)
+      ∙ by-got s u16 _ q n (b .is-place)
+      ∙ value-agrees (a .at) (b .at) (a .is-in) (b .is-in) t n
+      ∙ ap (λ (y : Text). after t (check-value es y (T (b .at)) and answer n)) (sym (a .is-text))
+      ∙ ap (λ (y : Text). after t (check-value es x y and answer n)) (sym (b .is-text))
+
+  pub predicate-agrees : (p n : ℕ) (a : Predicate) (q : ℕ) → predicate ts s p ≡ got a q → predicateC d s p n ≡ after q (check-predicate es a and answer n)
+  unfolding predicate check-predicate
+  predicate-agrees p n a q e = laws.predicate-is d s p n ∙ by-got s u8 _ p n (k .is-kind) ∙ cases (k .kind) (k .holds)
+    where
+      rs : List (Reader Predicate)
+      rs =
+          (place ts >>=ᵣ λ x. place ts >>=ᵣ λ v. give (state x v))
+          ∷ (place ts >>=ᵣ λ r. give (Predicate.unknown r))
+          ∷ []
+
+      k : Kind rs s p a q
+      k = kind-found rs e
+
+      cases : (i : ℕ) → getD rs i refuse s (k .next) ≡ got a q → (if eqb i 0 then pairC d else skipC 2) s (k .next) n ≡ after q (check-predicate es a and answer n)
+      cases zero h =
+          let x = bound (place ts) _ h in
+          let v = bound (place ts) _ (x .rest) in
+          let z = given _ _ _ (v .rest) in
+          pair-agrees (k .next) n (x .first) (v .first ∙ ap (got (v .value)) (z .1))
+          ∙ ap (λ (y : Predicate). after q (check-predicate es y and answer n)) (z .0)
+      cases (suc zero) h =
+          let r = bound (place ts) _ h in
+          let z = given _ _ _ (r .rest) in
+          let w = u16-wide s (k .next) (place-found ts (r .first ∙ ap (got (r .value)) (z .1)) .is-place) in
+          skips s 2 (k .next) n w
+          ∙ ap (λ (y : Predicate). after q (check-predicate es y and answer n)) (z .0)
+      cases (suc (suc i)) h = absurd (found.refused s (k .next) h)
+
+  pub predicates-agree : (p n : ℕ) (l : List Predicate) (q : ℕ) → counted (predicate ts) s p ≡ got l q → predicatesC d s p n ≡ after q (each-accepted (check-predicate es) l and answer n)
+  predicates-agree p n l q e =
+      let c = counted-found (predicate ts) e in
+      laws.predicates-is d s p n
+      ∙ by-got s u16 _ p n (c .is-count)
+      ∙ times-agrees s (predicate ts) (check-predicate es) (predicateC d) predicate-agrees (c .count) (c .start) n l q (c .are-values)
+
+  -- ---- triggers
+
+  optional-agrees : (x v : ℕ) (o : Option Text) → x < length ts → Value? ts v o → (p n : ℕ) → optionalC d x v s p n ≡ after p (each-accepted (check-value es (T x)) (listed o) and answer n)
+  unfolding listed each-accepted stay after
+  optional-agrees x v none h (found.absent e) p n = laws.optional-none d s p n x v e ∙ stays s p n
+  optional-agrees x v (some t) h (found.present e k) p n =
+      laws.optional-some d s p n x v e
+      ∙ value-agrees x v h k p n
+      ∙ after-same p (sym (and-assoc (check-value es (T x) (T v)) accept (answer n) ∙ ap (λ (y : Answer ℕ). check-value es (T x) (T v) and y) (accept-and (answer n))))
+
+  pub accepted-append : {A : Type 0} (f : A → Verdict) (a b : List A) (n : ℕ) → (each-accepted f (a ++ b) and answer n) ≡ (each-accepted f a and (each-accepted f b and answer n))
+  unfolding each-accepted
+  accepted-append f [] b n = sym (accept-and (each-accepted f b and answer n))
+  accepted-append f (x ∷ a) b n = and-assoc (f x) (each-accepted f (a ++ b)) (answer n) ∙ ap (λ (y : Answer ℕ). f x and y) (accepted-append f a b n) ∙ sym (and-assoc (f x) (each-accepted f a) (each-accepted f b and answer n))
+
+  trigger-of-agrees : (x f t : ℕ) (from to : Option Text) → x < length ts → Value? ts f from → Value? ts t to → (p n : ℕ) →
+      trigger-ofC d x f t s p n ≡ after p ((15 when absent (find (named (T x)) es) and each-accepted (check-value es (T x)) (listed from ++ listed to)) and answer n)
+  trigger-of-agrees x f t from to h a b p n =
+      laws.trigger-of-is d s p n x f t
+      ∙ next-and s (declaredC d x) (optionalC d x f ⨾ optionalC d x t) p n p p (15 when absent (find (named (T x)) es)) (λ m. each-accepted (check-value es (T x)) (listed from) and (each-accepted (check-value es (T x)) (listed to) and answer m))
+      (declared-agrees x h p n)
+      (λ m. next-and s (optionalC d x f) (optionalC d x t) p m p p (each-accepted (check-value es (T x)) (listed from)) (λ k. each-accepted (check-value es (T x)) (listed to) and answer k)
+      (optional-agrees x f from h a p m) (λ k. optional-agrees x t to h b p k))
+      ∙ after-same p (ap (λ (y : Answer ℕ). 15 when absent (find (named (T x)) es) and y) (sym (accepted-append (check-value es (T x)) (listed from) (listed to) n)) ∙ sym (and-assoc (15 when absent (find (named (T x)) es)) (each-accepted (check-value es (T x)) (listed from ++ listed to)) (answer n)))
+
+  pub trigger-agrees : (p n : ℕ) (a : Trigger) (q : ℕ) → trigger ts s p ≡ got a q → triggerC d s p n ≡ after q (check-trigger es a and answer n)
+  unfolding check-trigger
+  trigger-agrees p n a q e =
+      laws.trigger-is d s p n
+      ∙ by-got s u16 _ p n (f .entity-at .is-place)
+      ∙ by-got s u16 _ (f .at-from) n (f .from-at .is-place)
+      ∙ by-got s u16 _ (f .at-to) n (f .to-at .is-place)
+      ∙ skip-then s 8 _ (f .at-source) n (source-wide s (f .at-source) (f .source-at))
+      ∙ by-got s u16 _ (f .at-note) n (f .note-at .is-place)
+      ∙ cases (f .note-at .at) (a .note) (f .note-at .is-value)
+    where
+      f : TriggerParts ts s p a q
+      f = trigger-found ts e
+
+      x : ℕ
+      x = f .entity-at .at
+
+      cases : (m : ℕ) (o : Option Text) → Value? ts m o → (if eqb m 65535 then trigger-ofC d x (f .from-at .at) (f .to-at .at) else stay) s q n
+          ≡ after q ((elim o [ some n ↦ accept | none ↦ 15 when absent (find (named (a .entity)) es) and each-accepted (check-value es (a .entity)) (listed (a .from) ++ listed (a .to)) ]) and answer n)
+      cases m none (found.absent h) =
+          laws.yes-check _ _ s q n (eq-eqb m 65535 h)
+          ∙ trigger-of-agrees x (f .from-at .at) (f .to-at .at) (a .from) (a .to) (f .entity-at .is-in) (f .from-at .is-value) (f .to-at .is-value) q n
+          ∙ ap (λ (y : Text). after q ((15 when absent (find (named y) es) and each-accepted (check-value es y) (listed (a .from) ++ listed (a .to))) and answer n)) (sym (f .entity-at .is-text))
+      cases m (some t) (found.present h k) = laws.no-check _ _ s q n (ne-eqb m 65535 h) ∙ stays s q n
+
+  pub triggers-agree : (c p n : ℕ) (l : List Trigger) (q : ℕ) → times c (trigger ts) s p ≡ got l q → triggersC d c s p n ≡ after q (each-accepted (check-trigger es) l and answer n)
+  triggers-agree c p n l q e = laws.triggers-is d s p n c ∙ times-agrees s (trigger ts) (check-trigger es) (triggerC d) trigger-agrees c p n l q e
+
+  -- ---- effects that hold no list
+
+  toggle-agrees : (p n : ℕ) (x : Text) (q : ℕ) → place ts s p ≡ got x q → toggleC d s p n ≡ after q (check-value es x (text "on") and check-value es x (text "off") and answer n)
+  toggle-agrees p n x q e =
+      let a = place-found ts e in
+      let v = a .at in
+      laws.toggle-is d s p n
+      ∙ by-got s u16 _ p n (a .is-place)
+      ∙ next-and s (valueC d v (d .on)) (valueC d v (d .off)) q n q q (check-value es (T v) (T (d .on))) (λ m. check-value es (T v) (T (d .off)) and answer m)
+      (value-agrees v (d .on) (a .is-in) (g .on .is-in) q n) (λ m. value-agrees v (d .off) (a .is-in) (g .off .is-in) q m)
+      ∙ ap (λ (y : Text). after q (check-value es y (T (d .on)) and check-value es y (T (d .off)) and answer n)) (sym (a .is-text))
+      ∙ ap (λ (y : Text). after q (check-value es x y and check-value es x (T (d .off)) and answer n)) (g .on .is-text)
+      ∙ ap (λ (y : Text). after q (check-value es x (text "on") and check-value es x y and answer n)) (g .off .is-text)
+
+  pub day-agrees : (k p n x q : ℕ) → u32 s p ≡ got x q → by u32 (λ y. refuse-if k (ltb day y)) s p n ≡ after q (k when ltb day x and answer n)
+  day-agrees k p n x q e = by-got s u32 _ p n e ∙ refuse-if-is s k (ltb day x) q n
+
+  wait-agrees : (p n : ℕ) {t : Trigger} {k : ℕ} {c : Bool} {o r q : ℕ} → trigger ts s p ≡ got t o → u32 s o ≡ got k r → flag s r ≡ got c q → waitC d s p n ≡ after q (check-trigger es t and 19 when ltb day k and answer n)
+  unfolding after
+  wait-agrees p n {t} {k} {c} {o} {r} {q} a b f =
+      laws.wait-is d s p n
+      ∙ next-and s (triggerC d) (by u32 (λ x. refuse-if 19 (ltb day x)) ⨾ skipC 1) p n o q (check-trigger es t) (λ m. 19 when ltb day k and answer m)
+      (trigger-agrees p n t o a)
+      (λ m. next-and s (by u32 (λ x. refuse-if 19 (ltb day x))) (skipC 1) o m r q (19 when ltb day k) answer (day-agrees 19 o m k r b) (λ j. skip-wide s 1 r j (kind-wide 2 flag sees-flag f)))
+
+  -- ---- actions: the reader and the check of an inner list are given
+  module _ (inner : Reader Actions) (check : Check) (dep : ℕ) (ih : (p n : ℕ) (a : Actions) (q : ℕ) → inner s p ≡ got a q → check s p n ≡ after q (check-actions es a (dep + 1) n)) where
+    branches-agree : (i p n : ℕ) (b : Branches) (q : ℕ) → branches ts inner i s p ≡ got b q → timesC i (branchC d check) s p n ≡ after q (check-branches es b dep n)
+    unfolding branches timesC stay after check-branches
+    branches-agree zero p n b q e =
+        let z = given _ _ _ e in
+        ap (λ (x : ℕ). checked.To x n) (z .1) ∙ ap (λ (y : Branches). after q (check-branches es y dep n)) (z .0)
+    branches-agree (suc i) p n b q e =
+        let c = bound (counted (predicate ts)) _ e in
+        let a = bound inner _ (c .rest) in
+        let r = bound (branches ts inner i) _ (a .rest) in
+        let z = given _ _ _ (r .rest) in
+        next s (branchC d check) (timesC i (branchC d check)) p n (a .next) q (each-accepted (check-predicate es) (c .value) and check-actions es (a .value) (dep + 1) n) (λ m. check-branches es (r .value) dep m)
+        (next-and s (predicatesC d) check p n (c .next) (a .next) (each-accepted (check-predicate es) (c .value)) (λ m. check-actions es (a .value) (dep + 1) m)
+        (predicates-agree p n (c .value) (c .next) (c .first)) (λ m. ih (c .next) m (a .value) (a .next) (a .first)))
+        (λ m. branches-agree i (a .next) m (r .value) q (r .first ∙ ap (got (r .value)) (z .1)))
+        ∙ after-same q (and-then-bind (each-accepted (check-predicate es) (c .value)) (check-actions es (a .value) (dep + 1) n) (λ m. check-branches es (r .value) dep m))
+        ∙ ap (λ (y : Branches). after q (check-branches es y dep n)) (z .0)
+
+    effect-kinds : List (Reader Effect)
+    effect-kinds =
+        (place ts >>=ᵣ λ x. place ts >>=ᵣ λ v. give (Effect.set x v))
+        ∷ (place ts >>=ᵣ λ x. give (toggle x))
+        ∷ (u32 >>=ᵣ λ n. give (delay n))
+        ∷ (predicate ts >>=ᵣ λ p. give (condition p))
+        ∷ (u16 >>=ᵣ λ n. branches ts inner n >>=ᵣ λ bs. inner >>=ᵣ λ a. give (choose bs a))
+        ∷ (trigger ts >>=ᵣ λ t. u32 >>=ᵣ λ n. flag >>=ᵣ λ c. give (wait t n c))
+        ∷ (place ts >>=ᵣ λ r. give (Effect.unknown r))
+        ∷ []
+
+    effect-agrees : (p n : ℕ) (f : Effect) (q : ℕ) → effect ts inner s p ≡ got f q → by u8 (λ k. if eqb k 4 then choiceC d check else simpleC d k) s p n ≡ after q (check-effect es f dep n)
+    unfolding effect effect-kinds check-effect
+    effect-agrees p n f q e = by-got s u8 _ p n (k .is-kind) ∙ cases (k .kind) (k .holds)
+      where
+        k : Kind effect-kinds s p f q
+        k = kind-found effect-kinds e
+
+        o : ℕ
+        o = k .next
+
+        same : {a b : Effect} → a ≡ b → after q (check-effect es a dep n) ≡ after q (check-effect es b dep n)
+        same z = ap (λ (y : Effect). after q (check-effect es y dep n)) z
+
+        cases : (i : ℕ) → getD effect-kinds i refuse s o ≡ got f q → (if eqb i 4 then choiceC d check else simpleC d i) s o n ≡ after q (check-effect es f dep n)
+        cases zero h =
+            let x = bound (place ts) _ h in
+            let v = bound (place ts) _ (x .rest) in
+            let z = given _ _ _ (v .rest) in
+            laws.simple-0 d s o n refl ∙ pair-agrees o n (x .first) (v .first ∙ ap (got (v .value)) (z .1)) ∙ same (z .0)
+        cases (suc zero) h =
+            let x = bound (place ts) _ h in
+            let z = given _ _ _ (x .rest) in
+            laws.simple-1 d s o n refl ∙ toggle-agrees o n (x .value) q (x .first ∙ ap (got (x .value)) (z .1)) ∙ same (z .0)
+        cases (suc (suc zero)) h =
+            let x = bound u32 _ h in
+            let z = given _ _ _ (x .rest) in
+            laws.simple-2 d s o n refl ∙ day-agrees 18 o n (x .value) q (x .first ∙ ap (got (x .value)) (z .1)) ∙ same (z .0)
+        cases (suc (suc (suc zero))) h =
+            let x = bound (predicate ts) _ h in
+            let z = given _ _ _ (x .rest) in
+            laws.simple-3 d s o n refl ∙ predicate-agrees o n (x .value) q (x .first ∙ ap (got (x .value)) (z .1)) ∙ same (z .0)
+        cases (suc (suc (suc (suc zero)))) h =
+            let c = bound u16 _ h in
+            let b = bound (branches ts inner (c .value)) _ (c .rest) in
+            let a = bound inner _ (b .rest) in
+            let z = given _ _ _ (a .rest) in
+            by-got s u16 _ o n (c .first)
+            ∙ next s (timesC (c .value) (branchC d check)) check (c .next) n (b .next) q (check-branches es (b .value) dep n) (λ m. check-actions es (a .value) (dep + 1) m)
+            (branches-agree (c .value) (c .next) n (b .value) (b .next) (b .first))
+            (λ m. ih (b .next) m (a .value) q (a .first ∙ ap (got (a .value)) (z .1)))
+            ∙ same (z .0)
+        cases (suc (suc (suc (suc (suc zero))))) h =
+            let t = bound (trigger ts) _ h in
+            let m = bound u32 _ (t .rest) in
+            let c = bound flag _ (m .rest) in
+            let z = given _ _ _ (c .rest) in
+            laws.simple-5 d s o n refl ∙ wait-agrees o n (t .first) (m .first) (c .first ∙ ap (got (c .value)) (z .1)) ∙ same (z .0)
+        cases (suc (suc (suc (suc (suc (suc zero)))))) h =
+            let x = bound (place ts) _ h in
+            let z = given _ _ _ (x .rest) in
+            let w = u16-wide s o (place-found ts (x .first ∙ ap (got (x .value)) (z .1)) .is-place) in
+            laws.simple-else d s o n (λ y. absurd (omega arith)) (λ y. absurd (omega arith)) (λ y. absurd (omega arith)) (λ y. absurd (omega arith)) (λ y. absurd (omega arith))
+            ∙ skips s 2 o n w ∙ after-same q (accept-and (answer n)) ∙ same (z .0)
+        cases (suc (suc (suc (suc (suc (suc (suc i))))))) h = absurd (found.refused s o h)
+
+    count-agrees : (p n : ℕ) → countC s p n ≡ after p (counting (n + 1))
+    unfolding countC counting _when_ _and_ after
+    count-agrees p n = elim (decLt n 512) [
+      | yes h ↦ rw (lt-ltb n 512 h, le-ltb 512 (n + 1) (omega arith))
+      | no h ↦ rw (le-ltb n 512 (omega arith), lt-ltb 512 (n + 1) (omega arith))
+    ]
+
+    action-agrees : (p n : ℕ) {src : Source} {f : Effect} {o q : ℕ} → source s p ≡ got src o → effect ts inner s o ≡ got f q → actionC d check s p n ≡ after q (counting (n + 1) >>= λ m. check-effect es f dep m)
+    action-agrees p n {src} {f} {o} {q} a b =
+        laws.assoc s p n countC (skipC 8) (by u8 (λ k. if eqb k 4 then choiceC d check else simpleC d k))
+        ∙ next s countC (skipC 8 ⨾ by u8 (λ k. if eqb k 4 then choiceC d check else simpleC d k)) p n p q (counting (n + 1)) (λ m. check-effect es f dep m)
+        (count-agrees p n)
+        (λ m. skip-then s 8 _ p m (source-wide s p a) ∙ effect-agrees o m f q b)
+
+    -- at a depth at which lists may stand
+    module _ (h : dep ≤ 16) where
+      shallow : {A : Type 0} (x : Answer A) → (16 when ltb 16 dep and x) ≡ x
+      unfolding _when_ _and_
+      shallow x = rw (le-ltb 16 dep h)
+
+      list-agrees : (i p n : ℕ) (a : Actions) (q : ℕ) → actions-of ts inner i s p ≡ got a q → timesC i (actionC d check) s p n ≡ after q (check-actions es a dep n)
+      unfolding actions-of timesC stay after check-actions
+      list-agrees zero p n a q e =
+          let z = given _ _ _ e in
+          ap (λ (x : ℕ). checked.To x n) (z .1) ∙ after-same q (sym (shallow (answer n))) ∙ ap (λ (y : Actions). after q (check-actions es y dep n)) (z .0)
+      list-agrees (suc i) p n a q e =
+          let c = bound source _ e in
+          let f = bound (effect ts inner) _ (c .rest) in
+          let r = bound (actions-of ts inner i) _ (f .rest) in
+          let z = given _ _ _ (r .rest) in
+          next s (actionC d check) (timesC i (actionC d check)) p n (f .next) q (counting (n + 1) >>= λ m. check-effect es (f .value) dep m) (λ m. check-actions es (r .value) dep m)
+          (action-agrees p n (c .first) (f .first))
+          (λ m. list-agrees i (f .next) m (r .value) q (r .first ∙ ap (got (r .value)) (z .1)))
+          ∙ after-same q (bind-bind (counting (n + 1)) (λ m. check-effect es (f .value) dep m) (λ m. check-actions es (r .value) dep m) ∙ sym (shallow _))
+          ∙ ap (λ (y : Actions). after q (check-actions es y dep n)) (z .0)
+
+  -- depth 17 is refused, even when empty
+  too-deep : (a : Actions) (n : ℕ) → check-actions es a 17 n ≡ refused 16
+  unfolding check-actions _when_ _and_
+  too-deep done n = refl
+  too-deep (act src f rest) n = refl
+
+  -- a list of actions at depth `dep`: below it lists may stand `left` deep
+  pub actions-agree : (left dep : ℕ) → left + dep ≡ 17 → (p n : ℕ) (a : Actions) (q : ℕ) → actions ts (suc left) s p ≡ got a q → actionsC d left s p n ≡ after q (check-actions es a dep n)
+  unfolding after actions actionsC
+  actions-agree zero dep h p n a q e =
+      let z : dep ≡ 17 = omega arith in
+      laws.actions-none d s p n ∙ ap (after q) (sym (ap (λ (x : ℕ). check-actions es a x n) z ∙ too-deep a n))
+  actions-agree (suc left) dep h p n a q e =
+      let c = bound u16 (actions-of ts (actions ts (suc left))) e in
+      by-got s u16 _ p n (c .first)
+      ∙ list-agrees (actions ts (suc left)) (actionsC d left) dep (actions-agree left (dep + 1) (omega arith)) (omega arith) (c .value) (c .next) n a q (c .rest)

@@ -1,0 +1,331 @@
+-- The laws that the proofs of checks cite.
+use mathlib.Core.Path.{_≡_, refl, sym, ap, _∙_}
+use mathlib.Core.List.{List}
+use mathlib.Core.Bool.{Bool, true, false}
+use Prim.Native.Nat.{ℕ, zero, suc, _+_, _-_, _≤_, _<_}
+use native.Mathlib.Numerals.{sub-one}
+use native.Mathlib.Omega.{arith}
+use lib.ListN.{length, getD}
+use lib.Dec.{ltb, leb, eqb}
+use borrow.Author.Tests.{lt-ltb, le-ltb, le-leb, lt-leb, eq-eqb, ne-eqb}
+use Rattle.texts.specs.Lists.{if_then_else_}
+use Rattle.model.specs.File.{Got, got, broken, Reader, u8, u16, u32}
+use Rattle.model.specs.Validate.{day}
+use Rattle.model_walk.specs.declared.Num.{Num}
+use Rattle.model_walk.specs.declared.Num.the-variants as num
+use Rattle.model_walk.specs.Walk.{found}
+use Rattle.model_walk.proofs.Laws.{is-got, is-broken, u16-out}
+use Rattle.model_parts.specs.declared.Section.{Section}
+use Rattle.model_check.specs.declared.Checked.{Checked}
+use Rattle.model_check.specs.declared.Checked.the-variants as checked
+use Rattle.model_check.specs.declared.Declared.{Declared}
+use Rattle.model_check.specs.Checks.{
+  Check,
+  and-then,
+  _⨾_,
+  by,
+  stay,
+  refuse,
+  refuse-if,
+  skipC,
+  timesC,
+  countC,
+  place-is,
+  among,
+  listed-at,
+  first-from,
+  entity-valueC,
+  valueC,
+  pairC,
+  predicateC,
+  predicatesC,
+  declaredC,
+  optionalC,
+  trigger-ofC,
+  triggerC,
+  triggersC,
+  toggleC,
+  waitC,
+  simpleC,
+  actionC,
+  actionsC,
+}
+
+-- ---- one check after the other
+
+module _ (s : List ℕ) (p n : ℕ) where
+  -- the code's answer x of the first number, and its case
+  module _ (r : Reader ℕ) (f : ℕ → Check) {x : Num} (e : found x ≡ r s p) where
+    pub by-is : {v q : ℕ} → x ≡ num.Is v q → by r f s p n ≡ f v s q n
+    unfolding by
+    by-is h = rw (is-got e h, by)
+
+    pub by-broken : x ≡ num.Broken → by r f s p n ≡ checked.Refused 30
+    unfolding by
+    by-broken h = rw (is-broken e h, by)
+
+  -- the code's answer x of the first check, and its case
+  module _ (k l : Check) {x : Checked} (e : x ≡ k s p n) where
+    pub to : {q m : ℕ} → x ≡ checked.To q m → (k ⨾ l) s p n ≡ l s q m
+    unfolding _⨾_ and-then
+    to h = rw (sym e ∙ h, and-then)
+
+    pub refused : {i : ℕ} → x ≡ checked.Refused i → (k ⨾ l) s p n ≡ x
+    unfolding _⨾_ and-then
+    refused h = rw (sym e ∙ h, and-then) (sym h)
+
+  pub stayed : stay s p n ≡ checked.To p n
+  unfolding stay
+  stayed = refl
+
+  pub refuse-yes : (k : ℕ) {b : Bool} → b ≡ true → refuse-if k b s p n ≡ checked.Refused k
+  unfolding refuse-if refuse
+  refuse-yes k h = rw h
+
+  pub refuse-no : (k : ℕ) {b : Bool} → b ≡ false → refuse-if k b s p n ≡ checked.To p n
+  unfolding refuse-if stay
+  refuse-no k h = rw h
+
+  pub skip-in : (w : ℕ) → p + w ≤ length s → skipC w s p n ≡ checked.To (p + w) n
+  unfolding skipC
+  skip-in w h = rw (le-leb (p + w) (length s) h)
+
+  pub skip-out : (w : ℕ) → length s < p + w → skipC w s p n ≡ checked.Refused 30
+  unfolding skipC
+  skip-out w h = rw (lt-leb (p + w) (length s) h)
+
+  pub count-in : (l : Check) → n < 512 → (countC ⨾ l) s p n ≡ l s p (n + 1)
+  unfolding _⨾_ and-then countC
+  count-in l h = rw (lt-ltb n 512 h)
+
+  pub count-out : (l : Check) → 512 ≤ n → (countC ⨾ l) s p n ≡ checked.Refused 17
+  unfolding _⨾_ and-then countC
+  count-out l h = rw (le-ltb n 512 h)
+
+-- the test of a choice between two checks
+pub yes-check : {b : Bool} (k l : Check) (s : List ℕ) (p n : ℕ) → b ≡ true → (if b then k else l) s p n ≡ k s p n
+yes-check k l s p n h = rw h
+
+pub no-check : {b : Bool} (k l : Check) (s : List ℕ) (p n : ℕ) → b ≡ false → (if b then k else l) s p n ≡ l s p n
+no-check k l s p n h = rw h
+
+-- ---- order of checks
+
+and-then-assoc : (x : Checked) (f g : ℕ → ℕ → Checked) → and-then (and-then x f) g ≡ and-then x (λ p n. and-then (f p n) g)
+unfolding and-then
+and-then-assoc (checked.To p n) f g = refl
+and-then-assoc (checked.Refused k) f g = refl
+
+by-and-then : (g : Got ℕ) (f : ℕ → ℕ → Checked) (h : ℕ → ℕ → Checked) → and-then (elim g [ got x q ↦ f x q | broken ↦ checked.Refused 30 ]) h ≡ elim g [ got x q ↦ and-then (f x q) h | broken ↦ checked.Refused 30 ]
+unfolding and-then
+by-and-then (got x q) f h = refl
+by-and-then broken f h = refl
+
+module _ (s : List ℕ) (p n : ℕ) where
+  pub assoc : (a b c : Check) → ((a ⨾ b) ⨾ c) s p n ≡ (a ⨾ (b ⨾ c)) s p n
+  unfolding _⨾_
+  assoc a b c = and-then-assoc (a s p n) (b s) (c s)
+
+  pub by-then : (r : Reader ℕ) (f : ℕ → Check) (l : Check) → (by r f ⨾ l) s p n ≡ by r (λ x. f x ⨾ l) s p n
+  unfolding _⨾_ by
+  by-then r f l = by-and-then (r s p) (λ x q. f x s q n) (l s)
+
+-- ---- lists
+
+module _ (k : Check) (s : List ℕ) (p n : ℕ) where
+  pub times-more : (i : ℕ) → 0 < i → timesC i k s p n ≡ (k ⨾ timesC (i - 1) k) s p n
+  unfolding timesC
+  times-more zero h = absurd (omega arith)
+  times-more (suc i) h = rw (sub-one (suc i))
+
+  pub times-none : (i : ℕ) → i ≤ 0 → timesC i k s p n ≡ checked.To p n
+  unfolding timesC stay
+  times-none zero h = refl
+  times-none (suc i) h = absurd (omega arith)
+
+pub times-then : (k l : Check) (s : List ℕ) (p n : ℕ) (i : ℕ) → 0 < i → (timesC i k ⨾ l) s p n ≡ (k ⨾ (timesC (i - 1) k ⨾ l)) s p n
+unfolding timesC
+times-then k l s p n zero h = absurd (omega arith)
+times-then k l s p n (suc i) h = rw (sub-one (suc i)) (assoc s p n k (timesC i k) l)
+
+pub none-then : (k l : Check) (s : List ℕ) (p n : ℕ) (i : ℕ) → i ≤ 0 → (timesC i k ⨾ l) s p n ≡ l s p n
+unfolding timesC _⨾_ stay and-then
+none-then k l s p n zero h = refl
+none-then k l s p n (suc i) h = absurd (omega arith)
+
+-- ---- places
+
+module _ (s : List ℕ) (p x : ℕ) {a : Num} (e : found a ≡ u16 s p) where
+  pub place-got : {y q : ℕ} → a ≡ num.Is y q → place-is s p x ≡ eqb y x
+  unfolding place-is
+  place-got h = rw (is-got e h, place-is)
+
+  pub place-broken : a ≡ num.Broken → place-is s p x ≡ false
+  unfolding place-is
+  place-broken h = rw (is-broken e h, place-is)
+
+  pub listed-got : {c q : ℕ} → a ≡ num.Is c q → listed-at s p x ≡ among c s q x
+  unfolding listed-at
+  listed-got h = rw (is-got e h, listed-at)
+
+  pub listed-broken : a ≡ num.Broken → listed-at s p x ≡ false
+  unfolding listed-at
+  listed-broken h = rw (is-broken e h, listed-at)
+
+  pub among-here : (left : ℕ) {y q : ℕ} → 0 < left → a ≡ num.Is y q → y ≡ x → among left s p x ≡ true
+  unfolding among
+  among-here zero o h w = absurd (omega arith)
+  among-here (suc left) {y} o h w = rw (is-got e h, among) (rw (eq-eqb y x w, among))
+
+  pub among-later : (left : ℕ) {y q : ℕ} → 0 < left → a ≡ num.Is y q → (y ≡ x → ⊥) → among left s p x ≡ among (left - 1) s q x
+  unfolding among
+  among-later zero o h w = absurd (omega arith)
+  among-later (suc left) {y} o h w = rw (sub-one (suc left)) (rw (is-got e h, among) (rw (ne-eqb y x w, among)))
+
+  pub among-broken : (left : ℕ) → 0 < left → a ≡ num.Broken → among left s p x ≡ false
+  unfolding among
+  among-broken zero o h = absurd (omega arith)
+  among-broken (suc left) o h = rw (is-broken e h, among)
+
+pub among-end : (s : List ℕ) (p x left : ℕ) → left ≤ 0 → among left s p x ≡ false
+unfolding among
+among-end s p x zero h = refl
+among-end s p x (suc left) h = absurd (omega arith)
+
+pub listed-out : (s : List ℕ) (p x : ℕ) → length s ≤ p → listed-at s (p + 2) x ≡ false
+unfolding listed-at
+listed-out s p x h = rw (u16-out s (p + 2) (omega arith), listed-at)
+
+module _ (starts : List ℕ) (x : ℕ) (s : List ℕ) where
+  pub first-here : (left i : ℕ) → 0 < left → place-is s (getD starts i 0) x ≡ true → first-from starts x s left i ≡ i
+  unfolding first-from
+  first-here zero i o h = absurd (omega arith)
+  first-here (suc left) i o h = rw (h, first-from)
+
+  pub first-later : (left i : ℕ) → 0 < left → place-is s (getD starts i 0) x ≡ false → first-from starts x s left i ≡ first-from starts x s (left - 1) (i + 1)
+  unfolding first-from
+  first-later zero i o h = absurd (omega arith)
+  first-later (suc left) i o h = rw (sub-one (suc left)) (rw (h, first-from))
+
+  pub first-same : {k m : ℕ} (i : ℕ) → k ≡ m → first-from starts x s k i ≡ first-from starts x s m i
+  first-same i e = ap (λ (k : ℕ). first-from starts x s k i) e
+
+  pub first-end : (left i : ℕ) → left ≤ 0 → first-from starts x s left i ≡ i
+  unfolding first-from
+  first-end zero i h = refl
+  first-end (suc left) i h = absurd (omega arith)
+
+-- ---- what the shut checks are
+
+module _ (d : Declared) (s : List ℕ) (p n : ℕ) where
+  -- a value of the i-th entity, by the tests on the way
+  module _ (i v : ℕ) where
+    pub value-7 : d .entities .count ≤ i → entity-valueC d i v s p n ≡ checked.Refused 7
+    unfolding entity-valueC
+    value-7 h = rw (le-leb (d .entities .count) i h)
+
+    module _ (h : i < d .entities .count) where
+      pub value-unknown : v ≡ d .unknown → entity-valueC d i v s p n ≡ checked.To p n
+      unfolding entity-valueC
+      value-unknown a = rw (lt-leb (d .entities .count) i h) (rw (eq-eqb v (d .unknown) a))
+
+      module _ (a : v ≡ d .unknown → ⊥) where
+        pub value-unavailable : v ≡ d .unavailable → entity-valueC d i v s p n ≡ checked.To p n
+        unfolding entity-valueC
+        value-unavailable b = rw (lt-leb (d .entities .count) i h) (rw (ne-eqb v (d .unknown) a) (rw (eq-eqb v (d .unavailable) b)))
+
+        module _ (b : v ≡ d .unavailable → ⊥) where
+          pub value-listed : listed-at s (getD (d .entities .starts) i 0 + 2) v ≡ true → entity-valueC d i v s p n ≡ checked.To p n
+          unfolding entity-valueC
+          value-listed c = rw (lt-leb (d .entities .count) i h) (rw (ne-eqb v (d .unknown) a) (rw (ne-eqb v (d .unavailable) b) (rw c)))
+
+          pub value-8 : listed-at s (getD (d .entities .starts) i 0 + 2) v ≡ false → entity-valueC d i v s p n ≡ checked.Refused 8
+          unfolding entity-valueC
+          value-8 c = rw (lt-leb (d .entities .count) i h) (rw (ne-eqb v (d .unknown) a) (rw (ne-eqb v (d .unavailable) b) (rw c)))
+
+  pub value-is : (x v i : ℕ) → i ≡ first-from (d .entities .starts) x s (d .entities .count) 0 → valueC d x v s p n ≡ entity-valueC d i v s p n
+  unfolding valueC
+  value-is x v i e = ap (λ (j : ℕ). entity-valueC d j v s p n) (sym e)
+
+  pub pair-is : pairC d s p n ≡ by u16 (λ x. by u16 (λ v. valueC d x v)) s p n
+  unfolding pairC
+  pair-is = refl
+
+  pub predicate-is : predicateC d s p n ≡ by u8 (λ k. if eqb k 0 then pairC d else skipC 2) s p n
+  unfolding predicateC
+  predicate-is = refl
+
+  pub predicates-is : predicatesC d s p n ≡ by u16 (λ c. timesC c (predicateC d)) s p n
+  unfolding predicatesC
+  predicates-is = refl
+
+  pub declared-no : (x i : ℕ) → i ≡ first-from (d .entities .starts) x s (d .entities .count) 0 → d .entities .count ≤ i → declaredC d x s p n ≡ checked.Refused 15
+  unfolding declaredC
+  declared-no x i e h = refuse-yes s p n 15 (ap (leb (d .entities .count)) (sym e) ∙ le-leb (d .entities .count) i h)
+
+  pub declared-yes : (x i : ℕ) → i ≡ first-from (d .entities .starts) x s (d .entities .count) 0 → i < d .entities .count → declaredC d x s p n ≡ checked.To p n
+  unfolding declaredC
+  declared-yes x i e h = refuse-no s p n 15 (ap (leb (d .entities .count)) (sym e) ∙ lt-leb (d .entities .count) i h)
+
+  pub optional-none : (x v : ℕ) → v ≡ 65535 → optionalC d x v s p n ≡ checked.To p n
+  unfolding optionalC stay
+  optional-none x v h = rw (eq-eqb v 65535 h)
+
+  pub optional-some : (x v : ℕ) → (v ≡ 65535 → ⊥) → optionalC d x v s p n ≡ valueC d x v s p n
+  unfolding optionalC
+  optional-some x v h = rw (ne-eqb v 65535 h)
+
+  pub trigger-of-is : (x f t : ℕ) → trigger-ofC d x f t s p n ≡ (declaredC d x ⨾ optionalC d x f ⨾ optionalC d x t) s p n
+  unfolding trigger-ofC
+  trigger-of-is x f t = refl
+
+  pub trigger-is : triggerC d s p n ≡ by u16 (λ x. by u16 (λ f. by u16 (λ t. skipC 8 ⨾ by u16 (λ m. if eqb m 65535 then trigger-ofC d x f t else stay)))) s p n
+  unfolding triggerC
+  trigger-is = refl
+
+  pub triggers-is : (c : ℕ) → triggersC d c s p n ≡ timesC c (triggerC d) s p n
+  unfolding triggersC
+  triggers-is c = refl
+
+  pub toggle-is : toggleC d s p n ≡ by u16 (λ x. valueC d x (d .on) ⨾ valueC d x (d .off)) s p n
+  unfolding toggleC
+  toggle-is = refl
+
+  pub wait-is : waitC d s p n ≡ (triggerC d ⨾ by u32 (λ x. refuse-if 19 (ltb day x)) ⨾ skipC 1) s p n
+  unfolding waitC
+  wait-is = refl
+
+  -- an effect's kind
+  module _ {k : ℕ} where
+    pub simple-0 : k ≡ 0 → simpleC d k s p n ≡ pairC d s p n
+    unfolding simpleC
+    simple-0 e = rw e
+
+    pub simple-1 : k ≡ 1 → simpleC d k s p n ≡ toggleC d s p n
+    unfolding simpleC
+    simple-1 e = rw e
+
+    pub simple-2 : k ≡ 2 → simpleC d k s p n ≡ by u32 (λ x. refuse-if 18 (ltb day x)) s p n
+    unfolding simpleC
+    simple-2 e = rw e
+
+    pub simple-3 : k ≡ 3 → simpleC d k s p n ≡ predicateC d s p n
+    unfolding simpleC
+    simple-3 e = rw e
+
+    pub simple-5 : k ≡ 5 → simpleC d k s p n ≡ waitC d s p n
+    unfolding simpleC
+    simple-5 e = rw e
+
+    pub simple-else : (k ≡ 0 → ⊥) → (k ≡ 1 → ⊥) → (k ≡ 2 → ⊥) → (k ≡ 3 → ⊥) → (k ≡ 5 → ⊥) → simpleC d k s p n ≡ skipC 2 s p n
+    unfolding simpleC
+    simple-else a b c d e = rw (ne-eqb _ _ a, ne-eqb _ _ b, ne-eqb _ _ c, ne-eqb _ _ d, ne-eqb _ _ e)
+
+pub actions-none : (d : Declared) (s : List ℕ) (p n : ℕ) → actionsC d 0 s p n ≡ checked.Refused 16
+unfolding actionsC refuse
+actions-none d s p n = refl
+
+pub actions-more : (d : Declared) (left : ℕ) (s : List ℕ) (p n : ℕ) → (left ≡ 0 → ⊥) → actionsC d left s p n ≡ by u16 (λ c. timesC c (actionC d (actionsC d (left - 1)))) s p n
+unfolding actionsC
+actions-more d zero s p n h = absurd (h refl)
+actions-more d (suc left) s p n h = rw (sub-one (suc left))

@@ -1,0 +1,158 @@
+-- Checks over a file: what `validate` tests of each part, on places. A check goes over a part of the file, from a position
+-- on, with the number of actions so far; it ends at a position with the number of actions after it, or with a refusal.
+-- `proofs/Agrees` has, for each check, that it says what `Validate` says of the part that the reader of `File` finds there.
+use Prim.Native.Nat.{ℕ, zero, suc, _+_}
+use mathlib.Core.Bool.{Bool, true, false, _||_}
+use mathlib.Core.List.{List}
+use lib.Dec.{ltb, leb, eqb}
+use lib.ListN.{length, getD}
+use Rattle.texts.specs.Lists.{if_then_else_}
+use Rattle.model.specs.File.{Got, got, broken, Reader, u8, u16, u32}
+use Rattle.model.specs.Validate.{day}
+use Rattle.model_parts.specs.declared.Section.{Section}
+use Rattle.model_check.specs.declared.Checked.{Checked}
+use Rattle.model_check.specs.declared.Checked.the-variants as checked
+use Rattle.model_check.specs.declared.Declared.{Declared}
+
+abbrev pub Check : Type 0
+Check = List ℕ → ℕ → ℕ → Checked
+
+unfoldable pub and-then : Checked → (ℕ → ℕ → Checked) → Checked
+and-then (checked.To p n) f = f p n
+and-then (checked.Refused k) f = checked.Refused k
+
+infixr 25 _⨾_
+-- one check, and then the other
+unfoldable pub _⨾_ : Check → Check → Check
+_⨾_ k l s p n = and-then (k s p n) (l s)
+
+-- a number, and then a check that depends on it. The file was read before, so the number is there.
+unfoldable pub by : Reader ℕ → (ℕ → Check) → Check
+by r f s p n = elim (r s p) [ got x next ↦ f x s next n | broken ↦ checked.Refused 30 ]
+
+unfoldable pub stay : Check
+stay s p n = checked.To p n
+
+unfoldable pub refuse : ℕ → Check
+refuse k s p n = checked.Refused k
+
+-- the refusal k, if the test holds
+unfoldable pub refuse-if : ℕ → Bool → Check
+refuse-if k b = if b then refuse k else stay
+
+-- w bytes that aren't looked at
+unfoldable pub skipC : ℕ → Check
+skipC w s p n = if leb (p + w) (length s) then checked.To (p + w) n else checked.Refused 30
+
+unfoldable pub timesC : ℕ → Check → Check
+timesC zero k = stay
+timesC (suc i) k = k ⨾ timesC i k
+
+-- a number of seconds, at most a day
+abbrev pub dayC : (number : ℕ) → Check
+dayC k = by u32 (λ x. refuse-if k (ltb day x))
+
+-- one action more; 17: more than 512
+unfoldable pub countC : Check
+countC s p n = if ltb n 512 then checked.To p (n + 1) else checked.Refused 17
+
+-- ---- places
+
+-- the place at p is x
+unfoldable pub place-is : List ℕ → ℕ → ℕ → Bool
+place-is s p x = elim (u16 s p) [ got y q ↦ eqb y x | broken ↦ false ]
+
+-- one of `left` places from p on is x
+unfoldable pub among : (left : ℕ) → List ℕ → ℕ → ℕ → Bool
+among zero s p x = false
+among (suc left) s p x = elim (u16 s p) [
+  | got y q ↦ elim (eqb y x) [ true ↦ true | false ↦ among left s q x ]
+  | broken ↦ false
+]
+
+-- one of the places behind a count at p is x
+unfoldable pub listed-at : List ℕ → ℕ → ℕ → Bool
+listed-at s p x = elim (u16 s p) [ got c q ↦ among c s q x | broken ↦ false ]
+
+-- the number of the first of the positions, from the i-th on and `left` of them, that holds the place x
+unfoldable pub first-from : (starts : List ℕ) → (x : ℕ) → List ℕ → (left i : ℕ) → ℕ
+first-from starts x s zero i = i
+first-from starts x s (suc left) i = elim (place-is s (getD starts i 0) x) [ true ↦ i | false ↦ first-from starts x s left (i + 1) ]
+
+-- the number of the section's first part that begins with the place x, or the count
+abbrev pub number-of : Section → (x : ℕ) → List ℕ → ℕ
+number-of e x s = first-from (e .starts) x s (e .count) 0
+
+-- ---- parts, against the entities that the model declares
+module _ (d : Declared) where
+  -- the i-th entity may have the value v; 7: there is no such entity; 8: the value isn't in its domain
+  unfoldable pub entity-valueC : (i v : ℕ) → Check
+  entity-valueC i v s p n =
+      if leb (d .entities .count) i then checked.Refused 7
+      else if eqb v (d .unknown) then checked.To p n
+      else if eqb v (d .unavailable) then checked.To p n
+      else if listed-at s (getD (d .entities .starts) i 0 + 2) v then checked.To p n
+      else checked.Refused 8
+
+  unfoldable pub valueC : (x v : ℕ) → Check
+  valueC x v s = entity-valueC (number-of (d .entities) x s) v s
+
+  -- an entity and a value
+  unfoldable pub pairC : Check
+  pairC = by u16 (λ x. by u16 (λ v. valueC x v))
+
+  unfoldable pub predicateC : Check
+  predicateC = by u8 (λ k. if eqb k 0 then pairC else skipC 2)
+
+  unfoldable pub predicatesC : Check
+  predicatesC = by u16 (λ c. timesC c predicateC)
+
+  -- 15: the entity isn't declared
+  unfoldable pub declaredC : (x : ℕ) → Check
+  declaredC x s = refuse-if 15 (leb (d .entities .count) (number-of (d .entities) x s)) s
+
+  -- a value, or none
+  unfoldable pub optionalC : (x v : ℕ) → Check
+  optionalC x v = if eqb v 65535 then stay else valueC x v
+
+  unfoldable pub trigger-ofC : (x from to : ℕ) → Check
+  trigger-ofC x f t = declaredC x ⨾ optionalC x f ⨾ optionalC x t
+
+  -- a trigger with a note isn't checked
+  unfoldable pub triggerC : Check
+  triggerC = by u16 (λ x. by u16 (λ f. by u16 (λ t. skipC 8 ⨾ by u16 (λ m. if eqb m 65535 then trigger-ofC x f t else stay))))
+
+  unfoldable pub triggersC : ℕ → Check
+  triggersC c = timesC c triggerC
+
+  unfoldable pub toggleC : Check
+  toggleC = by u16 (λ x. valueC x (d .on) ⨾ valueC x (d .off))
+
+  unfoldable pub waitC : Check
+  waitC = triggerC ⨾ dayC 19 ⨾ skipC 1
+
+  -- ---- actions
+
+  -- what follows the kind k of an effect that holds no list
+  unfoldable pub simpleC : ℕ → Check
+  simpleC k =
+      if eqb k 0 then pairC
+      else if eqb k 1 then toggleC
+      else if eqb k 2 then dayC 18
+      else if eqb k 3 then predicateC
+      else if eqb k 5 then waitC
+      else skipC 2
+
+  abbrev pub branchC : Check → Check
+  branchC inner = predicatesC ⨾ inner
+
+  abbrev pub choiceC : Check → Check
+  choiceC inner = by u16 (λ c. timesC c (branchC inner) ⨾ inner)
+
+  abbrev pub actionC : Check → Check
+  actionC inner = (countC ⨾ skipC 8) ⨾ by u8 (λ k. if eqb k 4 then choiceC inner else simpleC k)
+
+  -- a list of actions below which lists may stand `left` deep; 16: none may stand here
+  unfoldable pub actionsC : (left : ℕ) → Check
+  actionsC zero = refuse 16
+  actionsC (suc left) = by u16 (λ c. timesC c (actionC (actionsC left)))

@@ -1,0 +1,435 @@
+// Checks of the parts of a model file that hold no section: what `validate` tests of each, in its order.
+// The file was read before, so that what is looked for is there; a check that finds the file rules broken says 30.
+use model_parts::Section;
+use model_walk::Num;
+ghost use mathlib.Core.Path.{_≡_};
+ghost use Prim.Native.Nat.{_+_, _≤_, _<_};
+ghost use lib.ListN.{length, getD};
+ghost use Rattle.model_check.specs.Checks.{_⨾_, skipC, dayC, place-is, among, listed-at, number-of, entity-valueC, valueC, pairC, predicateC, predicatesC, declaredC, optionalC, trigger-ofC, triggerC, triggersC, toggleC, waitC, countC, simpleC, choiceC, actionsC};
+
+// The position after a part that passed and the actions counted so far, or the refusal.
+pub enum Checked {
+    To(usize, u32),
+    Refused(u32),
+}
+
+// What a model declares: its entities, of which at most 100 are looked at, and the places of the four fixed texts.
+pub struct Declared {
+    pub entities: Section,
+    pub on: u32,
+    pub off: u32,
+    pub unknown: u32,
+    pub unavailable: u32,
+}
+
+// ---- leaves
+
+pub fn skip(s: &[u8], size: usize, at: usize, n: u32) -> Checked
+    ensures { λ r. ⌜ r ≡ skipC size (now (s .entry)) at n ⌝ }
+{
+    if s.len() < size {
+        return Checked::Refused(30);
+    }
+    if s.len() - size < at {
+        return Checked::Refused(30);
+    }
+    Checked::To(at + size, n)
+}
+
+// A number of seconds, at most a day, or the refusal.
+pub fn day_check(s: &[u8], refusal: u32, at: usize, n: u32) -> Checked
+    ensures { λ r. ⌜ r ≡ dayC refusal (now (s .entry)) at n ⌝ }
+{
+    let x = model_walk::u32_at(s, at);
+    let Num::Is(seconds, next) = x else {
+        return Checked::Refused(30);
+    };
+    if 86400 < seconds {
+        return Checked::Refused(refusal);
+    }
+    Checked::To(next, n)
+}
+
+// ---- places
+
+// Whether the place at a position is this one.
+pub fn place_is(s: &[u8], at: usize, place: u32) -> bool
+    ensures { λ r. ⌜ r ≡ place-is (now (s .entry)) at place ⌝ }
+{
+    let x = model_walk::u16_at(s, at);
+    let Num::Is(y, _) = x else {
+        return false;
+    };
+    y == place
+}
+
+// Whether one of so many places is this one.
+pub fn among(s: &[u8], count: u32, at: usize, place: u32) -> bool
+    ensures { λ r. ⌜ r ≡ among count (now (s .entry)) at place ⌝ }
+{
+    let mut left = count;
+    let mut p = at;
+    while 0 < left {
+        let y = model_walk::u16_at(s, p);
+        let Num::Is(z, q) = y else {
+            return false;
+        };
+        if z == place {
+            return true;
+        }
+        p = q;
+        left -= 1;
+    }
+    false
+}
+
+// Whether one of the places behind a count is this one.
+fn listed_at(s: &[u8], at: usize, place: u32) -> bool
+    ensures { λ r. ⌜ r ≡ listed-at (now (s .entry)) at place ⌝ }
+{
+    let x = model_walk::u16_at(s, at);
+    let Num::Is(count, start) = x else {
+        return false;
+    };
+    among(s, count, start, place)
+}
+
+// The number of the section's first part that begins with this place, or the count.
+pub fn number_of(s: &[u8], section: Section, place: u32) -> usize
+    requires { ⌜ section .count ≤ 100 ⌝ }
+    ensures { λ r. ⌜ (r ≡ number-of section place (now (s .entry))) × (r ≤ section .count) ⌝ }
+{
+    let count = section.count as usize;
+    let mut i: usize = 0;
+    while i < count {
+        let p = section.starts[i];
+        if place_is(s, p, place) {
+            return i;
+        }
+        i += 1;
+    }
+    i
+}
+
+// ---- values
+
+// A value of the i-th entity.
+fn entity_value_check(s: &[u8], d: Declared, i: usize, value: u32, at: usize, n: u32) -> Checked
+    requires { ⌜ d .entities .count ≤ 100 ⌝ }
+    ensures { λ r. ⌜ r ≡ entity-valueC d i value (now (s .entry)) at n ⌝ }
+{
+    let entities = d.entities;
+    let count = entities.count as usize;
+    if count <= i {
+        return Checked::Refused(7);
+    }
+    if value == d.unknown {
+        return Checked::To(at, n);
+    }
+    if value == d.unavailable {
+        return Checked::To(at, n);
+    }
+    let start = entities.starts[i];
+    if s.len() <= start {
+        return Checked::Refused(8);
+    }
+    if listed_at(s, start + 2, value) {
+        return Checked::To(at, n);
+    }
+    Checked::Refused(8)
+}
+
+pub fn value_check(s: &[u8], d: Declared, entity: u32, value: u32, at: usize, n: u32) -> Checked
+    requires { ⌜ d .entities .count ≤ 100 ⌝ }
+    ensures { λ r. ⌜ r ≡ valueC d entity value (now (s .entry)) at n ⌝ }
+{
+    let i = number_of(s, d.entities, entity);
+    entity_value_check(s, d, i, value, at, n)
+}
+
+// An entity and a value.
+pub fn pair_check(s: &[u8], d: Declared, at: usize, n: u32) -> Checked
+    requires { ⌜ d .entities .count ≤ 100 ⌝ }
+    ensures { λ r. ⌜ r ≡ pairC d (now (s .entry)) at n ⌝ }
+{
+    let x = model_walk::u16_at(s, at);
+    let Num::Is(entity, p) = x else {
+        return Checked::Refused(30);
+    };
+    let y = model_walk::u16_at(s, p);
+    let Num::Is(value, q) = y else {
+        return Checked::Refused(30);
+    };
+    value_check(s, d, entity, value, q, n)
+}
+
+// ---- predicates
+
+pub fn predicate_check(s: &[u8], d: Declared, at: usize, n: u32) -> Checked
+    requires { ⌜ d .entities .count ≤ 100 ⌝ }
+    ensures { λ r. ⌜ r ≡ predicateC d (now (s .entry)) at n ⌝ }
+{
+    let x = model_walk::u8_at(s, at);
+    let Num::Is(kind, p) = x else {
+        return Checked::Refused(30);
+    };
+    if kind == 0 {
+        return pair_check(s, d, p, n);
+    }
+    skip(s, 2, p, n)
+}
+
+// A count, and as many predicates.
+pub fn predicates_check(s: &[u8], d: Declared, at: usize, n: u32) -> Checked
+    requires { ⌜ d .entities .count ≤ 100 ⌝ }
+    ensures { λ r. ⌜ r ≡ predicatesC d (now (s .entry)) at n ⌝ }
+{
+    let x = model_walk::u16_at(s, at);
+    let Num::Is(count, start) = x else {
+        return Checked::Refused(30);
+    };
+    let mut left = count;
+    let mut p = start;
+    let mut m = n;
+    while 0 < left {
+        let y = predicate_check(s, d, p, m);
+        let Checked::To(q, k) = y else {
+            return y;
+        };
+        p = q;
+        m = k;
+        left -= 1;
+    }
+    Checked::To(p, m)
+}
+
+// ---- triggers
+
+fn declared_check(s: &[u8], d: Declared, entity: u32, at: usize, n: u32) -> Checked
+    requires { ⌜ d .entities .count ≤ 100 ⌝ }
+    ensures { λ r. ⌜ r ≡ declaredC d entity (now (s .entry)) at n ⌝ }
+{
+    let entities = d.entities;
+    let count = entities.count as usize;
+    let i = number_of(s, entities, entity);
+    if count <= i {
+        return Checked::Refused(15);
+    }
+    Checked::To(at, n)
+}
+
+fn optional_check(s: &[u8], d: Declared, entity: u32, value: u32, at: usize, n: u32) -> Checked
+    requires { ⌜ d .entities .count ≤ 100 ⌝ }
+    ensures { λ r. ⌜ r ≡ optionalC d entity value (now (s .entry)) at n ⌝ }
+{
+    if value == 65535 {
+        return Checked::To(at, n);
+    }
+    value_check(s, d, entity, value, at, n)
+}
+
+// A trigger without a note.
+fn trigger_of_check(
+    s: &[u8],
+    d: Declared,
+    entity: u32,
+    from: u32,
+    to: u32,
+    at: usize,
+    n: u32,
+) -> Checked
+    requires { ⌜ d .entities .count ≤ 100 ⌝ }
+    ensures { λ r. ⌜ r ≡ trigger-ofC d entity from to (now (s .entry)) at n ⌝ }
+{
+    let a = declared_check(s, d, entity, at, n);
+    let Checked::To(p, k) = a else {
+        return a;
+    };
+    let b = optional_check(s, d, entity, from, p, k);
+    let Checked::To(q, l) = b else {
+        return b;
+    };
+    optional_check(s, d, entity, to, q, l)
+}
+
+fn trigger_check(s: &[u8], d: Declared, at: usize, n: u32) -> Checked
+    requires { ⌜ d .entities .count ≤ 100 ⌝ }
+    ensures { λ r. ⌜ r ≡ triggerC d (now (s .entry)) at n ⌝ }
+{
+    let x = model_walk::u16_at(s, at);
+    let Num::Is(entity, p) = x else {
+        return Checked::Refused(30);
+    };
+    let y = model_walk::u16_at(s, p);
+    let Num::Is(from, q) = y else {
+        return Checked::Refused(30);
+    };
+    let z = model_walk::u16_at(s, q);
+    let Num::Is(to, t) = z else {
+        return Checked::Refused(30);
+    };
+    let a = skip(s, 8, t, n);
+    let Checked::To(u, m) = a else {
+        return a;
+    };
+    let w = model_walk::u16_at(s, u);
+    let Num::Is(note, next) = w else {
+        return Checked::Refused(30);
+    };
+    if note == 65535 {
+        return trigger_of_check(s, d, entity, from, to, next, m);
+    }
+    Checked::To(next, m)
+}
+
+// So many triggers.
+pub fn triggers_check(s: &[u8], d: Declared, count: u32, at: usize, n: u32) -> Checked
+    requires { ⌜ d .entities .count ≤ 100 ⌝ }
+    ensures { λ r. ⌜ r ≡ triggersC d count (now (s .entry)) at n ⌝ }
+{
+    let mut left = count;
+    let mut p = at;
+    let mut m = n;
+    while 0 < left {
+        let y = trigger_check(s, d, p, m);
+        let Checked::To(q, k) = y else {
+            return y;
+        };
+        p = q;
+        m = k;
+        left -= 1;
+    }
+    Checked::To(p, m)
+}
+
+// ---- actions
+
+fn toggle_check(s: &[u8], d: Declared, at: usize, n: u32) -> Checked
+    requires { ⌜ d .entities .count ≤ 100 ⌝ }
+    ensures { λ r. ⌜ r ≡ toggleC d (now (s .entry)) at n ⌝ }
+{
+    let x = model_walk::u16_at(s, at);
+    let Num::Is(entity, p) = x else {
+        return Checked::Refused(30);
+    };
+    let a = value_check(s, d, entity, d.on, p, n);
+    let Checked::To(q, m) = a else {
+        return a;
+    };
+    value_check(s, d, entity, d.off, q, m)
+}
+
+fn wait_check(s: &[u8], d: Declared, at: usize, n: u32) -> Checked
+    requires { ⌜ d .entities .count ≤ 100 ⌝ }
+    ensures { λ r. ⌜ r ≡ waitC d (now (s .entry)) at n ⌝ }
+{
+    let a = trigger_check(s, d, at, n);
+    let Checked::To(p, k) = a else {
+        return a;
+    };
+    let b = day_check(s, 19, p, k);
+    let Checked::To(q, l) = b else {
+        return b;
+    };
+    skip(s, 1, q, l)
+}
+
+// What follows the kind of an effect that holds no list.
+fn simple_check(s: &[u8], d: Declared, kind: u32, at: usize, n: u32) -> Checked
+    requires { ⌜ d .entities .count ≤ 100 ⌝ }
+    ensures { λ r. ⌜ r ≡ simpleC d kind (now (s .entry)) at n ⌝ }
+{
+    if kind == 0 {
+        return pair_check(s, d, at, n);
+    }
+    if kind == 1 {
+        return toggle_check(s, d, at, n);
+    }
+    if kind == 2 {
+        return day_check(s, 18, at, n);
+    }
+    if kind == 3 {
+        return predicate_check(s, d, at, n);
+    }
+    if kind == 5 {
+        return wait_check(s, d, at, n);
+    }
+    skip(s, 2, at, n)
+}
+
+// An action's count and its source: its kind stands at the position after them.
+fn head_check(s: &[u8], at: usize, n: u32) -> Checked
+    ensures { λ r. ⌜ r ≡ (countC ⨾ skipC 8) (now (s .entry)) at n ⌝ }
+{
+    if n < 512 {
+        return skip(s, 8, at, n + 1);
+    }
+    Checked::Refused(17)
+}
+
+// A list of actions below which lists may stand `left` deep.
+pub fn actions_check(s: &[u8], d: Declared, left: usize, at: usize, n: u32) -> Checked
+    requires { ⌜ d .entities .count ≤ 100 ⌝ }
+    ensures { λ r. ⌜ r ≡ actionsC d left (now (s .entry)) at n ⌝ }
+{
+    if left == 0 {
+        return Checked::Refused(16);
+    }
+    let x = model_walk::u16_at(s, at);
+    let Num::Is(count, start) = x else {
+        return Checked::Refused(30);
+    };
+    let mut i = count;
+    let mut p = start;
+    let mut m = n;
+    while 0 < i {
+        let y = head_check(s, p, m);
+        let Checked::To(after, kept) = y else {
+            return y;
+        };
+        let z = model_walk::u8_at(s, after);
+        let Num::Is(kind, next) = z else {
+            return Checked::Refused(30);
+        };
+        let r = if kind == 4 {
+            choice_check(s, d, left - 1, next, kept)
+        } else {
+            simple_check(s, d, kind, next, kept)
+        };
+        let Checked::To(q, k) = r else {
+            return r;
+        };
+        p = q;
+        m = k;
+        i -= 1;
+    }
+    Checked::To(p, m)
+}
+
+// The branches of a choice and its default: lists below which lists may stand `left - 1` deep.
+pub fn choice_check(s: &[u8], d: Declared, left: usize, at: usize, n: u32) -> Checked
+    requires { ⌜ d .entities .count ≤ 100 ⌝ }
+    ensures { λ r. ⌜ r ≡ choiceC d (actionsC d left) (now (s .entry)) at n ⌝ }
+{
+    let x = model_walk::u16_at(s, at);
+    let Num::Is(count, start) = x else {
+        return Checked::Refused(30);
+    };
+    let mut i = count;
+    let mut p = start;
+    let mut m = n;
+    while 0 < i {
+        let y = predicates_check(s, d, p, m);
+        let Checked::To(next, kept) = y else {
+            return y;
+        };
+        let z = actions_check(s, d, left, next, kept);
+        let Checked::To(q, k) = z else {
+            return z;
+        };
+        p = q;
+        m = k;
+        i -= 1;
+    }
+    actions_check(s, d, left, p, m)
+}

@@ -1,0 +1,106 @@
+-- The laws of the walk over a file that the proofs of functions cite.
+use mathlib.Core.Path.{_≡_, refl, sym, ap, _∙_}
+use mathlib.Core.List.{List}
+use mathlib.Core.Bool.{Bool, true, false}
+use Prim.Native.Nat.{ℕ, _≤_, _<_}
+use lib.ListN.{length}
+use lib.Dec.{ltb}
+use borrow.Author.Tests.{lt-ltb, le-ltb}
+use Rattle.texts.specs.Lists.{if_then_else_}
+use Rattle.model.specs.File.{Got, got, broken, u32}
+use Rattle.model_walk.specs.declared.Num.{Num}
+use Rattle.model_walk.specs.declared.Num.the-variants as num
+use Rattle.model_walk.specs.declared.Walked.{Walked}
+use Rattle.model_walk.specs.declared.Walked.the-variants as walked
+use Rattle.model_walk.specs.Walk.{found, placeW, bytesW}
+use Rattle.model_walk.proofs.Laws.{is-got, is-broken}
+use Rattle.model_parts.specs.declared.Section.{Section}
+use Rattle.model_parts.specs.declared.Part.the-variants as part
+use Rattle.model_parts.specs.Parts.{partW, sectionW}
+use Rattle.model_order.specs.Order.{ascendingW, textsW}
+use Rattle.model_index.specs.declared.File.{File}
+use Rattle.model_index.specs.declared.Status.the-variants as status
+use Rattle.model_index.specs.declared.Index.{Index}
+use Rattle.model_index.specs.Index.{empty, refusedW, on, on-section, given, closed, restW, bodyW, readW}
+
+module _ (w : Walked) (f : ℕ → ℕ → File) {x : Walked} (e : x ≡ w) where
+  pub on-to : {p n : ℕ} → x ≡ walked.To p n → on w f ≡ f p n
+  unfolding on
+  on-to h = ap (λ (y : Walked). on y f) (sym e ∙ h)
+
+  pub on-broken : x ≡ walked.Broken → on w f ≡ refusedW 30
+  unfolding on
+  on-broken h = ap (λ (y : Walked). on y f) (sym e ∙ h)
+
+module _ (w : Section) (f : Section → ℕ → ℕ → File) {x : Section} (e : x ≡ w) where
+  pub sec-to : {p n : ℕ} → x .end ≡ walked.To p n → on-section w f ≡ f x p n
+  unfolding on-section on
+  sec-to h = ap (λ (y : Section). on (y .end) (f y)) (sym e) ∙ ap (λ (y : Walked). on y (f x)) h
+
+  pub sec-broken : x .end ≡ walked.Broken → on-section w f ≡ refusedW 30
+  unfolding on-section on
+  sec-broken h = ap (λ (y : Section). on (y .end) (f y)) (sym e) ∙ ap (λ (y : Walked). on y (f x)) h
+
+pub given-is : (w : Section) (f : Section → File) {x : Section} → x ≡ w → given w f ≡ f x
+unfolding given
+given-is w f e = ap f (sym e)
+
+module _ (s : List ℕ) (p n : ℕ) (i : Index) where
+  pub too-many : 64 < n → closed s p n i ≡ refusedW 30
+  unfolding closed
+  too-many h = rw (lt-ltb 64 n h)
+
+  pub left-over : n ≤ 64 → p < length s → closed s p n i ≡ refusedW 31
+  unfolding closed
+  left-over h k = rw (le-ltb 64 n h, lt-ltb p (length s) k)
+
+  pub whole : n ≤ 64 → length s ≤ p → closed s p n i ≡ record { status = status.Read; index = i }
+  unfolding closed
+  whole h k = rw (le-ltb 64 n h, le-ltb p (length s) k)
+
+-- a refusal's index, from the section that it repeats
+pub refused-with : (number : ℕ) {x : Section} → x ≡ empty → _≡_ {A = File} (record { status = status.Refused number; index = record { version = 0; texts = x; title = 0; entities = x; events = x; invariants = x; alphabet = x; gaps = x; limits = 0; rules = x } }) (refusedW number)
+unfolding refusedW
+refused-with number e = ap {B = File} (λ (x : Section). record { status = status.Refused number; index = record { version = 0; texts = x; title = 0; entities = x; events = x; invariants = x; alphabet = x; gaps = x; limits = 0; rules = x } }) e
+
+-- the index before the later sections, from the section that stands for them
+pub rest-with : (s : List ℕ) (v at p n : ℕ) (ts es evs is : Section) {x : Section} → x ≡ empty →
+    restW s (record { version = v; texts = ts; title = at; entities = es; events = evs; invariants = is; alphabet = x; gaps = x; limits = 0; rules = x }) p n
+    ≡ restW s (record { version = v; texts = ts; title = at; entities = es; events = evs; invariants = is; alphabet = empty; gaps = empty; limits = 0; rules = empty }) p n
+unfolding restW
+rest-with s v at p n ts es evs is e = refl
+
+pub rest-is : (s : List ℕ) (i : Index) (p₃ n₃ : ℕ) → restW s i p₃ n₃ ≡ (
+    on-section (sectionW (partW (i .texts .count) part.Input) s p₃ n₃) λ alphabet p₄ n₄.
+    on-section (sectionW (partW (i .texts .count) part.Gap) s p₄ n₄) λ gaps p₅ n₅.
+    on (bytesW 16 s p₅ n₅) λ p₆ n₆.
+    on-section (sectionW (partW (i .texts .count) part.Rule) s p₆ n₆) λ rules p₇ n₇.
+    closed s p₇ n₇ (record { version = i .version; texts = i .texts; title = i .title; entities = i .entities; events = i .events; invariants = i .invariants; alphabet = alphabet; gaps = gaps; limits = p₅; rules = rules })
+    )
+unfolding restW
+rest-is s i p₃ n₃ = refl
+
+pub body-is : (s : List ℕ) (v : ℕ) (texts : Section) (at : ℕ) → bodyW s v texts at ≡ (
+    on (placeW (texts .count) s at 0) λ p₀ n₀.
+    on (ascendingW (texts .count) part.Entity false s p₀) λ p₁ n₁.
+    given (sectionW (partW (texts .count) part.Entity) s p₀ 0) λ entities.
+    on-section (sectionW (partW (texts .count) part.Event) s p₁ 0) λ events p₂ n₂.
+    on-section (sectionW (partW (texts .count) part.Invariant) s p₂ n₂) λ invariants p₃ n₃.
+    restW s (record { version = v; texts = texts; title = at; entities = entities; events = events; invariants = invariants; alphabet = empty; gaps = empty; limits = 0; rules = empty }) p₃ n₃
+    )
+unfolding bodyW
+body-is s v texts at = refl
+
+module _ (s : List ℕ) where
+  pub too-long : 32768 < length s → readW s ≡ refusedW 30
+  unfolding readW
+  too-long h = rw (lt-ltb 32768 (length s) h)
+
+  module _ (h : length s ≤ 32768) {x : Num} (e : found x ≡ u32 s 0) where
+    pub no-version : x ≡ num.Broken → readW s ≡ refusedW 30
+    unfolding readW
+    no-version g = rw (le-ltb 32768 (length s) h, is-broken e g, readW)
+
+    pub version-is : {v p : ℕ} → x ≡ num.Is v p → readW s ≡ on (textsW s p) (λ p₁ n₁. given (sectionW (partW 0 part.Text) s p 0) λ texts. bodyW s v texts p₁)
+    unfolding readW
+    version-is g = rw (le-ltb 32768 (length s) h, is-got e g, readW)

@@ -1,0 +1,103 @@
+-- The walk over a whole file.
+use Prim.Native.Nat.{ℕ}
+use mathlib.Core.Bool.{Bool, true, false}
+use mathlib.Core.List.{List}
+use lib.Dec.{ltb}
+use lib.ListN.{length}
+use Rattle.texts.specs.Lists.{if_then_else_}
+use Rattle.model.specs.File.{Got, got, broken, u32}
+use Rattle.model_walk.specs.declared.Walked.{Walked}
+use Rattle.model_walk.specs.declared.Walked.the-variants as walked
+use Rattle.model_walk.specs.Walk.{placeW, bytesW}
+use Rattle.model_parts.specs.declared.Section.{Section}
+use Rattle.model_parts.specs.declared.Part.the-variants as part
+use Rattle.model_parts.specs.Parts.{partW, none, sectionW}
+use Rattle.model_order.specs.Order.{ascendingW, textsW}
+use Rattle.model_index.specs.declared.File.{File}
+use Rattle.model_index.specs.declared.Status.the-variants as status
+use Rattle.model_index.specs.declared.Index.{Index}
+
+abbrev pub empty : Section
+empty = record { count = 0; starts = none; end = walked.Broken }
+
+unfoldable pub refusedW : ℕ → File
+refusedW n = record {
+  status = status.Refused n;
+  index = record {
+    version = 0;
+    texts = empty;
+    title = 0;
+    entities = empty;
+    events = empty;
+    invariants = empty;
+    alphabet = empty;
+    gaps = empty;
+    limits = 0;
+    rules = empty;
+  };
+}
+
+-- go on behind a walk, or refuse
+unfoldable pub on : Walked → (ℕ → ℕ → File) → File
+on (walked.To p n) f = f p n
+on walked.Broken f = refusedW 30
+
+-- go on behind a section
+unfoldable pub on-section : Section → (Section → ℕ → ℕ → File) → File
+on-section x f = on (x .end) (f x)
+
+-- a section that was walked already
+unfoldable pub given : Section → (Section → File) → File
+given x f = f x
+
+unfoldable pub closed : List ℕ → ℕ → ℕ → Index → File
+closed s p n i = if ltb 64 n then refusedW 30 else if ltb p (length s) then refusedW 31 else record { status = status.Read; index = i }
+
+-- what follows the invariants, for an index of what comes before
+unfoldable pub restW : List ℕ → Index → ℕ → ℕ → File
+restW s i p₃ n₃ =
+    on-section (sectionW (partW (i .texts .count) part.Input) s p₃ n₃) λ alphabet p₄ n₄.
+    on-section (sectionW (partW (i .texts .count) part.Gap) s p₄ n₄) λ gaps p₅ n₅.
+    on (bytesW 16 s p₅ n₅) λ p₆ n₆.
+    on-section (sectionW (partW (i .texts .count) part.Rule) s p₆ n₆) λ rules p₇ n₇.
+    closed s p₇ n₇ (record {
+      version = i .version;
+      texts = i .texts;
+      title = i .title;
+      entities = i .entities;
+      events = i .events;
+      invariants = i .invariants;
+      alphabet = alphabet;
+      gaps = gaps;
+      limits = p₅;
+      rules = rules;
+    })
+
+-- what follows the texts
+unfoldable pub bodyW : List ℕ → (version : ℕ) → Section → ℕ → File
+bodyW s v texts at =
+    on (placeW (texts .count) s at 0) λ p₀ n₀.
+    on (ascendingW (texts .count) part.Entity false s p₀) λ p₁ n₁.
+    given (sectionW (partW (texts .count) part.Entity) s p₀ 0) λ entities.
+    on-section (sectionW (partW (texts .count) part.Event) s p₁ 0) λ events p₂ n₂.
+    on-section (sectionW (partW (texts .count) part.Invariant) s p₂ n₂) λ invariants p₃ n₃.
+    restW s (record {
+      version = v;
+      texts = texts;
+      title = at;
+      entities = entities;
+      events = events;
+      invariants = invariants;
+      alphabet = empty;
+      gaps = empty;
+      limits = 0;
+      rules = empty;
+    }) p₃ n₃
+
+unfoldable pub readW : List ℕ → File
+readW s =
+    if ltb 32768 (length s) then refusedW 30
+    else elim (u32 s 0) [
+      | got v p ↦ on (textsW s p) λ p₁ n₁. given (sectionW (partW 0 part.Text) s p 0) λ texts. bodyW s v texts p₁
+      | broken ↦ refusedW 30
+    ]

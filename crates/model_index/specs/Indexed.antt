@@ -1,0 +1,41 @@
+-- What the reader's answer says of a file: the model that `decode` finds, and where its parts stand.
+use Prim.Native.Nat.{ℕ}
+use mathlib.Core.Path.{_≡_}
+use mathlib.Core.List.{List}
+use lib.ListN.{length}
+use Rattle.texts.specs.Texts.{Text}
+use Rattle.model.specs.Answer.{Answer, answer, refused}
+use Rattle.model.specs.Model.{Model}
+use Rattle.model.specs.File.{u32, limits, texts, one-text, place, entity, event, invariant, input, automation}
+use Rattle.model_parts.specs.declared.Section.{Section}
+use Rattle.model_parts.specs.Stand.{Reads, Stand}
+use Rattle.model.specs.File.{Reader}
+use Rattle.model_index.specs.declared.File.{File}
+use Rattle.model_index.specs.declared.Status.the-variants as status
+use Rattle.model_index.specs.declared.Index.{Index}
+use Rattle.model_index.specs.Index.{refusedW}
+
+-- the section's parts are these values: as many, and the first hundred of them at its positions
+pub record Holds {A : Type 0} (r : Reader A) (s : List ℕ) (x : Section) (l : List A) : Type 0 where
+  pub counts : x .count ≡ length l
+  pub stand : Stand r s (x .starts) l
+
+-- the index is the model's: each position in it is where the reader of `File` finds that part of the model
+pub record Indexed (s : List ℕ) (i : Index) (m : Model) : Type 0 where
+  pub ts : List Text
+  pub all-texts : Reads texts s 4 ts
+  pub each-text : Holds one-text s (i .texts) ts
+  pub version : i .version ≡ m .scenario .version
+  pub title : Reads (place ts) s (i .title) (m .scenario .title)
+  pub entities : Holds (entity ts) s (i .entities) (m .scenario .entities)
+  pub events : Holds (event ts) s (i .events) (m .scenario .events)
+  pub invariants : Holds (invariant ts) s (i .invariants) (m .scenario .invariants)
+  pub alphabet : Holds (input ts) s (i .alphabet) (m .scenario .alphabet)
+  pub gaps : Holds u32 s (i .gaps) (m .scenario .gaps)
+  pub limits-at : Reads limits s (i .limits) (m .scenario .limits)
+  pub rules : Holds (automation ts) s (i .rules) (m .rules)
+
+-- the answer for a file that decodes to a model, or that is refused
+abbrev pub Says : List ℕ → File → Answer Model → Type 0
+Says s r (answer m) = (r .status ≡ status.Read) × Indexed s (r .index) m
+Says s r (refused n) = r ≡ refusedW n

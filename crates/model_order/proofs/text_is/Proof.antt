@@ -1,0 +1,43 @@
+use borrow.Author.Needs.{needs}
+use mathlib.Core.Path.{_≡_, sym, _∙_}
+use native.Mathlib.Omega.{arith}
+use borrow.Author.Tests.{not-true, not-false}
+use Rattle.model_order.proofs.Laws as laws
+use Rattle.model_walk.proofs.Laws as walks
+use Rattle.model_order.proofs.text_is.Statement.{statement}
+use Rattle.model_order.proofs.text_is.Tie as tie
+use Prim.Native.Nat.{_-_}
+use mathlib.Core.Bool.{_&&_}
+use lib.ListN.{drop}
+use Rattle.texts.specs.Texts.{eqT}
+use Rattle.texts.specs.Places.{textAt}
+use Rattle.model_order.specs.Order.{fits}
+
+abbrev Inv-loop : tie.InvT-loop
+Inv-loop s p word n i₀ i = (fits s p && eqT word (textAt s p)) ≡ eqT (drop i word) (drop i (textAt s p))
+
+abbrev μ-loop : tie.MeasureT-loop
+μ-loop s p word n i₀ i = n - i
+
+pub text-is-spec : {M : Type 1} → statement M
+text-is-spec =
+    tie.close
+    (tie.spec
+    Inv-loop
+    μ-loop
+    (λ c κs. search needs)
+    (λ c. sym (laws.is-none _ _ _ (sym (c .before .text-fits .ensures) ∙ not-true _ (c .if1 .taken))))
+    (λ c. omega (arith, laws.fits-is _ _ (sym (c .before .before .text-fits .ensures) ∙ not-false _ (c .before .if1 .left))))
+    (λ c. omega (arith, c .shared-slice-known3 .given (c .before .before .before .before .before .args .p)))
+    (λ c. laws.is-whole _ _ _ (sym (c .before .before .text-fits .ensures) ∙ not-false _ (c .before .if1 .left)))
+    (λ c. sym (c .before .loop .inv ∙ laws.is-ended _ _ _ (sym (c .before .before .before .before .text-fits .ensures) ∙ not-false _ (c .before .before .before .if1 .left)) _ (c .if2 .taken)))
+    (λ c. sym (c .before .before .loop .inv ∙ laws.is-longer _ _ _ (sym (c .before .before .before .before .before .text-fits .ensures) ∙ not-false _ (c .before .before .before .before .if1 .left)) _ (c .before .if2 .left) (c .if3 .taken)))
+    (λ c. search needs)
+    (λ c. omega (arith, laws.fits-is _ _ (sym (c .before .before .before .before .before .before .text-fits .ensures) ∙ not-false _ (c .before .before .before .before .before .if1 .left))))
+    (λ c. omega (arith, laws.fits-is _ _ (sym (c .before .before .before .before .before .before .text-fits .ensures) ∙ not-false _ (c .before .before .before .before .before .if1 .left))))
+    (λ c. omega (arith, laws.fits-is _ _ (sym (c .before .before .before .before .before .before .before .text-fits .ensures) ∙ not-false _ (c .before .before .before .before .before .before .if1 .left))))
+    (λ c. sym (c .before .before .before .before .before .loop .inv ∙ laws.is-other _ _ _ (sym (c .before .before .before .before .before .before .before .before .text-fits .ensures) ∙ not-false _ (c .before .before .before .before .before .before .before .if1 .left)) _ (c .before .before .before .before .if2 .left) (c .before .before .before .if3 .left) (c .if4 .taken)))
+    (λ c. omega (arith, laws.fits-is _ _ (sym (c .before .before .before .before .before .before .before .before .text-fits .ensures) ∙ not-false _ (c .before .before .before .before .before .before .before .if1 .left))))
+    (λ c. omega arith)
+    (λ c. c .before .before .before .before .before .loop .inv ∙ laws.is-same _ _ _ (sym (c .before .before .before .before .before .before .before .before .text-fits .ensures) ∙ not-false _ (c .before .before .before .before .before .before .before .if1 .left)) _ (c .before .before .before .before .if2 .left) (c .before .before .before .if3 .left) (c .if4 .left))
+    )

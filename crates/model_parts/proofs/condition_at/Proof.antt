@@ -1,0 +1,39 @@
+use borrow.Author.Needs.{needs}
+use mathlib.Core.Path.{_≡_, refl, sym, ap, _∙_}
+use native.Mathlib.Omega.{arith}
+use borrow.Author.Tests.{lt-ltb, le-ltb, eq-eqb, ne-eqb}
+use Rattle.model_parts.proofs.Laws as laws
+use Rattle.model_walk.proofs.Laws as walks
+use Rattle.model_parts.proofs.condition_at.Statement.{statement}
+use Rattle.model_parts.proofs.condition_at.Tie as tie
+
+pub condition-at-spec : {M : Type 1} → statement M
+condition-at-spec =
+    tie.close
+    (tie.spec
+    (λ c κs. search needs)
+    (λ c. c .pieces-at .ensures ∙ sym (laws.condition-0 _ _ _ _ (c .before .if1 .taken)))
+    (λ c κs. search needs)
+    (λ c. search needs)
+    (λ c. search needs)
+    (λ c. sym (laws.condition-1 _ _ _ _ (c .before .before .before .if2 .taken) ∙ walks.broke _ _ _ _ _ (c .before .before .two-places-at .ensures) (c .enum-told .given .1)))
+    (λ c κs. search needs)
+    (λ c. c .pieces-at2 .ensures ∙ sym (laws.condition-1 _ _ _ _ (c .before .before .before .before .before .if2 .taken) ∙ walks.to _ _ _ _ _ (c .before .before .before .before .two-places-at .ensures) (c .before .before .a .given .1)))
+    (λ c κs. search needs)
+    (λ c. search needs)
+    (λ c. search needs)
+    (λ c. sym (laws.condition-2 _ _ _ _ (c .before .before .before .if3 .taken) ∙ walks.broke _ _ _ _ _ (c .before .before .two-places-at2 .ensures) (c .enum-told2 .given .1)))
+    (λ c κs. search needs)
+    (λ c. c .place-at .ensures ∙ sym (laws.condition-2 _ _ _ _ (c .before .before .before .before .before .if3 .taken) ∙ walks.to _ _ _ _ _ (c .before .before .before .before .two-places-at2 .ensures) (c .before .before .b .given .1)))
+    (λ c κs. search needs)
+    (λ c. search needs)
+    (λ c. search needs)
+    (λ c. sym (laws.condition-3 _ _ _ _ (c .before .before .before .if4 .taken) ∙ walks.broke _ _ _ _ _ (c .before .before .predicate-at .ensures) (c .enum-told3 .given .1)))
+    (λ c κs. search needs)
+    (λ c. search needs)
+    (λ c. search needs)
+    (λ c. sym (laws.condition-3 _ _ _ _ (c .before .before .before .before .before .before .before .if4 .taken) ∙ walks.to _ _ _ _ _ (c .before .before .before .before .before .before .predicate-at .ensures) (c .before .before .before .before .d .given .1) ∙ walks.broke _ _ _ _ _ (c .before .before .predicate-at2 .ensures) (c .enum-told4 .given .1)))
+    (λ c κs. search needs)
+    (λ c. c .bytes-at .ensures ∙ sym (laws.condition-3 _ _ _ _ (c .before .before .before .before .before .before .before .before .before .if4 .taken) ∙ walks.to _ _ _ _ _ (c .before .before .before .before .before .before .before .before .predicate-at .ensures) (c .before .before .before .before .before .before .d .given .1) ∙ walks.to _ _ _ _ _ (c .before .before .before .before .predicate-at2 .ensures) (c .before .before .e .given .1)))
+    (λ c. sym (laws.condition-else _ _ _ _ (c .before .before .before .if1 .left) (c .before .before .if2 .left) (c .before .if3 .left) (c .if4 .left)))
+    )

@@ -1,0 +1,20 @@
+use borrow.Author.Needs.{needs}
+use mathlib.Core.Path.{_≡_, refl, sym, ap, _∙_}
+use native.Mathlib.Omega.{arith}
+use borrow.Author.Tests.{lt-ltb, le-ltb, eq-eqb, ne-eqb}
+use Rattle.model_parts.proofs.Laws as laws
+use Rattle.model_walk.proofs.Laws as walks
+use Rattle.model_parts.proofs.event_at.Statement.{statement}
+use Rattle.model_parts.proofs.event_at.Tie as tie
+
+pub event-at-spec : {M : Type 1} → statement M
+event-at-spec =
+    tie.close
+    (tie.spec
+    (λ c κs. search needs)
+    (λ c. search needs)
+    (λ c. search needs)
+    (λ c. sym (laws.event-is _ _ _ _ ∙ walks.broke _ _ _ _ _ (c .before .before .bytes-at .ensures) (c .enum-told .given .1)))
+    (λ c κs. search needs)
+    (λ c. c .input-at .ensures ∙ sym (laws.event-is _ _ _ _ ∙ walks.to _ _ _ _ _ (c .before .before .before .before .bytes-at .ensures) (c .before .before .a .given .1)))
+    )

@@ -1,0 +1,44 @@
+use borrow.Author.Needs.{needs}
+use mathlib.Core.Path.{_≡_, refl, sym, ap, _∙_}
+use native.Mathlib.Omega.{arith}
+use borrow.Author.Tests.{lt-ltb, le-ltb, eq-eqb, ne-eqb}
+use Rattle.model_parts.proofs.Laws as laws
+use Rattle.model_walk.proofs.Laws as walks
+use Rattle.model_parts.proofs.rule_at.Statement.{statement}
+use Rattle.model_parts.proofs.rule_at.Tie as tie
+
+pub rule-at-spec : {M : Type 1} → statement M
+rule-at-spec =
+    tie.close
+    (tie.spec
+    (λ c κs. search needs)
+    (λ c. search needs)
+    (λ c. search needs)
+    (λ c. sym (laws.rule-is _ _ _ _ ∙ walks.broke _ _ _ _ _ (c .before .before .place-at .ensures) (c .enum-told .given .1)))
+    (λ c κs. search needs)
+    (λ c. search needs)
+    (λ c. search needs)
+    (λ c. sym (laws.rule-is _ _ _ _ ∙ walks.to _ _ _ _ _ (c .before .before .before .before .before .before .place-at .ensures) (c .before .before .before .before .a .given .1) ∙ walks.broke _ _ _ _ _ (c .before .before .kind-at .ensures) (c .enum-told2 .given .1)))
+    (λ c κs. search needs)
+    (λ c. search needs)
+    (λ c. search needs)
+    (λ c. sym (laws.rule-is _ _ _ _ ∙ walks.to _ _ _ _ _ (c .before .before .before .before .before .before .before .before .before .before .place-at .ensures) (c .before .before .before .before .before .before .before .before .a .given .1) ∙ walks.to _ _ _ _ _ (c .before .before .before .before .before .before .kind-at .ensures) (c .before .before .before .before .b .given .1) ∙ walks.broke _ _ _ _ _ (c .before .before .bytes-at .ensures) (c .enum-told3 .given .1)))
+    (λ c κs. search needs)
+    (λ c. search needs)
+    (λ c. search needs)
+    (λ c. sym (laws.rule-is _ _ _ _ ∙ walks.to _ _ _ _ _ (c .before .before .before .before .before .before .before .before .before .before .before .before .before .before .place-at .ensures) (c .before .before .before .before .before .before .before .before .before .before .before .before .a .given .1) ∙ walks.to _ _ _ _ _ (c .before .before .before .before .before .before .before .before .before .before .kind-at .ensures) (c .before .before .before .before .before .before .before .before .b .given .1) ∙ walks.to _ _ _ _ _ (c .before .before .before .before .before .before .bytes-at .ensures) (c .before .before .before .before .d .given .1) ∙ walks.broke _ _ _ _ _ (c .before .before .pieces-at .ensures) (c .enum-told4 .given .1)))
+    (λ c κs. search needs)
+    (λ c. search needs)
+    (λ c. search needs)
+    (λ c. sym (laws.rule-is _ _ _ _ ∙ walks.to _ _ _ _ _ (c .before .before .before .before .before .before .before .before .before .before .before .before .before .before .before .before .before .before .place-at .ensures) (c .before .before .before .before .before .before .before .before .before .before .before .before .before .before .before .before .a .given .1) ∙ walks.to _ _ _ _ _ (c .before .before .before .before .before .before .before .before .before .before .before .before .before .before .kind-at .ensures) (c .before .before .before .before .before .before .before .before .before .before .before .before .b .given .1) ∙ walks.to _ _ _ _ _ (c .before .before .before .before .before .before .before .before .before .before .bytes-at .ensures) (c .before .before .before .before .before .before .before .before .d .given .1) ∙ walks.to _ _ _ _ _ (c .before .before .before .before .before .before .pieces-at .ensures) (c .before .before .before .before .e .given .1) ∙ walks.broke _ _ _ _ _ (c .before .before .pieces-at2 .ensures) (c .enum-told5 .given .1)))
+    (λ c κs. search needs)
+    (λ c. search needs)
+    (λ c. search needs)
+    (λ c. sym (laws.rule-is _ _ _ _ ∙ walks.to _ _ _ _ _ (c .before .before .before .before .before .before .before .before .before .before .before .before .before .before .before .before .before .before .before .before .before .before .place-at .ensures) (c .before .before .before .before .before .before .before .before .before .before .before .before .before .before .before .before .before .before .before .before .a .given .1) ∙ walks.to _ _ _ _ _ (c .before .before .before .before .before .before .before .before .before .before .before .before .before .before .before .before .before .before .kind-at .ensures) (c .before .before .before .before .before .before .before .before .before .before .before .before .before .before .before .before .b .given .1) ∙ walks.to _ _ _ _ _ (c .before .before .before .before .before .before .before .before .before .before .before .before .before .before .bytes-at .ensures) (c .before .before .before .before .before .before .before .before .before .before .before .before .d .given .1) ∙ walks.to _ _ _ _ _ (c .before .before .before .before .before .before .before .before .before .before .pieces-at .ensures) (c .before .before .before .before .before .before .before .before .e .given .1) ∙ walks.to _ _ _ _ _ (c .before .before .before .before .before .before .pieces-at2 .ensures) (c .before .before .before .before .f .given .1) ∙ walks.broke _ _ _ _ _ (c .before .before .actions-at .ensures) (c .enum-told6 .given .1)))
+    (λ c κs. search needs)
+    (λ c. search needs)
+    (λ c. search needs)
+    (λ c. sym (laws.rule-is _ _ _ _ ∙ walks.to _ _ _ _ _ (c .before .before .before .before .before .before .before .before .before .before .before .before .before .before .before .before .before .before .before .before .before .before .before .before .before .before .place-at .ensures) (c .before .before .before .before .before .before .before .before .before .before .before .before .before .before .before .before .before .before .before .before .before .before .before .before .a .given .1) ∙ walks.to _ _ _ _ _ (c .before .before .before .before .before .before .before .before .before .before .before .before .before .before .before .before .before .before .before .before .before .before .kind-at .ensures) (c .before .before .before .before .before .before .before .before .before .before .before .before .before .before .before .before .before .before .before .before .b .given .1) ∙ walks.to _ _ _ _ _ (c .before .before .before .before .before .before .before .before .before .before .before .before .before .before .before .before .before .before .bytes-at .ensures) (c .before .before .before .before .before .before .before .before .before .before .before .before .before .before .before .before .d .given .1) ∙ walks.to _ _ _ _ _ (c .before .before .before .before .before .before .before .before .before .before .before .before .before .before .pieces-at .ensures) (c .before .before .before .before .before .before .before .before .before .before .before .before .e .given .1) ∙ walks.to _ _ _ _ _ (c .before .before .before .before .before .before .before .before .before .before .pieces-at2 .ensures) (c .before .before .before .before .before .before .before .before .f .given .1) ∙ walks.to _ _ _ _ _ (c .before .before .before .before .before .before .actions-at .ensures) (c .before .before .before .before .g .given .1) ∙ walks.broke _ _ _ _ _ (c .before .before .bytes-at2 .ensures) (c .enum-told7 .given .1)))
+    (λ c κs. search needs)
+    (λ c. c .pieces-at3 .ensures ∙ sym (laws.rule-is _ _ _ _ ∙ walks.to _ _ _ _ _ (c .before .before .before .before .before .before .before .before .before .before .before .before .before .before .before .before .before .before .before .before .before .before .before .before .before .before .before .before .place-at .ensures) (c .before .before .before .before .before .before .before .before .before .before .before .before .before .before .before .before .before .before .before .before .before .before .before .before .before .before .a .given .1) ∙ walks.to _ _ _ _ _ (c .before .before .before .before .before .before .before .before .before .before .before .before .before .before .before .before .before .before .before .before .before .before .before .before .kind-at .ensures) (c .before .before .before .before .before .before .before .before .before .before .before .before .before .before .before .before .before .before .before .before .before .before .b .given .1) ∙ walks.to _ _ _ _ _ (c .before .before .before .before .before .before .before .before .before .before .before .before .before .before .before .before .before .before .before .before .bytes-at .ensures) (c .before .before .before .before .before .before .before .before .before .before .before .before .before .before .before .before .before .before .d .given .1) ∙ walks.to _ _ _ _ _ (c .before .before .before .before .before .before .before .before .before .before .before .before .before .before .before .before .pieces-at .ensures) (c .before .before .before .before .before .before .before .before .before .before .before .before .before .before .e .given .1) ∙ walks.to _ _ _ _ _ (c .before .before .before .before .before .before .before .before .before .before .before .before .pieces-at2 .ensures) (c .before .before .before .before .before .before .before .before .before .before .f .given .1) ∙ walks.to _ _ _ _ _ (c .before .before .before .before .before .before .before .before .actions-at .ensures) (c .before .before .before .before .before .before .g .given .1) ∙ walks.to _ _ _ _ _ (c .before .before .before .before .bytes-at2 .ensures) (c .before .before .h .given .1)))
+    )

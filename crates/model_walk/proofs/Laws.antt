@@ -1,0 +1,286 @@
+-- The laws that the proofs of walks cite.
+use mathlib.Core.Path.{_≡_, refl, sym, ap, _∙_}
+use mathlib.Core.List.{List}
+use mathlib.Core.Bool.{Bool, true, false}
+use Prim.Native.Nat.{ℕ, zero, suc, _+_, _-_, _*_, _≤_, _<_}
+use native.Mathlib.Numerals.{sub-one}
+use native.Mathlib.Decide.{decLt}
+use native.Mathlib.Omega.{arith}
+use lib.ListN.{length, getD}
+use lib.Dec.{ltb, eqb}
+use borrow.Author.Tests.{lt-ltb, le-ltb, le-leb, lt-leb, ne-eqb}
+use Rattle.texts.specs.Lists.{if_then_else_}
+use Rattle.model.specs.File.{Got, got, broken, Reader, _>>=_, give, u8, u16, u32}
+use Rattle.model_walk.specs.declared.Num.{Num}
+use Rattle.model_walk.specs.declared.Num.the-variants as num
+use Rattle.model_walk.specs.declared.Walked.{Walked}
+use Rattle.model_walk.specs.declared.Walked.the-variants as walked
+use Rattle.model_walk.specs.Walk.{found, capped, Walk, and-then, _⨾_, by, stop, stay, noted, staying, bytesW, timesW, kindW, placeW, place?W, note?W, noteW, predicateW, triggerW, pieceW, simpleW, actionsW, actionW, countedW}
+use Rattle.model_walk.specs.declared.Piece.{Piece}
+use Rattle.model_walk.specs.declared.Piece.the-variants as piece
+
+-- ---- numbers
+
+module _ {A B : Type 0} (r : Reader A) (k : A → Reader B) {s : List ℕ} {at : ℕ} where
+  pub bind-got : {a : A} {n : ℕ} → r s at ≡ got a n → (r >>= k) s at ≡ k a s n
+  unfolding _>>=_
+  bind-got e = rw (e, _>>=_)
+
+  pub bind-broken : r s at ≡ broken → (r >>= k) s at ≡ broken
+  unfolding _>>=_
+  bind-broken e = rw (e, _>>=_)
+
+module _ (s : List ℕ) (at : ℕ) where
+  pub u8-in : at < length s → u8 s at ≡ got (getD s at 0) (at + 1)
+  unfolding u8
+  u8-in h = simp (lt-ltb _ _ h)
+
+  pub u8-out : length s ≤ at → u8 s at ≡ broken
+  unfolding u8
+  u8-out h = simp (le-ltb _ _ h)
+
+pub u16-in : (s : List ℕ) (at : ℕ) → at + 2 ≤ length s → u16 s at ≡ got (getD s at 0 + 256 * getD s (at + 1) 0) (at + 2)
+unfolding u16 give
+u16-in s at h =
+    bind-got _ _ (u8-in s at (omega arith))
+    ∙ bind-got _ _ (u8-in s (at + 1) (omega arith))
+    ∙ ap (got (getD s at 0 + 256 * getD s (at + 1) 0)) (omega arith)
+
+pub u16-out : (s : List ℕ) (at : ℕ) → length s < at + 2 → u16 s at ≡ broken
+unfolding u16
+u16-out s at h = elim (decLt at (length s)) [
+  | yes i ↦ bind-got _ _ (u8-in s at i) ∙ bind-broken _ _ (u8-out s (at + 1) (omega arith))
+  | no i ↦ bind-broken _ _ (u8-out s at (omega arith))
+]
+
+pub u32-in : (s : List ℕ) (at : ℕ) → at + 4 ≤ length s → u32 s at ≡ got (getD s at 0 + 256 * getD s (at + 1) 0 + 65536 * (getD s (at + 2) 0 + 256 * getD s (at + 3) 0)) (at + 4)
+unfolding u32 give
+u32-in s at h =
+    bind-got _ _ (u16-in s at (omega arith))
+    ∙ bind-got _ _ (u16-in s (at + 2) (omega arith))
+    ∙ rw (assoc at 2 1, assoc at 2 2)
+  where
+    assoc : (a b c : ℕ) → a + b + c ≡ a + (b + c)
+    assoc a b c = omega arith
+
+pub u32-out : (s : List ℕ) (at : ℕ) → length s < at + 4 → u32 s at ≡ broken
+unfolding u32
+u32-out s at h = elim (decLt (at + 1) (length s)) [
+  | yes i ↦ bind-got _ _ (u16-in s at (omega arith)) ∙ bind-broken _ _ (u16-out s (at + 2) (omega arith))
+  | no i ↦ bind-broken _ _ (u16-out s at (omega arith))
+]
+
+-- what a number's answer says of its reader
+pub is-got : {x : Num} {g : Got ℕ} {v q : ℕ} → found x ≡ g → x ≡ num.Is v q → g ≡ got v q
+unfolding found
+is-got e h = sym e ∙ ap found h
+
+pub is-broken : {x : Num} {g : Got ℕ} → found x ≡ g → x ≡ num.Broken → g ≡ broken
+unfolding found
+is-broken e h = sym e ∙ ap found h
+
+pub says-got : {v w q : ℕ} {g : Got ℕ} → g ≡ got w q → v ≡ w → found (num.Is v q) ≡ g
+unfolding found
+says-got {q = q} e h = ap (λ x. got x q) h ∙ sym e
+
+pub says-broken : {g : Got ℕ} → g ≡ broken → found num.Broken ≡ g
+unfolding found
+says-broken e = sym e
+
+-- ---- tests
+
+pub yes-if : {A : Type 0} {b : Bool} (x y : A) → b ≡ true → (if b then x else y) ≡ x
+yes-if x y h = rw h
+
+pub no-if : {A : Type 0} {b : Bool} (x y : A) → b ≡ false → (if b then x else y) ≡ y
+no-if x y h = rw h
+
+-- ---- walks
+
+module _ (s : List ℕ) (p n : ℕ) where
+  -- the code's answer x of the first number, and its case
+  module _ (r : Reader ℕ) (f : ℕ → Walk) {x : Num} (e : found x ≡ r s p) where
+    pub by-is : {v q : ℕ} → x ≡ num.Is v q → by r f s p n ≡ f v s q n
+    unfolding by
+    by-is h = rw (is-got e h, by)
+
+    pub by-broken : x ≡ num.Broken → by r f s p n ≡ walked.Broken
+    unfolding by
+    by-broken h = rw (is-broken e h, by)
+
+  -- the code's answer x of the first walk, and its case
+  module _ (k l : Walk) {x : Walked} (e : x ≡ k s p n) where
+    pub to : {q m : ℕ} → x ≡ walked.To q m → (k ⨾ l) s p n ≡ l s q m
+    unfolding _⨾_ and-then
+    to h = rw (sym e ∙ h, and-then)
+
+    pub broke : x ≡ walked.Broken → (k ⨾ l) s p n ≡ walked.Broken
+    unfolding _⨾_ and-then
+    broke h = rw (sym e ∙ h, and-then)
+
+  pub stopped : stop s p n ≡ walked.Broken
+  unfolding stop
+  stopped = refl
+
+  pub stayed : stay s p n ≡ walked.To p n
+  unfolding stay
+  stayed = refl
+
+  pub noted-is : noted s p n ≡ walked.To p (capped (n + 1))
+  unfolding noted
+  noted-is = refl
+
+  pub stay-if : {b : Bool} → b ≡ true → staying b s p n ≡ walked.To p n
+  unfolding staying stay
+  stay-if h = rw h
+
+  pub stop-if : {b : Bool} → b ≡ false → staying b s p n ≡ walked.Broken
+  unfolding staying stop
+  stop-if h = rw h
+
+  pub bytes-in : (w : ℕ) → p + w ≤ length s → bytesW w s p n ≡ walked.To (p + w) n
+  unfolding bytesW
+  bytes-in w h = rw (le-leb (p + w) (length s) h)
+
+  pub bytes-out : (w : ℕ) → length s < p + w → bytesW w s p n ≡ walked.Broken
+  unfolding bytesW
+  bytes-out w h = rw (lt-leb (p + w) (length s) h)
+
+pub to-same : {p n m : ℕ} → m ≡ n → walked.To p n ≡ walked.To p m
+to-same {p} e = ap (walked.To p) (sym e)
+
+-- a test, and then a walk
+pub stay-then : {b : Bool} (l : Walk) (s : List ℕ) (p n : ℕ) → b ≡ true → (staying b ⨾ l) s p n ≡ l s p n
+unfolding staying stay _⨾_ and-then
+stay-then l s p n h = rw h
+
+pub stop-then : {b : Bool} (l : Walk) (s : List ℕ) (p n : ℕ) → b ≡ false → (staying b ⨾ l) s p n ≡ walked.Broken
+unfolding staying stop _⨾_ and-then
+stop-then l s p n h = rw h
+
+-- the test of a choice between two walks
+pub yes-walk : {b : Bool} (k l : Walk) (s : List ℕ) (p n : ℕ) → b ≡ true → (if b then k else l) s p n ≡ k s p n
+yes-walk k l s p n h = rw h
+
+pub no-walk : {b : Bool} (k l : Walk) (s : List ℕ) (p n : ℕ) → b ≡ false → (if b then k else l) s p n ≡ l s p n
+no-walk k l s p n h = rw h
+
+-- ---- order of walks
+
+and-then-assoc : (x : Walked) (f g : ℕ → ℕ → Walked) → and-then (and-then x f) g ≡ and-then x (λ p n. and-then (f p n) g)
+unfolding and-then
+and-then-assoc (walked.To p n) f g = refl
+and-then-assoc walked.Broken f g = refl
+
+by-and-then : (g : Got ℕ) (f : ℕ → ℕ → Walked) (h : ℕ → ℕ → Walked) → and-then (elim g [ got x q ↦ f x q | broken ↦ walked.Broken ]) h ≡ elim g [ got x q ↦ and-then (f x q) h | broken ↦ walked.Broken ]
+unfolding and-then
+by-and-then (got x q) f h = refl
+by-and-then broken f h = refl
+
+module _ (s : List ℕ) (p n : ℕ) where
+  pub assoc : (a b c : Walk) → ((a ⨾ b) ⨾ c) s p n ≡ (a ⨾ (b ⨾ c)) s p n
+  unfolding _⨾_
+  assoc a b c = and-then-assoc (a s p n) (b s) (c s)
+
+  pub by-then : (r : Reader ℕ) (f : ℕ → Walk) (l : Walk) → (by r f ⨾ l) s p n ≡ by r (λ x. f x ⨾ l) s p n
+  unfolding _⨾_ by
+  by-then r f l = by-and-then (r s p) (λ x q. f x s q n) (l s)
+
+-- ---- lists
+
+module _ (k : Walk) (s : List ℕ) (p n : ℕ) where
+  pub times-more : (i : ℕ) → 0 < i → timesW i k s p n ≡ (k ⨾ timesW (i - 1) k) s p n
+  unfolding timesW
+  times-more zero h = absurd (omega arith)
+  times-more (suc i) h = rw (sub-one (suc i))
+
+  pub times-none : (i : ℕ) → i ≤ 0 → timesW i k s p n ≡ walked.To p n
+  unfolding timesW stay
+  times-none zero h = refl
+  times-none (suc i) h = absurd (omega arith)
+
+pub times-then : (k l : Walk) (s : List ℕ) (p n : ℕ) (i : ℕ) → 0 < i → (timesW i k ⨾ l) s p n ≡ (k ⨾ (timesW (i - 1) k ⨾ l)) s p n
+unfolding timesW
+times-then k l s p n zero h = absurd (omega arith)
+times-then k l s p n (suc i) h = rw (sub-one (suc i)) (assoc s p n k (timesW i k) l)
+
+pub none-then : (k l : Walk) (s : List ℕ) (p n : ℕ) (i : ℕ) → i ≤ 0 → (timesW i k ⨾ l) s p n ≡ l s p n
+unfolding timesW _⨾_ stay and-then
+none-then k l s p n zero h = refl
+none-then k l s p n (suc i) h = absurd (omega arith)
+
+pub actions-none : (ts : ℕ) (s : List ℕ) (p n : ℕ) → actionsW ts 0 s p n ≡ walked.Broken
+unfolding actionsW stop
+actions-none ts s p n = refl
+
+pub actions-more : (ts left : ℕ) (s : List ℕ) (p n : ℕ) → (left ≡ 0 → ⊥) → actionsW ts left s p n ≡ countedW (actionW ts (actionsW ts (left - 1))) s p n
+unfolding actionsW
+actions-more ts zero s p n h = absurd (h refl)
+actions-more ts (suc left) s p n h = rw (sub-one (suc left))
+
+pub capped-low : (n : ℕ) → n < 64 → capped (n + 1) ≡ n + 1
+unfolding capped
+capped-low n h = no-if _ _ (le-ltb 64 (n + 1) (omega arith))
+
+pub capped-high : (n : ℕ) → 64 ≤ n → capped (n + 1) ≡ 65
+unfolding capped
+capped-high n h = yes-if _ _ (lt-ltb 64 (n + 1) (omega arith))
+
+-- ---- what the shut walks are
+
+module _ (ts : ℕ) (s : List ℕ) (p n : ℕ) where
+  pub trigger-is : triggerW ts s p n ≡ (placeW ts ⨾ place?W ts ⨾ place?W ts ⨾ bytesW 8 ⨾ note?W ts) s p n
+  unfolding triggerW
+  trigger-is = refl
+
+  pub predicate-is : predicateW ts s p n ≡ by u8 (λ k. if eqb k 0 then placeW ts ⨾ placeW ts else if eqb k 1 then noteW ts else stop) s p n
+  unfolding predicateW
+  predicate-is = refl
+
+  -- an effect's kind
+  module _ {k : ℕ} where
+    pub simple-0 : k ≡ 0 → simpleW ts k s p n ≡ (placeW ts ⨾ placeW ts) s p n
+    unfolding simpleW
+    simple-0 e = rw e
+
+    pub simple-1 : k ≡ 1 → simpleW ts k s p n ≡ placeW ts s p n
+    unfolding simpleW
+    simple-1 e = rw e
+
+    pub simple-2 : k ≡ 2 → simpleW ts k s p n ≡ bytesW 4 s p n
+    unfolding simpleW
+    simple-2 e = rw e
+
+    pub simple-3 : k ≡ 3 → simpleW ts k s p n ≡ predicateW ts s p n
+    unfolding simpleW
+    simple-3 e = rw e
+
+    pub simple-5 : k ≡ 5 → simpleW ts k s p n ≡ (triggerW ts ⨾ bytesW 4 ⨾ kindW 2) s p n
+    unfolding simpleW
+    simple-5 e = rw e
+
+    pub simple-6 : k ≡ 6 → simpleW ts k s p n ≡ noteW ts s p n
+    unfolding simpleW
+    simple-6 e = rw e
+
+    pub simple-else : (k ≡ 0 → ⊥) → (k ≡ 1 → ⊥) → (k ≡ 2 → ⊥) → (k ≡ 3 → ⊥) → (k ≡ 5 → ⊥) → (k ≡ 6 → ⊥) → simpleW ts k s p n ≡ walked.Broken
+    unfolding simpleW stop
+    simple-else a b c d e f = rw (ne-eqb _ _ a, ne-eqb _ _ b, ne-eqb _ _ c, ne-eqb _ _ d, ne-eqb _ _ e, ne-eqb _ _ f)
+
+  -- a piece, by its name
+  module _ {x : Piece} where
+    pub piece-place : x ≡ piece.Place → pieceW ts x s p n ≡ placeW ts s p n
+    unfolding pieceW
+    piece-place e = rw e
+
+    pub piece-note : x ≡ piece.Note → pieceW ts x s p n ≡ noteW ts s p n
+    unfolding pieceW
+    piece-note e = rw e
+
+    pub piece-predicate : x ≡ piece.Predicate → pieceW ts x s p n ≡ predicateW ts s p n
+    unfolding pieceW
+    piece-predicate e = rw e
+
+    pub piece-trigger : x ≡ piece.Trigger → pieceW ts x s p n ≡ triggerW ts s p n
+    unfolding pieceW
+    piece-trigger e = rw e

@@ -1,0 +1,19 @@
+use borrow.Author.Needs.{needs}
+use mathlib.Core.Path.{_≡_, refl, sym, ap, _∙_}
+use native.Mathlib.Omega.{arith}
+use borrow.Author.Tests.{lt-ltb, le-ltb, eq-eqb, ne-eqb}
+use Rattle.model_walk.proofs.Laws as laws
+use Rattle.model_walk.proofs.note_at.Statement.{statement}
+use Rattle.model_walk.proofs.note_at.Tie as tie
+
+pub note-at-spec : {M : Type 1} → statement M
+note-at-spec =
+    tie.close
+    (tie.spec
+    (λ c κs. search needs)
+    (λ c. search needs)
+    (λ c. search needs)
+    (λ c. sym (laws.broke _ _ _ _ _ (c .before .before .place-at .ensures) (c .enum-told .given .1)))
+    (λ c κs. search needs)
+    (λ c. sym (laws.to _ _ _ _ _ (c .before .before .before .before .place-at .ensures) (c .before .before .x .given .1) ∙ laws.noted-is _ _ _ ∙ laws.to-same (c .more .ensures)))
+    )

@@ -1,0 +1,20 @@
+use borrow.Author.Needs.{needs}
+use mathlib.Core.Path.{_≡_, refl, sym, ap, _∙_}
+use native.Mathlib.Omega.{arith}
+use borrow.Author.Tests.{lt-ltb, le-ltb, eq-eqb, ne-eqb}
+use Rattle.model_walk.proofs.Laws as laws
+use Rattle.model_walk.proofs.optional_at.Statement.{statement}
+use Rattle.model_walk.proofs.optional_at.Tie as tie
+
+pub optional-at-spec : {M : Type 1} → statement M
+optional-at-spec =
+    tie.close
+    (tie.spec
+    (λ c κs. search needs)
+    (λ c. search needs)
+    (λ c. search needs)
+    (λ c. sym (laws.by-broken _ _ _ _ _ (c .before .before .u16-at .ensures) (c .enum-told .given .1)))
+    (λ c. sym (laws.by-is _ _ _ _ _ (c .before .before .before .before .u16-at .ensures) (c .before .before .x .given .1) ∙ laws.yes-walk _ _ _ _ _ (eq-eqb _ _ (c .if1 .taken)) ∙ laws.stayed _ _ _))
+    (λ c. sym (laws.by-is _ _ _ _ _ (c .before .before .before .before .before .u16-at .ensures) (c .before .before .before .x .given .1) ∙ laws.no-walk _ _ _ _ _ (ne-eqb _ _ (c .before .if1 .left)) ∙ laws.stay-if _ _ _ (lt-ltb _ _ (c .if2 .taken))))
+    (λ c. sym (laws.by-is _ _ _ _ _ (c .before .before .before .before .before .u16-at .ensures) (c .before .before .before .x .given .1) ∙ laws.no-walk _ _ _ _ _ (ne-eqb _ _ (c .before .if1 .left)) ∙ laws.stop-if _ _ _ (le-ltb _ _ (c .if2 .left))))
+    )

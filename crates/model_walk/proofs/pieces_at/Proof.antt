@@ -1,0 +1,35 @@
+use borrow.Author.Needs.{needs}
+use mathlib.Core.Path.{_≡_, refl, sym, ap, _∙_}
+use native.Mathlib.Omega.{arith}
+use borrow.Author.Tests.{lt-ltb, le-ltb, eq-eqb, ne-eqb}
+use Rattle.model_walk.proofs.Laws as laws
+use Rattle.model_walk.proofs.pieces_at.Statement.{statement}
+use Rattle.model_walk.proofs.pieces_at.Tie as tie
+use Rattle.model_walk.specs.Walk.{piecesW, timesW, pieceW}
+
+abbrev Inv-loop : tie.InvT-loop
+Inv-loop s texts piece at notes count start left₀ p₀ n₀ left p n = piecesW texts piece s at notes ≡ timesW left (pieceW texts piece) s p n
+
+abbrev μ-loop : tie.MeasureT-loop
+μ-loop s texts piece at notes count start left₀ p₀ n₀ left p n = left
+
+pub pieces-at-spec : {M : Type 1} → statement M
+pieces-at-spec =
+    tie.close
+    (tie.spec
+    Inv-loop
+    μ-loop
+    (λ c κs. search needs)
+    (λ c. search needs)
+    (λ c. search needs)
+    (λ c. sym (laws.by-broken _ _ _ _ _ (c .before .before .u16-at .ensures) (c .enum-told .given .1)))
+    (λ c. laws.by-is _ _ _ _ _ (c .before .before .before .u16-at .ensures) (c .before .x .given .1))
+    (λ c κs. search needs)
+    (λ c. search needs)
+    (λ c. search needs)
+    (λ c. sym (c .before .before .before .before .loop .inv ∙ laws.times-more _ _ _ _ _ (c .before .before .before .loop-test .taken) ∙ laws.broke _ _ _ _ _ (c .before .before .piece-at .ensures) (c .enum-told2 .given .1)))
+    (λ c. search needs)
+    (λ c. search needs)
+    (λ c. c .before .before .before .before .before .loop .inv ∙ laws.times-more _ _ _ _ _ (c .before .before .before .before .loop-test .taken) ∙ laws.to _ _ _ _ _ (c .before .before .before .piece-at .ensures) (c .before .y .given .1))
+    (λ c. sym (c .before .loop .inv ∙ laws.times-none _ _ _ _ _ (c .loop-test .left)))
+    )

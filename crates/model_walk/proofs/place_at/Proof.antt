@@ -1,0 +1,19 @@
+use borrow.Author.Needs.{needs}
+use mathlib.Core.Path.{_≡_, refl, sym, ap, _∙_}
+use native.Mathlib.Omega.{arith}
+use borrow.Author.Tests.{lt-ltb, le-ltb, eq-eqb, ne-eqb}
+use Rattle.model_walk.proofs.Laws as laws
+use Rattle.model_walk.proofs.place_at.Statement.{statement}
+use Rattle.model_walk.proofs.place_at.Tie as tie
+
+pub place-at-spec : {M : Type 1} → statement M
+place-at-spec =
+    tie.close
+    (tie.spec
+    (λ c κs. search needs)
+    (λ c. search needs)
+    (λ c. search needs)
+    (λ c. sym (laws.by-broken _ _ _ _ _ (c .before .before .u16-at .ensures) (c .enum-told .given .1)))
+    (λ c. sym (laws.by-is _ _ _ _ _ (c .before .before .before .before .u16-at .ensures) (c .before .before .x .given .1) ∙ laws.stay-if _ _ _ (lt-ltb _ _ (c .if1 .taken))))
+    (λ c. sym (laws.by-is _ _ _ _ _ (c .before .before .before .before .u16-at .ensures) (c .before .before .x .given .1) ∙ laws.stop-if _ _ _ (le-ltb _ _ (c .if1 .left))))
+    )

@@ -1,0 +1,22 @@
+use borrow.Author.Needs.{needs}
+use mathlib.Core.Path.{_≡_, refl, sym, ap, _∙_}
+use native.Mathlib.Omega.{arith}
+use borrow.Author.Tests.{lt-ltb, le-ltb, eq-eqb, ne-eqb}
+use Rattle.model_walk.proofs.Laws as laws
+use Rattle.model_walk.proofs.predicate_at.Statement.{statement}
+use Rattle.model_walk.proofs.predicate_at.Tie as tie
+
+pub predicate-at-spec : {M : Type 1} → statement M
+predicate-at-spec =
+    tie.close
+    (tie.spec
+    (λ c κs. search needs)
+    (λ c. search needs)
+    (λ c. search needs)
+    (λ c. sym (laws.predicate-is _ _ _ _ ∙ laws.by-broken _ _ _ _ _ (c .before .before .u8-at .ensures) (c .enum-told .given .1)))
+    (λ c κs. search needs)
+    (λ c. c .two-places-at .ensures ∙ sym (laws.predicate-is _ _ _ _ ∙ laws.by-is _ _ _ _ _ (c .before .before .before .before .before .u8-at .ensures) (c .before .before .before .x .given .1) ∙ laws.yes-walk _ _ _ _ _ (eq-eqb _ _ (c .before .if1 .taken))))
+    (λ c κs. search needs)
+    (λ c. c .note-at .ensures ∙ sym (laws.predicate-is _ _ _ _ ∙ laws.by-is _ _ _ _ _ (c .before .before .before .before .before .before .u8-at .ensures) (c .before .before .before .before .x .given .1) ∙ laws.no-walk _ _ _ _ _ (ne-eqb _ _ (c .before .before .if1 .left)) ∙ laws.yes-walk _ _ _ _ _ (eq-eqb _ _ (c .before .if2 .taken))))
+    (λ c. sym (laws.predicate-is _ _ _ _ ∙ laws.by-is _ _ _ _ _ (c .before .before .before .before .before .u8-at .ensures) (c .before .before .before .x .given .1) ∙ laws.no-walk _ _ _ _ _ (ne-eqb _ _ (c .before .if1 .left)) ∙ laws.no-walk _ _ _ _ _ (ne-eqb _ _ (c .if2 .left)) ∙ laws.stopped _ _ _))
+    )

@@ -1,0 +1,26 @@
+use borrow.Author.Needs.{needs}
+use mathlib.Core.Path.{_≡_, refl, sym, ap, _∙_}
+use native.Mathlib.Omega.{arith}
+use borrow.Author.Tests.{lt-ltb, le-ltb, eq-eqb, ne-eqb}
+use Rattle.model_walk.proofs.Laws as laws
+use Rattle.model_walk.proofs.simple_at.Statement.{statement}
+use Rattle.model_walk.proofs.simple_at.Tie as tie
+
+pub simple-at-spec : {M : Type 1} → statement M
+simple-at-spec =
+    tie.close
+    (tie.spec
+    (λ c κs. search needs)
+    (λ c. c .two-places-at .ensures ∙ sym (laws.simple-0 _ _ _ _ (c .before .if1 .taken)))
+    (λ c κs. search needs)
+    (λ c. c .place-at .ensures ∙ sym (laws.simple-1 _ _ _ _ (c .before .if2 .taken)))
+    (λ c κs. search needs)
+    (λ c. c .bytes-at .ensures ∙ sym (laws.simple-2 _ _ _ _ (c .before .if3 .taken)))
+    (λ c κs. search needs)
+    (λ c. c .predicate-at .ensures ∙ sym (laws.simple-3 _ _ _ _ (c .before .if4 .taken)))
+    (λ c κs. search needs)
+    (λ c. c .wait-at .ensures ∙ sym (laws.simple-5 _ _ _ _ (c .before .if5 .taken)))
+    (λ c κs. search needs)
+    (λ c. c .note-at .ensures ∙ sym (laws.simple-6 _ _ _ _ (c .before .if6 .taken)))
+    (λ c. sym (laws.simple-else _ _ _ _ (c .before .before .before .before .before .if1 .left) (c .before .before .before .before .if2 .left) (c .before .before .before .if3 .left) (c .before .before .if4 .left) (c .before .if5 .left) (c .if6 .left)))
+    )

@@ -1,0 +1,23 @@
+use borrow.Author.Needs.{needs}
+use mathlib.Core.Path.{_≡_, refl, sym, ap, _∙_}
+use native.Mathlib.Omega.{arith}
+use borrow.Author.Tests.{lt-ltb, le-ltb, eq-eqb, ne-eqb}
+use Rattle.model_walk.proofs.Laws as laws
+use Rattle.model_walk.proofs.wait_at.Statement.{statement}
+use Rattle.model_walk.proofs.wait_at.Tie as tie
+
+pub wait-at-spec : {M : Type 1} → statement M
+wait-at-spec =
+    tie.close
+    (tie.spec
+    (λ c κs. search needs)
+    (λ c. search needs)
+    (λ c. search needs)
+    (λ c. sym (laws.broke _ _ _ _ _ (c .before .before .trigger-at .ensures) (c .enum-told .given .1)))
+    (λ c κs. search needs)
+    (λ c. search needs)
+    (λ c. search needs)
+    (λ c. sym (laws.to _ _ _ _ _ (c .before .before .before .before .before .before .trigger-at .ensures) (c .before .before .before .before .a .given .1) ∙ laws.broke _ _ _ _ _ (c .before .before .bytes-at .ensures) (c .enum-told2 .given .1)))
+    (λ c κs. search needs)
+    (λ c. c .kind-at .ensures ∙ sym (laws.to _ _ _ _ _ (c .before .before .before .before .before .before .before .before .trigger-at .ensures) (c .before .before .before .before .before .before .a .given .1) ∙ laws.to _ _ _ _ _ (c .before .before .before .before .bytes-at .ensures) (c .before .before .b .given .1)))
+    )

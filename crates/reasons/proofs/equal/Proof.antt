@@ -1,0 +1,17 @@
+use mathlib.Core.Path.{sym}
+use borrow.Author.Needs.{needs}
+use Rattle.texts.proofs.Ordering as ordering
+use Rattle.reasons.proofs.equal.Statement.{statement}
+use Rattle.reasons.proofs.equal.Tie as tie
+
+pub equal-spec : {M : Type 1} → statement M
+equal-spec =
+    tie.close
+    (tie.spec
+    (λ c κs. search needs)
+    (λ c. search needs)
+    (λ c. search needs)
+    (λ c. search needs)
+    (λ c. sym (ordering.is-same _ _ (cc)))
+    (λ c. sym (ordering.is-less _ _ (cc) .0))
+    (λ c. sym (ordering.is-greater _ _ (cc) .0)))

@@ -1,0 +1,22 @@
+use Prim.Native.Nat.{_+_, _-_}
+use Rattle.reasons.specs.Reasons.{render}
+use Rattle.reasons.specs.Lists.{listed}
+use mathlib.Core.Path.{sym, _∙_}
+use native.Mathlib.Omega.{arith}
+use borrow.Author.Needs.{needs}
+use Rattle.reasons.proofs.Entries as entries
+use Rattle.reasons.proofs.Listing as listing
+use Rattle.reasons.proofs.push_if_absent.Statement.{statement}
+use Rattle.reasons.proofs.push_if_absent.Tie as tie
+
+pub push-if-absent-spec : {M : Type 1} → statement M
+push-if-absent-spec =
+    tie.close
+    (tie.spec
+    (λ c κs. let a = c .before .before .before .args in omega (arith, listing.length-push (render (a .f .now) (a .r)) (listed (a .f .now) (a .n) (a .a .now)), listing.length-listed (a .f .now) (a .n) (a .a .now)))
+    (λ c. search needs)
+    (λ c. let a = c .before .before .before .before .before .args in listing.holds (a .f .now) (a .n) (a .a .now) _ (sym (listing.push-there _ _ (cc))))
+    (λ c κs. let a = c .before .before .before .before .before .before .args in omega (arith, listing.room-push (render (a .f .now) (a .r)) (listed (a .f .now) (a .n) (a .a .now)) (cc), listing.length-listed (a .f .now) (a .n) (a .a .now)))
+    (λ c. let a = c .before .before .before .before .before .before .before .before .before .args in omega (arith, listing.room-push (render (a .f .now) (a .r)) (listed (a .f .now) (a .n) (a .a .now)) (cc), listing.length-listed (a .f .now) (a .n) (a .a .now)))
+    (λ c. search needs)
+    (λ c. let a = c .before .before .before .before .before .before .before .before .before .args in let q = listing.push-new (render (a .f .now) (a .r)) (listed (a .f .now) (a .n) (a .a .now)) (cc) in let l = listing.length-listed (a .f .now) (a .n) (a .a .now) in let m = listing.room-push (render (a .f .now) (a .r)) (listed (a .f .now) (a .n) (a .a .now)) (cc) in listing.holds (a .f .now) (a .n + 1) (c .before .before .insert-at .last .0) _ (listing.pushed (a .f .now) (a .n) (a .a .now) (c .before .before .insert-at .last .0) (a .r) (c .before .before .insert-at .ensures ∙ entries.at-end (a .n) (a .a .now) (a .r)) ∙ sym q)))

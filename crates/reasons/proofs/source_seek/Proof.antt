@@ -1,0 +1,18 @@
+use mathlib.Core.Path.{_∙_}
+use borrow.Author.Needs.{needs}
+use Rattle.reasons.proofs.Rendering as rendering
+use Rattle.reasons.proofs.source_seek.Statement.{statement}
+use Rattle.reasons.proofs.source_seek.Tie as tie
+
+pub source-seek-spec : {M : Type 1} → statement M
+source-seek-spec =
+    tie.close
+    (tie.spec
+    (λ c κs. search needs)
+    (λ c. search needs)
+    (λ c. search needs)
+    (λ c. rendering.colon _ _ _ (c .before .before .s2 .given .0 .0) (cc) (c .if1 .taken))
+    (λ c. search needs)
+    (λ c κs. search needs)
+    (λ c. rendering.line-byte _ _ _ (c .before .s .given .0 .0) (cc))
+    (λ c. c .number-seek2 .ensures ∙ rendering.column-byte _ _ _ (c .before .before .before .s2 .given .0 .0) (cc) (c .before .if1 .left)))

@@ -1,0 +1,172 @@
+//! The oracle: the unchanged reference behind our model files. See README.md.
+mod areas;
+mod compare;
+mod damage;
+mod describe;
+mod edit;
+mod faults;
+mod generate;
+mod limits;
+mod models;
+mod random;
+mod sample;
+mod selftest;
+
+/// The reference as it is, and what is built on it.
+#[path = "."]
+mod plain {
+    pub use ::reference;
+    pub mod cone;
+    pub mod format;
+    pub mod refusals;
+    pub mod show;
+}
+
+/// The same over the copy of the reference that counts insertions.
+#[path = "."]
+#[allow(dead_code)]
+mod counted {
+    pub use ::counted as reference;
+    pub mod cone;
+    pub mod format;
+    pub mod refusals;
+    pub mod show;
+}
+
+use plain::format::{LONGEST_FILE, decode, encode};
+use plain::show::{ENTRIES, show};
+use std::io::{Read, Write};
+
+const USAGE: &str = "usage:
+  oracle show ENTRY [FILE] < model         the lines of an entry point; FILE gets the witness or reduced file
+  oracle show-areas ENTRY N.. < model      the same with areas of N entries
+  oracle needed ENTRY < model              the most entries that each area needs
+  oracle generate ENTRY SEED COUNT DIR     writes DIR/000000.bin and so on
+  oracle expect ENTRY FILE..               the lines for each file, each behind a line `== FILE`
+  oracle describe < model                  a readable dump
+  oracle example                           the model file of the scope's example
+  oracle full-file [LENGTH]                a valid model file of LENGTH bytes (32768)
+  oracle sample ENTRY DIR                  writes DIR/ENTRY.batch and DIR/ENTRY.expected
+  oracle compare [--keep DIR] PROGRAM ENTRY N [SEED] [--file] [--areas | --holds N,..]
+  oracle histogram ENTRY SEED COUNT        counts the first lines of the answers
+  oracle selftest COUNT                    tests the oracle itself
+ENTRY: validate unsupported simulate check fullcheck verify minimize lint cone";
+
+fn main() {
+    let arguments: Vec<String> = std::env::args().skip(1).collect();
+    let words: Vec<&str> = arguments.iter().map(|a| a.as_str()).collect();
+    match words[..] {
+        ["show", entry] => put(show(known(entry), &standard_input()).lines),
+        ["show", entry, file] => {
+            let answer = show(known(entry), &standard_input());
+            if let Some(bytes) = answer.file {
+                std::fs::write(file, bytes).expect("writing the file");
+            }
+            put(answer.lines);
+        }
+        ["show-areas", entry, ref entries @ ..] => {
+            let entries: Vec<usize> = entries.iter().map(|n| number(n) as usize).collect();
+            put(areas::show_areas(known(entry), &standard_input(), &entries));
+        }
+        ["needed", entry] => {
+            let needed = areas::needed(known(entry), &standard_input());
+            let words: Vec<_> = needed.iter().map(|n| n.to_string()).collect();
+            put(words.join(" ") + "\n");
+        }
+        ["generate", entry, seed, count, folder] => {
+            std::fs::create_dir_all(folder).expect("making the folder");
+            for index in 0..number(count) {
+                let bytes = generate::file(known(entry), number(seed), index);
+                std::fs::write(format!("{folder}/{index:06}.bin"), bytes).expect("writing a file");
+            }
+        }
+        ["expect", entry, ref files @ ..] => {
+            for file in files {
+                let bytes = std::fs::read(file).expect("reading a file");
+                put(format!("== {file}\n{}", show(known(entry), &bytes).lines));
+            }
+        }
+        ["describe"] => put(describe::describe(&standard_input())),
+        ["example"] => put(encode(&edit::example())),
+        ["full-file"] => put(full_file(LONGEST_FILE)),
+        ["full-file", length] => put(full_file(number(length) as usize)),
+        ["sample", entry, folder] => {
+            std::fs::create_dir_all(folder).expect("making the folder");
+            let models = sample::models(known(entry));
+            let write = |ending: &str, content: &[u8]| {
+                std::fs::write(format!("{folder}/{entry}.{ending}"), content).expect("writing");
+            };
+            write("batch", &sample::batch(&models));
+            write("expected", sample::expected(entry, &models).as_bytes());
+            put(format!("{entry}: {} models\n", models.len()));
+        }
+        ["compare", ref rest @ ..] => compare_command(rest),
+        ["histogram", entry, seed, count] => {
+            let count = number(count);
+            put(selftest::histogram(known(entry), number(seed), count));
+        }
+        ["selftest", count] => selftest::selftest(number(count)),
+        _ => usage(),
+    }
+}
+
+fn compare_command(words: &[&str]) {
+    let mut keep = "differences";
+    let (mut file, mut areas, mut holds) = (false, false, None);
+    let mut plain = vec![];
+    let mut words = words.iter();
+    while let Some(word) = words.next() {
+        match *word {
+            "--keep" => keep = words.next().unwrap_or_else(|| usage()),
+            "--file" => file = true,
+            "--areas" => areas = true,
+            "--holds" => {
+                let list = words.next().unwrap_or_else(|| usage()).split(',');
+                holds = Some(list.map(|n| number(n) as usize).collect());
+            }
+            word => plain.push(word),
+        }
+    }
+    let (program, entry, count, seed) = match plain[..] {
+        [program, entry, count] => (program, entry, count, 1),
+        [program, entry, count, seed] => (program, entry, count, number(seed)),
+        _ => usage(),
+    };
+    let (entry, count) = (known(entry), number(count));
+    let comparison = compare::Comparison { program, entry, count, seed, keep, file, areas, holds };
+    if !compare::compare(&comparison) {
+        std::process::exit(1);
+    }
+}
+
+fn usage() -> ! {
+    eprintln!("{USAGE}");
+    std::process::exit(2)
+}
+fn known(entry: &str) -> &str {
+    if !ENTRIES.contains(&entry) {
+        usage();
+    }
+    entry
+}
+fn number(word: &str) -> u64 {
+    word.parse().unwrap_or_else(|_| usage())
+}
+/// Standard input; what lies beyond the first byte too many is not read.
+fn standard_input() -> Vec<u8> {
+    let mut bytes = vec![];
+    let most = LONGEST_FILE as u64 + 1;
+    std::io::stdin().take(most).read_to_end(&mut bytes).expect("reading standard input");
+    bytes
+}
+fn put(content: impl AsRef<[u8]>) {
+    // The reader may have gone away.
+    let _ = std::io::stdout().write_all(content.as_ref());
+}
+fn full_file(length: usize) -> Vec<u8> {
+    let mut model = edit::example();
+    edit::pad(&mut model, length);
+    let bytes = encode(&model);
+    assert_eq!(decode(&bytes).is_ok(), length <= LONGEST_FILE);
+    bytes
+}
