@@ -7,7 +7,7 @@ use Rattle.model.specs.Validate.{accepted}
 use Rattle.model_validate.specs.declared.Validity.{Validity}
 use Rattle.model_validate.specs.declared.Validity.the-variants as validity
 
--- a model that is accepted, or document 01's number of the refusal
+-- a model that is accepted, or the scope's number of the refusal
 unfoldable pub validity-of : Answer Model → Validity
 validity-of (answer m) = validity.Accepted
 validity-of (refused n) = validity.Refused n

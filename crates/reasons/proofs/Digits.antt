@@ -56,12 +56,12 @@ pub small : (n : ℕ) → n < 10 → decimal n ≡ (48 + n) ∷ []
 unfolding decimal
 small n h = low 19 n [] h
 
-pub step : (n : ℕ) → 10 ≤ n → n < 4294967296 → decimal n ≡ decimal (n / 10) ++ ((48 + n % 10) ∷ [])
+pub step : (n : ℕ) → 10 ≤ n → n < 18446744073709551616 → decimal n ≡ decimal (n / 10) ++ ((48 + n % 10) ∷ [])
 unfolding decimal
 step n h k = high 19 n [] h ∙ behind 19 (n / 10) ((48 + n % 10) ∷ []) ∙ ap (λ (l : Text). l ++ ((48 + n % 10) ∷ [])) (fuel 18 (n / 10) (10 ^ 18) [] refl (omega arith))
 
 pub length-step : (n : ℕ) → 10 ≤ n → n < 4294967296 → length (decimal n) ≡ length (decimal (n / 10)) + 1
-length-step n h k = ap length (step n h k) ∙ length-append (decimal (n / 10)) ((48 + n % 10) ∷ [])
+length-step n h k = ap length (step n h (omega arith)) ∙ length-append (decimal (n / 10)) ((48 + n % 10) ∷ [])
 
 pub length-small : (n : ℕ) → n < 10 → length (decimal n) ≡ 1
 length-small n h = ap length (small n h)
@@ -74,7 +74,7 @@ module _ (n : ℕ) (b : n < 4294967296) where
       let m : 10 ≤ n = ⊎-elim (λ q. absurd (omega (arith, length-small n q))) (λ q. q) (lt-or-ge n 10) in
       let l = length-step n m b in
       let e : length (decimal n) - 1 - k ≡ length (decimal (n / 10)) - 1 - (k - 1) = omega arith in
-      (omega arith, ap (λ (t : Text). getD t (length (decimal n) - 1 - k) 0) (step n m b) ∙ rw e (List·getD-append (decimal (n / 10)) ((48 + n % 10) ∷ []) 0 (length (decimal (n / 10)) - 1 - (k - 1)) (omega arith)))
+      (omega arith, ap (λ (t : Text). getD t (length (decimal n) - 1 - k) 0) (step n m (omega arith)) ∙ rw e (List·getD-append (decimal (n / 10)) ((48 + n % 10) ∷ []) 0 (length (decimal (n / 10)) - 1 - (k - 1)) (omega arith)))
 
   pub digit-last : getD (decimal n) (length (decimal n) - 1 - 0) 0 ≡ 48 + n % 10
   digit-last =
@@ -82,5 +82,5 @@ module _ (n : ℕ) (b : n < 4294967296) where
       (λ q. rw (small n q) (let e : 48 + n ≡ 48 + n % 10 = omega arith in e))
       (λ q.
       let e : length (decimal (n / 10)) ≡ length (decimal n) - 1 - 0 = omega (arith, length-step n q b) in
-      ap (λ (t : Text). getD t (length (decimal n) - 1 - 0) 0) (step n q b) ∙ getD-at (decimal (n / 10)) (48 + n % 10) [] 0 _ e)
+      ap (λ (t : Text). getD t (length (decimal n) - 1 - 0) 0) (step n q (omega arith)) ∙ getD-at (decimal (n / 10)) (48 + n % 10) [] 0 _ e)
       (lt-or-ge n 10)

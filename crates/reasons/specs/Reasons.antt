@@ -1,9 +1,8 @@
 -- A reason: a kind and its texts. Its rendering, over the bytes of a model file.
 use Prim.Native.Nat.{ℕ, _+_}
-use mathlib.Core.Path.{_≡_}
 use mathlib.Core.List.{List, _∷_, _++_}
 use lib.Dec.{eqb}
-use lib.ListN.{length, drop}
+use lib.ListN.{length}
 use Rattle.reasons.specs.declared.Reason.{Reason}
 use Rattle.texts.specs.Lists.{if_then_else_}
 use Rattle.texts.specs.Texts.{Text, text, decimal}
@@ -52,8 +51,3 @@ body f r = textAt f (r .first) ++ (words (r .kind) ++ textAt f (r .second))
 
 unfoldable pub render : List ℕ → Reason → Text
 render f r = if eqb (r .kind) at-source then placed (r .line) (r .column) ++ body f r else body f r
-
--- a text written to the start of an output: n is its length, and b the output afterwards
-pub record Written (t : Text) (a : List ℕ) (n : ℕ) (b : List ℕ) : Type 0 where
-  pub many : n ≡ length t
-  pub bytes : b ≡ t ++ drop (length t) a

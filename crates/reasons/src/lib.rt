@@ -7,7 +7,7 @@ ghost use Prim.Native.Nat.{_+_, _-_, _*_, _≤_, _<_};
 ghost use lib.ListN.{length, getD, drop, take};
 ghost use Rattle.texts.specs.Texts.{decimal, eqT, orderT, memT, insertT};
 ghost use Rattle.texts.specs.Places.{seek};
-ghost use Rattle.reasons.specs.Reasons.{words, placed, body, render, Written};
+ghost use Rattle.reasons.specs.Reasons.{words, placed, body, render};
 ghost use Rattle.reasons.specs.Lists.{reason-of, reasons, listed, pushT, insertAll, Goes, Holds};
 
 // The kinds: where their words stand in WORDS.
@@ -178,7 +178,7 @@ pub fn rendered_len(f: &[u8], r: Reason) -> usize
 }
 
 // The byte at an index of the rendering, 0 past its end.
-fn byte_at(f: &[u8], r: Reason, i: usize) -> u8
+pub fn byte_at(f: &[u8], r: Reason, i: usize) -> u8
     ensures { λ b. ⌜ b ≡ getD (render (now (f .entry)) r) i 0 ⌝ }
 {
     let s = byte_of(f, r, i);
@@ -213,20 +213,6 @@ pub fn compare(f: &[u8], a: Reason, b: Reason) -> Order
         return Order::Less;
     }
     Order::Same
-}
-
-// The rendering at the start of an output; the answer is its length.
-pub fn write_reason(f: &[u8], r: Reason, out: &mut [u8]) -> usize
-    requires { ⌜ length (render (now f) r) ≤ length (now out) ⌝ }
-    ensures { λ n. ⌜ Written (render (now (f .entry)) r) (now (out .entry)) n (now (out .exit)) ⌝ }
-{
-    let n = rendered_len(f, r);
-    let mut i: usize = 0;
-    while i < n {
-        out[i] = byte_at(f, r, i);
-        i += 1;
-    }
-    n
 }
 
 fn equal(f: &[u8], a: Reason, b: Reason) -> bool

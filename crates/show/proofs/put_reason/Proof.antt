@@ -1,0 +1,31 @@
+use borrow.Author.Needs.{needs}
+use native.Mathlib.Omega.{arith}
+use Rattle.show.proofs.Laws as laws
+use Prim.Native.Nat.{_-_, _≤_}
+use lib.ListN.{length, take}
+use Rattle.reasons.specs.Reasons.{render}
+use Rattle.show.specs.Writing.{Written}
+use Rattle.show.proofs.put_reason.Statement.{statement}
+use Rattle.show.proofs.put_reason.Tie as tie
+
+abbrev Inv-loop : tie.InvT-loop
+Inv-loop out₀ n f r count m₀ i₀ out m i = Written (take i (render f r)) out₀ n out m × (i ≤ length (render f r))
+
+abbrev μ-loop : tie.MeasureT-loop
+μ-loop out₀ n f r count m₀ i₀ out m i = count - i
+
+pub put-reason-spec : {M : Type 1} → statement M
+put-reason-spec =
+    tie.close
+    (tie.spec
+    Inv-loop
+    μ-loop
+    (λ c κs. search needs)
+    (λ c. (laws.nothing _ _, search needs))
+    (λ c κs. search needs)
+    (λ c κs. search needs)
+    (λ c. search needs)
+    (λ c. search needs)
+    (λ c. (laws.is (laws.next (render (c .before .before .before .before .before .before .before .before .before .before .args .f .now) (c .before .before .before .before .before .before .before .before .before .before .args .r)) (c .before .before .before .before .before .before .loop .i) _ (c .before .before .before .byte-at .ensures) (omega arith)) (laws.both (c .before .before .before .before .before .before .loop .inv .0) (c .before .before .put-byte .ensures)), omega arith))
+    (λ c. c .before .loop .inv .0 .same)
+    (λ c. laws.is (laws.whole _ _ (c .before .loop .inv .1) (omega arith)) (c .before .loop .inv .0)))

@@ -1,0 +1,21 @@
+use Rattle.show.proofs.Laws as laws
+use borrow.Author.Needs.{needs}
+use Rattle.show.proofs.put_source.Statement.{statement}
+use Rattle.show.proofs.put_source.Tie as tie
+
+pub put-source-spec : {M : Type 1} → statement M
+put-source-spec =
+    tie.close
+    (tie.spec
+    (λ c. search needs)
+    (λ c. search needs)
+    (λ c κs. search needs)
+    (λ c κs. search needs)
+    (λ c. search needs)
+    (λ c κs. search needs)
+    (λ c. search needs)
+    (λ c κs. search needs)
+    (λ c. search needs)
+    (λ c. laws.is (laws.source-at _ _ _ (cc)) (laws.both (c .before .before .before .before .before .before .before .before .before .before .put-number .ensures) (laws.both (c .before .before .before .before .before .before .put-byte .ensures) (c .before .before .put-number2 .ensures))))
+    (λ c. search needs)
+    (λ c. laws.is (laws.source-absent _ (cc)) (c .before .before .put-byte2 .ensures)))

@@ -1,0 +1,213 @@
+// What the programs print. The writers put a text behind the first n bytes of a lent area, and answer the next free index.
+// If the text doesn't fit, the answer is past the area's end, where every writer writes nothing.
+use reasons::Reason;
+ghost use mathlib.Core.Path.{_≡_};
+ghost use mathlib.Core.List.{[], _∷_};
+ghost use Prim.Native.Nat.{_+_, _≤_};
+ghost use lib.ListN.{length};
+ghost use Rattle.texts.specs.Texts.{decimal};
+ghost use Rattle.texts.specs.Places.{textAt};
+ghost use Rattle.reasons.specs.Reasons.{render};
+ghost use Rattle.show.specs.Writing.{Written};
+ghost use Rattle.show.specs.Lines.{escape, quoted, quoted-or-dash, source, accepted-line, refused-line, model-line};
+
+// The answer of a writer whose text doesn't fit.
+pub const FULL: usize = 18446744073709551615;
+
+// The position of a text that is not there.
+pub const ABSENT: u32 = 4294967295;
+
+// Where a thing stands in the user's file.
+pub enum Source {
+    At(u32, u32),
+    Absent,
+}
+
+// ---- parts of lines
+
+pub fn put_byte(out: &mut [u8], n: usize, b: u8) -> usize
+    ensures { λ m. ⌜ Written (b ∷ []) (now (out .entry)) n (now (out .exit)) m ⌝ }
+{
+    if out.len() <= n {
+        return FULL;
+    }
+    out[n] = b;
+    n + 1
+}
+
+// A text as it is.
+pub fn put(out: &mut [u8], n: usize, t: &[u8]) -> usize
+    ensures { λ m. ⌜ Written (now (t .entry)) (now (out .entry)) n (now (out .exit)) m ⌝ }
+{
+    let mut m = n;
+    let mut i: usize = 0;
+    while i < t.len() {
+        m = put_byte(out, m, t[i]);
+        i += 1;
+    }
+    m
+}
+
+// A number in decimal.
+pub fn put_number(out: &mut [u8], n: usize, x: u64) -> usize
+    ensures { λ m. ⌜ Written (decimal x) (now (out .entry)) n (now (out .exit)) m ⌝ }
+{
+    if x < 10 {
+        return put_byte(out, n, 48 + x as u8);
+    }
+    let m = put_number(out, n, x / 10);
+    put_byte(out, m, 48 + (x % 10) as u8)
+}
+
+// A byte of a quoted text.
+fn put_escaped(out: &mut [u8], n: usize, b: u8) -> usize
+    ensures { λ m. ⌜ Written (escape b) (now (out .entry)) n (now (out .exit)) m ⌝ }
+{
+    if b == 34 {
+        let m = put_byte(out, n, 92);
+        return put_byte(out, m, b);
+    }
+    if b == 92 {
+        let m = put_byte(out, n, 92);
+        return put_byte(out, m, b);
+    }
+    put_byte(out, n, b)
+}
+
+// A text between quotes.
+pub fn put_quoted(out: &mut [u8], n: usize, t: &[u8]) -> usize
+    ensures { λ m. ⌜ Written (quoted (now (t .entry))) (now (out .entry)) n (now (out .exit)) m ⌝ }
+{
+    let mut m = put_byte(out, n, 34);
+    let mut i: usize = 0;
+    while i < t.len() {
+        m = put_escaped(out, m, t[i]);
+        i += 1;
+    }
+    put_byte(out, m, 34)
+}
+
+// The text at a position of the model file.
+pub fn put_text(out: &mut [u8], n: usize, f: &[u8], at: usize) -> usize
+    ensures { λ m. ⌜ Written (textAt (now (f .entry)) at) (now (out .entry)) n (now (out .exit)) m ⌝ }
+{
+    if f.len() <= at {
+        return n;
+    }
+    let from = at + 1;
+    let end = from + texts::text_len(f, at);
+    put(out, n, &f[from..end])
+}
+
+pub fn put_quoted_text(out: &mut [u8], n: usize, f: &[u8], at: usize) -> usize
+    ensures { λ m. ⌜ Written (quoted (textAt (now (f .entry)) at)) (now (out .entry)) n (now (out .exit)) m ⌝ }
+{
+    if f.len() <= at {
+        return put(out, n, b"\"\"");
+    }
+    let from = at + 1;
+    let end = from + texts::text_len(f, at);
+    put_quoted(out, n, &f[from..end])
+}
+
+// The text at a position, quoted, or `-` for ABSENT.
+pub fn put_quoted_or_dash(out: &mut [u8], n: usize, f: &[u8], at: u32) -> usize
+    ensures { λ m. ⌜ Written (quoted-or-dash (now (f .entry)) at) (now (out .entry)) n (now (out .exit)) m ⌝ }
+{
+    if at == ABSENT {
+        return put_byte(out, n, 45);
+    }
+    put_quoted_text(out, n, f, at as usize)
+}
+
+// A reason as it is rendered.
+pub fn put_reason(out: &mut [u8], n: usize, f: &[u8], r: Reason) -> usize
+    ensures { λ m. ⌜ Written (render (now (f .entry)) r) (now (out .entry)) n (now (out .exit)) m ⌝ }
+{
+    let count = reasons::rendered_len(f, r);
+    let mut m = n;
+    let mut i: usize = 0;
+    while i < count {
+        m = put_byte(out, m, reasons::byte_at(f, r, i));
+        i += 1;
+    }
+    m
+}
+
+pub fn put_quoted_reason(out: &mut [u8], n: usize, f: &[u8], r: Reason) -> usize
+    ensures { λ m. ⌜ Written (quoted (render (now (f .entry)) r)) (now (out .entry)) n (now (out .exit)) m ⌝ }
+{
+    let count = reasons::rendered_len(f, r);
+    let mut m = put_byte(out, n, 34);
+    let mut i: usize = 0;
+    while i < count {
+        m = put_escaped(out, m, reasons::byte_at(f, r, i));
+        i += 1;
+    }
+    put_byte(out, m, 34)
+}
+
+// LINE:COLUMN, or `-`.
+pub fn put_source(out: &mut [u8], n: usize, s: Source) -> usize
+    ensures { λ m. ⌜ Written (source s) (now (out .entry)) n (now (out .exit)) m ⌝ }
+{
+    match s {
+        Source::At(line, column) => {
+            let m = put_number(out, n, line as u64);
+            let k = put_byte(out, m, 58);
+            put_number(out, k, column as u64)
+        }
+        Source::Absent => put_byte(out, n, 45),
+    }
+}
+
+// ---- lines
+
+pub fn put_accepted(out: &mut [u8], n: usize) -> usize
+    ensures { λ m. ⌜ Written accepted-line (now (out .entry)) n (now (out .exit)) m ⌝ }
+{
+    put(out, n, b"accepted\n")
+}
+
+pub fn put_refused(out: &mut [u8], n: usize, number: u32) -> usize
+    ensures { λ m. ⌜ Written (refused-line number) (now (out .entry)) n (now (out .exit)) m ⌝ }
+{
+    let m = put(out, n, b"refused ");
+    let k = put_number(out, m, number as u64);
+    put_byte(out, k, 10)
+}
+
+// The line before a model of a batch.
+pub fn put_model(out: &mut [u8], n: usize, k: u32) -> usize
+    ensures { λ m. ⌜ Written (model-line k) (now (out .entry)) n (now (out .exit)) m ⌝ }
+{
+    let m = put(out, n, b"model ");
+    let j = put_number(out, m, k as u64);
+    put_byte(out, j, 10)
+}
+
+// ---- standard output
+
+// Writes the first n bytes to standard output. The answer, 0, is where the next text goes.
+pub fn flush(out: &[u8], n: usize) -> usize
+    ensures { λ r. ⌜ r ≡ 0 ⌝ }
+{
+    if n <= out.len() {
+        io::write_all(1, &out[0..n]);
+        return 0;
+    }
+    io::write_all(1, b"output area too short\n");
+    0
+}
+
+// Flushes if fewer than `need` bytes are free. The answer is where the next text goes.
+pub fn room(out: &[u8], n: usize, need: usize) -> usize
+    ensures { λ r. ⌜ (r ≤ n) × (need ≤ length (now (out .entry)) → r + need ≤ length (now (out .entry))) ⌝ }
+{
+    if n <= out.len() {
+        if need <= out.len() - n {
+            return n;
+        }
+    }
+    flush(out, n)
+}

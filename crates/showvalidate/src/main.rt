@@ -1,0 +1,9 @@
+// Reads a model file on standard input and prints what `validate` says of it. One byte more than the limit is read, so that
+// a longer file is refused as one.
+fn main() {
+    let mut file = [0u8; 32769];
+    let n = io::read_full(0, &mut file);
+    let mut out = [0u8; 64];
+    let m = validate_lines::put_answer(&mut out, 0, &file[..n]);
+    show::flush(&out, m);
+}
