@@ -1,0 +1,149 @@
+-- An accepted file's automations have distinct identifiers, and a simulation of it keeps to the modes from its start
+-- to its end: the invariant of Modes for each automation of the file.
+use Prim.Native.Nat.{ℕ}
+use mathlib.Core.Path.{_≡_, refl, sym, ap, _∙_, subst}
+use mathlib.Core.Bool.{Bool, true, false, _||_, true≢false, false≢true}
+use mathlib.Core.List.{List, [], _∷_, List·Memᴰ, List·Memᴰ·head, List·Memᴰ·tail}
+use Rattle.texts.specs.Lists.{any}
+use Rattle.texts.specs.Texts.{Text, eqT, memT}
+use Rattle.model.specs.Answer.{Answer, answer, refused, Verdict, _>>=_, _and_, _when_}
+use Rattle.model.specs.Model.{Entity, Automation, Event, Model}
+use Rattle.model.specs.File.{decode}
+use Rattle.model.specs.Validate.{bad-length, check-rule, check-rules, validate, accepted}
+use Rattle.engine.specs.Cells.{Cell}
+use Rattle.engine.specs.Records.{Areas}
+use Rattle.engine.specs.Unsupported.{unsupported}
+use Rattle.engine.specs.Engine.{begun, loop}
+use Rattle.engine.specs.Simulate.{ended}
+use Rattle.engine.proofs.Lists.{eqT-same, or-no, Each, each-weak}
+use Rattle.engine.proofs.Keeps.{known-in, Only, Within, closed-keeps}
+use Rattle.engine.proofs.Modes.{at-start, loop-reaches, reached-keeps}
+
+-- ---- answers
+
+pub answer-eq : {A : Type 0} {a b : A} → answer a ≡ answer b → a ≡ b
+answer-eq e = cc
+
+pub refused-answer : {A : Type 0} {n : ℕ} {a : A} → refused n ≡ answer a → ⊥
+refused-answer {A} e = false≢true (ap is-answer e)
+  where
+    is-answer : Answer A → Bool
+    is-answer (answer a) = true
+    is-answer (refused n) = false
+
+pub bind-inv : {A B : Type 0} (x : Answer A) (f : A → Answer B) (b : B) → (x >>= f) ≡ answer b
+    → (a : A) × ((x ≡ answer a) × (f a ≡ answer b))
+unfolding _>>=_
+bind-inv (answer a) f b e = (a, (refl, e))
+bind-inv (refused n) f b e = absurd (refused-answer e)
+
+pub and-inv : {A : Type 0} (v : Verdict) (x : Answer A) (b : A) → (v and x) ≡ answer b → x ≡ answer b
+unfolding _and_
+and-inv (answer u) x b e = e
+and-inv (refused n) x b e = absurd (refused-answer e)
+
+pub when-inv : {A : Type 0} (n : ℕ) (t : Bool) (x : Answer A) (b : A) → ((n when t) and x) ≡ answer b → t ≡ false
+unfolding _and_ _when_
+when-inv n true x b e = absurd (refused-answer e)
+when-inv n false x b e = refl
+
+pub or-no′ : (a b : Bool) → a || b ≡ false → b ≡ false
+or-no′ true b h = absurd (true≢false h)
+or-no′ false b h = h
+
+-- ---- identifiers
+
+-- none is among those before it
+abbrev pub Fresh : List Text → List Automation → Type 0
+Fresh ids [] = Unit {0}
+Fresh ids (r ∷ rs) = (memT (r .id) ids ≡ false) × Fresh (r .id ∷ ids) rs
+
+rules-fresh : (es : List Entity) (ids : List Text) (rs : List Automation) (n k : ℕ)
+    → check-rules es ids rs n ≡ answer k → Fresh ids rs
+unfolding check-rules check-rule
+rules-fresh es ids [] n k e = tt
+rules-fresh es ids (r ∷ rs) n k e =
+    let b : (a : ℕ) × ((check-rule es ids r n ≡ answer a) × (check-rules es (r .id ∷ ids) rs a ≡ answer k)) =
+    bind-inv (check-rule es ids r n) (check-rules es (r .id ∷ ids) rs) k e in (
+      or-no′ (bad-length (r .id)) (memT (r .id) ids)
+          (when-inv 13 (bad-length (r .id) || memT (r .id) ids) _ (b .0) (b .1 .0)),
+      rules-fresh es (r .id ∷ ids) rs (b .0) k (b .1 .1),
+    )
+
+validate-fresh : (m m′ : Model) → validate m ≡ answer m′ → (m ≡ m′) × Fresh [] (m .rules)
+unfolding validate
+validate-fresh m m′ e =
+    go (and-inv _ _ m′ (and-inv _ _ m′ (and-inv _ _ m′
+    (and-inv _ _ m′ (and-inv _ _ m′ (and-inv _ _ m′ (and-inv _ _ m′ (and-inv _ _ m′ e))))))))
+  where
+    go : (check-rules (m .scenario .entities) [] (m .rules) 0 >>= λ n. answer m) ≡ answer m′
+        → (m ≡ m′) × Fresh [] (m .rules)
+    go q =
+        let b : (k : ℕ) × ((check-rules (m .scenario .entities) [] (m .rules) 0 ≡ answer k) × (answer m ≡ answer m′)) =
+        bind-inv (check-rules (m .scenario .entities) [] (m .rules) 0) (λ n. answer m) m′ q in
+        (answer-eq (b .1 .1), rules-fresh (m .scenario .entities) [] (m .rules) 0 (b .0) (b .1 .0))
+
+pub accepted-fresh : (file : List ℕ) (m : Model) → accepted file ≡ answer m → Fresh [] (m .rules)
+unfolding accepted
+accepted-fresh file m e =
+    let b : (a : Model) × ((decode file ≡ answer a) × (validate a ≡ answer m)) = bind-inv (decode file) validate m e in
+    let v : (b .0 ≡ m) × Fresh [] (b .0 .rules) = validate-fresh (b .0) m (b .1 .1) in
+    subst (λ (x : Model). Fresh [] (x .rules)) (v .0) (v .1)
+
+-- those after the identifiers have none of them
+fresh-each : (ids : List Text) (l : List Automation) → Fresh ids l → Each (λ r. memT (r .id) ids ≡ false) l
+fresh-each ids [] f = tt
+fresh-each ids (r ∷ l) f = (
+  f .0,
+  each-weak (λ (s : Automation). memT (s .id) (r .id ∷ ids) ≡ false) (λ s. memT (s .id) ids ≡ false)
+      (λ s h. less (s .id) h) l (fresh-each (r .id ∷ ids) l (f .1)),
+)
+  where
+    less : (t : Text) → memT t (r .id ∷ ids) ≡ false → memT t ids ≡ false
+    less t h = unfold memT any in (or-no′ (eqT t (r .id)) (any (eqT t) ids) h)
+
+pub each-at : {A : Type 0} (P : A → Type 0) {a : A} {l : List A} → Each P l → List·Memᴰ a l → P a
+each-at P h (List·Memᴰ·head e) = subst P (sym e) (h .0)
+each-at P h (List·Memᴰ·tail m) = each-at P (h .1) m
+
+apart : (ids : List Text) (l : List Automation) (r : Automation) → Fresh (r .id ∷ ids) l
+    → Each (λ s. eqT (s .id) (r .id) ≡ false) l
+apart ids l r f =
+    each-weak (λ (s : Automation). memT (s .id) (r .id ∷ ids) ≡ false) (λ s. eqT (s .id) (r .id) ≡ false)
+    (λ s h. first (s .id) h) l (fresh-each (r .id ∷ ids) l f)
+  where
+    first : (t : Text) → memT t (r .id ∷ ids) ≡ false → eqT t (r .id) ≡ false
+    first t h = unfold memT any in (or-no (eqT t (r .id)) (any (eqT t) ids) h)
+
+not-same : (s t : Text) → eqT s t ≡ false → s ≡ t → ⊥
+not-same s t h e = true≢false (sym (eqT-same s) ∙ (ap (eqT s) e ∙ h))
+
+pub only-one : (ids : List Text) {a : Automation} {l : List Automation} → Fresh ids l → List·Memᴰ a l → Only a l
+only-one ids {a} f (List·Memᴰ·head {x = r} {xs = l} e) = (
+  λ _. sym e,
+  each-weak (λ (s : Automation). eqT (s .id) (r .id) ≡ false) (λ s. s .id ≡ a .id → s ≡ a)
+      (λ s h i. absurd (not-same (s .id) (r .id) h (i ∙ ap (λ (z : Automation). z .id) e))) l (apart ids l r (f .1)),
+)
+only-one ids {a} f (List·Memᴰ·tail {x = r} {xs = l} m) = (
+  λ i. absurd (not-same (a .id) (r .id)
+      (each-at (λ (s : Automation). eqT (s .id) (r .id) ≡ false) (apart ids l r (f .1)) m) (sym i)),
+  only-one
+      (r .id ∷ ids) (f .1) m,
+)
+
+pub accepted-only : (file : List ℕ) (m : Model) → accepted file ≡ answer m → {a : Automation} → List·Memᴰ a (m .rules)
+    → Only a (m .rules)
+accepted-only file m e = only-one [] (accepted-fresh file m e)
+
+-- ---- the simulation of an accepted file ends within the modes' bounds, wherever it starts and whatever the events
+
+pub ended-within : (file : List ℕ) (m : Model) → accepted file ≡ answer m → {a : Automation} → List·Memᴰ a (m .rules)
+    → (areas : Areas) (cells : List Cell) (events : List Event) → Within a ((ended areas m cells events) .engine .runs)
+unfolding ended
+ended-within file m e {a} i areas cells events =
+    let limits = m .scenario .limits in
+    let s = begun areas cells (unsupported (m .rules)) events in
+    (closed-keeps (known-in (m .rules)) a (limits .horizon) (loop (m .rules) (limits .horizon) (limits .max-steps) 0 s)
+    (reached-keeps a (m .rules) (accepted-only file m e i)
+    (loop-reaches (m .rules) (limits .horizon) (limits .max-steps) 0 s
+    (at-start areas cells (unsupported (m .rules)) events)))) .within

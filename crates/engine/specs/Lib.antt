@@ -1,0 +1,12 @@
+pub mod Cells
+pub mod Kleene
+pub mod Truth
+pub mod Modes
+pub mod Reasons
+pub mod Unsupported
+pub mod Records
+pub mod Changes
+pub mod Engine
+pub mod Simulate
+pub mod Memory
+pub mod Bounds
