@@ -1,0 +1,555 @@
+// What a run does next, and the other work of a simulation.
+use engine_reads::about_rule;
+use engine_reads::at_most;
+use engine_reads::entity_of;
+use engine_reads::four_at;
+use engine_reads::two_at;
+use engine_state::Move;
+use engine_state::Setting;
+use engine_state::State;
+use engine_state::add;
+use engine_state::after;
+use engine_state::log_action;
+use engine_state::next_step;
+use engine_state::uncertain;
+use engine_steps::finish;
+use engine_steps::update;
+use engine_steps::with_phase;
+use engine_truth::Branch;
+use engine_truth::Effect;
+use engine_truth::Truth;
+use queue::Work;
+use records::Rule;
+use records::Where;
+use runs::Found;
+use runs::Phase;
+use runs::Run;
+use runs::Source;
+use runs::Wait;
+ghost use mathlib.Core.Path.{_≡_};
+ghost use Prim.Native.Nat.{_+_, _*_, _≤_, _<_};
+ghost use lib.ListN.{length};
+ghost use Rattle.engine_state.specs.Steps.{Does, goes, kept, told, still, Fits-q, Fits-qa, Fits-qr, Fits-ar, Fits-qar, Fits-qau, Fits};
+ghost use Rattle.engine_actions.specs.Acts.{writtenM, setM, toggledM, flipM, delayM, unclearM, testedM, conditionM, take-listM, chooseM, begin-waitM, give-upM, performM, go-onM, goingR, resumeM};
+ghost use Rattle.engine_actions.specs.Works.{wait-overM, time-outM, expireM, go-staleM, drop-allM, externalM, processM};
+
+// ---- a run's next action
+
+fn write(
+    x: &[u32; 436],
+    q: &mut [u32],
+    a: &mut [u32],
+    st: State,
+    run: Run,
+    s: Source,
+    entity: u32,
+    value: u32,
+) -> State
+    requires { ⌜ Fits-qa st (now q) (now a) ⌝ }
+    ensures { λ t. ⌜ Does (writtenM (now (x .entry)) run s entity value) st t (goes (now (q .entry)) (now (q .exit))) (goes (now (a .entry)) (now (a .exit))) kept still ⌝ }
+{
+    let rule = Rule::Of(run.automation);
+    let source = Where::From {
+        line: s.line,
+        column: s.column,
+    };
+    let w = Setting {
+        entity,
+        value,
+        kind: 2,
+        rule,
+        source,
+    };
+    update(x, q, a, st, w)
+}
+
+fn set(
+    x: &[u32; 436],
+    q: &mut [u32],
+    a: &mut [u32],
+    st: State,
+    run: Run,
+    s: Source,
+    entity: u32,
+    value: u32,
+) -> State
+    requires { ⌜ Fits-qa st (now q) (now a) ⌝ }
+    ensures { λ t. ⌜ Does (setM (now (x .entry)) run s entity value) st t (goes (now (q .entry)) (now (q .exit))) (goes (now (a .entry)) (now (a .exit))) kept still ⌝ }
+{
+    let s1 = write(x, q, a, st, run, s, entity, value);
+    next_step(q, s1, run, s1.now)
+}
+
+fn toggled(x: &[u32; 436], v: u32) -> u32
+    ensures { λ r. ⌜ r ≡ toggledM (now (x .entry)) v ⌝ }
+{
+    if v == x[4] {
+        return x[5];
+    }
+    x[4]
+}
+
+fn flip(
+    f: &[u8],
+    x: &[u32; 436],
+    q: &mut [u32],
+    a: &mut [u32],
+    u: &mut [u32],
+    st: State,
+    run: Run,
+    s: Source,
+    entity: u32,
+) -> State
+    requires { ⌜ Fits-qau st (now q) (now a) (now u) ⌝ }
+    ensures { λ t. ⌜ Does (flipM (now (f .entry)) (now (x .entry)) run s entity) st t (goes (now (q .entry)) (now (q .exit))) (goes (now (a .entry)) (now (a .exit))) kept (told (now (f .entry)) (now (u .entry)) (now (u .exit))) ⌝ }
+{
+    let e = entity_of(x, entity);
+    if 31 < e {
+        return st;
+    }
+    let c = st.cells;
+    let old = c.values[e];
+    if engine_truth::undecided(x, old) {
+        let i = at_most(run.automation, 31);
+        let why = about_rule(f, x, i, reasons::TOGGLE);
+        let s1 = uncertain(f, u, st, why);
+        return next_step(q, s1, run, s1.now);
+    }
+    let value = toggled(x, old);
+    set(x, q, a, st, run, s, entity, value)
+}
+
+fn delay(q: &mut [u32], a: &mut [u32], st: State, run: Run, s: Source, seconds: u32) -> State
+    requires { ⌜ Fits-qa st (now q) (now a) ⌝ }
+    ensures { λ t. ⌜ Does (delayM run s seconds) st t (goes (now (q .entry)) (now (q .exit))) (goes (now (a .entry)) (now (a .exit))) kept still ⌝ }
+{
+    let s1 = log_action(a, st, 15, seconds, s, run);
+    let second = after(s1.now, seconds);
+    next_step(q, s1, run, second)
+}
+
+// The run ends for a reason.
+fn unclear(
+    f: &[u8],
+    x: &[u32; 436],
+    q: &mut [u32],
+    a: &mut [u32],
+    r: &mut [u32],
+    u: &mut [u32],
+    st: State,
+    k: usize,
+    run: Run,
+    kind: u32,
+) -> State
+    requires { ⌜ (k < st .active) × Fits st (now q) (now a) (now r) (now u) ⌝ }
+    ensures { λ t. ⌜ Does (unclearM (now (f .entry)) (now (x .entry)) k run kind) st t (goes (now (q .entry)) (now (q .exit))) (goes (now (a .entry)) (now (a .exit))) (goes (now (r .entry)) (now (r .exit))) (told (now (f .entry)) (now (u .entry)) (now (u .exit))) ⌝ }
+{
+    let i = at_most(run.automation, 31);
+    let why = about_rule(f, x, i, kind);
+    let s1 = uncertain(f, u, st, why);
+    finish(q, a, r, s1, k)
+}
+
+fn tested(
+    f: &[u8],
+    x: &[u32; 436],
+    q: &mut [u32],
+    a: &mut [u32],
+    r: &mut [u32],
+    u: &mut [u32],
+    st: State,
+    k: usize,
+    run: Run,
+    verdict: Truth,
+) -> State
+    requires { ⌜ (k < st .active) × Fits st (now q) (now a) (now r) (now u) ⌝ }
+    ensures { λ t. ⌜ Does (testedM (now (f .entry)) (now (x .entry)) k run verdict) st t (goes (now (q .entry)) (now (q .exit))) (goes (now (a .entry)) (now (a .exit))) (goes (now (r .entry)) (now (r .exit))) (told (now (f .entry)) (now (u .entry)) (now (u .exit))) ⌝ }
+{
+    match verdict {
+        Truth::Yes => next_step(q, st, run, st.now),
+        Truth::No => finish(q, a, r, st, k),
+        Truth::Unknown => unclear(f, x, q, a, r, u, st, k, run, reasons::ACTION_CONDITION),
+    }
+}
+
+fn condition(
+    f: &[u8],
+    x: &[u32; 436],
+    q: &mut [u32],
+    a: &mut [u32],
+    r: &mut [u32],
+    u: &mut [u32],
+    st: State,
+    k: usize,
+    run: Run,
+    s: Source,
+    at: u32,
+) -> State
+    requires { ⌜ (k < st .active) × Fits st (now q) (now a) (now r) (now u) ⌝ }
+    ensures { λ t. ⌜ Does (conditionM (now (f .entry)) (now (x .entry)) k run s at) st t (goes (now (q .entry)) (now (q .exit))) (goes (now (a .entry)) (now (a .exit))) (goes (now (r .entry)) (now (r .exit))) (told (now (f .entry)) (now (u .entry)) (now (u .exit))) ⌝ }
+{
+    let c = st.cells;
+    let t = engine_truth::evaluate(f, x, c, at);
+    let detail = engine_truth::number_of(t);
+    let s1 = log_action(a, st, 11, detail, s, run);
+    tested(f, x, q, a, r, u, s1, k, run, t)
+}
+
+fn take_list(
+    f: &[u8],
+    q: &mut [u32],
+    a: &mut [u32],
+    r: &mut [u32],
+    st: State,
+    k: usize,
+    run: Run,
+    s: Source,
+    at: u32,
+) -> State
+    requires { ⌜ (k < st .active) × Fits-qar st (now q) (now a) (now r) ⌝ }
+    ensures { λ t. ⌜ Does (take-listM (now (f .entry)) k run s at) st t (goes (now (q .entry)) (now (q .exit))) (goes (now (a .entry)) (now (a .exit))) (goes (now (r .entry)) (now (r .exit))) still ⌝ }
+{
+    let longer = engine_truth::with_list(f, run, at);
+    runs::put_run(r, k, longer);
+    let s1 = log_action(a, st, 8, 0, s, run);
+    next_step(q, s1, run, s1.now)
+}
+
+fn choose(
+    f: &[u8],
+    x: &[u32; 436],
+    q: &mut [u32],
+    a: &mut [u32],
+    r: &mut [u32],
+    u: &mut [u32],
+    st: State,
+    k: usize,
+    run: Run,
+    s: Source,
+    at: u32,
+) -> State
+    requires { ⌜ (k < st .active) × Fits st (now q) (now a) (now r) (now u) ⌝ }
+    ensures { λ t. ⌜ Does (chooseM (now (f .entry)) (now (x .entry)) k run s at) st t (goes (now (q .entry)) (now (q .exit))) (goes (now (a .entry)) (now (a .exit))) (goes (now (r .entry)) (now (r .exit))) (told (now (f .entry)) (now (u .entry)) (now (u .exit))) ⌝ }
+{
+    let c = st.cells;
+    let b = engine_truth::select(f, x, c, at);
+    match b {
+        Branch::Take(list) => take_list(f, q, a, r, st, k, run, s, list),
+        Branch::Unclear => unclear(f, x, q, a, r, u, st, k, run, reasons::CHOOSE_CONDITION),
+        Branch::Skip(_) => unclear(f, x, q, a, r, u, st, k, run, reasons::CHOOSE_CONDITION),
+    }
+}
+
+fn begin_wait(
+    f: &[u8],
+    q: &mut [u32],
+    a: &mut [u32],
+    r: &mut [u32],
+    u: &mut [u32],
+    st: State,
+    k: usize,
+    run: Run,
+    s: Source,
+    at: u32,
+) -> State
+    requires { ⌜ (k < st .active) × Fits st (now q) (now a) (now r) (now u) ⌝ }
+    ensures { λ t. ⌜ Does (begin-waitM (now (f .entry)) k run s at) st t (goes (now (q .entry)) (now (q .exit))) (goes (now (a .entry)) (now (a .exit))) (goes (now (r .entry)) (now (r .exit))) (told (now (f .entry)) (now (u .entry)) (now (u .exit))) ⌝ }
+{
+    if two_at(f, at as usize + 14) != 65535 {
+        let why = engine_reads::by_itself(reasons::WAIT);
+        let s0 = uncertain(f, u, st, why);
+        return finish(q, a, r, s0, k);
+    }
+    let seconds = four_at(f, at as usize + 16);
+    let deadline = after(st.now, seconds);
+    let onward = engine_reads::byte_at(f, at as usize + 20) == 1;
+    let w = Wait {
+        trigger: at,
+        deadline,
+        onward,
+        source: s,
+    };
+    let waiting = with_phase(run, Phase::Waiting(w));
+    runs::put_run(r, k, waiting);
+    let work = Work::Timeout {
+        automation: run.automation,
+        sequence: run.sequence,
+    };
+    let s1 = add(q, st, deadline, work);
+    log_action(a, s1, 16, seconds, s, run)
+}
+
+fn give_up(
+    f: &[u8],
+    q: &mut [u32],
+    a: &mut [u32],
+    r: &mut [u32],
+    u: &mut [u32],
+    st: State,
+    k: usize,
+    run: Run,
+    s: Source,
+    reason: u32,
+) -> State
+    requires { ⌜ (k < st .active) × Fits st (now q) (now a) (now r) (now u) ⌝ }
+    ensures { λ t. ⌜ Does (give-upM (now (f .entry)) k run s reason) st t (goes (now (q .entry)) (now (q .exit))) (goes (now (a .entry)) (now (a .exit))) (goes (now (r .entry)) (now (r .exit))) (told (now (f .entry)) (now (u .entry)) (now (u .exit))) ⌝ }
+{
+    let why = engine_reads::note_reason(f, reason);
+    let s1 = uncertain(f, u, st, why);
+    let s2 = log_action(a, s1, 18, reason, s, run);
+    finish(q, a, r, s2, k)
+}
+
+fn perform(
+    f: &[u8],
+    x: &[u32; 436],
+    q: &mut [u32],
+    a: &mut [u32],
+    r: &mut [u32],
+    u: &mut [u32],
+    st: State,
+    k: usize,
+    run: Run,
+    s: Source,
+    e: Effect,
+) -> State
+    requires { ⌜ (k < st .active) × Fits st (now q) (now a) (now r) (now u) ⌝ }
+    ensures { λ t. ⌜ Does (performM (now (f .entry)) (now (x .entry)) k run s e) st t (goes (now (q .entry)) (now (q .exit))) (goes (now (a .entry)) (now (a .exit))) (goes (now (r .entry)) (now (r .exit))) (told (now (f .entry)) (now (u .entry)) (now (u .exit))) ⌝ }
+{
+    match e {
+        Effect::Set { entity, value } => set(x, q, a, st, run, s, entity, value),
+        Effect::Toggle { entity } => flip(f, x, q, a, u, st, run, s, entity),
+        Effect::Delay { seconds } => delay(q, a, st, run, s, seconds),
+        Effect::Condition { at } => condition(f, x, q, a, r, u, st, k, run, s, at),
+        Effect::Choose { at } => choose(f, x, q, a, r, u, st, k, run, s, at),
+        Effect::Wait { at } => begin_wait(f, q, a, r, u, st, k, run, s, at),
+        Effect::Unknown { reason } => give_up(f, q, a, r, u, st, k, run, s, reason),
+    }
+}
+
+// The run's next action, or its end.
+fn go_on(
+    f: &[u8],
+    x: &[u32; 436],
+    q: &mut [u32],
+    a: &mut [u32],
+    r: &mut [u32],
+    u: &mut [u32],
+    st: State,
+    k: usize,
+) -> State
+    requires { ⌜ (k < st .active) × Fits st (now q) (now a) (now r) (now u) ⌝ }
+    ensures { λ t. ⌜ Does (go-onM (now (f .entry)) (now (x .entry)) k) st t (goes (now (q .entry)) (now (q .exit))) (goes (now (a .entry)) (now (a .exit))) (goes (now (r .entry)) (now (r .exit))) (told (now (f .entry)) (now (u .entry)) (now (u .exit))) ⌝ }
+{
+    let run = runs::run_at(r, k);
+    if run.depth == 0 {
+        return finish(q, a, r, st, k);
+    }
+    let place = engine_truth::top(run);
+    let action = engine_truth::action_at(f, x, place.position);
+    let next = engine_truth::stepped(run, action.next);
+    let source = action.source;
+    let effect = action.effect;
+    runs::put_run(r, k, next);
+    perform(f, x, q, a, r, u, st, k, next, source, effect)
+}
+
+// Whether the run can go on.
+fn is_going(run: Run) -> bool
+    ensures { λ r. ⌜ r ≡ goingR run ⌝ }
+{
+    if run.queued {
+        return false;
+    }
+    let phase = run.phase;
+    match phase {
+        Phase::Going => true,
+        Phase::Waiting(_) => false,
+    }
+}
+
+fn resume(
+    f: &[u8],
+    x: &[u32; 436],
+    q: &mut [u32],
+    a: &mut [u32],
+    r: &mut [u32],
+    u: &mut [u32],
+    st: State,
+    automation: u32,
+    sequence: u32,
+) -> State
+    requires { ⌜ Fits st (now q) (now a) (now r) (now u) ⌝ }
+    ensures { λ t. ⌜ Does (resumeM (now (f .entry)) (now (x .entry)) automation sequence) st t (goes (now (q .entry)) (now (q .exit))) (goes (now (a .entry)) (now (a .exit))) (goes (now (r .entry)) (now (r .exit))) (told (now (f .entry)) (now (u .entry)) (now (u .exit))) ⌝ }
+{
+    let found = runs::find_run(r, st.active, automation, sequence);
+    let Found::At(k) = found else {
+        return st;
+    };
+    let run = runs::run_at(r, k);
+    if is_going(run) {
+        return go_on(f, x, q, a, r, u, st, k);
+    }
+    st
+}
+
+// ---- the other work
+
+fn wait_over(
+    q: &mut [u32],
+    a: &mut [u32],
+    r: &mut [u32],
+    st: State,
+    k: usize,
+    run: Run,
+    w: Wait,
+) -> State
+    requires { ⌜ (k < st .active) × Fits-qar st (now q) (now a) (now r) ⌝ }
+    ensures { λ t. ⌜ Does (wait-overM k run w) st t (goes (now (q .entry)) (now (q .exit))) (goes (now (a .entry)) (now (a .exit))) (goes (now (r .entry)) (now (r .exit))) still ⌝ }
+{
+    if w.deadline != st.now {
+        return st;
+    }
+    let s = w.source;
+    if w.onward {
+        let s1 = log_action(a, st, 17, 1, s, run);
+        let going = with_phase(run, Phase::Going);
+        runs::put_run(r, k, going);
+        return next_step(q, s1, run, s1.now);
+    }
+    let s2 = log_action(a, st, 17, 0, s, run);
+    finish(q, a, r, s2, k)
+}
+
+fn time_out(
+    q: &mut [u32],
+    a: &mut [u32],
+    r: &mut [u32],
+    st: State,
+    automation: u32,
+    sequence: u32,
+) -> State
+    requires { ⌜ Fits-qar st (now q) (now a) (now r) ⌝ }
+    ensures { λ t. ⌜ Does (time-outM automation sequence) st t (goes (now (q .entry)) (now (q .exit))) (goes (now (a .entry)) (now (a .exit))) (goes (now (r .entry)) (now (r .exit))) still ⌝ }
+{
+    let found = runs::find_run(r, st.active, automation, sequence);
+    let Found::At(k) = found else {
+        return st;
+    };
+    let run = runs::run_at(r, k);
+    let phase = run.phase;
+    let Phase::Waiting(w) = phase else {
+        return st;
+    };
+    wait_over(q, a, r, st, k, run, w)
+}
+
+fn expire(x: &[u32; 436], q: &mut [u32], a: &mut [u32], st: State, e: usize) -> State
+    requires { ⌜ (e < 32) × Fits-qa st (now q) (now a) ⌝ }
+    ensures { λ t. ⌜ Does (expireM (now (x .entry)) e) st t (goes (now (q .entry)) (now (q .exit))) (goes (now (a .entry)) (now (a .exit))) kept still ⌝ }
+{
+    let c = st.cells;
+    let from = c.values[e];
+    let entity = engine_reads::name_of(x, e);
+    let to = x[6];
+    let m = Move { entity, from, to };
+    let d = engine_state::stored(c, e, to);
+    let w = Setting {
+        entity,
+        value: to,
+        kind: 3,
+        rule: Rule::NoRule,
+        source: Where::Nowhere,
+    };
+    let s0 = engine_state::with_cells(st, d);
+    let s1 = engine_state::log_write(a, s0, w, m);
+    engine_steps::changed(q, s1, m)
+}
+
+fn go_stale(
+    x: &[u32; 436],
+    q: &mut [u32],
+    a: &mut [u32],
+    st: State,
+    entity: u32,
+    version: u32,
+) -> State
+    requires { ⌜ Fits-qa st (now q) (now a) ⌝ }
+    ensures { λ t. ⌜ Does (go-staleM (now (x .entry)) entity version) st t (goes (now (q .entry)) (now (q .exit))) (goes (now (a .entry)) (now (a .exit))) kept still ⌝ }
+{
+    let e = entity_of(x, entity);
+    if 31 < e {
+        return st;
+    }
+    let c = st.cells;
+    if c.versions[e] != version {
+        return st;
+    }
+    if c.values[e] == x[6] {
+        return st;
+    }
+    expire(x, q, a, st, e)
+}
+
+fn drop_all(a: &mut [u32], r: &mut [u32], st: State) -> State
+    requires { ⌜ Fits-ar st (now a) (now r) ⌝ }
+    ensures { λ t. ⌜ Does (drop-allM) st t kept (goes (now (a .entry)) (now (a .exit))) (goes (now (r .entry)) (now (r .exit))) still ⌝ }
+{
+    areas::clear_all(r);
+    let s1 = engine_state::with_active(st, 0);
+    engine_state::log_plain(a, s1, 4)
+}
+
+fn external(
+    x: &[u32; 436],
+    q: &mut [u32],
+    a: &mut [u32],
+    st: State,
+    entity: u32,
+    value: u32,
+) -> State
+    requires { ⌜ Fits-qa st (now q) (now a) ⌝ }
+    ensures { λ t. ⌜ Does (externalM (now (x .entry)) entity value) st t (goes (now (q .entry)) (now (q .exit))) (goes (now (a .entry)) (now (a .exit))) kept still ⌝ }
+{
+    let w = Setting {
+        entity,
+        value,
+        kind: 1,
+        rule: Rule::NoRule,
+        source: Where::Nowhere,
+    };
+    update(x, q, a, st, w)
+}
+
+// An item of the queue is worked off.
+pub fn process(
+    f: &[u8],
+    x: &[u32; 436],
+    q: &mut [u32],
+    a: &mut [u32],
+    r: &mut [u32],
+    u: &mut [u32],
+    st: State,
+    work: Work,
+) -> State
+    requires { ⌜ Fits st (now q) (now a) (now r) (now u) ⌝ }
+    ensures { λ t. ⌜ Does (processM (now (f .entry)) (now (x .entry)) work) st t (goes (now (q .entry)) (now (q .exit))) (goes (now (a .entry)) (now (a .exit))) (goes (now (r .entry)) (now (r .exit))) (told (now (f .entry)) (now (u .entry)) (now (u .exit))) ⌝ }
+{
+    match work {
+        Work::Set { entity, value } => external(x, q, a, st, entity, value),
+        Work::Restart => drop_all(a, r, st),
+        Work::Reload => drop_all(a, r, st),
+        Work::Changed { entity, from, to } => {
+            engine_steps::trigger(f, x, q, a, r, u, st, Move { entity, from, to })
+        }
+        Work::Resume {
+            automation,
+            sequence,
+        } => resume(f, x, q, a, r, u, st, automation, sequence),
+        Work::Timeout {
+            automation,
+            sequence,
+        } => time_out(q, a, r, st, automation, sequence),
+        Work::Stale { entity, version } => go_stale(x, q, a, st, entity, version),
+    }
+}

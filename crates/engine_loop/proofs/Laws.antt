@@ -1,0 +1,256 @@
+-- The loop by cases.
+use Prim.Native.Nat.{ℕ, zero, suc, _+_, _-_, _*_, _/_, _≤_, _<_}
+use mathlib.Core.Path.{_≡_, refl, sym, _∙_, ap, subst}
+use mathlib.Core.Bool.{Bool, true, false}
+use mathlib.Core.List.{List, [], _∷_}
+use mathlib.Core.Option.{Option, none, some}
+use lib.Dec.{ltb, leb, eqb}
+use lib.ListN.{length, getD}
+use borrow.Author.Tests.{eq-eqb, ne-eqb, lt-ltb, le-ltb, le-leb, lt-leb}
+use native.Mathlib.Numerals.{add-one}
+use native.Mathlib.Omega.{arith}
+use Rattle.queue.specs.Order.{pop, sooner, inOrder, leftOf}
+use Rattle.queue.specs.Queue as queue
+use Rattle.queue.specs.Queue.{secondOf, takenOf, laid, Took}
+use Rattle.queue.proofs.Order.{order-pop, order-length, told}
+use Rattle.queue.specs.declared.Item.{Item}
+use Rattle.queue.specs.declared.Work.{Work}
+use Rattle.queue.specs.declared.Taken.{Taken}
+use Rattle.queue.specs.declared.Taken.the-variants.{One, Nothing}
+use Rattle.engine_reads.specs.Reads.{entities, atMost}
+use Rattle.engine_state.specs.declared.State.{State}
+use Rattle.engine_state.specs.Machine.{Machine, Content, machine, put-now}
+use Rattle.engine_state.specs.Steps as steps
+use Rattle.engine_state.specs.Steps.{Queued, Held, Stands, Lent, kept, goes, Listing, still, Steps, Does}
+use Rattle.engine_state.proofs.Laws as states
+use Rattle.engine_state.proofs.Laws.{both, same}
+use Rattle.engine_steps.specs.Writes.{expiryM}
+use Rattle.engine_loop.specs.Loop.{Seen, next-afterM, nextM, why-nextM, whyM, Why, with-turn, tookM, turn-withM, turnM, Halt, halt, loopM, Halts, Ends, eventW, add-eventM, add-eventsM, expiriesM, add-expiriesM, horizonM, closedM, Closes}
+use Rattle.engine_loop.specs.declared.Next.{Next}
+use Rattle.engine_loop.specs.declared.Next.the-variants.{Stop, Space, Take}
+use Rattle.engine_loop.specs.declared.Ended.{Ended}
+
+-- ---- what comes next
+
+module _ (x q : List ℕ) (st : State) (t : Taken) (ens : queue.Next q (st .items) t) where
+  after-is : (y : Taken) → t ≡ y → (f a b u : List ℕ) (k : Content) → Held f q a b u st k → next-afterM x y (machine st k) ≡ nextM x (machine st k)
+  unfolding nextM
+  after-is y e f a b u k held = ap (λ z. next-afterM x z (machine st k)) (sym e ∙ ens .is (k .queue) (sym (held .queue .many)) (held .queue .is))
+
+  pub seen-nothing : t ≡ Nothing → Seen (nextM x) q st Stop
+  unfolding next-afterM
+  seen-nothing e = record { is = λ f a b u k held. after-is Nothing e f a b u k held }
+
+  module _ (i : Item) (e : t ≡ One i) where
+    pub seen-records : 10000 ≤ st .records → Seen (nextM x) q st Space
+    unfolding next-afterM
+    seen-records h = record { is = λ f a b u k held. rw (le-leb 10000 (length (k .records)) (subst (λ n. 10000 ≤ n) (held .records .many) h)) at (after-is (One i) e f a b u k held) }
+
+    module _ (hr : st .records < 10000) where
+      few : (f a b u : List ℕ) (k : Content) → Held f q a b u st k → leb 10000 (length (k .records)) ≡ false
+      few f a b u k held = lt-leb 10000 (length (k .records)) (subst (λ n. n < 10000) (held .records .many) hr)
+
+      pub seen-items : 20000 < st .items → Seen (nextM x) q st Space
+      unfolding next-afterM
+      seen-items h = record { is = λ f a b u k held. rw (few f a b u k held, lt-ltb 20000 (length (k .queue)) (subst (λ n. 20000 < n) (held .queue .many) h)) at (after-is (One i) e f a b u k held) }
+
+      module _ (hi : st .items ≤ 20000) where
+        short : (f a b u : List ℕ) (k : Content) → Held f q a b u st k → ltb 20000 (length (k .queue)) ≡ false
+        short f a b u k held = le-ltb 20000 (length (k .queue)) (subst (λ n. n ≤ 20000) (held .queue .many) hi)
+
+        pub seen-late : getD x 2 0 < i .second → Seen (nextM x) q st Stop
+        unfolding next-afterM
+        seen-late h = record { is = λ f a b u k held. rw (few f a b u k held, short f a b u k held, lt-ltb (getD x 2 0) (i .second) h) at (after-is (One i) e f a b u k held) }
+
+        pub seen-take : i .second ≤ getD x 2 0 → Seen (nextM x) q st Take
+        unfolding next-afterM
+        seen-take h = record { is = λ f a b u k held. rw (few f a b u k held, short f a b u k held, le-ltb (getD x 2 0) (i .second) h) at (after-is (One i) e f a b u k held) }
+
+module _ (x : List ℕ) (left : ℕ) (q : List ℕ) (st : State) where
+  pub why-full : (st .full ≡ 0 → ⊥) → Why x left q st 3
+  unfolding whyM
+  why-full h = record { seen = record { is = λ f a b u k held. rw (ne-eqb (st .full) 0 h) }; more = λ e. absurd (omega arith) }
+
+  pub why-next : (n g : Next) (r : ℕ) → st .full ≡ 0 → Seen (nextM x) q st n → n ≡ g → r ≡ why-nextM left g → (r ≡ 4 → 0 < left) → Why x left q st r
+  unfolding whyM
+  why-next n g r z seen e is more = record { seen = record { is = λ f a b u k held. rw (eq-eqb (st .full) 0 z) (is ∙ ap (why-nextM left) (sym e ∙ seen .is f a b u k held)) }; more = more }
+
+pub take-none : (left : ℕ) → left ≡ 0 → 2 ≡ why-nextM left Take
+unfolding why-nextM
+take-none left e = rw (eq-eqb left 0 e)
+
+pub take-some : (left : ℕ) → (left ≡ 0 → ⊥) → 4 ≡ why-nextM left Take
+unfolding why-nextM
+take-some left e = rw (ne-eqb left 0 e)
+
+pub stop-is : (left : ℕ) → 0 ≡ why-nextM left Stop
+unfolding why-nextM
+stop-is left = refl
+
+pub space-is : (left : ℕ) → 1 ≡ why-nextM left Space
+unfolding why-nextM
+space-is left = refl
+
+-- ---- a turn
+
+nothing-of : (l : List Item) → length l ≡ 0 → Nothing ≡ takenOf (pop secondOf l)
+unfolding pop
+nothing-of [] e = refl
+nothing-of (x ∷ l) e = absurd (omega arith)
+
+left-length : (l : List Item) → 0 < length l → length (leftOf secondOf (pop secondOf l)) ≡ length l - 1
+left-length l h = by (pop secondOf l) (order-pop secondOf l)
+  where
+    by : (p : Option (Item × List Item)) → inOrder secondOf l ≡ told secondOf p → length (leftOf secondOf p) ≡ length l - 1
+    by none e = absurd (omega (arith, order-length secondOf l, ap length e))
+    by (some (y, r)) e = omega (arith, order-length secondOf l, ap length e, order-length secondOf r)
+
+not-nothing : (l : List Item) → 0 < length l → Nothing ≡ takenOf (pop secondOf l) → ⊥
+not-nothing l h = by (pop secondOf l) (order-pop secondOf l)
+  where
+    by : (p : Option (Item × List Item)) → inOrder secondOf l ≡ told secondOf p → Nothing ≡ takenOf p → ⊥
+    by none e g = omega (arith, order-length secondOf l, ap length e)
+    by (some (y, r)) e g = let z : _≡_ {A = ℕ} 0 1 = cc in omega arith
+
+pub turn-empty : (f x : List ℕ) {st : State} {q a r u : List ℕ} → st .items ≡ 0 → Steps (λ c. machine st c) st st (goes q q) (goes a a) (goes r r) (steps.told f u u) → Does (turnM f x) st st (goes q q) (goes a a) (goes r r) (steps.told f u u)
+unfolding turnM turn-withM
+turn-empty f x {st} e d = states.knowing (λ c. turnM f x (machine st c)) d (λ _ q a r u c held. ap (λ t. turn-withM f x t (machine st c)) (nothing-of (c .queue) (sym (held .queue .many) ∙ e)))
+
+module _ (st s : State) (q b : List ℕ) (t : Taken) (took : Took q (st .items) b t) (same : length b ≡ length q) (h : st .items * 5 ≤ length q) (some : 0 < st .items) where
+  pub taken : (i : Item) → t ≡ One i → s ≡ with-turn (i .second) st → Steps (λ c. tookM i (machine st c)) st s (goes q b) kept kept still
+  taken i _ e = subst (λ z. Steps (λ c. tookM i (machine st c)) st z (goes q b) kept kept still) (sym e) (record {
+    queue = (same, omega (arith, h, same));
+    records = refl;
+    runs = refl;
+    reasons = refl;
+    does = λ f _ a r u c held.
+        let old = held .queue in
+        let l = leftOf secondOf (pop secondOf (c .queue)) in
+        record {
+          content = states.k-queue l c;
+          held = record { queue = record { room = ap (λ n. n / 5) same ∙ old .room; many = ap (λ n. n - 1) (old .many) ∙ sym (left-length (c .queue) (subst (λ n. 0 < n) (old .many) some)); is = took .left (c .queue) (sym (old .many)) (old .is) ∙ ap (λ n. laid n l) (sym same) }; records = held .records; runs = held .runs; reasons = held .reasons };
+          is = refl;
+        };
+  })
+
+  -- a queue with items has a next one
+  pub never : (F : Content → Machine) {a r u f : List ℕ} → t ≡ Nothing → st .records * 13 ≤ length a → st .active * 28 ≤ length r → st .reasons * 5 ≤ length u → Steps F st st (goes q b) (goes a a) (goes r r) (steps.told f u u)
+  never F e ha hr hu = record {
+    queue = (same, omega (arith, h, same));
+    records = (refl, ha);
+    runs = (refl, hr);
+    reasons = (refl, hu);
+    does = λ f _ a r u c held.
+        absurd (not-nothing (c .queue) (subst (λ n. 0 < n) (held .queue .many) some) (sym e ∙ took .is (c .queue) (sym (held .queue .many)) (held .queue .is)));
+  }
+
+pub with-taken : {st s : State} {A R : Lent} {q b : List ℕ} {U : Listing} (F : Taken → Machine → Machine) {b' : List ℕ} {t y : Taken} → Took q (st .items) b' t → t ≡ y → Steps (λ c. F y (machine st c)) st s (goes q b) A R U → Steps (λ c. F (takenOf (pop secondOf (c .queue))) (machine st c)) st s (goes q b) A R U
+with-taken {st} F took e d = states.knowing (λ c. F (takenOf (pop secondOf (c .queue))) (machine st c)) d (λ f _ a r u c held.
+    ap (λ z. F z (machine st c)) (sym e ∙ took .is (c .queue) (sym (held .queue .many)) (held .queue .is)))
+
+-- ---- the loop
+
+module _ (f x : List ℕ) where
+  loop-end : (left : ℕ) (m : Machine) → (whyM x left m ≡ 4 → ⊥) → loopM f x left m ≡ halt m left (whyM x left m)
+  unfolding loopM
+  loop-end zero m h = refl
+  loop-end (suc n) m h = rw (ne-eqb (whyM x (suc n) m) 4 h, loopM)
+
+  loop-more : (left : ℕ) (m : Machine) → whyM x left m ≡ 4 → 0 < left → loopM f x left m ≡ loopM f x (left - 1) (turnM f x m)
+  unfolding loopM
+  loop-more zero m e h = absurd (omega arith)
+  loop-more (suc n) m e h = let z : suc n - 1 ≡ n = omega arith in rw (eq-eqb (whyM x (suc n) m) 4 e, loopM, z)
+
+-- where the loop stands
+pub record Looped (f x : List ℕ) (st s : State) (q q' a a' r r' u u' : List ℕ) (left why : ℕ) : Type 0 where
+  pub go : Content → Machine
+  pub steps : Steps go st s (goes q q') (goes a a') (goes r r') (steps.told f u u')
+  pub rest : (k : Content) → Held f q a r u st k → loopM f x (getD x 3 0) (machine st k) ≡ loopM f x left (go k)
+  pub least : left ≤ getD x 3 0
+  pub why-is : Why x left q' s why
+  pub room : 1500 ≤ length u'
+
+pub loop-start : (f x : List ℕ) {st : State} {q a r u : List ℕ} (why : ℕ) → Steps (λ c. machine st c) st st (goes q q) (goes a a) (goes r r) (steps.told f u u) → Why x (getD x 3 0) q st why → 1500 ≤ length u → Looped f x st st q q a a r r u u (getD x 3 0) why
+loop-start f x {st} why d w h = record { go = λ c. machine st c; steps = d; rest = λ k held. refl; least = omega arith; why-is = w; room = h }
+
+module _ {f x : List ℕ} {st s : State} {q q' a a' r r' u u' : List ℕ} {left why : ℕ} (l : Looped f x st s q q' a a' r r' u u' left why) where
+  why-here : (k : Content) → Held f q a r u st k → why ≡ whyM x left (l .go k)
+  why-here k held = let y = l .steps .does f q a r u k held in l .why-is .seen .is f a' r' u' (y .content) (y .held) ∙ ap (whyM x left) (y .is)
+
+  pub loop-step : {s' : State} {q'' a'' r'' u'' : List ℕ} {why' : ℕ} → why ≡ 4 → Does (turnM f x) s s' (goes q' q'') (goes a' a'') (goes r' r'') (steps.told f u' u'') → Why x (left - 1) q'' s' why' → 1500 ≤ length u'' → Looped f x st s' q q'' a a'' r r'' u u'' (left - 1) why'
+  loop-step e d w h = record {
+    go = λ k. turnM f x (l .go k);
+    steps = states.follow (turnM f x) (l .steps) d both both both both;
+    rest = λ k held. l .rest k held ∙ loop-more f x left (l .go k) (sym (why-here k held) ∙ e) (l .why-is .more e);
+    least = omega (arith, l .least);
+    why-is = w;
+    room = h;
+  }
+
+  pub loop-halts : (e : Ended) → e ≡ record { state = s; steps = getD x 3 0 - left; why = why } → (why ≡ 4 → ⊥) → Ends f x st e q q' a a' r r' u u'
+  loop-halts e is h = subst (λ z. Ends f x st z q q' a a' r r' u u') (sym is) (record {
+    queue = l .steps .queue;
+    records = l .steps .records;
+    runs = l .steps .runs;
+    reasons = l .steps .reasons;
+    does = λ k held.
+        let y = l .steps .does f q a r u k held in
+        subst (λ p. Halts f q' a' r' u' (getD x 3 0) (record { state = s; steps = getD x 3 0 - left; why = why }) p) (sym (l .rest k held ∙ loop-end f x left (l .go k) (λ g. h (why-here k held ∙ g))))
+        (record { stands = y; steps = refl; why = why-here k held });
+  })
+
+-- ---- before and after
+
+pub events-none : (l : List ℕ) (m : Machine) → m ≡ add-eventsM l 0 m
+unfolding add-eventsM
+events-none l m = refl
+
+pub events-more : (l : List ℕ) (i : ℕ) (m : Machine) → add-eventM l i (add-eventsM l i m) ≡ add-eventsM l (i + 1) m
+unfolding add-eventsM
+events-more l i m = rw (add-one i)
+
+pub events-all : (l : List ℕ) (i n : ℕ) (m : Machine) → i ≡ n → add-eventsM l i m ≡ add-eventsM l n m
+events-all l i n m e = ap (λ z. add-eventsM l z m) e
+
+pub expiries-none : (x : List ℕ) (m : Machine) → m ≡ expiriesM x 0 m
+unfolding expiriesM
+expiries-none x m = refl
+
+pub expiries-more : (x : List ℕ) (e : ℕ) (m : Machine) → expiryM x e (expiriesM x e m) ≡ expiriesM x (e + 1) m
+unfolding expiriesM
+expiries-more x e m = rw (add-one e)
+
+pub expiries-all : (x : List ℕ) (e n : ℕ) (m : Machine) → e ≡ n → n ≡ atMost (getD x 0 0) 32 → expiriesM x e m ≡ add-expiriesM x m
+unfolding add-expiriesM entities
+expiries-all x e n m h g = ap (λ z. expiriesM x z m) (h ∙ g)
+
+pub timed : (n : ℕ) (st : State) → Does (put-now n) st (record { now = n; items = st .items; records = st .records; active = st .active; reasons = st .reasons; made = st .made; full = st .full; sequences = st .sequences; cells = st .cells }) kept kept kept still
+timed n st = record { queue = refl; records = refl; runs = refl; reasons = refl; does = λ f q a r u k held. record { content = k; held = record { queue = held .queue; records = held .records; runs = held .runs; reasons = held .reasons }; is = refl } }
+
+module _ (x : List ℕ) (d : Ended) (a : List ℕ) (h : d .state .records * 13 ≤ length a) where
+  pub closed-why : (d .why ≡ 0 → ⊥) → Closes x d d a a
+  unfolding closedM
+  closed-why z = record { records = (refl, h); does = λ f q r u total p g. subst (λ e. Halts f q a r u total d e) (no-why p (λ e. z (g .why ∙ e))) g }
+    where
+      no-why : (p : Halt) → (p .why ≡ 0 → ⊥) → p ≡ closedM x p
+      no-why p g = rw (ne-eqb (p .why) 0 g)
+
+  pub closed-runs : d .why ≡ 0 → (d .state .active ≡ 0 → ⊥) → Closes x d d a a
+  unfolding closedM
+  closed-runs z n = record { records = (refl, h); does = λ f q r u total p g. subst (λ e. Halts f q a r u total d e) (no-end p (sym (g .why) ∙ z) (λ e. n (g .stands .held .runs .many ∙ ap (λ m. length (m .runs)) (g .stands .is) ∙ e))) g }
+    where
+      no-end : (p : Halt) → p .why ≡ 0 → (length (p .last .runs) ≡ 0 → ⊥) → p ≡ closedM x p
+      no-end p e g = rw (eq-eqb (p .why) 0 e, ne-eqb (length (p .last .runs)) 0 g)
+
+  pub closed-end : (s : State) (b : List ℕ) → Does (horizonM x) (d .state) s kept (goes a b) kept still → d .why ≡ 0 → d .state .active ≡ 0 → Closes x d (record { state = s; steps = d .steps; why = 0 }) a b
+  unfolding closedM
+  closed-end s b e z n = record {
+    records = e .records;
+    does = λ f q r u total p g.
+        let y = e .does f q a r u (g .stands .content) (g .stands .held) in
+        subst (λ v. Halts f q b r u total (record { state = s; steps = d .steps; why = 0 }) v) (the-end p (sym (g .why) ∙ z) (sym (ap (λ m. length (m .runs)) (g .stands .is)) ∙ sym (g .stands .held .runs .many) ∙ n))
+        (record { stands = record { content = y .content; held = y .held; is = y .is ∙ ap (horizonM x) (g .stands .is) }; steps = g .steps; why = refl });
+  }
+    where
+      the-end : (p : Halt) → p .why ≡ 0 → length (p .last .runs) ≡ 0 → halt (horizonM x (p .last)) (p .left) 0 ≡ closedM x p
+      the-end p e g = rw (eq-eqb (p .why) 0 e, eq-eqb (length (p .last .runs)) 0 g)

@@ -1,0 +1,66 @@
+-- A simulation: the machine that begins, where its loop halts, and the answer.
+use Prim.Native.Nat.{ℕ, _-_, _/_, _*_, _≤_}
+use mathlib.Core.Path.{_≡_}
+use mathlib.Core.Bool.{Bool, true, false, not}
+use mathlib.Core.List.{List, []}
+use lib.Dec.{eqb}
+use lib.ListN.{length, getD, replicate}
+use Rattle.texts.specs.Lists.{if_then_else_}
+use Rattle.texts.specs.Texts.{Text}
+use Rattle.areas.specs.Areas.{area}
+use Rattle.records.specs.Records.{recordWords}
+use Rattle.reasons.specs.Lists.{Holds}
+use Rattle.engine_state.specs.declared.Cells.{Cells}
+use Rattle.engine_state.specs.declared.State.{State}
+use Rattle.engine_state.specs.Machine.{Machine, Content, machine}
+use Rattle.engine_state.specs.Steps.{Held}
+use Rattle.engine_loop.specs.Loop.{Halt, Halts, begunM, loopM, closedM}
+use Rattle.engine_loop.specs.declared.Ended.{Ended}
+use Rattle.engine_run.specs.declared.Simulation.{Simulation}
+
+-- from the machine m to the end
+unfoldable pub whollyM : (f x events : List ℕ) → (count : ℕ) → Machine → Halt
+whollyM f x l n m = closedM x (loopM f x (getD x 3 0) (begunM x l n m))
+
+pub record Wholly (f x l : List ℕ) (n : ℕ) (st : State) (e : Ended) (q q' a a' r r' u u' : List ℕ) : Type 0 where
+  pub queue : length q' ≡ length q
+  pub records : length a' ≡ length a
+  pub runs : length r' ≡ length r
+  pub reasons : length u' ≡ length u
+  pub does : (k : Content) → Held f q a r u st k → Halts f q' a' r' u' (getD x 3 0) e (whollyM f x l n (machine st k))
+
+-- the state at the start, and what the areas hold then
+abbrev pub start-of : Cells → (reasons : ℕ) → State
+start-of c n = record { now = 0; items = 0; records = 0; active = 0; reasons = n; made = 0; full = 0; sequences = replicate 32 0; cells = c }
+
+-- areas with room for so many items, records and runs, and reasons so far
+abbrev pub nothing-yet : (items records runs : ℕ) → List Text → Content
+nothing-yet i j k l = record { queueSize = i; recordSize = j; runSize = k; queue = []; records = []; runs = []; reasons = l }
+
+abbrev pub beginning : Cells → (items records runs : ℕ) → List Text → Machine
+beginning c i j k l = record { now = 0; full = 0; made = 0; sequences = replicate 32 0; values = c .values; versions = c .versions; queueSize = i; recordSize = j; runSize = k; queue = []; records = []; runs = []; reasons = l }
+
+-- ---- the answer
+
+unfoldable pub refusalS : ℕ → Simulation
+refusalS n = record { refused = n; steps = 0; records = 0; reasons = 0; why = 0; waiting = false; values = replicate 32 0 }
+
+unfoldable pub answerS : Ended → Simulation
+answerS e = record { refused = 0; steps = e .steps; records = e .state .records; reasons = e .state .reasons; why = e .why; waiting = not (eqb (e .state .active) 0); values = e .state .cells .values }
+
+unfoldable pub answerM : (total : ℕ) → Halt → Simulation
+answerM total p =
+    if eqb (p .last .full) 0 then
+    record { refused = 0; steps = total - p .left; records = length (p .last .records); reasons = length (p .last .reasons); why = p .why; waiting = not (eqb (length (p .last .runs)) 0); values = p .last .values }
+    else refusalS (p .last .full)
+
+-- the answer is that of the machine, and so are the areas afterwards
+pub record Answers (f x : List ℕ) (s : Simulation) (a a' u' : List ℕ) (p : Halt) : Type 0 where
+  pub answer : s ≡ answerM (getD x 3 0) p
+  pub records : a' ≡ area recordWords (length a) (if eqb (p .last .full) 0 then p .last .records else [])
+  pub reasons : Holds f (p .last .reasons) (length (p .last .reasons)) u'
+
+pub record Simulates (f x l : List ℕ) (n : ℕ) (c : Cells) (so-far : ℕ) (s : Simulation) (q q' a a' r r' u u' : List ℕ) : Type 0 where
+  pub queue : q' ≡ replicate (length q) 0
+  pub runs : r' ≡ replicate (length r) 0
+  pub does : (t : List Text) → Holds f t so-far u → Answers f x s a a' u' (whollyM f x l n (beginning c (length q / 5) (length a / 13) (length r / 28) t))

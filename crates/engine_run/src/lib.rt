@@ -1,0 +1,120 @@
+// A simulation from a table, events, starting values and the reasons so far.
+use engine_loop::Ended;
+use engine_state::Cells;
+use engine_state::State;
+ghost use mathlib.Core.Path.{_≡_};
+ghost use Prim.Native.Nat.{_+_, _*_, _≤_, _<_};
+ghost use lib.ListN.{length};
+ghost use Rattle.engine_state.specs.Steps.{Fits};
+ghost use Rattle.engine_run.specs.Run.{Wholly, start-of, refusalS, answerS, Simulates};
+
+// All of the loop, with what begins and what closes it.
+fn run_all(
+    f: &[u8],
+    x: &[u32; 436],
+    events: &[u32],
+    count: usize,
+    q: &mut [u32],
+    a: &mut [u32],
+    r: &mut [u32],
+    u: &mut [u32],
+    st: State,
+) -> Ended
+    requires { ⌜ (count * 4 ≤ length (now events)) × Fits st (now q) (now a) (now r) (now u) ⌝ }
+    ensures { λ e. ⌜ Wholly (now (f .entry)) (now (x .entry)) (now (events .entry)) count st e (now (q .entry)) (now (q .exit)) (now (a .entry)) (now (a .exit)) (now (r .entry)) (now (r .exit)) (now (u .entry)) (now (u .exit)) ⌝ }
+{
+    let s = engine_loop::begun(x, events, count, q, a, st);
+    let d = engine_loop::run_loop(f, x, q, a, r, u, s);
+    engine_loop::closed(x, a, d)
+}
+
+fn start(cells: Cells, reasons: usize) -> State
+    ensures { λ r. ⌜ r ≡ start-of cells reasons ⌝ }
+{
+    State {
+        now: 0,
+        items: 0,
+        records: 0,
+        active: 0,
+        reasons,
+        made: 0,
+        full: 0,
+        sequences: [0u32; 32],
+        cells,
+    }
+}
+
+// `refused` is 0, or 41 to 43 where an area was full; then the rest is 0.
+pub struct Simulation {
+    pub refused: u32,
+    pub steps: u32,
+    pub records: usize,
+    pub reasons: usize,
+    pub why: u32,
+    pub waiting: bool,
+    pub values: [u32; 32],
+}
+
+fn refusal(number: u32) -> Simulation
+    ensures { λ r. ⌜ r ≡ refusalS number ⌝ }
+{
+    Simulation {
+        refused: number,
+        steps: 0,
+        records: 0,
+        reasons: 0,
+        why: 0,
+        waiting: false,
+        values: [0u32; 32],
+    }
+}
+
+fn answer(e: Ended) -> Simulation
+    ensures { λ r. ⌜ r ≡ answerS e ⌝ }
+{
+    let st = e.state;
+    let c = st.cells;
+    let values = c.values;
+    let waiting = st.active != 0;
+    Simulation {
+        refused: 0,
+        steps: e.steps,
+        records: st.records,
+        reasons: st.reasons,
+        why: e.why,
+        waiting,
+        values,
+    }
+}
+
+// The areas of queue, records and runs are cleared before; `u` holds so many reasons.
+// After it queue and runs are cleared, and the records too if an area was full.
+pub fn simulated(
+    f: &[u8],
+    x: &[u32; 436],
+    events: &[u32],
+    count: usize,
+    cells: Cells,
+    reasons: usize,
+    q: &mut [u32],
+    a: &mut [u32],
+    r: &mut [u32],
+    u: &mut [u32],
+) -> Simulation
+    requires { ⌜ (count * 4 ≤ length (now events)) × ((reasons * 5 ≤ length (now u)) × (1500 ≤ length (now u))) ⌝ }
+    ensures { λ s. ⌜ Simulates (now (f .entry)) (now (x .entry)) (now (events .entry)) count cells reasons s (now (q .entry)) (now (q .exit)) (now (a .entry)) (now (a .exit)) (now (r .entry)) (now (r .exit)) (now (u .entry)) (now (u .exit)) ⌝ }
+{
+    areas::clear_all(q);
+    areas::clear_all(a);
+    areas::clear_all(r);
+    let st = start(cells, reasons);
+    let e = run_all(f, x, events, count, q, a, r, u, st);
+    let s = e.state;
+    areas::clear_all(q);
+    areas::clear_all(r);
+    if s.full != 0 {
+        areas::clear_all(a);
+        return refusal(s.full);
+    }
+    answer(e)
+}

@@ -1,0 +1,398 @@
+// Steps of a simulation: writes, runs that end and wake, runs that begin, and what a change sets off.
+use engine_reads::name_of;
+use engine_reads::rule_word;
+use engine_state::Cells;
+use engine_state::Move;
+use engine_state::Setting;
+use engine_state::State;
+use engine_state::Told;
+use engine_state::add;
+use engine_state::after;
+use engine_state::log;
+use engine_state::log_rule;
+use engine_state::next_step;
+use engine_truth::Truth;
+use queue::Work;
+use records::Change;
+use records::Rule;
+use records::Where;
+use runs::Found;
+use runs::Phase;
+use runs::Run;
+ghost use mathlib.Core.Path.{_≡_};
+ghost use Prim.Native.Nat.{_+_, _*_, _≤_, _<_};
+ghost use lib.ListN.{length};
+ghost use Rattle.engine_state.specs.Steps.{Does, goes, kept, told, still, Fits-q, Fits-qa, Fits-qr, Fits-ar, Fits-qar, Fits};
+ghost use Rattle.engine_steps.specs.Writes.{expiryM, changedM, updateM};
+ghost use Rattle.engine_steps.specs.Runs.{releasedR, phaseR, releaseM, finishM, wake-oneM, wakeM, newRun, begin-nowM, begin-laterM, stop-startM};
+ghost use Rattle.engine_steps.specs.Triggers.{decideM, carry-outM, admitM, log-triggerM, offerM, triggerM};
+
+// ---- writes
+
+// The entity's value will be stale.
+pub fn expiry(x: &[u32; 436], q: &mut [u32], st: State, e: usize) -> State
+    requires { ⌜ (e < 32) × Fits-q st (now q) ⌝ }
+    ensures { λ r. ⌜ Does (expiryM (now (x .entry)) e) st r (goes (now (q .entry)) (now (q .exit))) kept kept still ⌝ }
+{
+    let ttl = engine_reads::stale_of(x, e);
+    if ttl == 4294967295 {
+        return st;
+    }
+    let c = st.cells;
+    let version = c.versions[e];
+    let entity = name_of(x, e);
+    let second = after(after(st.now, ttl), 1);
+    add(q, st, second, Work::Stale { entity, version })
+}
+
+// Word of a change goes out, if there is one.
+pub fn changed(q: &mut [u32], st: State, m: Move) -> State
+    requires { ⌜ Fits-q st (now q) ⌝ }
+    ensures { λ r. ⌜ Does (changedM m) st r (goes (now (q .entry)) (now (q .exit))) kept kept still ⌝ }
+{
+    if m.from == m.to {
+        return st;
+    }
+    add(
+        q,
+        st,
+        st.now,
+        Work::Changed {
+            entity: m.entity,
+            from: m.from,
+            to: m.to,
+        },
+    )
+}
+
+// A write, and what follows from it.
+pub fn update(x: &[u32; 436], q: &mut [u32], a: &mut [u32], st: State, w: Setting) -> State
+    requires { ⌜ Fits-qa st (now q) (now a) ⌝ }
+    ensures { λ r. ⌜ Does (updateM (now (x .entry)) w) st r (goes (now (q .entry)) (now (q .exit))) (goes (now (a .entry)) (now (a .exit))) kept still ⌝ }
+{
+    let e = engine_reads::entity_of(x, w.entity);
+    if 31 < e {
+        return st;
+    }
+    let c = st.cells;
+    let from = c.values[e];
+    let m = Move {
+        entity: w.entity,
+        from,
+        to: w.value,
+    };
+    let d = engine_state::raised(engine_state::stored(c, e, w.value), e);
+    let s0 = engine_state::with_cells(st, d);
+    let s1 = expiry(x, q, s0, e);
+    let s2 = engine_state::log_write(a, s1, w, m);
+    changed(q, s2, m)
+}
+
+// ---- runs
+
+pub fn released(run: Run) -> Run
+    ensures { λ r. ⌜ r ≡ releasedR run ⌝ }
+{
+    let mut r = run;
+    r.queued = false;
+    r
+}
+
+pub fn with_phase(run: Run, phase: Phase) -> Run
+    ensures { λ r. ⌜ r ≡ phaseR phase run ⌝ }
+{
+    let places = run.places;
+    Run {
+        automation: run.automation,
+        sequence: run.sequence,
+        number: run.number,
+        queued: run.queued,
+        phase,
+        depth: run.depth,
+        places,
+    }
+}
+
+// The automation's first queued run goes on.
+pub fn release(q: &mut [u32], r: &mut [u32], st: State, automation: u32) -> State
+    requires { ⌜ Fits-qr st (now q) (now r) ⌝ }
+    ensures { λ s. ⌜ Does (releaseM automation) st s (goes (now (q .entry)) (now (q .exit))) kept (goes (now (r .entry)) (now (r .exit))) still ⌝ }
+{
+    let found = runs::find_queued(r, st.active, automation);
+    match found {
+        Found::At(k) => {
+            let run = runs::run_at(r, k);
+            runs::put_run(r, k, released(run));
+            next_step(q, st, run, st.now)
+        }
+        Found::Nothing => st,
+    }
+}
+
+// The run at k ends.
+pub fn finish(q: &mut [u32], a: &mut [u32], r: &mut [u32], st: State, k: usize) -> State
+    requires { ⌜ (k < st .active) × Fits-qar st (now q) (now a) (now r) ⌝ }
+    ensures { λ s. ⌜ Does (finishM k) st s (goes (now (q .entry)) (now (q .exit))) (goes (now (a .entry)) (now (a .exit))) (goes (now (r .entry)) (now (r .exit))) still ⌝ }
+{
+    let n = st.active;
+    let run = runs::run_at(r, k);
+    runs::take_run(r, n, k);
+    let s1 = engine_state::with_active(st, n - 1);
+    let s2 = log_rule(a, s1, 14, run.number, run.automation);
+    release(q, r, s2, run.automation)
+}
+
+// The run at k goes on, if it waits for this change.
+fn wake_one(f: &[u8], q: &mut [u32], r: &mut [u32], st: State, k: usize, m: Move) -> State
+    requires { ⌜ (k < st .active) × Fits-qr st (now q) (now r) ⌝ }
+    ensures { λ s. ⌜ Does (wake-oneM (now (f .entry)) m k) st s (goes (now (q .entry)) (now (q .exit))) kept (goes (now (r .entry)) (now (r .exit))) still × (s .active ≡ st .active) ⌝ }
+{
+    let run = runs::run_at(r, k);
+    let phase = run.phase;
+    let Phase::Waiting(w) = phase else {
+        return st;
+    };
+    if engine_truth::matches(f, w.trigger, m) {
+        let going = with_phase(run, Phase::Going);
+        runs::put_run(r, k, going);
+        return next_step(q, st, run, st.now);
+    }
+    st
+}
+
+fn wake(f: &[u8], q: &mut [u32], r: &mut [u32], st: State, m: Move) -> State
+    requires { ⌜ Fits-qr st (now q) (now r) ⌝ }
+    ensures { λ s. ⌜ Does (wakeM (now (f .entry)) m) st s (goes (now (q .entry)) (now (q .exit))) kept (goes (now (r .entry)) (now (r .exit))) still ⌝ }
+{
+    let n = st.active;
+    let mut s = st;
+    let mut k: usize = 0;
+    while k < n {
+        s = wake_one(f, q, r, s, k, m);
+        k += 1;
+    }
+    s
+}
+
+// ---- runs that begin
+
+fn new_run(f: &[u8], x: &[u32; 436], st: State, i: usize, later: bool) -> Run
+    requires { ⌜ i < 32 ⌝ }
+    ensures { λ r. ⌜ r ≡ newRun (now (f .entry)) (now (x .entry)) i later (st .made) (st .sequences) ⌝ }
+{
+    let sequence = st.sequences[i];
+    let number = engine_state::more_than(st.made);
+    let run = Run {
+        automation: i as u32,
+        sequence,
+        number,
+        queued: later,
+        phase: Phase::Going,
+        depth: 0,
+        places: [0u32; 17],
+    };
+    engine_truth::with_list(f, run, rule_word(x, i, 5))
+}
+
+fn begin_now(
+    f: &[u8],
+    x: &[u32; 436],
+    q: &mut [u32],
+    a: &mut [u32],
+    r: &mut [u32],
+    st: State,
+    i: usize,
+) -> State
+    requires { ⌜ (i < 32) × Fits-qar st (now q) (now a) (now r) ⌝ }
+    ensures { λ s. ⌜ Does (begin-nowM (now (f .entry)) (now (x .entry)) i) st s (goes (now (q .entry)) (now (q .exit))) (goes (now (a .entry)) (now (a .exit))) (goes (now (r .entry)) (now (r .exit))) still ⌝ }
+{
+    let run = new_run(f, x, st, i, false);
+    let s1 = engine_state::add_run(r, st, i, run);
+    let s2 = log_rule(a, s1, 12, run.number, run.automation);
+    next_step(q, s2, run, s2.now)
+}
+
+fn begin_later(f: &[u8], x: &[u32; 436], a: &mut [u32], r: &mut [u32], st: State, i: usize) -> State
+    requires { ⌜ (i < 32) × Fits-ar st (now a) (now r) ⌝ }
+    ensures { λ s. ⌜ Does (begin-laterM (now (f .entry)) (now (x .entry)) i) st s kept (goes (now (a .entry)) (now (a .exit))) (goes (now (r .entry)) (now (r .exit))) still ⌝ }
+{
+    let run = new_run(f, x, st, i, true);
+    let s1 = engine_state::add_run(r, st, i, run);
+    log_rule(a, s1, 13, run.number, run.automation)
+}
+
+pub enum Decision {
+    AlreadyRunning,
+    MaxReached,
+    Start,
+    StopAndStart,
+    WaitInLine,
+}
+
+// Modes: 0 single, 1 restart, 2 queued, 3 parallel.
+fn decide(mode: u32, max: u32, running: usize) -> Decision
+    ensures { λ r. ⌜ r ≡ decideM mode max running ⌝ }
+{
+    if mode < 2 {
+        if running == 0 {
+            return Decision::Start;
+        }
+        if mode == 0 {
+            return Decision::AlreadyRunning;
+        }
+        return Decision::StopAndStart;
+    }
+    if max as usize <= running {
+        return Decision::MaxReached;
+    }
+    if mode == 3 {
+        return Decision::Start;
+    }
+    if running == 0 {
+        return Decision::Start;
+    }
+    Decision::WaitInLine
+}
+
+// The automation's runs are dropped, and one begins.
+fn stop_and_start(
+    f: &[u8],
+    x: &[u32; 436],
+    q: &mut [u32],
+    a: &mut [u32],
+    r: &mut [u32],
+    st: State,
+    i: usize,
+) -> State
+    requires { ⌜ (i < 32) × Fits-qar st (now q) (now a) (now r) ⌝ }
+    ensures { λ s. ⌜ Does (stop-startM (now (f .entry)) (now (x .entry)) i) st s (goes (now (q .entry)) (now (q .exit))) (goes (now (a .entry)) (now (a .exit))) (goes (now (r .entry)) (now (r .exit))) still ⌝ }
+{
+    let left = runs::drop_runs(r, st.active, i as u32);
+    let s1 = engine_state::with_active(st, left);
+    let s2 = log_rule(a, s1, 5, 0, i as u32);
+    begin_now(f, x, q, a, r, s2, i)
+}
+
+// The automation is to run.
+fn carry_out(
+    f: &[u8],
+    x: &[u32; 436],
+    q: &mut [u32],
+    a: &mut [u32],
+    r: &mut [u32],
+    st: State,
+    i: usize,
+) -> State
+    requires { ⌜ (i < 32) × Fits-qar st (now q) (now a) (now r) ⌝ }
+    ensures { λ s. ⌜ Does (carry-outM (now (f .entry)) (now (x .entry)) i) st s (goes (now (q .entry)) (now (q .exit))) (goes (now (a .entry)) (now (a .exit))) (goes (now (r .entry)) (now (r .exit))) still ⌝ }
+{
+    let running = runs::count_runs(r, st.active, i as u32);
+    let d = decide(rule_word(x, i, 1), rule_word(x, i, 2), running);
+    match d {
+        Decision::AlreadyRunning => log_rule(a, st, 6, 0, i as u32),
+        Decision::MaxReached => log_rule(a, st, 7, 0, i as u32),
+        Decision::Start => begin_now(f, x, q, a, r, st, i),
+        Decision::StopAndStart => stop_and_start(f, x, q, a, r, st, i),
+        Decision::WaitInLine => begin_later(f, x, a, r, st, i),
+    }
+}
+
+// ---- a change
+
+// The automation was triggered, and its conditions have this verdict.
+fn admit(
+    f: &[u8],
+    x: &[u32; 436],
+    q: &mut [u32],
+    a: &mut [u32],
+    r: &mut [u32],
+    u: &mut [u32],
+    st: State,
+    i: usize,
+    t: Truth,
+) -> State
+    requires { ⌜ (i < 32) × Fits st (now q) (now a) (now r) (now u) ⌝ }
+    ensures { λ s. ⌜ Does (admitM (now (f .entry)) (now (x .entry)) i t) st s (goes (now (q .entry)) (now (q .exit))) (goes (now (a .entry)) (now (a .exit))) (goes (now (r .entry)) (now (r .exit))) (told (now (f .entry)) (now (u .entry)) (now (u .exit))) ⌝ }
+{
+    match t {
+        Truth::Yes => {
+            let notes = rule_word(x, i, 7);
+            if engine_reads::two_at(f, notes as usize) == 0 {
+                return carry_out(f, x, q, a, r, st, i);
+            }
+            st
+        }
+        Truth::No => st,
+        Truth::Unknown => {
+            let why = engine_reads::about_rule(f, x, i, reasons::TRIGGER_CONDITION);
+            engine_state::uncertain(f, u, st, why)
+        }
+    }
+}
+
+fn log_trigger(f: &[u8], x: &[u32; 436], a: &mut [u32], st: State, i: usize, t: Truth) -> State
+    requires { ⌜ (i < 32) × (st .records * 13 ≤ length (now a)) ⌝ }
+    ensures { λ s. ⌜ Does (log-triggerM (now (f .entry)) (now (x .entry)) i t) st s kept (goes (now (a .entry)) (now (a .exit))) kept still ⌝ }
+{
+    let at = rule_word(x, i, 6) as usize;
+    let line = engine_reads::four_at(f, at);
+    let column = engine_reads::four_at(f, at + 4);
+    let detail = engine_truth::number_of(t);
+    log(
+        a,
+        st,
+        Told { kind: 10, detail },
+        Rule::Of(i as u32),
+        Where::From { line, column },
+        Change::NoChange,
+    )
+}
+
+// An automation sees a change.
+fn offer(
+    f: &[u8],
+    x: &[u32; 436],
+    q: &mut [u32],
+    a: &mut [u32],
+    r: &mut [u32],
+    u: &mut [u32],
+    st: State,
+    i: usize,
+    m: Move,
+) -> State
+    requires { ⌜ (i < 32) × Fits st (now q) (now a) (now r) (now u) ⌝ }
+    ensures { λ s. ⌜ Does (offerM (now (f .entry)) (now (x .entry)) m i) st s (goes (now (q .entry)) (now (q .exit))) (goes (now (a .entry)) (now (a .exit))) (goes (now (r .entry)) (now (r .exit))) (told (now (f .entry)) (now (u .entry)) (now (u .exit))) ⌝ }
+{
+    if engine_truth::any_matches(f, rule_word(x, i, 3), m) {
+        let c = st.cells;
+        let judged = engine_truth::evaluate_all(f, x, c, rule_word(x, i, 4));
+        let t = judged.truth;
+        let s1 = log_trigger(f, x, a, st, i, t);
+        return admit(f, x, q, a, r, u, s1, i, t);
+    }
+    st
+}
+
+// A change wakes runs and sets off automations.
+pub fn trigger(
+    f: &[u8],
+    x: &[u32; 436],
+    q: &mut [u32],
+    a: &mut [u32],
+    r: &mut [u32],
+    u: &mut [u32],
+    st: State,
+    m: Move,
+) -> State
+    requires { ⌜ Fits st (now q) (now a) (now r) (now u) ⌝ }
+    ensures { λ s. ⌜ Does (triggerM (now (f .entry)) (now (x .entry)) m) st s (goes (now (q .entry)) (now (q .exit))) (goes (now (a .entry)) (now (a .exit))) (goes (now (r .entry)) (now (r .exit))) (told (now (f .entry)) (now (u .entry)) (now (u .exit))) ⌝ }
+{
+    let n = engine_reads::at_most(x[1], 32);
+    let mut s = wake(f, q, r, st, m);
+    let mut i: usize = 0;
+    while i < n {
+        s = offer(f, x, q, a, r, u, s, i, m);
+        i += 1;
+    }
+    s
+}

@@ -1,0 +1,205 @@
+// The table that the engine goes by: 436 words of the file and its index.
+use model_index::Index;
+use model_walk::Piece;
+use model_walk::Walked;
+ghost use mathlib.Core.Path.{_≡_};
+ghost use Prim.Native.Nat.{_+_, _*_, _≤_, _<_};
+ghost use lib.ListN.{length, getD};
+ghost use Rattle.engine_reads.specs.Reads.{four, cap};
+ghost use Rattle.engine_table.specs.Table.{end-of, stale-at, conditions-at, actions-at, source-at, rule-word, count-word, fixed-word, head-word, name-word, stale-word, table-word, TableOf};
+
+pub struct Table {
+    pub words: [u32; 436],
+}
+
+// Where a walk ended.
+fn end_of(w: Walked, at: usize) -> usize
+    ensures { λ r. ⌜ r ≡ end-of w at ⌝ }
+{
+    match w {
+        Walked::To(p, _) => p,
+        Walked::Broken => at,
+    }
+}
+
+// ---- entities and automations, by position in a file of at most 32,768 bytes
+
+fn stale_at(s: &[u8], p: usize) -> u32
+    requires { ⌜ p ≤ 4294967295 ⌝ }
+    ensures { λ r. ⌜ r ≡ stale-at (now (s .entry)) p ⌝ }
+{
+    let many = engine_reads::two_at(s, p + 2) as usize;
+    engine_reads::four_at(s, p + 7 + 2 * many)
+}
+
+fn conditions_at(s: &[u8], p: usize) -> usize
+    requires { ⌜ p ≤ 4294967295 ⌝ }
+    ensures { λ r. ⌜ (r ≡ conditions-at (now (s .entry)) p) × (r ≤ p + 9 + 16 * 65535) ⌝ }
+{
+    let many = engine_reads::two_at(s, p + 7) as usize;
+    p + 9 + 16 * many
+}
+
+fn actions_at(s: &[u8], texts: u32, p: usize) -> usize
+    requires { ⌜ p ≤ 4294967295 ⌝ }
+    ensures { λ r. ⌜ r ≡ actions-at texts (now (s .entry)) p ⌝ }
+{
+    let conditions = conditions_at(s, p);
+    let w = model_walk::pieces_at(s, texts, Piece::Predicate, conditions, 0);
+    end_of(w, conditions)
+}
+
+fn source_at(s: &[u8], texts: u32, p: usize) -> usize
+    requires { ⌜ p ≤ 4294967295 ⌝ }
+    ensures { λ r. ⌜ r ≡ source-at texts (now (s .entry)) p ⌝ }
+{
+    let actions = actions_at(s, texts, p);
+    let w = model_walk::actions_at(s, texts, 18, actions, 0);
+    end_of(w, actions)
+}
+
+fn rule_word(s: &[u8], texts: u32, p: usize, k: usize) -> u32
+    requires { ⌜ p ≤ 4294967295 ⌝ }
+    ensures { λ r. ⌜ r ≡ rule-word texts (now (s .entry)) p k ⌝ }
+{
+    if k == 0 {
+        return engine_reads::two_at(s, p);
+    }
+    if k == 1 {
+        return engine_reads::byte_at(s, p + 2);
+    }
+    if k == 2 {
+        return engine_reads::four_at(s, p + 3);
+    }
+    if k == 3 {
+        return engine_reads::capped(p + 7);
+    }
+    if k == 4 {
+        return engine_reads::capped(conditions_at(s, p));
+    }
+    if k == 5 {
+        return engine_reads::capped(actions_at(s, texts, p));
+    }
+    if k == 6 {
+        return engine_reads::capped(source_at(s, texts, p));
+    }
+    notes_word(s, texts, p)
+}
+
+// The position of an automation's notes, behind its source.
+fn notes_word(s: &[u8], texts: u32, p: usize) -> u32
+    requires { ⌜ p ≤ 4294967295 ⌝ }
+    ensures { λ r. ⌜ r ≡ cap (source-at texts (now (s .entry)) p + 8) ⌝ }
+{
+    let source = source_at(s, texts, p);
+    if 4294967287 < source {
+        return 4294967295;
+    }
+    engine_reads::capped(source + 8)
+}
+
+fn limit_word(s: &[u8], at: usize, k: usize) -> u32
+    requires { ⌜ k ≤ 8 ⌝ }
+    ensures { λ r. ⌜ r ≡ four (now (s .entry)) (cap at + k) ⌝ }
+{
+    let p = engine_reads::capped(at) as usize;
+    engine_reads::four_at(s, p + k)
+}
+
+// The first ten words.
+fn head_word(s: &[u8], index: Index, k: usize) -> u32
+    ensures { λ r. ⌜ r ≡ head-word (now (s .entry)) index k ⌝ }
+{
+    if k < 2 {
+        return count_word(index, k);
+    }
+    if k == 2 {
+        return limit_word(s, index.limits, 0);
+    }
+    if k == 3 {
+        return limit_word(s, index.limits, 4);
+    }
+    if k < 8 {
+        return fixed_word(s, index, k);
+    }
+    count_word(index, k)
+}
+
+// The counts: 0 entities, 1 automations, 8 events, 9 texts.
+fn count_word(index: Index, k: usize) -> u32
+    ensures { λ r. ⌜ r ≡ count-word index k ⌝ }
+{
+    if k == 0 {
+        let entities = index.entities;
+        return entities.count;
+    }
+    if k == 1 {
+        let rules = index.rules;
+        return rules.count;
+    }
+    if k == 8 {
+        let events = index.events;
+        return events.count;
+    }
+    if k == 9 {
+        let texts = index.texts;
+        return texts.count;
+    }
+    0
+}
+
+// The places of the fixed texts.
+fn fixed_word(s: &[u8], index: Index, k: usize) -> u32
+    ensures { λ r. ⌜ r ≡ fixed-word (now (s .entry)) index k ⌝ }
+{
+    let texts = index.texts;
+    let count = texts.count;
+    if k == 4 {
+        return model_order::place_of(s, b"on", count);
+    }
+    if k == 5 {
+        return model_order::place_of(s, b"off", count);
+    }
+    if k == 6 {
+        return model_order::place_of(s, b"unknown", count);
+    }
+    model_order::place_of(s, b"unavailable", count)
+}
+
+fn table_word(s: &[u8], index: Index, k: usize) -> u32
+    ensures { λ r. ⌜ r ≡ table-word (now (s .entry)) index k ⌝ }
+{
+    if k < 16 {
+        return head_word(s, index, k);
+    }
+    if k < 48 {
+        let entities = index.entities;
+        let p = engine_reads::capped(entities.starts[k - 16]) as usize;
+        return engine_reads::two_at(s, p);
+    }
+    if k < 80 {
+        let entities = index.entities;
+        let q = engine_reads::capped(entities.starts[k - 48]) as usize;
+        return stale_at(s, q);
+    }
+    if k < 336 {
+        let rules = index.rules;
+        let texts = index.texts;
+        let t = engine_reads::capped(rules.starts[(k - 80) / 8]) as usize;
+        return rule_word(s, texts.count, t, (k - 80) % 8);
+    }
+    0
+}
+
+// The table of a file and its index.
+pub fn table_of(s: &[u8], index: Index) -> Table
+    ensures { λ r. ⌜ TableOf (now (s .entry)) index (r .words) ⌝ }
+{
+    let mut words = [0u32; 436];
+    let mut k: usize = 0;
+    while k < 436 {
+        words[k] = table_word(s, index, k);
+        k += 1;
+    }
+    Table { words }
+}

@@ -1,0 +1,128 @@
+-- The definitions by cases.
+use Prim.Native.Nat.{ℕ, zero, suc, _+_, _-_, _%_, _≤_, _<_}
+use mathlib.Core.Path.{_≡_, refl, sym, _∙_, ap}
+use mathlib.Core.Bool.{Bool, true, false}
+use mathlib.Core.List.{List}
+use lib.Dec.{ltb, eqb}
+use lib.ListN.{getD}
+use borrow.Author.Tests.{eq-eqb, ne-eqb, lt-ltb, le-ltb}
+use native.Mathlib.Omega.{arith}
+use Rattle.model_walk.specs.Walk.{actionsW}
+use Rattle.model_walk.specs.declared.Walked.{Walked}
+use Rattle.model_walk.specs.declared.Walked.the-variants as walked
+use Rattle.runs.specs.Runs.{placeIn}
+use Rattle.runs.specs.declared.Place.{Place}
+use Rattle.engine_reads.specs.Reads.{two, four, cap, entityOf}
+use Rattle.engine_state.specs.Machine.{later}
+use Rattle.engine_state.specs.declared.Move.{Move}
+use Rattle.engine_truth.specs.Truths.{bothT, undecidedT, againstT, valueT, evaluateT, sizeT, allFrom, allT, matchesT, anyFrom, anyT, endT, judgedT, branchT, selectFrom, selectT}
+use Rattle.engine_truth.specs.declared.Truth.{Truth}
+use Rattle.engine_truth.specs.declared.Truth.the-variants.{Yes, No, Unknown}
+use Rattle.engine_truth.specs.declared.Judged.{Judged}
+use Rattle.engine_truth.specs.declared.Branch.{Branch}
+use Rattle.engine_truth.specs.declared.Branch.the-variants.{Take, Unclear, Skip}
+
+pub one-less : (n : ℕ) → 0 < n → n ≡ suc (n - 1)
+one-less n h = omega arith
+
+pub none-left : (n : ℕ) → n ≤ 0 → n ≡ 0
+none-left n h = omega arith
+
+-- ---- predicates
+
+module _ (f x vs : List ℕ) (at i e v : ℕ) (r : Truth) (hi : i ≡ two f (at + 1)) (he : e ≡ entityOf x i) where
+  where-is : e ≡ entityOf x (two f (at + 1))
+  where-is = he ∙ ap (entityOf x) hi
+
+  pub evaluate-known : (b : ℕ) → b ≡ getD f at 0 → (b ≡ 1 → ⊥) → e < 32 → v ≡ two f (at + 3) → r ≡ againstT x (getD vs e 0) v → r ≡ evaluateT f x vs at
+  unfolding evaluateT valueT
+  evaluate-known b eb nb h ev er = rw (← eb, ne-eqb b 1 nb, ← where-is, ← ev, lt-ltb e 32 h) er
+
+  pub evaluate-none : (b : ℕ) → b ≡ getD f at 0 → (b ≡ 1 → ⊥) → 32 ≤ e → Unknown ≡ evaluateT f x vs at
+  unfolding evaluateT valueT
+  evaluate-none b eb nb h = rw (← eb, ne-eqb b 1 nb, ← where-is, le-ltb e 32 h)
+
+pub all-start : (f x vs : List ℕ) (at n p : ℕ) → n ≡ two f at → p ≡ later at 2 → allT f x vs at ≡ allFrom f x vs n p Yes
+unfolding allT
+all-start f x vs at n p e g = rw (e, g)
+
+pub all-more : (f x vs : List ℕ) (n p s q : ℕ) (t u w : Truth) → 0 < n → u ≡ evaluateT f x vs p → w ≡ bothT t u → s ≡ sizeT f p → q ≡ later p s → allFrom f x vs n p t ≡ allFrom f x vs (n - 1) q w
+unfolding allFrom
+all-more f x vs n p s q t u w h eu ew es eq = ap (λ i. allFrom f x vs i p t) (one-less n h) ∙ rw (eq, es, ew, eu)
+
+pub all-end : (f x vs : List ℕ) (n p : ℕ) (t : Truth) → n ≤ 0 → allFrom f x vs n p t ≡ record { truth = t; next = p }
+unfolding allFrom
+all-end f x vs n p t h = rw (none-left n h)
+
+-- ---- triggers
+
+pub any-start : (f : List ℕ) (m : Move) (at n p : ℕ) → n ≡ two f at → p ≡ later at 2 → anyT f m at ≡ anyFrom f m n p
+unfolding anyT
+any-start f m at n p e g = rw (e, g)
+
+module _ (f : List ℕ) (m : Move) (n p : ℕ) (b : Bool) (h : 0 < n) (is : b ≡ matchesT f m p) where
+  pub any-here : b ≡ true → anyFrom f m n p ≡ true
+  unfolding anyFrom
+  any-here e = ap (λ i. anyFrom f m i p) (one-less n h) ∙ rw (sym is ∙ e, anyFrom)
+
+  pub any-later : (q : ℕ) → b ≡ false → q ≡ later p 16 → anyFrom f m n p ≡ anyFrom f m (n - 1) q
+  unfolding anyFrom
+  any-later q e g = ap (λ i. anyFrom f m i p) (one-less n h) ∙ rw (sym is ∙ e, anyFrom, g)
+
+pub any-end : (f : List ℕ) (m : Move) (n p : ℕ) → n ≤ 0 → anyFrom f m n p ≡ false
+unfolding anyFrom
+any-end f m n p h = rw (none-left n h)
+
+-- ---- branches
+
+pub end-to : (w : Walked) (at p n r : ℕ) → w ≡ walked.To p n → r ≡ cap p → r ≡ endT w at
+unfolding endT
+end-to w at p n r e g = g ∙ sym (ap (λ v. endT v at) e)
+
+pub end-broken : (w : Walked) (at : ℕ) → w ≡ walked.Broken → at ≡ endT w at
+unfolding endT
+end-broken w at e = sym (ap (λ v. endT v at) e)
+
+module _ (f x vs : List ℕ) (at : ℕ) (j : Judged) (is : j ≡ allT f x vs at) where
+  judged-is : branchT f x vs at ≡ judgedT f x j
+  unfolding branchT
+  judged-is = ap (judgedT f x) (sym is)
+
+  pub branch-yes : j .truth ≡ Yes → Take (j .next) ≡ branchT f x vs at
+  unfolding judgedT
+  branch-yes e = sym (judged-is ∙ rw (e, judgedT))
+
+  pub branch-unknown : j .truth ≡ Unknown → Unclear ≡ branchT f x vs at
+  unfolding judgedT
+  branch-unknown e = sym (judged-is ∙ rw (e, judgedT))
+
+  pub branch-no : (w : Walked) (q : ℕ) → j .truth ≡ No → w ≡ actionsW (getD x 9 0) 17 f (j .next) 0 → q ≡ endT w (j .next) → Skip q ≡ branchT f x vs at
+  unfolding judgedT
+  branch-no w q e g h = ap Skip (h ∙ ap (λ v. endT v (j .next)) g) ∙ sym (judged-is ∙ rw (e, judgedT))
+
+pub select-start : (f x vs : List ℕ) (at n p : ℕ) → n ≡ two f at → p ≡ later at 2 → selectT f x vs at ≡ selectFrom f x vs n p
+unfolding selectT
+select-start f x vs at n p e g = rw (e, g)
+
+module _ (f x vs : List ℕ) (n p : ℕ) (b : Branch) (h : 0 < n) (is : b ≡ branchT f x vs p) where
+  pub select-take : (q : ℕ) → b ≡ Take q → selectFrom f x vs n p ≡ Take q
+  unfolding selectFrom
+  select-take q e = ap (λ i. selectFrom f x vs i p) (one-less n h) ∙ rw (sym is ∙ e, selectFrom)
+
+  pub select-unclear : b ≡ Unclear → selectFrom f x vs n p ≡ Unclear
+  unfolding selectFrom
+  select-unclear e = ap (λ i. selectFrom f x vs i p) (one-less n h) ∙ rw (sym is ∙ e, selectFrom)
+
+  pub select-skip : (q : ℕ) → b ≡ Skip q → selectFrom f x vs n p ≡ selectFrom f x vs (n - 1) q
+  unfolding selectFrom
+  select-skip q e = ap (λ i. selectFrom f x vs i p) (one-less n h) ∙ rw (sym is ∙ e, selectFrom)
+
+pub select-end : (f x vs : List ℕ) (n p : ℕ) → n ≤ 0 → selectFrom f x vs n p ≡ Take p
+unfolding selectFrom
+select-end f x vs n p h = rw (none-left n h)
+
+-- ---- places
+
+pub left-small : (w : ℕ) (p : Place) → p ≡ placeIn w → p .left - 1 < 65536
+unfolding placeIn
+left-small w p e = let l : p .left ≡ w % 65536 = ap (λ q. q .left) e in omega arith
