@@ -1,13 +1,12 @@
 -- The actions and the other work, by cases.
-use Prim.Native.Nat.{ℕ, _+_, _/_, _*_, _≤_, _<_}
+use Prim.Native.Nat.{ℕ, _+_, _/_, _≤_, _<_}
 use mathlib.Core.Path.{_≡_, refl, sym, _∙_, ap, subst}
 use mathlib.Core.Bool.{Bool, true, false}
 use mathlib.Core.List.{List, []}
-use lib.Dec.{ltb, eqb}
+use lib.Dec.{eqb}
 use lib.ListN.{length, getD, replicate}
 use borrow.Author.Tests.{eq-eqb, ne-eqb, lt-ltb, le-ltb}
 use native.Mathlib.Omega.{arith}
-use Rattle.areas.specs.Areas.{area}
 use Rattle.areas.proofs.Laws as areas
 use Rattle.queue.specs.declared.Work.{Work}
 use Rattle.runs.specs.Runs.{runWords}

@@ -1,31 +1,30 @@
 -- The loop by cases.
 use Prim.Native.Nat.{ℕ, zero, suc, _+_, _-_, _*_, _/_, _≤_, _<_}
 use mathlib.Core.Path.{_≡_, refl, sym, _∙_, ap, subst}
-use mathlib.Core.Bool.{Bool, true, false}
+use mathlib.Core.Bool.{false}
 use mathlib.Core.List.{List, [], _∷_}
 use mathlib.Core.Option.{Option, none, some}
-use lib.Dec.{ltb, leb, eqb}
+use lib.Dec.{ltb, leb}
 use lib.ListN.{length, getD}
 use borrow.Author.Tests.{eq-eqb, ne-eqb, lt-ltb, le-ltb, le-leb, lt-leb}
 use native.Mathlib.Numerals.{add-one}
 use native.Mathlib.Omega.{arith}
-use Rattle.queue.specs.Order.{pop, sooner, inOrder, leftOf}
+use Rattle.queue.specs.Order.{pop, inOrder, leftOf}
 use Rattle.queue.specs.Queue as queue
 use Rattle.queue.specs.Queue.{secondOf, takenOf, laid, Took}
 use Rattle.queue.proofs.Order.{order-pop, order-length, told}
 use Rattle.queue.specs.declared.Item.{Item}
-use Rattle.queue.specs.declared.Work.{Work}
 use Rattle.queue.specs.declared.Taken.{Taken}
 use Rattle.queue.specs.declared.Taken.the-variants.{One, Nothing}
 use Rattle.engine_reads.specs.Reads.{entities, atMost}
 use Rattle.engine_state.specs.declared.State.{State}
 use Rattle.engine_state.specs.Machine.{Machine, Content, machine, put-now}
 use Rattle.engine_state.specs.Steps as steps
-use Rattle.engine_state.specs.Steps.{Queued, Held, Stands, Lent, kept, goes, Listing, still, Steps, Does}
+use Rattle.engine_state.specs.Steps.{Held, Lent, kept, goes, Listing, still, Steps, Does}
 use Rattle.engine_state.proofs.Laws as states
 use Rattle.engine_state.proofs.Laws.{both, same}
 use Rattle.engine_steps.specs.Writes.{expiryM}
-use Rattle.engine_loop.specs.Loop.{Seen, next-afterM, nextM, why-nextM, whyM, Why, with-turn, tookM, turn-withM, turnM, Halt, halt, loopM, Halts, Ends, eventW, add-eventM, add-eventsM, expiriesM, add-expiriesM, horizonM, closedM, Closes}
+use Rattle.engine_loop.specs.Loop.{Seen, next-afterM, nextM, why-nextM, whyM, Why, with-turn, tookM, turn-withM, turnM, Halt, halt, loopM, Halts, Ends, add-eventM, add-eventsM, expiriesM, add-expiriesM, horizonM, closedM, Closes}
 use Rattle.engine_loop.specs.declared.Next.{Next}
 use Rattle.engine_loop.specs.declared.Next.the-variants.{Stop, Space, Take}
 use Rattle.engine_loop.specs.declared.Ended.{Ended}

@@ -1,7 +1,7 @@
 -- The loop of a simulation, over the file f and the table x.
-use Prim.Native.Nat.{ℕ, zero, suc, _+_, _-_, _*_, _≤_, _<_}
+use Prim.Native.Nat.{ℕ, zero, suc, _+_, _-_, _*_, _<_}
 use mathlib.Core.Path.{_≡_}
-use mathlib.Core.Bool.{Bool, true, false}
+use mathlib.Core.Bool.{true, false}
 use mathlib.Core.List.{List}
 use lib.Dec.{ltb, leb, eqb}
 use lib.ListN.{length, getD}
@@ -17,7 +17,7 @@ use Rattle.engine_reads.specs.Reads.{entities}
 use Rattle.engine_state.specs.declared.State.{State}
 use Rattle.engine_state.specs.Machine.{Machine, Content, machine, put-now, put-queue}
 use Rattle.engine_state.specs.Changes.{addM, log-plainM}
-use Rattle.engine_state.specs.Steps.{Held, Stands, Side, kept, goes, told, still, Side-told, Steps}
+use Rattle.engine_state.specs.Steps.{Held, Stands, Side, goes, told, Side-told}
 use Rattle.engine_steps.specs.Writes.{expiryM}
 use Rattle.engine_actions.specs.Works.{processM}
 use Rattle.engine_loop.specs.declared.Next.{Next}

@@ -1,15 +1,12 @@
 -- The reads by cases.
 use Prim.Native.Nat.{ℕ, zero, suc, _+_, _-_, _*_, _≤_, _<_}
 use mathlib.Core.Path.{_≡_, refl, sym, _∙_, ap}
-use mathlib.Core.Bool.{true, false}
 use mathlib.Core.List.{List, [], _∷_}
-use lib.Dec.{ltb, leb, eqb}
 use lib.ListN.{length, getD}
 use borrow.Author.Tests.{eq-eqb, ne-eqb, lt-ltb, le-ltb, le-leb, lt-leb}
 use native.Mathlib.Omega.{arith}
 use Rattle.texts.specs.Places.{startFrom}
 use Rattle.runs.specs.Runs.{placeWord}
-use Rattle.reasons.specs.declared.Reason.{Reason}
 use Rattle.engine_reads.specs.Reads.{two, four, cap, atMost, name, word, entities, entityFrom, entityOf, textPosition, aboutRule, alone, noteReason, listWord}
 
 past : (f : List ℕ) (at : ℕ) → length f ≤ at → getD f at 0 ≡ 0

@@ -1,27 +1,23 @@
 -- The parts of a simulation put together.
-use Prim.Native.Nat.{ℕ, _-_, _/_, _*_, _≤_}
+use Prim.Native.Nat.{ℕ, _-_, _/_}
 use mathlib.Core.Path.{_≡_, refl, sym, _∙_, ap, subst}
-use mathlib.Core.Bool.{Bool, true, false, not}
-use mathlib.Core.List.{List, []}
+use mathlib.Core.Bool.{not}
+use mathlib.Core.List.{List}
 use lib.Dec.{eqb}
 use lib.ListN.{length, getD, replicate, length-replicate}
 use borrow.Author.Tests.{eq-eqb, ne-eqb}
-use native.Mathlib.Omega.{arith}
-use Rattle.texts.specs.Lists.{if_then_else_}
 use Rattle.texts.specs.Texts.{Text}
 use Rattle.areas.specs.Areas.{area}
 use Rattle.areas.proofs.Laws as areas
-use Rattle.queue.specs.Queue.{laid}
 use Rattle.queue.proofs.Laws as queue
 use Rattle.records.specs.Records.{recordWords}
-use Rattle.records.specs.declared.Record.{Record}
 use Rattle.runs.specs.Runs.{runWords}
 use Rattle.reasons.specs.Lists.{Holds}
 use Rattle.engine_state.specs.declared.Cells.{Cells}
 use Rattle.engine_state.specs.declared.State.{State}
-use Rattle.engine_state.specs.Machine.{Machine, Content, machine}
-use Rattle.engine_state.specs.Steps.{Held, Stands, kept, goes, told, still, Does}
-use Rattle.engine_loop.specs.Loop.{Halt, Halts, Ends, Closes, begunM, loopM, closedM}
+use Rattle.engine_state.specs.Machine.{machine}
+use Rattle.engine_state.specs.Steps.{Held, kept, goes, still, Does}
+use Rattle.engine_loop.specs.Loop.{Halt, Halts, Ends, Closes, begunM, loopM}
 use Rattle.engine_loop.specs.declared.Ended.{Ended}
 use Rattle.engine_run.specs.Run.{whollyM, Wholly, start-of, nothing-yet, beginning, refusalS, answerS, answerM, Answers, Simulates}
 use Rattle.engine_run.specs.declared.Simulation.{Simulation}

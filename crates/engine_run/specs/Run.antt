@@ -1,7 +1,7 @@
 -- A simulation: the machine that begins, where its loop halts, and the answer.
-use Prim.Native.Nat.{ℕ, _-_, _/_, _*_, _≤_}
+use Prim.Native.Nat.{ℕ, _-_, _/_}
 use mathlib.Core.Path.{_≡_}
-use mathlib.Core.Bool.{Bool, true, false, not}
+use mathlib.Core.Bool.{false, not}
 use mathlib.Core.List.{List, []}
 use lib.Dec.{eqb}
 use lib.ListN.{length, getD, replicate}

@@ -3,7 +3,7 @@ use Prim.Native.Nat.{ℕ, suc, _+_, _-_, _/_, _*_, _≤_, _<_}
 use mathlib.Core.Path.{_≡_, refl, sym, _∙_, ap, subst}
 use mathlib.Core.Bool.{Bool, true, false}
 use mathlib.Core.List.{List, [], _∷_, _++_, map}
-use lib.Dec.{ltb, leb, eqb}
+use lib.Dec.{ltb}
 use lib.ListN.{length, length-append, getD, set}
 use borrow.Author.Tests.{ltb-true, eq-eqb, ne-eqb, lt-ltb, le-ltb, le-leb, lt-leb}
 use native.Mathlib.Nat.{le-div-iff-mul-le}
@@ -29,9 +29,9 @@ use Rattle.reasons.proofs.Entries.{length-reasons}
 use Rattle.engine_state.specs.declared.Cells.{Cells}
 use Rattle.engine_state.specs.declared.State.{State}
 use Rattle.engine_state.specs.declared.Told.{Told}
-use Rattle.engine_state.specs.Machine.{Machine, Content, machine, more, later, put-full, put-counts, put-cells, put-queue, put-records, put-runs, put-reasons, with-items, with-records, with-reasons, with-full, with-run, with-cells, raisedC}
+use Rattle.engine_state.specs.Machine.{Machine, Content, machine, more, later, put-full, put-counts, put-queue, put-records, put-runs, put-reasons, with-items, with-records, with-reasons, with-full, with-run, with-cells, raisedC}
 use Rattle.engine_state.specs.Changes.{item, entry, addM, logM, add-runM, uncertainM, set-cells}
-use Rattle.engine_state.specs.Steps.{Queued, Logged, Running, Held, Stands, Lent, kept, goes, Listing, still, told, Side, Side-told, first, last, file, first-told, last-told, Steps, Does}
+use Rattle.engine_state.specs.Steps.{Queued, Logged, Running, Held, Lent, kept, goes, Listing, still, told, Side, Side-told, first, last, file, first-told, last-told, Steps, Does}
 
 -- ---- choices
 

@@ -1,9 +1,8 @@
 -- Runs in their area, and the definitions by cases.
-use Prim.Native.Nat.{ℕ, suc, _+_, _-_, _*_, _/_, _≤_, _<_}
+use Prim.Native.Nat.{ℕ, _+_, _-_, _*_, _/_, _≤_, _<_}
 use mathlib.Core.Path.{_≡_, refl, sym, _∙_, ap, subst}
 use mathlib.Core.Bool.{Bool, true, false}
 use mathlib.Core.List.{List, _++_}
-use lib.Dec.{ltb, eqb}
 use lib.ListN.{length, getD, take, drop, set, length-set, length-append, length-drop}
 use lib.Seq.{length-take-le}
 use borrow.Author.Tests.{eq-eqb, ne-eqb, lt-ltb, le-ltb}
@@ -22,14 +21,14 @@ use Rattle.engine_reads.specs.Reads.{two, word, entityOf, rules, atMost, aboutR
 use Rattle.engine_state.specs.Changes.{uncertainM}
 use Rattle.engine_truth.specs.Truths.{matchesT, anyT, allT}
 use Rattle.engine_truth.specs.declared.Truth.{Truth}
-use Rattle.engine_truth.specs.declared.Truth.the-variants.{Yes, No, Unknown}
+use Rattle.engine_truth.specs.declared.Truth.the-variants.{Yes, Unknown}
 use Rattle.engine_truth.specs.declared.Judged.{Judged}
 use Rattle.engine_state.specs.declared.Cells.{Cells}
 use Rattle.engine_state.specs.declared.State.{State}
 use Rattle.engine_state.specs.declared.Move.{Move}
 use Rattle.engine_state.specs.declared.Setting.{Setting}
-use Rattle.engine_state.specs.Machine.{Machine, Content, machine, with-active, storedC, raisedC}
-use Rattle.engine_state.specs.Steps.{Running, Held, Stands, Lent, kept, goes, Listing, still, Steps}
+use Rattle.engine_state.specs.Machine.{Machine, machine, with-active, storedC, raisedC}
+use Rattle.engine_state.specs.Steps.{Running, Lent, kept, goes, Listing, still, Steps}
 use Rattle.engine_state.proofs.Laws as states
 use Rattle.engine_steps.specs.Writes.{cells, writeM, update-atM, updateM}
 use Rattle.engine_steps.specs.Runs.{no-run, runM, put-runM, nowM, phaseR, outM, wake-phaseM, wake-runM, wake-oneM, wake-firstM, wakeM, dropM}

@@ -1,21 +1,20 @@
 -- The definitions by cases.
-use Prim.Native.Nat.{ℕ, zero, suc, _+_, _-_, _%_, _≤_, _<_}
-use mathlib.Core.Path.{_≡_, refl, sym, _∙_, ap}
+use Prim.Native.Nat.{ℕ, suc, _+_, _-_, _%_, _≤_, _<_}
+use mathlib.Core.Path.{_≡_, sym, _∙_, ap}
 use mathlib.Core.Bool.{Bool, true, false}
 use mathlib.Core.List.{List}
-use lib.Dec.{ltb, eqb}
 use lib.ListN.{getD}
-use borrow.Author.Tests.{eq-eqb, ne-eqb, lt-ltb, le-ltb}
+use borrow.Author.Tests.{ne-eqb, lt-ltb, le-ltb}
 use native.Mathlib.Omega.{arith}
 use Rattle.model_walk.specs.Walk.{actionsW}
 use Rattle.model_walk.specs.declared.Walked.{Walked}
 use Rattle.model_walk.specs.declared.Walked.the-variants as walked
 use Rattle.runs.specs.Runs.{placeIn}
 use Rattle.runs.specs.declared.Place.{Place}
-use Rattle.engine_reads.specs.Reads.{two, four, cap, entityOf}
+use Rattle.engine_reads.specs.Reads.{two, cap, entityOf}
 use Rattle.engine_state.specs.Machine.{later}
 use Rattle.engine_state.specs.declared.Move.{Move}
-use Rattle.engine_truth.specs.Truths.{bothT, undecidedT, againstT, valueT, evaluateT, sizeT, allFrom, allT, matchesT, anyFrom, anyT, endT, judgedT, branchT, selectFrom, selectT}
+use Rattle.engine_truth.specs.Truths.{bothT, againstT, valueT, evaluateT, sizeT, allFrom, allT, matchesT, anyFrom, anyT, endT, judgedT, branchT, selectFrom, selectT}
 use Rattle.engine_truth.specs.declared.Truth.{Truth}
 use Rattle.engine_truth.specs.declared.Truth.the-variants.{Yes, No, Unknown}
 use Rattle.engine_truth.specs.declared.Judged.{Judged}

@@ -1,32 +1,11 @@
 -- The scope's examples that are to be proved, P1 to P12, as one table with one theorem.
-use Prim.Native.Nat.{ℕ, zero, suc}
+use Prim.Native.Nat.{ℕ}
 use mathlib.Core.Path.{_≡_, refl}
 use mathlib.Core.List.{List, [], _∷_}
 use mathlib.Core.Option.{Option, none, some}
 use Rattle.texts.specs.Texts.{Text, text}
 use Rattle.model.specs.Answer.{Answer, answer, refused, Verdict, accept, _>>=_}
-use Rattle.model.specs.Model.{
-  Source,
-  Entity,
-  comfort,
-  Predicate,
-  state,
-  single,
-  toggle,
-  choose,
-  Actions,
-  done,
-  act,
-  no-branch,
-  Automation,
-  Input,
-  reload,
-  Event,
-  Invariant,
-  never,
-  response,
-  Model,
-}
+use Rattle.model.specs.Model.{Source, Entity, comfort, Predicate, state, single, toggle, done, act, Automation, Input, reload, Event, Invariant, never, response, Model}
 use Rattle.model.specs.Validate.{accepted}
 use Rattle.engine.specs.Cells.{Cell, initial-cells}
 use Rattle.engine.specs.Kleene.{Yes, No, Unknown}

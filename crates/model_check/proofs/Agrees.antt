@@ -7,57 +7,14 @@ use Prim.Native.Nat.{ℕ, zero, suc, _+_, _-_, _≤_, _<_}
 use native.Mathlib.Omega.{arith}
 use native.Mathlib.Decide.{decLt}
 use lib.ListN.{length, getD}
-use lib.Dec.{ltb, leb, eqb}
-use borrow.Author.Tests.{lt-ltb, le-ltb, le-leb, lt-leb, eq-eqb, ne-eqb, eqb-true, eqb-false}
+use lib.Dec.{ltb, eqb}
+use borrow.Author.Tests.{lt-ltb, le-ltb, lt-leb, eq-eqb, ne-eqb, eqb-true, eqb-false}
 use Rattle.texts.specs.Lists.{if_then_else_, absent, listed, any, find}
 use Rattle.texts.specs.Texts.{Text, text, eqT, memT}
 use Rattle.model.specs.Answer.{Answer, answer, refused, Verdict, accept, _>>=_, _and_, _when_, each-accepted}
-use Rattle.model.specs.Model.{
-  Source,
-  observational,
-  Entity,
-  Predicate,
-  state,
-  Trigger,
-  Effect,
-  toggle,
-  delay,
-  condition,
-  choose,
-  wait,
-  Actions,
-  done,
-  act,
-  Branches,
-  no-branch,
-  branch,
-  named,
-}
+use Rattle.model.specs.Model.{Source, observational, Entity, Predicate, state, Trigger, Effect, toggle, delay, condition, choose, wait, Actions, done, act, Branches, named}
 use Rattle.model.specs.File.{_>>=_ as _>>=ᵣ_}
-use Rattle.model.specs.File.{
-  Got,
-  got,
-  broken,
-  Reader,
-  give,
-  refuse,
-  u8,
-  u16,
-  u32,
-  times,
-  counted,
-  flag,
-  source,
-  place,
-  predicate,
-  trigger,
-  entity,
-  branches,
-  effect,
-  actions-of,
-  actions,
-  ascending,
-}
+use Rattle.model.specs.File.{got, Reader, give, refuse, u8, u16, u32, times, counted, flag, source, place, predicate, trigger, entity, branches, effect, actions-of, actions}
 use Rattle.model.specs.Validate.{
   day,
   undecided,
@@ -69,32 +26,7 @@ use Rattle.model.specs.Validate.{
   check-actions,
   check-branches,
 }
-use Rattle.model_walk.proofs.Found.{
-  Case,
-  is-true,
-  is-false,
-  case,
-  Bound,
-  bound,
-  given,
-  Wide,
-  u8-wide,
-  u16-wide,
-  source-wide,
-  kind-wide,
-  Counted,
-  counted-found,
-  Kind,
-  kind-found,
-  Place,
-  place-found,
-  Value?,
-  Place?,
-  EntityParts,
-  entity-found,
-  TriggerParts,
-  trigger-found,
-}
+use Rattle.model_walk.proofs.Found.{Case, is-true, is-false, case, bound, given, Wide, u16-wide, source-wide, kind-wide, counted-found, Kind, kind-found, place-found, Value?, entity-found, TriggerParts, trigger-found}
 use Rattle.model_walk.proofs.Found as found
 use Rattle.model_walk.proofs.Sees.{sees-flag}
 use Rattle.model_parts.specs.Stand.{Reads, Stand}

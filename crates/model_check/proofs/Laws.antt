@@ -15,7 +15,6 @@ use Rattle.model_walk.specs.declared.Num.{Num}
 use Rattle.model_walk.specs.declared.Num.the-variants as num
 use Rattle.model_walk.specs.Walk.{found}
 use Rattle.model_walk.proofs.Laws.{is-got, is-broken, u16-out}
-use Rattle.model_parts.specs.declared.Section.{Section}
 use Rattle.model_check.specs.declared.Checked.{Checked}
 use Rattle.model_check.specs.declared.Checked.the-variants as checked
 use Rattle.model_check.specs.declared.Declared.{Declared}

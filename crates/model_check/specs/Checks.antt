@@ -2,12 +2,12 @@
 -- on, with the number of actions so far; it ends at a position with the number of actions after it, or with a refusal.
 -- `proofs/Agrees` has, for each check, that it says what `Validate` says of the part that the reader of `File` finds there.
 use Prim.Native.Nat.{ℕ, zero, suc, _+_}
-use mathlib.Core.Bool.{Bool, true, false, _||_}
+use mathlib.Core.Bool.{Bool, true, false}
 use mathlib.Core.List.{List}
 use lib.Dec.{ltb, leb, eqb}
 use lib.ListN.{length, getD}
 use Rattle.texts.specs.Lists.{if_then_else_}
-use Rattle.model.specs.File.{Got, got, broken, Reader, u8, u16, u32}
+use Rattle.model.specs.File.{got, broken, Reader, u8, u16, u32}
 use Rattle.model.specs.Validate.{day}
 use Rattle.model_parts.specs.declared.Section.{Section}
 use Rattle.model_check.specs.declared.Checked.{Checked}

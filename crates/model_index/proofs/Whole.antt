@@ -1,8 +1,8 @@
 -- The walk over a file says what `decode` says.
-use mathlib.Core.Path.{_≡_, refl, sym, ap, ap₂, _∙_, subst}
-use mathlib.Core.List.{List, [], _∷_, _++_}
+use mathlib.Core.Path.{_≡_, refl, sym, ap, _∙_, subst}
+use mathlib.Core.List.{List, [], _∷_}
 use mathlib.Core.Bool.{Bool, true, false, _&&_}
-use Prim.Native.Nat.{ℕ, zero, suc, _+_, _≤_, _<_}
+use Prim.Native.Nat.{ℕ, zero, suc, _+_, _≤_}
 use native.Mathlib.Omega.{arith}
 use native.Mathlib.Decide.{decLt}
 use lib.ListN.{length, length-append}
@@ -10,7 +10,7 @@ use lib.Dec.{ltb}
 use borrow.Author.Tests.{lt-ltb, le-ltb}
 use Rattle.texts.specs.Lists.{if_then_else_, flat, each}
 use Rattle.texts.specs.Texts.{Text}
-use Rattle.model.specs.Answer.{Answer, answer, refused}
+use Rattle.model.specs.Answer.{answer, refused}
 use Rattle.model.specs.Model.{Model, Entity, Event, Input, Invariant, Automation, Limits}
 use Rattle.model.specs.Notes.{of-invariant, of-rule, notes-of}
 use Rattle.model.specs.File.{
@@ -46,15 +46,15 @@ use Rattle.model.specs.File.{
 }
 use Rattle.model_walk.specs.declared.Walked.{Walked}
 use Rattle.model_walk.specs.declared.Walked.the-variants as walked
-use Rattle.model_walk.specs.Walk.{capped, seen, Walk, _⨾_, placeW, bytesW, countedW}
+use Rattle.model_walk.specs.Walk.{capped, seen, Walk, placeW, bytesW}
 use Rattle.model_walk.proofs.Laws.{bind-got, bind-broken, u32-in, u32-out}
 use Rattle.model_walk.proofs.Sees.{Sees, bind, last, quiet, marks, sees-counted, sees-place, sees-u32, bytes-sum}
 use Rattle.model_parts.specs.declared.Section.{Section}
 use Rattle.model_parts.specs.declared.Part.the-variants as part
 use Rattle.model_parts.specs.Parts.{partW, sectionW, textW, entityW, eventW, invariantW, inputW, ruleW}
-use Rattle.model_parts.specs.Stand.{Reads, Stand}
+use Rattle.model_parts.specs.Stand.{Reads}
 use Rattle.model_parts.proofs.Sees.{sees-text, sees-entity, sees-event, sees-invariant, sees-input, sees-rule}
-use Rattle.model_parts.proofs.Stands.{More, more, section-ends, section-counts, section-stands}
+use Rattle.model_parts.proofs.Stands.{more, section-ends, section-counts, section-stands}
 use Rattle.model_order.specs.Order.{ascendingW, textsW}
 use Rattle.model_order.proofs.Sees.{sees-texts, sees-entities}
 use Rattle.model_index.specs.declared.File.{File}

@@ -8,60 +8,14 @@ use native.Mathlib.Omega.{arith}
 use native.Mathlib.Numerals.{add-one}
 use lib.ListN.{length, getD}
 use lib.Dec.{ltb, leb, eqb}
-use borrow.Author.Tests.{lt-ltb, le-ltb, le-leb, lt-leb, eq-eqb, ne-eqb, eqb-true, eqb-false, ltb-false, leb-true, leb-false}
+use borrow.Author.Tests.{lt-ltb, le-ltb, le-leb, ne-eqb, ltb-false, leb-true, leb-false}
 use Rattle.texts.specs.Lists.{if_then_else_, present-and, is-empty, any, each}
 use Rattle.texts.specs.Texts.{Text, text, eqT, memT}
 use Rattle.texts.specs.Places.{textAt, startFrom}
-use Rattle.texts.proofs.Ordering.{not-both}
 use Rattle.model.specs.Answer.{Answer, answer, refused, Verdict, accept, _>>=_, _and_, _when_, each-accepted}
-use Rattle.model.specs.Model.{
-  Entity,
-  Predicate,
-  Trigger,
-  Actions,
-  Automation,
-  Input,
-  reload,
-  Event,
-  Invariant,
-  never,
-  guard,
-  transition,
-  response,
-  id-of,
-  Limits,
-  Scenario,
-  Model,
-}
+use Rattle.model.specs.Model.{Entity, Predicate, Trigger, Automation, Input, reload, Event, Invariant, never, guard, transition, response, id-of, Limits, Scenario, Model}
 use Rattle.model.specs.File.{_>>=_ as _>>=ᵣ_}
-use Rattle.model.specs.File.{
-  Got,
-  got,
-  broken,
-  Reader,
-  give,
-  refuse,
-  u8,
-  u16,
-  u32,
-  times,
-  counted,
-  number?,
-  source,
-  mode,
-  limits,
-  texts,
-  place,
-  predicate,
-  trigger,
-  entity,
-  input,
-  event,
-  invariant,
-  actions,
-  automation,
-  decode,
-}
+use Rattle.model.specs.File.{got, Reader, give, refuse, u8, u16, u32, times, counted, number?, source, mode, limits, texts, place, predicate, trigger, entity, input, event, invariant, actions, automation, decode}
 use Rattle.model.specs.Validate.{
   day,
   bad-length,
@@ -89,72 +43,24 @@ use Rattle.model.specs.Validate.{
   accepted,
 }
 use Rattle.model_walk.proofs.Found as found
-use Rattle.model_walk.proofs.Found.{
-  Case,
-  is-true,
-  is-false,
-  case,
-  bound,
-  given,
-  Wide,
-  u8-wide,
-  u16-wide,
-  u32-wide,
-  kind-wide,
-  wide-sum,
-  Counted,
-  counted-found,
-  Kind,
-  kind-found,
-  place-found,
-  EntityParts,
-  entity-found,
-}
+use Rattle.model_walk.proofs.Found.{Case, is-true, is-false, case, bound, given, Wide, u16-wide, u32-wide, kind-wide, Counted, counted-found, Kind, kind-found, place-found, EntityParts, entity-found}
 use Rattle.model_walk.proofs.Sees.{sees-mode}
 use Rattle.model_parts.specs.declared.Section.{Section}
-use Rattle.model_parts.specs.Stand.{Reads, Stand}
-use Rattle.model_parts.proofs.Stands.{More, more}
+use Rattle.model_parts.specs.Stand.{Reads}
+use Rattle.model_parts.proofs.Stands.{more}
 use Rattle.model_order.specs.Order.{place-from, Fixed}
 use Rattle.model_order.proofs.Places.{same-place, texts-ascend, text-at, fixed-at, fixed-texts}
 use Rattle.model_index.specs.declared.Index.{Index}
 use Rattle.model_index.specs.declared.File.{File}
-use Rattle.model_index.specs.declared.Status.{Status}
 use Rattle.model_index.specs.declared.Status.the-variants as status
 use Rattle.model_index.specs.Index.{refusedW}
 use Rattle.model_index.specs.Indexed.{Holds, Indexed, Says}
 use Rattle.model_check.specs.declared.Checked.{Checked}
 use Rattle.model_check.specs.declared.Checked.the-variants as checked
 use Rattle.model_check.specs.declared.Declared.{Declared}
-use Rattle.model_check.specs.Checks.{Check, and-then, _⨾_, by, stay, refuse-if, skipC, dayC, place-is, among, valueC, pairC, predicateC, predicatesC, triggersC, actionsC}
+use Rattle.model_check.specs.Checks.{and-then, _⨾_, stay, refuse-if, skipC, dayC, place-is, among, valueC, pairC, predicateC, predicatesC, triggersC, actionsC}
 use Rattle.model_check.proofs.Laws as checks
-use Rattle.model_check.proofs.Agrees.{
-  after,
-  after-same,
-  and-bind,
-  and-then-bind,
-  and-assoc,
-  accept-and,
-  eqb-sym,
-  or-is,
-  by-got,
-  next,
-  next-and,
-  skip-wide,
-  skip-then,
-  skips,
-  stays,
-  refuse-if-is,
-  Grounded,
-  among-agrees,
-  value-agrees,
-  pair-agrees,
-  predicate-agrees,
-  predicates-agree,
-  triggers-agree,
-  actions-agree,
-  day-agrees,
-}
-use Rattle.model_validate.specs.declared.Validity.{Validity}
+use Rattle.model_check.proofs.Agrees.{after, after-same, and-bind, and-assoc, accept-and, eqb-sym, or-is, by-got, next, next-and, skip-wide, skip-then, stays, refuse-if-is, Grounded, among-agrees, value-agrees, pair-agrees, predicate-agrees, predicates-agree, triggers-agree, actions-agree, day-agrees}
 use Rattle.model_validate.specs.declared.Validity.the-variants as validity
 use Rattle.model_validate.specs.Answers.{validity-of, validated}
 use Rattle.model_validate.specs.declared.Part.{Part}

@@ -1,31 +1,30 @@
 -- The laws that the proofs of this crate's functions cite.
 use mathlib.Core.Path.{_≡_, refl, sym, ap, _∙_}
 use mathlib.Core.List.{List, [], _∷_}
-use mathlib.Core.Bool.{Bool, true, false, _||_, not}
+use mathlib.Core.Bool.{Bool, true, false, _||_}
 use Prim.Native.Nat.{ℕ, zero, suc, _+_, _-_, _*_, _≤_, _<_}
 use native.Mathlib.Numerals.{sub-one}
 use native.Mathlib.Omega.{arith}
 use lib.ListN.{length, getD}
-use lib.Dec.{ltb, leb, eqb}
+use lib.Dec.{ltb, eqb}
 use borrow.Author.Tests.{lt-ltb, le-ltb, eq-eqb, ne-eqb, ltb-false}
 use Rattle.texts.specs.Lists.{if_then_else_, is-empty}
 use Rattle.texts.specs.Texts.{Text, text}
 use Rattle.texts.specs.Places.{textAt, startFrom}
 use Rattle.texts.proofs.Ordering.{not-both}
 use Rattle.model.specs.Model.{Limits}
-use Rattle.model.specs.File.{Got, got, broken, Reader, _>>=_, give, u8, u16, u32, limits}
-use Rattle.model.specs.Validate.{day, bad-length, bad-limits}
+use Rattle.model.specs.File.{got, broken, give, u8, u16, u32, limits}
+use Rattle.model.specs.Validate.{bad-length, bad-limits}
 use Rattle.model_walk.specs.declared.Num.{Num}
 use Rattle.model_walk.specs.declared.Num.the-variants as num
 use Rattle.model_walk.specs.Walk.{found}
 use Rattle.model_walk.proofs.Laws.{is-got, is-broken, bind-got, bind-broken}
-use Rattle.model_parts.specs.declared.Section.{Section}
 use Rattle.model_order.specs.Order.{place-from}
 use Rattle.model_index.specs.declared.Index.{Index}
 use Rattle.model_check.specs.declared.Checked.{Checked}
 use Rattle.model_check.specs.declared.Checked.the-variants as checked
 use Rattle.model_check.specs.declared.Declared.{Declared}
-use Rattle.model_check.specs.Checks.{Check, and-then, _⨾_, by, stay, refuse-if, skipC, dayC, place-is, among, valueC, pairC, predicateC, predicatesC, triggersC, actionsC}
+use Rattle.model_check.specs.Checks.{and-then, _⨾_, by, stay, skipC, dayC, place-is, among, valueC, pairC, predicateC, predicatesC, triggersC, actionsC}
 use Rattle.model_check.proofs.Laws as checks
 use Rattle.model_validate.specs.declared.Part.{Part}
 use Rattle.model_validate.specs.declared.Part.the-variants as part

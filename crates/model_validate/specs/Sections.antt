@@ -1,15 +1,14 @@
 -- The checks of a whole model, on places: each section part by part, and the tests before them.
 -- `proofs/Agrees` has that they say what `Validate` says of the model that the file holds.
 use Prim.Native.Nat.{ℕ, zero, suc, _+_, _*_, _≤_}
-use mathlib.Core.Bool.{Bool, true, false, _&&_, _||_, not}
+use mathlib.Core.Bool.{Bool, true, false, _||_, not}
 use mathlib.Core.List.{List}
-use lib.Dec.{ltb, leb, eqb}
+use lib.Dec.{ltb, eqb}
 use lib.ListN.{length, getD}
 use Rattle.texts.specs.Lists.{if_then_else_}
 use Rattle.texts.specs.Texts.{Text, text}
 use Rattle.texts.specs.Places.{textAt, startFrom}
-use Rattle.model.specs.Model.{Limits}
-use Rattle.model.specs.File.{Got, got, broken, u8, u16, u32, limits}
+use Rattle.model.specs.File.{got, broken, u8, u16, u32, limits}
 use Rattle.model.specs.Validate.{day, bad-length, bad-limits}
 use Rattle.model_parts.specs.declared.Section.{Section}
 use Rattle.model_order.specs.Order.{place-from}
@@ -17,7 +16,7 @@ use Rattle.model_index.specs.declared.Index.{Index}
 use Rattle.model_check.specs.declared.Checked.{Checked}
 use Rattle.model_check.specs.declared.Checked.the-variants as checked
 use Rattle.model_check.specs.declared.Declared.{Declared}
-use Rattle.model_check.specs.Checks.{Check, and-then, _⨾_, by, stay, refuse, refuse-if, skipC, dayC, place-is, among, valueC, pairC, predicateC, predicatesC, triggersC, actionsC}
+use Rattle.model_check.specs.Checks.{Check, and-then, _⨾_, by, stay, refuse-if, skipC, dayC, place-is, among, valueC, pairC, predicateC, predicatesC, triggersC, actionsC}
 use Rattle.model_validate.specs.declared.Part.{Part}
 use Rattle.model_validate.specs.declared.Part.the-variants as part
 

@@ -1,9 +1,9 @@
 -- What a reader found, part by part: from the value that the reader of a part gave back to the numbers that stand in the file.
 use mathlib.Core.Path.{_≡_, refl, sym, ap, _∙_, subst}
-use mathlib.Core.List.{List, [], _∷_}
+use mathlib.Core.List.{List, []}
 use mathlib.Core.Bool.{Bool, true, false}
 use mathlib.Core.Option.{Option, none, some}
-use Prim.Native.Nat.{ℕ, zero, suc, _+_, _≤_, _<_}
+use Prim.Native.Nat.{ℕ, _+_, _≤_, _<_}
 use native.Mathlib.Omega.{arith}
 use native.Mathlib.Decide.{decLt}
 use lib.ListN.{length, getD}
@@ -11,32 +11,8 @@ use lib.Dec.{ltb, eqb}
 use borrow.Author.Tests.{ltb-true, eqb-true, eqb-false}
 use Rattle.texts.specs.Lists.{if_then_else_}
 use Rattle.texts.specs.Texts.{Text}
-use Rattle.model.specs.Model.{Source, Predicate, state, Trigger, Entity}
-use Rattle.model.specs.File.{
-  Got,
-  got,
-  broken,
-  Reader,
-  _>>=_,
-  give,
-  refuse,
-  require,
-  u8,
-  u16,
-  u32,
-  times,
-  counted,
-  kinds,
-  number?,
-  source,
-  tier,
-  place,
-  place?,
-  predicate,
-  trigger,
-  entity,
-}
-use Rattle.model_walk.specs.declared.Walked.{Walked}
+use Rattle.model.specs.Model.{Source, Trigger, Entity}
+use Rattle.model.specs.File.{Got, got, broken, Reader, _>>=_, give, refuse, require, u8, u16, u32, times, counted, kinds, number?, source, tier, place, place?, trigger, entity}
 use Rattle.model_walk.specs.declared.Walked.the-variants as walked
 use Rattle.model_walk.specs.Walk.{seen, capped, kindW, by, staying, stay, stop}
 use Rattle.model_walk.proofs.Sees.{Sees, quiet, sees-tier}

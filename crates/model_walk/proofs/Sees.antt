@@ -2,42 +2,16 @@
 use mathlib.Core.Path.{_≡_, refl, sym, ap, _∙_}
 use mathlib.Core.List.{List, [], _∷_, _++_}
 use mathlib.Core.Bool.{Bool, true, false}
-use mathlib.Core.Option.{Option, none, some}
-use Prim.Native.Nat.{ℕ, zero, suc, _+_, _-_, _≤_, _<_}
+use mathlib.Core.Option.{none, some}
+use Prim.Native.Nat.{ℕ, zero, suc, _+_, _-_, _<_}
 use native.Mathlib.Omega.{arith}
 use native.Mathlib.Decide.{decLt}
-use lib.ListN.{length, getD, length-append, List·getD-eq-default}
+use lib.ListN.{length, getD, length-append}
 use lib.Dec.{ltb, eqb}
-use borrow.Author.Tests.{lt-ltb, le-ltb, le-leb, lt-leb, ne-eqb, ltb-true, ltb-false}
+use borrow.Author.Tests.{lt-ltb, le-ltb, ne-eqb}
 use Rattle.texts.specs.Lists.{if_then_else_, listed, flat}
 use Rattle.texts.specs.Texts.{Text}
-use Rattle.model.specs.Model.{
-  Source,
-  Tier,
-  observational,
-  comfort,
-  property,
-  access-safety,
-  single,
-  queued,
-  parallel,
-  Predicate,
-  state,
-  Trigger,
-  Mode,
-  Effect,
-  toggle,
-  delay,
-  condition,
-  choose,
-  wait,
-  Actions,
-  done,
-  act,
-  Branches,
-  no-branch,
-  branch,
-}
+use Rattle.model.specs.Model.{Source, observational, comfort, property, access-safety, single, queued, parallel, Predicate, state, Trigger, Mode, Effect, toggle, delay, condition, choose, wait, Actions, done, act, Branches, no-branch, branch}
 use Rattle.model.specs.Notes.{of-predicate, of-trigger, of-effect, of-actions, of-branches}
 use Rattle.model.specs.File.{
   Got,
@@ -67,7 +41,6 @@ use Rattle.model.specs.File.{
   actions-of,
   actions,
 }
-use Rattle.model_walk.specs.declared.Walked.{Walked}
 use Rattle.model_walk.specs.declared.Walked.the-variants as walked
 use Rattle.model_walk.specs.declared.Piece.the-variants as piece
 use Rattle.model_walk.specs.Walk.{

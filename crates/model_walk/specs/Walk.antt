@@ -2,10 +2,10 @@
 -- the notes so far (65 for more than 64), or finds the file rules broken. Places are only compared with the number of texts.
 -- `proofs/Sees` has, for each walk, that it ends where the reader of `File` ends.
 use Prim.Native.Nat.{ℕ, zero, suc, _+_}
-use mathlib.Core.Bool.{Bool, true, false, _||_}
-use mathlib.Core.List.{List, [], _∷_}
+use mathlib.Core.Bool.{Bool}
+use mathlib.Core.List.{List}
 use lib.Dec.{ltb, leb, eqb}
-use lib.ListN.{length, getD}
+use lib.ListN.{length}
 use Rattle.texts.specs.Lists.{if_then_else_}
 use Rattle.model.specs.File.{Got, got, broken, Reader, u8, u16}
 use Rattle.model_walk.specs.declared.Num.{Num}

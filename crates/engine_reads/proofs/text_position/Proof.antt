@@ -1,4 +1,3 @@
-use mathlib.Core.Path.{_≡_, refl, sym, ap, _∙_}
 use native.Mathlib.Omega.{arith}
 use Rattle.engine_reads.proofs.Laws as laws
 use borrow.Author.Needs.{needs}
@@ -9,22 +8,6 @@ use Rattle.engine_reads.proofs.text_position.Lts as lts
 use Rattle.engine_reads.proofs.capped.Reads as capped-reads
 use Rattle.texts.proofs.text_start.Reads as text-start-reads
 
--- src/lib.rt:123:9
-returns : tie.Need-returns
-returns c = laws.position-far _ _ (c .if1 .taken)
-
--- src/lib.rt:125:12
-text-start-requires : tie.Need-text-start-requires
-text-start-requires c κs = search needs
-
--- src/lib.rt:125:5
-capped-requires : tie.Need-capped-requires
-capped-requires c κs = search needs
-
--- src/lib.rt:119:1
-returns-2 : tie.Need-returns-2
-returns-2 c = laws.position-near _ _ _ _ (omega arith) (c .capped .ensures) (c .before .text-start .ensures)
-
 pub text-position-spec : {M : Type 1} → statement M
 text-position-spec =
-    tie.close (tie.spec returns text-start-requires capped-requires returns-2)
+    tie.close (tie.spec (λ c. laws.position-far _ _ (c .if1 .taken)) (λ c κs. search needs) (λ c κs. search needs) (λ c. laws.position-near _ _ _ _ (omega arith) (c .capped .ensures) (c .before .text-start .ensures)))

@@ -1,6 +1,4 @@
-use borrow.Author.Needs.{needs}
-use mathlib.Core.Path.{_≡_, refl, sym, ap, _∙_}
-use native.Mathlib.Omega.{arith}
+use mathlib.Core.Path.{refl}
 use Rattle.engine_run.proofs.Laws as laws
 use Rattle.engine_run.specs.Run.{answerS}
 use Rattle.engine_run.proofs.answer.Statement.{statement}
@@ -8,7 +6,6 @@ use Rattle.engine_run.proofs.answer.Tie as tie
 use Rattle.engine_run.proofs.answer.Reads as reads
 use Rattle.engine_run.proofs.answer.Lts as lts
 
--- src/lib.rt:72:1
 returns : tie.Need-returns
 unfolding answerS
 returns c = refl

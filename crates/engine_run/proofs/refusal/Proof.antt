@@ -1,6 +1,4 @@
-use borrow.Author.Needs.{needs}
-use mathlib.Core.Path.{_≡_, refl, sym, ap, _∙_}
-use native.Mathlib.Omega.{arith}
+use mathlib.Core.Path.{refl}
 use Rattle.engine_run.proofs.Laws as laws
 use Rattle.engine_run.specs.Run.{refusalS}
 use Rattle.engine_run.proofs.refusal.Statement.{statement}
@@ -8,7 +6,6 @@ use Rattle.engine_run.proofs.refusal.Tie as tie
 use Rattle.engine_run.proofs.refusal.Reads as reads
 use Rattle.engine_run.proofs.refusal.Lts as lts
 
--- src/lib.rt:58:1
 returns : tie.Need-returns
 unfolding refusalS
 returns c = refl

@@ -1,5 +1,3 @@
-use mathlib.Core.Path.{_≡_, refl, sym, ap, _∙_}
-use native.Mathlib.Omega.{arith}
 use Rattle.engine_state.proofs.Laws as laws
 use Rattle.engine_state.specs.Changes.{log-plainM}
 use borrow.Author.Needs.{needs}
@@ -9,18 +7,9 @@ use Rattle.engine_state.proofs.log_plain.Reads as reads
 use Rattle.engine_state.proofs.log_plain.Lts as lts
 use Rattle.engine_state.proofs.log.Reads as log-reads
 
--- src/lib.rt:241:5
-log-requires : tie.Need-log-requires
-log-requires c κs = search needs
-
--- src/lib.rt:237:1
-same-length : tie.Need-same-length
-same-length c = search needs
-
--- src/lib.rt:237:1
 returns : tie.Need-returns
 unfolding log-plainM
 returns c = c .before .before .log .ensures
 
 pub log-plain-spec : {M : Type 1} → statement M
-log-plain-spec = tie.close (tie.spec log-requires same-length returns)
+log-plain-spec = tie.close (tie.spec (λ c κs. search needs) (λ c. search needs) returns)

@@ -1,5 +1,3 @@
-use mathlib.Core.Path.{_≡_, refl, sym, ap, _∙_}
-use native.Mathlib.Omega.{arith}
 use Rattle.engine_state.proofs.Laws as laws
 use Rattle.engine_state.specs.Changes.{next-stepM}
 use borrow.Author.Needs.{needs}
@@ -9,18 +7,9 @@ use Rattle.engine_state.proofs.next_step.Reads as reads
 use Rattle.engine_state.proofs.next_step.Lts as lts
 use Rattle.engine_state.proofs.add.Reads as add-reads
 
--- src/lib.rt:280:5
-add-requires : tie.Need-add-requires
-add-requires c κs = search needs
-
--- src/lib.rt:276:1
-same-length : tie.Need-same-length
-same-length c = search needs
-
--- src/lib.rt:276:1
 returns : tie.Need-returns
 unfolding next-stepM
 returns c = c .before .before .add .ensures
 
 pub next-step-spec : {M : Type 1} → statement M
-next-step-spec = tie.close (tie.spec add-requires same-length returns)
+next-step-spec = tie.close (tie.spec (λ c κs. search needs) (λ c. search needs) returns)

@@ -1,9 +1,4 @@
-use Rattle.engine_state.specs.Machine.{machine}
-use borrow.Author.Needs.{needs}
-use mathlib.Core.Path.{_≡_, refl, sym, ap, _∙_}
-use native.Mathlib.Omega.{arith}
 use borrow.Author.Tests.{eq-eqb, ne-eqb, lt-ltb, le-ltb, le-leb, lt-leb}
-use Rattle.engine_state.proofs.Laws.{Joined, Joined-told, Stays, Stays-told, Wide, Wide-told, none, one, two, both, same, wide}
 use Rattle.engine_state.proofs.Laws as states
 use Rattle.engine_steps.proofs.Laws as laws
 use Rattle.engine_steps.specs.Triggers.{decideM}
@@ -12,37 +7,30 @@ use Rattle.engine_steps.proofs.decide.Tie as tie
 use Rattle.engine_steps.proofs.decide.Reads as reads
 use Rattle.engine_steps.proofs.decide.Lts as lts
 
--- src/lib.rt:245:13
 returns : tie.Need-returns
 unfolding decideM
 returns c = rw (lt-ltb _ _ (c .before .if1 .taken), eq-eqb _ _ (c .if2 .taken))
 
--- src/lib.rt:248:13
 returns-2 : tie.Need-returns-2
 unfolding decideM
 returns-2 c = rw (lt-ltb _ _ (c .before .before .if1 .taken), ne-eqb _ _ (c .before .if2 .left), eq-eqb _ _ (c .if3 .taken))
 
--- src/lib.rt:250:9
 returns-3 : tie.Need-returns-3
 unfolding decideM
 returns-3 c = rw (lt-ltb _ _ (c .before .before .if1 .taken), ne-eqb _ _ (c .before .if2 .left), ne-eqb _ _ (c .if3 .left))
 
--- src/lib.rt:253:9
 returns-4 : tie.Need-returns-4
 unfolding decideM
 returns-4 c = rw (le-ltb _ _ (c .before .if1 .left), le-leb _ _ (c .if4 .taken))
 
--- src/lib.rt:256:9
 returns-5 : tie.Need-returns-5
 unfolding decideM
 returns-5 c = rw (le-ltb _ _ (c .before .before .if1 .left), lt-leb _ _ (c .before .if4 .left), eq-eqb _ _ (c .if5 .taken))
 
--- src/lib.rt:259:9
 returns-6 : tie.Need-returns-6
 unfolding decideM
 returns-6 c = rw (le-ltb _ _ (c .before .before .before .if1 .left), lt-leb _ _ (c .before .before .if4 .left), ne-eqb _ _ (c .before .if5 .left), eq-eqb _ _ (c .if6 .taken))
 
--- src/lib.rt:240:1
 returns-7 : tie.Need-returns-7
 unfolding decideM
 returns-7 c = rw (le-ltb _ _ (c .before .before .before .if1 .left), lt-leb _ _ (c .before .before .if4 .left), ne-eqb _ _ (c .before .if5 .left), ne-eqb _ _ (c .if6 .left))

@@ -1,5 +1,5 @@
 use borrow.Author.Needs.{needs}
-use mathlib.Core.Path.{_≡_, refl, sym, ap, _∙_}
+use mathlib.Core.Path.{_≡_, _∙_}
 use native.Mathlib.Omega.{arith}
 use Rattle.engine_table.proofs.Laws as laws
 use Prim.Native.Nat.{ℕ, _-_, _≤_, _<_}
@@ -17,49 +17,17 @@ Inv-loop s index words₀ k₀ words k = ((j : ℕ) → j < k → getD words j 0
 abbrev μ-loop : tie.MeasureT-loop
 μ-loop s index words₀ k₀ words k = 436 - k
 
--- src/lib.rt:200:5
-loop-holds : tie.Need-loop-holds Inv-loop μ-loop
-loop-holds c = (λ j h. absurd (omega arith), (length-replicate {A = ℕ} 436 0, omega arith))
-
--- src/lib.rt:201:20
-table-word-requires : tie.Need-table-word-requires Inv-loop μ-loop
-table-word-requires c κs = search needs
-
--- src/lib.rt:201:9
-mul-words : tie.Need-mul-words Inv-loop μ-loop
-mul-words c = search needs
-
--- src/lib.rt:201:9
-array-write-words : tie.Need-array-write-words Inv-loop μ-loop
-array-write-words c = search needs
-
--- src/lib.rt:202:9
-add-k : tie.Need-add-k Inv-loop μ-loop
-add-k c = search needs
-
--- src/lib.rt:200:5
-loop-less : tie.Need-loop-less Inv-loop μ-loop
-loop-less c = search needs
-
--- src/lib.rt:200:5
-loop-again : tie.Need-loop-again Inv-loop μ-loop
-loop-again c = (laws.one-more _ _ (c .before .before .loop .words) (c .before .before .loop .k) (c .table-word .result) (c .before .before .loop .inv .0) (omega (arith, c .before .before .loop .inv .1 .0, c .before .loop-test .taken)) (c .table-word .ensures), (length-set (c .before .before .loop .words) (c .before .before .loop .k) (c .table-word .result) ∙ c .before .before .loop .inv .1 .0, omega arith))
-
--- src/lib.rt:195:1
-returns : tie.Need-returns Inv-loop μ-loop
-returns c = record { words = λ k h. c .before .loop .inv .0 k (omega (arith, c .loop-test .left)) }
-
 pub table-of-spec : {M : Type 1} → statement M
 table-of-spec =
     tie.close
     (tie.spec
     Inv-loop
     μ-loop
-    loop-holds
-    table-word-requires
-    mul-words
-    array-write-words
-    add-k
-    loop-less
-    loop-again
-    returns)
+    (λ c. (λ j h. absurd (omega arith), (length-replicate {A = ℕ} 436 0, omega arith)))
+    (λ c κs. search needs)
+    (λ c. search needs)
+    (λ c. search needs)
+    (λ c. search needs)
+    (λ c. search needs)
+    (λ c. (laws.one-more _ _ (c .before .before .loop .words) (c .before .before .loop .k) (c .table-word .result) (c .before .before .loop .inv .0) (omega (arith, c .before .before .loop .inv .1 .0, c .before .loop-test .taken)) (c .table-word .ensures), (length-set (c .before .before .loop .words) (c .before .before .loop .k) (c .table-word .result) ∙ c .before .before .loop .inv .1 .0, omega arith)))
+    (λ c. record { words = λ k h. c .before .loop .inv .0 k (omega (arith, c .loop-test .left)) }))

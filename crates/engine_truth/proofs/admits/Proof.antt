@@ -1,7 +1,4 @@
-use borrow.Author.Needs.{needs}
-use mathlib.Core.Path.{_≡_, refl, sym, ap, _∙_}
-use native.Mathlib.Omega.{arith}
-use borrow.Author.Tests.{eq-eqb, ne-eqb, lt-ltb, le-ltb}
+use borrow.Author.Tests.{eq-eqb, ne-eqb}
 use Rattle.engine_truth.proofs.Laws as laws
 use Rattle.engine_truth.specs.Truths.{admitsT}
 use Rattle.engine_truth.proofs.admits.Statement.{statement}
@@ -9,12 +6,10 @@ use Rattle.engine_truth.proofs.admits.Tie as tie
 use Rattle.engine_truth.proofs.admits.Reads as reads
 use Rattle.engine_truth.proofs.admits.Lts as lts
 
--- src/lib.rt:122:9
 returns : tie.Need-returns
 unfolding admitsT
 returns c = rw (eq-eqb _ _ (c .if1 .taken))
 
--- src/lib.rt:118:1
 returns-2 : tie.Need-returns-2
 unfolding admitsT
 returns-2 c = rw (ne-eqb _ _ (c .if1 .left))

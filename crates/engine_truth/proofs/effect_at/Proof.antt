@@ -1,6 +1,4 @@
-use mathlib.Core.Path.{_≡_, refl, sym, ap, _∙_}
-use native.Mathlib.Omega.{arith}
-use borrow.Author.Tests.{eq-eqb, ne-eqb, lt-ltb, le-ltb}
+use borrow.Author.Tests.{eq-eqb, ne-eqb}
 use Rattle.engine_truth.proofs.Laws as laws
 use Rattle.engine_truth.specs.Actions.{effectA}
 use borrow.Author.Needs.{needs}
@@ -11,61 +9,30 @@ use Rattle.engine_truth.proofs.effect_at.Lts as lts
 use Rattle.engine_reads.proofs.four_at.Reads as four-at-reads
 use Rattle.engine_reads.proofs.two_at.Reads as two-at-reads
 
--- src/lib.rt:242:21
-two-at-requires : tie.Need-two-at-requires
-two-at-requires c κs = search needs
-
--- src/lib.rt:243:30
-add-two-at : tie.Need-add-two-at
-add-two-at c = search needs
-
--- src/lib.rt:243:20
-two-at-requires-2 : tie.Need-two-at-requires-2
-two-at-requires-2 c κs = search needs
-
--- src/lib.rt:241:9
 returns : tie.Need-returns
 unfolding effectA
 returns c = rw (eq-eqb _ _ (c .before .before .if1 .taken), ← (c .before .two-at .ensures .0), ← (c .two-at2 .ensures .0))
 
--- src/lib.rt:248:21
-two-at-requires-3 : tie.Need-two-at-requires-3
-two-at-requires-3 c κs = search needs
-
--- src/lib.rt:247:9
 returns-2 : tie.Need-returns-2
 unfolding effectA
 returns-2 c = rw (ne-eqb _ _ (c .before .before .if1 .left), eq-eqb _ _ (c .before .if2 .taken), ← (c .two-at3 .ensures .0))
 
--- src/lib.rt:253:22
-four-at-requires : tie.Need-four-at-requires
-four-at-requires c κs = search needs
-
--- src/lib.rt:252:9
 returns-3 : tie.Need-returns-3
 unfolding effectA
 returns-3 c = rw (ne-eqb _ _ (c .before .before .before .if1 .left), ne-eqb _ _ (c .before .before .if2 .left), eq-eqb _ _ (c .before .if3 .taken), ← (c .four-at .ensures))
 
--- src/lib.rt:257:9
 returns-4 : tie.Need-returns-4
 unfolding effectA
 returns-4 c = rw (ne-eqb _ _ (c .before .before .before .if1 .left), ne-eqb _ _ (c .before .before .if2 .left), ne-eqb _ _ (c .before .if3 .left), eq-eqb _ _ (c .if4 .taken))
 
--- src/lib.rt:260:9
 returns-5 : tie.Need-returns-5
 unfolding effectA
 returns-5 c = rw (ne-eqb _ _ (c .before .before .before .before .if1 .left), ne-eqb _ _ (c .before .before .before .if2 .left), ne-eqb _ _ (c .before .before .if3 .left), ne-eqb _ _ (c .before .if4 .left), eq-eqb _ _ (c .if5 .taken))
 
--- src/lib.rt:263:9
 returns-6 : tie.Need-returns-6
 unfolding effectA
 returns-6 c = rw (ne-eqb _ _ (c .before .before .before .before .before .if1 .left), ne-eqb _ _ (c .before .before .before .before .if2 .left), ne-eqb _ _ (c .before .before .before .if3 .left), ne-eqb _ _ (c .before .before .if4 .left), ne-eqb _ _ (c .before .if5 .left), eq-eqb _ _ (c .if6 .taken))
 
--- src/lib.rt:266:17
-two-at-requires-4 : tie.Need-two-at-requires-4
-two-at-requires-4 c κs = search needs
-
--- src/lib.rt:237:1
 returns-7 : tie.Need-returns-7
 unfolding effectA
 returns-7 c = rw (ne-eqb _ _ (c .before .before .before .before .before .before .if1 .left), ne-eqb _ _ (c .before .before .before .before .before .if2 .left), ne-eqb _ _ (c .before .before .before .before .if3 .left), ne-eqb _ _ (c .before .before .before .if4 .left), ne-eqb _ _ (c .before .before .if5 .left), ne-eqb _ _ (c .before .if6 .left), ← (c .two-at4 .ensures .0))
@@ -74,16 +41,16 @@ pub effect-at-spec : {M : Type 1} → statement M
 effect-at-spec =
     tie.close
     (tie.spec
-    two-at-requires
-    add-two-at
-    two-at-requires-2
+    (λ c κs. search needs)
+    (λ c. search needs)
+    (λ c κs. search needs)
     returns
-    two-at-requires-3
+    (λ c κs. search needs)
     returns-2
-    four-at-requires
+    (λ c κs. search needs)
     returns-3
     returns-4
     returns-5
     returns-6
-    two-at-requires-4
+    (λ c κs. search needs)
     returns-7)

@@ -1,7 +1,6 @@
 use borrow.Author.Needs.{needs}
-use mathlib.Core.Path.{_≡_, refl, sym, ap, _∙_}
+use mathlib.Core.Path.{_≡_, sym, _∙_}
 use native.Mathlib.Omega.{arith}
-use borrow.Author.Tests.{lt-ltb, le-ltb, eq-eqb, ne-eqb}
 use Rattle.model_check.proofs.Laws as checks
 use Rattle.model_validate.proofs.Laws as laws
 use Prim.Native.Nat.{_-_, _≤_}
@@ -18,74 +17,22 @@ Inv-loop s gaps count j₀ j = (gaps-bad (gaps .starts) s (gaps .count) 0 ≡ ga
 abbrev μ-loop : tie.MeasureT-loop
 μ-loop s gaps count j₀ j = count - j
 
--- src/lib.rt:244:17
-cast-count : tie.Need-cast-count Inv-loop μ-loop
-cast-count c = search needs
-
--- src/lib.rt:246:5
-loop-holds : tie.Need-loop-holds Inv-loop μ-loop
-loop-holds c = (laws.gaps-left _ _ _ (omega arith), omega arith)
-
--- src/lib.rt:247:17
-mul-p : tie.Need-mul-p Inv-loop μ-loop
-mul-p c = search needs
-
--- src/lib.rt:247:17
-element-copy-out-p : tie.Need-element-copy-out-p Inv-loop μ-loop
-element-copy-out-p c = search needs
-
--- src/lib.rt:248:13
-u32-at-requires : tie.Need-u32-at-requires Inv-loop μ-loop
-u32-at-requires c κs = search needs
-
--- src/lib.rt:249:21
-enum-known-x : tie.Need-enum-known-x Inv-loop μ-loop
-enum-known-x c = search needs
-
--- src/lib.rt:250:13
-enum-told : tie.Need-enum-told Inv-loop μ-loop
-enum-told c = search needs
-
--- src/lib.rt:250:13
-returns : tie.Need-returns Inv-loop μ-loop
-returns c = sym (c .before .before .before .before .before .loop .inv .0 ∙ laws.gaps-broken _ _ _ (c .before .before .u32-at .ensures) _ (omega arith) (c .enum-told .given .1))
-
--- src/lib.rt:253:13
-returns-2 : tie.Need-returns-2 Inv-loop μ-loop
-returns-2 c = sym (c .before .before .before .before .before .before .before .loop .inv .0 ∙ laws.gaps-long _ _ _ (c .before .before .before .before .u32-at .ensures) (c .before .before .x .given .1) _ (omega arith) (c .if1 .taken))
-
--- src/lib.rt:255:9
-add-j : tie.Need-add-j Inv-loop μ-loop
-add-j c = search needs
-
--- src/lib.rt:246:5
-loop-less : tie.Need-loop-less Inv-loop μ-loop
-loop-less c = search needs
-
--- src/lib.rt:246:5
-loop-again : tie.Need-loop-again Inv-loop μ-loop
-loop-again c = (c .before .before .before .before .before .before .before .loop .inv .0 ∙ laws.gaps-next _ _ _ (c .before .before .before .before .u32-at .ensures) (c .before .before .x .given .1) _ (omega arith) (c .if1 .left) ∙ laws.gaps-left _ _ _ (omega arith), omega arith)
-
--- src/lib.rt:240:1
-returns-3 : tie.Need-returns-3 Inv-loop μ-loop
-returns-3 c = sym (c .before .loop .inv .0 ∙ laws.gaps-end _ _ _ _ (omega arith))
-
 pub gaps-bad-spec : {M : Type 1} → statement M
 gaps-bad-spec =
     tie.close
     (tie.spec
     Inv-loop
     μ-loop
-    cast-count
-    loop-holds
-    mul-p
-    element-copy-out-p
-    u32-at-requires
-    enum-known-x
-    enum-told
-    returns
-    returns-2
-    add-j
-    loop-less
-    loop-again
-    returns-3)
+    (λ c. search needs)
+    (λ c. (laws.gaps-left _ _ _ (omega arith), omega arith))
+    (λ c. search needs)
+    (λ c. search needs)
+    (λ c κs. search needs)
+    (λ c. search needs)
+    (λ c. search needs)
+    (λ c. sym (c .before .before .before .before .before .loop .inv .0 ∙ laws.gaps-broken _ _ _ (c .before .before .u32-at .ensures) _ (omega arith) (c .enum-told .given .1)))
+    (λ c. sym (c .before .before .before .before .before .before .before .loop .inv .0 ∙ laws.gaps-long _ _ _ (c .before .before .before .before .u32-at .ensures) (c .before .before .x .given .1) _ (omega arith) (c .if1 .taken)))
+    (λ c. search needs)
+    (λ c. search needs)
+    (λ c. (c .before .before .before .before .before .before .before .loop .inv .0 ∙ laws.gaps-next _ _ _ (c .before .before .before .before .u32-at .ensures) (c .before .before .x .given .1) _ (omega arith) (c .if1 .left) ∙ laws.gaps-left _ _ _ (omega arith), omega arith))
+    (λ c. sym (c .before .loop .inv .0 ∙ laws.gaps-end _ _ _ _ (omega arith))))

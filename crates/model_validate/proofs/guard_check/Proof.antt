@@ -1,6 +1,4 @@
-use mathlib.Core.Path.{_≡_, refl, sym, ap, _∙_}
-use native.Mathlib.Omega.{arith}
-use borrow.Author.Tests.{lt-ltb, le-ltb, eq-eqb, ne-eqb}
+use mathlib.Core.Path.{sym, _∙_}
 use Rattle.model_check.proofs.Laws as checks
 use Rattle.model_validate.proofs.Laws as laws
 use borrow.Author.Needs.{needs}
@@ -12,77 +10,21 @@ use Rattle.model_check.proofs.value_check.Reads as value-check-reads
 use Rattle.model_validate.proofs.conditions_check.Reads as conditions-check-reads
 use Rattle.model_walk.proofs.u16_at.Reads as u16-at-reads
 
--- src/lib.rt:331:9
-u16-at-requires : tie.Need-u16-at-requires
-u16-at-requires c κs = search needs
-
--- src/lib.rt:332:17
-enum-known-x : tie.Need-enum-known-x
-enum-known-x c = search needs
-
--- src/lib.rt:333:9
-enum-told : tie.Need-enum-told
-enum-told c = search needs
-
--- src/lib.rt:333:9
-returns : tie.Need-returns
-returns c = sym (laws.guard-is _ _ _ _ ∙ checks.by-broken _ _ _ _ _ (c .before .before .u16-at .ensures) (c .enum-told .given .1))
-
--- src/lib.rt:335:9
-u16-at-requires-2 : tie.Need-u16-at-requires-2
-u16-at-requires-2 c κs = search needs
-
--- src/lib.rt:336:17
-enum-known-y : tie.Need-enum-known-y
-enum-known-y c = search needs
-
--- src/lib.rt:337:9
-enum-told-2 : tie.Need-enum-told-2
-enum-told-2 c = search needs
-
--- src/lib.rt:337:9
-returns-2 : tie.Need-returns-2
-returns-2 c = sym (laws.guard-is _ _ _ _ ∙ checks.by-is _ _ _ _ _ (c .before .before .before .before .before .before .u16-at .ensures) (c .before .before .before .before .x .given .1) ∙ checks.by-broken _ _ _ _ _ (c .before .before .u16-at2 .ensures) (c .enum-told2 .given .1))
-
--- src/lib.rt:339:9
-conditions-check-requires : tie.Need-conditions-check-requires
-conditions-check-requires c κs = search needs
-
--- src/lib.rt:340:21
-enum-known-a : tie.Need-enum-known-a
-enum-known-a c = search needs
-
--- src/lib.rt:341:9
-enum-told-3 : tie.Need-enum-told-3
-enum-told-3 c = search needs
-
--- src/lib.rt:341:9
-returns-3 : tie.Need-returns-3
-returns-3 c = sym (laws.guard-is _ _ _ _ ∙ checks.by-is _ _ _ _ _ (c .before .before .before .before .before .before .before .before .before .before .u16-at .ensures) (c .before .before .before .before .before .before .before .before .x .given .1) ∙ checks.by-is _ _ _ _ _ (c .before .before .before .before .before .before .u16-at2 .ensures) (c .before .before .before .before .y .given .1) ∙ checks.refused _ _ _ _ _ (c .before .before .conditions-check .ensures) (c .enum-told3 .given .1))
-
--- src/lib.rt:343:5
-value-check-requires : tie.Need-value-check-requires
-value-check-requires c κs = search needs
-
--- src/lib.rt:327:1
-returns-4 : tie.Need-returns-4
-returns-4 c = c .value-check .ensures ∙ sym (laws.guard-is _ _ _ _ ∙ checks.by-is _ _ _ _ _ (c .before .before .before .before .before .before .before .before .before .before .before .before .u16-at .ensures) (c .before .before .before .before .before .before .before .before .before .before .x .given .1) ∙ checks.by-is _ _ _ _ _ (c .before .before .before .before .before .before .before .before .u16-at2 .ensures) (c .before .before .before .before .before .before .y .given .1) ∙ checks.to _ _ _ _ _ (c .before .before .before .before .conditions-check .ensures) (c .before .before .a .given .1))
-
 pub guard-check-spec : {M : Type 1} → statement M
 guard-check-spec =
     tie.close
     (tie.spec
-    u16-at-requires
-    enum-known-x
-    enum-told
-    returns
-    u16-at-requires-2
-    enum-known-y
-    enum-told-2
-    returns-2
-    conditions-check-requires
-    enum-known-a
-    enum-told-3
-    returns-3
-    value-check-requires
-    returns-4)
+    (λ c κs. search needs)
+    (λ c. search needs)
+    (λ c. search needs)
+    (λ c. sym (laws.guard-is _ _ _ _ ∙ checks.by-broken _ _ _ _ _ (c .before .before .u16-at .ensures) (c .enum-told .given .1)))
+    (λ c κs. search needs)
+    (λ c. search needs)
+    (λ c. search needs)
+    (λ c. sym (laws.guard-is _ _ _ _ ∙ checks.by-is _ _ _ _ _ (c .before .before .before .before .before .before .u16-at .ensures) (c .before .before .before .before .x .given .1) ∙ checks.by-broken _ _ _ _ _ (c .before .before .u16-at2 .ensures) (c .enum-told2 .given .1)))
+    (λ c κs. search needs)
+    (λ c. search needs)
+    (λ c. search needs)
+    (λ c. sym (laws.guard-is _ _ _ _ ∙ checks.by-is _ _ _ _ _ (c .before .before .before .before .before .before .before .before .before .before .u16-at .ensures) (c .before .before .before .before .before .before .before .before .x .given .1) ∙ checks.by-is _ _ _ _ _ (c .before .before .before .before .before .before .u16-at2 .ensures) (c .before .before .before .before .y .given .1) ∙ checks.refused _ _ _ _ _ (c .before .before .conditions-check .ensures) (c .enum-told3 .given .1)))
+    (λ c κs. search needs)
+    (λ c. c .value-check .ensures ∙ sym (laws.guard-is _ _ _ _ ∙ checks.by-is _ _ _ _ _ (c .before .before .before .before .before .before .before .before .before .before .before .before .u16-at .ensures) (c .before .before .before .before .before .before .before .before .before .before .x .given .1) ∙ checks.by-is _ _ _ _ _ (c .before .before .before .before .before .before .before .before .u16-at2 .ensures) (c .before .before .before .before .before .before .y .given .1) ∙ checks.to _ _ _ _ _ (c .before .before .before .before .conditions-check .ensures) (c .before .before .a .given .1))))
