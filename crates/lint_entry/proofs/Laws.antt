@@ -1,0 +1,136 @@
+-- The laws that the proofs of the order of entries cite.
+use mathlib.Core.Path.{_≡_, refl, ap, _∙_}
+use mathlib.Core.Bool.{Bool, true, false}
+use mathlib.Core.List.{List, [], _∷_}
+use native.Mathlib.Omega.{arith}
+use Prim.Native.Nat.{ℕ, suc, _+_, _-_, _^_, _≤_, _<_}
+use lib.Bits.{bitOr}
+use lib.ListN.{getD, set, replicate}
+use borrow.Author.Tests.{lt-ltb, le-ltb}
+use Rattle.model_parts.specs.declared.Section.{Section}
+use Rattle.lint_walk.specs.declared.Walk.{Walk}
+use Rattle.lint_walk.specs.Raw.{placeZ, numberZ, past, kindZ}
+use Rattle.lint_walk.specs.Walks.{walkW}
+use Rattle.lint_touches.specs.Sets.{readsS, writesS}
+use Rattle.lint_board.specs.Board.{finding, Board, pushes}
+use Rattle.lint_reach.specs.declared.Components.{Components}
+use Rattle.lint_reach.specs.Sets.{holds}
+use Rattle.lint_reach.specs.Steps.{Square}
+use Rattle.lint_reach.specs.Cycles.{Cycles}
+use Rattle.lint_tests.specs.declared.Names.{Names}
+use Rattle.lint_tests.specs.Tests.{anyL, highestZ, leadsZ}
+use Rattle.lint_findings.specs.declared.About.{About}
+use Rattle.lint_findings.specs.Entries.{itemsN, valueZ, ruleItems, pairItems}
+use Rattle.lint_findings.proofs.Laws.{numbers-start}
+use Rattle.lint_entry.specs.Order.{aboutAt, ruleAt, rulesItems, pairAt, laterItems, opposingItems, actionLeadsZ, leadsToZ, fillL, rowZ, edgesZ, cycleWritesFrom, cycleWritesZ, cycleZ, cyclesItems}
+
+module _ (s : List ℕ) where
+  pub about-is : (e : Section) (i source writes : ℕ) {l q c b t : ℕ} → l ≡ numberZ s source → q ≡ past s source 4 → c ≡ numberZ s q → b ≡ bitOr 0 (2 ^ i) → t ≡ highestZ s e writes →
+      record { number = i; set = b; tier = t; line = l; column = c } ≡ aboutAt s e i source writes
+  unfolding aboutAt
+  about-is e i source writes d f g h k = rw (d, g, f, h, k)
+
+  pub rule-is : (d : Names) (rules : Section) (i : ℕ) {w : Walk} {writes reads : ℕ} {a : About} (x : Board) {y : Board} →
+      w ≡ walkW s (getD (rules .starts) i 0) → writes ≡ writesS s (d .entities) w → reads ≡ readsS s (d .entities) (getD (rules .starts) i 0) w → a ≡ aboutAt s (d .entities) i (w .next) writes →
+      y ≡ pushes (ruleItems s d rules a (getD (rules .starts) i 0) w reads writes) x → y ≡ pushes (ruleAt s d rules i) x
+  unfolding ruleAt
+  rule-is d rules i x e f g h k = rw (← e) (rw (← f) (rw (← g) (rw (← h) k)))
+
+  pub rules-is : (d : Names) (rules : Section) (x : Board) → pushes (rulesItems s d rules) x ≡ pushes (itemsN (ruleAt s d rules) (rules .count - 0) 0) x
+  unfolding rulesItems
+  rules-is d rules x = numbers-start (ruleAt s d rules) {n = rules .count} {m = rules .count} x refl
+
+  pub pair-is : (d : Names) (rules : Section) (i : ℕ) (v : Walk) (j : ℕ) {w : Walk} {a b : ℕ} (x : Board) {y : Board} →
+      w ≡ walkW s (getD (rules .starts) j 0) → a ≡ bitOr 0 (2 ^ i) → b ≡ bitOr a (2 ^ j) → y ≡ pushes (pairItems s d b v w) x → y ≡ pushes (pairAt s d rules i v j) x
+  unfolding pairAt
+  pair-is d rules i v j x e f g h = rw (← e) (rw (← f) (rw (← g) h))
+
+  pub later-is : (d : Names) (rules : Section) (i : ℕ) {v : Walk} (x : Board) → v ≡ walkW s (getD (rules .starts) i 0) → pushes (laterItems s d rules i) x ≡ pushes (itemsN (pairAt s d rules i v) (rules .count - (i + 1)) (i + 1)) x
+  unfolding laterItems
+  later-is d rules i x e = rw e
+
+  pub opposing-is : (d : Names) (rules : Section) (x : Board) → pushes (opposingItems s d rules) x ≡ pushes (itemsN (laterItems s d rules) (rules .count - 0) 0) x
+  unfolding opposingItems
+  opposing-is d rules x = numbers-start (laterItems s d rules) {n = rules .count} {m = rules .count} x refl
+
+  module _ (star p a : ℕ) {k : ℕ} (h : k ≡ kindZ s a) where
+    pub action-no : 1 < k → actionLeadsZ s star p a ≡ false
+    unfolding actionLeadsZ
+    action-no i = rw (← h) (rw (lt-ltb 1 k i))
+
+    pub action-is : {q x v : ℕ} → k ≤ 1 → q ≡ past s a 9 → x ≡ placeZ s q → v ≡ valueZ s star a → leadsZ s star x v p ≡ actionLeadsZ s star p a
+    unfolding actionLeadsZ
+    action-is i d e f = rw (← h) (rw (le-ltb 1 k i) (rw (f, e, d)))
+
+  pub leads-is : (star : ℕ) (w : Walk) (p : ℕ) → leadsToZ s star w p ≡ anyL (actionLeadsZ s star p) (w .list) (w .count) 0
+  unfolding leadsToZ
+  leads-is star w p = refl
+
+  pub row-is : (star : ℕ) (rules : Section) (w : Walk) → rowZ s star rules w ≡ fillL (λ j. leadsToZ s star w (getD (rules .starts) j 0)) (rules .count - 0) 0 (replicate 32 false)
+  unfolding rowZ
+  row-is star rules w =
+      let m : rules .count - 0 ≡ rules .count = omega arith in
+      rw m
+
+  pub edges-is : (star : ℕ) (rules : Section) → edgesZ s star rules ≡ fillL (λ i. rowZ s star rules (walkW s (getD (rules .starts) i 0))) (rules .count - 0) 0 (replicate 32 (replicate 32 false))
+  unfolding edgesZ
+  edges-is star rules =
+      let m : rules .count - 0 ≡ rules .count = omega arith in
+      rw m
+
+  pub edge-row : (star : ℕ) (rules : Section) (i : ℕ) {w : Walk} {r : List Bool} → w ≡ walkW s (getD (rules .starts) i 0) → r ≡ rowZ s star rules w → r ≡ rowZ s star rules (walkW s (getD (rules .starts) i 0))
+  edge-row star rules i e f = f ∙ ap (rowZ s star rules) e
+
+  module _ (e rules : Section) (z : ℕ) where
+    pub writes-start : cycleWritesZ s e rules z ≡ cycleWritesFrom s e rules z (rules .count - 0) 0 0
+    unfolding cycleWritesZ
+    writes-start =
+        let m : rules .count - 0 ≡ rules .count = omega arith in
+        rw m
+
+    module _ (n i x : ℕ) (h : i < n) {r : Bool} (f : r ≡ holds z i) where
+      pub writes-yes : {w : Walk} {y u : ℕ} → r ≡ true → w ≡ walkW s (getD (rules .starts) i 0) → y ≡ writesS s e w → u ≡ bitOr x y →
+          cycleWritesFrom s e rules z (n - i) i x ≡ cycleWritesFrom s e rules z (n - (i + 1)) (i + 1) u
+      unfolding cycleWritesFrom
+      writes-yes a b c d =
+          let m : n - i ≡ suc (n - (i + 1)) = omega arith in
+          rw (d, c, b) (rw (m, cycleWritesFrom) (rw (← f) (rw a)))
+
+      pub writes-no : r ≡ false → cycleWritesFrom s e rules z (n - i) i x ≡ cycleWritesFrom s e rules z (n - (i + 1)) (i + 1) x
+      unfolding cycleWritesFrom
+      writes-no a =
+          let m : n - i ≡ suc (n - (i + 1)) = omega arith in
+          rw (m, cycleWritesFrom) (rw (← f) (rw a))
+
+    pub writes-end : (n i x : ℕ) → n ≤ i → cycleWritesFrom s e rules z (n - i) i x ≡ x
+    unfolding cycleWritesFrom
+    writes-end n i x h =
+        let m : n - i ≡ 0 = omega arith in
+        rw m
+
+    pub cycle-is : {y t : ℕ} → y ≡ cycleWritesZ s e rules z → t ≡ highestZ s e y → (5 ∷ 1 ∷ t ∷ 0 ∷ z ∷ 0 ∷ 0 ∷ 0 ∷ 0 ∷ 0 ∷ 0 ∷ 0 ∷ 0 ∷ 0 ∷ []) ≡ cycleZ s e rules z
+    unfolding cycleZ
+    cycle-is a b = rw (b, a)
+
+  pub cycles-is : (e rules : Section) (c : Components) (x : Board) → pushes (cyclesItems s e rules c) x ≡ pushes (itemsN (λ k. finding (cycleZ s e rules (getD (c .sets) k 0)) ∷ []) (c .count - 0) 0) x
+  unfolding cyclesItems
+  cycles-is e rules c x = numbers-start (λ k. finding (cycleZ s e rules (getD (c .sets) k 0)) ∷ []) {n = c .count} {m = c .count} x refl
+
+pub one-finding : {w v : List ℕ} (x : Board) {y : Board} → w ≡ v → y ≡ pushes (finding w ∷ []) x → y ≡ pushes (finding v ∷ []) x
+one-finding x e f = rw (← e) f
+
+module _ {A : Type 0} (f : ℕ → A) (n k : ℕ) (l : List A) where
+  pub fill-more : {a : A} → k < n → a ≡ f k → fillL f (n - k) k l ≡ fillL f (n - (k + 1)) (k + 1) (set l k a)
+  unfolding fillL
+  fill-more h e =
+      let m : n - k ≡ suc (n - (k + 1)) = omega arith in
+      rw (e, m)
+
+  pub fill-end : n ≤ k → fillL f (n - k) k l ≡ l
+  unfolding fillL
+  fill-end h =
+      let m : n - k ≡ 0 = omega arith in
+      rw m
+
+pub few : (e : Square) (n : ℕ) (c : Components) → Cycles e n c → n ≤ 32 → c .count ≤ 32
+few e n c h k = omega (arith, h .few)

@@ -1,0 +1,219 @@
+-- The laws that the proofs of findings cite.
+use mathlib.Core.Path.{_≡_, refl, sym, ap, _∙_}
+use mathlib.Core.Bool.{Bool, true, false}
+use mathlib.Core.List.{List, [], _∷_}
+use Prim.Native.Nat.{ℕ, zero, suc, _+_, _-_, _≤_, _<_}
+use native.Mathlib.Numerals.{sub-one}
+use native.Mathlib.Omega.{arith}
+use lib.Dec.{ltb}
+use lib.Count.{ones}
+use lib.ListN.{getD}
+use borrow.Author.Tests.{lt-ltb, le-ltb, le-leb, lt-leb, eq-eqb, ne-eqb}
+use Rattle.model_parts.specs.declared.Section.{Section}
+use Rattle.model_check.specs.Checks.{number-of}
+use Rattle.lint_reach.specs.Sets.{holds}
+use Rattle.lint_walk.specs.declared.Walk.{Walk}
+use Rattle.lint_walk.specs.Raw.{placeZ, numberZ, past, predicatesEnd, kindZ, conditionsZ}
+use Rattle.lint_walk.specs.Walks.{listEnd}
+use Rattle.lint_board.specs.Board.{Item, finding, interaction, Board, pushes, onlyIf}
+use Rattle.lint_board.proofs.Laws.{pushes-append, next}
+use Rattle.lint_tests.specs.declared.Names.{Names}
+use Rattle.lint_tests.specs.Tests.{contradictoryZ, mismatchedZ, delaysZ, staleZ, tierZ, unguardedZ, leadsZ, opposedZ}
+use Rattle.lint_findings.specs.declared.About.{About}
+use Rattle.lint_findings.specs.Entries.{itemsN, itemsP, aboutZ, actionZ, delayedZ, ownItems, branchItems, branchesAt, branchesItems, staleHereZ, freshItems, valueZ, riskyZ, interactItems, fanoutItems, writeItems, writesItems, firstItems, ruleItems, spelledZ, pairZ, opposeItems, rowItems, pairItems}
+
+-- ---- loops: what is left to insert
+
+module _ (f : ℕ → List Item) (n k : ℕ) where
+  pub numbers-more : (a : Board) {b : Board} → k < n → b ≡ pushes (f k) a → pushes (itemsN f (n - k) k) a ≡ pushes (itemsN f (n - (k + 1)) (k + 1)) b
+  unfolding itemsN
+  numbers-more a h e =
+      let m : n - k ≡ suc (n - (k + 1)) = omega arith in
+      rw (m, itemsN) (pushes-append (f k) (itemsN f (n - (k + 1)) (k + 1)) a ∙ ap (pushes (itemsN f (n - (k + 1)) (k + 1))) (sym e))
+
+  pub numbers-end : (a : Board) → n ≤ k → pushes (itemsN f (n - k) k) a ≡ a
+  unfolding itemsN pushes
+  numbers-end a h =
+      let m : n - k ≡ 0 = omega arith in
+      rw m
+
+pub numbers-start : (f : ℕ → List Item) {n m : ℕ} (a : Board) → m ≡ n → pushes (itemsN f n 0) a ≡ pushes (itemsN f (m - 0) 0) a
+numbers-start f {n} {m} a e =
+    let z : m - 0 ≡ m = omega arith in
+    rw (z, e)
+
+module _ (f : ℕ → List Item) (end : ℕ → ℕ) where
+  pub parts-more : (n p : ℕ) (a : Board) {b : Board} {q : ℕ} → 0 < n → b ≡ pushes (f p) a → q ≡ end p → pushes (itemsP f end n p) a ≡ pushes (itemsP f end (n - 1) q) b
+  unfolding itemsP
+  parts-more zero p a h e g = absurd (omega arith)
+  parts-more (suc n) p a h e g = rw (sub-one (suc n), g) (pushes-append (f p) (itemsP f end n (end p)) a ∙ ap (pushes (itemsP f end n (end p))) (sym e))
+
+  pub parts-end : (n p : ℕ) (a : Board) → n ≤ 0 → pushes (itemsP f end n p) a ≡ a
+  unfolding itemsP pushes
+  parts-end zero p a h = refl
+  parts-end (suc n) p a h = absurd (omega arith)
+
+-- the test and the words of an entry, as the code has them
+pub with-finding : {t u : Bool} {w x : List ℕ} (a : Board) {b : Board} → t ≡ u → w ≡ x → b ≡ pushes (onlyIf t (finding w)) a → b ≡ pushes (onlyIf u (finding x)) a
+with-finding a e f h = rw (← e, ← f) h
+
+pub with-interaction : {t u : Bool} (w : List ℕ) (a : Board) {b : Board} → t ≡ u → b ≡ pushes (onlyIf t (interaction w)) a → b ≡ pushes (onlyIf u (interaction w)) a
+with-interaction w a e h = rw (← e) h
+
+-- ---- words
+
+pub about-is : (a : About) (code certainty entity line column : ℕ) → (code ∷ certainty ∷ a .tier ∷ entity ∷ a .set ∷ line ∷ column ∷ 0 ∷ 0 ∷ 0 ∷ 0 ∷ 0 ∷ 0 ∷ 0 ∷ []) ≡ aboutZ a code certainty entity line column
+unfolding aboutZ
+about-is a code certainty entity line column = refl
+
+module _ (s : List ℕ) where
+  pub action-is : (a : About) (code certainty entity p : ℕ) {l q m : ℕ} → l ≡ numberZ s p → q ≡ past s p 4 → m ≡ numberZ s q → aboutZ a code certainty entity l m ≡ actionZ s a code certainty entity p
+  unfolding actionZ
+  action-is a code certainty entity p d e f = rw (f, e, d)
+
+  pub delayed-no : (w : Walk) (writes : ℕ) → writes ≡ 0 → delayedZ s w writes ≡ false
+  unfolding delayedZ
+  delayed-no w writes h = rw (eq-eqb writes 0 h)
+
+  pub delayed-is : (w : Walk) (writes : ℕ) → (writes ≡ 0 → ⊥) → delaysZ s w ≡ delayedZ s w writes
+  unfolding delayedZ
+  delayed-is w writes h = rw (ne-eqb writes 0 h)
+
+  pub own-is : (a : About) (p : ℕ) (w : Walk) (writes : ℕ) (x : Board) {y z u : Board} →
+      y ≡ pushes (onlyIf (contradictoryZ s (conditionsZ s p)) (finding (aboutZ a 0 0 0 (a .line) (a .column)))) x →
+      z ≡ pushes (onlyIf (mismatchedZ s p) (finding (aboutZ a 1 1 0 (a .line) (a .column)))) y →
+      u ≡ pushes (onlyIf (delayedZ s w writes) (finding (aboutZ a 2 1 0 (a .line) (a .column)))) z →
+      u ≡ pushes (ownItems s a p w writes) x
+  unfolding ownItems
+  own-is a p w writes x d e f = next _ _ x (next _ _ x d e) f
+
+  pub branch-is : (a : About) (p : ℕ) {o n q : ℕ} {w : List ℕ} (x : Board) → w ≡ actionZ s a 3 0 0 p → o ≡ past s p 9 → n ≡ placeZ s o → q ≡ past s o 2 →
+      pushes (branchItems s a p) x ≡ pushes (itemsP (λ q. onlyIf (contradictoryZ s q) (finding w)) (λ q. listEnd s (predicatesEnd s q)) n q) x
+  unfolding branchItems
+  branch-is a p x i d e f = rw (i, f, e, d)
+
+  pub branches-is : (a : About) (w : Walk) (x : Board) → pushes (branchesItems s a w) x ≡ pushes (itemsN (branchesAt s a w) (w .count - 0) 0) x
+  unfolding branchesItems
+  branches-is a w x = numbers-start (branchesAt s a w) {n = w .count} {m = w .count} x refl
+
+  module _ (a : About) (w : Walk) (k : ℕ) {i : ℕ} (d : i ≡ kindZ s (getD (w .list) k 0)) (x : Board) where
+    pub at-choice : {y : Board} → i ≡ 4 → y ≡ pushes (branchItems s a (getD (w .list) k 0)) x → y ≡ pushes (branchesAt s a w k) x
+    unfolding branchesAt
+    at-choice h e = rw (← d) (rw (eq-eqb i 4 h) e)
+
+    pub at-other : (i ≡ 4 → ⊥) → x ≡ pushes (branchesAt s a w k) x
+    unfolding branchesAt pushes
+    at-other h = rw (← d) (rw (ne-eqb i 4 h))
+
+  module _ (e : Section) (reads k : ℕ) {r : Bool} (d : r ≡ holds reads k) where
+    pub stale-yes : r ≡ true → staleZ s (getD (e .starts) k 0) ≡ staleHereZ s e reads k
+    unfolding staleHereZ
+    stale-yes h = rw (← d) (rw h)
+
+    pub stale-no : r ≡ false → staleHereZ s e reads k ≡ false
+    unfolding staleHereZ
+    stale-no h = rw (← d) (rw h)
+
+  pub fresh-is : (a : About) (e : Section) (reads : ℕ) (x : Board) → pushes (freshItems s a e reads) x ≡ pushes (itemsN (λ k. onlyIf (staleHereZ s e reads k) (finding (aboutZ a 6 1 k (a .line) (a .column)))) (e .count - 0) 0) x
+  unfolding freshItems
+  fresh-is a e reads x = numbers-start (λ k. onlyIf (staleHereZ s e reads k) (finding (aboutZ a 6 1 k (a .line) (a .column)))) {n = e .count} {m = e .count} x refl
+
+  module _ (star p : ℕ) {k : ℕ} (d : k ≡ kindZ s p) where
+    pub value-star : k ≡ 1 → star ≡ valueZ s star p
+    unfolding valueZ
+    value-star h = rw (← d) (rw (eq-eqb k 1 h))
+
+    pub value-set : {q v : ℕ} → (k ≡ 1 → ⊥) → q ≡ past s p 11 → v ≡ placeZ s q → v ≡ valueZ s star p
+    unfolding valueZ
+    value-set h e f = rw (← d) (rw (ne-eqb k 1 h) (f ∙ ap (placeZ s) e))
+
+  module _ (n : Names) (x v e : ℕ) {t : ℕ} (d : t ≡ tierZ s (getD (n .entities .starts) e 0)) where
+    pub risky-low : t < 2 → riskyZ s n x v e ≡ false
+    unfolding riskyZ
+    risky-low h = rw (← d) (rw (lt-ltb t 2 h))
+
+    pub risky-is : 2 ≤ t → unguardedZ s n x v ≡ riskyZ s n x v e
+    unfolding riskyZ
+    risky-is h = rw (← d) (rw (le-ltb t 2 h))
+
+  pub interact-is : (from : ℕ) (rules : Section) (star x v e : ℕ) (y : Board) →
+      pushes (interactItems s from rules star x v e) y ≡ pushes (itemsN (λ k. onlyIf (leadsZ s star x v (getD (rules .starts) k 0)) (interaction (from ∷ k ∷ e ∷ []))) (rules .count - 0) 0) y
+  unfolding interactItems
+  interact-is from rules star x v e y = numbers-start (λ k. onlyIf (leadsZ s star x v (getD (rules .starts) k 0)) (interaction (from ∷ k ∷ e ∷ []))) {n = rules .count} {m = rules .count} y refl
+
+  -- ---- writes
+
+  module _ (d : Names) (rules : Section) (a : About) (p : ℕ) (y : Board) {k : ℕ} (h : k ≡ kindZ s p) where
+    pub write-none : 1 < k → y ≡ pushes (writeItems s d rules a p) y
+    unfolding writeItems pushes
+    write-none i = rw (← h) (rw (lt-ltb 1 k i))
+
+    module _ (i : k ≤ 1) {o x e : ℕ} (f : o ≡ past s p 9) (g : x ≡ placeZ s o) (n : e ≡ number-of (d .entities) x s) where
+      pub write-undeclared : d .entities .count ≤ e → y ≡ pushes (writeItems s d rules a p) y
+      unfolding writeItems pushes
+      write-undeclared j = rw (← h) (rw (le-ltb 1 k i) (rw (← f) (rw (← g) (rw (← n) (rw (le-leb (d .entities .count) e j))))))
+
+      pub write-is : {v : ℕ} {z u : Board} → e < d .entities .count → v ≡ valueZ s (d .star) p → z ≡ pushes (onlyIf (riskyZ s d x v e) (finding (actionZ s a 7 1 e p))) y →
+          u ≡ pushes (interactItems s (a .number) rules (d .star) x v e) z → u ≡ pushes (writeItems s d rules a p) y
+      unfolding writeItems
+      write-is {v} j m b c = rw (← h) (rw (le-ltb 1 k i) (rw (← f) (rw (← g) (rw (← n) (rw (lt-leb (d .entities .count) e j) (rw (← m)
+          (next (onlyIf (riskyZ s d x v e) (finding (actionZ s a 7 1 e p))) (interactItems s (a .number) rules (d .star) x v e) y b c)))))))
+
+  pub writes-is : (d : Names) (rules : Section) (a : About) (w : Walk) (x : Board) → pushes (writesItems s d rules a w) x ≡ pushes (itemsN (λ k. writeItems s d rules a (getD (w .list) k 0)) (w .count - 0) 0) x
+  unfolding writesItems
+  writes-is d rules a w x = numbers-start (λ k. writeItems s d rules a (getD (w .list) k 0)) {n = w .count} {m = w .count} x refl
+
+  pub first-is : (a : About) (p : ℕ) (w : Walk) (writes : ℕ) (x : Board) {b c e : Board} →
+      b ≡ pushes (ownItems s a p w writes) x → c ≡ pushes (branchesItems s a w) b → e ≡ pushes (onlyIf (ltb 8 (ones writes)) (finding (aboutZ a 4 1 0 (a .line) (a .column)))) c →
+      e ≡ pushes (firstItems s a p w writes) x
+  unfolding firstItems fanoutItems
+  first-is a p w writes x i j k = next _ _ x (next _ _ x i j) k
+
+  pub rule-is : (d : Names) (rules : Section) (a : About) (p : ℕ) (w : Walk) (reads writes : ℕ) (x : Board) {e f g : Board} →
+      e ≡ pushes (firstItems s a p w writes) x → f ≡ pushes (freshItems s a (d .entities) reads) e → g ≡ pushes (writesItems s d rules a w) f → g ≡ pushes (ruleItems s d rules a p w reads writes) x
+  unfolding ruleItems
+  rule-is d rules a p w reads writes x k l m = next _ _ x (next _ _ x k l) m
+
+  -- ---- pairs
+
+  pub pair-is : (es : Section) (set e p q : ℕ) {t t′ l o c l′ o′ c′ : ℕ} → t ≡ tierZ s (getD (es .starts) e 0) → t′ ≡ spelledZ t → l ≡ numberZ s p → o ≡ past s p 4 → c ≡ numberZ s o → l′ ≡ numberZ s q → o′ ≡ past s q 4 → c′ ≡ numberZ s o′ →
+      (8 ∷ 1 ∷ t′ ∷ e ∷ set ∷ l ∷ c ∷ l′ ∷ c′ ∷ 0 ∷ 0 ∷ 0 ∷ 0 ∷ 0 ∷ []) ≡ pairZ s es set e p q
+  unfolding pairZ
+  pair-is es set e p q h h′ i j k i′ j′ k′ = rw (h′, h, i, k, j, i′, k′, j′)
+
+  module _ (d : Names) (set p q : ℕ) (b : Board) {k : ℕ} (h : k ≡ kindZ s p) where
+    pub oppose-first : 1 < k → b ≡ pushes (opposeItems s d set p q) b
+    unfolding opposeItems pushes
+    oppose-first i = rw (← h) (rw (lt-ltb 1 k i))
+
+    module _ (i : k ≤ 1) {m : ℕ} (h′ : m ≡ kindZ s q) where
+      pub oppose-second : 1 < m → b ≡ pushes (opposeItems s d set p q) b
+      unfolding opposeItems pushes
+      oppose-second j = rw (← h) (rw (le-ltb 1 k i) (rw (← h′) (rw (lt-ltb 1 m j))))
+
+      module _ (j : m ≤ 1) {o x e : ℕ} (f : o ≡ past s p 9) (g : x ≡ placeZ s o) (n : e ≡ number-of (d .entities) x s) where
+        pub oppose-undeclared : d .entities .count ≤ e → b ≡ pushes (opposeItems s d set p q) b
+        unfolding opposeItems pushes
+        oppose-undeclared z = rw (← h) (rw (le-ltb 1 k i) (rw (← h′) (rw (le-ltb 1 m j) (rw (← f) (rw (← g) (rw (← n) (rw (le-leb (d .entities .count) e z))))))))
+
+        pub oppose-is : {r y v u : ℕ} {t : Bool} {w : List ℕ} {c : Board} → e < d .entities .count → r ≡ past s q 9 → y ≡ placeZ s r → v ≡ valueZ s (d .star) p → u ≡ valueZ s (d .star) q →
+            t ≡ opposedZ (d .star) x v y u → w ≡ pairZ s (d .entities) set e p q → c ≡ pushes (onlyIf t (finding w)) b → c ≡ pushes (opposeItems s d set p q) b
+        unfolding opposeItems
+        oppose-is z a₁ a₂ a₃ a₄ a₅ a₆ a₇ =
+            rw (← h) (rw (le-ltb 1 k i) (rw (← h′) (rw (le-ltb 1 m j) (rw (← f) (rw (← g) (rw (← n) (rw (lt-leb (d .entities .count) e z) (rw (← a₁) (rw (← a₂) (rw (← a₃, ← a₄) (rw (← a₅, ← a₆) a₇)))))))))))
+
+  pub row-is : (d : Names) (set : ℕ) (w : Walk) (p : ℕ) (x : Board) → pushes (rowItems s d set w p) x ≡ pushes (itemsN (λ k. opposeItems s d set p (getD (w .list) k 0)) (w .count - 0) 0) x
+  unfolding rowItems
+  row-is d set w p x = numbers-start (λ k. opposeItems s d set p (getD (w .list) k 0)) {n = w .count} {m = w .count} x refl
+
+  pub pairs-is : (d : Names) (set : ℕ) (v w : Walk) (x : Board) → pushes (pairItems s d set v w) x ≡ pushes (itemsN (λ k. rowItems s d set w (getD (v .list) k 0)) (v .count - 0) 0) x
+  unfolding pairItems
+  pairs-is d set v w x = numbers-start (λ k. rowItems s d set w (getD (v .list) k 0)) {n = v .count} {m = v .count} x refl
+
+pub spelled-yes : (t : ℕ) → t ≡ 3 → 4 ≡ spelledZ t
+unfolding spelledZ
+spelled-yes t h = rw h
+
+pub spelled-no : (t : ℕ) → (t ≡ 3 → ⊥) → t ≡ spelledZ t
+unfolding spelledZ
+spelled-no t h = rw (ne-eqb t 3 h)

@@ -1,0 +1,35 @@
+use borrow.Author.Needs.{needs}
+use mathlib.Core.Path.{_≡_, refl, sym, _∙_}
+use Prim.Native.Nat.{_-_}
+use lib.ListN.{length, getD}
+use Rattle.lint_board.specs.Board.{board, pushes}
+use Rattle.lint_findings.proofs.Laws as laws
+use Rattle.lint_findings.specs.Entries.{itemsN, writeItems, writesItems}
+use Rattle.lint_findings.proofs.writes_findings.Statement.{statement}
+use Rattle.lint_findings.proofs.writes_findings.Tie as tie
+use Rattle.lint_findings.proofs.writes_findings.Reads as reads
+use Rattle.lint_findings.proofs.writes_findings.Lts as lts
+use Rattle.lint_findings.proofs.write_findings.Reads as write-findings-reads
+
+abbrev Inv-loop : tie.InvT-loop
+Inv-loop s names rules a findings₀ interactions₀ w count out₀ k₀ findings interactions out k = (pushes (writesItems s names rules a w) (board findings₀ interactions₀ out₀) ≡ pushes (itemsN (λ k. writeItems s names rules a (getD (w .list) k 0)) (count - k) k) (board findings interactions out)) × ((length findings ≡ length findings₀) × (length interactions ≡ length interactions₀))
+
+abbrev μ-loop : tie.MeasureT-loop
+μ-loop s names rules a findings₀ interactions₀ w count out₀ k₀ findings interactions out k = count - k
+
+pub writes-findings-spec : {M : Type 1} → statement M
+writes-findings-spec =
+    tie.close
+    (tie.spec
+    Inv-loop
+    μ-loop
+    (λ c. (laws.writes-is _ _ _ _ _ _, (refl, refl)))
+    (λ c. search needs)
+    (λ c. search needs)
+    (λ c κs. search needs)
+    (λ c. search needs)
+    (λ c. search needs)
+    (λ c. (c .before .before .before .before .before .before .before .before .before .loop .inv .0 ∙ laws.numbers-more _ _ _ _ (c .before .before .before .before .before .before .before .before .loop-test .taken) (c .before .before .before .before .write-findings .ensures), search needs))
+    (λ c. search needs)
+    (λ c. search needs)
+    (λ c. sym (c .before .loop .inv .0 ∙ laws.numbers-end _ _ _ _ (c .loop-test .left))))

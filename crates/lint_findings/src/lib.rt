@@ -1,0 +1,452 @@
+// The findings and interactions of each automation, in the order in which Rust adds them.
+use lint_board::Out;
+use lint_tests::Names;
+use lint_walk::Walk;
+use model_parts::Section;
+ghost use mathlib.Core.Path.{_≡_};
+ghost use mathlib.Core.List.{List};
+ghost use Prim.Native.Nat.{ℕ, _≤_, _<_, _+_, _-_};
+ghost use lib.ListN.{length};
+ghost use Rattle.lint_board.specs.Board.{board, pushes};
+ghost use Rattle.lint_findings.specs.Entries.{aboutZ, actionZ, delayedZ, ownItems, branchItems, branchesItems, staleHereZ, freshItems, valueZ, riskyZ, interactItems, writeItems, writesItems, firstItems, ruleItems, spelledZ, pairZ, opposeItems, rowItems, pairItems};
+
+// An automation: its number, the set of it alone, the highest tier that it writes, its source.
+pub struct About {
+    pub number: u32,
+    pub set: u32,
+    pub tier: u32,
+    pub line: u32,
+    pub column: u32,
+}
+
+// ---- words of findings
+
+// A finding about one automation: code, certainty, tier, entity, automations, source, no second source, no reason.
+fn finding(a: About, code: u32, certainty: u32, entity: u32, line: u32, column: u32) -> [u32; 14]
+    ensures { λ w. ⌜ w ≡ aboutZ a code certainty entity line column ⌝ }
+{
+    [
+        code,
+        certainty,
+        a.tier,
+        entity,
+        a.set,
+        line,
+        column,
+        0,
+        0,
+        0,
+        0,
+        0,
+        0,
+        0,
+    ]
+}
+
+// The same at the source of the action at a position.
+fn at_action(s: &[u8], a: About, code: u32, certainty: u32, entity: u32, at: usize) -> [u32; 14]
+    ensures { λ w. ⌜ w ≡ actionZ (now (s .entry)) a code certainty entity at ⌝ }
+{
+    let line = lint_walk::number_at(s, at);
+    let column = lint_walk::number_at(s, lint_walk::past(s, at, 4));
+    finding(a, code, certainty, entity, line, column)
+}
+
+// ---- conditions, triggers, delays
+
+fn delayed(s: &[u8], w: Walk, writes: u32) -> bool
+    requires { ⌜ (w .count ≤ 512) × (length (w .list) ≡ 512) ⌝ }
+    ensures { λ r. ⌜ r ≡ delayedZ (now (s .entry)) w writes ⌝ }
+{
+    if writes == 0 {
+        return false;
+    }
+    lint_tests::delays(s, w)
+}
+
+fn own_findings(
+    s: &[u8],
+    a: About,
+    at: usize,
+    w: Walk,
+    writes: u32,
+    findings: &mut [u32],
+    o: Out,
+) -> Out
+    requires { ⌜ (w .count ≤ 512) × (length (w .list) ≡ 512) ⌝ }
+    ensures { λ r. ⌜ ((i : List ℕ) → board (now (findings .exit)) i r ≡ pushes (ownItems (now (s .entry)) a at w writes) (board (now (findings .entry)) i o)) ⌝ }
+{
+    let line = a.line;
+    let column = a.column;
+    let first = lint_tests::contradictory(s, lint_walk::conditions_at(s, at));
+    let p = lint_board::push_if(findings, o, first, finding(a, 0, 0, 0, line, column));
+    let second = lint_tests::mismatched(s, at);
+    let q = lint_board::push_if(findings, p, second, finding(a, 1, 1, 0, line, column));
+    let third = delayed(s, w, writes);
+    lint_board::push_if(findings, q, third, finding(a, 2, 1, 0, line, column))
+}
+
+// ---- branches
+
+// The branches of the choice at a position that are never taken.
+fn choice_findings(s: &[u8], a: About, at: usize, findings: &mut [u32], o: Out) -> Out
+    ensures { λ r. ⌜ ((i : List ℕ) → board (now (findings .exit)) i r ≡ pushes (branchItems (now (s .entry)) a at) (board (now (findings .entry)) i o)) ⌝ }
+{
+    let words = at_action(s, a, 3, 0, 0, at);
+    let start = lint_walk::past(s, at, 9);
+    let mut left = lint_walk::place_at(s, start);
+    let mut p = lint_walk::past(s, start, 2);
+    let mut out = o;
+    while 0 < left {
+        out = lint_board::push_if(findings, out, lint_tests::contradictory(s, p), words);
+        p = lint_walk::list_end(s, lint_walk::predicates_end(s, p));
+        left -= 1;
+    }
+    out
+}
+
+fn branch_findings(s: &[u8], a: About, w: Walk, findings: &mut [u32], o: Out) -> Out
+    requires { ⌜ (w .count ≤ 512) × (length (w .list) ≡ 512) ⌝ }
+    ensures { λ r. ⌜ ((i : List ℕ) → board (now (findings .exit)) i r ≡ pushes (branchesItems (now (s .entry)) a w) (board (now (findings .entry)) i o)) ⌝ }
+{
+    let count = w.count;
+    let mut out = o;
+    let mut k: usize = 0;
+    while k < count {
+        let p = w.list[k];
+        if lint_walk::kind_at(s, p) == 4 {
+            out = choice_findings(s, a, p, findings, out);
+            k += 1;
+        } else {
+            k += 1;
+        }
+    }
+    out
+}
+
+// ---- entities that are read
+
+fn stale_here(s: &[u8], entities: Section, reads: u32, k: usize) -> bool
+    requires { ⌜ (entities .count ≤ 32) × (k < 32) ⌝ }
+    ensures { λ r. ⌜ r ≡ staleHereZ (now (s .entry)) entities reads k ⌝ }
+{
+    if lint_reach::has(reads, k) {
+        return lint_tests::stale(s, entities.starts[k]);
+    }
+    false
+}
+
+fn fresh_findings(
+    s: &[u8],
+    a: About,
+    entities: Section,
+    reads: u32,
+    findings: &mut [u32],
+    o: Out,
+) -> Out
+    requires { ⌜ entities .count ≤ 32 ⌝ }
+    ensures { λ r. ⌜ ((i : List ℕ) → board (now (findings .exit)) i r ≡ pushes (freshItems (now (s .entry)) a entities reads) (board (now (findings .entry)) i o)) ⌝ }
+{
+    let count = entities.count as usize;
+    let line = a.line;
+    let column = a.column;
+    let mut out = o;
+    let mut k: usize = 0;
+    while k < count {
+        let test = stale_here(s, entities, reads, k);
+        out = lint_board::push_if(
+            findings,
+            out,
+            test,
+            finding(a, 6, 1, k as u32, line, column),
+        );
+        k += 1;
+    }
+    out
+}
+
+// ---- writes
+
+// The value that the action at a position writes: a toggle's is `*`.
+pub fn value(s: &[u8], star: u32, at: usize) -> u32
+    ensures { λ r. ⌜ r ≡ valueZ (now (s .entry)) star at ⌝ }
+{
+    if lint_walk::kind_at(s, at) == 1 {
+        return star;
+    }
+    lint_walk::place_at(s, lint_walk::past(s, at, 11))
+}
+
+// Whether a write of v to the entity x, whose number is e, needs a guard and has none.
+fn risky(s: &[u8], names: Names, x: u32, v: u32, e: usize) -> bool
+    requires { ⌜ (names .invariants .count ≤ 32) × (e < 100) ⌝ }
+    ensures { λ r. ⌜ r ≡ riskyZ (now (s .entry)) names x v e ⌝ }
+{
+    let entities = names.entities;
+    if lint_tests::tier(s, entities.starts[e]) < 2 {
+        return false;
+    }
+    lint_tests::unguarded(s, names, x, v)
+}
+
+// The automations that a write of v to x, the entity with the number e, can set off.
+fn interactions_of(
+    s: &[u8],
+    from: u32,
+    rules: Section,
+    star: u32,
+    x: u32,
+    v: u32,
+    e: u32,
+    interactions: &mut [u32],
+    o: Out,
+) -> Out
+    requires { ⌜ rules .count ≤ 32 ⌝ }
+    ensures { λ r. ⌜ ((f : List ℕ) → board f (now (interactions .exit)) r ≡ pushes (interactItems (now (s .entry)) from rules star x v e) (board f (now (interactions .entry)) o)) ⌝ }
+{
+    let count = rules.count as usize;
+    let mut out = o;
+    let mut k: usize = 0;
+    while k < count {
+        let test = lint_tests::leads(s, star, x, v, rules.starts[k]);
+        out = lint_board::interact_if(interactions, out, test, [from, k as u32, e]);
+        k += 1;
+    }
+    out
+}
+
+// What the action at a position writes: its guard, and the automations that it can set off.
+fn write_findings(
+    s: &[u8],
+    names: Names,
+    rules: Section,
+    a: About,
+    at: usize,
+    findings: &mut [u32],
+    interactions: &mut [u32],
+    o: Out,
+) -> Out
+    requires { ⌜ (names .entities .count ≤ 32) × (names .invariants .count ≤ 32) × (rules .count ≤ 32) ⌝ }
+    ensures { λ r. ⌜ board (now (findings .exit)) (now (interactions .exit)) r ≡ pushes (writeItems (now (s .entry)) names rules a at) (board (now (findings .entry)) (now (interactions .entry)) o) ⌝ }
+{
+    if 1 < lint_walk::kind_at(s, at) {
+        return o;
+    }
+    let x = lint_walk::place_at(s, lint_walk::past(s, at, 9));
+    let entities = names.entities;
+    let count = entities.count as usize;
+    let e = model_check::number_of(s, entities, x);
+    if count <= e {
+        return o;
+    }
+    let v = value(s, names.star, at);
+    let words = at_action(s, a, 7, 1, e as u32, at);
+    let p = lint_board::push_if(findings, o, risky(s, names, x, v, e), words);
+    interactions_of(
+        s,
+        a.number,
+        rules,
+        names.star,
+        x,
+        v,
+        e as u32,
+        interactions,
+        p,
+    )
+}
+
+fn writes_findings(
+    s: &[u8],
+    names: Names,
+    rules: Section,
+    a: About,
+    w: Walk,
+    findings: &mut [u32],
+    interactions: &mut [u32],
+    o: Out,
+) -> Out
+    requires { ⌜ (names .entities .count ≤ 32) × (names .invariants .count ≤ 32) × (rules .count ≤ 32) × (w .count ≤ 512) × (length (w .list) ≡ 512) ⌝ }
+    ensures { λ r. ⌜ board (now (findings .exit)) (now (interactions .exit)) r ≡ pushes (writesItems (now (s .entry)) names rules a w) (board (now (findings .entry)) (now (interactions .entry)) o) ⌝ }
+{
+    let count = w.count;
+    let mut out = o;
+    let mut k: usize = 0;
+    while k < count {
+        out = write_findings(s, names, rules, a, w.list[k], findings, interactions, out);
+        k += 1;
+    }
+    out
+}
+
+// ---- an automation
+
+// Its findings about conditions, triggers, delays, branches and the number of entities that it writes.
+fn first_findings(
+    s: &[u8],
+    a: About,
+    at: usize,
+    w: Walk,
+    writes: u32,
+    findings: &mut [u32],
+    o: Out,
+) -> Out
+    requires { ⌜ (w .count ≤ 512) × (length (w .list) ≡ 512) ⌝ }
+    ensures { λ r. ⌜ ((i : List ℕ) → board (now (findings .exit)) i r ≡ pushes (firstItems (now (s .entry)) a at w writes) (board (now (findings .entry)) i o)) ⌝ }
+{
+    let p = own_findings(s, a, at, w, writes, findings, o);
+    let q = branch_findings(s, a, w, findings, p);
+    let line = a.line;
+    let column = a.column;
+    lint_board::push_if(
+        findings,
+        q,
+        lint_reach::many(writes),
+        finding(a, 4, 1, 0, line, column),
+    )
+}
+
+// The entries of the automation at a position, with its walk and the sets of what it reads and writes.
+pub fn rule_findings(
+    s: &[u8],
+    names: Names,
+    rules: Section,
+    a: About,
+    at: usize,
+    w: Walk,
+    reads: u32,
+    writes: u32,
+    findings: &mut [u32],
+    interactions: &mut [u32],
+    o: Out,
+) -> Out
+    requires { ⌜ (names .entities .count ≤ 32) × (names .invariants .count ≤ 32) × (rules .count ≤ 32) × (w .count ≤ 512) × (length (w .list) ≡ 512) ⌝ }
+    ensures { λ r. ⌜ board (now (findings .exit)) (now (interactions .exit)) r ≡ pushes (ruleItems (now (s .entry)) names rules a at w reads writes) (board (now (findings .entry)) (now (interactions .entry)) o) ⌝ }
+{
+    let p = first_findings(s, a, at, w, writes, findings, o);
+    let q = fresh_findings(s, a, names.entities, reads, findings, p);
+    writes_findings(s, names, rules, a, w, findings, interactions, q)
+}
+
+// ---- pairs of automations
+
+// The tier's word where Rust spells `accesssafety`.
+fn spelled(tier: u32) -> u32
+    ensures { λ r. ⌜ r ≡ spelledZ tier ⌝ }
+{
+    if tier == 3 {
+        return 4;
+    }
+    tier
+}
+
+// The words of opposing writes at two positions, to the entity with the number e.
+fn pair_words(s: &[u8], entities: Section, set: u32, e: usize, at: usize, other: usize) -> [u32; 14]
+    requires { ⌜ e < 100 ⌝ }
+    ensures { λ w. ⌜ w ≡ pairZ (now (s .entry)) entities set e at other ⌝ }
+{
+    let tier = spelled(lint_tests::tier(s, entities.starts[e]));
+    let line = lint_walk::number_at(s, at);
+    let column = lint_walk::number_at(s, lint_walk::past(s, at, 4));
+    let line2 = lint_walk::number_at(s, other);
+    let column2 = lint_walk::number_at(s, lint_walk::past(s, other, 4));
+    [
+        8,
+        1,
+        tier,
+        e as u32,
+        set,
+        line,
+        column,
+        line2,
+        column2,
+        0,
+        0,
+        0,
+        0,
+        0,
+    ]
+}
+
+// The action at one position against that at another.
+fn oppose(
+    s: &[u8],
+    names: Names,
+    set: u32,
+    at: usize,
+    other: usize,
+    findings: &mut [u32],
+    o: Out,
+) -> Out
+    requires { ⌜ names .entities .count ≤ 32 ⌝ }
+    ensures { λ r. ⌜ ((i : List ℕ) → board (now (findings .exit)) i r ≡ pushes (opposeItems (now (s .entry)) names set at other) (board (now (findings .entry)) i o)) ⌝ }
+{
+    if 1 < lint_walk::kind_at(s, at) {
+        return o;
+    }
+    if 1 < lint_walk::kind_at(s, other) {
+        return o;
+    }
+    let x = lint_walk::place_at(s, lint_walk::past(s, at, 9));
+    let y = lint_walk::place_at(s, lint_walk::past(s, other, 9));
+    let v = value(s, names.star, at);
+    let u = value(s, names.star, other);
+    let entities = names.entities;
+    let count = entities.count as usize;
+    let e = model_check::number_of(s, entities, x);
+    if count <= e {
+        return o;
+    }
+    let words = pair_words(s, entities, set, e, at, other);
+    lint_board::push_if(
+        findings,
+        o,
+        lint_tests::opposed(names.star, x, v, y, u),
+        words,
+    )
+}
+
+// The action at a position against each of another automation.
+fn oppose_row(
+    s: &[u8],
+    names: Names,
+    set: u32,
+    at: usize,
+    w: Walk,
+    findings: &mut [u32],
+    o: Out,
+) -> Out
+    requires { ⌜ (names .entities .count ≤ 32) × (w .count ≤ 512) × (length (w .list) ≡ 512) ⌝ }
+    ensures { λ r. ⌜ ((i : List ℕ) → board (now (findings .exit)) i r ≡ pushes (rowItems (now (s .entry)) names set w at) (board (now (findings .entry)) i o)) ⌝ }
+{
+    let count = w.count;
+    let mut out = o;
+    let mut k: usize = 0;
+    while k < count {
+        out = oppose(s, names, set, at, w.list[k], findings, out);
+        k += 1;
+    }
+    out
+}
+
+// Each action of one automation against each of another.
+pub fn oppose_pair(
+    s: &[u8],
+    names: Names,
+    set: u32,
+    v: Walk,
+    w: Walk,
+    findings: &mut [u32],
+    o: Out,
+) -> Out
+    requires { ⌜ (names .entities .count ≤ 32) × (v .count ≤ 512) × (length (v .list) ≡ 512) × (w .count ≤ 512) × (length (w .list) ≡ 512) ⌝ }
+    ensures { λ r. ⌜ ((i : List ℕ) → board (now (findings .exit)) i r ≡ pushes (pairItems (now (s .entry)) names set v w) (board (now (findings .entry)) i o)) ⌝ }
+{
+    let count = v.count;
+    let mut out = o;
+    let mut k: usize = 0;
+    while k < count {
+        out = oppose_row(s, names, set, v.list[k], w, findings, out);
+        k += 1;
+    }
+    out
+}

@@ -1,0 +1,132 @@
+-- The laws of components that the proofs of code cite.
+use mathlib.Core.Path.{_≡_, refl, sym, ap, _∙_}
+use mathlib.Core.Bool.{Bool, true, false}
+use mathlib.Core.List.{List, [], _∷_, _++_, append-assoc, append-nil}
+use Prim.Native.Nat.{ℕ, suc, _+_, _-_, _/_, _%_, _^_, _≤_, _<_}
+use native.Mathlib.Omega.{arith}
+use lib.Bits.{bitOr}
+use lib.Dec.{eqb}
+use lib.ListN.{length, take, set, replicate, length-set}
+use lib.Seq.{take-suc-set}
+use native.Mathlib.Numerals.{add-one}
+use Rattle.lint_reach.specs.declared.Components.{Components}
+use Rattle.lint_reach.specs.Steps.{Square, cell}
+use Rattle.lint_reach.specs.Sets.{holds, withS, collect}
+use Rattle.lint_reach.specs.Cycles.{bothS, componentS, startsS, nextS, componentsFrom, componentsS}
+
+pub has-is : (x i : ℕ) → eqb (x / 2 ^ i % 2) 1 ≡ holds x i
+unfolding holds
+has-is x i = refl
+
+module _ (x i : ℕ) {b : Bool} where
+  pub with-yes : b ≡ true → withS x i b ≡ bitOr x (2 ^ i)
+  unfolding withS
+  with-yes h = rw h
+
+  pub with-no : b ≡ false → withS x i b ≡ x
+  unfolding withS
+  with-no h = rw h
+
+module _ (r : Square) (i j : ℕ) where
+  pub both-yes : cell r i j ≡ true → bothS r i j ≡ cell r j i
+  unfolding bothS
+  both-yes h = rw h
+
+  pub both-no : cell r i j ≡ false → bothS r i j ≡ false
+  unfolding bothS
+  both-no h = rw h
+
+module _ (r : Square) (a i : ℕ) where
+  pub starts-held : holds a i ≡ true → startsS r a i ≡ false
+  unfolding startsS
+  starts-held h = rw h
+
+  pub starts-free : holds a i ≡ false → startsS r a i ≡ cell r i i
+  unfolding startsS
+  starts-free h = rw h
+
+-- ---- a loop that collects
+
+pub collect-first : (r : Square) (n i : ℕ) → componentS r n i ≡ collect (bothS r i) (n - 0) 0 0
+unfolding componentS
+collect-first r n i =
+    let e : n - 0 ≡ n = omega arith in
+    rw e
+
+module _ (f : ℕ → Bool) (n j x : ℕ) where
+  pub collect-next : (y : ℕ) (b : Bool) → j < n → b ≡ f j → y ≡ withS x j b → collect f (n - j) j x ≡ collect f (n - (j + 1)) (j + 1) y
+  unfolding collect
+  collect-next y b h e g =
+      let k : n - j ≡ suc (n - (j + 1)) = omega arith in
+      rw (k, collect) (ap (λ (z : ℕ). collect f (n - (j + 1)) (j + 1) z) (ap (withS x j) (sym e) ∙ sym g))
+
+  pub collect-end : n ≤ j → collect f (n - j) j x ≡ x
+  unfolding collect
+  collect-end h =
+      let k : n - j ≡ 0 = omega arith in
+      rw k
+
+-- ---- the components, one by one
+
+module _ (r : Square) (n i : ℕ) (c : Components) where
+  pub next-yes : startsS r (c .assigned) i ≡ true → nextS r n i c ≡ record { count = c .count + 1; assigned = bitOr (c .assigned) (componentS r n i); sets = set (c .sets) (c .count) (componentS r n i) }
+  unfolding nextS
+  next-yes h = rw h
+
+  pub next-is : (x y : ℕ) → startsS r (c .assigned) i ≡ true → x ≡ componentS r n i → y ≡ bitOr (c .assigned) x → record { count = c .count + 1; assigned = y; sets = set (c .sets) (c .count) x } ≡ nextS r n i c
+  next-is x y h e f = rw (next-yes h, f, e)
+
+  pub next-no : startsS r (c .assigned) i ≡ false → nextS r n i c ≡ c
+  unfolding nextS
+  next-no h = rw h
+
+-- what is found, and what is left to find
+pub record Gathered (r : Square) (n i : ℕ) (c : Components) : Type 0 where
+  pub all : componentsS r n ≡ take (c .count) (c .sets) ++ componentsFrom r n (n - i) i (c .assigned)
+  pub few : c .count ≤ i
+  pub size : length (c .sets) ≡ 32
+
+take-set : (l : List ℕ) (k x : ℕ) → k < length l → take (k + 1) (set l k x) ≡ take k l ++ x ∷ []
+take-set l k x h = rw (add-one k) (take-suc-set l k x h)
+
+gathered-next : (r : Square) (n i : ℕ) (c : Components) (b : Bool) → i < n → n ≤ 32 → startsS r (c .assigned) i ≡ b → Gathered r n i c → Gathered r n (i + 1) (nextS r n i c)
+unfolding componentsFrom
+gathered-next r n i c true h k e g =
+    let m : n - i ≡ suc (n - (i + 1)) = omega arith in
+    let x = componentS r n i in
+    let t : take (c .count + 1) (set (c .sets) (c .count) x) ≡ take (c .count) (c .sets) ++ x ∷ [] = take-set (c .sets) (c .count) x (omega (arith, g .few, g .size)) in
+    rw (next-yes r n i c e) record {
+      all =
+          g .all
+          ∙ ap (λ (z : ℕ). take (c .count) (c .sets) ++ componentsFrom r n z i (c .assigned)) m
+          ∙ ap (λ (l : List ℕ). take (c .count) (c .sets) ++ l) (rw (e, componentsFrom))
+          ∙ sym (append-assoc (take (c .count) (c .sets)) (x ∷ []) (componentsFrom r n (n - (i + 1)) (i + 1) (bitOr (c .assigned) x)))
+          ∙ ap (λ (l : List ℕ). l ++ componentsFrom r n (n - (i + 1)) (i + 1) (bitOr (c .assigned) x)) (sym t);
+      few = omega (arith, g .few);
+      size = length-set (c .sets) (c .count) x ∙ g .size;
+    }
+gathered-next r n i c false h k e g =
+    let m : n - i ≡ suc (n - (i + 1)) = omega arith in
+    rw (next-no r n i c e) record {
+      all =
+          g .all
+          ∙ ap (λ (z : ℕ). take (c .count) (c .sets) ++ componentsFrom r n z i (c .assigned)) m
+          ∙ ap (λ (l : List ℕ). take (c .count) (c .sets) ++ l) (rw (e, componentsFrom));
+      few = omega (arith, g .few);
+      size = g .size;
+    }
+
+pub gathered-more : (r : Square) (n i : ℕ) (c d : Components) → i < n → n ≤ 32 → Gathered r n i c → d ≡ nextS r n i c → Gathered r n (i + 1) d
+gathered-more r n i c d h k g e = rw e (gathered-next r n i c (startsS r (c .assigned) i) h k refl g)
+
+pub gathered-none : (r : Square) (n : ℕ) → Gathered r n 0 (record { count = 0; assigned = 0; sets = replicate 32 0 })
+unfolding componentsS
+gathered-none r n =
+    let e : n ≡ n - 0 = omega arith in
+    record { all = ap (λ (z : ℕ). componentsFrom r n z 0 0) e; few = omega arith; size = refl }
+
+pub gathered-all : (r : Square) (n i : ℕ) (c : Components) → n ≤ i → i ≤ n → Gathered r n i c → (take (c .count) (c .sets) ≡ componentsS r n) × (c .count ≤ n)
+unfolding componentsFrom
+gathered-all r n i c h k g =
+    let e : n - i ≡ 0 = omega arith in
+    (sym (g .all ∙ ap (λ (z : ℕ). take (c .count) (c .sets) ++ componentsFrom r n z i (c .assigned)) e ∙ append-nil (take (c .count) (c .sets))), omega (arith, g .few))

@@ -1,0 +1,35 @@
+-- The closing of a square by three nested loops, step by step.
+use Prim.Native.Nat.{ℕ, zero, suc, _+_}
+use mathlib.Core.List.{List, []}
+use mathlib.Core.Bool.{Bool, true, false}
+use lib.ListN.{getD, set}
+
+abbrev pub Square : Type 0
+Square = List (List Bool)
+
+abbrev pub cell : Square → ℕ → ℕ → Bool
+cell r i j = getD (getD r i []) j false
+
+abbrev pub put : Square → ℕ → ℕ → Square
+put r i j = set r i (set (getD r i []) j true)
+
+abbrev pub when : Bool → Square → Square → Square
+when true a b = a
+when false a b = b
+
+-- n steps from a on
+unfoldable pub steps : (ℕ → Square → Square) → ℕ → ℕ → Square → Square
+steps f zero a r = r
+steps f (suc n) a r = steps f n (a + 1) (f a r)
+
+abbrev pub stepJ : ℕ → ℕ → ℕ → Square → Square
+stepJ k i j r = when (cell r k j) (put r i j) r
+
+abbrev pub stepI : ℕ → ℕ → Square → Square
+stepI k i r = when (cell r i k) (steps (stepJ k i) 32 0 r) r
+
+abbrev pub stepK : ℕ → Square → Square
+stepK k r = steps (stepI k) 32 0 r
+
+unfoldable pub closed : Square → Square
+closed r = steps stepK 32 0 r

@@ -1,0 +1,33 @@
+use borrow.Author.Needs.{needs}
+use mathlib.Core.Path.{_≡_, sym, _∙_}
+use Prim.Native.Nat.{_-_}
+use Rattle.lint_tests.proofs.Laws as laws
+use Rattle.lint_tests.specs.Tests.{anyL, guardZ, guardedZ}
+use Rattle.lint_tests.proofs.guarded.Statement.{statement}
+use Rattle.lint_tests.proofs.guarded.Tie as tie
+use Rattle.lint_tests.proofs.guarded.Reads as reads
+use Rattle.lint_tests.proofs.guarded.Lts as lts
+use Rattle.lint_tests.proofs.guard.Reads as guard-reads
+
+abbrev Inv-loop : tie.InvT-loop
+Inv-loop s x v invariants count k₀ k = guardedZ s invariants x v ≡ anyL (guardZ s x v) (invariants .starts) (count - k) k
+
+abbrev μ-loop : tie.MeasureT-loop
+μ-loop s x v invariants count k₀ k = count - k
+
+pub guarded-spec : {M : Type 1} → statement M
+guarded-spec =
+    tie.close
+    (tie.spec
+    Inv-loop
+    μ-loop
+    (λ c. search needs)
+    (λ c. laws.guarded-is _ _ _ _ ∙ laws.list-start _ _ _)
+    (λ c. search needs)
+    (λ c. search needs)
+    (λ c κs. search needs)
+    (λ c. sym (c .before .before .before .before .loop .inv ∙ laws.list-here _ _ _ _ (c .before .before .before .loop-test .taken) (sym (c .before .guard .ensures) ∙ c .if1 .taken)))
+    (λ c. search needs)
+    (λ c. search needs)
+    (λ c. c .before .before .before .before .loop .inv ∙ laws.list-later _ _ _ _ (c .before .before .before .loop-test .taken) (sym (c .before .guard .ensures) ∙ c .if1 .left))
+    (λ c. sym (c .before .loop .inv ∙ laws.list-end _ _ _ _ (c .loop-test .left))))

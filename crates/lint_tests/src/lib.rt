@@ -1,0 +1,278 @@
+// The tests of lint, on places in the file.
+use lint_walk::Walk;
+use model_parts::Section;
+ghost use mathlib.Core.Path.{_≡_};
+ghost use Prim.Native.Nat.{_≤_, _<_, _+_, _-_};
+ghost use lib.ListN.{length};
+ghost use Rattle.lint_tests.specs.Tests.{clashZ, clashesZ, meetsZ, contradictoryZ, mismatchZ, mismatchedZ, delaysZ, guardZ, guardedZ, unguardedZ, setsOffZ, leadsZ, opposedZ, tierZ, staleZ, highestZ, greaterZ};
+
+// What a test needs of a model: its declared entities, its invariants, and the places of `on`, `off` and `*`; 65,535 for no `*`.
+pub struct Names {
+    pub entities: Section,
+    pub invariants: Section,
+    pub on: u32,
+    pub off: u32,
+    pub star: u32,
+}
+
+// ---- predicates
+
+// Whether the predicate at a position wants another value of the entity x than v.
+fn clash(s: &[u8], x: u32, v: u32, at: usize) -> bool
+    ensures { λ r. ⌜ r ≡ clashZ (now (s .entry)) x v at ⌝ }
+{
+    if lint_walk::byte_at(s, at) != 0 {
+        return false;
+    }
+    if lint_walk::place_at(s, lint_walk::past(s, at, 1)) != x {
+        return false;
+    }
+    lint_walk::place_at(s, lint_walk::past(s, at, 3)) != v
+}
+
+// Whether one of so many predicates does.
+fn clashes(s: &[u8], x: u32, v: u32, count: u32, at: usize) -> bool
+    ensures { λ r. ⌜ r ≡ clashesZ (now (s .entry)) x v count at ⌝ }
+{
+    let mut left = count;
+    let mut p = at;
+    while 0 < left {
+        if clash(s, x, v, p) {
+            return true;
+        }
+        p = lint_walk::predicate_end(s, p);
+        left -= 1;
+    }
+    false
+}
+
+// Whether the predicate at a position clashes with one of those behind it.
+fn meets(s: &[u8], behind: u32, at: usize) -> bool
+    ensures { λ r. ⌜ r ≡ meetsZ (now (s .entry)) behind at ⌝ }
+{
+    if lint_walk::byte_at(s, at) != 0 {
+        return false;
+    }
+    let x = lint_walk::place_at(s, lint_walk::past(s, at, 1));
+    let v = lint_walk::place_at(s, lint_walk::past(s, at, 3));
+    clashes(s, x, v, behind, lint_walk::predicate_end(s, at))
+}
+
+// Whether two predicates behind a count want different values of one entity.
+pub fn contradictory(s: &[u8], at: usize) -> bool
+    ensures { λ r. ⌜ r ≡ contradictoryZ (now (s .entry)) at ⌝ }
+{
+    let mut left = lint_walk::place_at(s, at);
+    let mut p = lint_walk::past(s, at, 2);
+    while 0 < left {
+        if meets(s, left - 1, p) {
+            return true;
+        }
+        p = lint_walk::predicate_end(s, p);
+        left -= 1;
+    }
+    false
+}
+
+// ---- triggers
+
+// Whether the trigger at a position has a target other than the conditions at another want.
+fn mismatch(s: &[u8], conditions: usize, at: usize) -> bool
+    ensures { λ r. ⌜ r ≡ mismatchZ (now (s .entry)) conditions at ⌝ }
+{
+    if lint_walk::place_at(s, lint_walk::past(s, at, 14)) != 65535 {
+        return false;
+    }
+    let to = lint_walk::place_at(s, lint_walk::past(s, at, 4));
+    if to == 65535 {
+        return false;
+    }
+    let x = lint_walk::place_at(s, at);
+    let count = lint_walk::place_at(s, conditions);
+    clashes(s, x, to, count, lint_walk::past(s, conditions, 2))
+}
+
+// Whether all triggers of the automation at a position have.
+pub fn mismatched(s: &[u8], at: usize) -> bool
+    ensures { λ r. ⌜ r ≡ mismatchedZ (now (s .entry)) at ⌝ }
+{
+    let conditions = lint_walk::conditions_at(s, at);
+    let triggers = lint_walk::triggers_at(s, at);
+    let mut left = lint_walk::place_at(s, triggers);
+    let mut p = lint_walk::past(s, triggers, 2);
+    while 0 < left {
+        if !mismatch(s, conditions, p) {
+            return false;
+        }
+        p = lint_walk::past(s, p, 16);
+        left -= 1;
+    }
+    true
+}
+
+// Whether a write of the value v to the entity x can set the trigger at a position off.
+fn sets_off(s: &[u8], star: u32, x: u32, v: u32, at: usize) -> bool
+    ensures { λ r. ⌜ r ≡ setsOffZ (now (s .entry)) star x v at ⌝ }
+{
+    if lint_walk::place_at(s, lint_walk::past(s, at, 14)) != 65535 {
+        return false;
+    }
+    if lint_walk::place_at(s, at) != x {
+        return false;
+    }
+    if v == star {
+        return true;
+    }
+    let to = lint_walk::place_at(s, lint_walk::past(s, at, 4));
+    if to == 65535 {
+        return true;
+    }
+    to == v
+}
+
+// Whether it can set a trigger of the automation at a position off.
+pub fn leads(s: &[u8], star: u32, x: u32, v: u32, at: usize) -> bool
+    ensures { λ r. ⌜ r ≡ leadsZ (now (s .entry)) star x v at ⌝ }
+{
+    let triggers = lint_walk::triggers_at(s, at);
+    let mut left = lint_walk::place_at(s, triggers);
+    let mut p = lint_walk::past(s, triggers, 2);
+    while 0 < left {
+        if sets_off(s, star, x, v, p) {
+            return true;
+        }
+        p = lint_walk::past(s, p, 16);
+        left -= 1;
+    }
+    false
+}
+
+// ---- actions
+
+// Whether one of the actions is a delay.
+pub fn delays(s: &[u8], w: Walk) -> bool
+    requires { ⌜ (w .count ≤ 512) × (length (w .list) ≡ 512) ⌝ }
+    ensures { λ r. ⌜ r ≡ delaysZ (now (s .entry)) w ⌝ }
+{
+    let count = w.count;
+    let mut k: usize = 0;
+    while k < count {
+        if lint_walk::kind_at(s, w.list[k]) == 2 {
+            return true;
+        }
+        k += 1;
+    }
+    false
+}
+
+// Whether two writes go against each other.
+pub fn opposed(star: u32, x: u32, v: u32, y: u32, u: u32) -> bool
+    ensures { λ r. ⌜ r ≡ opposedZ star x v y u ⌝ }
+{
+    if x != y {
+        return false;
+    }
+    if v != u {
+        return true;
+    }
+    v == star
+}
+
+// ---- invariants
+
+// Whether the invariant at a position is a guard of the entity x and the value v.
+fn guard(s: &[u8], x: u32, v: u32, at: usize) -> bool
+    ensures { λ r. ⌜ r ≡ guardZ (now (s .entry)) x v at ⌝ }
+{
+    if lint_walk::byte_at(s, at) != 1 {
+        return false;
+    }
+    if lint_walk::place_at(s, lint_walk::past(s, at, 3)) != x {
+        return false;
+    }
+    lint_walk::place_at(s, lint_walk::past(s, at, 5)) == v
+}
+
+fn guarded(s: &[u8], invariants: Section, x: u32, v: u32) -> bool
+    requires { ⌜ invariants .count ≤ 32 ⌝ }
+    ensures { λ r. ⌜ r ≡ guardedZ (now (s .entry)) invariants x v ⌝ }
+{
+    let count = invariants.count as usize;
+    let mut k: usize = 0;
+    while k < count {
+        if guard(s, x, v, invariants.starts[k]) {
+            return true;
+        }
+        k += 1;
+    }
+    false
+}
+
+// Whether a write of v to x has a value that no guard is about; a toggle has two.
+pub fn unguarded(s: &[u8], names: Names, x: u32, v: u32) -> bool
+    requires { ⌜ names .invariants .count ≤ 32 ⌝ }
+    ensures { λ r. ⌜ r ≡ unguardedZ (now (s .entry)) names x v ⌝ }
+{
+    if v == names.star {
+        if !guarded(s, names.invariants, x, names.on) {
+            return true;
+        }
+        return !guarded(s, names.invariants, x, names.off);
+    }
+    !guarded(s, names.invariants, x, v)
+}
+
+// ---- entities, from their positions
+
+// The tier: it stands behind the name, the domain and the initial value.
+pub fn tier(s: &[u8], at: usize) -> u32
+    ensures { λ r. ⌜ r ≡ tierZ (now (s .entry)) at ⌝ }
+{
+    let domain = lint_walk::past(s, at, 2);
+    let count = lint_walk::place_at(s, domain) as usize;
+    lint_walk::byte_at(
+        s,
+        lint_walk::past(s, lint_walk::past(s, domain, 2), 2 * count + 2),
+    )
+}
+
+// Whether there is a time after which the value is stale.
+pub fn stale(s: &[u8], at: usize) -> bool
+    ensures { λ r. ⌜ r ≡ staleZ (now (s .entry)) at ⌝ }
+{
+    let domain = lint_walk::past(s, at, 2);
+    let count = lint_walk::place_at(s, domain) as usize;
+    lint_walk::number_at(
+        s,
+        lint_walk::past(s, lint_walk::past(s, domain, 2), 2 * count + 3),
+    )
+        != 4294967295
+}
+
+fn greater(a: u32, b: u32) -> u32
+    ensures { λ r. ⌜ r ≡ greaterZ a b ⌝ }
+{
+    if a < b {
+        return b;
+    }
+    a
+}
+
+// The highest tier among the entities of a set.
+pub fn highest(s: &[u8], entities: Section, set: u32) -> u32
+    requires { ⌜ entities .count ≤ 32 ⌝ }
+    ensures { λ r. ⌜ r ≡ highestZ (now (s .entry)) entities set ⌝ }
+{
+    let count = entities.count as usize;
+    let mut best: u32 = 0;
+    let mut k: usize = 0;
+    while k < count {
+        if lint_reach::has(set, k) {
+            best = greater(best, tier(s, entities.starts[k]));
+            k += 1;
+        } else {
+            k += 1;
+        }
+    }
+    best
+}

@@ -1,0 +1,31 @@
+use borrow.Author.Needs.{needs}
+use mathlib.Core.Path.{_≡_, refl, sym, _∙_}
+use Prim.Native.Nat.{_-_}
+use Rattle.lint_touches.proofs.Laws as laws
+use Rattle.lint_touches.specs.Sets.{over, addW}
+use Rattle.lint_touches.proofs.writes.Statement.{statement}
+use Rattle.lint_touches.proofs.writes.Tie as tie
+use Rattle.lint_touches.proofs.writes.Reads as reads
+use Rattle.lint_touches.proofs.writes.Lts as lts
+use Rattle.lint_touches.proofs.add_write.Reads as add-write-reads
+
+abbrev Inv-loop : tie.InvT-loop
+Inv-loop s entities w count set₀ k₀ set k = over (addW s entities) (w .list) (w .count) 0 0 ≡ over (addW s entities) (w .list) (count - k) k set
+
+abbrev μ-loop : tie.MeasureT-loop
+μ-loop s entities w count set₀ k₀ set k = count - k
+
+pub writes-spec : {M : Type 1} → statement M
+writes-spec =
+    tie.close
+    (tie.spec
+    Inv-loop
+    μ-loop
+    (λ c. laws.over-start _ _ _ refl)
+    (λ c. search needs)
+    (λ c. search needs)
+    (λ c κs. search needs)
+    (λ c. search needs)
+    (λ c. search needs)
+    (λ c. c .before .before .before .loop .inv ∙ laws.over-more _ _ _ _ _ (c .before .before .loop-test .taken) (c .add-write .ensures))
+    (λ c. sym (laws.writes-is _ _ _ ∙ c .before .loop .inv ∙ laws.over-end _ _ _ _ _ (c .loop-test .left))))

@@ -1,0 +1,60 @@
+-- Numbers at positions of a file, 0 past its end, and where parts end.
+use Prim.Native.Nat.{ℕ, zero, suc, _+_, _*_}
+use mathlib.Core.List.{List}
+use lib.Dec.{leb, eqb}
+use lib.ListN.{length}
+use Rattle.texts.specs.Lists.{if_then_else_}
+use Rattle.model.specs.File.{Got, got, broken, u8, u16, u32}
+
+-- what was read, or 0
+unfoldable pub value-of : Got ℕ → ℕ
+value-of (got x next) = x
+value-of broken = 0
+
+unfoldable pub byteZ : List ℕ → ℕ → ℕ
+byteZ s p = value-of (u8 s p)
+
+unfoldable pub placeZ : List ℕ → ℕ → ℕ
+placeZ s p = value-of (u16 s p)
+
+unfoldable pub numberZ : List ℕ → ℕ → ℕ
+numberZ s p = value-of (u32 s p)
+
+-- the position w bytes on, or the end of the file
+unfoldable pub past : List ℕ → ℕ → ℕ → ℕ
+past s p w = if leb (p + w) (length s) then p + w else length s
+
+-- n times
+unfoldable pub repeat : {A : Type 0} → ℕ → (A → A) → A → A
+repeat zero f a = a
+repeat (suc n) f a = repeat n f (f a)
+
+unfoldable pub predicateEnd : List ℕ → ℕ → ℕ
+predicateEnd s p = if eqb (byteZ s p) 0 then past s p 5 else past s p 3
+
+-- behind a count and as many predicates
+unfoldable pub predicatesEnd : List ℕ → ℕ → ℕ
+predicatesEnd s p = repeat (placeZ s p) (predicateEnd s) (past s p 2)
+
+-- behind what follows the kind k of an effect that holds no list
+unfoldable pub simpleEnd : List ℕ → (k p : ℕ) → ℕ
+simpleEnd s k p =
+    if eqb k 0 then past s p 4
+    else if eqb k 2 then past s p 4
+    else if eqb k 3 then predicateEnd s p
+    else if eqb k 5 then past s p 21
+    else past s p 2
+
+-- the kind of the action at a position
+unfoldable pub kindZ : List ℕ → ℕ → ℕ
+kindZ s p = byteZ s (past s p 8)
+
+-- the counts of an automation's triggers, conditions and actions
+unfoldable pub triggersZ : List ℕ → ℕ → ℕ
+triggersZ s p = past s p 7
+
+unfoldable pub conditionsZ : List ℕ → ℕ → ℕ
+conditionsZ s p = past s (past s (triggersZ s p) 2) (16 * placeZ s (triggersZ s p))
+
+unfoldable pub actionsZ : List ℕ → ℕ → ℕ
+actionsZ s p = predicatesEnd s (conditionsZ s p)

@@ -1,0 +1,233 @@
+// Reading of an accepted model file by position: numbers, where parts end, and an automation's actions in the order of Rust's walk.
+// The file was read before, so that what is looked for is there; past the end of the file numbers are 0.
+use model_walk::Num;
+ghost use mathlib.Core.Path.{_≡_};
+ghost use Prim.Native.Nat.{_+_, _≤_, _<_};
+ghost use lib.ListN.{length};
+ghost use Rattle.lint_walk.specs.Raw.{byteZ, placeZ, numberZ, past, predicateEnd, predicatesEnd, simpleEnd, kindZ, triggersZ, conditionsZ, actionsZ};
+ghost use Rattle.lint_walk.specs.Walks.{movedW, notedW, enteredW, simpleW, listW, choiceW, walkW, listEnd};
+
+// ---- numbers
+
+pub fn byte_at(s: &[u8], at: usize) -> u32
+    ensures { λ r. ⌜ r ≡ byteZ (now (s .entry)) at ⌝ }
+{
+    let x = model_walk::u8_at(s, at);
+    let Num::Is(v, _) = x else {
+        return 0;
+    };
+    v
+}
+
+pub fn place_at(s: &[u8], at: usize) -> u32
+    ensures { λ r. ⌜ r ≡ placeZ (now (s .entry)) at ⌝ }
+{
+    let x = model_walk::u16_at(s, at);
+    let Num::Is(v, _) = x else {
+        return 0;
+    };
+    v
+}
+
+pub fn number_at(s: &[u8], at: usize) -> u32
+    ensures { λ r. ⌜ r ≡ numberZ (now (s .entry)) at ⌝ }
+{
+    let x = model_walk::u32_at(s, at);
+    let Num::Is(v, _) = x else {
+        return 0;
+    };
+    v
+}
+
+// The position `size` bytes on, or the end of the file.
+pub fn past(s: &[u8], at: usize, size: usize) -> usize
+    ensures { λ r. ⌜ r ≡ past (now (s .entry)) at size ⌝ }
+{
+    if s.len() < size {
+        return s.len();
+    }
+    if s.len() - size < at {
+        return s.len();
+    }
+    at + size
+}
+
+// ---- where parts end
+
+pub fn predicate_end(s: &[u8], at: usize) -> usize
+    ensures { λ r. ⌜ r ≡ predicateEnd (now (s .entry)) at ⌝ }
+{
+    if byte_at(s, at) == 0 {
+        return past(s, at, 5);
+    }
+    past(s, at, 3)
+}
+
+// A count, and as many predicates.
+pub fn predicates_end(s: &[u8], at: usize) -> usize
+    ensures { λ r. ⌜ r ≡ predicatesEnd (now (s .entry)) at ⌝ }
+{
+    let mut left = place_at(s, at);
+    let mut p = past(s, at, 2);
+    while 0 < left {
+        p = predicate_end(s, p);
+        left -= 1;
+    }
+    p
+}
+
+// What follows the kind of an effect that holds no list.
+fn simple_end(s: &[u8], kind: u32, at: usize) -> usize
+    ensures { λ r. ⌜ r ≡ simpleEnd (now (s .entry)) kind at ⌝ }
+{
+    if kind == 0 {
+        return past(s, at, 4);
+    }
+    if kind == 2 {
+        return past(s, at, 4);
+    }
+    if kind == 3 {
+        return predicate_end(s, at);
+    }
+    if kind == 5 {
+        return past(s, at, 21);
+    }
+    past(s, at, 2)
+}
+
+// The kind of the action at a position.
+pub fn kind_at(s: &[u8], at: usize) -> u32
+    ensures { λ r. ⌜ r ≡ kindZ (now (s .entry)) at ⌝ }
+{
+    byte_at(s, past(s, at, 8))
+}
+
+// ---- an automation's parts, from its position
+
+// The count of its triggers.
+pub fn triggers_at(s: &[u8], at: usize) -> usize
+    ensures { λ r. ⌜ r ≡ triggersZ (now (s .entry)) at ⌝ }
+{
+    past(s, at, 7)
+}
+
+// The count of its conditions; a trigger has 16 bytes.
+pub fn conditions_at(s: &[u8], at: usize) -> usize
+    ensures { λ r. ⌜ r ≡ conditionsZ (now (s .entry)) at ⌝ }
+{
+    let p = triggers_at(s, at);
+    let count = place_at(s, p) as usize;
+    past(s, past(s, p, 2), 16 * count)
+}
+
+// The count of its actions.
+fn actions_at(s: &[u8], at: usize) -> usize
+    ensures { λ r. ⌜ r ≡ actionsZ (now (s .entry)) at ⌝ }
+{
+    predicates_end(s, conditions_at(s, at))
+}
+
+// ---- walking
+
+// The positions of the actions so far, the first `count` of `list`, and the position that is next.
+pub struct Walk {
+    pub list: [usize; 512],
+    pub count: usize,
+    pub next: usize,
+}
+
+fn moved(w: Walk, next: usize) -> Walk
+    ensures { λ r. ⌜ r ≡ movedW w next ⌝ }
+{
+    let mut v = w;
+    v.next = next;
+    v
+}
+
+// One action more, at the position that is next.
+fn noted(w: Walk) -> Walk
+    ensures { λ r. ⌜ r ≡ notedW w ⌝ }
+{
+    let count = w.count;
+    if count < 512 {
+        let mut v = w;
+        v.list[count] = w.next;
+        v.count = count + 1;
+        return v;
+    }
+    w
+}
+
+// The action that is next is a choice: its branches are next.
+fn entered(s: &[u8], w: Walk) -> Walk
+    ensures { λ r. ⌜ r ≡ enteredW (now (s .entry)) w ⌝ }
+{
+    moved(noted(w), past(s, w.next, 9))
+}
+
+// The action that is next holds no list.
+fn simple_walk(s: &[u8], w: Walk) -> Walk
+    ensures { λ r. ⌜ r ≡ simpleW (now (s .entry)) w ⌝ }
+{
+    let kind = kind_at(s, w.next);
+    let end = simple_end(s, kind, past(s, w.next, 9));
+    moved(noted(w), end)
+}
+
+// A list of actions in which lists stand at most `left` deep, itself counted.
+pub fn list_walk(s: &[u8], left: usize, w: Walk) -> Walk
+    ensures { λ r. ⌜ r ≡ listW left (now (s .entry)) w ⌝ }
+{
+    if left == 0 {
+        return w;
+    }
+    let mut i = place_at(s, w.next);
+    let mut v = moved(w, past(s, w.next, 2));
+    while 0 < i {
+        if kind_at(s, v.next) == 4 {
+            v = choice_walk(s, left - 1, entered(s, v));
+            i -= 1;
+        } else {
+            v = simple_walk(s, v);
+            i -= 1;
+        }
+    }
+    v
+}
+
+// The branches of a choice and its default; its lists stand at most `left` deep.
+fn choice_walk(s: &[u8], left: usize, w: Walk) -> Walk
+    ensures { λ r. ⌜ r ≡ choiceW (now (s .entry)) (listW left (now (s .entry))) w ⌝ }
+{
+    let mut i = place_at(s, w.next);
+    let mut v = moved(w, past(s, w.next, 2));
+    while 0 < i {
+        v = list_walk(s, left, moved(v, predicates_end(s, v.next)));
+        i -= 1;
+    }
+    list_walk(s, left, v)
+}
+
+// The actions of the automation at a position; its source is next.
+pub fn rule_walk(s: &[u8], at: usize) -> Walk
+    ensures { λ r. ⌜ r ≡ walkW (now (s .entry)) at ⌝ }
+{
+    let start = Walk {
+        list: [0usize; 512],
+        count: 0,
+        next: actions_at(s, at),
+    };
+    list_walk(s, 18, start)
+}
+
+// The position behind a list of actions.
+pub fn list_end(s: &[u8], at: usize) -> usize
+    ensures { λ r. ⌜ r ≡ listEnd (now (s .entry)) at ⌝ }
+{
+    let start = Walk {
+        list: [0usize; 512],
+        count: 0,
+        next: at,
+    };
+    list_walk(s, 18, start).next
+}
