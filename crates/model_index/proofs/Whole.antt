@@ -276,6 +276,7 @@ module _ (s : List ℕ) (ts : List Text) (v at : ℕ) (x : Section) where
         version = refl;
         title = (p₀, at-title);
         entities = holds quiet (entity ts) (entityW (length ts)) (sees-entity ts) s p₀ 0 (entities-passed ts s p₀ are-entities .read);
+        names = entities-passed ts s p₀ are-entities .holds;
         events = h-events;
         invariants = h-invariants;
         alphabet = h-alphabet;

@@ -1,12 +1,14 @@
 -- What the reader's answer says of a file: the model that `decode` finds, and where its parts stand.
 use Prim.Native.Nat.{ℕ}
 use mathlib.Core.Path.{_≡_}
+use mathlib.Core.Bool.{true}
 use mathlib.Core.List.{List}
 use lib.ListN.{length}
+use Rattle.texts.specs.Lists.{each}
 use Rattle.texts.specs.Texts.{Text}
 use Rattle.model.specs.Answer.{Answer, answer, refused}
 use Rattle.model.specs.Model.{Model}
-use Rattle.model.specs.File.{u32, limits, texts, one-text, place, entity, event, invariant, input, automation}
+use Rattle.model.specs.File.{u32, limits, texts, one-text, place, entity, event, invariant, input, automation, ascending}
 use Rattle.model_parts.specs.declared.Section.{Section}
 use Rattle.model_parts.specs.Stand.{Reads, Stand}
 use Rattle.model.specs.File.{Reader}
@@ -28,6 +30,7 @@ pub record Indexed (s : List ℕ) (i : Index) (m : Model) : Type 0 where
   pub version : i .version ≡ m .scenario .version
   pub title : Reads (place ts) s (i .title) (m .scenario .title)
   pub entities : Holds (entity ts) s (i .entities) (m .scenario .entities)
+  pub names : ascending (each (λ e. e .name) (m .scenario .entities)) ≡ true
   pub events : Holds (event ts) s (i .events) (m .scenario .events)
   pub invariants : Holds (invariant ts) s (i .invariants) (m .scenario .invariants)
   pub alphabet : Holds (input ts) s (i .alphabet) (m .scenario .alphabet)
