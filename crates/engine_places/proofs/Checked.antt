@@ -61,7 +61,8 @@ module _ (es : List Entity) (pool : List Text) where
   PassB d no-branch = Unit {0}
   PassB d (branch ps l bs) = Pass d l × PassB d bs
 
-  pass-branches : (d n m : ℕ) (bs : Branches) → check-branches es bs d n ≡ answer m → Each In (of-branches bs) → PassB (d + 1) bs
+  pass-branches : (d n m : ℕ) (bs : Branches) → check-branches es bs d n ≡ answer m → Each In (of-branches bs) →
+      PassB (d + 1) bs
   unfolding check-branches of-branches
   pass-branches d n m no-branch e h = tt
   pass-branches d n m (branch ps l bs) e h =

@@ -67,7 +67,8 @@ module _ (ts : List Text) (f : List ℕ) where
         k : Kind (effect-kinds r) f p b q
         k = kind-found (effect-kinds r) e
 
-        cases : (i : ℕ) → getD (effect-kinds r) i refuse f (k .next) ≡ got b q → getD (effect-kinds s) i refuse f (k .next) ≡ got b q
+        cases : (i : ℕ) → getD (effect-kinds r) i refuse f (k .next) ≡ got b q →
+            getD (effect-kinds s) i refuse f (k .next) ≡ got b q
         cases zero g = g
         cases (suc zero) g = g
         cases (suc (suc zero)) g = g
@@ -113,9 +114,13 @@ module _ (f x : List ℕ) (ts : List Text) (mo : Model) (tb : Tabled f x ts mo) 
     sets : (e v : ℕ) → e < length ts → v < length ts → m ≡ effects.Set e v → g ≡ Effect.set (T e) (T v) → Acts m g
     toggles : (e : ℕ) → e < length ts → m ≡ effects.Toggle e → g ≡ toggle (T e) → Acts m g
     delays : (n : ℕ) → m ≡ effects.Delay n → g ≡ delay n → Acts m g
-    conditions : (at : ℕ) (p : Predicate) (q : ℕ) → predicate ts f at ≡ got p q → m ≡ effects.Condition at → g ≡ condition p → Acts m g
-    chooses : (at n p : ℕ) (bs : Branches) (q : ℕ) (d : Actions) (o : ℕ) → u16 f at ≡ got n p → branches ts (actions ts 17) n f p ≡ got bs q → actions ts 17 f q ≡ got d o → m ≡ effects.Choose at → g ≡ choose bs d → Acts m g
-    waits : (at : ℕ) (t : Trigger) (q n : ℕ) (c : Bool) → trigger ts f at ≡ got t q → four f (at + 16) ≡ n → eqb (getD f (at + 20) 0) 1 ≡ c → m ≡ effects.Wait at → g ≡ wait t n c → Acts m g
+    conditions : (at : ℕ) (p : Predicate) (q : ℕ) → predicate ts f at ≡ got p q → m ≡ effects.Condition at →
+        g ≡ condition p → Acts m g
+    chooses : (at n p : ℕ) (bs : Branches) (q : ℕ) (d : Actions) (o : ℕ) → u16 f at ≡ got n p →
+        branches ts (actions ts 17) n f p ≡ got bs q → actions ts 17 f q ≡ got d o → m ≡ effects.Choose at →
+        g ≡ choose bs d → Acts m g
+    waits : (at : ℕ) (t : Trigger) (q n : ℕ) (c : Bool) → trigger ts f at ≡ got t q → four f (at + 16) ≡ n →
+        eqb (getD f (at + 20) 0) 1 ≡ c → m ≡ effects.Wait at → g ≡ wait t n c → Acts m g
     unknowns : (r : ℕ) → r < length ts → m ≡ effects.Unknown r → g ≡ Effect.unknown (T r) → Acts m g
 
   -- with the kind k at p, the effect g is at q, and ends at e
@@ -127,7 +132,8 @@ module _ (f x : List ℕ) (ts : List Text) (mo : Model) (tb : Tabled f x ts mo) 
   unfolding flag give
   flag-is p b q e = let k = kind-found (give false ∷ give true ∷ []) e in cases (k .kind) (byte-is f p (k .is-kind)) (k .next) (k .holds)
     where
-      cases : (i : ℕ) → getD f p 0 ≡ i → (n : ℕ) → getD (give false ∷ give true ∷ []) i refuse f n ≡ got b q → eqb (getD f p 0) 1 ≡ b
+      cases : (i : ℕ) → getD f p 0 ≡ i → (n : ℕ) → getD (give false ∷ give true ∷ []) i refuse f n ≡ got b q →
+          eqb (getD f p 0) 1 ≡ b
       cases zero z n h = ap (λ (i : ℕ). eqb i 1) z ∙ given f n false h .0
       cases (suc zero) z n h = ap (λ (i : ℕ). eqb i 1) z ∙ given f n true h .0
       cases (suc (suc i)) z n h = absurd (found.refused f n h)
@@ -147,17 +153,22 @@ module _ (f x : List ℕ) (ts : List Text) (mo : Model) (tb : Tabled f x ts mo) 
       ∷ []
 
   -- where a choice ends
-  choice-end : (p o : ℕ) (g : Effect) (q : ℕ) → u8 f p ≡ got 4 o → effect ts inner f p ≡ got g q → q ≤ length f → endT (choiceW (getD x 9 0) (actionsW (getD x 9 0) 17) f o 0) o ≡ q
+  choice-end : (p o : ℕ) (g : Effect) (q : ℕ) → u8 f p ≡ got 4 o → effect ts inner f p ≡ got g q → q ≤ length f →
+      endT (choiceW (getD x 9 0) (actionsW (getD x 9 0) 17) f o 0) o ≡ q
   unfolding endT seen capped by
   choice-end p o g q k e h =
       ap (λ (n : ℕ). endT (choiceW n (actionsW n 17) f o 0) o) (tb .texts)
-      ∙ ap (λ (w : Walked). endT w o) (at-kind (sees-effect ts inner (actionsW (length ts) 17) (sees-actions ts 17) 0 f p) ∙ ap (seen (marks of-effect) 0) e)
+      ∙ ap (λ (w : Walked). endT w o)
+      (at-kind (sees-effect ts inner (actionsW (length ts) 17) (sees-actions ts 17) 0 f p) ∙ ap (seen (marks of-effect) 0) e)
       ∙ cap-is q (omega (arith, tb .size))
     where
-      at-kind : {w : Walked} → by u8 (λ i. if eqb i 4 then choiceW (length ts) (actionsW (length ts) 17) else simpleW (length ts) i) f p 0 ≡ w → choiceW (length ts) (actionsW (length ts) 17) f o 0 ≡ w
+      at-kind : {w : Walked} →
+          by u8 (λ i. if eqb i 4 then choiceW (length ts) (actionsW (length ts) 17) else simpleW (length ts) i) f p 0 ≡ w →
+          choiceW (length ts) (actionsW (length ts) 17) f o 0 ≡ w
       at-kind h = rw (k, by) at h
 
-  effected : (p o k : ℕ) (g : Effect) (q : ℕ) → u8 f p ≡ got k o → effect ts inner f p ≡ got g q → getD rs k refuse f o ≡ got g q → Effected k o g q
+  effected : (p o k : ℕ) (g : Effect) (q : ℕ) → u8 f p ≡ got k o → effect ts inner f p ≡ got g q →
+      getD rs k refuse f o ≡ got g q → Effected k o g q
   unfolding effectA afterA
   effected p o zero g q k e h =
       let a = bound (place ts) _ h in

@@ -210,7 +210,9 @@ module _ (n : ℕ) (z : n ≡ 0 → ⊥) where
 
   pub s-flip : (f x : List ℕ) (r : Run) (s : Source) (e : ℕ) (m : Machine) → S m → S (flipM f x r s e m)
   unfolding flipM flip-atM flip-fromM
-  s-flip f x r s e m p = s-if (ltb 31 (entityOf x e)) _ _ p (s-if (undecidedT x (getD (m .values) (entityOf x e) 0)) _ _ (s-next _ _ _ (s-doubt f x r 35 m p)) (s-set x r s e _ m p))
+  s-flip f x r s e m p =
+      s-if (ltb 31 (entityOf x e)) _ _ p
+      (s-if (undecidedT x (getD (m .values) (entityOf x e) 0)) _ _ (s-next _ _ _ (s-doubt f x r 35 m p)) (s-set x r s e _ m p))
 
   pub s-delay : (r : Run) (s : Source) (k : ℕ) (m : Machine) → S m → S (delayM r s k m)
   unfolding delayM
@@ -234,7 +236,11 @@ module _ (n : ℕ) (z : n ≡ 0 → ⊥) where
 
   pub s-begin-wait : (f : List ℕ) (k : ℕ) (r : Run) (s : Source) (at : ℕ) (m : Machine) → S m → S (begin-waitM f k r s at m)
   unfolding begin-waitM waitingM
-  s-begin-wait f k r s at m p = s-if (eqb (two f (at + 14)) 65535) _ _ (s-log-action _ _ _ _ _ (s-add _ _ _ (record { is = p .is }))) (s-finish k _ (s-uncertain f _ m p))
+  s-begin-wait f k r s at m p =
+      s-if (eqb (two f (at + 14)) 65535) _ _ (s-log-action _ _ _ _ _ (s-add _ _ _ (record {
+        is =
+            p .is;
+      }))) (s-finish k _ (s-uncertain f _ m p))
 
   pub s-perform : (f x : List ℕ) (k : ℕ) (r : Run) (s : Source) (e : Effect) (m : Machine) → S m → S (performM f x k r s e m)
   unfolding performM conditionM condition-asM chooseM give-upM
@@ -262,7 +268,11 @@ module _ (n : ℕ) (z : n ≡ 0 → ⊥) where
 
   pub s-over : (k : ℕ) (r : Run) (w : Wait) (m : Machine) → S m → S (wait-overM k r w m)
   unfolding wait-overM over-onM over-endM
-  s-over k r w m p = s-if (eqb (w .deadline) (m .now)) _ _ (s-if (w .onward) _ _ (s-next _ _ _ (record { is = s-log-action _ _ _ _ m p .is })) (s-finish k _ (s-log-action _ _ _ _ m p))) p
+  s-over k r w m p =
+      s-if (eqb (w .deadline) (m .now)) _ _ (s-if (w .onward) _ _ (s-next _ _ _ (record {
+        is =
+            s-log-action _ _ _ _ m p .is;
+      })) (s-finish k _ (s-log-action _ _ _ _ m p))) p
 
   pub s-time-out : (a i : ℕ) (m : Machine) → S m → S (time-outM a i m)
   unfolding time-outM
@@ -279,7 +289,8 @@ module _ (n : ℕ) (z : n ≡ 0 → ⊥) where
   pub s-stale : (x : List ℕ) (e v : ℕ) (m : Machine) → S m → S (go-staleM x e v m)
   unfolding go-staleM stale-atM expireM expire-toM
   s-stale x e v m p =
-      s-if (ltb 31 (entityOf x e)) _ _ p (s-if (eqb (getD (m .versions) (entityOf x e) 0) v) _ _ (s-if (eqb (getD (m .values) (entityOf x e) 0) (getD x 6 0)) _ _ p
+      s-if (ltb 31 (entityOf x e)) _ _ p
+      (s-if (eqb (getD (m .versions) (entityOf x e) 0) v) _ _ (s-if (eqb (getD (m .values) (entityOf x e) 0) (getD x 6 0)) _ _ p
       (s-changed _ _ (s-log-write _ _ _ (record { is = p .is })))) p)
 
   pub s-drop : (m : Machine) → S m → S (drop-allM m)

@@ -1,18 +1,29 @@
+-- what stands at positions: numbers, predicates, triggers, branches, actions
 pub mod Numbers
 pub mod Truth
 pub mod Checked
 pub mod Effects
+-- a run's places
 pub mod Stack
+-- an area that was full
 pub mod Overflow
-pub mod Lists
 pub mod Full
+-- machine and engine, and the primitive changes
+pub mod Lists
 pub mod Pigeons
 pub mod Relation
 pub mod Pool
+-- what an item does, from the bottom up
 pub mod Writes
 pub mod Runs
 pub mod Triggers
 pub mod Acts
 pub mod Works
+-- the loop, and a whole simulation
 pub mod Loop
 pub mod Simulated
+-- accepted files, and the entry
+pub mod Accepted
+pub mod Tables
+pub mod Outcome
+pub mod Simulate

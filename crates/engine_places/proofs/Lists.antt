@@ -50,7 +50,8 @@ module _ {A B : Type 0} (g : A → B) where
     Agree l = Each (λ (a : A). q (g a) ≡ p a) l
 
     pub data Sought (d : A) (l : List A) (f : Found) (i : ℕ) : Type 0 where
-      here : (k : ℕ) → f ≡ At (i + k) → k < length l → find q (each g l) ≡ some (g (getD l k d)) → p (getD l k d) ≡ true → Sought d l f i
+      here : (k : ℕ) → f ≡ At (i + k) → k < length l → find q (each g l) ≡ some (g (getD l k d)) →
+          p (getD l k d) ≡ true → Sought d l f i
       nowhere : f ≡ Nothing → find q (each g l) ≡ none → Sought d l f i
 
     pub sought : (d : A) (l : List A) (i : ℕ) → Agree l → Sought d l (placeFrom p i l) i
@@ -68,7 +69,8 @@ module _ {A B : Type 0} (g : A → B) where
     kept [] h = refl
     kept (y ∷ l) h = cases (case (p y)) (kept l (h .1))
       where
-        cases : Case (p y) → keep q (each g l) ≡ each g (places.keep p l) → keep q (each g (y ∷ l)) ≡ each g (places.keep p (y ∷ l))
+        cases : Case (p y) → keep q (each g l) ≡ each g (places.keep p l) →
+            keep q (each g (y ∷ l)) ≡ each g (places.keep p (y ∷ l))
         cases (is-true b) e = rw (h .0 ∙ b, b) (ap (λ (m : List B). g y ∷ m) e)
         cases (is-false b) e = rw (h .0 ∙ b, b) e
 
@@ -94,22 +96,28 @@ module _ {B : Type 0} (p : B → Bool) where
   none-change r [] h = refl
   none-change r (y ∷ l) h = cases (p y) h (none-change r l)
     where
-      cases : (b : Bool) → (if b then 1 else 0) + tally p l ≡ 0 → (tally p l ≡ 0 → each (λ y. if p y then r else y) l ≡ l) → (if b then r else y) ∷ each (λ y. if p y then r else y) l ≡ y ∷ l
+      cases : (b : Bool) → (if b then 1 else 0) + tally p l ≡ 0 →
+          (tally p l ≡ 0 → each (λ y. if p y then r else y) l ≡ l) →
+          (if b then r else y) ∷ each (λ y. if p y then r else y) l ≡ y ∷ l
       cases true h ih = absurd (omega arith)
       cases false h ih = ap (λ (m : List B). y ∷ m) (ih (omega arith))
 
   -- the one that passes becomes r
-  pub set-one : (r : B) (l : List B) (k : ℕ) (d : B) → k < length l → p (getD l k d) ≡ true → tally p l ≤ 1 → each (λ y. if p y then r else y) l ≡ set l k r
+  pub set-one : (r : B) (l : List B) (k : ℕ) (d : B) → k < length l → p (getD l k d) ≡ true → tally p l ≤ 1 →
+      each (λ y. if p y then r else y) l ≡ set l k r
   unfolding tally each
   set-one r [] k d h e o = absurd (omega arith)
   set-one r (y ∷ l) zero d h e o = cases (p y) e o
     where
-      cases : (b : Bool) → b ≡ true → (if b then 1 else 0) + tally p l ≤ 1 → (if b then r else y) ∷ each (λ y. if p y then r else y) l ≡ r ∷ l
+      cases : (b : Bool) → b ≡ true → (if b then 1 else 0) + tally p l ≤ 1 →
+          (if b then r else y) ∷ each (λ y. if p y then r else y) l ≡ r ∷ l
       cases true e o = ap (λ (m : List B). r ∷ m) (none-change r l (omega arith))
       cases false e o = let z : _≡_ {A = ℕ} 0 1 = cc in absurd (omega arith)
   set-one r (y ∷ l) (suc k) d h e o = cases (p y) o (set-one r l k d (omega arith) e)
     where
-      cases : (b : Bool) → (if b then 1 else 0) + tally p l ≤ 1 → (tally p l ≤ 1 → each (λ y. if p y then r else y) l ≡ set l k r) → (if b then r else y) ∷ each (λ y. if p y then r else y) l ≡ y ∷ set l k r
+      cases : (b : Bool) → (if b then 1 else 0) + tally p l ≤ 1 →
+          (tally p l ≤ 1 → each (λ y. if p y then r else y) l ≡ set l k r) →
+          (if b then r else y) ∷ each (λ y. if p y then r else y) l ≡ y ∷ set l k r
       cases true o ih = absurd (omega (arith, some-pass l k d (omega arith) e))
       cases false o ih = ap (λ (m : List B). y ∷ m) (ih (omega arith))
 
@@ -118,22 +126,27 @@ module _ {B : Type 0} (p : B → Bool) where
   none-out [] h = refl
   none-out (y ∷ l) h = cases (p y) h (none-out l)
     where
-      cases : (b : Bool) → (if b then 1 else 0) + tally p l ≡ 0 → (tally p l ≡ 0 → keep (λ y. not (p y)) l ≡ l) → (if not b then y ∷ keep (λ y. not (p y)) l else keep (λ y. not (p y)) l) ≡ y ∷ l
+      cases : (b : Bool) → (if b then 1 else 0) + tally p l ≡ 0 → (tally p l ≡ 0 → keep (λ y. not (p y)) l ≡ l) →
+          (if not b then y ∷ keep (λ y. not (p y)) l else keep (λ y. not (p y)) l) ≡ y ∷ l
       cases true h ih = absurd (omega arith)
       cases false h ih = ap (λ (m : List B). y ∷ m) (ih (omega arith))
 
   -- and goes
-  pub out-one : (l : List B) (k : ℕ) (d : B) → k < length l → p (getD l k d) ≡ true → tally p l ≤ 1 → keep (λ y. not (p y)) l ≡ take k l ++ drop (suc k) l
+  pub out-one : (l : List B) (k : ℕ) (d : B) → k < length l → p (getD l k d) ≡ true → tally p l ≤ 1 →
+      keep (λ y. not (p y)) l ≡ take k l ++ drop (suc k) l
   unfolding tally keep
   out-one [] k d h e o = absurd (omega arith)
   out-one (y ∷ l) zero d h e o = cases (p y) e o
     where
-      cases : (b : Bool) → b ≡ true → (if b then 1 else 0) + tally p l ≤ 1 → (if not b then y ∷ keep (λ y. not (p y)) l else keep (λ y. not (p y)) l) ≡ l
+      cases : (b : Bool) → b ≡ true → (if b then 1 else 0) + tally p l ≤ 1 →
+          (if not b then y ∷ keep (λ y. not (p y)) l else keep (λ y. not (p y)) l) ≡ l
       cases true e o = none-out l (omega arith)
       cases false e o = let z : _≡_ {A = ℕ} 0 1 = cc in absurd (omega arith)
   out-one (y ∷ l) (suc k) d h e o = cases (p y) o (out-one l k d (omega arith) e)
     where
-      cases : (b : Bool) → (if b then 1 else 0) + tally p l ≤ 1 → (tally p l ≤ 1 → keep (λ y. not (p y)) l ≡ take k l ++ drop (suc k) l) → (if not b then y ∷ keep (λ y. not (p y)) l else keep (λ y. not (p y)) l) ≡ y ∷ (take k l ++ drop (suc k) l)
+      cases : (b : Bool) → (if b then 1 else 0) + tally p l ≤ 1 →
+          (tally p l ≤ 1 → keep (λ y. not (p y)) l ≡ take k l ++ drop (suc k) l) →
+          (if not b then y ∷ keep (λ y. not (p y)) l else keep (λ y. not (p y)) l) ≡ y ∷ (take k l ++ drop (suc k) l)
       cases true o ih = absurd (omega (arith, some-pass l k d (omega arith) e))
       cases false o ih = ap (λ (m : List B). y ∷ m) (ih (omega arith))
 

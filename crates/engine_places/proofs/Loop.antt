@@ -67,7 +67,8 @@ module _ (f x : List ℕ) (ts : List Text) (mo : Model) (tb : Tabled f x ts mo) 
   pop-is [] = refl
   pop-is (i ∷ l) = ap (sooner (I i) (each I l)) (pop-is l) ∙ by (order.pop secondOf l)
     where
-      or : (b : Bool) (j : QItem) (k : List QItem) → (if b then some (I i, each I l) else some (I j, I i ∷ each I k)) ≡ taken (cond b (some (i, l)) (some (j, i ∷ k)))
+      or : (b : Bool) (j : QItem) (k : List QItem) →
+          (if b then some (I i, each I l) else some (I j, I i ∷ each I k)) ≡ taken (cond b (some (i, l)) (some (j, i ∷ k)))
       or true j k = refl
       or false j k = refl
 
@@ -98,11 +99,14 @@ module _ (f x : List ℕ) (ts : List Text) (mo : Model) (tb : Tabled f x ts mo) 
   data NextIs (m : Machine) (a : ANext) (b : Next) : Type 0 where
     stops : a ≡ nexts.Stop → b ≡ stop → NextIs m a b
     spends : a ≡ nexts.Space → b ≡ exhausted → NextIs m a b
-    goes : (i : QItem) (k : List QItem) → order.pop secondOf (m .queue) ≡ some (i, k) → Good i → Each Good k → i .second ≤ horizon → a ≡ nexts.Take → b ≡ take (I i) (each I k) → NextIs m a b
+    goes : (i : QItem) (k : List QItem) → order.pop secondOf (m .queue) ≡ some (i, k) → Good i → Each Good k →
+        i .second ≤ horizon → a ≡ nexts.Take → b ≡ take (I i) (each I k) → NextIs m a b
 
   next-is : {now : ℕ} {m : Machine} {e : Engine} → L now 0 m e → NextIs m (nextM x m) (next-of horizon e (pop (e .queue)))
   unfolding nextM next-afterM next-of item-of
-  next-is {now} {m} {e} l = rw (ap pop (l .queue .is) ∙ pop-is (m .queue)) (by (order.pop secondOf (m .queue)) refl (pop-good (m .queue) (l .queue .good)))
+  next-is {now} {m} {e} l =
+      rw (ap pop (l .queue .is) ∙ pop-is (m .queue))
+      (by (order.pop secondOf (m .queue)) refl (pop-good (m .queue) (l .queue .good)))
     where
       long-trace : length (e .trace) ≡ length (m .records)
       long-trace = ap length (l .records) ∙ lists.each-length (record-of x ts) (m .records)
@@ -110,37 +114,49 @@ module _ (f x : List ℕ) (ts : List Text) (mo : Model) (tb : Tabled f x ts mo) 
       long-queue : length (e .queue) ≡ length (m .queue)
       long-queue = ap length (l .queue .is) ∙ lists.each-length I (m .queue)
 
-      cases : (i : QItem) (k : List QItem) → order.pop secondOf (m .queue) ≡ some (i, k) → Good i → Each Good k → (a b : Bool) → Case (ltb horizon (i .second)) →
-          NextIs m (if a then nexts.Space else if b then nexts.Space else if ltb horizon (i .second) then nexts.Stop else nexts.Take) (if a || b then exhausted else if ltb horizon (i .second) then stop else take (I i) (each I k))
+      cases : (i : QItem) (k : List QItem) → order.pop secondOf (m .queue) ≡ some (i, k) → Good i → Each Good k →
+          (a b : Bool) → Case (ltb horizon (i .second)) →
+          NextIs m
+          (if a then nexts.Space else if b then nexts.Space else if ltb horizon (i .second) then nexts.Stop else nexts.Take)
+          (if a || b then exhausted else if ltb horizon (i .second) then stop else take (I i) (each I k))
       cases i k p g q true b c = spends refl refl
       cases i k p g q false true c = spends refl refl
       cases i k p g q false false (is-true c) = stops (rw c) (rw c)
       cases i k p g q false false (is-false c) = goes i k p g q (ltb-false horizon (i .second) c) (rw c) (rw c)
 
-      by : (o : Option (QItem × List QItem)) → order.pop secondOf (m .queue) ≡ o → GoodPop o → NextIs m (next-afterM x (takenOf o) m) (next-of horizon e (taken o))
+      by : (o : Option (QItem × List QItem)) → order.pop secondOf (m .queue) ≡ o → GoodPop o →
+          NextIs m (next-afterM x (takenOf o) m) (next-of horizon e (taken o))
       by none p g = stops refl refl
-      by (some (i, k)) p g = rw (tb .horizon, long-trace, long-queue) (cases i k p (g .0) (g .1) (leb 10000 (length (m .records))) (ltb 20000 (length (m .queue))) (case (ltb horizon (i .second))))
+      by (some (i, k)) p g =
+          rw (tb .horizon, long-trace, long-queue)
+          (cases i k p (g .0) (g .1) (leb 10000 (length (m .records))) (ltb 20000 (length (m .queue))) (case (ltb horizon (i .second))))
 
   -- ---- a turn
 
-  turn-law : (m : Machine) (i : QItem) (k : List QItem) → order.pop secondOf (m .queue) ≡ some (i, k) → turnM f x m ≡ processM f x (i .work) (put-now (i .second) (put-queue k m))
+  turn-law : (m : Machine) (i : QItem) (k : List QItem) → order.pop secondOf (m .queue) ≡ some (i, k) →
+      turnM f x m ≡ processM f x (i .work) (put-now (i .second) (put-queue k m))
   unfolding turnM turn-withM
   turn-law m i k p =
       ap (λ (o : Option (QItem × List QItem)). turn-withM f x (takenOf o) m) p
-      ∙ ap (λ (o : Option (QItem × List QItem)). processM f x (i .work) (put-now (i .second) (put-queue (leftOf secondOf o) m))) p
+      ∙ ap
+      (λ (o : Option (QItem × List QItem)). processM f x (i .work) (put-now (i .second) (put-queue (leftOf secondOf o) m))) p
 
-  took-is : {now : ℕ} {m : Machine} {e : Engine} → L now 0 m e → (i : QItem) (k : List QItem) → Each Good k → i .second ≤ horizon → L (i .second) 0 (put-now (i .second) (put-queue k m)) (with-queue (each I k) e)
+  took-is : {now : ℕ} {m : Machine} {e : Engine} → L now 0 m e → (i : QItem) (k : List QItem) → Each Good k →
+      i .second ≤ horizon → L (i .second) 0 (put-now (i .second) (put-queue k m)) (with-queue (each I k) e)
   unfolding with-queue
   took-is l i k q h = record { time = refl; soon = omega (arith, tb .day); free = l .free; calm = l .calm; queue = record { is = refl; good = q }; records = l .records; runs = l .runs; cells = l .cells; reasons = l .reasons; made = l .made; low = l .low; sizes = l .sizes }
 
-  turn-is : {now : ℕ} {m : Machine} {e : Engine} → L now 0 m e → (i : QItem) (k : List QItem) → order.pop secondOf (m .queue) ≡ some (i, k) → Good i → Each Good k → i .second ≤ horizon → S (i .second) 0 (turnM f x m) (process (I i .at) (mo .rules) (I i .work) (with-queue (each I k) e))
+  turn-is : {now : ℕ} {m : Machine} {e : Engine} → L now 0 m e → (i : QItem) (k : List QItem) →
+      order.pop secondOf (m .queue) ≡ some (i, k) → Good i → Each Good k → i .second ≤ horizon →
+      S (i .second) 0 (turnM f x m) (process (I i .at) (mo .rules) (I i .work) (with-queue (each I k) e))
   unfolding item-of
   turn-is {now} {m} {e} l i k p g q h = rw (turn-law m i k p) (process-is f x ts mo tb (took-is l i k q h) (i .work) g)
 
   -- ---- the loop
 
   pub data Ends (p : Halt) (d : Ended) (total : ℕ) : Type 0 where
-    lives : (now : ℕ) → L now 0 (p .last) (d .engine) → d .steps + p .left ≡ total → p .why ≤ 2 → d .incomplete ≡ reasons-of (p .why) → Ends p d total
+    lives : (now : ℕ) → L now 0 (p .last) (d .engine) → d .steps + p .left ≡ total → p .why ≤ 2 →
+        d .incomplete ≡ reasons-of (p .why) → Ends p d total
     stuck : (n : ℕ) → (n ≡ 0 → ⊥) → Stuck n (p .last) → d .engine .overflow ≡ some n → p .why ≡ 3 → Ends p d total
 
   -- a full machine stops at once
@@ -172,39 +188,63 @@ module _ (f x : List ℕ) (ts : List Text) (mo : Model) (tb : Tabled f x ts mo) 
 
   -- the definition's loop, by what comes next
   module _ (n : ℕ) (e : Engine) where
-    stop-at : (left : ℕ) → next-of horizon e (pop (e .queue)) ≡ stop → loop (mo .rules) horizon left n e ≡ record { engine = e; steps = n; incomplete = [] }
+    stop-at : (left : ℕ) → next-of horizon e (pop (e .queue)) ≡ stop →
+        loop (mo .rules) horizon left n e ≡ record { engine = e; steps = n; incomplete = [] }
     unfolding loop
     stop-at zero p = rw (p, loop)
     stop-at (suc left) p = rw (p, loop)
 
-    space-at : (left : ℕ) → next-of horizon e (pop (e .queue)) ≡ exhausted → loop (mo .rules) horizon left n e ≡ record { engine = e; steps = n; incomplete = space-spent ∷ [] }
+    space-at : (left : ℕ) → next-of horizon e (pop (e .queue)) ≡ exhausted →
+        loop (mo .rules) horizon left n e ≡ record { engine = e; steps = n; incomplete = space-spent ∷ [] }
     unfolding loop
     space-at zero p = rw (p, loop)
     space-at (suc left) p = rw (p, loop)
 
-    steps-at : (i : Item) (l : List Item) → next-of horizon e (pop (e .queue)) ≡ take i l → loop (mo .rules) horizon 0 n e ≡ record { engine = e; steps = n; incomplete = steps-spent ∷ [] }
+    steps-at : (i : Item) (l : List Item) → next-of horizon e (pop (e .queue)) ≡ take i l →
+        loop (mo .rules) horizon 0 n e ≡ record { engine = e; steps = n; incomplete = steps-spent ∷ [] }
     unfolding loop
     steps-at i l p = rw (p, loop)
 
-    take-at : (left : ℕ) (i : Item) (l : List Item) → next-of horizon e (pop (e .queue)) ≡ take i l → loop (mo .rules) horizon (suc left) n e ≡ loop (mo .rules) horizon left (n + 1) (process (i .at) (mo .rules) (i .work) (with-queue l e))
+    take-at : (left : ℕ) (i : Item) (l : List Item) → next-of horizon e (pop (e .queue)) ≡ take i l →
+        loop (mo .rules) horizon (suc left) n e ≡ loop (mo .rules) horizon left (n + 1) (process (i .at) (mo .rules) (i .work) (with-queue l e))
     unfolding loop
     take-at left i l p = rw (p, loop)
 
-  pub loop-is : (left steps : ℕ) {now : ℕ} {m : Machine} {e : Engine} → S now 0 m e → Ends (loopM f x left m) (loop (mo .rules) horizon left steps e) (steps + left)
+  pub loop-is : (left steps : ℕ) {now : ℕ} {m : Machine} {e : Engine} → S now 0 m e →
+      Ends (loopM f x left m) (loop (mo .rules) horizon left steps e) (steps + left)
   unfolding why-nextM reasons-of
-  loop-is zero steps {now} {m} {e} (dead n z p o) = stuck n z (rw (loop-end m 3 (full-why 0 n m z p)) p) (over-loop n 0 steps e o) (ap (λ (h : Halt). h .why) (loop-end m 3 (full-why 0 n m z p)))
-  loop-is (suc left) steps {now} {m} {e} (dead n z p o) = stuck n z (rw (loop-stop left m 3 (full-why (suc left) n m z p) refl) p) (over-loop n (suc left) steps e o) (ap (λ (h : Halt). h .why) (loop-stop left m 3 (full-why (suc left) n m z p) refl))
+  loop-is zero steps {now} {m} {e} (dead n z p o) =
+      stuck n z (rw (loop-end m 3 (full-why 0 n m z p)) p) (over-loop n 0 steps e o)
+      (ap (λ (h : Halt). h .why) (loop-end m 3 (full-why 0 n m z p)))
+  loop-is (suc left) steps {now} {m} {e} (dead n z p o) =
+      stuck n z (rw (loop-stop left m 3 (full-why (suc left) n m z p) refl) p) (over-loop n (suc left) steps e o)
+      (ap (λ (h : Halt). h .why) (loop-stop left m 3 (full-why (suc left) n m z p) refl))
   loop-is zero steps {now} {m} {e} (live l) = by (next-is l)
     where
-      by : NextIs m (nextM x m) (next-of horizon e (pop (e .queue))) → Ends (loopM f x 0 m) (loop (mo .rules) horizon 0 steps e) (steps + 0)
-      by (stops a b) = rw (loop-end m 0 (free-why 0 m (l .free) ∙ ap (why-nextM 0) a), stop-at steps e 0 b) (lives now l refl (omega arith) refl)
-      by (spends a b) = rw (loop-end m 1 (free-why 0 m (l .free) ∙ ap (why-nextM 0) a), space-at steps e 0 b) (lives now l refl (omega arith) refl)
-      by (goes i k p g q h a b) = rw (loop-end m 2 (free-why 0 m (l .free) ∙ ap (why-nextM 0) a), steps-at steps e (I i) (each I k) b) (lives now l refl (omega arith) refl)
+      by : NextIs m (nextM x m) (next-of horizon e (pop (e .queue))) →
+          Ends (loopM f x 0 m) (loop (mo .rules) horizon 0 steps e) (steps + 0)
+      by (stops a b) =
+          rw (loop-end m 0 (free-why 0 m (l .free) ∙ ap (why-nextM 0) a), stop-at steps e 0 b)
+          (lives now l refl (omega arith) refl)
+      by (spends a b) =
+          rw (loop-end m 1 (free-why 0 m (l .free) ∙ ap (why-nextM 0) a), space-at steps e 0 b)
+          (lives now l refl (omega arith) refl)
+      by (goes i k p g q h a b) =
+          rw (loop-end m 2 (free-why 0 m (l .free) ∙ ap (why-nextM 0) a), steps-at steps e (I i) (each I k) b)
+          (lives now l refl (omega arith) refl)
   loop-is (suc left) steps {now} {m} {e} (live l) = by (next-is l) (λ t n d y. loop-is left (steps + 1) y)
     where
-      by : NextIs m (nextM x m) (next-of horizon e (pop (e .queue))) → ((t : ℕ) (n : Machine) (d : Engine) → S t 0 n d → Ends (loopM f x left n) (loop (mo .rules) horizon left (steps + 1) d) (steps + 1 + left)) → Ends (loopM f x (suc left) m) (loop (mo .rules) horizon (suc left) steps e) (steps + suc left)
-      by (stops a b) ih = rw (loop-stop left m 0 (free-why (suc left) m (l .free) ∙ ap (why-nextM (suc left)) a) refl, stop-at steps e (suc left) b) (lives now l refl (omega arith) refl)
-      by (spends a b) ih = rw (loop-stop left m 1 (free-why (suc left) m (l .free) ∙ ap (why-nextM (suc left)) a) refl, space-at steps e (suc left) b) (lives now l refl (omega arith) refl)
+      by : NextIs m (nextM x m) (next-of horizon e (pop (e .queue))) →
+          ((t : ℕ) (n : Machine) (d : Engine) → S t 0 n d → Ends (loopM f x left n) (loop (mo .rules) horizon left (steps + 1) d) (steps + 1 + left)) →
+          Ends (loopM f x (suc left) m) (loop (mo .rules) horizon (suc left) steps e) (steps + suc left)
+      by (stops a b) ih =
+          rw
+          (loop-stop left m 0 (free-why (suc left) m (l .free) ∙ ap (why-nextM (suc left)) a) refl, stop-at steps e (suc left) b)
+          (lives now l refl (omega arith) refl)
+      by (spends a b) ih =
+          rw
+          (loop-stop left m 1 (free-why (suc left) m (l .free) ∙ ap (why-nextM (suc left)) a) refl, space-at steps e (suc left) b)
+          (lives now l refl (omega arith) refl)
       by (goes i k p g q h a b) ih =
           let w : whyM x (suc left) m ≡ 4 = free-why (suc left) m (l .free) ∙ ap (why-nextM (suc left)) a ∙ rw (ne-eqb (suc left) 0 (λ o. absurd (omega arith))) in
           let z : steps + suc left ≡ steps + 1 + left = omega arith in

@@ -28,7 +28,8 @@ unfolding keep
 fewer u [] = omega arith
 fewer u (y ∷ l) = cases (eqT u y) (fewer u l)
   where
-    cases : (b : Bool) → length (without u l) ≤ length l → length (if not b then y ∷ without u l else without u l) ≤ suc (length l)
+    cases : (b : Bool) → length (without u l) ≤ length l →
+        length (if not b then y ∷ without u l else without u l) ≤ suc (length l)
     cases true h = omega arith
     cases false h = omega arith
 
@@ -37,7 +38,9 @@ unfolding keep memT any
 one-fewer u [] h = let z : _≡_ {A = ℕ} 0 1 = cc in absurd (omega arith)
 one-fewer u (y ∷ l) h = cases (eqT u y) h (fewer u l) (one-fewer u l)
   where
-    cases : (b : Bool) → (b || any (eqT u) l) ≡ true → length (without u l) ≤ length l → (any (eqT u) l ≡ true → length (without u l) < length l) → length (if not b then y ∷ without u l else without u l) < suc (length l)
+    cases : (b : Bool) → (b || any (eqT u) l) ≡ true → length (without u l) ≤ length l →
+        (any (eqT u) l ≡ true → length (without u l) < length l) →
+        length (if not b then y ∷ without u l else without u l) < suc (length l)
     cases true h a b = omega arith
     cases false h a b = omega (arith, b h)
 
@@ -46,7 +49,8 @@ unfolding keep memT any
 still-in u w [] h d = h
 still-in u w (y ∷ l) h d = cases (case (eqT u y)) (case (eqT w y)) (still-in u w l)
   where
-    cases : Case (eqT u y) → Case (eqT w y) → (any (eqT w) l ≡ true → eqT u w ≡ false → any (eqT w) (without u l) ≡ true) → memT w (without u (y ∷ l)) ≡ true
+    cases : Case (eqT u y) → Case (eqT w y) →
+        (any (eqT w) l ≡ true → eqT u w ≡ false → any (eqT w) (without u l) ≡ true) → memT w (without u (y ∷ l)) ≡ true
     cases (is-true a) (is-true b) ih =
         let e : u ≡ w = eqT-eq u y a ∙ sym (eqT-eq w y b) in
         let g : eqT u w ≡ true = ap (eqT u) (sym e) ∙ eqT-same u in
@@ -62,14 +66,16 @@ unfolding memT any
 not-first u [] h = tt
 not-first u (y ∷ l) h = (or-no (eqT u y) (any (eqT u) l) h, not-first u l (or-no′ (eqT u y) (any (eqT u) l) h))
 
-all-still : (u : Text) (pool us : List Text) → Among pool us → Each (λ (t : Text). eqT u t ≡ false) us → Among (without u pool) us
+all-still : (u : Text) (pool us : List Text) → Among pool us → Each (λ (t : Text). eqT u t ≡ false) us →
+    Among (without u pool) us
 all-still u pool [] h d = tt
 all-still u pool (w ∷ us) h d = (still-in u w pool (h .0) (d .0), all-still u pool us (h .1) (d .1))
 
 pub at-most : (us pool : List Text) → Differ us → Among pool us → length us ≤ length pool
 at-most [] pool d h = omega arith
 at-most (u ∷ us) pool d h =
-    omega (arith, one-fewer u pool (h .0), at-most us (without u pool) (d .1) (all-still u pool us (h .1) (not-first u us (d .0))))
+    omega
+    (arith, one-fewer u pool (h .0), at-most us (without u pool) (d .1) (all-still u pool us (h .1) (not-first u us (d .0))))
 
 -- ---- a text more
 

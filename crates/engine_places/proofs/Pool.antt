@@ -57,16 +57,26 @@ among-self (t ∷ l) = (or-first (eqT t t) _ (eqT-same t), among-to l l (t ∷ l
 in-flat : (d : Automation) (l : List Automation) (i : ℕ) → i < length l → Among (flat rule-pool l) (rule-pool (getD l i d))
 unfolding flat
 in-flat d [] i h = absurd (omega arith)
-in-flat d (r ∷ l) zero h = among-to (rule-pool r) (rule-pool r) (rule-pool r ++ flat rule-pool l) (λ t g. mem-left t (rule-pool r) (flat rule-pool l) g) (among-self (rule-pool r))
-in-flat d (r ∷ l) (suc i) h = among-to (rule-pool (getD l i d)) (flat rule-pool l) (rule-pool r ++ flat rule-pool l) (λ t g. mem-right t (rule-pool r) (flat rule-pool l) g) (in-flat d l i (omega arith))
+in-flat d (r ∷ l) zero h =
+    among-to (rule-pool r) (rule-pool r) (rule-pool r ++ flat rule-pool l)
+    (λ t g. mem-left t (rule-pool r) (flat rule-pool l) g) (among-self (rule-pool r))
+in-flat d (r ∷ l) (suc i) h =
+    among-to (rule-pool (getD l i d)) (flat rule-pool l) (rule-pool r ++ flat rule-pool l)
+    (λ t g. mem-right t (rule-pool r) (flat rule-pool l) g) (in-flat d l i (omega arith))
 
 pub wait-in : (mo : Model) → memT unsupported-wait (pool-of mo) ≡ true
 unfolding pool-of memT any
-wait-in mo = mem-right unsupported-wait (unsupported (mo .rules)) (unsupported-wait ∷ flat rule-pool (mo .rules)) (or-first (eqT unsupported-wait unsupported-wait) _ (eqT-same unsupported-wait))
+wait-in mo =
+    mem-right unsupported-wait (unsupported (mo .rules)) (unsupported-wait ∷ flat rule-pool (mo .rules))
+    (or-first (eqT unsupported-wait unsupported-wait) _ (eqT-same unsupported-wait))
 
 pub rule-in : (mo : Model) (i : ℕ) → i < length (mo .rules) → Among (pool-of mo) (rule-pool (getD (mo .rules) i no-rule))
 unfolding pool-of memT any
-rule-in mo i h = among-to (rule-pool (getD (mo .rules) i no-rule)) (flat rule-pool (mo .rules)) (unsupported (mo .rules) ++ unsupported-wait ∷ flat rule-pool (mo .rules)) (λ t g. mem-right t (unsupported (mo .rules)) (unsupported-wait ∷ flat rule-pool (mo .rules)) (or-true (eqT t unsupported-wait) _ g)) (in-flat no-rule (mo .rules) i h)
+rule-in mo i h =
+    among-to (rule-pool (getD (mo .rules) i no-rule)) (flat rule-pool (mo .rules))
+    (unsupported (mo .rules) ++ unsupported-wait ∷ flat rule-pool (mo .rules))
+    (λ t g. mem-right t (unsupported (mo .rules)) (unsupported-wait ∷ flat rule-pool (mo .rules)) (or-true (eqT t unsupported-wait) _ g))
+    (in-flat no-rule (mo .rules) i h)
 
 -- the reasons of the automation with the identifier t
 pub record RulePool (mo : Model) (t : Text) (r : Automation) : Type 0 where
@@ -110,17 +120,22 @@ module _ (f x : List ℕ) (ts : List Text) (mo : Model) (tb : Tabled f x ts mo) 
 
   position-is : (k : ℕ) → k < length ts → textAt f (textPosition f k) ≡ getD ts k []
   unfolding textPosition
-  position-is k h = rw (le-ltb 65535 k (omega (arith, tb .few-texts)), cap-is (startFrom f 6 k) (omega (arith, start-low k 6 6 (omega arith), tb .few-texts))) (tb .text-at k h)
+  position-is k h =
+      rw
+      (le-ltb 65535 k (omega (arith, tb .few-texts)), cap-is (startFrom f 6 k) (omega (arith, start-low k 6 6 (omega arith), tb .few-texts)))
+      (tb .text-at k h)
 
   pub note-is : (k : ℕ) → k < length ts → render f (noteReason f k) ≡ getD ts k []
   unfolding render body noteReason words textAt
   note-is k h = rw (no-text, position-is k h) (append-nil (getD ts k []))
 
   -- a reason about an automation
-  about-is : (i k : ℕ) (t : Text) → i < length (mo .rules) → eqb k 4 ≡ false → words k ≡ t → render f (aboutRule f x i k) ≡ id-at x ts i ++ t
+  about-is : (i k : ℕ) (t : Text) → i < length (mo .rules) → eqb k 4 ≡ false → words k ≡ t →
+      render f (aboutRule f x i k) ≡ id-at x ts i ++ t
   unfolding render body aboutRule id-at
   about-is i k t h n e =
-      rw (n, no-text, position-is (word x i 0) (id-in f x ts mo tb i h), e) (ap (λ (y : Text). getD ts (word x i 0) [] ++ y) (append-nil t))
+      rw (n, no-text, position-is (word x i 0) (id-in f x ts mo tb i h), e)
+      (ap (λ (y : Text). getD ts (word x i 0) [] ++ y) (append-nil t))
 
   module _ (i : ℕ) (h : i < length (mo .rules)) where
     pub trigger-reason : render f (aboutRule f x i 7) ≡ unknown-trigger-condition (id-at x ts i)

@@ -52,7 +52,8 @@ use Rattle.engine_places.proofs.Lists as lists
 
 -- the laws of the primitive changes, by cases
 module _ (m : Machine) (z : m .full ≡ 0) where
-  add-goes : (s : ℕ) (w : QWork) → ltb (length (m .queue)) (m .queueSize) ≡ true → addM s w m ≡ put-queue (m .queue ++ item s w ∷ []) m
+  add-goes : (s : ℕ) (w : QWork) → ltb (length (m .queue)) (m .queueSize) ≡ true →
+      addM s w m ≡ put-queue (m .queue ++ item s w ∷ []) m
   unfolding addM
   add-goes s w t = rw (eq-eqb (m .full) 0 z, t)
 
@@ -60,15 +61,18 @@ module _ (m : Machine) (z : m .full ≡ 0) where
   unfolding addM
   add-full s w t = rw (eq-eqb (m .full) 0 z, t)
 
-  log-goes : (t : Told) (u : Rule) (w : Where) (c : AChange) → ltb (length (m .records)) (m .recordSize) ≡ true → logM t u w c m ≡ put-records (m .records ++ entry (m .now) t u w c ∷ []) m
+  log-goes : (t : Told) (u : Rule) (w : Where) (c : AChange) → ltb (length (m .records)) (m .recordSize) ≡ true →
+      logM t u w c m ≡ put-records (m .records ++ entry (m .now) t u w c ∷ []) m
   unfolding logM
   log-goes t u w c e = rw (eq-eqb (m .full) 0 z, e)
 
-  log-full : (t : Told) (u : Rule) (w : Where) (c : AChange) → ltb (length (m .records)) (m .recordSize) ≡ false → logM t u w c m ≡ put-full 42 m
+  log-full : (t : Told) (u : Rule) (w : Where) (c : AChange) → ltb (length (m .records)) (m .recordSize) ≡ false →
+      logM t u w c m ≡ put-full 42 m
   unfolding logM
   log-full t u w c e = rw (eq-eqb (m .full) 0 z, e)
 
-  run-goes : (i : ℕ) (r : ARun) → ltb (length (m .runs)) (m .runSize) ≡ true → add-runM i r m ≡ put-counts (more (m .made)) (set (m .sequences) i (more (getD (m .sequences) i 0))) (put-runs (m .runs ++ r ∷ []) m)
+  run-goes : (i : ℕ) (r : ARun) → ltb (length (m .runs)) (m .runSize) ≡ true →
+      add-runM i r m ≡ put-counts (more (m .made)) (set (m .sequences) i (more (getD (m .sequences) i 0))) (put-runs (m .runs ++ r ∷ []) m)
   unfolding add-runM
   run-goes i r e = rw (eq-eqb (m .full) 0 z, e)
 
@@ -192,7 +196,8 @@ module _ (f x : List ℕ) (ts : List Text) (mo : Model) (tb : Tabled f x ts mo) 
 
   -- ---- an item more
 
-  pub add-is : {now s : ℕ} {m : Machine} {e : Engine} → Live now s m e → (t : ℕ) (w : QWork) → GoodWork w → Sim now s (addM t w m) (add (item-of x ts (item t w)) e)
+  pub add-is : {now s : ℕ} {m : Machine} {e : Engine} → Live now s m e → (t : ℕ) (w : QWork) → GoodWork w →
+      Sim now s (addM t w m) (add (item-of x ts (item t w)) e)
   unfolding add
   add-is {now} {s} {m} {e} l t w g = cases (case (ltb (length (m .queue)) (m .queueSize)))
     where
@@ -200,25 +205,35 @@ module _ (f x : List ℕ) (ts : List Text) (mo : Model) (tb : Tabled f x ts mo) 
       used = ap length (l .queue .is) ∙ lists.each-length (item-of x ts) (m .queue)
 
       cases : Case (ltb (length (m .queue)) (m .queueSize)) → Sim now s (addM t w m) (add (item-of x ts (item t w)) e)
-      cases (is-true b) = subst (λ (k : Machine). Sim now s k (add (item-of x ts (item t w)) e)) (sym (add-goes m (l .free) t w b)) (live (record {
-        time = l .time;
-        soon = l .soon;
-        free = l .free;
-        calm = noted-room 41 (length (e .queue)) (e .areas .queue) (e .overflow) (l .calm) (omega (arith, ltb-true (length (m .queue)) (m .queueSize) b, used, l .sizes .queue));
-        queue = record { is = ap (λ (q : List Item). q ++ item-of x ts (item t w) ∷ []) (l .queue .is) ∙ sym (lists.each-one (item-of x ts) (m .queue) (item t w)); good = lists.each-more (λ (i : QItem). GoodWork (i .work)) (m .queue) (item t w) (l .queue .good) g };
-        records = l .records;
-        runs = l .runs;
-        cells = l .cells;
-        reasons = l .reasons;
-        made = l .made;
-        low = l .low;
-        sizes = l .sizes;
-      }))
-      cases (is-false b) = dead 41 (λ o. absurd (omega arith)) (record { is = ap (λ (k : Machine). k .full) (add-full m (l .free) t w b) }) (noted-full 41 (length (e .queue)) (e .areas .queue) (e .overflow) (l .calm) (omega (arith, ltb-false (length (m .queue)) (m .queueSize) b, used, l .sizes .queue)))
+      cases (is-true b) =
+          subst (λ (k : Machine). Sim now s k (add (item-of x ts (item t w)) e)) (sym (add-goes m (l .free) t w b))
+          (live (record {
+            time = l .time;
+            soon = l .soon;
+            free = l .free;
+            calm = noted-room 41 (length (e .queue)) (e .areas .queue) (e .overflow) (l .calm) (omega (arith, ltb-true (length (m .queue)) (m .queueSize) b, used, l .sizes .queue));
+            queue = record { is = ap (λ (q : List Item). q ++ item-of x ts (item t w) ∷ []) (l .queue .is) ∙ sym (lists.each-one (item-of x ts) (m .queue) (item t w)); good = lists.each-more (λ (i : QItem). GoodWork (i .work)) (m .queue) (item t w) (l .queue .good) g };
+            records = l .records;
+            runs = l .runs;
+            cells = l .cells;
+            reasons = l .reasons;
+            made = l .made;
+            low = l .low;
+            sizes = l .sizes;
+          }))
+      cases (is-false b) =
+          dead 41 (λ o. absurd (omega arith)) (record {
+            is =
+                ap (λ (k : Machine). k .full) (add-full m (l .free) t w b);
+          }) (noted-full 41 (length
+          (e .queue)) (e .areas .queue) (e .overflow) (l .calm) (omega
+          (arith, ltb-false (length (m .queue)) (m .queueSize) b, used, l .sizes .queue)))
 
   -- ---- a record more
 
-  pub log-is : {now s : ℕ} {m : Machine} {e : Engine} → Live now (suc s) m e → (t : Told) (u : Rule) (w : Where) (c : AChange) (r : Trace) → record-of x ts (entry now t u w c) ≡ r → Sim now s (logM t u w c m) (append r e)
+  pub log-is : {now s : ℕ} {m : Machine} {e : Engine} → Live now (suc s) m e →
+      (t : Told) (u : Rule) (w : Where) (c : AChange) (r : Trace) → record-of x ts (entry now t u w c) ≡ r →
+      Sim now s (logM t u w c m) (append r e)
   unfolding append
   log-is {now} {s} {m} {e} l t u w c r q = cases (case (ltb (length (m .records)) (m .recordSize)))
     where
@@ -229,29 +244,39 @@ module _ (f x : List ℕ) (ts : List Text) (mo : Model) (tb : Tabled f x ts mo) 
       grown = length-append (m .records) (entry (m .now) t u w c ∷ [])
 
       cases : Case (ltb (length (m .records)) (m .recordSize)) → Sim now s (logM t u w c m) (append r e)
-      cases (is-true b) = subst (λ (k : Machine). Sim now s k (append r e)) (sym (log-goes m (l .free) t u w c b)) (live (record {
-        time = l .time;
-        soon = l .soon;
-        free = l .free;
-        calm = noted-room 42 (length (e .trace)) (e .areas .records) (e .overflow) (l .calm) (omega (arith, ltb-true (length (m .records)) (m .recordSize) b, used, l .sizes .records-are));
-        queue = l .queue;
-        records = ap (λ (k : List Trace). k ++ r ∷ []) (l .records) ∙ ap (λ (y : Trace). each (record-of x ts) (m .records) ++ y ∷ []) (sym q ∙ ap (λ (n : ℕ). record-of x ts (entry n t u w c)) (sym (l .time))) ∙ sym (lists.each-one (record-of x ts) (m .records) (entry (m .now) t u w c));
-        runs = l .runs;
-        cells = l .cells;
-        reasons = l .reasons;
-        made = l .made;
-        low = record { made-low = omega (arith, l .low .made-low, grown); version-low = λ i. omega (arith, l .low .version-low i, grown); slack = omega (arith, l .low .slack) };
-        sizes = record { queue = l .sizes .queue; records-are = l .sizes .records-are; runs = l .sizes .runs; fits = omega (arith, ltb-true (length (m .records)) (m .recordSize) b, grown); word = l .sizes .word };
-      }))
-      cases (is-false b) = dead 42 (λ o. absurd (omega arith)) (record { is = ap (λ (k : Machine). k .full) (log-full m (l .free) t u w c b) }) (noted-full 42 (length (e .trace)) (e .areas .records) (e .overflow) (l .calm) (omega (arith, ltb-false (length (m .records)) (m .recordSize) b, used, l .sizes .records-are)))
+      cases (is-true b) =
+          subst (λ (k : Machine). Sim now s k (append r e)) (sym (log-goes m (l .free) t u w c b)) (live (record {
+            time = l .time;
+            soon = l .soon;
+            free = l .free;
+            calm = noted-room 42 (length (e .trace)) (e .areas .records) (e .overflow) (l .calm) (omega (arith, ltb-true (length (m .records)) (m .recordSize) b, used, l .sizes .records-are));
+            queue = l .queue;
+            records = ap (λ (k : List Trace). k ++ r ∷ []) (l .records) ∙ ap (λ (y : Trace). each (record-of x ts) (m .records) ++ y ∷ []) (sym q ∙ ap (λ (n : ℕ). record-of x ts (entry n t u w c)) (sym (l .time))) ∙ sym (lists.each-one (record-of x ts) (m .records) (entry (m .now) t u w c));
+            runs = l .runs;
+            cells = l .cells;
+            reasons = l .reasons;
+            made = l .made;
+            low = record { made-low = omega (arith, l .low .made-low, grown); version-low = λ i. omega (arith, l .low .version-low i, grown); slack = omega (arith, l .low .slack) };
+            sizes = record { queue = l .sizes .queue; records-are = l .sizes .records-are; runs = l .sizes .runs; fits = omega (arith, ltb-true (length (m .records)) (m .recordSize) b, grown); word = l .sizes .word };
+          }))
+      cases (is-false b) =
+          dead 42 (λ o. absurd (omega arith)) (record {
+            is =
+                ap (λ (k : Machine). k .full) (log-full m (l .free) t u w c b);
+          }) (noted-full 42 (length
+          (e .trace)) (e .areas .records) (e .overflow) (l .calm) (omega
+          (arith, ltb-false (length (m .records)) (m .recordSize) b, used, l .sizes .records-are)))
 
   -- ---- other cells, other runs
 
-  pub cells-are : {now s t : ℕ} {m : Machine} {e : Engine} → Live now s m e → (c : Cells) (cs : List Cell) → Celled (c .values) (c .versions) cs → Low t (length (m .records)) (m .made) (c .versions) → Live now t (put-cells c m) (with-cells cs e)
+  pub cells-are : {now s t : ℕ} {m : Machine} {e : Engine} → Live now s m e → (c : Cells) (cs : List Cell) →
+      Celled (c .values) (c .versions) cs → Low t (length (m .records)) (m .made) (c .versions) →
+      Live now t (put-cells c m) (with-cells cs e)
   unfolding with-cells
   cells-are l c cs g h = record { time = l .time; soon = l .soon; free = l .free; calm = l .calm; queue = l .queue; records = l .records; runs = l .runs; cells = g; reasons = l .reasons; made = l .made; low = h; sizes = l .sizes }
 
-  pub runs-are : {now s : ℕ} {m : Machine} {e : Engine} → Live now s m e → (k : List ARun) (rs : List Run) → Running (m .sequences) k rs → Live now s (put-runs k m) (with-runs rs e)
+  pub runs-are : {now s : ℕ} {m : Machine} {e : Engine} → Live now s m e → (k : List ARun) (rs : List Run) →
+      Running (m .sequences) k rs → Live now s (put-runs k m) (with-runs rs e)
   unfolding with-runs
   runs-are l k rs g = record { time = l .time; soon = l .soon; free = l .free; calm = l .calm; queue = l .queue; records = l .records; runs = g; cells = l .cells; reasons = l .reasons; made = l .made; low = l .low; sizes = l .sizes }
 
@@ -269,23 +294,28 @@ module _ (f x : List ℕ) (ts : List Text) (mo : Model) (tb : Tabled f x ts mo) 
       cases (is-false b) = ne-eqb (word x i 0) (word x j 0) (λ e. eqb-false i j b (tb .ids-differ i j h k e)) ∙ sym b
 
   module _ (sequences : List ℕ) where
-    pub run-test : (a n : ℕ) → a < rules → (r : ARun) → GoodRun sequences r → is-run (key-of x ts a n) (run-of x ts f r) ≡ isRun a n r
+    pub run-test : (a n : ℕ) → a < rules → (r : ARun) → GoodRun sequences r →
+        is-run (key-of x ts a n) (run-of x ts f r) ≡ isRun a n r
     unfolding is-run isRun run-of key-of
     run-test a n h r g = ap (λ (b : Bool). b && eqb (r .sequence) n) (same-rule (r .automation) a (g .rule) h)
 
-    pub rule-test : (a : ℕ) → a < rules → (r : ARun) → GoodRun sequences r → of-rule (id-at x ts a) (run-of x ts f r) ≡ runOf a r
+    pub rule-test : (a : ℕ) → a < rules → (r : ARun) → GoodRun sequences r →
+        of-rule (id-at x ts a) (run-of x ts f r) ≡ runOf a r
     unfolding of-rule runOf run-of key-of
     rule-test a h r g = same-rule (r .automation) a (g .rule) h
 
-    pub line-test : (a : ℕ) → a < rules → (r : ARun) → GoodRun sequences r → in-line (id-at x ts a) (run-of x ts f r) ≡ inLine a r
+    pub line-test : (a : ℕ) → a < rules → (r : ARun) → GoodRun sequences r →
+        in-line (id-at x ts a) (run-of x ts f r) ≡ inLine a r
     unfolding in-line of-rule inLine run-of key-of
     line-test a h r g = ap (λ (b : Bool). b && r .queued) (same-rule (r .automation) a (g .rule) h)
 
-    pub other-test : (a : ℕ) → a < rules → (r : ARun) → GoodRun sequences r → of-other-rule (id-at x ts a) (run-of x ts f r) ≡ other a r
+    pub other-test : (a : ℕ) → a < rules → (r : ARun) → GoodRun sequences r →
+        of-other-rule (id-at x ts a) (run-of x ts f r) ≡ other a r
     unfolding of-other-rule other
     other-test a h r g = ap not (rule-test a h r g)
 
-    pub own-test : (a n : ℕ) → a < rules → (r : ARun) → GoodRun sequences r → r .automation ≡ a → r .sequence ≡ n → is-run (key-of x ts a n) (run-of x ts f r) ≡ true
+    pub own-test : (a n : ℕ) → a < rules → (r : ARun) → GoodRun sequences r → r .automation ≡ a → r .sequence ≡ n →
+        is-run (key-of x ts a n) (run-of x ts f r) ≡ true
     unfolding isRun
     own-test a n h r g e o = run-test a n h r g ∙ rw (eq-eqb (r .automation) a e, eq-eqb (r .sequence) n o)
 
@@ -302,7 +332,10 @@ module _ (f x : List ℕ) (ts : List Text) (mo : Model) (tb : Tabled f x ts mo) 
         key = key-of x ts (r .automation) (r .sequence)
 
         hit : is-run key (getD rs k (run-of x ts f no-run)) ≡ true
-        hit = ap (λ (y : List Run). is-run key (getD y k (run-of x ts f no-run))) (g .is) ∙ ap (is-run key) (lists.each-at (run-of x ts f) l k no-run) ∙ own-test (r .automation) (r .sequence) (ok .rule) old old-good a n
+        hit =
+            ap (λ (y : List Run). is-run key (getD y k (run-of x ts f no-run))) (g .is)
+            ∙ ap (is-run key) (lists.each-at (run-of x ts f) l k no-run)
+            ∙ own-test (r .automation) (r .sequence) (ok .rule) old old-good a n
 
         long : k < length rs
         long = omega (arith, h, ap length (g .is) ∙ lists.each-length (run-of x ts f) l)
@@ -318,7 +351,9 @@ module _ (f x : List ℕ) (ts : List Text) (mo : Model) (tb : Tabled f x ts mo) 
         -- the same, by place
         pub placed : Running sequences (set l k r) (set rs k (run-of x ts f r))
         unfolding in-place run-of
-        placed = subst (Running sequences (set l k r)) (lists.set-one (is-run key) (run-of x ts f r) rs k (run-of x ts f no-run) long hit (once key rs (g .order))) stored
+        placed =
+            subst (Running sequences (set l k r))
+            (lists.set-one (is-run key) (run-of x ts f r) rs k (run-of x ts f no-run) long hit (once key rs (g .order))) stored
 
         pub removed : Running sequences (take k l ++ drop (k + 1) l) (keep (other-run key) rs)
         unfolding other-run
@@ -329,15 +364,20 @@ module _ (f x : List ℕ) (ts : List Text) (mo : Model) (tb : Tabled f x ts mo) 
         })
 
     -- the automation's runs out
-    pub dropped : (l : List ARun) (rs : List Run) → Running sequences l rs → (a : ℕ) → a < rules → Running sequences (places.keep (other a) l) (keep (of-other-rule (id-at x ts a)) rs)
+    pub dropped : (l : List ARun) (rs : List Run) → Running sequences l rs → (a : ℕ) → a < rules →
+        Running sequences (places.keep (other a) l) (keep (of-other-rule (id-at x ts a)) rs)
     dropped l rs g a h = record {
       is = ap (keep (of-other-rule (id-at x ts a))) (g .is) ∙ lists.kept (run-of x ts f) (other a) (of-other-rule (id-at x ts a)) l (lists.each-imp (GoodRun sequences) _ (other-test a h) l (g .good));
       good = lists.each-kept (GoodRun sequences) (other a) l (g .good);
       order = order-keep (of-other-rule (id-at x ts a)) rs (g .order);
     }
 
-    pub count-is : (l : List ARun) (rs : List Run) → Running sequences l rs → (a : ℕ) → a < rules → tally (of-rule (id-at x ts a)) rs ≡ places.tally (runOf a) l
-    count-is l rs g a h = ap (tally (of-rule (id-at x ts a))) (g .is) ∙ lists.tallied (run-of x ts f) (runOf a) (of-rule (id-at x ts a)) l (lists.each-imp (GoodRun sequences) _ (rule-test a h) l (g .good))
+    pub count-is : (l : List ARun) (rs : List Run) → Running sequences l rs → (a : ℕ) → a < rules →
+        tally (of-rule (id-at x ts a)) rs ≡ places.tally (runOf a) l
+    count-is l rs g a h =
+        ap (tally (of-rule (id-at x ts a))) (g .is)
+        ∙ lists.tallied (run-of x ts f) (runOf a) (of-rule (id-at x ts a)) l
+        (lists.each-imp (GoodRun sequences) _ (rule-test a h) l (g .good))
 
   -- ---- a run more
 
@@ -357,7 +397,8 @@ module _ (f x : List ℕ) (ts : List Text) (mo : Model) (tb : Tabled f x ts mo) 
 
   -- the automation of an identifier
   rule-of-id : (a i : ℕ) → a < rules → i < rules → id-at x ts a ≡ id-at x ts i → a ≡ i
-  rule-of-id a i h k e = eqb-true a i (sym (same-rule a i h k) ∙ ap (λ (t : Text). eqT t (id-at x ts i)) e ∙ eqT-same (id-at x ts i))
+  rule-of-id a i h k e =
+      eqb-true a i (sym (same-rule a i h k) ∙ ap (λ (t : Text). eqT t (id-at x ts i)) e ∙ eqT-same (id-at x ts i))
 
   -- a new run of the i-th automation
   pub record NewRun (sequences : List ℕ) (i : ℕ) (r : ARun) : Type 0 where
@@ -371,7 +412,9 @@ module _ (f x : List ℕ) (ts : List Text) (mo : Model) (tb : Tabled f x ts mo) 
     after = set sequences i (more (getD sequences i 0))
 
     at-i : getD after i 0 ≡ getD sequences i 0 + 1
-    at-i = getD-set-same sequences i (more (getD sequences i 0)) 0 (omega (arith, g .long, tb .few-automations)) ∙ more-is (getD sequences i 0) low
+    at-i =
+        getD-set-same sequences i (more (getD sequences i 0)) 0 (omega (arith, g .long, tb .few-automations))
+        ∙ more-is (getD sequences i 0) low
 
     at-other : (j : ℕ) → (j ≡ i → ⊥) → getD after j 0 ≡ getD sequences j 0
     at-other j d = getD-set-other sequences i j (more (getD sequences i 0)) 0 (λ e. d e)
@@ -392,7 +435,8 @@ module _ (f x : List ℕ) (ts : List Text) (mo : Model) (tb : Tabled f x ts mo) 
     new-good : (r : ARun) → NewRun sequences i r → GoodRun after r
     new-good r o = record { rule = rw (o .automation) h; old = rw (o .automation, o .sequence, at-i) (omega arith); places = o .places; phase = going (r .phase) (o .phase) }
 
-    pub more-running : (l : List ARun) (rs : List Run) → Running sequences l rs → (r : ARun) → NewRun sequences i r → Running after (l ++ r ∷ []) (rs ++ run-of x ts f r ∷ [])
+    pub more-running : (l : List ARun) (rs : List Run) → Running sequences l rs → (r : ARun) → NewRun sequences i r →
+        Running after (l ++ r ∷ []) (rs ++ run-of x ts f r ∷ [])
     unfolding run-of key-of
     more-running l rs o r w = record {
       is = ap (λ (y : List Run). y ++ run-of x ts f r ∷ []) (o .is) ∙ sym (lists.each-one (run-of x ts f) l r);
@@ -413,11 +457,14 @@ module _ (f x : List ℕ) (ts : List Text) (mo : Model) (tb : Tabled f x ts mo) 
       each-rule = λ j k. counted j k (case (eqb j i)) ∙ sym (tally-end (eqT (id-at x ts j)) made (id-at x ts i));
     }
       where
-        counted : (j : ℕ) → j < rules → Case (eqb j i) → getD after j 0 ≡ tally (eqT (id-at x ts j)) made + (if eqT (id-at x ts j) (id-at x ts i) then 1 else 0)
+        counted : (j : ℕ) → j < rules → Case (eqb j i) →
+            getD after j 0 ≡ tally (eqT (id-at x ts j)) made + (if eqT (id-at x ts j) (id-at x ts i) then 1 else 0)
         counted j k (is-true b) = let e : j ≡ i = eqb-true j i b in rw (same-rule j i k h ∙ b) (ap (λ (y : ℕ). getD after y 0) e ∙ at-i ∙ ap (λ (y : ℕ). y + 1) (ap (λ (y : ℕ). getD sequences y 0) (sym e) ∙ g .each-rule j k))
-        counted j k (is-false b) = rw (same-rule j i k h ∙ b) (at-other j (eqb-false j i b) ∙ g .each-rule j k ∙ (omega arith))
+        counted j k (is-false b) =
+            rw (same-rule j i k h ∙ b) (at-other j (eqb-false j i b) ∙ g .each-rule j k ∙ (omega arith))
 
-  pub add-run-is : {now s : ℕ} {m : Machine} {e : Engine} → s ≤ 1 → Live now s m e → (i : ℕ) → i < rules → (r : ARun) → NewRun (m .sequences) i r → Sim now (suc s) (add-runM i r m) (add-run (run-of x ts f r) e)
+  pub add-run-is : {now s : ℕ} {m : Machine} {e : Engine} → s ≤ 1 → Live now s m e → (i : ℕ) → i < rules → (r : ARun) →
+      NewRun (m .sequences) i r → Sim now (suc s) (add-runM i r m) (add-run (run-of x ts f r) e)
   unfolding add-run run-of key-of
   add-run-is {now} {s} {m} {e} small l i h r w = cases (case (ltb (length (m .runs)) (m .runSize)))
     where
@@ -431,21 +478,29 @@ module _ (f x : List ℕ) (ts : List Text) (mo : Model) (tb : Tabled f x ts mo) 
       seq-low = omega (arith, made-low, l .made .each-rule i h, l .made .count, tally-most (eqT (id-at x ts i)) (e .made))
 
       cases : Case (ltb (length (m .runs)) (m .runSize)) → Sim now (suc s) (add-runM i r m) (add-run (run-of x ts f r) e)
-      cases (is-true b) = subst (λ (k : Machine). Sim now (suc s) k (add-run (run-of x ts f r) e)) (sym (run-goes m (l .free) i r b)) (live (record {
-        time = l .time;
-        soon = l .soon;
-        free = l .free;
-        calm = noted-room 43 (length (e .runs)) (e .areas .runs) (e .overflow) (l .calm) (omega (arith, ltb-true (length (m .runs)) (m .runSize) b, used, l .sizes .runs));
-        queue = l .queue;
-        records = l .records;
-        runs = more-running (m .sequences) i (m .made) h (e .made) (l .made) seq-low (m .runs) (e .runs) (l .runs) r w;
-        cells = l .cells;
-        reasons = l .reasons;
-        made = subst (λ (t : Text). Made (more (m .made)) (set (m .sequences) i (more (getD (m .sequences) i 0))) (e .made ++ t ∷ [])) (ap (id-at x ts) (sym (w .automation))) (more-made (m .sequences) i (m .made) h (e .made) (l .made) seq-low made-low);
-        low = record { made-low = omega (arith, l .low .made-low, more-is (m .made) made-low); version-low = λ e. omega (arith, l .low .version-low e); slack = omega arith };
-        sizes = l .sizes;
-      }))
-      cases (is-false b) = dead 43 (λ o. absurd (omega arith)) (record { is = ap (λ (k : Machine). k .full) (run-full m (l .free) i r b) }) (noted-full 43 (length (e .runs)) (e .areas .runs) (e .overflow) (l .calm) (omega (arith, ltb-false (length (m .runs)) (m .runSize) b, used, l .sizes .runs)))
+      cases (is-true b) =
+          subst (λ (k : Machine). Sim now (suc s) k (add-run (run-of x ts f r) e)) (sym (run-goes m (l .free) i r b))
+          (live (record {
+            time = l .time;
+            soon = l .soon;
+            free = l .free;
+            calm = noted-room 43 (length (e .runs)) (e .areas .runs) (e .overflow) (l .calm) (omega (arith, ltb-true (length (m .runs)) (m .runSize) b, used, l .sizes .runs));
+            queue = l .queue;
+            records = l .records;
+            runs = more-running (m .sequences) i (m .made) h (e .made) (l .made) seq-low (m .runs) (e .runs) (l .runs) r w;
+            cells = l .cells;
+            reasons = l .reasons;
+            made = subst (λ (t : Text). Made (more (m .made)) (set (m .sequences) i (more (getD (m .sequences) i 0))) (e .made ++ t ∷ [])) (ap (id-at x ts) (sym (w .automation))) (more-made (m .sequences) i (m .made) h (e .made) (l .made) seq-low made-low);
+            low = record { made-low = omega (arith, l .low .made-low, more-is (m .made) made-low); version-low = λ e. omega (arith, l .low .version-low e); slack = omega arith };
+            sizes = l .sizes;
+          }))
+      cases (is-false b) =
+          dead 43 (λ o. absurd (omega arith)) (record {
+            is =
+                ap (λ (k : Machine). k .full) (run-full m (l .free) i r b);
+          }) (noted-full 43 (length
+          (e .runs)) (e .areas .runs) (e .overflow) (l .calm) (omega
+          (arith, ltb-false (length (m .runs)) (m .runSize) b, used, l .sizes .runs)))
 
   -- ---- a reason more
 
@@ -457,15 +512,19 @@ module _ (f x : List ℕ) (ts : List Text) (mo : Model) (tb : Tabled f x ts mo) 
       same true = refl
       same false = refl
 
-  reason-new : (m : Machine) (r : Reason) → memT (render f r) (m .reasons) ≡ false → length (m .reasons) ≤ 299 → uncertainM f r m ≡ put-reasons (m .reasons ++ render f r ∷ []) m
+  reason-new : (m : Machine) (r : Reason) → memT (render f r) (m .reasons) ≡ false → length (m .reasons) ≤ 299 →
+      uncertainM f r m ≡ put-reasons (m .reasons ++ render f r ∷ []) m
   unfolding uncertainM pushT
   reason-new m r b h = rw (le-ltb 299 (length (m .reasons)) h, b)
 
-  pub uncertain-is : {now s : ℕ} {m : Machine} {e : Engine} → Live now s m e → (r : Reason) (t : Text) → render f r ≡ t → memT t (pool-of mo) ≡ true → Live now s (uncertainM f r m) (uncertain t e)
+  pub uncertain-is : {now s : ℕ} {m : Machine} {e : Engine} → Live now s m e → (r : Reason) (t : Text) →
+      render f r ≡ t → memT t (pool-of mo) ≡ true → Live now s (uncertainM f r m) (uncertain t e)
   unfolding uncertain
   uncertain-is {now} {s} {m} {e} l r t q p = cases (case (memT t (e .unknown)))
     where
-      with-reasons : (k us : List Text) → Reasoned k us → Live now s (put-reasons k m) (record { cells = e .cells; queue = e .queue; runs = e .runs; made = e .made; trace = e .trace; unknown = us; overflow = e .overflow; areas = e .areas })
+      with-reasons : (k us : List Text) → Reasoned k us →
+          Live now s (put-reasons k m)
+          (record { cells = e .cells; queue = e .queue; runs = e .runs; made = e .made; trace = e .trace; unknown = us; overflow = e .overflow; areas = e .areas })
       with-reasons k us g = record { time = l .time; soon = l .soon; free = l .free; calm = l .calm; queue = l .queue; records = l .records; runs = l .runs; cells = l .cells; reasons = g; made = l .made; low = l .low; sizes = l .sizes }
 
       same : memT (render f r) (m .reasons) ≡ memT t (e .unknown)
@@ -476,7 +535,8 @@ module _ (f x : List ℕ) (ts : List Text) (mo : Model) (tb : Tabled f x ts mo) 
       cases (is-false b) =
           let few = at-most (t ∷ e .unknown) (pool-of mo) (b, l .reasons .differ) (p, l .reasons .among) in
           let long = ap length (l .reasons .is) in
-          rw (reason-new m r (same ∙ b) (omega (arith, few, long, tb .few-reasons)), b) (with-reasons (m .reasons ++ render f r ∷ []) (e .unknown ++ t ∷ []) (record {
+          rw (reason-new m r (same ∙ b) (omega (arith, few, long, tb .few-reasons)), b)
+          (with-reasons (m .reasons ++ render f r ∷ []) (e .unknown ++ t ∷ []) (record {
             is = ap (λ (y : Text). m .reasons ++ y ∷ []) q ∙ ap (λ (y : List Text). y ++ t ∷ []) (l .reasons .is);
             differ = differ-end t (e .unknown) (l .reasons .differ) b;
             among = lists.each-more (λ (y : Text). memT y (pool-of mo) ≡ true) (e .unknown) t (l .reasons .among) p;

@@ -69,10 +69,12 @@ module _ (f x : List ℕ) (ts : List Text) (mo : Model) (tb : Tabled f x ts mo) 
   unfolding fit
   whole-is r h = rw (take-at (r .places) (replicate 17 0) 17 h)
 
-  pub run-good : {now s : ℕ} {m : Machine} {e : Engine} → L now s m e → (k : ℕ) → k < length (m .runs) → G (m .sequences) (getD (m .runs) k no-run)
+  pub run-good : {now s : ℕ} {m : Machine} {e : Engine} → L now s m e → (k : ℕ) → k < length (m .runs) →
+      G (m .sequences) (getD (m .runs) k no-run)
   run-good {now} {s} {m} l k h = lists.each-getD (G (m .sequences)) (m .runs) k no-run h (l .runs .good)
 
-  pub run-is : {now s : ℕ} {m : Machine} {e : Engine} → L now s m e → (k : ℕ) → k < length (m .runs) → runM k m ≡ getD (m .runs) k no-run
+  pub run-is : {now s : ℕ} {m : Machine} {e : Engine} → L now s m e → (k : ℕ) → k < length (m .runs) →
+      runM k m ≡ getD (m .runs) k no-run
   unfolding runM
   run-is {now} {s} {m} l k h = whole-is (getD (m .runs) k no-run) (run-good l k h .places .long)
 
@@ -82,24 +84,36 @@ module _ (f x : List ℕ) (ts : List Text) (mo : Model) (tb : Tabled f x ts mo) 
     pub sequence : getD (m .runs) k no-run .sequence ≡ r .sequence
     pub number : getD (m .runs) k no-run .number ≡ r .number
 
-  pub store-is : {now s : ℕ} {m : Machine} {e : Engine} → L now s m e → (k : ℕ) → k < length (m .runs) → (r : ARun) → G (m .sequences) r → getD (m .runs) k no-run .automation ≡ r .automation → getD (m .runs) k no-run .sequence ≡ r .sequence → L now s (put-runM k r m) (store (R r) e)
+  pub store-is : {now s : ℕ} {m : Machine} {e : Engine} → L now s m e → (k : ℕ) → k < length (m .runs) → (r : ARun) →
+      G (m .sequences) r → getD (m .runs) k no-run .automation ≡ r .automation →
+      getD (m .runs) k no-run .sequence ≡ r .sequence → L now s (put-runM k r m) (store (R r) e)
   unfolding store
-  store-is {now} {s} {m} {e} l k h r g a n = runs-are f x ts mo tb l (set (m .runs) k r) _ (stored f x ts mo tb (m .sequences) (m .runs) (e .runs) (l .runs) k h r g a n)
+  store-is {now} {s} {m} {e} l k h r g a n =
+      runs-are f x ts mo tb l (set (m .runs) k r) _
+      (stored f x ts mo tb (m .sequences) (m .runs) (e .runs) (l .runs) k h r g a n)
 
   -- ---- ends
 
-  let-go-is : {now s : ℕ} {m : Machine} {e : Engine} → L now s m e → (k : ℕ) → k < length (m .runs) → S now s (release-runM k (getD (m .runs) k no-run) m) (let-go now (R (getD (m .runs) k no-run)) e)
+  let-go-is : {now s : ℕ} {m : Machine} {e : Engine} → L now s m e → (k : ℕ) → k < length (m .runs) →
+      S now s (release-runM k (getD (m .runs) k no-run) m) (let-go now (R (getD (m .runs) k no-run)) e)
   unfolding release-runM let-go run-of
   let-go-is {now} {s} {m} {e} l k o =
       let r = getD (m .runs) k no-run in
       let g = run-good l k o in
-      now-is f x ts mo tb (store-is l k o (releasedR r) (record { rule = g .rule; old = g .old; places = g .places; phase = g .phase }) refl refl) r (g .rule)
+      now-is f x ts mo tb
+      (store-is l k o (releasedR r) (record { rule = g .rule; old = g .old; places = g .places; phase = g .phase }) refl refl) r
+      (g .rule)
 
-  pub release-is : {now s : ℕ} {m : Machine} {e : Engine} → L now s m e → (a : ℕ) → a < rules → S now s (releaseM a m) (release now (id-at x ts a) e)
+  pub release-is : {now s : ℕ} {m : Machine} {e : Engine} → L now s m e → (a : ℕ) → a < rules →
+      S now s (releaseM a m) (release now (id-at x ts a) e)
   unfolding releaseM release release-atM if-some
-  release-is {now} {s} {m} {e} l a h = cases (lists.sought R (inLine a) (in-line (id-at x ts a)) no-run (m .runs) 0 (lists.each-imp (G (m .sequences)) _ (line-test f x ts mo tb (m .sequences) a h) (m .runs) (l .runs .good)))
+  release-is {now} {s} {m} {e} l a h =
+      cases
+      (lists.sought R (inLine a) (in-line (id-at x ts a)) no-run (m .runs) 0 (lists.each-imp (G (m .sequences)) _ (line-test f x ts mo tb (m .sequences) a h) (m .runs) (l .runs .good)))
     where
-      cases : lists.Sought R (inLine a) (in-line (id-at x ts a)) no-run (m .runs) (placeFrom (inLine a) 0 (m .runs)) 0 → S now s (release-atM (placeFrom (inLine a) 0 (m .runs)) m) (if-some (let-go now) (find (in-line (id-at x ts a)) (e .runs)) e)
+      cases : lists.Sought R (inLine a) (in-line (id-at x ts a)) no-run (m .runs) (placeFrom (inLine a) 0 (m .runs)) 0 →
+          S now s (release-atM (placeFrom (inLine a) 0 (m .runs)) m)
+          (if-some (let-go now) (find (in-line (id-at x ts a)) (e .runs)) e)
       cases (lists.here k p o q t) =
           let z : 0 + k ≡ k = omega arith in
           let y : find (in-line (id-at x ts a)) (e .runs) ≡ some (R (getD (m .runs) k no-run)) = ap (find (in-line (id-at x ts a))) (l .runs .is) ∙ q in
@@ -113,7 +127,8 @@ module _ (f x : List ℕ) (ts : List Text) (mo : Model) (tb : Tabled f x ts mo) 
   complete n = refl
 
   -- the run at k ends
-  finish-old : {now : ℕ} {m : Machine} {e : Engine} → L now 0 m e → (k : ℕ) → k < length (m .runs) → S now 0 (finish-runM k (getD (m .runs) k no-run) m) (finish now (R (getD (m .runs) k no-run)) e)
+  finish-old : {now : ℕ} {m : Machine} {e : Engine} → L now 0 m e → (k : ℕ) → k < length (m .runs) →
+      S now 0 (finish-runM k (getD (m .runs) k no-run) m) (finish now (R (getD (m .runs) k no-run)) e)
   unfolding finish-runM outM finish run-of key-of
   finish-old {now} {m} {e} l k h =
       let r = getD (m .runs) k no-run in
@@ -125,14 +140,17 @@ module _ (f x : List ℕ) (ts : List Text) (mo : Model) (tb : Tabled f x ts mo) 
       (λ n z p. s-release n z (r .automation) _ p)
       (λ n o. c-release (Over n) (overflow-stays n) now (id-at x ts (r .automation)) _ o)
 
-  same-finish : (now : ℕ) (r s : ARun) (e : Engine) → r .automation ≡ s .automation → r .sequence ≡ s .sequence → r .number ≡ s .number → finish now (R r) e ≡ finish now (R s) e
+  same-finish : (now : ℕ) (r s : ARun) (e : Engine) → r .automation ≡ s .automation → r .sequence ≡ s .sequence →
+      r .number ≡ s .number → finish now (R r) e ≡ finish now (R s) e
   unfolding finish run-of key-of
   same-finish now r s e a b c = rw (a, b, c)
 
-  pub finish-is : {now : ℕ} {m : Machine} {e : Engine} → L now 0 m e → (k : ℕ) (r : ARun) → Keyed k r m → S now 0 (finishM k m) (finish now (R r) e)
+  pub finish-is : {now : ℕ} {m : Machine} {e : Engine} → L now 0 m e → (k : ℕ) (r : ARun) → Keyed k r m →
+      S now 0 (finishM k m) (finish now (R r) e)
   unfolding finishM
   finish-is {now} {m} {e} l k r w =
-      rw (run-is l k (w .inside)) (subst (S now 0 (finish-runM k (getD (m .runs) k no-run) m)) (same-finish now (getD (m .runs) k no-run) r e (w .automation) (w .sequence) (w .number)) (finish-old l k (w .inside)))
+      rw (run-is l k (w .inside))
+      (subst (S now 0 (finish-runM k (getD (m .runs) k no-run) m)) (same-finish now (getD (m .runs) k no-run) r e (w .automation) (w .sequence) (w .number)) (finish-old l k (w .inside)))
 
   -- ---- beginnings
 
@@ -153,7 +171,10 @@ module _ (f x : List ℕ) (ts : List Text) (mo : Model) (tb : Tabled f x ts mo) 
   no-places : Places f x ts mo tb 0 (replicate 17 0)
   no-places = record { long = length-replicate {A = ℕ} 17 0; low = omega arith; at = λ j h. absurd (omega arith) }
 
-  begins : (i : ℕ) → i < rules → (later : Bool) (n : ℕ) (sequences : List ℕ) (made : List Text) → Made f x ts mo tb n sequences made → n < 4294967295 → Pass (mo .scenario .entities) (pool-of mo) 0 (getD (mo .rules) i no-rule .actions) → Begins sequences i later made (newRun f x i later n sequences)
+  begins : (i : ℕ) → i < rules → (later : Bool) (n : ℕ) (sequences : List ℕ) (made : List Text) →
+      Made f x ts mo tb n sequences made → n < 4294967295 →
+      Pass (mo .scenario .entities) (pool-of mo) 0 (getD (mo .rules) i no-rule .actions) →
+      Begins sequences i later made (newRun f x i later n sequences)
   unfolding newRun run-of key-of new-run actions-at id-at
   begins i h later n sequences made g o t =
       let w = row i h in
@@ -186,14 +207,19 @@ module _ (f x : List ℕ) (ts : List Text) (mo : Model) (tb : Tabled f x ts mo) 
 
   module _ {now : ℕ} {m : Machine} {e : Engine} (l : L now 0 m e) (i : ℕ) (h : i < rules) where
     begins-here : (later : Bool) → Begins (m .sequences) i later (e .made) (newRun f x i later (m .made) (m .sequences))
-    begins-here later = begins i h later (m .made) (m .sequences) (e .made) (l .made) (omega (arith, l .low .made-low, l .sizes .fits, l .sizes .word)) (pass-is i h)
+    begins-here later =
+        begins i h later (m .made) (m .sequences) (e .made) (l .made)
+        (omega (arith, l .low .made-low, l .sizes .fits, l .sizes .word)) (pass-is i h)
 
     module _ (r : ARun) (b : Begins (m .sequences) i false (e .made) r) where
       begin-eq : begin now (A i) false e ≡ adds (next-step now (R r) ∷ []) (log-rule now (Kind.start (r .number)) (id-at x ts (r .automation)) (add-run (R r) e))
       unfolding begin run-of
       begin-eq =
-          ap (λ (y : Run). adds (next-step now y ∷ []) (log-rule now (Kind.start (y .number)) (A i .id) (add-run y e))) (sym (b .is))
-          ∙ ap (λ (t : Text). adds (next-step now (R r) ∷ []) (log-rule now (Kind.start (r .number)) t (add-run (R r) e))) (id-is i h ∙ ap (id-at x ts) (sym (b .new .automation)))
+          ap (λ (y : Run). adds (next-step now y ∷ []) (log-rule now (Kind.start (y .number)) (A i .id) (add-run y e)))
+          (sym (b .is))
+          ∙ ap
+          (λ (t : Text). adds (next-step now (R r) ∷ []) (log-rule now (Kind.start (r .number)) t (add-run (R r) e)))
+          (id-is i h ∙ ap (id-at x ts) (sym (b .new .automation)))
 
       rule-low : r .automation < rules
       rule-low = rw (b .new .automation) h
@@ -216,12 +242,14 @@ module _ (f x : List ℕ) (ts : List Text) (mo : Model) (tb : Tabled f x ts mo) 
       unfolding begin run-of adds through
       later-eq =
           ap (λ (y : Run). log-rule now (Kind.queued (y .number)) (A i .id) (add-run y e)) (sym (b .is))
-          ∙ ap (λ (t : Text). log-rule now (Kind.queued (r .number)) t (add-run (R r) e)) (id-is i h ∙ ap (id-at x ts) (sym (b .new .automation)))
+          ∙ ap (λ (t : Text). log-rule now (Kind.queued (r .number)) t (add-run (R r) e))
+          (id-is i h ∙ ap (id-at x ts) (sym (b .new .automation)))
 
       begin-queued-is : S now 0 (begin-queuedM i r m) (begin now (A i) true e)
       unfolding begin-queuedM
       begin-queued-is = rw later-eq (
-          follow f x ts mo tb (log-ruleM 13 (r .number) (r .automation)) (log-rule now (Kind.queued (r .number)) (id-at x ts (r .automation)))
+          follow f x ts mo tb (log-ruleM 13 (r .number) (r .automation))
+          (log-rule now (Kind.queued (r .number)) (id-at x ts (r .automation)))
           (add-run-is f x ts mo tb (omega arith) l i h r (b .new))
           (λ k. log-rule-is f x ts mo tb k 13 (r .number) (r .automation) (Kind.queued (r .number)) (queueing (r .number)))
           (λ n z p. s-log-rule n z 13 (r .number) (r .automation) _ p)
@@ -269,7 +297,8 @@ module _ (f x : List ℕ) (ts : List Text) (mo : Model) (tb : Tabled f x ts mo) 
       by false = refl
   decide-is queued most (suc n) = rw (ne-eqb (suc n) 0 (λ o. absurd (omega arith))) (by (leb most (suc n)))
     where
-      by : (b : Bool) → decision-of (if b then MaxReached else WaitInLine) ≡ (if b then modes.max-reached else modes.wait-in-line)
+      by : (b : Bool) →
+          decision-of (if b then MaxReached else WaitInLine) ≡ (if b then modes.max-reached else modes.wait-in-line)
       by true = refl
       by false = refl
   decide-is parallel most n = by (leb most n)
@@ -301,4 +330,5 @@ module _ (f x : List ℕ) (ts : List Text) (mo : Model) (tb : Tabled f x ts mo) 
     carry-is =
         let w = row i h in
         let c : tally (of-rule (A i .id)) (e .runs) ≡ places.tally (runOf i) (m .runs) = ap (λ (t : Text). tally (of-rule t) (e .runs)) (id-is i h) ∙ count-is f x ts mo tb (m .sequences) (m .runs) (e .runs) (l .runs) i h in
-        rw (w .mode, w .max, c, ← decide-is (A i .mode) (A i .max) (places.tally (runOf i) (m .runs))) (decided-is (decideM (mode-number (A i .mode)) (A i .max) (places.tally (runOf i) (m .runs))))
+        rw (w .mode, w .max, c, ← decide-is (A i .mode) (A i .max) (places.tally (runOf i) (m .runs)))
+        (decided-is (decideM (mode-number (A i .mode)) (A i .max) (places.tally (runOf i) (m .runs))))

@@ -91,7 +91,9 @@ static-differ rules = sorted-differ (sortedT (flat rule-reasons rules)) (sorted-
 
 pub static-among : (mo : Model) → Among (pool-of mo) (unsupported (mo .rules))
 unfolding pool-of
-static-among mo = among-to (unsupported (mo .rules)) (unsupported (mo .rules)) _ (λ t h. mem-left t (unsupported (mo .rules)) _ h) (among-self (unsupported (mo .rules)))
+static-among mo =
+    among-to (unsupported (mo .rules)) (unsupported (mo .rules)) _ (λ t h. mem-left t (unsupported (mo .rules)) _ h)
+    (among-self (unsupported (mo .rules)))
 
 module _ (f x : List ℕ) (ts : List Text) (mo : Model) (tb : Tabled f x ts mo) where
   abbrev L : ℕ → ℕ → Machine → Engine → Type 0
@@ -169,7 +171,8 @@ module _ (f x : List ℕ) (ts : List Text) (mo : Model) (tb : Tabled f x ts mo) 
 
   -- ---- the events
 
-  event-is : {m : Machine} {e : Engine} → L 0 0 m e → (l : List ℕ) (i : ℕ) (v : Event) → EventAt l i v → S 0 0 (add-eventM l i m) (add (event-item v) e)
+  event-is : {m : Machine} {e : Engine} → L 0 0 m e → (l : List ℕ) (i : ℕ) (v : Event) → EventAt l i v →
+      S 0 0 (add-eventM l i m) (add (event-item v) e)
   unfolding add-eventM event-item item-of
   event-is {m} {e} l k i v a =
       let w = eventW (getD k (i * 4 + 1) 0) (getD k (i * 4 + 2) 0) (getD k (i * 4 + 3) 0) in
@@ -179,12 +182,15 @@ module _ (f x : List ℕ) (ts : List Text) (mo : Model) (tb : Tabled f x ts mo) 
   unfolding add-eventM
   add-event-stuck l i n m z p = s-add n z _ _ m p
 
-  events-are : (l : List ℕ) (d : Event) (vs : List Event) → ((i : ℕ) → i < length vs → EventAt l i (getD vs i d)) → (n : ℕ) → n ≤ length vs → {m : Machine} {e : Engine} → S 0 0 m e → S 0 0 (add-eventsM l n m) (adds (each event-item (take n vs)) e)
+  events-are : (l : List ℕ) (d : Event) (vs : List Event) → ((i : ℕ) → i < length vs → EventAt l i (getD vs i d)) →
+      (n : ℕ) → n ≤ length vs → {m : Machine} {e : Engine} → S 0 0 m e →
+      S 0 0 (add-eventsM l n m) (adds (each event-item (take n vs)) e)
   unfolding add-eventsM each adds through
   events-are l d vs h zero o s = s
   events-are l d vs h (suc n) o {m} {e} s =
       let y : each event-item (take (suc n) vs) ≡ each event-item (take n vs) ++ event-item (getD vs n d) ∷ [] = ap (each event-item) (take-suc vs n d o) ∙ lists.each-one event-item (take n vs) (getD vs n d) in
-      subst (S 0 0 (add-eventM l n (add-eventsM l n m))) (sym (ap (λ (k : List Item). adds k e) y ∙ adds-end (each event-item (take n vs)) (event-item (getD vs n d)) e))
+      subst (S 0 0 (add-eventM l n (add-eventsM l n m)))
+      (sym (ap (λ (k : List Item). adds k e) y ∙ adds-end (each event-item (take n vs)) (event-item (getD vs n d)) e))
       (follow f x ts mo tb (add-eventM l n) (add (event-item (getD vs n d))) (events-are l d vs h n (omega arith) s)
       (λ k. event-is k l n (getD vs n d) (h n o))
       (λ i z p. add-event-stuck l n i _ z p)
@@ -198,7 +204,9 @@ module _ (f x : List ℕ) (ts : List Text) (mo : Model) (tb : Tabled f x ts mo) 
 
   add-same : (s : ℕ) (w : QWork) (m : Machine) → Same m (addM s w m)
   unfolding addM
-  add-same s w m = by (eqb (m .full) 0) (ltb (length (m .queue)) (m .queueSize)) _ _ (record { values = refl; versions = refl }) (record { values = refl; versions = refl })
+  add-same s w m =
+      by (eqb (m .full) 0) (ltb (length (m .queue)) (m .queueSize)) _ _ (record { values = refl; versions = refl })
+      (record { values = refl; versions = refl })
     where
       by : (a b : Bool) (p q : Machine) → Same m p → Same m q → Same m (if a then (if b then p else q) else m)
       by true true p q g h = g
@@ -221,7 +229,8 @@ module _ (f x : List ℕ) (ts : List Text) (mo : Model) (tb : Tabled f x ts mo) 
       let b = expiry-same n (expiriesM x n m) in
       record { values = b .values ∙ a .values; versions = b .versions ∙ a .versions }
 
-  cells-more : (vs ns : List ℕ) (n e : ℕ) → cells-from x ts vs ns (suc n) e ≡ cells-from x ts vs ns n e ++ cell-at x ts vs ns (e + n) ∷ []
+  cells-more : (vs ns : List ℕ) (n e : ℕ) →
+      cells-from x ts vs ns (suc n) e ≡ cells-from x ts vs ns n e ++ cell-at x ts vs ns (e + n) ∷ []
   unfolding cells-from
   cells-more vs ns zero e = let z : e + 0 ≡ e = omega arith in ap (λ (i : ℕ). cell-at x ts vs ns i ∷ []) (sym z)
   cells-more vs ns (suc n) e = let z : e + 1 + n ≡ e + suc n = omega arith in ap (λ (l : List Cell). cell-at x ts vs ns e ∷ l) (cells-more vs ns n (e + 1) ∙ ap (λ (i : ℕ). cells-from x ts vs ns n (e + 1) ++ cell-at x ts vs ns i ∷ []) z)
@@ -229,9 +238,13 @@ module _ (f x : List ℕ) (ts : List Text) (mo : Model) (tb : Tabled f x ts mo) 
   flat-end : (l : List Cell) (c : Cell) → flat (expiry 0) (l ++ c ∷ []) ≡ flat (expiry 0) l ++ expiry 0 c
   unfolding flat
   flat-end [] c = append-nil (expiry 0 c)
-  flat-end (y ∷ l) c = ap (λ (k : List Item). expiry 0 y ++ k) (flat-end l c) ∙ sym (append-assoc (expiry 0 y) (flat (expiry 0) l) (expiry 0 c))
+  flat-end (y ∷ l) c =
+      ap (λ (k : List Item). expiry 0 y ++ k) (flat-end l c)
+      ∙ sym (append-assoc (expiry 0 y) (flat (expiry 0) l) (expiry 0 c))
 
-  expiries-are : (vs ns : List ℕ) (n : ℕ) → n ≤ length (mo .scenario .entities) → {m : Machine} {e : Engine} → m .values ≡ vs → m .versions ≡ ns → S 0 0 m e → S 0 0 (expiriesM x n m) (adds (flat (expiry 0) (cells-from x ts vs ns n 0)) e)
+  expiries-are : (vs ns : List ℕ) (n : ℕ) → n ≤ length (mo .scenario .entities) → {m : Machine} {e : Engine} →
+      m .values ≡ vs → m .versions ≡ ns → S 0 0 m e →
+      S 0 0 (expiriesM x n m) (adds (flat (expiry 0) (cells-from x ts vs ns n 0)) e)
   unfolding expiriesM flat adds through cells-from
   expiries-are vs ns zero o a b s = s
   expiries-are vs ns (suc n) o {m} {e} a b s =
@@ -244,14 +257,20 @@ module _ (f x : List ℕ) (ts : List Text) (mo : Model) (tb : Tabled f x ts mo) 
       (λ i q p. s-expiry i q x n _ p)
       (λ i q. c-adds (Over i) (overflow-stays i) (expiry 0 (cell-at x ts vs ns n)) _ q))
     where
-      at-cell : (n : ℕ) → n < length (mo .scenario .entities) → (k : Machine) (d : Engine) → k .values ≡ vs → k .versions ≡ ns → L 0 0 k d → S 0 0 (expiryM x n k) (adds (expiry 0 (cell-at x ts vs ns n)) d)
-      at-cell n o k d a b l = subst (λ (c : Cell). S 0 0 (expiryM x n k) (adds (expiry 0 c) d)) (ap (λ (y : List ℕ). cell-at x ts y (k .versions) n) a ∙ ap (λ (y : List ℕ). cell-at x ts vs y n) b) (expiry-is f x ts mo tb l n o)
+      at-cell : (n : ℕ) → n < length (mo .scenario .entities) → (k : Machine) (d : Engine) → k .values ≡ vs →
+          k .versions ≡ ns → L 0 0 k d → S 0 0 (expiryM x n k) (adds (expiry 0 (cell-at x ts vs ns n)) d)
+      at-cell n o k d a b l =
+          subst (λ (c : Cell). S 0 0 (expiryM x n k) (adds (expiry 0 c) d))
+          (ap (λ (y : List ℕ). cell-at x ts y (k .versions) n) a ∙ ap (λ (y : List ℕ). cell-at x ts vs y n) b)
+          (expiry-is f x ts mo tb l n o)
 
   -- ---- the beginning
 
   log-same : (k : ℕ) (m : Machine) → Same m (log-plainM k m)
   unfolding log-plainM logM
-  log-same k m = by (eqb (m .full) 0) (ltb (length (m .records)) (m .recordSize)) _ _ (record { values = refl; versions = refl }) (record { values = refl; versions = refl })
+  log-same k m =
+      by (eqb (m .full) 0) (ltb (length (m .records)) (m .recordSize)) _ _ (record { values = refl; versions = refl })
+      (record { values = refl; versions = refl })
     where
       by : (a b : Bool) (p q : Machine) → Same m p → Same m q → Same m (if a then (if b then p else q) else m)
       by true true p q g h = g
@@ -268,32 +287,39 @@ module _ (f x : List ℕ) (ts : List Text) (mo : Model) (tb : Tabled f x ts mo) 
 
   module _ (m : Machine) (areas : Areas) (cells : List Cell) (b : Beginning m areas cells) (l : List ℕ) (d : Event) (vs : List Event) (evs : (i : ℕ) → i < length vs → EventAt l i (getD vs i d)) where
     first-record : S 0 0 (log-plainM 0 m) (log 0 Kind.initial none none none (empty areas cells))
-    first-record = log-plain-is f x ts mo tb (weaker f x ts mo tb (omega arith) (start-is m areas cells b)) 0 Kind.initial initial
+    first-record =
+        log-plain-is f x ts mo tb (weaker f x ts mo tb (omega arith) (start-is m areas cells b)) 0 Kind.initial initial
 
     all-events : S 0 0 (add-eventsM l (length vs) (log-plainM 0 m)) (adds (each event-item vs) (log 0 Kind.initial none none none (empty areas cells)))
-    all-events = subst (λ (k : List Event). S 0 0 (add-eventsM l (length vs) (log-plainM 0 m)) (adds (each event-item k) (log 0 Kind.initial none none none (empty areas cells)))) (take-all (length vs) vs (omega arith)) (events-are l d vs evs (length vs) (omega arith) first-record)
+    all-events =
+        subst
+        (λ (k : List Event). S 0 0 (add-eventsM l (length vs) (log-plainM 0 m)) (adds (each event-item k) (log 0 Kind.initial none none none (empty areas cells))))
+        (take-all (length vs) vs (omega arith)) (events-are l d vs evs (length vs) (omega arith) first-record)
 
     begun-is : S 0 0 (begunM x l (length vs) m) (begun areas cells (unsupported (mo .rules)) vs)
     unfolding begunM add-expiriesM begun cells-of
     begun-is =
         let u = log-same 0 m in
         let w = events-same l (length vs) (log-plainM 0 m) in
-        subst (λ (k : List Cell). S 0 0 (expiriesM x (entities x) (add-eventsM l (length vs) (log-plainM 0 m))) (adds (flat (expiry 0) k) (adds (each event-item vs) (log 0 Kind.initial none none none (empty areas cells))))) (sym (b .cells-are))
+        subst
+        (λ (k : List Cell). S 0 0 (expiriesM x (entities x) (add-eventsM l (length vs) (log-plainM 0 m))) (adds (flat (expiry 0) k) (adds (each event-item vs) (log 0 Kind.initial none none none (empty areas cells)))))
+        (sym (b .cells-are))
         (expiries-are (m .values) (m .versions) (entities x) (omega (arith, entities-are f x ts mo tb)) (w .values ∙ u .values) (w .versions ∙ u .versions) all-events)
 
   -- ---- the end
 
   -- the same steps, reasons, records, cells and runs; or the area that was full
   pub data Result (p : Halt) (d : Ended) (total : ℕ) : Type 0 where
-    ends : (now : ℕ) → L now 0 (p .last) (d .engine) → d .steps + p .left ≡ total → p .why ≤ 2 → d .incomplete ≡ reasons-of (p .why) ++ left-over (d .engine .runs) → Result p d total
+    ends : (now : ℕ) → L now 0 (p .last) (d .engine) → d .steps + p .left ≡ total → p .why ≤ 2 →
+        d .incomplete ≡ reasons-of (p .why) ++ left-over (d .engine .runs) → Result p d total
     full : (n : ℕ) → (n ≡ 0 → ⊥) → Stuck n (p .last) → d .engine .overflow ≡ some n → Result p d total
 
-  runs-none : (rs : List Run) → length rs ≡ 0 → left-over rs ≡ []
+  pub runs-none : (rs : List Run) → length rs ≡ 0 → left-over rs ≡ []
   unfolding left-over
   runs-none [] h = refl
   runs-none (r ∷ rs) h = absurd (omega arith)
 
-  runs-some : (rs : List Run) → (length rs ≡ 0 → ⊥) → left-over rs ≡ runs-left ∷ []
+  pub runs-some : (rs : List Run) → (length rs ≡ 0 → ⊥) → left-over rs ≡ runs-left ∷ []
   unfolding left-over
   runs-some [] h = absurd (h refl)
   runs-some (r ∷ rs) h = refl
@@ -302,19 +328,26 @@ module _ (f x : List ℕ) (ts : List Text) (mo : Model) (tb : Tabled f x ts mo) 
   unfolding closedM horizonM
   closed-stuck n p z h = by (eqb (p .why) 0) (eqb (length (p .last .runs)) 0)
     where
-      by : (a b : Bool) → Stuck n ((if a then (if b then halt (log-plainM 9 (put-now (getD x 2 0) (p .last))) (p .left) 0 else p) else p) .last)
+      by : (a b : Bool) →
+          Stuck n
+          ((if a then (if b then halt (log-plainM 9 (put-now (getD x 2 0) (p .last))) (p .left) 0 else p) else p) .last)
       by true true = s-log-plain n z 9 _ (record { is = h .is })
       by true false = h
       by false b = h
 
   -- something is left undone: nothing is added
-  kept : (d : Ended) (t : Text) (l : List Text) → d .incomplete ++ left-over (d .engine .runs) ≡ t ∷ l → closed horizon d ≡ record { engine = d .engine; steps = d .steps; incomplete = d .incomplete ++ left-over (d .engine .runs) }
+  kept : (d : Ended) (t : Text) (l : List Text) → d .incomplete ++ left-over (d .engine .runs) ≡ t ∷ l →
+      closed horizon d ≡ record { engine = d .engine; steps = d .steps; incomplete = d .incomplete ++ left-over (d .engine .runs) }
   unfolding closed last-record
-  kept d t l e = ap (λ (k : List Text). record { engine = last-record horizon k (d .engine); steps = d .steps; incomplete = d .incomplete ++ left-over (d .engine .runs) }) e
+  kept d t l e =
+      ap
+      (λ (k : List Text). record { engine = last-record horizon k (d .engine); steps = d .steps; incomplete = d .incomplete ++ left-over (d .engine .runs) }) e
 
-  all-done : (d : Ended) → d .incomplete ++ left-over (d .engine .runs) ≡ [] → closed horizon d ≡ record { engine = log horizon Kind.horizon none none none (d .engine); steps = d .steps; incomplete = [] }
+  all-done : (d : Ended) → d .incomplete ++ left-over (d .engine .runs) ≡ [] →
+      closed horizon d ≡ record { engine = log horizon Kind.horizon none none none (d .engine); steps = d .steps; incomplete = [] }
   unfolding closed last-record
-  all-done d e = ap (λ (k : List Text). record { engine = last-record horizon k (d .engine); steps = d .steps; incomplete = k }) e
+  all-done d e =
+      ap (λ (k : List Text). record { engine = last-record horizon k (d .engine); steps = d .steps; incomplete = k }) e
 
   log-runs-same : (h : ℕ) (e : Engine) → log h Kind.horizon none none none e .runs ≡ e .runs
   unfolding log append
@@ -328,8 +361,10 @@ module _ (f x : List ℕ) (ts : List Text) (mo : Model) (tb : Tabled f x ts mo) 
     at-horizon = record { time = tb .horizon; soon = tb .day; free = l .free; calm = l .calm; queue = l .queue; records = l .records; runs = l .runs; cells = l .cells; reasons = l .reasons; made = l .made; low = l .low; sizes = l .sizes }
 
     -- the machine stays, the definition too
-    unchanged : closedM x p ≡ p → (t : Text) (k : List Text) → d .incomplete ++ left-over (d .engine .runs) ≡ t ∷ k → Result (closedM x p) (closed horizon d) total
-    unchanged e t k o = rw (e, kept d t k o) (ends now l steps low (ap (λ (y : List Text). y ++ left-over (d .engine .runs)) told))
+    unchanged : closedM x p ≡ p → (t : Text) (k : List Text) → d .incomplete ++ left-over (d .engine .runs) ≡ t ∷ k →
+        Result (closedM x p) (closed horizon d) total
+    unchanged e t k o =
+        rw (e, kept d t k o) (ends now l steps low (ap (λ (y : List Text). y ++ left-over (d .engine .runs)) told))
 
     other-why : eqb (p .why) 0 ≡ false → closedM x p ≡ p
     unfolding closedM
@@ -339,11 +374,13 @@ module _ (f x : List ℕ) (ts : List Text) (mo : Model) (tb : Tabled f x ts mo) 
     unfolding closedM
     other-runs b = by (eqb (p .why) 0)
       where
-        by : (a : Bool) → (if a then (if eqb (length (p .last .runs)) 0 then halt (horizonM x (p .last)) (p .left) 0 else p) else p) ≡ p
+        by : (a : Bool) →
+            (if a then (if eqb (length (p .last .runs)) 0 then halt (horizonM x (p .last)) (p .left) 0 else p) else p) ≡ p
         by true = rw b
         by false = refl
 
-    finished : eqb (p .why) 0 ≡ true → eqb (length (p .last .runs)) 0 ≡ true → closedM x p ≡ halt (log-plainM 9 (put-now (getD x 2 0) (p .last))) (p .left) 0
+    finished : eqb (p .why) 0 ≡ true → eqb (length (p .last .runs)) 0 ≡ true →
+        closedM x p ≡ halt (log-plainM 9 (put-now (getD x 2 0) (p .last))) (p .left) 0
     unfolding closedM horizonM
     finished a b = rw (a, b)
 
@@ -363,11 +400,15 @@ module _ (f x : List ℕ) (ts : List Text) (mo : Model) (tb : Tabled f x ts mo) 
             let n : left-over (d .engine .runs) ≡ [] = runs-none (d .engine .runs) (long ∙ eqb-true _ _ b) in
             let i : d .incomplete ≡ [] = told ∙ rw a in
             let o : d .incomplete ++ left-over (d .engine .runs) ≡ [] = ap (λ (y : List Text). y ++ left-over (d .engine .runs)) i ∙ n in
-            rw (finished a b, all-done d o) (at-end n (log-plain-is f x ts mo tb (weaker f x ts mo tb (omega arith) at-horizon) 9 Kind.horizon last))
+            rw (finished a b, all-done d o)
+            (at-end n (log-plain-is f x ts mo tb (weaker f x ts mo tb (omega arith) at-horizon) 9 Kind.horizon last))
           where
-            at-end : left-over (d .engine .runs) ≡ [] → S horizon 0 (log-plainM 9 (put-now (getD x 2 0) (p .last))) (log horizon Kind.horizon none none none (d .engine)) →
-                Result (halt (log-plainM 9 (put-now (getD x 2 0) (p .last))) (p .left) 0) (record { engine = log horizon Kind.horizon none none none (d .engine); steps = d .steps; incomplete = [] }) total
-            at-end n (live y) = ends horizon y steps (omega arith) (sym (ap left-over (log-runs-same horizon (d .engine)) ∙ n))
+            at-end : left-over (d .engine .runs) ≡ [] →
+                S horizon 0 (log-plainM 9 (put-now (getD x 2 0) (p .last))) (log horizon Kind.horizon none none none (d .engine)) →
+                Result (halt (log-plainM 9 (put-now (getD x 2 0) (p .last))) (p .left) 0)
+                (record { engine = log horizon Kind.horizon none none none (d .engine); steps = d .steps; incomplete = [] }) total
+            at-end n (live y) =
+                ends horizon y steps (omega arith) (sym (ap left-over (log-runs-same horizon (d .engine)) ∙ n))
             at-end n (dead k z h o) = full k z h o
         by (is-true a) (is-false b) =
             let n : left-over (d .engine .runs) ≡ runs-left ∷ [] = runs-some (d .engine .runs) (λ e. eqb-false _ _ b (sym long ∙ e)) in
@@ -377,14 +418,18 @@ module _ (f x : List ℕ) (ts : List Text) (mo : Model) (tb : Tabled f x ts mo) 
             let o = spent (p .why) a (left-over (d .engine .runs)) in
             unchanged (other-why a) (o .0) (o .1 .0) (ap (λ (y : List Text). y ++ left-over (d .engine .runs)) told ∙ o .1 .1)
 
-  pub closed-is : (p : Halt) (d : Ended) (total : ℕ) → Ends f x ts mo tb p d total → Result (closedM x p) (closed horizon d) total
+  pub closed-is : (p : Halt) (d : Ended) (total : ℕ) → Ends f x ts mo tb p d total →
+      Result (closedM x p) (closed horizon d) total
   closed-is p d total (lives now l s w t) = closed-live p d total now l s w t
   closed-is p d total (stuck n z h o w) = full n z (closed-stuck n p z h) (end-closed (Over n) (overflow-stays n) horizon d o)
 
   -- ---- a whole simulation: from its beginning, with the events vs given as words
-  pub ended-is : (m : Machine) (areas : Areas) (cells : List Cell) → Beginning m areas cells → (l : List ℕ) (d : Event) (vs : List Event) → ((i : ℕ) → i < length vs → EventAt l i (getD vs i d)) →
-      Result (closedM x (loopM f x (getD x 3 0) (begunM x l (length vs) m))) (ended areas mo cells vs) (mo .scenario .limits .max-steps)
+  pub ended-is : (m : Machine) (areas : Areas) (cells : List Cell) → Beginning m areas cells →
+      (l : List ℕ) (d : Event) (vs : List Event) → ((i : ℕ) → i < length vs → EventAt l i (getD vs i d)) →
+      Result (closedM x (loopM f x (getD x 3 0) (begunM x l (length vs) m))) (ended areas mo cells vs)
+      (mo .scenario .limits .max-steps)
   unfolding ended
   ended-is m areas cells b l d vs evs =
       let z : 0 + mo .scenario .limits .max-steps ≡ mo .scenario .limits .max-steps = omega arith in
-      rw (tb .steps) (closed-is _ _ _ (subst (Ends f x ts mo tb _ _) z (loop-is f x ts mo tb (mo .scenario .limits .max-steps) 0 (begun-is m areas cells b l d vs evs))))
+      rw (tb .steps)
+      (closed-is _ _ _ (subst (Ends f x ts mo tb _ _) z (loop-is f x ts mo tb (mo .scenario .limits .max-steps) 0 (begun-is m areas cells b l d vs evs))))

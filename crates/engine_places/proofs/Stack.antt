@@ -61,7 +61,8 @@ module _ (f x : List ℕ) (ts : List Text) (mo : Model) (tb : Tabled f x ts mo) 
     pub low : depth ≤ 17
     pub at : (j : ℕ) → j < depth → PlaceAt j (getD places j 0)
 
-  same-below : (d : ℕ) (l m : List ℕ) → ((j : ℕ) → j < d → getD l j 0 ≡ getD m j 0) → actions-at x ts f d l ≡ actions-at x ts f d m
+  same-below : (d : ℕ) (l m : List ℕ) → ((j : ℕ) → j < d → getD l j 0 ≡ getD m j 0) →
+      actions-at x ts f d l ≡ actions-at x ts f d m
   unfolding actions-at
   same-below zero l m h = refl
   same-below (suc d) l m h =
@@ -71,9 +72,13 @@ module _ (f x : List ℕ) (ts : List Text) (mo : Model) (tb : Tabled f x ts mo) 
   set-below : (d : ℕ) (l : List ℕ) (v : ℕ) → actions-at x ts f d (set l d v) ≡ actions-at x ts f d l
   set-below d l v = same-below d (set l d v) l (λ j h. getD-set-other l d j v 0 (λ e. absurd (omega arith)))
 
-  at-top : (k : ℕ) (l : List ℕ) (w : ℕ) (a : Actions) (q : ℕ) → getD l k 0 ≡ w → actions-of ts inner (placeIn w .left) f (placeIn w .position) ≡ got a q → actions-at x ts f (suc k) l ≡ (a then actions-at x ts f k l)
+  at-top : (k : ℕ) (l : List ℕ) (w : ℕ) (a : Actions) (q : ℕ) → getD l k 0 ≡ w →
+      actions-of ts inner (placeIn w .left) f (placeIn w .position) ≡ got a q →
+      actions-at x ts f (suc k) l ≡ (a then actions-at x ts f k l)
   unfolding actions-at list-of found-actions
-  at-top k l w a q e h = ap (λ (b : Actions). b then actions-at x ts f k l) (ap (λ (v : ℕ). found-actions (actions-of ts inner (placeIn v .left) f (placeIn v .position))) e ∙ ap found-actions h)
+  at-top k l w a q e h =
+      ap (λ (b : Actions). b then actions-at x ts f k l)
+      (ap (λ (v : ℕ). found-actions (actions-of ts inner (placeIn v .left) f (placeIn v .position))) e ∙ ap found-actions h)
 
   -- the places below stay, and one comes on top
   put-on : (k : ℕ) (l : List ℕ) (w : ℕ) → Places k l → k ≤ 16 → PlaceAt k w → Places (suc k) (set l k w)
@@ -93,12 +98,15 @@ module _ (f x : List ℕ) (ts : List Text) (mo : Model) (tb : Tabled f x ts mo) 
     at = λ j i. rw (getD-set-other l k j w 0 (λ e. absurd (omega arith))) (g .at j (omega arith));
   }
 
-  place-at : (k p n : ℕ) (a : Actions) (q d : ℕ) → p ≤ 32767 → n < 65536 → 0 < n → actions-of ts inner n f p ≡ got a q → k ≤ d → Pass es pl d a → PlaceAt k (listWord p n)
+  place-at : (k p n : ℕ) (a : Actions) (q d : ℕ) → p ≤ 32767 → n < 65536 → 0 < n → actions-of ts inner n f p ≡ got a q →
+      k ≤ d → Pass es pl d a → PlaceAt k (listWord p n)
   place-at k p n a q d h i s r b t =
       let z = word-place p n h i in
       record { list = a; end = q; deep = d; some-left = rw z s; reads = rw z r; below = b; pass = t }
 
-  at-word : (k : ℕ) (l : List ℕ) (p n : ℕ) (a : Actions) (q : ℕ) → k < length l → p ≤ 32767 → n < 65536 → actions-of ts inner n f p ≡ got a q → actions-at x ts f (suc k) (set l k (listWord p n)) ≡ (a then actions-at x ts f k l)
+  at-word : (k : ℕ) (l : List ℕ) (p n : ℕ) (a : Actions) (q : ℕ) → k < length l → p ≤ 32767 → n < 65536 →
+      actions-of ts inner n f p ≡ got a q →
+      actions-at x ts f (suc k) (set l k (listWord p n)) ≡ (a then actions-at x ts f k l)
   at-word k l p n a q o h i r =
       at-top k (set l k (listWord p n)) (listWord p n) a q (getD-set-same l k (listWord p n) 0 o) (rw (word-place p n h i) r)
       ∙ ap (λ (b : Actions). a then b) (set-below k l (listWord p n))
@@ -144,7 +152,8 @@ module _ (f x : List ℕ) (ts : List Text) (mo : Model) (tb : Tabled f x ts mo) 
     unfolding nextA
     last-off next e = stepped-is next ∙ rw (e, minus)
 
-    one-off : (next n : ℕ) → placeIn w .left ≡ suc (suc n) → steppedA r next ≡ put-places (suc k) (set (r .places) k (listWord next (suc n))) r
+    one-off : (next n : ℕ) → placeIn w .left ≡ suc (suc n) →
+        steppedA r next ≡ put-places (suc k) (set (r .places) k (listWord next (suc n))) r
     unfolding nextA
     one-off next n e =
         let y : suc (suc n) - 1 ≡ suc n = omega arith in
@@ -177,7 +186,9 @@ module _ (f x : List ℕ) (ts : List Text) (mo : Model) (tb : Tabled f x ts mo) 
           ∙ then-act (h .src) (h .eff) (h .rest) low-rest
 
       -- with the depth and the places afterwards
-      step-to : (depth : ℕ) (places : List ℕ) → steppedA r (actionA f x (placeIn w .position) .next) ≡ put-places depth places r → depth ≤ suc k → Places depth places → actions-at x ts f depth places ≡ (h .rest then low-rest) → Stepped r
+      step-to : (depth : ℕ) (places : List ℕ) →
+          steppedA r (actionA f x (placeIn w .position) .next) ≡ put-places depth places r → depth ≤ suc k →
+          Places depth places → actions-at x ts f depth places ≡ (h .rest then low-rest) → Stepped r
       step-to depth places a l o i = record {
         src = h .src;
         eff = h .eff;
@@ -236,7 +247,8 @@ module _ (f x : List ℕ) (ts : List Text) (mo : Model) (tb : Tabled f x ts mo) 
   unfolding listA
   list-none r at e = rw e
 
-  list-some : (r : Run) (at n p : ℕ) → two f at ≡ suc n → later at 2 ≡ p → r .depth ≤ 16 → listA f r at ≡ put-places (suc (r .depth)) (set (r .places) (r .depth) (listWord p (suc n))) r
+  list-some : (r : Run) (at n p : ℕ) → two f at ≡ suc n → later at 2 ≡ p → r .depth ≤ 16 →
+      listA f r at ≡ put-places (suc (r .depth)) (set (r .places) (r .depth) (listWord p (suc n))) r
   unfolding listA
   list-some r at n p e l h =
       let y : r .depth + 1 ≡ suc (r .depth) = omega arith in
@@ -246,7 +258,8 @@ module _ (f x : List ℕ) (ts : List Text) (mo : Model) (tb : Tabled f x ts mo) 
   unfolding actions-of _then_
   no-list p a b q e = rw (← given _ _ _ e .0)
 
-  pub pushed : (r : Run) (at : ℕ) (a : Actions) (q d : ℕ) → Places (r .depth) (r .places) → actions ts 18 f at ≡ got a q → Pass es pl d a → r .depth ≤ d → Pushed r at a
+  pub pushed : (r : Run) (at : ℕ) (a : Actions) (q d : ℕ) → Places (r .depth) (r .places) →
+      actions ts 18 f at ≡ got a q → Pass es pl d a → r .depth ≤ d → Pushed r at a
   unfolding actions
   pushed r at a q d g e t h = let c = bound u16 _ e in cases (c .value) (c .next) (c .first) (c .rest)
     where

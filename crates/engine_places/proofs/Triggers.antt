@@ -120,23 +120,34 @@ module _ (now : ℕ) (X Y Z : Text) (e : Engine) (d : Run) where
 
     items-stay : awaits X Y Z Q ≡ false → items (take (suc n) rs) ≡ items (take n rs)
     unfolding keep
-    items-stay b = ap items (take-suc rs n d h) ∙ ap (each (next-step now)) (keep-append (awaits X Y Z) (take n rs) (Q ∷ []) ∙ rw b (append-nil (keep (awaits X Y Z) (take n rs))))
+    items-stay b =
+        ap items (take-suc rs n d h)
+        ∙ ap (each (next-step now))
+        (keep-append (awaits X Y Z) (take n rs) (Q ∷ []) ∙ rw b (append-nil (keep (awaits X Y Z) (take n rs))))
 
     items-more : awaits X Y Z Q ≡ true → items (take (suc n) rs) ≡ items (take n rs) ++ next-step now Q ∷ []
     unfolding keep
-    items-more b = ap items (take-suc rs n d h) ∙ ap (each (next-step now)) (keep-append (awaits X Y Z) (take n rs) (Q ∷ []) ∙ rw b) ∙ lists.each-one (next-step now) (keep (awaits X Y Z) (take n rs)) Q
+    items-more b =
+        ap items (take-suc rs n d h)
+        ∙ ap (each (next-step now)) (keep-append (awaits X Y Z) (take n rs) (Q ∷ []) ∙ rw b)
+        ∙ lists.each-one (next-step now) (keep (awaits X Y Z) (take n rs)) Q
 
     runs-next : each wk (take (suc n) rs) ++ drop (suc n) rs ≡ each wk (take n rs) ++ wk Q ∷ drop (suc n) rs
-    runs-next = ap (λ (l : List Run). each wk l ++ drop (suc n) rs) (take-suc rs n d h) ∙ ap (λ (l : List Run). l ++ drop (suc n) rs) (lists.each-one wk (take n rs) Q) ∙ append-snoc (each wk (take n rs)) (wk Q) (drop (suc n) rs)
+    runs-next =
+        ap (λ (l : List Run). each wk l ++ drop (suc n) rs) (take-suc rs n d h)
+        ∙ ap (λ (l : List Run). l ++ drop (suc n) rs) (lists.each-one wk (take n rs) Q)
+        ∙ append-snoc (each wk (take n rs)) (wk Q) (drop (suc n) rs)
 
     to-stay : awaits X Y Z Q ≡ false → wake-to (suc n) ≡ wake-to n
     unfolding wake-to woken
     to-stay b =
         let w : wk Q ≡ Q = rw b in
         ap (λ (l : List Item). adds l (with-runs (each wk (take (suc n) rs) ++ drop (suc n) rs) e)) (items-stay b)
-        ∙ ap (λ (l : List Run). adds (items (take n rs)) (with-runs l e)) (runs-next ∙ ap (λ (y : Run). each wk (take n rs) ++ y ∷ drop (suc n) rs) w ∙ ap (λ (l : List Run). each wk (take n rs) ++ l) (sym (drop-cons rs n d h)))
+        ∙ ap (λ (l : List Run). adds (items (take n rs)) (with-runs l e))
+        (runs-next ∙ ap (λ (y : Run). each wk (take n rs) ++ y ∷ drop (suc n) rs) w ∙ ap (λ (l : List Run). each wk (take n rs) ++ l) (sym (drop-cons rs n d h)))
 
-    to-wake : awaits X Y Z Q ≡ true → wake-to (suc n) ≡ add (next-step now Q) (with-runs (set (wake-to n .runs) n (waits none Q)) (wake-to n))
+    to-wake : awaits X Y Z Q ≡ true →
+        wake-to (suc n) ≡ add (next-step now Q) (with-runs (set (wake-to n .runs) n (waits none Q)) (wake-to n))
     unfolding wake-to woken
     to-wake b =
         let w : wk Q ≡ waits none Q = rw b in
@@ -145,7 +156,8 @@ module _ (now : ℕ) (X Y Z : Text) (e : Engine) (d : Run) where
         ap (λ (l : List Item). adds l (with-runs (each wk (take (suc n) rs) ++ drop (suc n) rs) e)) (items-more b)
         ∙ adds-end (items (take n rs)) (next-step now Q) (with-runs (each wk (take (suc n) rs) ++ drop (suc n) rs) e)
         ∙ ap (λ (l : List Run). add (next-step now Q) (adds (items (take n rs)) (with-runs l e))) z
-        ∙ ap (add (next-step now Q)) (sym (adds-with (items (take n rs)) (set (wake-to n .runs) n (waits none Q)) (each wk (take n rs) ++ drop n rs) e))
+        ∙ ap (add (next-step now Q))
+        (sym (adds-with (items (take n rs)) (set (wake-to n .runs) n (waits none Q)) (each wk (take n rs) ++ drop n rs) e))
 
 -- ---- the machine's runs
 module _ (f : List ℕ) (v : Move) where
@@ -158,7 +170,8 @@ module _ (f : List ℕ) (v : Move) where
   unfolding next-stepM addM
   next-runs r t m = by (eqb (m .full) 0) (ltb (length (m .queue)) (m .queueSize)) _ _ refl refl
     where
-      by : (a b : Bool) (p q : Machine) → p .runs ≡ m .runs → q .runs ≡ m .runs → (if a then (if b then p else q) else m) .runs ≡ m .runs
+      by : (a b : Bool) (p q : Machine) → p .runs ≡ m .runs → q .runs ≡ m .runs →
+          (if a then (if b then p else q) else m) .runs ≡ m .runs
       by true true p q g h = g
       by true false p q g h = h
       by false b p q g h = refl
@@ -223,15 +236,19 @@ module _ (f x : List ℕ) (ts : List Text) (mo : Model) (tb : Tabled f x ts mo) 
       by (suc n) s c e = let o = more (place ts) f n s e in noted (ne-eqb (two f p) 0 (λ y. absurd (omega (arith, two-is f p c)))) (o .first) (o .others) (o .both)
 
   module _ (now i : ℕ) (h : i < rules) where
-    admit-is : {m : Machine} {e : Engine} → L now 0 m e → (t : Truth) → S now 0 (admitM f x i t m) (admit now (truth-of t) (A i) e)
+    admit-is : {m : Machine} {e : Engine} → L now 0 m e → (t : Truth) →
+        S now 0 (admitM f x i t m) (admit now (truth-of t) (A i) e)
     unfolding admitM admit
-    admit-is {m} {e} l Yes = by (notes-are (word x i 7) (A i .notes) (row f x ts mo tb i h .notes .0) (row f x ts mo tb i h .notes .1))
+    admit-is {m} {e} l Yes =
+        by (notes-are (word x i 7) (A i .notes) (row f x ts mo tb i h .notes .0) (row f x ts mo tb i h .notes .1))
       where
         by : Noted (word x i 7) (A i .notes) → S now 0 (admitM f x i Yes m) (admit now kleene.Yes (A i) e)
         by (clear b z) = rw (b, z, admit) (carry-is f x ts mo tb l i h)
         by (noted b t k z) = rw (b, z, admit) (live l)
     admit-is l No = live l
-    admit-is {m} {e} l Unknown = rw (id-is f x ts mo tb i h) (live (uncertain-is f x ts mo tb l (aboutRule f x i 7) (unknown-trigger-condition (id-at x ts i)) (trigger-reason f x ts mo tb i h) (pool-is f x ts mo tb i h .trigger)))
+    admit-is {m} {e} l Unknown =
+        rw (id-is f x ts mo tb i h)
+        (live (uncertain-is f x ts mo tb l (aboutRule f x i 7) (unknown-trigger-condition (id-at x ts i)) (trigger-reason f x ts mo tb i h) (pool-is f x ts mo tb i h .trigger)))
 
     triggering : (t : Truth) → kind-of x ts 10 (numberT t) ≡ Kind.trigger (truth-of t)
     unfolding kind-of verdict-of
@@ -239,7 +256,9 @@ module _ (f x : List ℕ) (ts : List Text) (mo : Model) (tb : Tabled f x ts mo) 
     triggering No = refl
     triggering Unknown = refl
 
-    offer-as-is : {m : Machine} {e : Engine} → L now 0 m e → (t : Truth) → S now 0 (offer-asM f x i t m) (admit now (truth-of t) (A i) (log now (Kind.trigger (truth-of t)) (some (A i .id)) (some (A i .source)) none e))
+    offer-as-is : {m : Machine} {e : Engine} → L now 0 m e → (t : Truth) →
+        S now 0 (offer-asM f x i t m)
+        (admit now (truth-of t) (A i) (log now (Kind.trigger (truth-of t)) (some (A i .id)) (some (A i .source)) none e))
     unfolding offer-asM log-triggerM
     offer-as-is {m} {e} l t =
         let s = source-is f (word x i 6) (row f x ts mo tb i h .source .1) in
@@ -249,7 +268,8 @@ module _ (f x : List ℕ) (ts : List Text) (mo : Model) (tb : Tabled f x ts mo) 
         (λ n z p. s-admit n z f x i t _ p)
         (λ n o. c-admit (Over n) (overflow-stays n) now (truth-of t) (A i) _ o)
 
-    offer-is : (v : Move) → Moved f x ts mo tb v → {m : Machine} {e : Engine} → L now 0 m e → S now 0 (offerM f x v i m) (offer now (T (v .entity)) (T (v .from)) (T (v .to)) (A i) e)
+    offer-is : (v : Move) → Moved f x ts mo tb v → {m : Machine} {e : Engine} → L now 0 m e →
+        S now 0 (offerM f x v i m) (offer now (T (v .entity)) (T (v .from)) (T (v .to)) (A i) e)
     unfolding offerM offer
     offer-is v w {m} {e} l = by (case (anyT f v (word x i 3)))
       where
@@ -260,13 +280,18 @@ module _ (f x : List ℕ) (ts : List Text) (mo : Model) (tb : Tabled f x ts mo) 
         same = any-is f x ts mo tb v w (word x i 3) (A i .triggers) (r .triggers .0) (r .triggers .1)
 
         verdict : truth-of (allT f x (m .values) (word x i 4) .truth) ≡ evaluate-all (A i .conditions) (e .cells)
-        verdict = all-is f x ts mo tb (m .values) (m .versions) (l .cells .valued) (word x i 4) (A i .conditions) (r .conditions .0) (r .conditions .1) .is ∙ ap (evaluate-all (A i .conditions)) (sym (l .cells .is))
+        verdict =
+            all-is f x ts mo tb (m .values) (m .versions) (l .cells .valued) (word x i 4) (A i .conditions)
+            (r .conditions .0) (r .conditions .1) .is
+            ∙ ap (evaluate-all (A i .conditions)) (sym (l .cells .is))
 
-        by : Case (anyT f v (word x i 3)) → S now 0 (offerM f x v i m) (offer now (T (v .entity)) (T (v .from)) (T (v .to)) (A i) e)
+        by : Case (anyT f v (word x i 3)) →
+            S now 0 (offerM f x v i m) (offer now (T (v .entity)) (T (v .from)) (T (v .to)) (A i) e)
         by (is-true b) = rw (b, sym same ∙ b, ← verdict) (offer-as-is l (allT f x (m .values) (word x i 4) .truth))
         by (is-false b) = rw (b, sym same ∙ b) (live l)
 
-  through-end : {B : Type 0} (g : B → Engine → Engine) (l : List B) (b : B) (e : Engine) → through g (l ++ b ∷ []) e ≡ g b (through g l e)
+  through-end : {B : Type 0} (g : B → Engine → Engine) (l : List B) (b : B) (e : Engine) →
+      through g (l ++ b ∷ []) e ≡ g b (through g l e)
   unfolding through
   through-end g [] b e = refl
   through-end g (c ∷ l) b e = through-end g l b (g c e)
@@ -275,11 +300,14 @@ module _ (f x : List ℕ) (ts : List Text) (mo : Model) (tb : Tabled f x ts mo) 
   unfolding through
   over-offer n now X Y Z r e o = c-offers (Over n) (overflow-stays n) now X Y Z (r ∷ []) e o
 
-  offers-is : (now : ℕ) (v : Move) → Moved f x ts mo tb v → (n : ℕ) → n ≤ rules → {m : Machine} {e : Engine} → S now 0 m e → S now 0 (offer-firstM f x v n m) (through (offer now (T (v .entity)) (T (v .from)) (T (v .to))) (take n (mo .rules)) e)
+  offers-is : (now : ℕ) (v : Move) → Moved f x ts mo tb v → (n : ℕ) → n ≤ rules → {m : Machine} {e : Engine} →
+      S now 0 m e →
+      S now 0 (offer-firstM f x v n m) (through (offer now (T (v .entity)) (T (v .from)) (T (v .to))) (take n (mo .rules)) e)
   unfolding offer-firstM through
   offers-is now v w zero h s = s
   offers-is now v w (suc n) h {m} {e} s =
-      rw (take-suc (mo .rules) n no-rule (omega arith), through-end (offer now (T (v .entity)) (T (v .from)) (T (v .to))) (take n (mo .rules)) (A n) e)
+      rw
+      (take-suc (mo .rules) n no-rule (omega arith), through-end (offer now (T (v .entity)) (T (v .from)) (T (v .to))) (take n (mo .rules)) (A n) e)
       (follow f x ts mo tb (offerM f x v n) (offer now (T (v .entity)) (T (v .from)) (T (v .to)) (A n)) (offers-is now v w n (omega arith) s)
       (λ k. offer-is now n (omega arith) v w k)
       (λ i z p. s-offer i z f x v n _ p)
@@ -324,14 +352,19 @@ module _ (f x : List ℕ) (ts : List Text) (mo : Model) (tb : Tabled f x ts mo) 
       abbrev e-stay : aw (R r) ≡ false → to e (suc n) ≡ to e n
       e-stay b = to-stay now (T (v .entity)) (T (v .from)) (T (v .to)) e (R no-run) n long-e (ap aw own ∙ b)
 
-      e-wake : aw (R r) ≡ true → to e (suc n) ≡ add (next-step now (R r)) (with-runs (set (to e n .runs) n (waits none (R r))) (to e n))
-      e-wake b = to-wake now (T (v .entity)) (T (v .from)) (T (v .to)) e (R no-run) n long-e (ap aw own ∙ b) ∙ ap (λ (y : Run). add (next-step now y) (with-runs (set (to e n .runs) n (waits none y)) (to e n))) own
+      e-wake : aw (R r) ≡ true →
+          to e (suc n) ≡ add (next-step now (R r)) (with-runs (set (to e n .runs) n (waits none (R r))) (to e n))
+      e-wake b =
+          to-wake now (T (v .entity)) (T (v .from)) (T (v .to)) e (R no-run) n long-e (ap aw own ∙ b)
+          ∙ ap (λ (y : Run). add (next-step now y) (with-runs (set (to e n .runs) n (waits none y)) (to e n))) own
 
       over-step : (i : ℕ) → Over i (to e n) → Over i (to e (suc n))
       over-step i o = by (case (aw (R r)))
         where
           by : Case (aw (R r)) → Over i (to e (suc n))
-          by (is-true b) = ap (λ (y : Engine). y .overflow) (e-wake b) ∙ overflow-stays i .on-add _ _ (overflow-stays i .on-runs _ _ o)
+          by (is-true b) =
+              ap (λ (y : Engine). y .overflow) (e-wake b)
+              ∙ overflow-stays i .on-add _ _ (overflow-stays i .on-runs _ _ o)
           by (is-false b) = ap (λ (y : Engine). y .overflow) (e-stay b) ∙ o
 
       module _ (k : Machine) (u : Untouched f v n m k) (y : L now 0 k (to e n)) where
@@ -352,7 +385,9 @@ module _ (f x : List ℕ) (ts : List Text) (mo : Model) (tb : Tabled f x ts mo) 
         going = refl
 
         woken-live : L now 0 (put-runM n (phaseR phase.Going r) k) (with-runs (set (to e n .runs) n (waits none (R r))) (to e n))
-        woken-live = runs-are f x ts mo tb y (set (k .runs) n (phaseR phase.Going r)) _ (subst (λ (q : Run). Running f x ts mo tb (k .sequences) (set (k .runs) n (phaseR phase.Going r)) (set (to e n .runs) n q)) going (placed f x ts mo tb (k .sequences) (k .runs) (to e n .runs) (y .runs) n long-k (phaseR phase.Going r) calm-good (ap (λ (q : ARun). q .automation) same) (ap (λ (q : ARun). q .sequence) same)))
+        woken-live =
+            runs-are f x ts mo tb y (set (k .runs) n (phaseR phase.Going r)) _
+            (subst (λ (q : Run). Running f x ts mo tb (k .sequences) (set (k .runs) n (phaseR phase.Going r)) (set (to e n .runs) n q)) going (placed f x ts mo tb (k .sequences) (k .runs) (to e n .runs) (y .runs) n long-k (phaseR phase.Going r) calm-good (ap (λ (q : ARun). q .automation) same) (ap (λ (q : ARun). q .sequence) same)))
 
         one-is : wake-oneM f v n k ≡ wake-runM f v n r k
         unfolding wake-oneM
@@ -365,7 +400,8 @@ module _ (f x : List ℕ) (ts : List Text) (mo : Model) (tb : Tabled f x ts mo) 
             by (stays b o) = rw (one-is ∙ o, e-stay b) (live y)
             by (wakes b o) = rw (one-is ∙ o, e-wake b) (now-is f x ts mo tb woken-live r (good .rule))
 
-    wake-firsts : {m : Machine} {e : Engine} → L now 0 m e → (n : ℕ) → n ≤ length (m .runs) → S now 0 (wake-firstM f v n m) (to e n)
+    wake-firsts : {m : Machine} {e : Engine} → L now 0 m e → (n : ℕ) → n ≤ length (m .runs) →
+        S now 0 (wake-firstM f v n m) (to e n)
     unfolding wake-firstM
     wake-firsts {m} {e} l zero h = rw (to-none now (T (v .entity)) (T (v .from)) (T (v .to)) e (R no-run)) (live l)
     wake-firsts {m} {e} l (suc n) h = by (wake-firsts l n (omega arith))
@@ -374,18 +410,23 @@ module _ (f x : List ℕ) (ts : List Text) (mo : Model) (tb : Tabled f x ts mo) 
         by (live y) = live-step l n (omega arith) (wake-firstM f v n m) (wake-untouched f v n m) y
         by (dead i z p o) = dead i z (s-wake-one i z f v n _ p) (over-step l n (omega arith) i o)
 
-    pub wake-is : {m : Machine} {e : Engine} → L now 0 m e → S now 0 (wakeM f v m) (wake now (T (v .entity)) (T (v .from)) (T (v .to)) e)
+    pub wake-is : {m : Machine} {e : Engine} → L now 0 m e →
+        S now 0 (wakeM f v m) (wake now (T (v .entity)) (T (v .from)) (T (v .to)) e)
     unfolding wakeM
     wake-is {m} {e} l =
         let long = ap length (l .runs .is) ∙ lists.each-length R (m .runs) in
-        subst (S now 0 (wake-firstM f v (length (m .runs)) m)) (to-all now (T (v .entity)) (T (v .from)) (T (v .to)) e (R no-run) (length (m .runs)) (omega (arith, long))) (wake-firsts l (length (m .runs)) (omega arith))
+        subst (S now 0 (wake-firstM f v (length (m .runs)) m))
+        (to-all now (T (v .entity)) (T (v .from)) (T (v .to)) e (R no-run) (length (m .runs)) (omega (arith, long)))
+        (wake-firsts l (length (m .runs)) (omega arith))
 
     rules-are : reads.rules x ≡ rules
     unfolding reads.rules
     rules-are = most-is (getD x 1 0) 32 (omega (arith, tb .automations, tb .few-automations)) ∙ tb .automations
 
-    pub trigger-is : {m : Machine} {e : Engine} → L now 0 m e → S now 0 (triggerM f x v m) (engine.trigger now (T (v .entity)) (T (v .from)) (T (v .to)) (mo .rules) e)
+    pub trigger-is : {m : Machine} {e : Engine} → L now 0 m e →
+        S now 0 (triggerM f x v m) (engine.trigger now (T (v .entity)) (T (v .from)) (T (v .to)) (mo .rules) e)
     unfolding triggerM engine.trigger
     trigger-is {m} {e} l =
         let a = offers-is now v w rules (omega arith) (wake-is l) in
-        rw rules-are (subst (λ (k : List Automation). S now 0 (offer-firstM f x v rules (wakeM f v m)) (through (offer now (T (v .entity)) (T (v .from)) (T (v .to))) k (wake now (T (v .entity)) (T (v .from)) (T (v .to)) e))) (take-all rules (mo .rules) (omega arith)) a)
+        rw rules-are
+        (subst (λ (k : List Automation). S now 0 (offer-firstM f x v rules (wakeM f v m)) (through (offer now (T (v .entity)) (T (v .from)) (T (v .to))) k (wake now (T (v .entity)) (T (v .from)) (T (v .to)) e))) (take-all rules (mo .rules) (omega arith)) a)

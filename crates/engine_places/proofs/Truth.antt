@@ -99,9 +99,11 @@ module _ (f x : List ℕ) (ts : List Text) (mo : Model) (tb : Tabled f x ts mo) 
   undecided-is v h =
       or-is (eqb v (getD x 6 0)) (eqb v (getD x 7 0))
       ∙ ap (λ (b : Bool). b || eqb v (getD x 7 0)) (sym (fixed-is v (getD x 6 0) (text "unknown") h (tb .unknown)))
-      ∙ ap (λ (b : Bool). eqT (T v) (text "unknown") || b) (sym (fixed-is v (getD x 7 0) (text "unavailable") h (tb .unavailable)))
+      ∙ ap (λ (b : Bool). eqT (T v) (text "unknown") || b)
+      (sym (fixed-is v (getD x 7 0) (text "unavailable") h (tb .unavailable)))
 
-  choice-is : (a b : Bool) → truth-of (if a then Yes else if b then Unknown else No) ≡ (if a then kleene.Yes else if b then kleene.Unknown else kleene.No)
+  choice-is : (a b : Bool) →
+      truth-of (if a then Yes else if b then Unknown else No) ≡ (if a then kleene.Yes else if b then kleene.Unknown else kleene.No)
   choice-is true b = refl
   choice-is false true = refl
   choice-is false false = refl
@@ -110,13 +112,15 @@ module _ (f x : List ℕ) (ts : List Text) (mo : Model) (tb : Tabled f x ts mo) 
   unfolding againstT against
   against-is p v h k =
       choice-is (eqb p v) (undecidedT x p)
-      ∙ ap (λ (b : Bool). if b then kleene.Yes else if undecidedT x p then kleene.Unknown else kleene.No) (sym (tb .same p v h k))
+      ∙ ap (λ (b : Bool). if b then kleene.Yes else if undecidedT x p then kleene.Unknown else kleene.No)
+      (sym (tb .same p v h k))
       ∙ ap (λ (b : Bool). if eqT (T p) (T v) then kleene.Yes else if b then kleene.Unknown else kleene.No) (undecided-is p h)
 
   -- ---- cells
 
   pub name-in : (e : ℕ) → e < many → name x e < length ts
-  name-in e h = tb .columns (record { name = []; domain = []; initial = []; tier = observational; stale-after = none }) e h .name-in
+  name-in e h =
+      tb .columns (record { name = []; domain = []; initial = []; tier = observational; stale-after = none }) e h .name-in
 
   -- the values are places of texts
   pub record Valued (vs : List ℕ) : Type 0 where
@@ -132,27 +136,34 @@ module _ (f x : List ℕ) (ts : List Text) (mo : Model) (tb : Tabled f x ts mo) 
   some-valued = record { long = length-replicate {A = ℕ} 32 (getD x 4 0); in-texts = λ e h. rw (getD-replicate 32 e (getD x 4 0) 0 (omega (arith, tb .few-entities))) (tb .on .is-in) }
 
   pub data Sought (id : ℕ) (vs ns : List ℕ) (found : ℕ) (l : List Cell) : Type 0 where
-    here : (j : ℕ) → j < many → found ≡ j → name x j ≡ id → cell-of (T id) l ≡ some (cell-at x ts vs ns j) → Sought id vs ns found l
+    here : (j : ℕ) → j < many → found ≡ j → name x j ≡ id → cell-of (T id) l ≡ some (cell-at x ts vs ns j) →
+        Sought id vs ns found l
     nowhere : found ≡ 32 → cell-of (T id) l ≡ none → Sought id vs ns found l
 
-  pub cell-named : (vs ns : List ℕ) (id e : ℕ) → id < length ts → e < many → is-cell (T id) (cell-at x ts vs ns e) ≡ eqb (name x e) id
+  pub cell-named : (vs ns : List ℕ) (id e : ℕ) → id < length ts → e < many →
+      is-cell (T id) (cell-at x ts vs ns e) ≡ eqb (name x e) id
   unfolding is-cell cell-at
   cell-named vs ns id e h k = tb .same (name x e) id (name-in e k) h
 
-  sought-step : (vs ns : List ℕ) (id left e : ℕ) → id < length ts → e < many → Sought id vs ns (entityFrom x id left (e + 1)) (cells-from x ts vs ns left (e + 1)) →
+  sought-step : (vs ns : List ℕ) (id left e : ℕ) → id < length ts → e < many →
+      Sought id vs ns (entityFrom x id left (e + 1)) (cells-from x ts vs ns left (e + 1)) →
       Sought id vs ns (entityFrom x id (suc left) e) (cells-from x ts vs ns (suc left) e)
   unfolding entityFrom cells-from cell-of find
   sought-step vs ns id left e h k rest = cases (case (eqb (name x e) id)) rest
     where
-      cases : Case (eqb (name x e) id) → Sought id vs ns (entityFrom x id left (e + 1)) (cells-from x ts vs ns left (e + 1)) → Sought id vs ns (entityFrom x id (suc left) e) (cells-from x ts vs ns (suc left) e)
+      cases : Case (eqb (name x e) id) →
+          Sought id vs ns (entityFrom x id left (e + 1)) (cells-from x ts vs ns left (e + 1)) →
+          Sought id vs ns (entityFrom x id (suc left) e) (cells-from x ts vs ns (suc left) e)
       cases (is-true b) r = here e k (rw (b, entityFrom)) (eqb-true _ _ b) (rw (cell-named vs ns id e h k ∙ b))
       cases (is-false b) (here j g o n c) = here j g (rw (b, entityFrom) o) n (rw (cell-named vs ns id e h k ∙ b) c)
       cases (is-false b) (nowhere o c) = nowhere (rw (b, entityFrom) o) (rw (cell-named vs ns id e h k ∙ b) c)
 
-  sought : (vs ns : List ℕ) (id : ℕ) → id < length ts → (left e : ℕ) → e + left ≤ many → Sought id vs ns (entityFrom x id left e) (cells-from x ts vs ns left e)
+  sought : (vs ns : List ℕ) (id : ℕ) → id < length ts → (left e : ℕ) → e + left ≤ many →
+      Sought id vs ns (entityFrom x id left e) (cells-from x ts vs ns left e)
   unfolding entityFrom cells-from cell-of find
   sought vs ns id h zero e k = nowhere refl refl
-  sought vs ns id h (suc left) e k = sought-step vs ns id left e h (omega arith) (sought vs ns id h left (e + 1) (omega arith))
+  sought vs ns id h (suc left) e k =
+      sought-step vs ns id left e h (omega arith) (sought vs ns id h left (e + 1) (omega arith))
 
   -- the cell with a name
   pub cell-is : (vs ns : List ℕ) (id : ℕ) → id < length ts → Sought id vs ns (entityOf x id) (cells-of x ts vs ns)
@@ -171,19 +182,24 @@ module _ (f x : List ℕ) (ts : List Text) (mo : Model) (tb : Tabled f x ts mo) 
     unfolding overwrite cell-at
     one-written e h = cases (case (eqb (name x e) (name x j)))
       where
-        cases : Case (eqb (name x e) (name x j)) → overwrite (T (name x j)) (T v) k (cell-at x ts vs ns e) ≡ cell-at x ts vs′ ns′ e
+        cases : Case (eqb (name x e) (name x j)) →
+            overwrite (T (name x j)) (T v) k (cell-at x ts vs ns e) ≡ cell-at x ts vs′ ns′ e
         cases (is-true b) =
             let z : e ≡ j = tb .names-differ e j h j-in (eqb-true _ _ b) in
-            rw (cell-named vs ns (name x j) e (name-in j j-in) h ∙ b, z, getD-set-same vs j v 0 v-long, getD-set-same ns j (getD ns j 0 + k) 0 n-long)
+            rw
+            (cell-named vs ns (name x j) e (name-in j j-in) h ∙ b, z, getD-set-same vs j v 0 v-long, getD-set-same ns j (getD ns j 0 + k) 0 n-long)
         cases (is-false b) =
             let z : e ≡ j → ⊥ = λ q. eqb-false _ _ b (ap (λ (i : ℕ). name x i) q) in
-            rw (cell-named vs ns (name x j) e (name-in j j-in) h ∙ b, getD-set-other vs j e v 0 (λ q. z q), getD-set-other ns j e (getD ns j 0 + k) 0 (λ q. z q))
+            rw
+            (cell-named vs ns (name x j) e (name-in j j-in) h ∙ b, getD-set-other vs j e v 0 (λ q. z q), getD-set-other ns j e (getD ns j 0 + k) 0 (λ q. z q))
 
-    written : (left e : ℕ) → e + left ≤ many → put (T (name x j)) (T v) k (cells-from x ts vs ns left e) ≡ cells-from x ts vs′ ns′ left e
+    written : (left e : ℕ) → e + left ≤ many →
+        put (T (name x j)) (T v) k (cells-from x ts vs ns left e) ≡ cells-from x ts vs′ ns′ left e
     unfolding put each cells-from
     written zero e h = refl
     written (suc left) e h =
-        ap (λ (c : Cell). c ∷ each (overwrite (T (name x j)) (T v) k) (cells-from x ts vs ns left (e + 1))) (one-written e (omega arith))
+        ap (λ (c : Cell). c ∷ each (overwrite (T (name x j)) (T v) k) (cells-from x ts vs ns left (e + 1)))
+        (one-written e (omega arith))
         ∙ ap (λ (l : List Cell). cell-at x ts vs′ ns′ e ∷ l) (written left (e + 1) (omega arith))
 
     pub put-is : put (T (name x j)) (T v) k (cells-of x ts vs ns) ≡ cells-of x ts vs′ ns′
@@ -195,12 +211,16 @@ module _ (f x : List ℕ) (ts : List Text) (mo : Model) (tb : Tabled f x ts mo) 
     abbrev cs : List Cell
     cs = cells-of x ts vs ns
 
-    value-is : (id v : ℕ) → id < length ts → v < length ts → truth-of (valueT x vs (entityOf x id) v) ≡ evaluate (state (T id) (T v)) cs
+    value-is : (id v : ℕ) → id < length ts → v < length ts →
+        truth-of (valueT x vs (entityOf x id) v) ≡ evaluate (state (T id) (T v)) cs
     unfolding valueT evaluate cell-at
     value-is id v h k = cases (cell-is vs ns id h)
       where
-        cases : Sought id vs ns (entityOf x id) cs → truth-of (valueT x vs (entityOf x id) v) ≡ evaluate (state (T id) (T v)) cs
-        cases (here j g o n c) = rw (o, lt-ltb j 32 (omega (arith, tb .few-entities)), c, evaluate) (against-is (getD vs j 0) v (ok .in-texts j g) k)
+        cases : Sought id vs ns (entityOf x id) cs →
+            truth-of (valueT x vs (entityOf x id) v) ≡ evaluate (state (T id) (T v)) cs
+        cases (here j g o n c) =
+            rw (o, lt-ltb j 32 (omega (arith, tb .few-entities)), c, evaluate)
+            (against-is (getD vs j 0) v (ok .in-texts j g) k)
         cases (nowhere o c) = rw (o, c, evaluate)
 
     pub record Judges (p : ℕ) (a : Predicate) (q : ℕ) : Type 0 where
@@ -258,7 +278,8 @@ module _ (f x : List ℕ) (ts : List Text) (mo : Model) (tb : Tabled f x ts mo) 
       pub is : truth-of (j .truth) ≡ t
       pub ends : j .next ≡ q
 
-    all-from : (n p : ℕ) (t : Truth) (l : List Predicate) (q : ℕ) → times n (predicate ts) f p ≡ got l q → JudgesAll (allFrom f x vs n p t) (truth-of t and₃ evaluate-all l cs) q
+    all-from : (n p : ℕ) (t : Truth) (l : List Predicate) (q : ℕ) → times n (predicate ts) f p ≡ got l q →
+        JudgesAll (allFrom f x vs n p t) (truth-of t and₃ evaluate-all l cs) q
     unfolding times give allFrom evaluate-all
     all-from zero p t l q e =
         let z : l ≡ [] = cc in
@@ -272,13 +293,15 @@ module _ (f x : List ℕ) (ts : List Text) (mo : Model) (tb : Tabled f x ts mo) 
         record {
           is = ap (λ (i : ℕ). truth-of (allFrom f x vs n i (bothT t (evaluateT f x vs p)) .truth)) z
               ∙ r .is
-              ∙ ap (λ (y : kleene.Truth). y and₃ evaluate-all (m .others) cs) (both-is t (evaluateT f x vs p) ∙ ap (λ (y : kleene.Truth). truth-of t and₃ y) (j .is))
+              ∙ ap (λ (y : kleene.Truth). y and₃ evaluate-all (m .others) cs)
+              (both-is t (evaluateT f x vs p) ∙ ap (λ (y : kleene.Truth). truth-of t and₃ y) (j .is))
               ∙ and-assoc (truth-of t) (evaluate (m .first) cs) (evaluate-all (m .others) cs)
               ∙ ap (λ (y : List Predicate). truth-of t and₃ evaluate-all y cs) (sym (m .both));
           ends = ap (λ (i : ℕ). allFrom f x vs n i (bothT t (evaluateT f x vs p)) .next) z ∙ r .ends;
         }
 
-    pub all-is : (p : ℕ) (l : List Predicate) (q : ℕ) → counted (predicate ts) f p ≡ got l q → JudgesAll (allT f x vs p) (evaluate-all l cs) q
+    pub all-is : (p : ℕ) (l : List Predicate) (q : ℕ) → counted (predicate ts) f p ≡ got l q →
+        JudgesAll (allT f x vs p) (evaluate-all l cs) q
     unfolding allT _and₃_
     all-is p l q e =
         let c = counted-found (predicate ts) e in
@@ -297,7 +320,8 @@ module _ (f x : List ℕ) (ts : List Text) (mo : Model) (tb : Tabled f x ts mo) 
         unclear : r ≡ Unclear → o ≡ none → Taken r o
 
       -- where a list ends
-      list-end : (p : ℕ) (a : Actions) (q : ℕ) → actions ts 17 f p ≡ got a q → q ≤ 4294967295 → endT (actionsW (getD x 9 0) 17 f p 0) p ≡ q
+      list-end : (p : ℕ) (a : Actions) (q : ℕ) → actions ts 17 f p ≡ got a q → q ≤ 4294967295 →
+          endT (actionsW (getD x 9 0) 17 f p 0) p ≡ q
       unfolding endT seen capped
       list-end p a q e h =
           ap (λ (n : ℕ). endT (actionsW n 17 f p 0) p) (tb .texts)
@@ -312,7 +336,8 @@ module _ (f x : List ℕ) (ts : List Text) (mo : Model) (tb : Tabled f x ts mo) 
           let w = u16-wide f p (c .first) in
           omega arith
 
-      branches-start : (n p : ℕ) (bs : Branches) (q : ℕ) (d : Actions) (o : ℕ) → branches ts (actions ts 17) n f p ≡ got bs q → actions ts 17 f q ≡ got d o → p ≤ length f
+      branches-start : (n p : ℕ) (bs : Branches) (q : ℕ) (d : Actions) (o : ℕ) →
+          branches ts (actions ts 17) n f p ≡ got bs q → actions ts 17 f q ≡ got d o → p ≤ length f
       unfolding branches
       branches-start zero p bs q d o e g = let z = given _ _ _ e in omega (arith, z .1, list-start q d o g)
       branches-start (suc n) p bs q d o e g =
@@ -320,11 +345,14 @@ module _ (f x : List ℕ) (ts : List Text) (mo : Model) (tb : Tabled f x ts mo) 
           let w = u16-wide f p (counted-found (predicate ts) (c .first) .is-count) in
           omega arith
 
-      select-from : (n p : ℕ) (bs : Branches) (q : ℕ) (d : Actions) (o : ℕ) → branches ts (actions ts 17) n f p ≡ got bs q → actions ts 17 f q ≡ got d o → Lists bs → P d → Taken (selectFrom f x vs n p) (select bs d cs)
+      select-from : (n p : ℕ) (bs : Branches) (q : ℕ) (d : Actions) (o : ℕ) →
+          branches ts (actions ts 17) n f p ≡ got bs q → actions ts 17 f q ≡ got d o → Lists bs → P d →
+          Taken (selectFrom f x vs n p) (select bs d cs)
       unfolding branches selectFrom select branchT judgedT
       select-from zero p bs q d o e g ps pd =
           let z = given _ _ _ e in
-          subst (λ (y : Branches). Taken (Take p) (select y d cs)) (z .0) (takes p d o refl (ap (actions ts 17 f) (z .1) ∙ g) pd refl)
+          subst (λ (y : Branches). Taken (Take p) (select y d cs)) (z .0)
+          (takes p d o refl (ap (actions ts 17 f) (z .1) ∙ g) pd refl)
       select-from (suc n) p bs q d o e g ps pd =
           let c = bound (counted (predicate ts)) _ e in
           let a = bound (actions ts 17) _ (c .rest) in
@@ -337,7 +365,9 @@ module _ (f x : List ℕ) (ts : List Text) (mo : Model) (tb : Tabled f x ts mo) 
           (cases n p q d o (c .value) (a .value) (r .value) (c .next) (a .next) j (a .first) (ps′ .0) (branches-start n (a .next) (r .value) q d o e₃ g)
           (select-from n (a .next) (r .value) q d o e₃ g (ps′ .1) pd) (allT f x vs p .truth) refl)
         where
-          cases : (n p q : ℕ) (d : Actions) (o : ℕ) (ps : List Predicate) (l : Actions) (bs : Branches) (at end : ℕ) → JudgesAll (allT f x vs p) (evaluate-all ps cs) at → actions ts 17 f at ≡ got l end → P l → end ≤ length f →
+          cases : (n p q : ℕ) (d : Actions) (o : ℕ) (ps : List Predicate) (l : Actions) (bs : Branches) (at end : ℕ) →
+              JudgesAll (allT f x vs p) (evaluate-all ps cs) at → actions ts 17 f at ≡ got l end → P l →
+              end ≤ length f →
               Taken (selectFrom f x vs n end) (select bs d cs) → (t : Truth) → allT f x vs p .truth ≡ t → Taken (selectFrom f x vs (suc n) p) (select (branch ps l bs) d cs)
           cases n p q d o ps l bs at end j h pl inside ih Yes t =
               let v : evaluate-all ps cs ≡ kleene.Yes = sym (j .is) ∙ ap truth-of t in
@@ -350,7 +380,9 @@ module _ (f x : List ℕ) (ts : List Text) (mo : Model) (tb : Tabled f x ts mo) 
               let v : evaluate-all ps cs ≡ kleene.Unknown = sym (j .is) ∙ ap truth-of t in
               unclear (rw (t, judgedT, selectFrom)) (rw (v, select))
 
-      pub select-is : (p n at : ℕ) (bs : Branches) (q : ℕ) (d : Actions) (o : ℕ) → u16 f p ≡ got n at → branches ts (actions ts 17) n f at ≡ got bs q → actions ts 17 f q ≡ got d o → Lists bs → P d → Taken (selectT f x vs p) (select bs d cs)
+      pub select-is : (p n at : ℕ) (bs : Branches) (q : ℕ) (d : Actions) (o : ℕ) → u16 f p ≡ got n at →
+          branches ts (actions ts 17) n f at ≡ got bs q → actions ts 17 f q ≡ got d o → Lists bs → P d →
+          Taken (selectT f x vs p) (select bs d cs)
       unfolding selectT
       select-is p n at bs q d o c e g ps pd =
           let w = u16-wide f p c in
@@ -370,7 +402,8 @@ module _ (f x : List ℕ) (ts : List Text) (mo : Model) (tb : Tabled f x ts mo) 
   admits-is p v none h (found.absent e) = rw (eq-eqb p 65535 e)
   admits-is p v (some t) h (found.present e k) = rw (ne-eqb p 65535 e) (sym (tb .same p v k h))
 
-  tests-are : (a b c d e : Bool) → (if a then (if b then (if c then false else (if d then e else false)) else false) else false) ≡ (a && b && not c && d && e)
+  tests-are : (a b c d e : Bool) →
+      (if a then (if b then (if c then false else (if d then e else false)) else false) else false) ≡ (a && b && not c && d && e)
   tests-are true true true d e = refl
   tests-are true true false true e = refl
   tests-are true true false false e = refl
@@ -406,10 +439,12 @@ module _ (f x : List ℕ) (ts : List Text) (mo : Model) (tb : Tabled f x ts mo) 
       let t₅ : two f (at + 14) ≡ p .note-at .at = ap (two f) (sym y₅) ∙ two-is f (p .at-note) (p .note-at .is-place) in
       record {
         is = λ m h. rw (t₁, t₂, t₃, t₅) (
-            tests-are (eqb (p .note-at .at) 65535) (eqb (p .entity-at .at) (m .entity)) (eqb (m .from) (m .to)) (admitsT (p .from-at .at) (m .from)) (admitsT (p .to-at .at) (m .to))
+            tests-are (eqb (p .note-at .at) 65535) (eqb (p .entity-at .at) (m .entity)) (eqb (m .from) (m .to))
+            (admitsT (p .from-at .at) (m .from)) (admitsT (p .to-at .at) (m .to))
             ∙ rw (
               note-is (p .note-at .at) (t .note) (p .note-at .is-value),
-              ap (λ (y : Text). eqT y (T (m .entity))) (p .entity-at .is-text) ∙ tb .same (p .entity-at .at) (m .entity) (p .entity-at .is-in) (h .entity-in),
+              ap (λ (y : Text). eqT y (T (m .entity))) (p .entity-at .is-text)
+                  ∙ tb .same (p .entity-at .at) (m .entity) (p .entity-at .is-in) (h .entity-in),
               tb .same (m .from) (m .to) (h .from-in) (h .to-in),
               admits-is (p .from-at .at) (m .from) (t .from) (h .from-in) (p .from-at .is-value),
               admits-is (p .to-at .at) (m .to) (t .to) (h .to-in) (p .to-at .is-value),
@@ -419,21 +454,25 @@ module _ (f x : List ℕ) (ts : List Text) (mo : Model) (tb : Tabled f x ts mo) 
         inside = omega arith;
       }
 
-  any-from : (m : Move) → Moved m → (n p : ℕ) (l : List Trigger) (q : ℕ) → times n (trigger ts) f p ≡ got l q → anyFrom f m n p ≡ any (matches (T (m .entity)) (T (m .from)) (T (m .to))) l
+  any-from : (m : Move) → Moved m → (n p : ℕ) (l : List Trigger) (q : ℕ) → times n (trigger ts) f p ≡ got l q →
+      anyFrom f m n p ≡ any (matches (T (m .entity)) (T (m .from)) (T (m .to))) l
   unfolding times give anyFrom any
   any-from m h zero p l q e = let z : l ≡ [] = cc in rw z
   any-from m h (suc n) p l q e =
       let r = more (trigger ts) f n p e in
       let j = matches-is p (r .first) (r .after) (r .is-first) in
       let z : later p 16 ≡ r .after = later-is p 16 (omega (arith, j .inside, tb .size)) ∙ sym (j .ends) in
-      cases (matchesT f m p) (matches (T (m .entity)) (T (m .from)) (T (m .to)) (r .first)) (anyFrom f m n (later p 16)) (any (matches (T (m .entity)) (T (m .from)) (T (m .to))) (r .others)) (j .is m h) (rw z (any-from m h n (r .after) (r .others) q (r .are-others)))
+      cases (matchesT f m p) (matches (T (m .entity)) (T (m .from)) (T (m .to)) (r .first)) (anyFrom f m n (later p 16))
+      (any (matches (T (m .entity)) (T (m .from)) (T (m .to))) (r .others)) (j .is m h)
+      (rw z (any-from m h n (r .after) (r .others) q (r .are-others)))
       ∙ ap (any (matches (T (m .entity)) (T (m .from)) (T (m .to)))) (sym (r .both))
     where
       cases : (a b c d : Bool) → a ≡ b → c ≡ d → (elim a [ true ↦ true | false ↦ c ]) ≡ (b || d)
       cases true b c d e g = rw (← e)
       cases false b c d e g = rw (← e) g
 
-  pub any-is : (m : Move) → Moved m → (p : ℕ) (l : List Trigger) (q : ℕ) → counted (trigger ts) f p ≡ got l q → anyT f m p ≡ any (matches (T (m .entity)) (T (m .from)) (T (m .to))) l
+  pub any-is : (m : Move) → Moved m → (p : ℕ) (l : List Trigger) (q : ℕ) → counted (trigger ts) f p ≡ got l q →
+      anyT f m p ≡ any (matches (T (m .entity)) (T (m .from)) (T (m .to))) l
   unfolding anyT
   any-is m h p l q e =
       let c = counted-found (trigger ts) e in

@@ -92,7 +92,8 @@ module _ (f x : List ℕ) (ts : List Text) (mo : Model) (tb : Tabled f x ts mo) 
   unfolding log-actionM logM
   action-sequences k d s r m = by (eqb (m .full) 0) (ltb (length (m .records)) (m .recordSize)) _ _ refl refl
     where
-      by : (a b : Bool) (p q : Machine) → p .sequences ≡ m .sequences → q .sequences ≡ m .sequences → (if a then (if b then p else q) else m) .sequences ≡ m .sequences
+      by : (a b : Bool) (p q : Machine) → p .sequences ≡ m .sequences → q .sequences ≡ m .sequences →
+          (if a then (if b then p else q) else m) .sequences ≡ m .sequences
       by true true p q g h = g
       by true false p q g h = h
       by false b p q g h = refl
@@ -104,7 +105,8 @@ module _ (f x : List ℕ) (ts : List Text) (mo : Model) (tb : Tabled f x ts mo) 
     g : G (m .sequences) r
     g = run-good f x ts mo tb l k h
 
-    act-is : (n : ℕ) → r .depth ≡ suc n → S now 0 (act-nextM f x k r (actionA f x (topA r .position)) m) (go-on now ((R r) .actions) (R r) e)
+    act-is : (n : ℕ) → r .depth ≡ suc n →
+        S now 0 (act-nextM f x k r (actionA f x (topA r .position)) m) (go-on now ((R r) .actions) (R r) e)
     unfolding act-nextM actM go-on
     act-is n z =
         let p = stepped f x ts mo tb r n z (g .places) in
@@ -119,11 +121,16 @@ module _ (f x : List ℕ) (ts : List Text) (mo : Model) (tb : Tabled f x ts mo) 
     unfolding go-onM go-on-runM go-on
     go-on-is = rw (run-is f x ts mo tb l k h) (by (r .depth) refl)
       where
-        by : (d : ℕ) → r .depth ≡ d → S now 0 (if eqb (r .depth) 0 then finishM k m else act-nextM f x k r (actionA f x (topA r .position)) m) (go-on now ((R r) .actions) (R r) e)
-        by zero z = rw (eq-eqb (r .depth) 0 z) (subst (λ (a : Actions). S now 0 (finishM k m) (go-on now a (R r) e)) (sym (run-actions r done (none-left r z))) (finish-is f x ts mo tb l k r (record { inside = h; automation = refl; sequence = refl; number = refl })))
+        by : (d : ℕ) → r .depth ≡ d →
+            S now 0 (if eqb (r .depth) 0 then finishM k m else act-nextM f x k r (actionA f x (topA r .position)) m)
+            (go-on now ((R r) .actions) (R r) e)
+        by zero z =
+            rw (eq-eqb (r .depth) 0 z)
+            (subst (λ (a : Actions). S now 0 (finishM k m) (go-on now a (R r) e)) (sym (run-actions r done (none-left r z))) (finish-is f x ts mo tb l k r (record { inside = h; automation = refl; sequence = refl; number = refl })))
         by (suc n) z = rw (ne-eqb (r .depth) 0 (λ o. absurd (omega arith))) (act-is n z)
 
-    resting : (b : Bool) (p : Phase) {B : Type 0} (u v : B) → (if b || not (absent (waiting-of x ts f p)) then u else v) ≡ (if (if b then false else going-phase p) then v else u)
+    resting : (b : Bool) (p : Phase) {B : Type 0} (u v : B) →
+        (if b || not (absent (waiting-of x ts f p)) then u else v) ≡ (if (if b then false else going-phase p) then v else u)
     unfolding absent going-phase
     resting true p u v = refl
     resting false phase.Going u v = refl
@@ -131,7 +138,9 @@ module _ (f x : List ℕ) (ts : List Text) (mo : Model) (tb : Tabled f x ts mo) 
 
     step-is : S now 0 (resume-runM f x k r m) (step now (R r) e)
     unfolding resume-runM step goingR run-of
-    step-is = rw (resting (r .queued) (r .phase) e (go-on now ((R r) .actions) (R r) e)) (by (if r .queued then false else going-phase (r .phase)))
+    step-is =
+        rw (resting (r .queued) (r .phase) e (go-on now ((R r) .actions) (R r) e))
+        (by (if r .queued then false else going-phase (r .phase)))
       where
         by : (b : Bool) → S now 0 (if b then go-onM f x k m else m) (if b then go-on now ((R r) .actions) (R r) e else e)
         by true = go-on-is
@@ -143,28 +152,37 @@ module _ (f x : List ℕ) (ts : List Text) (mo : Model) (tb : Tabled f x ts mo) 
     unfolding kind-of
     timing b c e = ap Kind.timeout e
 
-    told-time : (w : Wait) (b : ℕ) (c : Bool) → eqb b 1 ≡ c → S now 0 (log-actionM 17 b (w .source) r m) (log-action now (Kind.timeout c) (source-of (w .source)) (R r) e)
-    told-time w b c q = log-action-is f x ts mo tb (weaker f x ts mo tb (omega arith) l) 17 b (w .source) r (Kind.timeout c) (timing b c q)
+    told-time : (w : Wait) (b : ℕ) (c : Bool) → eqb b 1 ≡ c →
+        S now 0 (log-actionM 17 b (w .source) r m) (log-action now (Kind.timeout c) (source-of (w .source)) (R r) e)
+    told-time w b c q =
+        log-action-is f x ts mo tb (weaker f x ts mo tb (omega arith) l) 17 b (w .source) r (Kind.timeout c) (timing b c q)
 
     calm : R (phaseR phase.Going r) ≡ waits none (R r)
     unfolding run-of
     calm = refl
 
     -- the run goes on after its wait
-    let-on : (n : Machine) (d : Engine) → n .runs ≡ m .runs → n .sequences ≡ m .sequences → L now 0 n d → S now 0 (nowM r (put-runM k (phaseR phase.Going r) n)) (add (next-step now (R r)) (store (waits none (R r)) d))
+    let-on : (n : Machine) (d : Engine) → n .runs ≡ m .runs → n .sequences ≡ m .sequences → L now 0 n d →
+        S now 0 (nowM r (put-runM k (phaseR phase.Going r) n)) (add (next-step now (R r)) (store (waits none (R r)) d))
     let-on n d q p y =
         let o = still-here {m = m} {n = n} (record { inside = h; is = refl }) q in
-        now-is f x ts mo tb (subst (λ (u : Run). L now 0 (put-runM k (phaseR phase.Going r) n) (store u d)) calm (store-is f x ts mo tb y k (o .inside) (phaseR phase.Going r) (rw p (record { rule = g .rule; old = g .old; places = g .places; phase = tt })) (ap (λ (u : ARun). u .automation) (o .is)) (ap (λ (u : ARun). u .sequence) (o .is)))) r (g .rule)
+        now-is f x ts mo tb
+        (subst (λ (u : Run). L now 0 (put-runM k (phaseR phase.Going r) n) (store u d)) calm (store-is f x ts mo tb y k (o .inside) (phaseR phase.Going r) (rw p (record { rule = g .rule; old = g .old; places = g .places; phase = tt })) (ap (λ (u : ARun). u .automation) (o .is)) (ap (λ (u : ARun). u .sequence) (o .is)))) r
+        (g .rule)
 
-    over-on-is : (w : Wait) → S now 0 (over-onM k r w m) (add (next-step now (R r)) (store (waits none (R r)) (log-action now (Kind.timeout true) (source-of (w .source)) (R r) e)))
+    over-on-is : (w : Wait) →
+        S now 0 (over-onM k r w m)
+        (add (next-step now (R r)) (store (waits none (R r)) (log-action now (Kind.timeout true) (source-of (w .source)) (R r) e)))
     unfolding over-onM
     over-on-is w =
-        follow f x ts mo tb (λ (n : Machine). nowM r (put-runM k (phaseR phase.Going r) n)) (λ (d : Engine). add (next-step now (R r)) (store (waits none (R r)) d)) (told-time w 1 true refl)
+        follow f x ts mo tb (λ (n : Machine). nowM r (put-runM k (phaseR phase.Going r) n))
+        (λ (d : Engine). add (next-step now (R r)) (store (waits none (R r)) d)) (told-time w 1 true refl)
         (λ y. let-on _ _ (action-runs 17 1 (w .source) r m) (action-sequences 17 1 (w .source) r m) y)
         (λ n z p. s-next n z r _ _ (record { is = p .is }))
         (λ n o. overflow-stays n .on-add _ _ (c-store (Over n) (overflow-stays n) (waits none (R r)) _ o))
 
-    over-end-is : (w : Wait) → S now 0 (over-endM k r w m) (finish now (R r) (log-action now (Kind.timeout false) (source-of (w .source)) (R r) e))
+    over-end-is : (w : Wait) →
+        S now 0 (over-endM k r w m) (finish now (R r) (log-action now (Kind.timeout false) (source-of (w .source)) (R r) e))
     unfolding over-endM
     over-end-is w =
         follow f x ts mo tb (finishM k) (finish now (R r)) (told-time w 0 false refl)
@@ -174,7 +192,10 @@ module _ (f x : List ℕ) (ts : List Text) (mo : Model) (tb : Tabled f x ts mo) 
 
     over-is : (w : Wait) → S now 0 (wait-overM k r w m) (wait-over now (wait-of x ts f w) (R r) e)
     unfolding wait-overM wait-over wait-of
-    over-is w = subst (λ (t : ℕ). S now 0 (if eqb (w .deadline) t then (if w .onward then over-onM k r w m else over-endM k r w m) else m) (wait-over now (wait-of x ts f w) (R r) e)) (sym (l .time)) (by (eqb (w .deadline) now) (w .onward))
+    over-is w =
+        subst
+        (λ (t : ℕ). S now 0 (if eqb (w .deadline) t then (if w .onward then over-onM k r w m else over-endM k r w m) else m) (wait-over now (wait-of x ts f w) (R r) e))
+        (sym (l .time)) (by (eqb (w .deadline) now) (w .onward))
       where
         by : (a b : Bool) → S now 0 (if a then (if b then over-onM k r w m else over-endM k r w m) else m)
             (if a then (if b then add (next-step now (R r)) (store (waits none (R r)) (log-action now (Kind.timeout b) (source-of (w .source)) (R r) e)) else finish now (R r) (log-action now (Kind.timeout b) (source-of (w .source)) (R r) e)) else e)
@@ -194,13 +215,17 @@ module _ (f x : List ℕ) (ts : List Text) (mo : Model) (tb : Tabled f x ts mo) 
   -- ---- the run with a key
   module _ {now : ℕ} {m : Machine} {e : Engine} (l : L now 0 m e) (a n : ℕ) (h : a < rules) where
     searched : lists.Sought R (isRun a n) (is-run (key-of x ts a n)) no-run (m .runs) (placeFrom (isRun a n) 0 (m .runs)) 0
-    searched = lists.sought R (isRun a n) (is-run (key-of x ts a n)) no-run (m .runs) 0 (lists.each-imp (G (m .sequences)) _ (run-test f x ts mo tb (m .sequences) a n h) (m .runs) (l .runs .good))
+    searched =
+        lists.sought R (isRun a n) (is-run (key-of x ts a n)) no-run (m .runs) 0
+        (lists.each-imp (G (m .sequences)) _ (run-test f x ts mo tb (m .sequences) a n h) (m .runs) (l .runs .good))
 
     resume-is : S now 0 (resumeM f x a n m) (resume now (key-of x ts a n) e)
     unfolding resumeM resume resume-atM if-some
     resume-is = by searched
       where
-        by : lists.Sought R (isRun a n) (is-run (key-of x ts a n)) no-run (m .runs) (placeFrom (isRun a n) 0 (m .runs)) 0 → S now 0 (resume-atM f x (placeFrom (isRun a n) 0 (m .runs)) m) (if-some (step now) (find (is-run (key-of x ts a n)) (e .runs)) e)
+        by : lists.Sought R (isRun a n) (is-run (key-of x ts a n)) no-run (m .runs) (placeFrom (isRun a n) 0 (m .runs)) 0 →
+            S now 0 (resume-atM f x (placeFrom (isRun a n) 0 (m .runs)) m)
+            (if-some (step now) (find (is-run (key-of x ts a n)) (e .runs)) e)
         by (lists.here k p o q t) =
             let z : 0 + k ≡ k = omega arith in
             let y : find (is-run (key-of x ts a n)) (e .runs) ≡ some (R (getD (m .runs) k no-run)) = ap (find (is-run (key-of x ts a n))) (l .runs .is) ∙ q in
@@ -213,7 +238,9 @@ module _ (f x : List ℕ) (ts : List Text) (mo : Model) (tb : Tabled f x ts mo) 
     unfolding time-outM time-out time-atM if-some
     time-out-is = by searched
       where
-        by : lists.Sought R (isRun a n) (is-run (key-of x ts a n)) no-run (m .runs) (placeFrom (isRun a n) 0 (m .runs)) 0 → S now 0 (time-atM (placeFrom (isRun a n) 0 (m .runs)) m) (if-some (end-wait now) (find (is-run (key-of x ts a n)) (e .runs)) e)
+        by : lists.Sought R (isRun a n) (is-run (key-of x ts a n)) no-run (m .runs) (placeFrom (isRun a n) 0 (m .runs)) 0 →
+            S now 0 (time-atM (placeFrom (isRun a n) 0 (m .runs)) m)
+            (if-some (end-wait now) (find (is-run (key-of x ts a n)) (e .runs)) e)
         by (lists.here k p o q t) =
             let z : 0 + k ≡ k = omega arith in
             let y : find (is-run (key-of x ts a n)) (e .runs) ≡ some (R (getD (m .runs) k no-run)) = ap (find (is-run (key-of x ts a n))) (l .runs .is) ∙ q in
@@ -247,7 +274,10 @@ module _ (f x : List ℕ) (ts : List Text) (mo : Model) (tb : Tabled f x ts mo) 
     X = T (name x j)
 
     celled : Celled f x ts mo tb (set (m .values) j gone) (m .versions) (put X (T gone) 0 (e .cells))
-    celled = subst (λ (ns : List ℕ). Celled f x ts mo tb (set (m .values) j gone) ns (put X (T gone) 0 (e .cells))) (set-own (m .versions) j 0 (omega (arith, l .cells .long, tb .few-entities))) (stored-is f x ts mo tb (m .values) (m .versions) (e .cells) (l .cells) j gone 0 (getD (m .versions) j 0) h (tb .unknown .is-in) (omega arith))
+    celled =
+        subst (λ (ns : List ℕ). Celled f x ts mo tb (set (m .values) j gone) ns (put X (T gone) 0 (e .cells)))
+        (set-own (m .versions) j 0 (omega (arith, l .cells .long, tb .few-entities)))
+        (stored-is f x ts mo tb (m .values) (m .versions) (e .cells) (l .cells) j gone 0 (getD (m .versions) j 0) h (tb .unknown .is-in) (omega arith))
 
     abbrev mv : Move
     mv = move (name x j) old gone
@@ -267,16 +297,23 @@ module _ (f x : List ℕ) (ts : List Text) (mo : Model) (tb : Tabled f x ts mo) 
     same-value : eqT (T old) (text "unknown") ≡ eqb old gone
     same-value = fixed-is f x ts mo tb old gone (text "unknown") (l .cells .valued .in-texts j h) (tb .unknown)
 
-    one-change : eqb old gone ≡ false → adds (change-of now X (T old) (text "unknown")) ≡ add (at-once now (Work.changed X (T old) (text "unknown")))
+    one-change : eqb old gone ≡ false →
+        adds (change-of now X (T old) (text "unknown")) ≡ add (at-once now (Work.changed X (T old) (text "unknown")))
     unfolding change-of adds through
     one-change b = rw (same-value ∙ b)
 
     stale-is : (n : ℕ) → S now 0 (stale-atM x j n m) (expire now n (cell-at x ts (m .values) (m .versions) j) e)
     unfolding stale-atM expire cell-at
-    stale-is n = rw (le-ltb 31 j (omega (arith, tb .few-entities)), same-value) (by (eqb (getD (m .versions) j 0) n) (case (eqb old gone)))
+    stale-is n =
+        rw (le-ltb 31 j (omega (arith, tb .few-entities)), same-value)
+        (by (eqb (getD (m .versions) j 0) n) (case (eqb old gone)))
       where
-        expired : eqb old gone ≡ false → S now 0 (expireM x j m) (add (at-once now (Work.changed X (T old) (text "unknown"))) (log now Kind.stale none none (some (record { entity = X; before = T old; after = text "unknown" })) (with-cells (put X (text "unknown") 0 (e .cells)) e)))
-        expired b = rw (← one-change b) (subst (λ (t : Text). S now 0 (expireM x j m) (adds (change-of now X (T old) t) (log now Kind.stale none none (some (record { entity = X; before = T old; after = t })) (with-cells (put X t 0 (e .cells)) e)))) (tb .unknown .is-text) expire-is)
+        expired : eqb old gone ≡ false →
+            S now 0 (expireM x j m)
+            (add (at-once now (Work.changed X (T old) (text "unknown"))) (log now Kind.stale none none (some (record { entity = X; before = T old; after = text "unknown" })) (with-cells (put X (text "unknown") 0 (e .cells)) e)))
+        expired b =
+            rw (← one-change b)
+            (subst (λ (t : Text). S now 0 (expireM x j m) (adds (change-of now X (T old) t) (log now Kind.stale none none (some (record { entity = X; before = T old; after = t })) (with-cells (put X t 0 (e .cells)) e)))) (tb .unknown .is-text) expire-is)
 
         by : (a : Bool) → Case (eqb old gone) → S now 0 (if a then (if eqb old gone then m else expireM x j m) else m)
             (if a && not (eqb old gone) then add (at-once now (Work.changed X (T old) (text "unknown"))) (log now Kind.stale none none (some (record { entity = X; before = T old; after = text "unknown" })) (with-cells (put X (text "unknown") 0 (e .cells)) e)) else e)
@@ -288,11 +325,13 @@ module _ (f x : List ℕ) (ts : List Text) (mo : Model) (tb : Tabled f x ts mo) 
   unfolding stale-atM
   none-stale n m = refl
 
-  go-stale-is : {now : ℕ} {m : Machine} {e : Engine} → L now 0 m e → (a n : ℕ) → a < length ts → S now 0 (go-staleM x a n m) (go-stale now (T a) n e)
+  go-stale-is : {now : ℕ} {m : Machine} {e : Engine} → L now 0 m e → (a n : ℕ) → a < length ts →
+      S now 0 (go-staleM x a n m) (go-stale now (T a) n e)
   unfolding go-staleM go-stale if-some
   go-stale-is {now} {m} {e} l a n h = by (cell-is f x ts mo tb (m .values) (m .versions) a h)
     where
-      by : Sought f x ts mo tb a (m .values) (m .versions) (entityOf x a) (cells-of x ts (m .values) (m .versions)) → S now 0 (stale-atM x (entityOf x a) n m) (if-some (expire now n) (cell-of (T a) (e .cells)) e)
+      by : Sought f x ts mo tb a (m .values) (m .versions) (entityOf x a) (cells-of x ts (m .values) (m .versions)) →
+          S now 0 (stale-atM x (entityOf x a) n m) (if-some (expire now n) (cell-of (T a) (e .cells)) e)
       by (here j g o p q) =
           let y : cell-of (T a) (e .cells) ≡ some (cell-at x ts (m .values) (m .versions) j) = ap (cell-of (T a)) (l .cells .is) ∙ q in
           rw (o, y) (stale-is l j g n)
@@ -304,16 +343,22 @@ module _ (f x : List ℕ) (ts : List Text) (mo : Model) (tb : Tabled f x ts mo) 
 
   drop-is : {now : ℕ} {m : Machine} {e : Engine} → L now 0 m e → S now 0 (drop-allM m) (drop-runs now e)
   unfolding drop-allM drop-runs each
-  drop-is {now} {m} {e} l = log-plain-is f x ts mo tb (weaker f x ts mo tb (omega arith) (runs-are f x ts mo tb l [] [] (record { is = refl; good = tt; order = tt }))) 4 Kind.restart restarting
+  drop-is {now} {m} {e} l =
+      log-plain-is f x ts mo tb
+      (weaker f x ts mo tb (omega arith) (runs-are f x ts mo tb l [] [] (record { is = refl; good = tt; order = tt }))) 4 Kind.restart restarting
 
   -- ---- an item
 
-  pub process-is : {now : ℕ} {m : Machine} {e : Engine} → L now 0 m e → (w : QWork) → GoodWork f x ts mo tb w → S now 0 (processM f x w m) (process now (mo .rules) (work-of x ts w) e)
+  pub process-is : {now : ℕ} {m : Machine} {e : Engine} → L now 0 m e → (w : QWork) → GoodWork f x ts mo tb w →
+      S now 0 (processM f x w m) (process now (mo .rules) (work-of x ts w) e)
   unfolding processM process work-of externalM
-  process-is {now} {m} {e} l (queue.Set a v) h = update-is f x ts mo tb l (setting a v 1 NoRule Nowhere) (h .0 .0) (h .0 .1 .0) (h .0 .1 .1) (h .1 .1) Kind.external outside
+  process-is {now} {m} {e} l (queue.Set a v) h =
+      update-is f x ts mo tb l (setting a v 1 NoRule Nowhere) (h .0 .0) (h .0 .1 .0) (h .0 .1 .1)
+      (h .1 .1) Kind.external outside
   process-is l queue.Restart h = drop-is l
   process-is l queue.Reload h = drop-is l
-  process-is {now} l (queue.Changed a v u) h = trigger-is f x ts mo tb now (move a v u) (record { entity-in = h .0; from-in = h .1 .0; to-in = h .1 .1 }) l
+  process-is {now} l (queue.Changed a v u) h =
+      trigger-is f x ts mo tb now (move a v u) (record { entity-in = h .0; from-in = h .1 .0; to-in = h .1 .1 }) l
   process-is l (queue.Resume a n) h = resume-is l a n h
   process-is l (queue.Timeout a n) h = time-out-is l a n h
   process-is l (queue.Stale a n) h = go-stale-is l a n h

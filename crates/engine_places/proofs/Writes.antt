@@ -62,39 +62,60 @@ module _ (f x : List ℕ) (ts : List Text) (mo : Model) (tb : Tabled f x ts mo) 
   -- ---- records
 
   module _ {now s : ℕ} {m : Machine} {e : Engine} (l : L now (suc s) m e) where
-    pub log-rule-is : (k d a : ℕ) (K : Kind) → kind-of x ts k d ≡ K → S now s (log-ruleM k d a m) (log-rule now K (id-at x ts a) e)
+    pub log-rule-is : (k d a : ℕ) (K : Kind) → kind-of x ts k d ≡ K →
+        S now s (log-ruleM k d a m) (log-rule now K (id-at x ts a) e)
     unfolding log-ruleM log-rule log record-of
-    log-rule-is k d a K h = log-is f x ts mo tb l (saying k d) (Of a) Nowhere NoChange _ (ap (λ (y : Kind). record { at = now; kind = y; automation = some (id-at x ts a); source = none; change = none }) h)
+    log-rule-is k d a K h =
+        log-is f x ts mo tb l (saying k d) (Of a) Nowhere NoChange _
+        (ap (λ (y : Kind). record { at = now; kind = y; automation = some (id-at x ts a); source = none; change = none }) h)
 
     pub log-plain-is : (k : ℕ) (K : Kind) → kind-of x ts k 0 ≡ K → S now s (log-plainM k m) (log now K none none none e)
     unfolding log-plainM log record-of
-    log-plain-is k K h = log-is f x ts mo tb l (saying k 0) NoRule Nowhere NoChange _ (ap (λ (y : Kind). record { at = now; kind = y; automation = none; source = none; change = none }) h)
+    log-plain-is k K h =
+        log-is f x ts mo tb l (saying k 0) NoRule Nowhere NoChange _
+        (ap (λ (y : Kind). record { at = now; kind = y; automation = none; source = none; change = none }) h)
 
-    pub log-action-is : (k d : ℕ) (src : ASource) (r : ARun) (K : Kind) → kind-of x ts k d ≡ K → S now s (log-actionM k d src r m) (log-action now K (source-of src) (run-of x ts f r) e)
+    pub log-action-is : (k d : ℕ) (src : ASource) (r : ARun) (K : Kind) → kind-of x ts k d ≡ K →
+        S now s (log-actionM k d src r m) (log-action now K (source-of src) (run-of x ts f r) e)
     unfolding log-actionM log-action log record-of run-of key-of
-    log-action-is k d src r K h = log-is f x ts mo tb l (saying k d) (Of (r .automation)) (From (src .line) (src .column)) NoChange _ (ap (λ (y : Kind). record { at = now; kind = y; automation = some (id-at x ts (r .automation)); source = some (source-of src); change = none }) h)
+    log-action-is k d src r K h =
+        log-is f x ts mo tb l (saying k d) (Of (r .automation)) (From (src .line) (src .column)) NoChange _
+        (ap (λ (y : Kind). record { at = now; kind = y; automation = some (id-at x ts (r .automation)); source = some (source-of src); change = none }) h)
 
-    pub log-at-is : (k d a line column : ℕ) (K : Kind) → kind-of x ts k d ≡ K → S now s (logM (saying k d) (Of a) (From line column) NoChange m) (log now K (some (id-at x ts a)) (some (record { line = line; column = column })) none e)
+    pub log-at-is : (k d a line column : ℕ) (K : Kind) → kind-of x ts k d ≡ K →
+        S now s (logM (saying k d) (Of a) (From line column) NoChange m)
+        (log now K (some (id-at x ts a)) (some (record { line = line; column = column })) none e)
     unfolding log record-of
-    log-at-is k d a line column K h = log-is f x ts mo tb l (saying k d) (Of a) (From line column) NoChange _ (ap (λ (y : Kind). record { at = now; kind = y; automation = some (id-at x ts a); source = some (record { line = line; column = column }); change = none }) h)
+    log-at-is k d a line column K h =
+        log-is f x ts mo tb l (saying k d) (Of a) (From line column) NoChange _
+        (ap (λ (y : Kind). record { at = now; kind = y; automation = some (id-at x ts a); source = some (record { line = line; column = column }); change = none }) h)
 
-    pub log-write-is : (w : Setting) (v : Move) (K : Kind) → kind-of x ts (w .kind) 0 ≡ K → S now s (log-writeM w v m) (log now K (rule-of x ts (w .rule)) (where-of (w .source)) (some (record { entity = T (v .entity); before = T (v .from); after = T (v .to) })) e)
+    pub log-write-is : (w : Setting) (v : Move) (K : Kind) → kind-of x ts (w .kind) 0 ≡ K →
+        S now s (log-writeM w v m)
+        (log now K (rule-of x ts (w .rule)) (where-of (w .source)) (some (record { entity = T (v .entity); before = T (v .from); after = T (v .to) })) e)
     unfolding log-writeM log record-of
-    log-write-is w v K h = log-is f x ts mo tb l (saying (w .kind) 0) (w .rule) (w .source) (Write (v .entity) (v .from) (v .to)) _ (ap (λ (y : Kind). record { at = now; kind = y; automation = rule-of x ts (w .rule); source = where-of (w .source); change = some (record { entity = T (v .entity); before = T (v .from); after = T (v .to) }) }) h)
+    log-write-is w v K h =
+        log-is f x ts mo tb l (saying (w .kind) 0) (w .rule) (w .source) (Write (v .entity) (v .from) (v .to)) _
+        (ap (λ (y : Kind). record { at = now; kind = y; automation = rule-of x ts (w .rule); source = where-of (w .source); change = some (record { entity = T (v .entity); before = T (v .from); after = T (v .to) }) }) h)
 
   -- ---- the queue
 
   module _ {now s : ℕ} {m : Machine} {e : Engine} (l : L now s m e) where
     -- the run goes on at a second
-    pub next-is : (r : ARun) (t : ℕ) → r .automation < length (mo .rules) → S now s (next-stepM r t m) (add (record { at = t; work = Work.resume (key-of x ts (r .automation) (r .sequence)) }) e)
+    pub next-is : (r : ARun) (t : ℕ) → r .automation < length (mo .rules) →
+        S now s (next-stepM r t m) (add (record { at = t; work = Work.resume (key-of x ts (r .automation) (r .sequence)) }) e)
     unfolding next-stepM item-of work-of
     next-is r t h = add-is f x ts mo tb l t (queue.Resume (r .automation) (r .sequence)) h
 
-    pub now-is : (r : ARun) → r .automation < length (mo .rules) → S now s (next-stepM r (m .now) m) (add (next-step now (run-of x ts f r)) e)
+    pub now-is : (r : ARun) → r .automation < length (mo .rules) →
+        S now s (next-stepM r (m .now) m) (add (next-step now (run-of x ts f r)) e)
     unfolding next-step at-once run-of
-    now-is r h = subst (λ (t : ℕ). S now s (next-stepM r t m) (add (next-step now (run-of x ts f r)) e)) (sym (l .time)) (next-is r now h)
+    now-is r h =
+        subst (λ (t : ℕ). S now s (next-stepM r t m) (add (next-step now (run-of x ts f r)) e)) (sym (l .time))
+        (next-is r now h)
 
-    pub changed-is : (v : Move) → Moved f x ts mo tb v → S now s (changedM v m) (adds (change-of now (T (v .entity)) (T (v .from)) (T (v .to))) e)
+    pub changed-is : (v : Move) → Moved f x ts mo tb v →
+        S now s (changedM v m) (adds (change-of now (T (v .entity)) (T (v .from)) (T (v .to))) e)
     unfolding changedM change-of adds through at-once item-of work-of
     changed-is v h = cases (case (eqb (v .from) (v .to)))
       where
@@ -102,44 +123,60 @@ module _ (f x : List ℕ) (ts : List Text) (mo : Model) (tb : Tabled f x ts mo) 
         same = tb .same (v .from) (v .to) (h .from-in) (h .to-in)
 
         added : S now s (addM (m .now) (queue.Changed (v .entity) (v .from) (v .to)) m) (add (at-once now (Work.changed (T (v .entity)) (T (v .from)) (T (v .to)))) e)
-        added = subst (λ (t : ℕ). S now s (addM t (queue.Changed (v .entity) (v .from) (v .to)) m) (add (at-once now (Work.changed (T (v .entity)) (T (v .from)) (T (v .to)))) e)) (sym (l .time)) (add-is f x ts mo tb l now (queue.Changed (v .entity) (v .from) (v .to)) (h .entity-in, (h .from-in, h .to-in)))
+        added =
+            subst
+            (λ (t : ℕ). S now s (addM t (queue.Changed (v .entity) (v .from) (v .to)) m) (add (at-once now (Work.changed (T (v .entity)) (T (v .from)) (T (v .to)))) e))
+            (sym (l .time))
+            (add-is f x ts mo tb l now (queue.Changed (v .entity) (v .from) (v .to)) (h .entity-in, (h .from-in, h .to-in)))
 
-        cases : Case (eqb (v .from) (v .to)) → S now s (changedM v m) (adds (change-of now (T (v .entity)) (T (v .from)) (T (v .to))) e)
+        cases : Case (eqb (v .from) (v .to)) →
+            S now s (changedM v m) (adds (change-of now (T (v .entity)) (T (v .from)) (T (v .to))) e)
         cases (is-true b) = rw (b, same ∙ b) (live l)
         cases (is-false b) = rw (b, same ∙ b) added
 
     -- the expiry of the j-th entity's value
-    pub expiry-is : (j : ℕ) → j < many → S now s (expiryM x j m) (adds (expiry now (cell-at x ts (m .values) (m .versions) j)) e)
+    pub expiry-is : (j : ℕ) → j < many →
+        S now s (expiryM x j m) (adds (expiry now (cell-at x ts (m .values) (m .versions) j)) e)
     unfolding expiryM expiry cell-at stale-of adds through item-of work-of
     expiry-is j h = cases (case (eqb (stale x j) 4294967295))
       where
-        added : (stale x j ≡ 4294967295 → ⊥) → S now s (addM (later (later (m .now) (stale x j)) 1) (queue.Stale (name x j) (getD (m .versions) j 0)) m) (add (record { at = now + stale x j + 1; work = Work.stale (T (name x j)) (getD (m .versions) j 0) }) e)
+        added : (stale x j ≡ 4294967295 → ⊥) →
+            S now s (addM (later (later (m .now) (stale x j)) 1) (queue.Stale (name x j) (getD (m .versions) j 0)) m)
+            (add (record { at = now + stale x j + 1; work = Work.stale (T (name x j)) (getD (m .versions) j 0) }) e)
         added d =
             let c = tb .columns no-entity j h .soon d in
             let y : later (later (m .now) (stale x j)) 1 ≡ now + stale x j + 1 = ap (λ (t : ℕ). later (later t (stale x j)) 1) (l .time) ∙ ap (λ (t : ℕ). later t 1) (later-is now (stale x j) (omega (arith, l .soon))) ∙ later-is (now + stale x j) 1 (omega (arith, l .soon)) in
-            subst (λ (t : ℕ). S now s (addM t (queue.Stale (name x j) (getD (m .versions) j 0)) m) (add (record { at = now + stale x j + 1; work = Work.stale (T (name x j)) (getD (m .versions) j 0) }) e)) (sym y)
+            subst
+            (λ (t : ℕ). S now s (addM t (queue.Stale (name x j) (getD (m .versions) j 0)) m) (add (record { at = now + stale x j + 1; work = Work.stale (T (name x j)) (getD (m .versions) j 0) }) e))
+            (sym y)
             (add-is f x ts mo tb l (now + stale x j + 1) (queue.Stale (name x j) (getD (m .versions) j 0)) (name-in f x ts mo tb j h))
 
-        cases : Case (eqb (stale x j) 4294967295) → S now s (expiryM x j m) (adds (expiry now (cell-at x ts (m .values) (m .versions) j)) e)
+        cases : Case (eqb (stale x j) 4294967295) →
+            S now s (expiryM x j m) (adds (expiry now (cell-at x ts (m .values) (m .versions) j)) e)
         cases (is-true b) = rw (b, expiry) (live l)
         cases (is-false b) = rw (b, expiry) (added (eqb-false _ _ b))
 
   -- ---- the entity of a name
 
   -- a declared entity has a cell
-  missing : (vs ns : List ℕ) (j : ℕ) → j < many → (left e : ℕ) → e ≤ j → j < e + left → e + left ≤ many → cell-of (T (name x j)) (cells-from x ts vs ns left e) ≡ none → ⊥
+  missing : (vs ns : List ℕ) (j : ℕ) → j < many → (left e : ℕ) → e ≤ j → j < e + left → e + left ≤ many →
+      cell-of (T (name x j)) (cells-from x ts vs ns left e) ≡ none → ⊥
   unfolding cell-of find cells-from
   missing vs ns j h zero e a b c o = omega arith
-  missing vs ns j h (suc left) e a b c o = cases (case (eqb (name x e) (name x j))) (λ d. missing vs ns j h left (e + 1) d (omega arith) (omega arith))
+  missing vs ns j h (suc left) e a b c o =
+      cases (case (eqb (name x e) (name x j))) (λ d. missing vs ns j h left (e + 1) d (omega arith) (omega arith))
     where
       named : Case (eqb (name x e) (name x j)) → Unit {0}
       named y = tt
 
-      cases : Case (eqb (name x e) (name x j)) → (e + 1 ≤ j → cell-of (T (name x j)) (cells-from x ts vs ns left (e + 1)) ≡ none → ⊥) → ⊥
-      cases (is-true y) ih = none-some (sym (rw (cell-named f x ts mo tb vs ns (name x j) e (name-in f x ts mo tb j h) (omega arith) ∙ y) at o))
+      cases : Case (eqb (name x e) (name x j)) →
+          (e + 1 ≤ j → cell-of (T (name x j)) (cells-from x ts vs ns left (e + 1)) ≡ none → ⊥) → ⊥
+      cases (is-true y) ih =
+          none-some (sym (rw (cell-named f x ts mo tb vs ns (name x j) e (name-in f x ts mo tb j h) (omega arith) ∙ y) at o))
       cases (is-false y) ih =
           let d : e ≡ j → ⊥ = λ q. eqb-false _ _ y (ap (λ (i : ℕ). name x i) q) in
-          ih (elim (decLt e j) [ yes k ↦ omega arith | no k ↦ absurd (d (omega arith)) ]) (rw (cell-named f x ts mo tb vs ns (name x j) e (name-in f x ts mo tb j h) (omega arith) ∙ y) at o)
+          ih (elim (decLt e j) [ yes k ↦ omega arith | no k ↦ absurd (d (omega arith)) ])
+          (rw (cell-named f x ts mo tb vs ns (name x j) e (name-in f x ts mo tb j h) (omega arith) ∙ y) at o)
 
   pub record Found (vs ns : List ℕ) (j : ℕ) : Type 0 where
     pub number : entityOf x (name x j) ≡ j
@@ -151,14 +188,19 @@ module _ (f x : List ℕ) (ts : List Text) (mo : Model) (tb : Tabled f x ts mo) 
     where
       cases : Sought f x ts mo tb (name x j) vs ns (entityOf x (name x j)) (cells-of x ts vs ns) → Found vs ns j
       cases (here i g o n c) = let z : i ≡ j = tb .names-differ i j g h n in record { number = o ∙ z; cell = c ∙ ap (λ (y : ℕ). some (cell-at x ts vs ns y)) z }
-      cases (nowhere o c) = absurd (missing vs ns j h (entities x) 0 (omega arith) (omega (arith, entities-are f x ts mo tb)) (omega (arith, entities-are f x ts mo tb)) c)
+      cases (nowhere o c) =
+          absurd
+          (missing vs ns j h (entities x) 0 (omega arith) (omega (arith, entities-are f x ts mo tb)) (omega (arith, entities-are f x ts mo tb)) c)
 
-  pub value-is : (vs ns : List ℕ) (cs : List Cell) → Celled f x ts mo tb vs ns cs → (j : ℕ) → j < many → value-of (T (name x j)) cs ≡ T (getD vs j 0)
+  pub value-is : (vs ns : List ℕ) (cs : List Cell) → Celled f x ts mo tb vs ns cs → (j : ℕ) → j < many →
+      value-of (T (name x j)) cs ≡ T (getD vs j 0)
   unfolding value-of cell-at
   value-is vs ns cs g j h = rw (ap (cell-of (T (name x j))) (g .is) ∙ entity-found vs ns j h .cell, value-of)
 
   -- the cells after a write of the j-th entity
-  pub stored-is : (vs ns : List ℕ) (cs : List Cell) → Celled f x ts mo tb vs ns cs → (j v k n : ℕ) → j < many → v < length ts → n ≡ getD ns j 0 + k → Celled f x ts mo tb (set vs j v) (set ns j n) (put (T (name x j)) (T v) k cs)
+  pub stored-is : (vs ns : List ℕ) (cs : List Cell) → Celled f x ts mo tb vs ns cs → (j v k n : ℕ) → j < many →
+      v < length ts → n ≡ getD ns j 0 + k →
+      Celled f x ts mo tb (set vs j v) (set ns j n) (put (T (name x j)) (T v) k cs)
   stored-is vs ns cs g j v k n h i e = record {
     is = ap (put (T (name x j)) (T v) k) (g .is) ∙ put-is f x ts mo tb vs ns j v k h (omega (arith, g .valued .long, tb .few-entities)) (omega (arith, g .long, tb .few-entities)) ∙ ap (λ (y : ℕ). cells-of x ts (set vs j v) (set ns j y)) (sym e);
     valued = record { long = length-set vs j v ∙ g .valued .long; in-texts = λ o p. set-in o p (case (eqb o j)) };
@@ -172,12 +214,14 @@ module _ (f x : List ℕ) (ts : List Text) (mo : Model) (tb : Tabled f x ts mo) 
   -- ---- a write
 
   -- a version raised by one
-  raised-low : {s records made : ℕ} {ns : List ℕ} (j : ℕ) → j < length ns → s ≤ 1 → Low f x ts mo tb s records made ns → records ≤ 4294967000 → Low f x ts mo tb (suc s) records made (set ns j (more (getD ns j 0)))
+  raised-low : {s records made : ℕ} {ns : List ℕ} (j : ℕ) → j < length ns → s ≤ 1 → Low f x ts mo tb s records made ns →
+      records ≤ 4294967000 → Low f x ts mo tb (suc s) records made (set ns j (more (getD ns j 0)))
   raised-low {s} {records} {made} {ns} j h k g o = record { made-low = omega (arith, g .made-low); version-low = λ e. low e (case (eqb e j)); slack = omega arith }
     where
       low : (e : ℕ) → Case (eqb e j) → getD (set ns j (more (getD ns j 0))) e 0 ≤ records + suc s
       low e (is-true b) = let q : e ≡ j = eqb-true e j b in rw (q, getD-set-same ns j (more (getD ns j 0)) 0 h, more-is (getD ns j 0) (omega (arith, g .version-low j))) (omega (arith, g .version-low j))
-      low e (is-false b) = rw (getD-set-other ns j e (more (getD ns j 0)) 0 (λ y. eqb-false e j b y)) (omega (arith, g .version-low e))
+      low e (is-false b) =
+          rw (getD-set-other ns j e (more (getD ns j 0)) 0 (λ y. eqb-false e j b y)) (omega (arith, g .version-low e))
 
   module _ {now : ℕ} {m : Machine} {e : Engine} (l : L now 0 m e) (w : Setting) (j : ℕ) (h : j < many) (q : name x j ≡ w .entity) (i : w .value < length ts) (K : Kind) (kind : kind-of x ts (w .kind) 0 ≡ K) where
     abbrev old : ℕ
@@ -202,17 +246,28 @@ module _ (f x : List ℕ) (ts : List Text) (mo : Model) (tb : Tabled f x ts mo) 
     version = more-is (getD (m .versions) j 0) (omega (arith, l .low .version-low j, l .sizes .fits, l .sizes .word))
 
     celled : Celled f x ts mo tb (set (m .values) j (w .value)) (set (m .versions) j (more (getD (m .versions) j 0))) cs
-    celled = subst (λ (n : ℕ). Celled f x ts mo tb (set (m .values) j (w .value)) (set (m .versions) j (more (getD (m .versions) j 0))) (put (T n) (T (w .value)) 1 (e .cells))) q (stored-is (m .values) (m .versions) (e .cells) (l .cells) j (w .value) 1 (more (getD (m .versions) j 0)) h i version)
+    celled =
+        subst
+        (λ (n : ℕ). Celled f x ts mo tb (set (m .values) j (w .value)) (set (m .versions) j (more (getD (m .versions) j 0))) (put (T n) (T (w .value)) 1 (e .cells))) q
+        (stored-is (m .values) (m .versions) (e .cells) (l .cells) j (w .value) 1 (more (getD (m .versions) j 0)) h i version)
 
     written : L now 1 (put-cells (raisedC (storedC (cells m) j (w .value)) j) m) (with-cells cs e)
-    written = cells-are f x ts mo tb l (raisedC (storedC (cells m) j (w .value)) j) cs celled (raised-low j (omega (arith, l .cells .long, tb .few-entities)) (omega arith) (l .low) (omega (arith, l .sizes .fits, l .sizes .word)))
+    written =
+        cells-are f x ts mo tb l (raisedC (storedC (cells m) j (w .value)) j) cs celled
+        (raised-low j (omega (arith, l .cells .long, tb .few-entities)) (omega arith) (l .low) (omega (arith, l .sizes .fits, l .sizes .word)))
 
     cell : cell-of X cs ≡ some (cell-at x ts (set (m .values) j (w .value)) (set (m .versions) j (more (getD (m .versions) j 0))) j)
-    cell = ap (λ (n : ℕ). cell-of (T n) cs) (sym q) ∙ ap (cell-of (T (name x j))) (celled .is) ∙ entity-found (set (m .values) j (w .value)) (set (m .versions) j (more (getD (m .versions) j 0))) j h .cell
+    cell =
+        ap (λ (n : ℕ). cell-of (T n) cs) (sym q)
+        ∙ ap (cell-of (T (name x j))) (celled .is)
+        ∙ entity-found (set (m .values) j (w .value)) (set (m .versions) j (more (getD (m .versions) j 0))) j h .cell
 
     expiring : S now 1 (expiryM x j (put-cells (raisedC (storedC (cells m) j (w .value)) j) m)) (adds (expiry-of now (cell-of X cs)) (with-cells cs e))
     unfolding expiry-of
-    expiring = subst (λ (o : Option Cell). S now 1 (expiryM x j (put-cells (raisedC (storedC (cells m) j (w .value)) j) m)) (adds (expiry-of now o) (with-cells cs e))) (sym cell) (expiry-is written j h)
+    expiring =
+        subst
+        (λ (o : Option Cell). S now 1 (expiryM x j (put-cells (raisedC (storedC (cells m) j (w .value)) j) m)) (adds (expiry-of now o) (with-cells cs e)))
+        (sym cell) (expiry-is written j h)
 
     abbrev change : Text → Option Change
     change t = some (record { entity = X; before = t; after = T (w .value) })
@@ -227,7 +282,10 @@ module _ (f x : List ℕ) (ts : List Text) (mo : Model) (tb : Tabled f x ts mo) 
     recorded = follow f x ts mo tb (log-writeM w mv) (log now K id src (change (T old))) expiring (λ k. log-write-is k w mv K kind) (λ n z p. s-log-write n z w mv _ p) (λ n o. c-log (Over n) (overflow-stays n) now K id src (change (T old)) _ o)
 
     done : S now 0 (changedM mv (log-writeM w mv (expiryM x j (put-cells (raisedC (storedC (cells m) j (w .value)) j) m)))) (adds (change-of now X (T old) (T (w .value))) (log now K id src (change (T old)) (adds (expiry-of now (cell-of X cs)) (with-cells cs e))))
-    done = follow f x ts mo tb (changedM mv) (adds (change-of now X (T old) (T (w .value)))) recorded (λ k. changed-is k mv moved) (λ n z p. s-changed n z mv _ p) (λ n o. c-adds (Over n) (overflow-stays n) (change-of now X (T old) (T (w .value))) _ o)
+    done =
+        follow f x ts mo tb (changedM mv) (adds (change-of now X (T old) (T (w .value)))) recorded
+        (λ k. changed-is k mv moved) (λ n z p. s-changed n z mv _ p)
+        (λ n o. c-adds (Over n) (overflow-stays n) (change-of now X (T old) (T (w .value))) _ o)
 
     pub update-is : S now 0 (updateM x w m) (update now (T (w .entity)) (T (w .value)) (rule-of x ts (w .rule)) (where-of (w .source)) K e)
     unfolding updateM update-atM writeM update

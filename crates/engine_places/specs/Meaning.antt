@@ -243,7 +243,8 @@ pub record Tabled (f x : List ℕ) (ts : List Text) (m : Model) : Type 0 where
   pub columns : (d : Entity) (e : ℕ) → e < length (m .scenario .entities) → Column x ts e (getD (m .scenario .entities) e d)
   pub rows : (d : Automation) (i : ℕ) → i < length (m .rules) → Row f x ts (m .scenario .entities) i (getD (m .rules) i d)
   -- names and identifiers differ
-  pub names-differ : (i j : ℕ) → i < length (m .scenario .entities) → j < length (m .scenario .entities) → name x i ≡ name x j → i ≡ j
+  pub names-differ : (i j : ℕ) → i < length (m .scenario .entities) → j < length (m .scenario .entities) →
+      name x i ≡ name x j → i ≡ j
   pub ids-differ : (i j : ℕ) → i < length (m .rules) → j < length (m .rules) → word x i 0 ≡ word x j 0 → i ≡ j
   -- a file has at most 64 notes, so the reasons have room
   pub few-reasons : length (pool-of m) ≤ 300

@@ -1,22 +1,20 @@
 -- The table of an accepted file is the table of its model: each word is what the definition's reader finds.
 use mathlib.Core.Path.{_≡_, refl, sym, ap, _∙_, subst}
-use mathlib.Core.List.{List, [], _∷_, _++_}
-use mathlib.Core.Bool.{Bool, true, false, _||_}
+use mathlib.Core.List.{List, [], _∷_}
+use mathlib.Core.Bool.{true}
 use mathlib.Core.Option.{none, some}
 use Prim.Native.Nat.{ℕ, zero, suc, _+_, _-_, _*_, _/_, _%_, _≤_, _<_}
 use native.Mathlib.Omega.{arith}
-use native.Mathlib.Decide.{decLt}
 use native.Mathlib.Nat.{mul-suc}
 use lib.ListN.{length, getD}
-use lib.Dec.{ltb, eqb}
-use borrow.Author.Tests.{le-ltb, ne-eqb, ltb-false, eqb-true}
-use Rattle.texts.specs.Lists.{if_then_else_, is-empty, any, each, present-and}
-use Rattle.texts.specs.Texts.{Text, text, eqT, memT}
-use Rattle.texts.proofs.Ordering.{not-both, eq-refl}
-use Rattle.model.specs.Answer.{Answer, answer, refused, Verdict, accept, _>>=_, _and_, _when_, each-accepted}
-use Rattle.model.specs.Model.{observational, Predicate, Actions, done, Entity, Mode, single, queued, parallel, Automation, Limits, Model}
-use Rattle.model.specs.File.{got, Reader, give, u8, u16, u32, times, counted, number?, source, mode, limits, one-text, texts, place, predicate, trigger, entity, actions, automation}
-use Rattle.model.specs.Validate.{bad-length, bad-title, bad-size, bad-limits, bad-alphabet, bad-events, bad-bounds, check-predicate, check-trigger, check-input, check-entity, check-invariants, check-actions, check-rule, check-rules, validate}
+use lib.Dec.{eqb}
+use borrow.Author.Tests.{le-ltb}
+use Rattle.texts.specs.Lists.{if_then_else_}
+use Rattle.texts.specs.Texts.{Text, text, memT}
+use Rattle.model.specs.Answer.{answer, refused}
+use Rattle.model.specs.Model.{Predicate, Actions, Entity, Mode, single, queued, parallel, Automation, Limits, Model}
+use Rattle.model.specs.File.{got, Reader, give, u8, u16, u32, times, counted, number?, source, mode, limits, texts, place, predicate, trigger, entity, actions, automation}
+use Rattle.model.specs.Validate.{accepted}
 use Rattle.model_walk.proofs.Found as found
 use Rattle.model_walk.proofs.Found.{bound, given, Wide, u8-wide, u16-wide, u32-wide, kind-wide, source-wide, counted-found, place-found, kind-found, EntityParts, entity-found}
 use Rattle.model_walk.proofs.Laws.{u8-in, u16-in, u32-in}
@@ -27,12 +25,13 @@ use Rattle.model_walk.specs.declared.Piece.the-variants as piece
 use Rattle.model_parts.specs.Stand.{Reads}
 use Rattle.model_parts.proofs.Stands.{more}
 use Rattle.model_order.specs.Order.{place-from, Fixed}
-use Rattle.model_order.proofs.Places.{same-place, texts-ascend, text-at, fixed-at, fixed-texts}
+use Rattle.model_order.proofs.Places.{fixed-at, fixed-texts}
 use Rattle.model_index.specs.declared.Index.{Index}
 use Rattle.model_index.specs.Indexed.{Indexed}
-use Rattle.engine.proofs.Distinct.{refused-answer, bind-inv, and-inv, when-inv, Fresh}
 use Rattle.engine_reads.specs.Reads.{two, four, cap, name, stale, word}
-use Rattle.engine_places.specs.Meaning.{stale-of, mode-number, Row, Column, pool-of, Tabled}
+use Rattle.engine_places.specs.Meaning.{stale-of, mode-number, Tabled}
+use Rattle.engine_places.proofs.Accepted.{accepted-lawful, accepted-small}
+use Rattle.engine_places.proofs.Tables.{NameWord, RuleWords, Words, tabled}
 use Rattle.engine_table.specs.Table.{end-of, stale-at, conditions-at, actions-at, source-at, rule-word, count-word, fixed-word, head-word, TableOf}
 use Rattle.engine_table.proofs.Laws as laws
 
@@ -81,24 +80,6 @@ module _ {A : Type 0} (r : Reader A) (w : ℕ) (s : List ℕ) (h : (p : ℕ) (a 
       let b = times-wide i (m .after) (m .others) q (omega (arith, a .ends, a .inside)) (m .are-others) in
       let z = mul-suc w i in
       record { ends = omega (arith, z, a .ends, b .ends); inside = omega (arith, z, a .ends, b .inside) }
-
--- ---- answers taken apart
-
-and-first : (v w : Verdict) → (v and w) ≡ accept → v ≡ accept
-unfolding _and_
-and-first (answer tt) w h = refl
-and-first (refused n) w h = h
-
-first-passed : {A : Type 0} (v : Verdict) (x : Answer A) (b : A) → (v and x) ≡ answer b → v ≡ accept
-unfolding _and_
-first-passed (answer tt) x b h = refl
-first-passed (refused n) x b h = absurd (refused-answer h)
-
-each-inv : {A : Type 0} (c : A → Verdict) (l : List A) → each-accepted c l ≡ accept → (d : A) (k : ℕ) → k < length l → c (getD l k d) ≡ accept
-unfolding each-accepted
-each-inv c [] h d k o = absurd (omega arith)
-each-inv c (a ∷ l) h d zero o = and-first (c a) (each-accepted c l) h
-each-inv c (a ∷ l) h d (suc k) o = each-inv c l (and-inv (c a) (each-accepted c l) tt h) d k (omega arith)
 
 -- ---- one number of a file that was read
 
@@ -247,148 +228,25 @@ module _ (s : List ℕ) (size : length s ≤ 32768) where
         inside = omega (arith, o .ends, o .inside);
       }
 
--- ---- rules that were checked
-
-module _ (es : List Entity) where
-  -- an automation's actions passed, after some number of others
-  Passed : Automation → Type 0
-  Passed r = (before : ℕ) × ((after : ℕ) × (check-actions es (r .actions) 0 before ≡ answer after))
-
-  rule-passed : (ids : List Text) (r : Automation) (n m : ℕ) → check-rule es ids r n ≡ answer m → Passed r
-  unfolding Passed check-rule
-  rule-passed ids r n m e = (
-    n,
-    (
-      m,
-      and-inv (each-accepted (check-predicate es) (r .conditions)) _ m
-          (and-inv (each-accepted (check-trigger es) (r .triggers)) _ m
-          (and-inv (14 when bad-bounds r) _ m
-          (and-inv (13 when (bad-length (r .id) || memT (r .id) ids)) _ m e))),
-    ),
-  )
-
-  rules-passed : (ids : List Text) (l : List Automation) (n m : ℕ) → check-rules es ids l n ≡ answer m → (d : Automation) (k : ℕ) → k < length l → Passed (getD l k d)
-  unfolding check-rules
-  rules-passed ids [] n m e d k h = absurd (omega arith)
-  rules-passed ids (r ∷ l) n m e d zero h = let b = bind-inv (check-rule es ids r n) _ m e in rule-passed ids r n (b .0) (b .1 .0)
-  rules-passed ids (r ∷ l) n m e d (suc k) h = let b = bind-inv (check-rule es ids r n) _ m e in rules-passed (r .id ∷ ids) l (b .0) m (b .1 .1) d k (omega arith)
-
--- identifiers differ
-memT-first : (x y : Text) (l : List Text) → memT x (y ∷ l) ≡ false → eqT x y ≡ false
-unfolding memT any
-memT-first x y l h = first (eqT x y) _ h
-  where
-    first : (a b : Bool) → (a || b) ≡ false → a ≡ false
-    first true b g = g
-    first false b g = refl
-
-memT-rest : (x y : Text) (l : List Text) → memT x (y ∷ l) ≡ false → memT x l ≡ false
-unfolding memT any
-memT-rest x y l h = rest (eqT x y) _ h
-  where
-    rest : (a b : Bool) → (a || b) ≡ false → b ≡ false
-    rest true b g = absurd (not-both g refl)
-    rest false b g = g
-
-fresh-at : (ids : List Text) (l : List Automation) → Fresh ids l → (d : Automation) (k : ℕ) → k < length l → memT (getD l k d .id) ids ≡ false
-fresh-at ids [] f d k h = absurd (omega arith)
-fresh-at ids (r ∷ l) f d zero h = f .0
-fresh-at ids (r ∷ l) f d (suc k) h = memT-rest (getD l k d .id) (r .id) ids (fresh-at (r .id ∷ ids) l (f .1) d k (omega arith))
-
-differ : (ids : List Text) (l : List Automation) → Fresh ids l → (d : Automation) (i j : ℕ) → i < j → j < length l → eqT (getD l j d .id) (getD l i d .id) ≡ false
-differ ids [] f d i j g h = absurd (omega arith)
-differ ids (r ∷ l) f d i zero g h = absurd (omega arith)
-differ ids (r ∷ l) f d zero (suc j) g h = memT-first (getD l j d .id) (r .id) ids (fresh-at (r .id ∷ ids) l (f .1) d j (omega arith))
-differ ids (r ∷ l) f d (suc i) (suc j) g h = differ (r .id ∷ ids) l (f .1) d i j (omega arith) (omega arith)
-
 -- ---- the table
 
-each-at : {A B : Type 0} (f : A → B) (l : List A) (d : A) (e : B) (k : ℕ) → k < length l → getD (each f l) k e ≡ f (getD l k d)
-unfolding each
-each-at f [] d e k h = absurd (omega arith)
-each-at f (a ∷ l) d e zero h = refl
-each-at f (a ∷ l) d e (suc k) h = each-at f l d e k (omega arith)
-
-each-length : {A B : Type 0} (f : A → B) (l : List A) → length (each f l) ≡ length l
-unfolding each
-each-length f [] = refl
-each-length f (a ∷ l) = ap suc (each-length f l)
-
-or-no : (a b : Bool) → (a || b) ≡ false → (a ≡ false) × (b ≡ false)
-or-no true b h = absurd (not-both h refl)
-or-no false b h = (refl, h)
-
-module _ (s : List ℕ) (i : Index) (x : List ℕ) (m : Model) (t : TableOf s i x) (o : Indexed s i m) (size : length s ≤ 32768) (bytes : (k : ℕ) → getD s k 0 < 256) (ok : validate m ≡ answer m) (fresh : Fresh [] (m .rules)) (room : length (pool-of m) ≤ 300) where
+module _ (s : List ℕ) (i : Index) (x : List ℕ) (m : Model) (t : TableOf s i x) (o : Indexed s i m) (bytes : (k : ℕ) → getD s k 0 < 256) (ok : accepted s ≡ answer m) where
   abbrev ts : List Text
   ts = o .ts
 
   abbrev es : List Entity
   es = m .scenario .entities
 
-  -- ---- what the model's acceptance gives
+  size : length s ≤ 32768
+  size = accepted-small s m ok .0
 
-  after-1 : (2 when bad-size m and 3 when bad-limits (m .scenario .limits) and 4 when bad-alphabet (m .scenario) and each-accepted (check-entity es) es and each-accepted (check-input es) (each (λ e. e .input) (m .scenario .events) ++ m .scenario .alphabet) and 9 when bad-events (m .scenario .limits .horizon) (m .scenario .events) and check-invariants es [] (m .scenario .invariants) and (check-rules es [] (m .rules) 0 >>= λ n. answer m)) ≡ answer m
-  unfolding validate
-  after-1 = and-inv (1 when bad-title (m .scenario)) _ m ok
-
-  small : bad-size m ≡ false
-  small = when-inv 2 (bad-size m) _ m after-1
-
-  few : (length es ≤ 32) × ((length (m .rules) ≤ 32) × (length (m .scenario .events) ≤ 100))
-  unfolding bad-size
-  few =
-      let n = length es in
-      let r = length (m .rules) in
-      let e = length (m .scenario .events) in
-      let a = or-no (is-empty es || ltb 32 n || ltb 32 r || ltb 100 e) (ltb 32 (length (m .scenario .invariants))) small in
-      let b = or-no (is-empty es || ltb 32 n || ltb 32 r) (ltb 100 e) (a .0) in
-      let c = or-no (is-empty es || ltb 32 n) (ltb 32 r) (b .0) in
-      let d = or-no (is-empty es) (ltb 32 n) (c .0) in
-      (ltb-false 32 n (d .1), (ltb-false 32 r (c .1), ltb-false 100 e (b .1)))
-
-  after-2 : (3 when bad-limits (m .scenario .limits) and 4 when bad-alphabet (m .scenario) and each-accepted (check-entity es) es and each-accepted (check-input es) (each (λ e. e .input) (m .scenario .events) ++ m .scenario .alphabet) and 9 when bad-events (m .scenario .limits .horizon) (m .scenario .events) and check-invariants es [] (m .scenario .invariants) and (check-rules es [] (m .rules) 0 >>= λ n. answer m)) ≡ answer m
-  after-2 = and-inv (2 when bad-size m) _ m after-1
-
-  within-day : m .scenario .limits .horizon ≤ 86400
-  unfolding bad-limits
-  within-day =
-      let l = m .scenario .limits in
-      let a = or-no (ltb 86400 (l .horizon) || eqb (l .max-steps) 0 || ltb 10000 (l .max-steps) || ltb 5 (l .search-depth) || eqb (l .max-cases) 0) (ltb 2000 (l .max-cases)) (when-inv 3 (bad-limits l) _ m after-2) in
-      let b = or-no (ltb 86400 (l .horizon) || eqb (l .max-steps) 0 || ltb 10000 (l .max-steps) || ltb 5 (l .search-depth)) (eqb (l .max-cases) 0) (a .0) in
-      let c = or-no (ltb 86400 (l .horizon) || eqb (l .max-steps) 0 || ltb 10000 (l .max-steps)) (ltb 5 (l .search-depth)) (b .0) in
-      let d = or-no (ltb 86400 (l .horizon) || eqb (l .max-steps) 0) (ltb 10000 (l .max-steps)) (c .0) in
-      let e = or-no (ltb 86400 (l .horizon)) (eqb (l .max-steps) 0) (d .0) in
-      ltb-false 86400 (l .horizon) (e .0)
-
-  after-4 : (each-accepted (check-entity es) es and each-accepted (check-input es) (each (λ e. e .input) (m .scenario .events) ++ m .scenario .alphabet) and 9 when bad-events (m .scenario .limits .horizon) (m .scenario .events) and check-invariants es [] (m .scenario .invariants) and (check-rules es [] (m .rules) 0 >>= λ n. answer m)) ≡ answer m
-  after-4 = and-inv (4 when bad-alphabet (m .scenario)) _ m (and-inv (3 when bad-limits (m .scenario .limits)) _ m after-2)
-
-  entities-passed : each-accepted (check-entity es) es ≡ accept
-  entities-passed = first-passed (each-accepted (check-entity es) es) _ m after-4
-
-  rules-checked : (n : ℕ) × (check-rules es [] (m .rules) 0 ≡ answer n)
-  rules-checked =
-      let a = and-inv (each-accepted (check-entity es) es) _ m after-4 in
-      let b = and-inv (each-accepted (check-input es) (each (λ e. e .input) (m .scenario .events) ++ m .scenario .alphabet)) _ m a in
-      let c = and-inv (9 when bad-events (m .scenario .limits .horizon) (m .scenario .events)) _ m b in
-      let d = and-inv (check-invariants es [] (m .scenario .invariants)) _ m c in
-      let e = bind-inv (check-rules es [] (m .rules) 0) (λ n. answer m) m d in
-      (e .0, e .1 .0)
+  few : (length es ≤ 32) × (length (m .rules) ≤ 32)
+  few = let l = accepted-lawful s m ok in (l .few-entities, l .few-automations)
 
   -- ---- the words
 
   texts-count : i .texts .count ≡ length ts
   texts-count = o .each-text .counts
-
-  few-texts : length ts ≤ 65535
-  unfolding texts two
-  few-texts =
-      let b = bound (counted one-text) _ (o .all-texts .1) in
-      let z = found.required _ _ _ _ (b .rest) in
-      let c = counted-found one-text (b .first) in
-      let n : length ts ≡ c .count = ap length (sym (z .1 .0)) ∙ times-length one-text s (c .count) (c .start) (c .are-values) in
-      let w : getD s 4 0 + 256 * getD s (4 + 1) 0 ≡ c .count = two-read s 4 (c .is-count) in
-      omega (arith, n, w, bytes 4, bytes (4 + 1))
 
   head-is : (k : ℕ) → k < 16 → getD x k 0 ≡ head-word s i k
   head-is k h = t .words k (omega arith) ∙ laws.table-head s i k h
@@ -445,21 +303,11 @@ module _ (s : List ℕ) (i : Index) (x : List ℕ) (m : Model) (t : TableOf s i 
     stale-here : (getD es e d) .stale-after ≡ stale-of (stale x e)
     stale-here = stale-read s size ts p (getD es e d) (read .0) (read .1) ∙ ap stale-of (sym stale-at-e)
 
-    soon-here : (stale x e ≡ 4294967295 → ⊥) → stale x e ≤ 86400
-    unfolding check-entity stale-of present-and
-    soon-here g =
-        let c = each-inv (check-entity es) es entities-passed d e h in
-        let w = when-inv 5 (present-and (ltb 86400) ((getD es e d) .stale-after)) _ tt c in
-        let q : stale-of (stale x e) ≡ some (stale x e) = rw (ne-eqb (stale x e) 4294967295 g) in
-        let v : ltb 86400 (stale x e) ≡ false = sym (ap (present-and (ltb 86400)) (stale-here ∙ q)) ∙ w in
-        ltb-false 86400 (stale x e) v
-
-    column : Column x ts e (getD es e d)
-    column = record {
+    name-word-here : NameWord x ts e (getD es e d)
+    name-word-here = record {
       name-in = subst (λ (k : ℕ). k < length ts) (sym name-at) (parts .name .is-in);
       name-is = parts .name .is-text ∙ ap (λ (k : ℕ). getD ts k []) (sym name-at);
       stale-is = stale-here;
-      soon = soon-here;
     }
 
   -- ---- automations
@@ -473,7 +321,7 @@ module _ (s : List ℕ) (i : Index) (x : List ℕ) (m : Model) (t : TableOf s i 
 
     rule-here : Reads (automation ts) s at r
     unfolding r at
-    rule-here = o .rules .stand d k (omega (arith, few .1 .0)) h
+    rule-here = o .rules .stand d k (omega (arith, few .1)) h
 
     row : RowParts s size ts at r
     row = row-found s size ts at r (rule-here .0) (rule-here .1)
@@ -489,8 +337,8 @@ module _ (s : List ℕ) (i : Index) (x : List ℕ) (m : Model) (t : TableOf s i 
     word-here n g =
         let a : (80 + k * 8 + n - 80) / 8 ≡ k = omega arith in
         let b : (80 + k * 8 + n - 80) % 8 ≡ n = omega arith in
-        t .words (80 + k * 8 + n) (omega (arith, few .1 .0))
-        ∙ laws.table-rule s i (80 + k * 8 + n) (omega arith) (omega arith) (omega arith) (omega (arith, few .1 .0)) {p = at} (sym (ap (λ (j : ℕ). cap (getD (i .rules .starts) j 0)) a ∙ cap-is at (omega (arith, near-at))))
+        t .words (80 + k * 8 + n) (omega (arith, few .1))
+        ∙ laws.table-rule s i (80 + k * 8 + n) (omega arith) (omega arith) (omega arith) (omega (arith, few .1)) {p = at} (sym (ap (λ (j : ℕ). cap (getD (i .rules .starts) j 0)) a ∙ cap-is at (omega (arith, near-at))))
         ∙ ap (λ (c : ℕ). rule-word c s at ((80 + k * 8 + n - 80) % 8)) texts-count
         ∙ ap (rule-word (length ts) s at) b
 
@@ -517,12 +365,7 @@ module _ (s : List ℕ) (i : Index) (x : List ℕ) (m : Model) (t : TableOf s i 
     id-here : word x k 0 ≡ row .id .at
     id-here = word-here 0 (omega arith) ∙ laws.word-0 (length ts) s at 0 refl ∙ two-read s at (row .id .is-place)
 
-    checked-here : Passed es r
-    unfolding r
-    checked-here = rules-passed es [] (m .rules) 0 (rules-checked .0) (rules-checked .1) d k h
-
-    row-here : Row s x ts es k r
-    unfolding Passed
+    row-here : RuleWords s x ts k r
     row-here = record {
       id-in = subst (λ (n : ℕ). n < length ts) (sym id-here) (row .id .is-in);
       id = row .id .is-text ∙ ap (λ (n : ℕ). getD ts n []) (sym id-here);
@@ -533,69 +376,33 @@ module _ (s : List ℕ) (i : Index) (x : List ℕ) (m : Model) (t : TableOf s i 
       actions = (row .at-source, ap (actions ts 18 s) (word-here 5 (omega arith) ∙ laws.word-5 (length ts) s at 5 refl ∙ capped-at (actions-at (length ts) s at) (row .at-actions) (stands .actions-is) (ends-inside .1 .1 .0)) ∙ row .actions-read);
       source = (row .at-notes, ap (source s) (word-here 6 (omega arith) ∙ laws.word-6 (length ts) s at 6 refl ∙ capped-at (source-at (length ts) s at) (row .at-source) (stands .source-is) (ends-inside .1 .1 .1)) ∙ row .source-read);
       notes = (row .end, ap (counted (place ts) s) (word-here 7 (omega arith) ∙ laws.word-else (length ts) s at 7 (λ y. absurd (omega arith)) (λ y. absurd (omega arith)) (λ y. absurd (omega arith)) (λ y. absurd (omega arith)) (λ y. absurd (omega arith)) (λ y. absurd (omega arith)) (λ y. absurd (omega arith)) ∙ capped-at (source-at (length ts) s at + 8) (row .at-notes) (stands .notes-is ∙ ap (λ (n : ℕ). n + 8) (stands .source-is)) (stands .inside)) ∙ row .notes-at);
-      before = checked-here .0;
-      after = checked-here .1 .0;
-      checked = checked-here .1 .1;
     }
 
   -- ---- the whole table
 
-  names-are : (d : Entity) (a b : ℕ) → a < length es → b < length es → name x a ≡ name x b → a ≡ b
-  names-are d a b f g e =
-      let l = each (λ v. v .name) es in
-      let n = each-length (λ v. v .name) es in
-      let u : getD l a [] ≡ getD l b [] = each-at (λ v. v .name) es d [] a f ∙ column d a f .name-is ∙ ap (λ (k : ℕ). getD ts k []) e ∙ sym (column d b g .name-is) ∙ sym (each-at (λ v. v .name) es d [] b g) in
-      eqb-true a b (sym (same-place l (o .names) a b (omega (arith, n)) (omega (arith, n))) ∙ ap (λ (y : Text). eqT y (getD l b [])) u ∙ eq-refl (getD l b []))
-
-  ids-are : (d : Automation) (a b : ℕ) → a < length (m .rules) → b < length (m .rules) → word x a 0 ≡ word x b 0 → a ≡ b
-  unfolding r
-  ids-are d a b f g e = elim (decLt a b) [
-    | yes h ↦ absurd (not-both (differ [] (m .rules) fresh d a b h g) (same-id b a g f (sym e)))
-    | no h ↦ elim (decLt b a) [
-      | yes n ↦ absurd (not-both (differ [] (m .rules) fresh d b a n f) (same-id a b f g e))
-      | no n ↦ omega arith
-    ]
-  ]
-    where
-      same-id : (u v : ℕ) → u < length (m .rules) → v < length (m .rules) → word x u 0 ≡ word x v 0 → eqT (getD (m .rules) u d .id) (getD (m .rules) v d .id) ≡ true
-      same-id u v y z q =
-          let w : getD (m .rules) u d .id ≡ getD (m .rules) v d .id = row-here d u y .id ∙ ap (λ (k : ℕ). getD ts k []) q ∙ sym (row-here d v z .id) in
-          ap (λ (t : Text). eqT t (getD (m .rules) v d .id)) w ∙ eq-refl (getD (m .rules) v d .id)
-
-  no-entity : Entity
-  no-entity = record { name = []; domain = []; initial = []; tier = observational; stale-after = none }
-
-  no-automation : Automation
-  no-automation = record { id = []; mode = single; max = 0; triggers = []; conditions = []; actions = done; source = record { line = 0; column = 0 }; notes = [] }
-
-  -- the table of the index is the table of the model
-  pub tabled : Tabled s x ts m
+  -- the table's words are what the reader finds
+  pub words : Words s x ts m
   unfolding head-word count-word fixed-word r
-  tabled =
+  words =
       let e = o .all-texts .1 in
       let f = fixed-texts s e in
       let l = limit-read (o .limits-at .0) (o .limits-at .1) in
       record {
-        size = size;
         bytes = bytes;
-        same = same-place ts (texts-ascend s e);
+        all-texts = o .all-texts;
         texts = head-is 9 (omega arith) ∙ texts-count;
-        few-texts = few-texts;
-        text-at = text-at s e;
         on = subst (λ (k : ℕ). Fixed ts k (text "on")) (sym (head-is 4 (omega arith))) (fixed-here (text "on") (f .on));
         off = subst (λ (k : ℕ). Fixed ts k (text "off")) (sym (head-is 5 (omega arith))) (fixed-here (text "off") (f .off));
         unknown = subst (λ (k : ℕ). Fixed ts k (text "unknown")) (sym (head-is 6 (omega arith))) (fixed-here (text "unknown") (f .unknown));
         unavailable = subst (λ (k : ℕ). Fixed ts k (text "unavailable")) (sym (head-is 7 (omega arith))) (fixed-here (text "unavailable") (f .unavailable));
         entities = head-is 0 (omega arith) ∙ o .entities .counts;
-        few-entities = few .0;
         automations = head-is 1 (omega arith) ∙ o .rules .counts;
-        few-automations = few .1 .0;
         horizon = head-is 2 (omega arith) ∙ l .0;
-        day = within-day;
         steps = head-is 3 (omega arith) ∙ l .1;
-        columns = column;
-        rows = row-here;
-        names-differ = names-are no-entity;
-        ids-differ = ids-are no-automation;
-        few-reasons = room;
+        names = name-word-here;
+        rules = row-here;
       }
+
+  -- the table of the index is the table of the model
+  pub model-table : Tabled s x ts m
+  model-table = tabled s x ts m ok words

@@ -1,0 +1,33 @@
+use borrow.Author.Needs.{needs}
+use mathlib.Core.Path.{_≡_, refl, _∙_}
+use native.Mathlib.Omega.{arith}
+use Rattle.engine_begin.proofs.Laws as laws
+use Prim.Native.Nat.{ℕ, _-_, _≤_, _<_}
+use lib.ListN.{length, getD, length-replicate, length-set}
+use Rattle.engine_begin.specs.Begin.{value-word}
+use Rattle.engine_begin.proofs.cells_of.Statement.{statement}
+use Rattle.engine_begin.proofs.cells_of.Tie as tie
+use Rattle.engine_begin.proofs.cells_of.Reads as reads
+use Rattle.engine_begin.proofs.cells_of.Lts as lts
+use Rattle.engine_begin.proofs.value_word.Reads as value-word-reads
+
+abbrev Inv-loop : tie.InvT-loop
+Inv-loop s index values₀ e₀ values e = ((j : ℕ) → j < e → getD values j 0 ≡ value-word s index j) × ((length values ≡ 32) × (e ≤ 32))
+
+abbrev μ-loop : tie.MeasureT-loop
+μ-loop s index values₀ e₀ values e = 32 - e
+
+pub cells-of-spec : {M : Type 1} → statement M
+cells-of-spec =
+    tie.close
+    (tie.spec
+    Inv-loop
+    μ-loop
+    (λ c. (λ j h. absurd (omega arith), (length-replicate {A = ℕ} 32 0, omega arith)))
+    (λ c κs. search needs)
+    (λ c. search needs)
+    (λ c. search needs)
+    (λ c. search needs)
+    (λ c. search needs)
+    (λ c. (laws.one-more (value-word _ _) (c .before .before .loop .values) (c .before .before .loop .e) (c .value-word .result) (c .before .before .loop .inv .0) (omega (arith, c .before .before .loop .inv .1 .0, c .before .loop-test .taken)) (c .value-word .ensures), (length-set (c .before .before .loop .values) (c .before .before .loop .e) (c .value-word .result) ∙ c .before .before .loop .inv .1 .0, omega arith)))
+    (λ c. record { values = λ j h. c .before .loop .inv .0 j (omega (arith, c .loop-test .left)); values-long = c .before .loop .inv .1 .0; versions = refl }))

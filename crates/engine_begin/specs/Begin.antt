@@ -1,0 +1,38 @@
+-- What a simulation begins with: the model's events as words, and the values that its entities start with.
+use Prim.Native.Nat.{ℕ, _+_, _*_, _/_, _%_, _<_}
+use mathlib.Core.Path.{_≡_}
+use mathlib.Core.List.{List}
+use lib.Dec.{ltb, eqb}
+use lib.ListN.{length, getD, replicate}
+use Rattle.texts.specs.Lists.{if_then_else_}
+use Rattle.engine_reads.specs.Reads.{two, four, cap}
+use Rattle.model_index.specs.declared.Index.{Index}
+use Rattle.engine_state.specs.declared.Cells.{Cells}
+
+-- ---- events of four words: a second, a kind, an entity and a value
+
+unfoldable pub event-part : List ℕ → (p j : ℕ) → ℕ
+event-part s p j =
+    if eqb j 0 then four s p else
+    if eqb j 1 then getD s (p + 4) 0 else
+    if eqb j 2 then two s (p + 5) else two s (p + 7)
+
+unfoldable pub event-word : List ℕ → Index → (k : ℕ) → ℕ
+event-word s i k = event-part s (cap (getD (i .events .starts) (k / 4) 0)) (k % 4)
+
+pub record EventsOf (s : List ℕ) (i : Index) (l : List ℕ) : Type 0 where
+  pub long : length l ≡ 400
+  pub words : (k : ℕ) → k < 400 → getD l k 0 ≡ event-word s i k
+
+-- ---- the initial value of the entity at p stands behind its domain
+
+unfoldable pub initial-at : List ℕ → (p : ℕ) → ℕ
+initial-at s p = two s (p + 4 + 2 * two s (p + 2))
+
+unfoldable pub value-word : List ℕ → Index → (e : ℕ) → ℕ
+value-word s i e = if ltb e (i .entities .count) then initial-at s (cap (getD (i .entities .starts) e 0)) else 0
+
+pub record CellsOf (s : List ℕ) (i : Index) (c : Cells) : Type 0 where
+  pub values : (e : ℕ) → e < 32 → getD (c .values) e 0 ≡ value-word s i e
+  pub values-long : length (c .values) ≡ 32
+  pub versions : c .versions ≡ replicate 32 0

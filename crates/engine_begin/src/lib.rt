@@ -1,0 +1,86 @@
+// What a simulation begins with: the model's events as words, and the values that its entities start with.
+use engine_state::Cells;
+use model_index::Index;
+ghost use mathlib.Core.Path.{_≡_};
+ghost use Prim.Native.Nat.{_≤_, _<_};
+ghost use Rattle.engine_begin.specs.Begin.{event-part, event-word, EventsOf, initial-at, value-word, CellsOf};
+
+// Events of four words: a second, a kind, an entity and a value.
+pub struct Events {
+    pub words: [u32; 400],
+}
+
+// A word of the event at a position.
+fn event_part(s: &[u8], p: usize, j: usize) -> u32
+    requires { ⌜ p ≤ 4294967295 ⌝ }
+    ensures { λ r. ⌜ r ≡ event-part (now (s .entry)) p j ⌝ }
+{
+    if j == 0 {
+        return engine_reads::four_at(s, p);
+    }
+    if j == 1 {
+        return engine_reads::byte_at(s, p + 4);
+    }
+    if j == 2 {
+        return engine_reads::two_at(s, p + 5);
+    }
+    engine_reads::two_at(s, p + 7)
+}
+
+fn event_word(s: &[u8], index: Index, k: usize) -> u32
+    requires { ⌜ k < 400 ⌝ }
+    ensures { λ r. ⌜ r ≡ event-word (now (s .entry)) index k ⌝ }
+{
+    let events = index.events;
+    let p = engine_reads::capped(events.starts[k / 4]) as usize;
+    event_part(s, p, k % 4)
+}
+
+pub fn events_of(s: &[u8], index: Index) -> Events
+    ensures { λ r. ⌜ EventsOf (now (s .entry)) index (r .words) ⌝ }
+{
+    let mut words = [0u32; 400];
+    let mut k: usize = 0;
+    while k < 400 {
+        words[k] = event_word(s, index, k);
+        k += 1;
+    }
+    Events { words }
+}
+
+// The initial value of the entity at a position.
+fn initial_at(s: &[u8], p: usize) -> u32
+    requires { ⌜ p ≤ 4294967295 ⌝ }
+    ensures { λ r. ⌜ r ≡ initial-at (now (s .entry)) p ⌝ }
+{
+    let many = engine_reads::two_at(s, p + 2) as usize;
+    engine_reads::two_at(s, p + 4 + 2 * many)
+}
+
+fn value_word(s: &[u8], index: Index, e: usize) -> u32
+    requires { ⌜ e < 32 ⌝ }
+    ensures { λ r. ⌜ r ≡ value-word (now (s .entry)) index e ⌝ }
+{
+    let entities = index.entities;
+    let count = entities.count as usize;
+    if e < count {
+        let p = engine_reads::capped(entities.starts[e]) as usize;
+        return initial_at(s, p);
+    }
+    0
+}
+
+pub fn cells_of(s: &[u8], index: Index) -> Cells
+    ensures { λ r. ⌜ CellsOf (now (s .entry)) index r ⌝ }
+{
+    let mut values = [0u32; 32];
+    let mut e: usize = 0;
+    while e < 32 {
+        values[e] = value_word(s, index, e);
+        e += 1;
+    }
+    Cells {
+        values,
+        versions: [0u32; 32],
+    }
+}

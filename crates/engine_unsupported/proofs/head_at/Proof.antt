@@ -1,0 +1,27 @@
+use mathlib.Core.Path.{sym, _∙_}
+use Rattle.engine_unsupported.proofs.Laws as laws
+use borrow.Author.Needs.{needs}
+use Rattle.engine_unsupported.proofs.head_at.Statement.{statement}
+use Rattle.engine_unsupported.proofs.head_at.Tie as tie
+use Rattle.engine_unsupported.proofs.head_at.Reads as reads
+use Rattle.engine_unsupported.proofs.head_at.Lts as lts
+use Rattle.model_walk.proofs.u32_at.Reads as u32-at-reads
+use Rattle.model_walk.proofs.u8_at.Reads as u8-at-reads
+
+pub head-at-spec : {M : Type 1} → statement M
+head-at-spec =
+    tie.close
+    (tie.spec
+    (λ c κs. search needs)
+    (λ c. search needs)
+    (λ c. search needs)
+    (λ c. sym (laws.head-is _ _ ∙ laws.read-broken _ _ _ _ _ (c .before .before .u32-at .ensures) (c .enum-told .given .1)))
+    (λ c κs. search needs)
+    (λ c. search needs)
+    (λ c. search needs)
+    (λ c. sym (laws.head-is _ _ ∙ laws.read-is _ _ _ _ _ (c .before .before .before .before .before .before .u32-at .ensures) (c .before .before .before .before .x .given .1) ∙ laws.read-broken _ _ _ _ _ (c .before .before .u32-at2 .ensures) (c .enum-told2 .given .1)))
+    (λ c κs. search needs)
+    (λ c. search needs)
+    (λ c. search needs)
+    (λ c. sym (laws.head-is _ _ ∙ laws.read-is _ _ _ _ _ (c .before .before .before .before .before .before .before .before .before .before .u32-at .ensures) (c .before .before .before .before .before .before .before .before .x .given .1) ∙ laws.read-is _ _ _ _ _ (c .before .before .before .before .before .before .u32-at2 .ensures) (c .before .before .before .before .y .given .1) ∙ laws.read-broken _ _ _ _ _ (c .before .before .u8-at .ensures) (c .enum-told3 .given .1)))
+    (λ c. sym (laws.head-is _ _ ∙ laws.read-is _ _ _ _ _ (c .before .before .before .before .before .before .before .before .before .before .before .u32-at .ensures) (c .before .before .before .before .before .before .before .before .before .x .given .1) ∙ laws.read-is _ _ _ _ _ (c .before .before .before .before .before .before .before .u32-at2 .ensures) (c .before .before .before .before .before .y .given .1) ∙ laws.read-is _ _ _ _ _ (c .before .before .before .u8-at .ensures) (c .before .z .given .1))))

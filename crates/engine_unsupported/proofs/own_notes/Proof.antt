@@ -1,0 +1,25 @@
+use Rattle.engine_unsupported.proofs.Laws as laws
+use borrow.Author.Needs.{needs}
+use Rattle.engine_unsupported.proofs.own_notes.Statement.{statement}
+use Rattle.engine_unsupported.proofs.own_notes.Tie as tie
+use Rattle.engine_unsupported.proofs.own_notes.Reads as reads
+use Rattle.engine_unsupported.proofs.own_notes.Lts as lts
+use Rattle.engine_reads.proofs.rule_word.Reads as rule-word-reads
+use Rattle.engine_unsupported.proofs.part_notes.Reads as part-notes-reads
+
+pub own-notes-spec : {M : Type 1} → statement M
+own-notes-spec =
+    tie.close
+    (tie.spec
+    (λ c κs. search needs)
+    (λ c κs. search needs)
+    (λ c. search needs)
+    (λ c κs. search needs)
+    (λ c. search needs)
+    (λ c κs. search needs)
+    (λ c. search needs)
+    (λ c κs. search needs)
+    (λ c κs. search needs)
+    (λ c κs. search needs)
+    (λ c. search needs)
+    (λ c. laws.own-is _ _ _ _ (c .before .before .before .before .before .before .before .before .before .before .before .before .before .before .before .rule-word .ensures) (c .before .before .before .before .before .before .before .before .before .before .before .before .before .before .rule-word2 .ensures) (c .before .before .before .before .before .before .before .before .before .before .before .before .before .rule-word3 .ensures) (c .before .before .before .before .before .before .before .before .before .before .before .before .rule-word4 .ensures) (c .before .before .before .before .before .before .before .before .before .before .part-notes .ensures) (c .before .before .before .before .before .before .part-notes2 .ensures) (c .before .before .part-notes3 .ensures)))

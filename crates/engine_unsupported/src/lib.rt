@@ -1,0 +1,364 @@
+// The notes of the automations as reasons, sorted as they are rendered, each once. The file was read before, so that what
+// is looked for is there; a part that is not there is passed over. A file holds at most 64 notes: the area has place for 300.
+use model_walk::Num;
+use reasons::Reason;
+ghost use mathlib.Core.Path.{_≡_};
+ghost use Prim.Native.Nat.{_≤_, _<_};
+ghost use lib.ListN.{length};
+ghost use Rattle.reasons.specs.Reasons.{render};
+ghost use Rattle.reasons.specs.Lists.{Holds};
+ghost use Rattle.engine_unsupported.specs.Listing.{idNote, noteOf, sourceNote, insertG, addT, skipped, headOf, Lists, Makes, noteL, triggerL, predicateL, partL, partsL, unknownL, waitL, simpleL, actionL, choiceL, actionsL, ownL, ruleL, unsupportedL};
+
+// How many reasons there are, and the position after what was read.
+pub struct Noted {
+    pub count: usize,
+    pub next: usize,
+}
+
+// What stands before an action's effect.
+pub struct Head {
+    pub line: u32,
+    pub column: u32,
+    pub kind: u32,
+    pub next: usize,
+}
+
+// Parts of which an automation has lists.
+pub enum Part {
+    Note,
+    Trigger,
+    Predicate,
+}
+
+// ---- reasons
+
+fn id_note(f: &[u8], id: u32, note: u32) -> Reason
+    ensures { λ r. ⌜ r ≡ idNote (now (f .entry)) id note ⌝ }
+{
+    Reason {
+        kind: reasons::ID_NOTE,
+        first: engine_reads::text_position(f, id),
+        second: engine_reads::text_position(f, note),
+        line: 0,
+        column: 0,
+    }
+}
+
+// A note behind an automation's identifier; 65535 stands for none.
+fn note_of(f: &[u8], id: u32, note: u32) -> Reason
+    ensures { λ r. ⌜ r ≡ noteOf (now (f .entry)) id note ⌝ }
+{
+    if id == 65535 {
+        return engine_reads::note_reason(f, note);
+    }
+    id_note(f, id, note)
+}
+
+fn source_note(f: &[u8], line: u32, column: u32, note: u32) -> Reason
+    ensures { λ r. ⌜ r ≡ sourceNote (now (f .entry)) line column note ⌝ }
+{
+    Reason {
+        kind: reasons::SOURCE_NOTE,
+        first: reasons::ABSENT,
+        second: engine_reads::text_position(f, note),
+        line,
+        column,
+    }
+}
+
+// A reason among the first n, while there is place.
+fn put(f: &[u8], u: &mut [u32], n: usize, r: Reason) -> usize
+    requires { ⌜ 1500 ≤ length (now u) ⌝ }
+    ensures { λ k. ⌜ Makes (insertG (render (now (f .entry)) r)) (now (f .entry)) n (now (u .entry)) k (now (u .exit)) ⌝ }
+{
+    if 299 < n {
+        return n;
+    }
+    reasons::insert_sorted(f, u, n, r)
+}
+
+fn add_note(f: &[u8], u: &mut [u32], id: u32, note: u32, n: usize) -> usize
+    requires { ⌜ 1500 ≤ length (now u) ⌝ }
+    ensures { λ k. ⌜ Makes (addT (now (f .entry)) id note) (now (f .entry)) n (now (u .entry)) k (now (u .exit)) ⌝ }
+{
+    if note == 65535 {
+        return n;
+    }
+    let r = note_of(f, id, note);
+    put(f, u, n, r)
+}
+
+// ---- parts that hold no list
+
+// The position behind so many bytes.
+fn skip(f: &[u8], size: usize, at: usize) -> usize
+    ensures { λ r. ⌜ r ≡ skipped size (now (f .entry)) at ⌝ }
+{
+    if f.len() < size {
+        return at;
+    }
+    if f.len() - size < at {
+        return at;
+    }
+    at + size
+}
+
+fn note_at(f: &[u8], u: &mut [u32], id: u32, at: usize, n: usize) -> Noted
+    requires { ⌜ 1500 ≤ length (now u) ⌝ }
+    ensures { λ r. ⌜ Lists (noteL id) (now (f .entry)) at n (now (u .entry)) r (now (u .exit)) ⌝ }
+{
+    let x = model_walk::u16_at(f, at);
+    let Num::Is(note, next) = x else {
+        return Noted { count: n, next: at };
+    };
+    let k = add_note(f, u, id, note, n);
+    Noted { count: k, next }
+}
+
+fn trigger_note(f: &[u8], u: &mut [u32], id: u32, at: usize, n: usize) -> Noted
+    requires { ⌜ 1500 ≤ length (now u) ⌝ }
+    ensures { λ r. ⌜ Lists (triggerL id) (now (f .entry)) at n (now (u .entry)) r (now (u .exit)) ⌝ }
+{
+    let p = skip(f, 14, at);
+    note_at(f, u, id, p, n)
+}
+
+fn predicate_note(f: &[u8], u: &mut [u32], id: u32, at: usize, n: usize) -> Noted
+    requires { ⌜ 1500 ≤ length (now u) ⌝ }
+    ensures { λ r. ⌜ Lists (predicateL id) (now (f .entry)) at n (now (u .entry)) r (now (u .exit)) ⌝ }
+{
+    let x = model_walk::u8_at(f, at);
+    let Num::Is(kind, p) = x else {
+        return Noted { count: n, next: at };
+    };
+    if kind == 1 {
+        return note_at(f, u, id, p, n);
+    }
+    let q = skip(f, 4, p);
+    Noted { count: n, next: q }
+}
+
+// ---- lists of them
+
+fn part_note(f: &[u8], u: &mut [u32], part: Part, id: u32, at: usize, n: usize) -> Noted
+    requires { ⌜ 1500 ≤ length (now u) ⌝ }
+    ensures { λ r. ⌜ Lists (partL part id) (now (f .entry)) at n (now (u .entry)) r (now (u .exit)) ⌝ }
+{
+    match part {
+        Part::Note => note_at(f, u, id, at, n),
+        Part::Trigger => trigger_note(f, u, id, at, n),
+        Part::Predicate => predicate_note(f, u, id, at, n),
+    }
+}
+
+// A count, and as many parts.
+fn part_notes(f: &[u8], u: &mut [u32], part: Part, id: u32, at: usize, n: usize) -> Noted
+    requires { ⌜ 1500 ≤ length (now u) ⌝ }
+    ensures { λ r. ⌜ Lists (partsL part id) (now (f .entry)) at n (now (u .entry)) r (now (u .exit)) ⌝ }
+{
+    let x = model_walk::u16_at(f, at);
+    let Num::Is(count, start) = x else {
+        return Noted { count: n, next: at };
+    };
+    let mut left = count;
+    let mut p = start;
+    let mut k = n;
+    while 0 < left {
+        let d = part_note(f, u, part, id, p, k);
+        p = d.next;
+        k = d.count;
+        left -= 1;
+    }
+    Noted { count: k, next: p }
+}
+
+// ---- actions
+
+fn head_at(f: &[u8], at: usize) -> Head
+    ensures { λ r. ⌜ r ≡ headOf (now (f .entry)) at ⌝ }
+{
+    let x = model_walk::u32_at(f, at);
+    let Num::Is(line, p) = x else {
+        return Head {
+            line: 0,
+            column: 0,
+            kind: 0,
+            next: at,
+        };
+    };
+    let y = model_walk::u32_at(f, p);
+    let Num::Is(column, q) = y else {
+        return Head {
+            line: 0,
+            column: 0,
+            kind: 0,
+            next: at,
+        };
+    };
+    let z = model_walk::u8_at(f, q);
+    let Num::Is(kind, next) = z else {
+        return Head {
+            line: 0,
+            column: 0,
+            kind: 0,
+            next: at,
+        };
+    };
+    Head {
+        line,
+        column,
+        kind,
+        next,
+    }
+}
+
+// The note of an unknown effect stands behind its source.
+fn unknown_note(f: &[u8], u: &mut [u32], line: u32, column: u32, at: usize, n: usize) -> Noted
+    requires { ⌜ 1500 ≤ length (now u) ⌝ }
+    ensures { λ r. ⌜ Lists (unknownL line column) (now (f .entry)) at n (now (u .entry)) r (now (u .exit)) ⌝ }
+{
+    let x = model_walk::u16_at(f, at);
+    let Num::Is(note, next) = x else {
+        return Noted { count: n, next: at };
+    };
+    let r = source_note(f, line, column, note);
+    let k = put(f, u, n, r);
+    Noted { count: k, next }
+}
+
+fn wait_note(f: &[u8], u: &mut [u32], at: usize, n: usize) -> Noted
+    requires { ⌜ 1500 ≤ length (now u) ⌝ }
+    ensures { λ r. ⌜ Lists waitL (now (f .entry)) at n (now (u .entry)) r (now (u .exit)) ⌝ }
+{
+    let d = trigger_note(f, u, 65535, at, n);
+    let k = d.count;
+    let p = d.next;
+    let q = skip(f, 5, p);
+    Noted { count: k, next: q }
+}
+
+// An effect that holds no list.
+fn simple_note(f: &[u8], u: &mut [u32], h: Head, n: usize) -> Noted
+    requires { ⌜ 1500 ≤ length (now u) ⌝ }
+    ensures { λ r. ⌜ Lists (simpleL h) (now (f .entry)) (h .next) n (now (u .entry)) r (now (u .exit)) ⌝ }
+{
+    let kind = h.kind;
+    let at = h.next;
+    if kind == 3 {
+        return predicate_note(f, u, 65535, at, n);
+    }
+    if kind == 5 {
+        return wait_note(f, u, at, n);
+    }
+    if kind == 6 {
+        return unknown_note(f, u, h.line, h.column, at, n);
+    }
+    if kind == 1 {
+        let q = skip(f, 2, at);
+        return Noted { count: n, next: q };
+    }
+    let q = skip(f, 4, at);
+    Noted { count: n, next: q }
+}
+
+// A list of actions in which lists stand at most `left` deep, itself counted.
+fn actions_notes(f: &[u8], u: &mut [u32], left: usize, at: usize, n: usize) -> Noted
+    requires { ⌜ 1500 ≤ length (now u) ⌝ }
+    ensures { λ r. ⌜ Lists (actionsL left) (now (f .entry)) at n (now (u .entry)) r (now (u .exit)) ⌝ }
+{
+    if left == 0 {
+        return Noted { count: n, next: at };
+    }
+    let x = model_walk::u16_at(f, at);
+    let Num::Is(count, start) = x else {
+        return Noted { count: n, next: at };
+    };
+    let mut i = count;
+    let mut p = start;
+    let mut k = n;
+    while 0 < i {
+        let d = action_notes(f, u, left - 1, p, k);
+        p = d.next;
+        k = d.count;
+        i -= 1;
+    }
+    Noted { count: k, next: p }
+}
+
+// An action whose lists stand at most `left` deep.
+fn action_notes(f: &[u8], u: &mut [u32], left: usize, at: usize, n: usize) -> Noted
+    requires { ⌜ 1500 ≤ length (now u) ⌝ }
+    ensures { λ r. ⌜ Lists (actionL (actionsL left)) (now (f .entry)) at n (now (u .entry)) r (now (u .exit)) ⌝ }
+{
+    let h = head_at(f, at);
+    let kind = h.kind;
+    let p = h.next;
+    if kind == 4 {
+        return choice_notes(f, u, left, p, n);
+    }
+    simple_note(f, u, h, n)
+}
+
+// The branches of a choice and its default; its lists stand at most `left` deep.
+fn choice_notes(f: &[u8], u: &mut [u32], left: usize, at: usize, n: usize) -> Noted
+    requires { ⌜ 1500 ≤ length (now u) ⌝ }
+    ensures { λ r. ⌜ Lists (choiceL (actionsL left)) (now (f .entry)) at n (now (u .entry)) r (now (u .exit)) ⌝ }
+{
+    let x = model_walk::u16_at(f, at);
+    let Num::Is(count, start) = x else {
+        return Noted { count: n, next: at };
+    };
+    let mut i = count;
+    let mut p = start;
+    let mut k = n;
+    while 0 < i {
+        let d = part_notes(f, u, Part::Predicate, 65535, p, k);
+        let e = actions_notes(f, u, left, d.next, d.count);
+        p = e.next;
+        k = e.count;
+        i -= 1;
+    }
+    actions_notes(f, u, left, p, k)
+}
+
+// ---- automations
+
+// The notes of the i-th automation, of its triggers and of its conditions: they stand behind its identifier.
+fn own_notes(f: &[u8], x: &[u32; 436], u: &mut [u32], i: usize, n: usize) -> usize
+    requires { ⌜ (1500 ≤ length (now u)) × (i < 32) ⌝ }
+    ensures { λ k. ⌜ Makes (ownL (now (f .entry)) (now (x .entry)) i) (now (f .entry)) n (now (u .entry)) k (now (u .exit)) ⌝ }
+{
+    let id = engine_reads::rule_word(x, i, 0);
+    let notes = engine_reads::rule_word(x, i, 7) as usize;
+    let triggers = engine_reads::rule_word(x, i, 3) as usize;
+    let conditions = engine_reads::rule_word(x, i, 4) as usize;
+    let a = part_notes(f, u, Part::Note, id, notes, n);
+    let b = part_notes(f, u, Part::Trigger, id, triggers, a.count);
+    let c = part_notes(f, u, Part::Predicate, id, conditions, b.count);
+    c.count
+}
+
+fn rule_notes(f: &[u8], x: &[u32; 436], u: &mut [u32], i: usize, n: usize) -> usize
+    requires { ⌜ (1500 ≤ length (now u)) × (i < 32) ⌝ }
+    ensures { λ k. ⌜ Makes (ruleL (now (f .entry)) (now (x .entry)) i) (now (f .entry)) n (now (u .entry)) k (now (u .exit)) ⌝ }
+{
+    let actions = engine_reads::rule_word(x, i, 5) as usize;
+    let k = own_notes(f, x, u, i, n);
+    let d = actions_notes(f, u, 18, actions, k);
+    d.count
+}
+
+// The notes of the automations as reasons, sorted as rendered, each once; the answer is how many there are.
+pub fn unsupported(f: &[u8], x: &[u32; 436], u: &mut [u32]) -> usize
+    requires { ⌜ 1500 ≤ length (now u) ⌝ }
+    ensures { λ k. ⌜ Holds (now (f .entry)) (unsupportedL (now (f .entry)) (now (x .entry))) k (now (u .exit)) ⌝ }
+{
+    let rules = engine_reads::at_most(x[1], 32);
+    let mut k: usize = 0;
+    let mut i: usize = 0;
+    while i < rules {
+        k = rule_notes(f, x, u, i, k);
+        i += 1;
+    }
+    k
+}
