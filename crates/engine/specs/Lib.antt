@@ -9,4 +9,5 @@ pub mod Changes
 pub mod Engine
 pub mod Simulate
 pub mod Memory
+pub mod Words
 pub mod Bounds

@@ -135,16 +135,19 @@ rules-checked es ids (r ∷ rs) n k e =
 pub record Lawful (m : Model) : Type 0 where
   pub few-entities : length (m .scenario .entities) ≤ 32
   pub few-automations : length (m .rules) ≤ 32
+  pub few-events : length (m .scenario .events) ≤ 100
+  pub few-invariants : length (m .scenario .invariants) ≤ 32
   pub day-long : m .scenario .limits .horizon ≤ 86400
   pub few-steps : m .scenario .limits .max-steps ≤ 10000
   pub entities : Each (λ (e : Entity). check-entity (m .scenario .entities) e ≡ accept) (m .scenario .entities)
   pub inputs : Each (λ (i : Input). check-input (m .scenario .entities) i ≡ accept) (each (λ (e : Event). e .input) (m .scenario .events) ++ m .scenario .alphabet)
   pub checked : Each (λ (r : Automation). CheckedAt (m .scenario .entities) (r .actions)) (m .rules)
 
-second-third : (a b c d e : Bool) → (a || b || c || d || e) ≡ false → (b ≡ false) × (c ≡ false)
-second-third a b c d e h =
-    let i = or-no (a || b || c) d (or-no (a || b || c || d) e h) in
-    (or-no′ a b (or-no (a || b) c i), or-no′ (a || b) c i)
+all-but-first : (a b c d e : Bool) → (a || b || c || d || e) ≡ false → (b ≡ false) × ((c ≡ false) × ((d ≡ false) × (e ≡ false)))
+all-but-first a b c d e h =
+    let j = or-no (a || b || c || d) e h in
+    let i = or-no (a || b || c) d j in
+    (or-no′ a b (or-no (a || b) c i), (or-no′ (a || b) c i, (or-no′ (a || b || c) d j, or-no′ (a || b || c || d) e h)))
 
 first-third : (a b c d e g : Bool) → (a || b || c || d || e || g) ≡ false → (a ≡ false) × (c ≡ false)
 first-third a b c d e g h =
@@ -163,13 +166,15 @@ valid-lawful m n e =
     let e₈ = and-inv _ _ n e₇ in
     let b = bind-inv (check-rules (m .scenario .entities) [] (m .rules) 0) (λ k. answer m) n (and-inv _ _ n e₈) in
     let sc = m .scenario in
-    let size = second-third (is-empty (sc .entities)) (ltb 32 (length (sc .entities))) (ltb 32 (length (m .rules))) (ltb 100 (length (sc .events))) (ltb 32 (length (sc .invariants))) (when-inv _ _ _ n e₂) in
+    let size = all-but-first (is-empty (sc .entities)) (ltb 32 (length (sc .entities))) (ltb 32 (length (m .rules))) (ltb 100 (length (sc .events))) (ltb 32 (length (sc .invariants))) (when-inv _ _ _ n e₂) in
     let li = sc .limits in
     let limits = first-third (ltb day (li .horizon)) (eqb (li .max-steps) 0) (ltb 10000 (li .max-steps)) (ltb 5 (li .search-depth)) (eqb (li .max-cases) 0) (ltb 2000 (li .max-cases)) (when-inv _ _ _ n e₃) in (
       answer-eq (b .1 .1),
       record {
         few-entities = ltb-false 32 (length (m .scenario .entities)) (size .0);
-        few-automations = ltb-false 32 (length (m .rules)) (size .1);
+        few-automations = ltb-false 32 (length (m .rules)) (size .1 .0);
+        few-events = ltb-false 100 (length (m .scenario .events)) (size .1 .1 .0);
+        few-invariants = ltb-false 32 (length (m .scenario .invariants)) (size .1 .1 .1);
         day-long = ltb-false day (m .scenario .limits .horizon) (limits .0);
         few-steps = ltb-false 10000 (m .scenario .limits .max-steps) (limits .1);
         entities = each-verdict (check-entity (m .scenario .entities)) (m .scenario .entities) (and-first _ _ n e₅);
@@ -218,11 +223,10 @@ accepted-decoded file m e =
     let b = bind-inv (decode file) validate m e in
     b .1 .0 ∙ ap answer (valid-lawful (b .0) m (b .1 .1) .0)
 
+pub accepted-notes : (file : List ℕ) (m : Model) → accepted file ≡ answer m → length (notes-of m) ≤ 64
+accepted-notes file m e = decoded-few file m (accepted-decoded file m e) .1
+
 pub accepted-small : (file : List ℕ) (m : Model) → accepted file ≡ answer m →
     (length file ≤ 32768) × (length (pool-of m) ≤ 300)
-unfolding accepted
 accepted-small file m e =
-    let b = bind-inv (decode file) validate m e in
-    let v = valid-lawful (b .0) m (b .1 .1) in
-    let d = decoded-few file m (b .1 .0 ∙ ap answer (v .0)) in
-    (d .0, omega (arith, few-reasons m (d .1) (accepted-lawful file m e .few-automations)))
+    (decoded-few file m (accepted-decoded file m e) .0, omega (arith, few-reasons m (accepted-notes file m e) (accepted-lawful file m e .few-automations)))

@@ -31,6 +31,7 @@ use Rattle.engine.specs.Kleene as kleene
 use Rattle.engine.specs.Truth.{evaluate}
 use Rattle.engine.specs.Cells.{Cell, value-of}
 use Rattle.engine.specs.Records.{Run, Work, Kind, Waiting, Engine}
+use Rattle.engine.specs.Words.{truth-number, kind-number, detail-number}
 use Rattle.engine.specs.Changes.{add, uncertain}
 use Rattle.engine.specs.Reasons.{toggle-of-unknown, unknown-action-condition, unknown-choose-condition, unsupported-wait}
 use Rattle.engine.specs.Engine.{store, left, waits, toggled, _then_, next-step, log-action, go-on-after, write, flip, tested, chosen, begin-wait, perform, finish, select}
@@ -57,6 +58,7 @@ use Rattle.engine_places.proofs.Stack.{Pushed, pushed}
 use Rattle.engine_places.proofs.Full.{s-next, s-log-action, s-finish, s-tested}
 use Rattle.engine_places.proofs.Overflow.{overflow-stays, c-log, c-finish, c-tested}
 use Rattle.engine_places.proofs.Relation.{Declared, GoodRun, Live, Sim, live, follow, weaker, add-is, uncertain-is}
+use Rattle.engine_places.proofs.Words.{text-place, Tells}
 use Rattle.engine_places.proofs.Pool.{pool-is, wait-in, note-is, wait-reason, toggle-reason, choose-reason, action-reason}
 use Rattle.engine_places.proofs.Writes.{Over, log-action-is, next-is, now-is, entity-found, value-is, update-is}
 use Rattle.engine_places.proofs.Runs.{Keyed, store-is, finish-is}
@@ -153,31 +155,34 @@ module _ (f x : List ℕ) (ts : List Text) (mo : Model) (tb : Tabled f x ts mo) 
 
   -- ---- kinds of records
 
-  acting : kind-of x ts 2 0 ≡ Kind.action
-  unfolding kind-of
-  acting = refl
+  abbrev Says : ℕ → ℕ → Kind → Type 0
+  Says = Tells f x ts mo tb
 
-  choosing : kind-of x ts 8 0 ≡ Kind.choose
-  unfolding kind-of
-  choosing = refl
+  acting : Says 2 0 Kind.action
+  unfolding kind-of kind-number detail-number
+  acting = record { is = refl; number = refl; detail = refl }
 
-  testing : (t : Truth) → kind-of x ts 11 (numberT t) ≡ Kind.condition (truth-of t)
-  unfolding kind-of verdict-of
-  testing Yes = refl
-  testing No = refl
-  testing Unknown = refl
+  choosing : Says 8 0 Kind.choose
+  unfolding kind-of kind-number detail-number
+  choosing = record { is = refl; number = refl; detail = refl }
 
-  delaying : (n : ℕ) → kind-of x ts 15 n ≡ Kind.delay n
-  unfolding kind-of
-  delaying n = refl
+  testing : (t : Truth) → Says 11 (numberT t) (Kind.condition (truth-of t))
+  unfolding kind-of verdict-of kind-number detail-number truth-number
+  testing Yes = record { is = refl; number = refl; detail = refl }
+  testing No = record { is = refl; number = refl; detail = refl }
+  testing Unknown = record { is = refl; number = refl; detail = refl }
 
-  waiting : (n : ℕ) → kind-of x ts 16 n ≡ Kind.wait n
-  unfolding kind-of
-  waiting n = refl
+  delaying : (n : ℕ) → Says 15 n (Kind.delay n)
+  unfolding kind-of kind-number detail-number
+  delaying n = record { is = refl; number = refl; detail = refl }
 
-  unknowing : (n : ℕ) → kind-of x ts 18 n ≡ Kind.unknown (T n)
-  unfolding kind-of
-  unknowing n = refl
+  waiting : (n : ℕ) → Says 16 n (Kind.wait n)
+  unfolding kind-of kind-number detail-number
+  waiting n = record { is = refl; number = refl; detail = refl }
+
+  unknowing : (n : ℕ) → n < length ts → Says 18 n (Kind.unknown (T n))
+  unfolding kind-of kind-number detail-number
+  unknowing n h = record { is = refl; number = refl; detail = text-place f x ts mo tb n h }
 
   pushed-run : (r : ARun) (at : ℕ) (a : Actions) (p : Pushed f x ts mo tb r at a) →
       R (put-places (p .depth) (p .places) r) ≡ left (a then (R r) .actions) (R r)
@@ -190,18 +195,18 @@ module _ (f x : List ℕ) (ts : List Text) (mo : Model) (tb : Tabled f x ts mo) 
     src = source-of s
 
     -- the run goes on
-    going-on : {m : Machine} {e : Engine} → r .automation < rules → S now 0 m e →
-        S now 0 (nowM r m) (add (next-step now (R r)) e)
+    going-on : {room : ℕ} {m : Machine} {e : Engine} → r .automation < rules → S now room m e →
+        S now room (nowM r m) (add (next-step now (R r)) e)
     going-on h y =
         follow f x ts mo tb (λ (n : Machine). nowM r n) (add (next-step now (R r))) y (λ l. now-is f x ts mo tb l r h)
         (λ n z p. s-next n z r _ _ p) (λ n o. overflow-stays n .on-add _ _ o)
 
-    told-action : {m : Machine} {e : Engine} → L now 0 m e → (i d : ℕ) (K : Kind) → kind-of x ts i d ≡ K →
-        S now 0 (log-actionM i d s r m) (log-action now K src (R r) e)
-    told-action l i d K h = log-action-is f x ts mo tb (weaker f x ts mo tb (omega arith) l) i d s r K h
+    told-action : {room : ℕ} {m : Machine} {e : Engine} → L now room m e → (i d : ℕ) (K : Kind) → Says i d K →
+        r .automation < rules → S now room (log-actionM i d s r m) (log-action now K src (R r) e)
+    told-action l i d K h g = log-action-is f x ts mo tb l i d s r K h g
 
-    doubt-is : {m : Machine} {e : Engine} → L now 0 m e → r .automation < rules → (i : ℕ) (t : Text) →
-        render f (aboutRule f x (r .automation) i) ≡ t → memT t pl ≡ true → L now 0 (doubtM f x r i m) (uncertain t e)
+    doubt-is : {room : ℕ} {m : Machine} {e : Engine} → L now room m e → r .automation < rules → (i : ℕ) (t : Text) →
+        render f (aboutRule f x (r .automation) i) ≡ t → memT t pl ≡ true → L now room (doubtM f x r i m) (uncertain t e)
     unfolding doubtM
     doubt-is l h i t q p =
         rw (most-is (r .automation) 31 (omega (arith, tb .few-automations)))
@@ -212,28 +217,31 @@ module _ (f x : List ℕ) (ts : List Text) (mo : Model) (tb : Tabled f x ts mo) 
     doubt-runs i m = uncertain-runs f _ m
 
     -- the run ends for a reason
-    unclear-is : {m : Machine} {e : Engine} → L now 0 m e → Here k r m → r .automation < rules → (i : ℕ) (t : Text) →
-        render f (aboutRule f x (r .automation) i) ≡ t → memT t pl ≡ true →
-        S now 0 (unclearM f x k r i m) (finish now (R r) (uncertain t e))
+    unclear-is : {room : ℕ} {m : Machine} {e : Engine} → L now room m e → Here k r m → r .automation < rules →
+        (i : ℕ) (t : Text) → render f (aboutRule f x (r .automation) i) ≡ t → memT t pl ≡ true →
+        S now room (unclearM f x k r i m) (finish now (R r) (uncertain t e))
     unfolding unclearM
-    unclear-is {m} l w h i t q p = finish-is f x ts mo tb (doubt-is l h i t q p) k r (keyed (still-here w (doubt-runs i m)))
+    unclear-is {room} {m} l w h i t q p =
+        finish-is f x ts mo tb (doubt-is l h i t q p) k r (keyed (still-here w (doubt-runs i m)))
 
-    writing : {m : Machine} {e : Engine} → L now 0 m e → (j v : ℕ) → j < length es → v < length ts →
-        S now 0 (writtenM x r s (name x j) v m) (write now (T (name x j)) (T v) src (R r) e)
+    writing : {room : ℕ} {m : Machine} {e : Engine} → L now (suc room) m e → r .automation < rules → (j v : ℕ) →
+        j < length es →
+        v < length ts → S now room (writtenM x r s (name x j) v m) (write now (T (name x j)) (T v) src (R r) e)
     unfolding writtenM write run-of key-of
-    writing l j v h i =
+    writing l low j v h i =
         update-is f x ts mo tb l
-        (setting (name x j) v 2 (Of (r .automation)) (From (s .line) (s .column))) j h refl i Kind.action acting
+        (setting (name x j) v 2 (Of (r .automation)) (From (s .line) (s .column))) j h refl i Kind.action acting low
 
     -- the run's automation is one of the model's
     module _ (low : r .automation < rules) where
-      set-is : {m : Machine} {e : Engine} → L now 0 m e → (a v : ℕ) → Declared f x ts mo tb a → v < length ts →
-          S now 0 (setM x r s a v m) (add (next-step now (R r)) (write now (T a) (T v) src (R r) e))
+      set-is : {room : ℕ} {m : Machine} {e : Engine} → L now (suc room) m e → (a v : ℕ) → Declared f x ts mo tb a →
+          v < length ts →
+          S now room (setM x r s a v m) (add (next-step now (R r)) (write now (T a) (T v) src (R r) e))
       unfolding setM
-      set-is {m} {e} l a v d h =
+      set-is {room} {m} {e} l a v d h =
           subst
-          (λ (n : ℕ). S now 0 (nowM r (writtenM x r s n v m)) (add (next-step now (R r)) (write now (T n) (T v) src (R r) e)))
-          (d .1 .1) (going-on low (writing l (d .0) v (d .1 .0) h))
+          (λ (n : ℕ). S now room (nowM r (writtenM x r s n v m)) (add (next-step now (R r)) (write now (T n) (T v) src (R r) e)))
+          (d .1 .1) (going-on low (writing l low (d .0) v (d .1 .0) h))
 
       -- on and off
       turned-in : (v : ℕ) → toggledM x v < length ts
@@ -256,10 +264,10 @@ module _ (f x : List ℕ) (ts : List Text) (mo : Model) (tb : Tabled f x ts mo) 
           by (is-true b) = rw (same ∙ b, b) (tb .off .is-text)
           by (is-false b) = rw (same ∙ b, b) (tb .on .is-text)
 
-      flip-is : {m : Machine} {e : Engine} → L now 0 m e → (j : ℕ) → j < length es →
-          S now 0 (flipM f x r s (name x j) m) (add (next-step now (R r)) (flip now (T (name x j)) src (R r) e))
+      flip-is : {room : ℕ} {m : Machine} {e : Engine} → L now (suc room) m e → (j : ℕ) → j < length es →
+          S now room (flipM f x r s (name x j) m) (add (next-step now (R r)) (flip now (T (name x j)) src (R r) e))
       unfolding flipM flip-atM flip-fromM flip setM run-of key-of
-      flip-is {m} {e} l j h = by (case (undecidedT x old))
+      flip-is {room} {m} {e} l j h = by (case (undecidedT x old))
         where
           old : ℕ
           old = getD (m .values) j 0
@@ -274,28 +282,28 @@ module _ (f x : List ℕ) (ts : List Text) (mo : Model) (tb : Tabled f x ts mo) 
           u = undecided-is f x ts mo tb old (l .cells .valued .in-texts j h)
 
           by : Case (undecidedT x old) →
-              S now 0 (flipM f x r s (name x j) m) (add (next-step now (R r)) (flip now (T (name x j)) src (R r) e))
+              S now room (flipM f x r s (name x j) m) (add (next-step now (R r)) (flip now (T (name x j)) src (R r) e))
           by (is-true b) =
               rw (z, le-ltb 31 j (omega (arith, tb .few-entities)), v, b, sym u ∙ b)
-              (going-on low (live (doubt-is l low 35 (toggle-of-unknown (id-at x ts (r .automation))) (toggle-reason f x ts mo tb (r .automation) low) (pool-is f x ts mo tb (r .automation) low .toggle))))
+              (going-on low (live (doubt-is (weaker f x ts mo tb (omega arith) l) low 35 (toggle-of-unknown (id-at x ts (r .automation))) (toggle-reason f x ts mo tb (r .automation) low) (pool-is f x ts mo tb (r .automation) low .toggle))))
           by (is-false b) =
               rw
               (z, le-ltb 31 j (omega (arith, tb .few-entities)), v, b, sym u ∙ b, ← turned old (l .cells .valued .in-texts j h))
-              (going-on low (writing l j (toggledM x old) h (turned-in old)))
+              (going-on low (writing l low j (toggledM x old) h (turned-in old)))
 
-      delay-is : {m : Machine} {e : Engine} → L now 0 m e → (d : ℕ) → d ≤ 86400 →
-          S now 0 (delayM r s d m) (go-on-after now d (R r) (log-action now (Kind.delay d) src (R r) e))
+      delay-is : {room : ℕ} {m : Machine} {e : Engine} → L now room m e → (d : ℕ) → d ≤ 86400 →
+          S now room (delayM r s d m) (go-on-after now d (R r) (log-action now (Kind.delay d) src (R r) e))
       unfolding delayM go-on-after run-of
-      delay-is {m} {e} l d h =
+      delay-is {room} {m} {e} l d h =
           follow f x ts mo tb (λ (n : Machine). next-stepM r (later (n .now) d) n)
           (add (record { at = now + d; work = Work.resume (key-of x ts (r .automation) (r .sequence)) }))
-          (told-action l 15 d (Kind.delay d) (delaying d))
-          (λ y. subst (λ (t : ℕ). S now 0 (next-stepM r t (log-actionM 15 d s r m)) (add (record { at = now + d; work = Work.resume (key-of x ts (r .automation) (r .sequence)) }) (log-action now (Kind.delay d) src (R r) e))) (sym (ap (λ (t : ℕ). later t d) (y .time) ∙ later-is now d (omega (arith, l .soon)))) (next-is f x ts mo tb y r (now + d) low))
+          (told-action l 15 d (Kind.delay d) (delaying d) low)
+          (λ y. subst (λ (t : ℕ). S now room (next-stepM r t (log-actionM 15 d s r m)) (add (record { at = now + d; work = Work.resume (key-of x ts (r .automation) (r .sequence)) }) (log-action now (Kind.delay d) src (R r) e))) (sym (ap (λ (t : ℕ). later t d) (y .time) ∙ later-is now d (omega (arith, l .soon)))) (next-is f x ts mo tb y r (now + d) low))
           (λ n z p. s-next n z r _ _ p)
           (λ n o. overflow-stays n .on-add _ _ o)
 
-      tested-is : {m : Machine} {e : Engine} → L now 0 m e → Here k r m → (t : Truth) →
-          S now 0 (testedM f x k r t m) (tested now (truth-of t) (R r) e)
+      tested-is : {room : ℕ} {m : Machine} {e : Engine} → L now room m e → Here k r m → (t : Truth) →
+          S now room (testedM f x k r t m) (tested now (truth-of t) (R r) e)
       unfolding testedM tested run-of key-of
       tested-is l w Yes = going-on low (live l)
       tested-is l w No = finish-is f x ts mo tb l k r (keyed w)
@@ -303,30 +311,30 @@ module _ (f x : List ℕ) (ts : List Text) (mo : Model) (tb : Tabled f x ts mo) 
           unclear-is l w low 88 (unknown-action-condition (id-at x ts (r .automation)))
           (action-reason f x ts mo tb (r .automation) low) (pool-is f x ts mo tb (r .automation) low .action)
 
-      condition-is : {m : Machine} {e : Engine} → L now 0 m e → Here k r m → (at : ℕ) (p : Predicate) (q : ℕ) →
+      condition-is : {room : ℕ} {m : Machine} {e : Engine} → L now room m e → Here k r m → (at : ℕ) (p : Predicate) (q : ℕ) →
           predicate ts f at ≡ got p q →
-          S now 0 (conditionM f x k r s at m)
+          S now room (conditionM f x k r s at m)
           (tested now (evaluate p (e .cells)) (R r) (log-action now (Kind.condition (evaluate p (e .cells))) src (R r) e))
       unfolding conditionM condition-asM
-      condition-is {m} {e} l w at p q h =
+      condition-is {room} {m} {e} l w at p q h =
           let v : truth-of (evaluateT f x (m .values) at) ≡ evaluate p (e .cells) = evaluate-is f x ts mo tb (m .values) (m .versions) (l .cells .valued) at p q h .is ∙ ap (evaluate p) (sym (l .cells .is)) in
           let t = evaluateT f x (m .values) at in
           rw (← v)
-          (follow f x ts mo tb (testedM f x k r t) (tested now (truth-of t) (R r)) (told-action l 11 (numberT t) (Kind.condition (truth-of t)) (testing t))
+          (follow f x ts mo tb (testedM f x k r t) (tested now (truth-of t) (R r)) (told-action l 11 (numberT t) (Kind.condition (truth-of t)) (testing t) low)
           (λ y. tested-is y (still-here w (action-runs 11 (numberT t) s r m)) t)
           (λ n z o. s-tested n z f x k r t _ o)
           (λ n o. c-tested (Over n) (overflow-stays n) now (truth-of t) (R r) _ o))
 
       -- a list on top of the others
-      take-is : {m : Machine} {e : Engine} → L now 0 m e → Here k r m → GoodRun f x ts mo tb (m .sequences) r →
+      take-is : {room : ℕ} {m : Machine} {e : Engine} → L now room m e → Here k r m → GoodRun f x ts mo tb (m .sequences) r →
           (at : ℕ) (a : Actions) (q d : ℕ) → actions ts 17 f at ≡ got a q → Pass es pl d a → r .depth ≤ d →
-          S now 0 (take-listM f k r s at m) (chosen now (some a) src (R r) e)
+          S now room (take-listM f k r s at m) (chosen now (some a) src (R r) e)
       unfolding take-listM chosen
-      take-is {m} {e} l w g at a q d h t o =
+      take-is {room} {m} {e} l w g at a q d h t o =
           let p = pushed f x ts mo tb r at a q d (g .places) (deeper ts f 17 at a q h) t o in
           rw (p .is)
-          (going-on low (told-action (subst (λ (y : Run). L now 0 (put-runM k (put-places (p .depth) (p .places) r) m) (store y e)) (same p)
-          (store-is f x ts mo tb l k (w .inside) (put-places (p .depth) (p .places) r) (record { rule = g .rule; old = g .old; places = p .good; phase = g .phase }) (ap (λ (y : ARun). y .automation) (w .is)) (ap (λ (y : ARun). y .sequence) (w .is)))) 8 0 Kind.choose choosing))
+          (going-on low (told-action (subst (λ (y : Run). L now room (put-runM k (put-places (p .depth) (p .places) r) m) (store y e)) (same p)
+          (store-is f x ts mo tb l k (w .inside) (put-places (p .depth) (p .places) r) (record { rule = g .rule; old = g .old; places = p .good; phase = g .phase }) (ap (λ (y : ARun). y .automation) (w .is)) (ap (λ (y : ARun). y .sequence) (w .is)))) 8 0 Kind.choose choosing low))
         where
           same : (p : Pushed f x ts mo tb r at a) →
               R (put-places (p .depth) (p .places) r) ≡ left (a then (R r) .actions) (R r)
@@ -337,27 +345,28 @@ module _ (f x : List ℕ) (ts : List Text) (mo : Model) (tb : Tabled f x ts mo) 
       passed d vs ns ok no-branch h = tt
       passed d vs ns ok (branch ps a bs) h = (h .0, passed d vs ns ok bs (h .1))
 
-      none-is : {m : Machine} {e : Engine} → L now 0 m e → Here k r m →
-          S now 0 (unclearM f x k r 61 m) (chosen now none src (R r) e)
+      none-is : {room : ℕ} {m : Machine} {e : Engine} → L now room m e → Here k r m →
+          S now room (unclearM f x k r 61 m) (chosen now none src (R r) e)
       unfolding chosen run-of key-of
       none-is l w =
           unclear-is l w low 61 (unknown-choose-condition (id-at x ts (r .automation)))
           (choose-reason f x ts mo tb (r .automation) low) (pool-is f x ts mo tb (r .automation) low .choose)
 
-      choose-is : {m : Machine} {e : Engine} → L now 0 m e → Here k r m → GoodRun f x ts mo tb (m .sequences) r →
+      choose-is : {room : ℕ} {m : Machine} {e : Engine} → L now room m e → Here k r m →
+          GoodRun f x ts mo tb (m .sequences) r →
           (at n p : ℕ) (bs : Branches) (q : ℕ) (d : Actions) (o deep : ℕ) → u16 f at ≡ got n p →
           branches ts (actions ts 17) n f p ≡ got bs q → actions ts 17 f q ≡ got d o → PassE es pl deep (choose bs d) →
-          r .depth ≤ deep + 1 → S now 0 (chooseM f x k r s at m) (chosen now (select bs d (e .cells)) src (R r) e)
+          r .depth ≤ deep + 1 → S now room (chooseM f x k r s at m) (chosen now (select bs d (e .cells)) src (R r) e)
       unfolding chooseM chosenM
-      choose-is {m} {e} l w g at n p bs q d o deep a b c t h =
+      choose-is {room} {m} {e} l w g at n p bs q d o deep a b c t h =
           let ps = pass-choose es pl deep bs d t in
           subst
-          (λ (cs : List Cell). S now 0 (chosenM f x k r s (selectT f x (m .values) at) m) (chosen now (select bs d cs) src (R r) e))
+          (λ (cs : List Cell). S now room (chosenM f x k r s (selectT f x (m .values) at) m) (chosen now (select bs d cs) src (R r) e))
           (sym (l .cells .is))
           (by (select-is f x ts mo tb (m .values) (m .versions) (l .cells .valued) (Pass es pl (deep + 1)) at n p bs q d o a b c (passed (deep + 1) (m .values) (m .versions) (l .cells .valued) bs (ps .0)) (ps .1)))
         where
           by : Taken f x ts mo tb (m .values) (m .versions) (l .cells .valued) (Pass es pl (deep + 1)) (selectT f x (m .values) at) (select bs d (cells-of x ts (m .values) (m .versions))) →
-              S now 0 (chosenM f x k r s (selectT f x (m .values) at) m)
+              S now room (chosenM f x k r s (selectT f x (m .values) at) m)
               (chosen now (select bs d (cells-of x ts (m .values) (m .versions))) src (R r) e)
           by (takes i y z u v t o) = rw (u, o) (take-is l w g i y z (deep + 1) v t h)
           by (unclear u o) = rw (u, o) (none-is l w)
@@ -368,25 +377,27 @@ module _ (f x : List ℕ) (ts : List Text) (mo : Model) (tb : Tabled f x ts mo) 
       unfolding run-of wait-of found-trigger
       wait-run at t q d c h = rw (h, found-trigger)
 
-      waiting-is : {m : Machine} {e : Engine} → L now 0 m e → Here k r m → GoodRun f x ts mo tb (m .sequences) r →
+      waiting-is : {room : ℕ} {m : Machine} {e : Engine} → L now room m e → Here k r m →
+          GoodRun f x ts mo tb (m .sequences) r →
           (at : ℕ) (t : Trigger) (q n : ℕ) (c : Bool) → trigger ts f at ≡ got t q →
-          S now 0 (waitingM k r s n (now + n) (acts.wait at (now + n) c s) m)
+          S now room (waitingM k r s n (now + n) (acts.wait at (now + n) c s) m)
           (log-action now (Kind.wait n) src (R r) (add (record { at = now + n; work = Work.timeout (key-of x ts (r .automation) (r .sequence)) }) (store (waits (some (record { trigger = t; deadline = now + n; continue = c; source = src })) (R r)) e)))
       unfolding waitingM item-of work-of
-      waiting-is {m} {e} l w g at t q n c h =
+      waiting-is {room} {m} {e} l w g at t q n c h =
           follow f x ts mo tb (log-actionM 16 n s r) (log-action now (Kind.wait n) src (R r))
-          (add-is f x ts mo tb (subst (λ (y : Run). L now 0 (put-runM k (phaseR (phase.Waiting (acts.wait at (now + n) c s)) r) m) (store y e)) (wait-run at t q (now + n) c h)
+          (add-is f x ts mo tb (subst (λ (y : Run). L now room (put-runM k (phaseR (phase.Waiting (acts.wait at (now + n) c s)) r) m) (store y e)) (wait-run at t q (now + n) c h)
           (store-is f x ts mo tb l k (w .inside) (phaseR (phase.Waiting (acts.wait at (now + n) c s)) r) (record { rule = g .rule; old = g .old; places = g .places; phase = (t, (q, h)) }) (ap (λ (y : ARun). y .automation) (w .is)) (ap (λ (y : ARun). y .sequence) (w .is)))) (now + n) (queue.Timeout (r .automation) (r .sequence)) low)
-          (λ y. told-action y 16 n (Kind.wait n) (waiting n))
+          (λ y. told-action y 16 n (Kind.wait n) (waiting n) low)
           (λ i z p. s-log-action i z 16 n s r _ p)
           (λ i o. over-action i now (Kind.wait n) src (R r) _ o)
 
-      begin-wait-is : {m : Machine} {e : Engine} → L now 0 m e → Here k r m → GoodRun f x ts mo tb (m .sequences) r →
+      begin-wait-is : {room : ℕ} {m : Machine} {e : Engine} → L now room m e → Here k r m →
+          GoodRun f x ts mo tb (m .sequences) r →
           (at : ℕ) (t : Trigger) (q n : ℕ) (c : Bool) → trigger ts f at ≡ got t q → four f (at + 16) ≡ n →
           eqb (getD f (at + 20) 0) 1 ≡ c → n ≤ 86400 →
-          S now 0 (begin-waitM f k r s at m) (begin-wait now t n c src (R r) e)
+          S now room (begin-waitM f k r s at m) (begin-wait now t n c src (R r) e)
       unfolding begin-waitM begin-wait run-of
-      begin-wait-is {m} {e} l w g at t q n c h i j o = by (case (absent (t .note)))
+      begin-wait-is {room} {m} {e} l w g at t q n c h i j o = by (case (absent (t .note)))
         where
           note : eqb (two f (at + 14)) 65535 ≡ absent (t .note)
           note = matches-is f x ts mo tb at t q h .note
@@ -394,40 +405,44 @@ module _ (f x : List ℕ) (ts : List Text) (mo : Model) (tb : Tabled f x ts mo) 
           late : later (m .now) n ≡ now + n
           late = ap (λ (y : ℕ). later y n) (l .time) ∙ later-is now n (omega (arith, l .soon))
 
-          by : Case (absent (t .note)) → S now 0 (begin-waitM f k r s at m) (begin-wait now t n c src (R r) e)
+          by : Case (absent (t .note)) → S now room (begin-waitM f k r s at m) (begin-wait now t n c src (R r) e)
           by (is-true b) = rw (note ∙ b, b, i, j, late) (waiting-is l w g at t q n c h)
           by (is-false b) =
               rw (note ∙ b, b)
               (finish-is f x ts mo tb (uncertain-is f x ts mo tb l (alone 115) unsupported-wait (wait-reason f x ts mo tb) (wait-in mo)) k r (keyed (still-here w (uncertain-runs f (alone 115) m))))
 
-      give-up-is : {m : Machine} {e : Engine} → L now 0 m e → Here k r m → (n : ℕ) → n < length ts →
+      give-up-is : {room : ℕ} {m : Machine} {e : Engine} → L now room m e → Here k r m → (n : ℕ) → n < length ts →
           memT (T n) pl ≡ true →
-          S now 0 (give-upM f k r s n m)
+          S now room (give-upM f k r s n m)
           (finish now (R r) (log-action now (Kind.unknown (T n)) src (R r) (uncertain (T n) e)))
       unfolding give-upM
-      give-up-is {m} {e} l w n h p =
+      give-up-is {room} {m} {e} l w n h p =
           follow f x ts mo tb (finishM k) (finish now (R r))
-          (told-action (uncertain-is f x ts mo tb l (noteReason f n) (T n) (note-is f x ts mo tb n h) p) 18 n (Kind.unknown (T n)) (unknowing n))
+          (told-action (uncertain-is f x ts mo tb l (noteReason f n) (T n) (note-is f x ts mo tb n h) p) 18 n (Kind.unknown (T n)) (unknowing n h) low)
           (λ y. finish-is f x ts mo tb y k r (keyed (still-here w (action-runs 18 n s r (uncertainM f (noteReason f n) m) ∙ uncertain-runs f (noteReason f n) m))))
           (λ i z o. s-finish i z k _ o)
           (λ i o. c-finish (Over i) (overflow-stays i) now (R r) _ o)
 
-      pub perform-is : {m : Machine} {e : Engine} → L now 0 m e → Here k r m → GoodRun f x ts mo tb (m .sequences) r →
+      less : {room : ℕ} {m : Machine} {e : Engine} → L now (suc room) m e → L now room m e
+      less l = weaker f x ts mo tb (omega arith) l
+
+      pub perform-is : {room : ℕ} {m : Machine} {e : Engine} → L now (suc room) m e → Here k r m →
+          GoodRun f x ts mo tb (m .sequences) r →
           (a : AEffect) (b : Effect) (deep : ℕ) → Acts f x ts mo tb a b → PassE es pl deep b → r .depth ≤ deep + 1 →
-          S now 0 (performM f x k r s a m) (perform now b src (R r) e)
+          S now room (performM f x k r s a m) (perform now b src (R r) e)
       unfolding performM perform
       perform-is l w g a b deep (sets i v h j p q) t o =
           rw (p, q) (set-is l i v (declared i h (pass-set es pl deep (T i) (T v) (subst (PassE es pl deep) q t))) j)
-      perform-is {m} {e} l w g a b deep (toggles i h p q) t o =
+      perform-is {room} {m} {e} l w g a b deep (toggles i h p q) t o =
           let d = declared i h (pass-toggle es pl deep (T i) (subst (PassE es pl deep) q t)) in
           rw (p, q)
-          (subst (λ (n : ℕ). S now 0 (flipM f x r s n m) (add (next-step now (R r)) (flip now (T n) src (R r) e))) (d .1 .1) (flip-is l (d .0) (d .1 .0)))
+          (subst (λ (n : ℕ). S now room (flipM f x r s n m) (add (next-step now (R r)) (flip now (T n) src (R r) e))) (d .1 .1) (flip-is l (d .0) (d .1 .0)))
       perform-is l w g a b deep (delays n p q) t o =
-          rw (p, q) (delay-is l n (pass-delay es pl deep n (subst (PassE es pl deep) q t)))
-      perform-is l w g a b deep (conditions at i j h p q) t o = rw (p, q) (condition-is l w at i j h)
+          rw (p, q) (delay-is (less l) n (pass-delay es pl deep n (subst (PassE es pl deep) q t)))
+      perform-is l w g a b deep (conditions at i j h p q) t o = rw (p, q) (condition-is (less l) w at i j h)
       perform-is l w g a b deep (chooses at n i bs j d y c u v p q) t o =
-          rw (p, q) (choose-is l w g at n i bs j d y deep c u v (subst (PassE es pl deep) q t) o)
+          rw (p, q) (choose-is (less l) w g at n i bs j d y deep c u v (subst (PassE es pl deep) q t) o)
       perform-is l w g a b deep (waits-at at i j n c h u v p q) t o =
-          rw (p, q) (begin-wait-is l w g at i j n c h u v (pass-wait es pl deep i n c (subst (PassE es pl deep) q t)))
+          rw (p, q) (begin-wait-is (less l) w g at i j n c h u v (pass-wait es pl deep i n c (subst (PassE es pl deep) q t)))
       perform-is l w g a b deep (unknowns n h p q) t o =
-          rw (p, q) (give-up-is l w n h (pass-unknown es pl deep (T n) (subst (PassE es pl deep) q t)))
+          rw (p, q) (give-up-is (less l) w n h (pass-unknown es pl deep (T n) (subst (PassE es pl deep) q t)))

@@ -12,6 +12,8 @@ pub mod Full
 pub mod Lists
 pub mod Pigeons
 pub mod Relation
+-- a record's words
+pub mod Words
 pub mod Pool
 -- what an item does, from the bottom up
 pub mod Writes
@@ -26,4 +28,3 @@ pub mod Simulated
 pub mod Accepted
 pub mod Tables
 pub mod Outcome
-pub mod Simulate

@@ -4,7 +4,7 @@ use mathlib.Core.Path.{_≡_, refl, sym, ap, _∙_}
 use mathlib.Core.List.{List, [], _∷_}
 use mathlib.Core.Bool.{Bool, true, false, cond, _||_}
 use mathlib.Core.Option.{Option, none, some}
-use Prim.Native.Nat.{ℕ, zero, suc, _+_, _-_, _≤_}
+use Prim.Native.Nat.{ℕ, zero, suc, _+_, _-_, _*_, _≤_}
 use native.Mathlib.Omega.{arith}
 use lib.ListN.{length}
 use lib.Dec.{ltb, leb, eqb}
@@ -31,7 +31,7 @@ use Rattle.engine_loop.specs.Loop.{next-afterM, nextM, why-nextM, whyM, turn-wi
 use Rattle.engine_places.specs.Meaning.{item-of, record-of, Tabled}
 use Rattle.engine_places.proofs.Full.{Stuck}
 use Rattle.engine_places.proofs.Overflow.{overflow-stays}
-use Rattle.engine_places.proofs.Relation.{GoodWork, Live, Sim, live, dead}
+use Rattle.engine_places.proofs.Relation.{GoodWork, Live, Sim, live, dead, weaker}
 use Rattle.engine_places.proofs.Writes.{Over}
 use Rattle.engine_places.proofs.Works.{process-is}
 use Rattle.engine_places.proofs.Lists as lists
@@ -102,14 +102,15 @@ module _ (f x : List ℕ) (ts : List Text) (mo : Model) (tb : Tabled f x ts mo) 
     goes : (i : QItem) (k : List QItem) → order.pop secondOf (m .queue) ≡ some (i, k) → Good i → Each Good k →
         i .second ≤ horizon → a ≡ nexts.Take → b ≡ take (I i) (each I k) → NextIs m a b
 
-  next-is : {now : ℕ} {m : Machine} {e : Engine} → L now 0 m e → NextIs m (nextM x m) (next-of horizon e (pop (e .queue)))
+  next-is : {now room : ℕ} {m : Machine} {e : Engine} → L now room m e →
+      NextIs m (nextM x m) (next-of horizon e (pop (e .queue)))
   unfolding nextM next-afterM next-of item-of
-  next-is {now} {m} {e} l =
+  next-is {now} {room} {m} {e} l =
       rw (ap pop (l .queue .is) ∙ pop-is (m .queue))
       (by (order.pop secondOf (m .queue)) refl (pop-good (m .queue) (l .queue .good)))
     where
       long-trace : length (e .trace) ≡ length (m .records)
-      long-trace = ap length (l .records) ∙ lists.each-length (record-of x ts) (m .records)
+      long-trace = ap length (l .records .is) ∙ lists.each-length (record-of x ts) (m .records)
 
       long-queue : length (e .queue) ≡ length (m .queue)
       long-queue = ap length (l .queue .is) ∙ lists.each-length I (m .queue)
@@ -141,16 +142,17 @@ module _ (f x : List ℕ) (ts : List Text) (mo : Model) (tb : Tabled f x ts mo) 
       ∙ ap
       (λ (o : Option (QItem × List QItem)). processM f x (i .work) (put-now (i .second) (put-queue (leftOf secondOf o) m))) p
 
-  took-is : {now : ℕ} {m : Machine} {e : Engine} → L now 0 m e → (i : QItem) (k : List QItem) → Each Good k →
-      i .second ≤ horizon → L (i .second) 0 (put-now (i .second) (put-queue k m)) (with-queue (each I k) e)
+  took-is : {now room : ℕ} {m : Machine} {e : Engine} → L now room m e → (i : QItem) (k : List QItem) → Each Good k →
+      i .second ≤ horizon → L (i .second) room (put-now (i .second) (put-queue k m)) (with-queue (each I k) e)
   unfolding with-queue
   took-is l i k q h = record { time = refl; soon = omega (arith, tb .day); free = l .free; calm = l .calm; queue = record { is = refl; good = q }; records = l .records; runs = l .runs; cells = l .cells; reasons = l .reasons; made = l .made; low = l .low; sizes = l .sizes }
 
-  turn-is : {now : ℕ} {m : Machine} {e : Engine} → L now 0 m e → (i : QItem) (k : List QItem) →
+  turn-is : {now room : ℕ} {m : Machine} {e : Engine} → L now (room + 32) m e → (i : QItem) (k : List QItem) →
       order.pop secondOf (m .queue) ≡ some (i, k) → Good i → Each Good k → i .second ≤ horizon →
-      S (i .second) 0 (turnM f x m) (process (I i .at) (mo .rules) (I i .work) (with-queue (each I k) e))
+      S (i .second) room (turnM f x m) (process (I i .at) (mo .rules) (I i .work) (with-queue (each I k) e))
   unfolding item-of
-  turn-is {now} {m} {e} l i k p g q h = rw (turn-law m i k p) (process-is f x ts mo tb (took-is l i k q h) (i .work) g)
+  turn-is {now} {room} {m} {e} l i k p g q h =
+      rw (turn-law m i k p) (process-is f x ts mo tb (took-is l i k q h) (i .work) g)
 
   -- ---- the loop
 
@@ -210,42 +212,44 @@ module _ (f x : List ℕ) (ts : List Text) (mo : Model) (tb : Tabled f x ts mo) 
     unfolding loop
     take-at left i l p = rw (p, loop)
 
-  pub loop-is : (left steps : ℕ) {now : ℕ} {m : Machine} {e : Engine} → S now 0 m e →
+  -- the counters have room for 32 at each step that is left
+  pub loop-is : (left steps : ℕ) {now room : ℕ} {m : Machine} {e : Engine} → left * 32 ≤ room → S now room m e →
       Ends (loopM f x left m) (loop (mo .rules) horizon left steps e) (steps + left)
   unfolding why-nextM reasons-of
-  loop-is zero steps {now} {m} {e} (dead n z p o) =
+  loop-is zero steps {now} {room} {m} {e} r (dead n z p o) =
       stuck n z (rw (loop-end m 3 (full-why 0 n m z p)) p) (over-loop n 0 steps e o)
       (ap (λ (h : Halt). h .why) (loop-end m 3 (full-why 0 n m z p)))
-  loop-is (suc left) steps {now} {m} {e} (dead n z p o) =
+  loop-is (suc left) steps {now} {room} {m} {e} r (dead n z p o) =
       stuck n z (rw (loop-stop left m 3 (full-why (suc left) n m z p) refl) p) (over-loop n (suc left) steps e o)
       (ap (λ (h : Halt). h .why) (loop-stop left m 3 (full-why (suc left) n m z p) refl))
-  loop-is zero steps {now} {m} {e} (live l) = by (next-is l)
+  loop-is zero steps {now} {room} {m} {e} r (live l) = by (next-is l)
     where
       by : NextIs m (nextM x m) (next-of horizon e (pop (e .queue))) →
           Ends (loopM f x 0 m) (loop (mo .rules) horizon 0 steps e) (steps + 0)
       by (stops a b) =
           rw (loop-end m 0 (free-why 0 m (l .free) ∙ ap (why-nextM 0) a), stop-at steps e 0 b)
-          (lives now l refl (omega arith) refl)
+          (lives now (weaker f x ts mo tb (omega arith) l) refl (omega arith) refl)
       by (spends a b) =
           rw (loop-end m 1 (free-why 0 m (l .free) ∙ ap (why-nextM 0) a), space-at steps e 0 b)
-          (lives now l refl (omega arith) refl)
+          (lives now (weaker f x ts mo tb (omega arith) l) refl (omega arith) refl)
       by (goes i k p g q h a b) =
           rw (loop-end m 2 (free-why 0 m (l .free) ∙ ap (why-nextM 0) a), steps-at steps e (I i) (each I k) b)
-          (lives now l refl (omega arith) refl)
-  loop-is (suc left) steps {now} {m} {e} (live l) = by (next-is l) (λ t n d y. loop-is left (steps + 1) y)
+          (lives now (weaker f x ts mo tb (omega arith) l) refl (omega arith) refl)
+  loop-is (suc left) steps {now} {room} {m} {e} r (live l) =
+      by (next-is l) (λ t n d y. loop-is left (steps + 1) (omega arith) y)
     where
       by : NextIs m (nextM x m) (next-of horizon e (pop (e .queue))) →
-          ((t : ℕ) (n : Machine) (d : Engine) → S t 0 n d → Ends (loopM f x left n) (loop (mo .rules) horizon left (steps + 1) d) (steps + 1 + left)) →
+          ((t : ℕ) (n : Machine) (d : Engine) → S t (left * 32) n d → Ends (loopM f x left n) (loop (mo .rules) horizon left (steps + 1) d) (steps + 1 + left)) →
           Ends (loopM f x (suc left) m) (loop (mo .rules) horizon (suc left) steps e) (steps + suc left)
       by (stops a b) ih =
           rw
           (loop-stop left m 0 (free-why (suc left) m (l .free) ∙ ap (why-nextM (suc left)) a) refl, stop-at steps e (suc left) b)
-          (lives now l refl (omega arith) refl)
+          (lives now (weaker f x ts mo tb (omega arith) l) refl (omega arith) refl)
       by (spends a b) ih =
           rw
           (loop-stop left m 1 (free-why (suc left) m (l .free) ∙ ap (why-nextM (suc left)) a) refl, space-at steps e (suc left) b)
-          (lives now l refl (omega arith) refl)
+          (lives now (weaker f x ts mo tb (omega arith) l) refl (omega arith) refl)
       by (goes i k p g q h a b) ih =
           let w : whyM x (suc left) m ≡ 4 = free-why (suc left) m (l .free) ∙ ap (why-nextM (suc left)) a ∙ rw (ne-eqb (suc left) 0 (λ o. absurd (omega arith))) in
           let z : steps + suc left ≡ steps + 1 + left = omega arith in
-          rw (loop-go left m w, take-at steps e left (I i) (each I k) b, z) (ih (i .second) _ _ (turn-is l i k p g q h))
+          rw (loop-go left m w, take-at steps e left (I i) (each I k) b, z) (ih (i .second) _ _ (turn-is (weaker f x ts mo tb (omega arith) l) i k p g q h))

@@ -19,13 +19,14 @@ use Rattle.engine.specs.Records.{Work, Run, Areas}
 use Rattle.engine.specs.Reasons.{runs-left}
 use Rattle.engine.specs.Engine.{Ended, left-over}
 use Rattle.engine.specs.Simulate.{Simulation, ended, outcome, unless-full, simulated}
+use Rattle.engine.proofs.Lists.{Each}
 use Rattle.engine_reads.specs.Reads.{name, entities}
 use Rattle.engine_state.specs.Machine.{Machine}
 use Rattle.engine_loop.specs.Loop.{eventW, begunM, Halt, loopM, closedM}
 use Rattle.engine_places.specs.Meaning.{work-of, record-of, cell-at, cells-from, cells-of, run-of, pool-of, Column, Tabled}
-use Rattle.engine_places.proofs.Truth.{entities-are}
+use Rattle.engine_places.proofs.Truth.{Valued, entities-are}
 use Rattle.engine_places.proofs.Checked.{known-value}
-use Rattle.engine_places.proofs.Relation.{GoodWork, Live}
+use Rattle.engine_places.proofs.Relation.{Worded, GoodWork, Live}
 use Rattle.engine_places.proofs.Acts.{declared}
 use Rattle.engine_places.proofs.Loop.{reasons-of}
 use Rattle.engine_places.proofs.Simulated.{EventAt, Beginning, Result, ends, full, ended-is, runs-none, runs-some}
@@ -43,9 +44,14 @@ module _ (f x : List ℕ) (ts : List Text) (mo : Model) (tb : Tabled f x ts mo) 
     horizon = mo .scenario .limits .horizon;
   }
 
+  -- each record's words are those of the record that it stands for, and the values are places of texts
+  pub record Kept (k : Machine) : Type 0 where
+    pub words : Each (Worded x ts mo) (k .records)
+    pub valued : Valued f x ts mo tb (k .values)
+
   -- an answer, or the number of the area that was full
   pub data Answered (p : Halt) (a : Answer Simulation) : Type 0 where
-    shows : p .last .full ≡ 0 → a ≡ answer (shown p) → Answered p a
+    shows : p .last .full ≡ 0 → a ≡ answer (shown p) → Kept (p .last) → Answered p a
     refuses : (n : ℕ) → (n ≡ 0 → ⊥) → p .last .full ≡ n → a ≡ refused n → Answered p a
 
   left-is : (n : ℕ) (rs : List Run) → length rs ≡ n → left-over rs ≡ (if eqb n 0 then [] else runs-left ∷ [])
@@ -61,7 +67,7 @@ module _ (f x : List ℕ) (ts : List Text) (mo : Model) (tb : Tabled f x ts mo) 
   shown-is p d now l s i =
       let r = left-is (length (p .last .runs)) (d .engine .runs) (ap length (l .runs .is) ∙ lists.each-length (run-of x ts f) (p .last .runs)) in
       let k : d .steps ≡ mo .scenario .limits .max-steps - p .left = omega arith in
-      rw (l .records, l .cells .is, ← l .reasons .is, i, r, k)
+      rw (l .records .is, l .cells .is, ← l .reasons .is, i, r, k)
 
   result-is : (areas : Areas) (cells : List Cell) (vs : List Event) (p : Halt) →
       Result f x ts mo tb p (ended areas mo cells vs) (mo .scenario .limits .max-steps) →
@@ -70,6 +76,7 @@ module _ (f x : List ℕ) (ts : List Text) (mo : Model) (tb : Tabled f x ts mo) 
   result-is areas cells vs p (ends now l s w i) =
       shows (l .free)
       (ap (λ (y : Option ℕ). unless-full y (outcome mo (ended areas mo cells vs))) (l .calm) ∙ ap answer (shown-is p (ended areas mo cells vs) now l s i))
+      (record { words = l .records .words; valued = l .cells .valued })
   result-is areas cells vs p (full n z h o) =
       refuses n z (h .is) (ap (λ (y : Option ℕ). unless-full y (outcome mo (ended areas mo cells vs))) o)
 

@@ -21,6 +21,8 @@ use Rattle.queue.specs.declared.Work.the-variants as queue
 use Rattle.records.specs.declared.Rule.{Rule}
 use Rattle.records.specs.declared.Where.{Where}
 use Rattle.records.specs.declared.Change.{Change as AChange}
+use Rattle.records.specs.declared.Record.{Record}
+use Rattle.records.specs.Records.{recordWords}
 use Rattle.runs.specs.Runs.{isRun, inLine, runOf, other}
 use Rattle.runs.specs.Lists as places
 use Rattle.runs.specs.declared.Run.{Run as ARun}
@@ -31,6 +33,7 @@ use Rattle.reasons.specs.Reasons.{render}
 use Rattle.reasons.specs.Lists.{pushT}
 use Rattle.engine.specs.Cells.{Cell}
 use Rattle.engine.specs.Records.{Key, Run, Item, Trace, Areas, Engine}
+use Rattle.engine.specs.Words.{trace-words}
 use Rattle.engine.specs.Changes.{noted, with-cells, add, append, with-runs, add-run, uncertain}
 use Rattle.engine.specs.Engine.{is-run, of-rule, other-run, of-other-rule, in-line, in-place}
 use Rattle.engine.proofs.Lists.{Each, tally-end, eqT-same}
@@ -89,8 +92,13 @@ noted-full : (n used size : ℕ) (o : Option ℕ) → o ≡ none → size ≤ us
 unfolding noted
 noted-full n used size o e h = rw (e, noted) (rw (le-leb size used h))
 
-pub no-rule : Automation
+unfoldable pub no-rule : Automation
 no-rule = record { id = []; mode = single; max = 0; triggers = []; conditions = []; actions = done; source = record { line = 0; column = 0 }; notes = [] }
+
+-- the record's words are those of the record that it stands for
+module _ (x : List ℕ) (ts : List Text) (mo : Model) where
+  abbrev pub Worded : Record → Type 0
+  Worded r = recordWords r ≡ trace-words ts (each (λ (a : Automation). a .id) (mo .rules)) (record-of x ts r)
 
 module _ (f x : List ℕ) (ts : List Text) (mo : Model) (tb : Tabled f x ts mo) where
   abbrev T : ℕ → Text
@@ -120,6 +128,10 @@ module _ (f x : List ℕ) (ts : List Text) (mo : Model) (tb : Tabled f x ts mo) 
   pub record Queued (l : List QItem) (q : List Item) : Type 0 where
     pub is : q ≡ each (item-of x ts) l
     pub good : Each (λ (i : QItem). GoodWork (i .work)) l
+
+  pub record Recorded (l : List Record) (tr : List Trace) : Type 0 where
+    pub is : tr ≡ each (record-of x ts) l
+    pub words : Each (Worded x ts mo) l
 
   abbrev pub GoodPhase : Phase → Type 0
   GoodPhase phase.Going = Unit {0}
@@ -151,37 +163,34 @@ module _ (f x : List ℕ) (ts : List Text) (mo : Model) (tb : Tabled f x ts mo) 
     pub long : length sequences ≡ 32
     pub each-rule : (i : ℕ) → i < rules → getD sequences i 0 ≡ tally (eqT (id-at x ts i)) made
 
-  -- counters are at most the number of records, and s more
-  pub record Low (s records made : ℕ) (versions : List ℕ) : Type 0 where
-    pub made-low : made ≤ records + s
-    pub version-low : (e : ℕ) → getD versions e 0 ≤ records + s
-    pub slack : s ≤ 2
+  -- the counters can grow by `room` more before they would stop at the largest word
+  pub record Low (room made : ℕ) (versions : List ℕ) : Type 0 where
+    pub made-low : made + room ≤ 4294967295
+    pub version-low : (e : ℕ) → getD versions e 0 + room ≤ 4294967295
 
-  pub record Sized (queue-size record-size run-size : ℕ) (areas : Areas) (records : ℕ) : Type 0 where
+  pub record Sized (queue-size record-size run-size : ℕ) (areas : Areas) : Type 0 where
     pub queue : queue-size ≡ areas .queue
     pub records-are : record-size ≡ areas .records
     pub runs : run-size ≡ areas .runs
-    pub fits : records ≤ record-size
-    pub word : record-size ≤ 4294967000
 
-  -- nothing is full, and the machine's parts are the engine's
-  pub record Live (now s : ℕ) (m : Machine) (e : Engine) : Type 0 where
+  -- nothing is full, the machine's parts are the engine's, and its counters have room
+  pub record Live (now room : ℕ) (m : Machine) (e : Engine) : Type 0 where
     pub time : m .now ≡ now
     pub soon : now ≤ 86400
     pub free : m .full ≡ 0
     pub calm : e .overflow ≡ none
     pub queue : Queued (m .queue) (e .queue)
-    pub records : e .trace ≡ each (record-of x ts) (m .records)
+    pub records : Recorded (m .records) (e .trace)
     pub runs : Running (m .sequences) (m .runs) (e .runs)
     pub cells : Celled (m .values) (m .versions) (e .cells)
     pub reasons : Reasoned (m .reasons) (e .unknown)
     pub made : Made (m .made) (m .sequences) (e .made)
-    pub low : Low s (length (m .records)) (m .made) (m .versions)
-    pub sizes : Sized (m .queueSize) (m .recordSize) (m .runSize) (e .areas) (length (m .records))
+    pub low : Low room (m .made) (m .versions)
+    pub sizes : Sized (m .queueSize) (m .recordSize) (m .runSize) (e .areas)
 
-  pub data Sim (now s : ℕ) (m : Machine) (e : Engine) : Type 0 where
-    live : Live now s m e → Sim now s m e
-    dead : (n : ℕ) → (n ≡ 0 → ⊥) → Stuck n m → e .overflow ≡ some n → Sim now s m e
+  pub data Sim (now room : ℕ) (m : Machine) (e : Engine) : Type 0 where
+    live : Live now room m e → Sim now room m e
+    dead : (n : ℕ) → (n ≡ 0 → ⊥) → Stuck n m → e .overflow ≡ some n → Sim now room m e
 
   -- one step, and then another: a full machine stays full
   pub follow : {now s t : ℕ} {m : Machine} {e : Engine} (F : Machine → Machine) (G : Engine → Engine) → Sim now s m e →
@@ -191,8 +200,8 @@ module _ (f x : List ℕ) (ts : List Text) (mo : Model) (tb : Tabled f x ts mo) 
   follow F G (live l) g a b = g l
   follow F G (dead n z p o) g a b = dead n z (a n z p) (b n o)
 
-  pub weaker : {now s : ℕ} {m : Machine} {e : Engine} → s ≤ 1 → Live now s m e → Live now (suc s) m e
-  weaker h l = record { time = l .time; soon = l .soon; free = l .free; calm = l .calm; queue = l .queue; records = l .records; runs = l .runs; cells = l .cells; reasons = l .reasons; made = l .made; low = record { made-low = omega (arith, l .low .made-low); version-low = λ e. omega (arith, l .low .version-low e); slack = omega arith }; sizes = l .sizes }
+  pub weaker : {now s t : ℕ} {m : Machine} {e : Engine} → t ≤ s → Live now s m e → Live now t m e
+  weaker h l = record { time = l .time; soon = l .soon; free = l .free; calm = l .calm; queue = l .queue; records = l .records; runs = l .runs; cells = l .cells; reasons = l .reasons; made = l .made; low = record { made-low = omega (arith, l .low .made-low); version-low = λ e. omega (arith, l .low .version-low e) }; sizes = l .sizes }
 
   -- ---- an item more
 
@@ -231,17 +240,17 @@ module _ (f x : List ℕ) (ts : List Text) (mo : Model) (tb : Tabled f x ts mo) 
 
   -- ---- a record more
 
-  pub log-is : {now s : ℕ} {m : Machine} {e : Engine} → Live now (suc s) m e →
+  pub log-is : {now s : ℕ} {m : Machine} {e : Engine} → Live now s m e →
       (t : Told) (u : Rule) (w : Where) (c : AChange) (r : Trace) → record-of x ts (entry now t u w c) ≡ r →
-      Sim now s (logM t u w c m) (append r e)
+      Worded x ts mo (entry now t u w c) → Sim now s (logM t u w c m) (append r e)
   unfolding append
-  log-is {now} {s} {m} {e} l t u w c r q = cases (case (ltb (length (m .records)) (m .recordSize)))
+  log-is {now} {s} {m} {e} l t u w c r q v = cases (case (ltb (length (m .records)) (m .recordSize)))
     where
       used : length (e .trace) ≡ length (m .records)
-      used = ap length (l .records) ∙ lists.each-length (record-of x ts) (m .records)
+      used = ap length (l .records .is) ∙ lists.each-length (record-of x ts) (m .records)
 
-      grown : length (m .records ++ entry (m .now) t u w c ∷ []) ≡ length (m .records) + 1
-      grown = length-append (m .records) (entry (m .now) t u w c ∷ [])
+      new-words : Worded x ts mo (entry (m .now) t u w c)
+      new-words = subst (λ (n : ℕ). Worded x ts mo (entry n t u w c)) (sym (l .time)) v
 
       cases : Case (ltb (length (m .records)) (m .recordSize)) → Sim now s (logM t u w c m) (append r e)
       cases (is-true b) =
@@ -251,13 +260,16 @@ module _ (f x : List ℕ) (ts : List Text) (mo : Model) (tb : Tabled f x ts mo) 
             free = l .free;
             calm = noted-room 42 (length (e .trace)) (e .areas .records) (e .overflow) (l .calm) (omega (arith, ltb-true (length (m .records)) (m .recordSize) b, used, l .sizes .records-are));
             queue = l .queue;
-            records = ap (λ (k : List Trace). k ++ r ∷ []) (l .records) ∙ ap (λ (y : Trace). each (record-of x ts) (m .records) ++ y ∷ []) (sym q ∙ ap (λ (n : ℕ). record-of x ts (entry n t u w c)) (sym (l .time))) ∙ sym (lists.each-one (record-of x ts) (m .records) (entry (m .now) t u w c));
+            records = record {
+              is = ap (λ (k : List Trace). k ++ r ∷ []) (l .records .is) ∙ ap (λ (y : Trace). each (record-of x ts) (m .records) ++ y ∷ []) (sym q ∙ ap (λ (n : ℕ). record-of x ts (entry n t u w c)) (sym (l .time))) ∙ sym (lists.each-one (record-of x ts) (m .records) (entry (m .now) t u w c));
+              words = lists.each-more (Worded x ts mo) (m .records) (entry (m .now) t u w c) (l .records .words) new-words;
+            };
             runs = l .runs;
             cells = l .cells;
             reasons = l .reasons;
             made = l .made;
-            low = record { made-low = omega (arith, l .low .made-low, grown); version-low = λ i. omega (arith, l .low .version-low i, grown); slack = omega (arith, l .low .slack) };
-            sizes = record { queue = l .sizes .queue; records-are = l .sizes .records-are; runs = l .sizes .runs; fits = omega (arith, ltb-true (length (m .records)) (m .recordSize) b, grown); word = l .sizes .word };
+            low = l .low;
+            sizes = l .sizes;
           }))
       cases (is-false b) =
           dead 42 (λ o. absurd (omega arith)) (record {
@@ -270,7 +282,7 @@ module _ (f x : List ℕ) (ts : List Text) (mo : Model) (tb : Tabled f x ts mo) 
   -- ---- other cells, other runs
 
   pub cells-are : {now s t : ℕ} {m : Machine} {e : Engine} → Live now s m e → (c : Cells) (cs : List Cell) →
-      Celled (c .values) (c .versions) cs → Low t (length (m .records)) (m .made) (c .versions) →
+      Celled (c .values) (c .versions) cs → Low t (m .made) (c .versions) →
       Live now t (put-cells c m) (with-cells cs e)
   unfolding with-cells
   cells-are l c cs g h = record { time = l .time; soon = l .soon; free = l .free; calm = l .calm; queue = l .queue; records = l .records; runs = l .runs; cells = g; reasons = l .reasons; made = l .made; low = h; sizes = l .sizes }
@@ -463,23 +475,23 @@ module _ (f x : List ℕ) (ts : List Text) (mo : Model) (tb : Tabled f x ts mo) 
         counted j k (is-false b) =
             rw (same-rule j i k h ∙ b) (at-other j (eqb-false j i b) ∙ g .each-rule j k ∙ (omega arith))
 
-  pub add-run-is : {now s : ℕ} {m : Machine} {e : Engine} → s ≤ 1 → Live now s m e → (i : ℕ) → i < rules → (r : ARun) →
-      NewRun (m .sequences) i r → Sim now (suc s) (add-runM i r m) (add-run (run-of x ts f r) e)
+  pub add-run-is : {now s : ℕ} {m : Machine} {e : Engine} → Live now (suc s) m e → (i : ℕ) → i < rules → (r : ARun) →
+      NewRun (m .sequences) i r → Sim now s (add-runM i r m) (add-run (run-of x ts f r) e)
   unfolding add-run run-of key-of
-  add-run-is {now} {s} {m} {e} small l i h r w = cases (case (ltb (length (m .runs)) (m .runSize)))
+  add-run-is {now} {s} {m} {e} l i h r w = cases (case (ltb (length (m .runs)) (m .runSize)))
     where
       used : length (e .runs) ≡ length (m .runs)
       used = ap length (l .runs .is) ∙ lists.each-length (run-of x ts f) (m .runs)
 
       made-low : m .made < 4294967295
-      made-low = omega (arith, l .low .made-low, l .sizes .fits, l .sizes .word)
+      made-low = omega (arith, l .low .made-low)
 
       seq-low : getD (m .sequences) i 0 < 4294967295
       seq-low = omega (arith, made-low, l .made .each-rule i h, l .made .count, tally-most (eqT (id-at x ts i)) (e .made))
 
-      cases : Case (ltb (length (m .runs)) (m .runSize)) → Sim now (suc s) (add-runM i r m) (add-run (run-of x ts f r) e)
+      cases : Case (ltb (length (m .runs)) (m .runSize)) → Sim now s (add-runM i r m) (add-run (run-of x ts f r) e)
       cases (is-true b) =
-          subst (λ (k : Machine). Sim now (suc s) k (add-run (run-of x ts f r) e)) (sym (run-goes m (l .free) i r b))
+          subst (λ (k : Machine). Sim now s k (add-run (run-of x ts f r) e)) (sym (run-goes m (l .free) i r b))
           (live (record {
             time = l .time;
             soon = l .soon;
@@ -491,7 +503,7 @@ module _ (f x : List ℕ) (ts : List Text) (mo : Model) (tb : Tabled f x ts mo) 
             cells = l .cells;
             reasons = l .reasons;
             made = subst (λ (t : Text). Made (more (m .made)) (set (m .sequences) i (more (getD (m .sequences) i 0))) (e .made ++ t ∷ [])) (ap (id-at x ts) (sym (w .automation))) (more-made (m .sequences) i (m .made) h (e .made) (l .made) seq-low made-low);
-            low = record { made-low = omega (arith, l .low .made-low, more-is (m .made) made-low); version-low = λ e. omega (arith, l .low .version-low e); slack = omega arith };
+            low = record { made-low = omega (arith, l .low .made-low, more-is (m .made) made-low); version-low = λ e. omega (arith, l .low .version-low e) };
             sizes = l .sizes;
           }))
       cases (is-false b) =

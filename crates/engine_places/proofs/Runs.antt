@@ -20,6 +20,7 @@ use Rattle.runs.specs.declared.Run.{Run as ARun}
 use Rattle.runs.specs.declared.Phase.the-variants as phase
 use Rattle.runs.specs.declared.Found.the-variants.{At}
 use Rattle.engine.specs.Records.{Run, Kind, Engine}
+use Rattle.engine.specs.Words.{kind-number, detail-number}
 use Rattle.engine.specs.Changes.{if-some, add, add-run, adds}
 use Rattle.engine.specs.Modes.{decide}
 use Rattle.engine.specs.Modes as modes
@@ -38,6 +39,7 @@ use Rattle.engine_places.proofs.Stack.{Places, pushed}
 use Rattle.engine_places.proofs.Full.{s-log-rule, s-release, s-next, s-begin-now}
 use Rattle.engine_places.proofs.Overflow.{overflow-stays, c-log, c-release, c-begin}
 use Rattle.engine_places.proofs.Relation.{GoodRun, Made, NewRun, Live, Sim, live, follow, weaker, runs-are, add-run-is, stored, removed, dropped, count-is, line-test, no-rule}
+use Rattle.engine_places.proofs.Words.{Tells}
 use Rattle.engine_places.proofs.Pool.{pool-is}
 use Rattle.engine_places.proofs.Writes.{Over, log-rule-is, now-is}
 use Rattle.engine_places.proofs.Lists as lists
@@ -61,6 +63,9 @@ module _ (f x : List ℕ) (ts : List Text) (mo : Model) (tb : Tabled f x ts mo) 
 
   abbrev R : ARun → Run
   R = run-of x ts f
+
+  abbrev Says : ℕ → ℕ → Kind → Type 0
+  Says = Tells f x ts mo tb
 
   -- ---- the run at a place
 
@@ -122,20 +127,20 @@ module _ (f x : List ℕ) (ts : List Text) (mo : Model) (tb : Tabled f x ts mo) 
           let y : find (in-line (id-at x ts a)) (e .runs) ≡ none = ap (find (in-line (id-at x ts a))) (l .runs .is) ∙ q in
           rw (p, y) (live l)
 
-  complete : (n : ℕ) → kind-of x ts 14 n ≡ Kind.complete n
-  unfolding kind-of
-  complete n = refl
+  complete : (n : ℕ) → Says 14 n (Kind.complete n)
+  unfolding kind-of kind-number detail-number
+  complete n = record { is = refl; number = refl; detail = refl }
 
   -- the run at k ends
-  finish-old : {now : ℕ} {m : Machine} {e : Engine} → L now 0 m e → (k : ℕ) → k < length (m .runs) →
-      S now 0 (finish-runM k (getD (m .runs) k no-run) m) (finish now (R (getD (m .runs) k no-run)) e)
+  finish-old : {now s : ℕ} {m : Machine} {e : Engine} → L now s m e → (k : ℕ) → k < length (m .runs) →
+      S now s (finish-runM k (getD (m .runs) k no-run) m) (finish now (R (getD (m .runs) k no-run)) e)
   unfolding finish-runM outM finish run-of key-of
-  finish-old {now} {m} {e} l k h =
+  finish-old {now} {s} {m} {e} l k h =
       let r = getD (m .runs) k no-run in
       let g = run-good l k h in
       let l₁ = runs-are f x ts mo tb l (take k (m .runs) ++ drop (k + 1) (m .runs)) _ (removed f x ts mo tb (m .sequences) (m .runs) (e .runs) (l .runs) k h r g refl refl) in
       follow f x ts mo tb (releaseM (r .automation)) (release now (id-at x ts (r .automation)))
-      (log-rule-is f x ts mo tb (weaker f x ts mo tb (omega arith) l₁) 14 (r .number) (r .automation) (Kind.complete (r .number)) (complete (r .number)))
+      (log-rule-is f x ts mo tb l₁ 14 (r .number) (r .automation) (Kind.complete (r .number)) (complete (r .number)) (g .rule))
       (λ i. release-is i (r .automation) (g .rule))
       (λ n z p. s-release n z (r .automation) _ p)
       (λ n o. c-release (Over n) (overflow-stays n) now (id-at x ts (r .automation)) _ o)
@@ -145,12 +150,12 @@ module _ (f x : List ℕ) (ts : List Text) (mo : Model) (tb : Tabled f x ts mo) 
   unfolding finish run-of key-of
   same-finish now r s e a b c = rw (a, b, c)
 
-  pub finish-is : {now : ℕ} {m : Machine} {e : Engine} → L now 0 m e → (k : ℕ) (r : ARun) → Keyed k r m →
-      S now 0 (finishM k m) (finish now (R r) e)
+  pub finish-is : {now s : ℕ} {m : Machine} {e : Engine} → L now s m e → (k : ℕ) (r : ARun) → Keyed k r m →
+      S now s (finishM k m) (finish now (R r) e)
   unfolding finishM
-  finish-is {now} {m} {e} l k r w =
+  finish-is {now} {s} {m} {e} l k r w =
       rw (run-is l k (w .inside))
-      (subst (S now 0 (finish-runM k (getD (m .runs) k no-run) m)) (same-finish now (getD (m .runs) k no-run) r e (w .automation) (w .sequence) (w .number)) (finish-old l k (w .inside)))
+      (subst (S now s (finish-runM k (getD (m .runs) k no-run) m)) (same-finish now (getD (m .runs) k no-run) r e (w .automation) (w .sequence) (w .number)) (finish-old l k (w .inside)))
 
   -- ---- beginnings
 
@@ -186,13 +191,13 @@ module _ (f x : List ℕ) (ts : List Text) (mo : Model) (tb : Tabled f x ts mo) 
         number = more-is n o ∙ ap (λ (y : ℕ). y + 1) (g .count);
       })
 
-  starting : (n : ℕ) → kind-of x ts 12 n ≡ Kind.start n
-  unfolding kind-of
-  starting n = refl
+  starting : (n : ℕ) → Says 12 n (Kind.start n)
+  unfolding kind-of kind-number detail-number
+  starting n = record { is = refl; number = refl; detail = refl }
 
-  queueing : (n : ℕ) → kind-of x ts 13 n ≡ Kind.queued n
-  unfolding kind-of
-  queueing n = refl
+  queueing : (n : ℕ) → Says 13 n (Kind.queued n)
+  unfolding kind-of kind-number detail-number
+  queueing n = record { is = refl; number = refl; detail = refl }
 
   -- the automation
   abbrev A : ℕ → Automation
@@ -205,11 +210,11 @@ module _ (f x : List ℕ) (ts : List Text) (mo : Model) (tb : Tabled f x ts mo) 
   pub pass-is : (i : ℕ) → i < rules → Pass (mo .scenario .entities) (pool-of mo) 0 (A i .actions)
   pass-is i h = record { before = row i h .before; after = row i h .after; is = row i h .checked; told = pool-is f x ts mo tb i h .told }
 
-  module _ {now : ℕ} {m : Machine} {e : Engine} (l : L now 0 m e) (i : ℕ) (h : i < rules) where
+  module _ {now s : ℕ} {m : Machine} {e : Engine} (l : L now (suc s) m e) (i : ℕ) (h : i < rules) where
     begins-here : (later : Bool) → Begins (m .sequences) i later (e .made) (newRun f x i later (m .made) (m .sequences))
     begins-here later =
         begins i h later (m .made) (m .sequences) (e .made) (l .made)
-        (omega (arith, l .low .made-low, l .sizes .fits, l .sizes .word)) (pass-is i h)
+        (omega (arith, l .low .made-low)) (pass-is i h)
 
     module _ (r : ARun) (b : Begins (m .sequences) i false (e .made) r) where
       begin-eq : begin now (A i) false e ≡ adds (next-step now (R r) ∷ []) (log-rule now (Kind.start (r .number)) (id-at x ts (r .automation)) (add-run (R r) e))
@@ -224,13 +229,13 @@ module _ (f x : List ℕ) (ts : List Text) (mo : Model) (tb : Tabled f x ts mo) 
       rule-low : r .automation < rules
       rule-low = rw (b .new .automation) h
 
-      begin-run-is : S now 0 (begin-runM i r m) (begin now (A i) false e)
+      begin-run-is : S now s (begin-runM i r m) (begin now (A i) false e)
       unfolding begin-runM adds through
       begin-run-is = rw begin-eq (
           follow f x ts mo tb (λ (k : Machine). nowM r k) (add (next-step now (R r)))
           (follow f x ts mo tb (log-ruleM 12 (r .number) (r .automation)) (log-rule now (Kind.start (r .number)) (id-at x ts (r .automation)))
-          (add-run-is f x ts mo tb (omega arith) l i h r (b .new))
-          (λ k. log-rule-is f x ts mo tb k 12 (r .number) (r .automation) (Kind.start (r .number)) (starting (r .number)))
+          (add-run-is f x ts mo tb l i h r (b .new))
+          (λ k. log-rule-is f x ts mo tb k 12 (r .number) (r .automation) (Kind.start (r .number)) (starting (r .number)) rule-low)
           (λ n z p. s-log-rule n z 12 (r .number) (r .automation) _ p)
           (λ n o. over-rule n now (Kind.start (r .number)) (id-at x ts (r .automation)) _ o))
           (λ k. now-is f x ts mo tb k r rule-low)
@@ -245,35 +250,35 @@ module _ (f x : List ℕ) (ts : List Text) (mo : Model) (tb : Tabled f x ts mo) 
           ∙ ap (λ (t : Text). log-rule now (Kind.queued (r .number)) t (add-run (R r) e))
           (id-is i h ∙ ap (id-at x ts) (sym (b .new .automation)))
 
-      begin-queued-is : S now 0 (begin-queuedM i r m) (begin now (A i) true e)
+      begin-queued-is : S now s (begin-queuedM i r m) (begin now (A i) true e)
       unfolding begin-queuedM
       begin-queued-is = rw later-eq (
           follow f x ts mo tb (log-ruleM 13 (r .number) (r .automation))
           (log-rule now (Kind.queued (r .number)) (id-at x ts (r .automation)))
-          (add-run-is f x ts mo tb (omega arith) l i h r (b .new))
-          (λ k. log-rule-is f x ts mo tb k 13 (r .number) (r .automation) (Kind.queued (r .number)) (queueing (r .number)))
+          (add-run-is f x ts mo tb l i h r (b .new))
+          (λ k. log-rule-is f x ts mo tb k 13 (r .number) (r .automation) (Kind.queued (r .number)) (queueing (r .number)) (rw (b .new .automation) h))
           (λ n z p. s-log-rule n z 13 (r .number) (r .automation) _ p)
           (λ n o. over-rule n now (Kind.queued (r .number)) (id-at x ts (r .automation)) _ o))
 
-    pub begin-now-is : S now 0 (begin-nowM f x i m) (begin now (A i) false e)
+    pub begin-now-is : S now s (begin-nowM f x i m) (begin now (A i) false e)
     unfolding begin-nowM
     begin-now-is = begin-run-is (newRun f x i false (m .made) (m .sequences)) (begins-here false)
 
-    pub begin-later-is : S now 0 (begin-laterM f x i m) (begin now (A i) true e)
+    pub begin-later-is : S now s (begin-laterM f x i m) (begin now (A i) true e)
     unfolding begin-laterM
     begin-later-is = begin-queued-is (newRun f x i true (m .made) (m .sequences)) (begins-here true)
 
-  cancelling : kind-of x ts 5 0 ≡ Kind.cancel
-  unfolding kind-of
-  cancelling = refl
+  cancelling : Says 5 0 Kind.cancel
+  unfolding kind-of kind-number detail-number
+  cancelling = record { is = refl; number = refl; detail = refl }
 
-  running : kind-of x ts 6 0 ≡ Kind.single-running
-  unfolding kind-of
-  running = refl
+  running : Says 6 0 Kind.single-running
+  unfolding kind-of kind-number detail-number
+  running = record { is = refl; number = refl; detail = refl }
 
-  reached : kind-of x ts 7 0 ≡ Kind.max-reached
-  unfolding kind-of
-  reached = refl
+  reached : Says 7 0 Kind.max-reached
+  unfolding kind-of kind-number detail-number
+  reached = record { is = refl; number = refl; detail = refl }
 
   -- ---- what becomes of a trigger
 
@@ -307,11 +312,11 @@ module _ (f x : List ℕ) (ts : List Text) (mo : Model) (tb : Tabled f x ts mo) 
       by true = refl
       by false = refl
 
-  module _ {now : ℕ} {m : Machine} {e : Engine} (l : L now 0 m e) (i : ℕ) (h : i < rules) where
-    told-rule : (k : ℕ) (K : Kind) → kind-of x ts k 0 ≡ K → S now 0 (log-ruleM k 0 i m) (log-rule now K (A i .id) e)
-    told-rule k K o = rw (id-is i h) (log-rule-is f x ts mo tb (weaker f x ts mo tb (omega arith) l) k 0 i K o)
+  module _ {now s : ℕ} {m : Machine} {e : Engine} (l : L now (suc s) m e) (i : ℕ) (h : i < rules) where
+    told-rule : (k : ℕ) (K : Kind) → Says k 0 K → S now s (log-ruleM k 0 i m) (log-rule now K (A i .id) e)
+    told-rule k K o = rw (id-is i h) (log-rule-is f x ts mo tb (weaker f x ts mo tb (omega arith) l) k 0 i K o h)
 
-    decided-is : (d : Decision) → S now 0 (decidedM f x i d m) (carry-out now (decision-of d) (A i) e)
+    decided-is : (d : Decision) → S now s (decidedM f x i d m) (carry-out now (decision-of d) (A i) e)
     unfolding decidedM carry-out stop-startM dropM
     decided-is AlreadyRunning = told-rule 6 Kind.single-running running
     decided-is MaxReached = told-rule 7 Kind.max-reached reached
@@ -319,13 +324,13 @@ module _ (f x : List ℕ) (ts : List Text) (mo : Model) (tb : Tabled f x ts mo) 
     decided-is StopAndStart =
         let l₁ = runs-are f x ts mo tb l _ _ (dropped f x ts mo tb (m .sequences) (m .runs) (e .runs) (l .runs) i h) in
         follow f x ts mo tb (begin-nowM f x i) (begin now (A i) false)
-        (rw (id-is i h) (log-rule-is f x ts mo tb (weaker f x ts mo tb (omega arith) l₁) 5 0 i Kind.cancel cancelling))
+        (rw (id-is i h) (log-rule-is f x ts mo tb l₁ 5 0 i Kind.cancel cancelling h))
         (λ k. begin-now-is k i h)
         (λ n z p. s-begin-now n z f x i _ p)
         (λ n o. c-begin (Over n) (overflow-stays n) now (A i) false _ o)
     decided-is WaitInLine = begin-later-is l i h
 
-    pub carry-is : S now 0 (carry-outM f x i m) (carry-out now (decide (A i .mode) (A i .max) (tally (of-rule (A i .id)) (e .runs))) (A i) e)
+    pub carry-is : S now s (carry-outM f x i m) (carry-out now (decide (A i .mode) (A i .max) (tally (of-rule (A i .id)) (e .runs))) (A i) e)
     unfolding carry-outM carry-withM
     carry-is =
         let w = row i h in

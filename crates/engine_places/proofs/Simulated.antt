@@ -19,6 +19,7 @@ use Rattle.model.specs.Model.{Event, Automation, Model}
 use Rattle.queue.specs.declared.Work.{Work as QWork}
 use Rattle.engine.specs.Cells.{Cell}
 use Rattle.engine.specs.Records.{Work, Item, Kind, Run, Areas, Engine}
+use Rattle.engine.specs.Words.{kind-number, detail-number}
 use Rattle.engine.specs.Changes.{add, append, adds}
 use Rattle.engine.specs.Unsupported.{unsupported, rule-reasons}
 use Rattle.engine.specs.Reasons.{space-spent, steps-spent, runs-left}
@@ -38,7 +39,8 @@ use Rattle.engine_places.proofs.Full.{Stuck, s-add, s-expiry, s-log-pla
 use Rattle.engine_places.proofs.Overflow.{overflow-stays, c-adds}
 use Rattle.engine_places.proofs.Pigeons.{Differ, Among}
 use Rattle.engine_places.proofs.Pool.{mem-left, among-to, among-self}
-use Rattle.engine_places.proofs.Relation.{GoodWork, Live, Sim, live, dead, follow, weaker, add-is}
+use Rattle.engine_places.proofs.Relation.{GoodWork, Live, Sim, live, dead, follow, add-is}
+use Rattle.engine_places.proofs.Words.{Tells}
 use Rattle.engine_places.proofs.Writes.{Over, log-plain-is, expiry-is}
 use Rattle.engine_places.proofs.Loop.{reasons-of, Ends, lives, stuck, loop-is}
 use Rattle.engine_places.proofs.Lists as lists
@@ -105,6 +107,10 @@ module _ (f x : List ℕ) (ts : List Text) (mo : Model) (tb : Tabled f x ts mo) 
   abbrev horizon : ℕ
   horizon = mo .scenario .limits .horizon
 
+  -- at most 10,000 steps, with at most 32 runs begun at each
+  abbrev most : ℕ
+  most = 320000
+
   -- the event that stands at the i-th four words
   pub record EventAt (l : List ℕ) (i : ℕ) (v : Event) : Type 0 where
     pub second : getD l (i * 4) 0 ≡ v .at
@@ -129,12 +135,11 @@ module _ (f x : List ℕ) (ts : List Text) (mo : Model) (tb : Tabled f x ts mo) 
     pub queue-size : m .queueSize ≡ areas .queue
     pub record-size : m .recordSize ≡ areas .records
     pub run-size : m .runSize ≡ areas .runs
-    pub word : m .recordSize ≤ 4294967000
 
   abbrev empty : Areas → List Cell → Engine
   empty areas cells = record { cells = cells; queue = []; runs = []; made = []; trace = []; unknown = unsupported (mo .rules); overflow = none; areas = areas }
 
-  start-is : (m : Machine) (areas : Areas) (cells : List Cell) → Beginning m areas cells → L 0 0 m (empty areas cells)
+  start-is : (m : Machine) (areas : Areas) (cells : List Cell) → Beginning m areas cells → L 0 most m (empty areas cells)
   unfolding each tally
   start-is m areas cells b = record {
     time = b .now;
@@ -142,22 +147,22 @@ module _ (f x : List ℕ) (ts : List Text) (mo : Model) (tb : Tabled f x ts mo) 
     free = b .full;
     calm = refl;
     queue = record { is = rw (b .queue); good = rw (b .queue) tt };
-    records = rw (b .records);
+    records = record { is = rw (b .records); words = rw (b .records) tt };
     runs = record { is = rw (b .runs); good = rw (b .runs) tt; order = tt };
     cells = record { is = b .cells-are; valued = b .valued; long = b .versions-long };
     reasons = record { is = b .reasons; differ = static-differ (mo .rules); among = static-among mo };
     made = record { count = b .made; long = b .sequences-long; each-rule = λ i h. b .sequences i };
-    low = record { made-low = omega (arith, b .made); version-low = λ e. omega (arith, b .versions e); slack = omega arith };
-    sizes = record { queue = b .queue-size; records-are = b .record-size; runs = b .run-size; fits = omega (arith, ap length (b .records)); word = b .word };
+    low = record { made-low = omega (arith, b .made); version-low = λ e. omega (arith, b .versions e) };
+    sizes = record { queue = b .queue-size; records-are = b .record-size; runs = b .run-size };
   }
 
-  initial : kind-of x ts 0 0 ≡ Kind.initial
-  unfolding kind-of
-  initial = refl
+  initial : Tells f x ts mo tb 0 0 Kind.initial
+  unfolding kind-of kind-number detail-number
+  initial = record { is = refl; number = refl; detail = refl }
 
-  last : kind-of x ts 9 0 ≡ Kind.horizon
-  unfolding kind-of
-  last = refl
+  last : Tells f x ts mo tb 9 0 Kind.horizon
+  unfolding kind-of kind-number detail-number
+  last = record { is = refl; number = refl; detail = refl }
 
   adds-end : (l : List Item) (i : Item) (e : Engine) → adds (l ++ i ∷ []) e ≡ add i (adds l e)
   unfolding adds through
@@ -171,8 +176,8 @@ module _ (f x : List ℕ) (ts : List Text) (mo : Model) (tb : Tabled f x ts mo) 
 
   -- ---- the events
 
-  event-is : {m : Machine} {e : Engine} → L 0 0 m e → (l : List ℕ) (i : ℕ) (v : Event) → EventAt l i v →
-      S 0 0 (add-eventM l i m) (add (event-item v) e)
+  event-is : {m : Machine} {e : Engine} → L 0 most m e → (l : List ℕ) (i : ℕ) (v : Event) → EventAt l i v →
+      S 0 most (add-eventM l i m) (add (event-item v) e)
   unfolding add-eventM event-item item-of
   event-is {m} {e} l k i v a =
       let w = eventW (getD k (i * 4 + 1) 0) (getD k (i * 4 + 2) 0) (getD k (i * 4 + 3) 0) in
@@ -183,13 +188,13 @@ module _ (f x : List ℕ) (ts : List Text) (mo : Model) (tb : Tabled f x ts mo) 
   add-event-stuck l i n m z p = s-add n z _ _ m p
 
   events-are : (l : List ℕ) (d : Event) (vs : List Event) → ((i : ℕ) → i < length vs → EventAt l i (getD vs i d)) →
-      (n : ℕ) → n ≤ length vs → {m : Machine} {e : Engine} → S 0 0 m e →
-      S 0 0 (add-eventsM l n m) (adds (each event-item (take n vs)) e)
+      (n : ℕ) → n ≤ length vs → {m : Machine} {e : Engine} → S 0 most m e →
+      S 0 most (add-eventsM l n m) (adds (each event-item (take n vs)) e)
   unfolding add-eventsM each adds through
   events-are l d vs h zero o s = s
   events-are l d vs h (suc n) o {m} {e} s =
       let y : each event-item (take (suc n) vs) ≡ each event-item (take n vs) ++ event-item (getD vs n d) ∷ [] = ap (each event-item) (take-suc vs n d o) ∙ lists.each-one event-item (take n vs) (getD vs n d) in
-      subst (S 0 0 (add-eventM l n (add-eventsM l n m)))
+      subst (S 0 most (add-eventM l n (add-eventsM l n m)))
       (sym (ap (λ (k : List Item). adds k e) y ∙ adds-end (each event-item (take n vs)) (event-item (getD vs n d)) e))
       (follow f x ts mo tb (add-eventM l n) (add (event-item (getD vs n d))) (events-are l d vs h n (omega arith) s)
       (λ k. event-is k l n (getD vs n d) (h n o))
@@ -243,24 +248,24 @@ module _ (f x : List ℕ) (ts : List Text) (mo : Model) (tb : Tabled f x ts mo) 
       ∙ sym (append-assoc (expiry 0 y) (flat (expiry 0) l) (expiry 0 c))
 
   expiries-are : (vs ns : List ℕ) (n : ℕ) → n ≤ length (mo .scenario .entities) → {m : Machine} {e : Engine} →
-      m .values ≡ vs → m .versions ≡ ns → S 0 0 m e →
-      S 0 0 (expiriesM x n m) (adds (flat (expiry 0) (cells-from x ts vs ns n 0)) e)
+      m .values ≡ vs → m .versions ≡ ns → S 0 most m e →
+      S 0 most (expiriesM x n m) (adds (flat (expiry 0) (cells-from x ts vs ns n 0)) e)
   unfolding expiriesM flat adds through cells-from
   expiries-are vs ns zero o a b s = s
   expiries-are vs ns (suc n) o {m} {e} a b s =
       let z : 0 + n ≡ n = omega arith in
       let y : adds (flat (expiry 0) (cells-from x ts vs ns (suc n) 0)) e ≡ adds (expiry 0 (cell-at x ts vs ns n)) (adds (flat (expiry 0) (cells-from x ts vs ns n 0)) e) = ap (λ (l : List Cell). adds (flat (expiry 0) l) e) (cells-more vs ns n 0 ∙ ap (λ (i : ℕ). cells-from x ts vs ns n 0 ++ cell-at x ts vs ns i ∷ []) z) ∙ ap (λ (l : List Item). adds l e) (flat-end (cells-from x ts vs ns n 0) (cell-at x ts vs ns n)) ∙ adds-both (flat (expiry 0) (cells-from x ts vs ns n 0)) (expiry 0 (cell-at x ts vs ns n)) e in
       let w = expiries-same n m in
-      subst (S 0 0 (expiryM x n (expiriesM x n m))) (sym y)
+      subst (S 0 most (expiryM x n (expiriesM x n m))) (sym y)
       (follow f x ts mo tb (expiryM x n) (adds (expiry 0 (cell-at x ts vs ns n))) (expiries-are vs ns n (omega arith) a b s)
       (λ k. at-cell n o _ _ (w .values ∙ a) (w .versions ∙ b) k)
       (λ i q p. s-expiry i q x n _ p)
       (λ i q. c-adds (Over i) (overflow-stays i) (expiry 0 (cell-at x ts vs ns n)) _ q))
     where
       at-cell : (n : ℕ) → n < length (mo .scenario .entities) → (k : Machine) (d : Engine) → k .values ≡ vs →
-          k .versions ≡ ns → L 0 0 k d → S 0 0 (expiryM x n k) (adds (expiry 0 (cell-at x ts vs ns n)) d)
+          k .versions ≡ ns → L 0 most k d → S 0 most (expiryM x n k) (adds (expiry 0 (cell-at x ts vs ns n)) d)
       at-cell n o k d a b l =
-          subst (λ (c : Cell). S 0 0 (expiryM x n k) (adds (expiry 0 c) d))
+          subst (λ (c : Cell). S 0 most (expiryM x n k) (adds (expiry 0 c) d))
           (ap (λ (y : List ℕ). cell-at x ts y (k .versions) n) a ∙ ap (λ (y : List ℕ). cell-at x ts vs y n) b)
           (expiry-is f x ts mo tb l n o)
 
@@ -286,23 +291,23 @@ module _ (f x : List ℕ) (ts : List Text) (mo : Model) (tb : Tabled f x ts mo) 
       record { values = b .values ∙ a .values; versions = b .versions ∙ a .versions }
 
   module _ (m : Machine) (areas : Areas) (cells : List Cell) (b : Beginning m areas cells) (l : List ℕ) (d : Event) (vs : List Event) (evs : (i : ℕ) → i < length vs → EventAt l i (getD vs i d)) where
-    first-record : S 0 0 (log-plainM 0 m) (log 0 Kind.initial none none none (empty areas cells))
+    first-record : S 0 most (log-plainM 0 m) (log 0 Kind.initial none none none (empty areas cells))
     first-record =
-        log-plain-is f x ts mo tb (weaker f x ts mo tb (omega arith) (start-is m areas cells b)) 0 Kind.initial initial
+        log-plain-is f x ts mo tb (start-is m areas cells b) 0 Kind.initial initial
 
-    all-events : S 0 0 (add-eventsM l (length vs) (log-plainM 0 m)) (adds (each event-item vs) (log 0 Kind.initial none none none (empty areas cells)))
+    all-events : S 0 most (add-eventsM l (length vs) (log-plainM 0 m)) (adds (each event-item vs) (log 0 Kind.initial none none none (empty areas cells)))
     all-events =
         subst
-        (λ (k : List Event). S 0 0 (add-eventsM l (length vs) (log-plainM 0 m)) (adds (each event-item k) (log 0 Kind.initial none none none (empty areas cells))))
+        (λ (k : List Event). S 0 most (add-eventsM l (length vs) (log-plainM 0 m)) (adds (each event-item k) (log 0 Kind.initial none none none (empty areas cells))))
         (take-all (length vs) vs (omega arith)) (events-are l d vs evs (length vs) (omega arith) first-record)
 
-    begun-is : S 0 0 (begunM x l (length vs) m) (begun areas cells (unsupported (mo .rules)) vs)
+    begun-is : S 0 most (begunM x l (length vs) m) (begun areas cells (unsupported (mo .rules)) vs)
     unfolding begunM add-expiriesM begun cells-of
     begun-is =
         let u = log-same 0 m in
         let w = events-same l (length vs) (log-plainM 0 m) in
         subst
-        (λ (k : List Cell). S 0 0 (expiriesM x (entities x) (add-eventsM l (length vs) (log-plainM 0 m))) (adds (flat (expiry 0) k) (adds (each event-item vs) (log 0 Kind.initial none none none (empty areas cells)))))
+        (λ (k : List Cell). S 0 most (expiriesM x (entities x) (add-eventsM l (length vs) (log-plainM 0 m))) (adds (flat (expiry 0) k) (adds (each event-item vs) (log 0 Kind.initial none none none (empty areas cells)))))
         (sym (b .cells-are))
         (expiries-are (m .values) (m .versions) (entities x) (omega (arith, entities-are f x ts mo tb)) (w .values ∙ u .values) (w .versions ∙ u .versions) all-events)
 
@@ -401,7 +406,7 @@ module _ (f x : List ℕ) (ts : List Text) (mo : Model) (tb : Tabled f x ts mo) 
             let i : d .incomplete ≡ [] = told ∙ rw a in
             let o : d .incomplete ++ left-over (d .engine .runs) ≡ [] = ap (λ (y : List Text). y ++ left-over (d .engine .runs)) i ∙ n in
             rw (finished a b, all-done d o)
-            (at-end n (log-plain-is f x ts mo tb (weaker f x ts mo tb (omega arith) at-horizon) 9 Kind.horizon last))
+            (at-end n (log-plain-is f x ts mo tb at-horizon 9 Kind.horizon last))
           where
             at-end : left-over (d .engine .runs) ≡ [] →
                 S horizon 0 (log-plainM 9 (put-now (getD x 2 0) (p .last))) (log horizon Kind.horizon none none none (d .engine)) →
@@ -432,4 +437,4 @@ module _ (f x : List ℕ) (ts : List Text) (mo : Model) (tb : Tabled f x ts mo) 
   ended-is m areas cells b l d vs evs =
       let z : 0 + mo .scenario .limits .max-steps ≡ mo .scenario .limits .max-steps = omega arith in
       rw (tb .steps)
-      (closed-is _ _ _ (subst (Ends f x ts mo tb _ _) z (loop-is f x ts mo tb (mo .scenario .limits .max-steps) 0 (begun-is m areas cells b l d vs evs))))
+      (closed-is _ _ _ (subst (Ends f x ts mo tb _ _) z (loop-is f x ts mo tb (mo .scenario .limits .max-steps) 0 (omega (arith, tb .few-steps)) (begun-is m areas cells b l d vs evs))))

@@ -224,6 +224,7 @@ tabled f x ts m acc w = record {
   horizon = w .horizon;
   day = law .day-long;
   steps = w .steps;
+  few-steps = law .few-steps;
   columns = λ d e h. column d e h;
   rows = λ d i h. row d i h;
   names-differ = λ i j h k e. same-entity (m .scenario .entities) ascends no-entity i j h k (w .names no-entity i h .name-is ∙ ap (λ (y : ℕ). getD ts y []) e ∙ sym (w .names no-entity j k .name-is));

@@ -21,6 +21,7 @@ use Rattle.runs.specs.declared.Phase.the-variants as phase
 use Rattle.engine.specs.Kleene as kleene
 use Rattle.engine.specs.Truth.{matches, evaluate-all}
 use Rattle.engine.specs.Records.{Run, Waiting, Item, Kind, Engine}
+use Rattle.engine.specs.Words.{truth-number, kind-number, detail-number}
 use Rattle.engine.specs.Changes.{with-runs, add, adds}
 use Rattle.engine.specs.Reasons.{unknown-trigger-condition}
 use Rattle.engine.specs.Engine.{waits, awaits, woken, next-step, log, wake, admit, offer}
@@ -44,6 +45,7 @@ use Rattle.engine_places.proofs.Truth.{Moved, matches-is, any-is, all-i
 use Rattle.engine_places.proofs.Full.{s-admit, s-offer, s-wake-one}
 use Rattle.engine_places.proofs.Overflow.{overflow-stays, c-admit, c-offers}
 use Rattle.engine_places.proofs.Relation.{GoodRun, GoodPhase, Running, Live, Sim, live, dead, follow, weaker, runs-are, placed, uncertain-is, no-rule}
+use Rattle.engine_places.proofs.Words.{Tells}
 use Rattle.engine_places.proofs.Pool.{pool-is, trigger-reason}
 use Rattle.engine_places.proofs.Writes.{Over, log-at-is, now-is}
 use Rattle.engine_places.proofs.Runs.{row, id-is, run-good, run-is, carry-is}
@@ -236,42 +238,42 @@ module _ (f x : List ℕ) (ts : List Text) (mo : Model) (tb : Tabled f x ts mo) 
       by (suc n) s c e = let o = more (place ts) f n s e in noted (ne-eqb (two f p) 0 (λ y. absurd (omega (arith, two-is f p c)))) (o .first) (o .others) (o .both)
 
   module _ (now i : ℕ) (h : i < rules) where
-    admit-is : {m : Machine} {e : Engine} → L now 0 m e → (t : Truth) →
-        S now 0 (admitM f x i t m) (admit now (truth-of t) (A i) e)
+    admit-is : {room : ℕ} {m : Machine} {e : Engine} → L now (suc room) m e → (t : Truth) →
+        S now room (admitM f x i t m) (admit now (truth-of t) (A i) e)
     unfolding admitM admit
-    admit-is {m} {e} l Yes =
+    admit-is {room} {m} {e} l Yes =
         by (notes-are (word x i 7) (A i .notes) (row f x ts mo tb i h .notes .0) (row f x ts mo tb i h .notes .1))
       where
-        by : Noted (word x i 7) (A i .notes) → S now 0 (admitM f x i Yes m) (admit now kleene.Yes (A i) e)
+        by : Noted (word x i 7) (A i .notes) → S now room (admitM f x i Yes m) (admit now kleene.Yes (A i) e)
         by (clear b z) = rw (b, z, admit) (carry-is f x ts mo tb l i h)
-        by (noted b t k z) = rw (b, z, admit) (live l)
-    admit-is l No = live l
-    admit-is {m} {e} l Unknown =
+        by (noted b t k z) = rw (b, z, admit) (live (weaker f x ts mo tb (omega arith) l))
+    admit-is l No = live (weaker f x ts mo tb (omega arith) l)
+    admit-is {room} {m} {e} l Unknown =
         rw (id-is f x ts mo tb i h)
-        (live (uncertain-is f x ts mo tb l (aboutRule f x i 7) (unknown-trigger-condition (id-at x ts i)) (trigger-reason f x ts mo tb i h) (pool-is f x ts mo tb i h .trigger)))
+        (live (uncertain-is f x ts mo tb (weaker f x ts mo tb (omega arith) l) (aboutRule f x i 7) (unknown-trigger-condition (id-at x ts i)) (trigger-reason f x ts mo tb i h) (pool-is f x ts mo tb i h .trigger)))
 
-    triggering : (t : Truth) → kind-of x ts 10 (numberT t) ≡ Kind.trigger (truth-of t)
-    unfolding kind-of verdict-of
-    triggering Yes = refl
-    triggering No = refl
-    triggering Unknown = refl
+    triggering : (t : Truth) → Tells f x ts mo tb 10 (numberT t) (Kind.trigger (truth-of t))
+    unfolding kind-of verdict-of kind-number detail-number truth-number
+    triggering Yes = record { is = refl; number = refl; detail = refl }
+    triggering No = record { is = refl; number = refl; detail = refl }
+    triggering Unknown = record { is = refl; number = refl; detail = refl }
 
-    offer-as-is : {m : Machine} {e : Engine} → L now 0 m e → (t : Truth) →
-        S now 0 (offer-asM f x i t m)
+    offer-as-is : {room : ℕ} {m : Machine} {e : Engine} → L now (suc room) m e → (t : Truth) →
+        S now room (offer-asM f x i t m)
         (admit now (truth-of t) (A i) (log now (Kind.trigger (truth-of t)) (some (A i .id)) (some (A i .source)) none e))
     unfolding offer-asM log-triggerM
-    offer-as-is {m} {e} l t =
+    offer-as-is {room} {m} {e} l t =
         let s = source-is f (word x i 6) (row f x ts mo tb i h .source .1) in
         follow f x ts mo tb (admitM f x i t) (admit now (truth-of t) (A i))
-        (rw (id-is f x ts mo tb i h, s .line, s .column) (log-at-is f x ts mo tb (weaker f x ts mo tb (omega arith) l) 10 (numberT t) i (A i .source .line) (A i .source .column) (Kind.trigger (truth-of t)) (triggering t)))
+        (rw (id-is f x ts mo tb i h, s .line, s .column) (log-at-is f x ts mo tb l 10 (numberT t) i (A i .source .line) (A i .source .column) (Kind.trigger (truth-of t)) (triggering t) h))
         (λ k. admit-is k t)
         (λ n z p. s-admit n z f x i t _ p)
         (λ n o. c-admit (Over n) (overflow-stays n) now (truth-of t) (A i) _ o)
 
-    offer-is : (v : Move) → Moved f x ts mo tb v → {m : Machine} {e : Engine} → L now 0 m e →
-        S now 0 (offerM f x v i m) (offer now (T (v .entity)) (T (v .from)) (T (v .to)) (A i) e)
+    offer-is : (v : Move) → Moved f x ts mo tb v → {room : ℕ} {m : Machine} {e : Engine} → L now (suc room) m e →
+        S now room (offerM f x v i m) (offer now (T (v .entity)) (T (v .from)) (T (v .to)) (A i) e)
     unfolding offerM offer
-    offer-is v w {m} {e} l = by (case (anyT f v (word x i 3)))
+    offer-is v w {room} {m} {e} l = by (case (anyT f v (word x i 3)))
       where
         r : Row f x ts (mo .scenario .entities) i (A i)
         r = row f x ts mo tb i h
@@ -286,9 +288,9 @@ module _ (f x : List ℕ) (ts : List Text) (mo : Model) (tb : Tabled f x ts mo) 
             ∙ ap (evaluate-all (A i .conditions)) (sym (l .cells .is))
 
         by : Case (anyT f v (word x i 3)) →
-            S now 0 (offerM f x v i m) (offer now (T (v .entity)) (T (v .from)) (T (v .to)) (A i) e)
+            S now room (offerM f x v i m) (offer now (T (v .entity)) (T (v .from)) (T (v .to)) (A i) e)
         by (is-true b) = rw (b, sym same ∙ b, ← verdict) (offer-as-is l (allT f x (m .values) (word x i 4) .truth))
-        by (is-false b) = rw (b, sym same ∙ b) (live l)
+        by (is-false b) = rw (b, sym same ∙ b) (live (weaker f x ts mo tb (omega arith) l))
 
   through-end : {B : Type 0} (g : B → Engine → Engine) (l : List B) (b : B) (e : Engine) →
       through g (l ++ b ∷ []) e ≡ g b (through g l e)
@@ -300,15 +302,18 @@ module _ (f x : List ℕ) (ts : List Text) (mo : Model) (tb : Tabled f x ts mo) 
   unfolding through
   over-offer n now X Y Z r e o = c-offers (Over n) (overflow-stays n) now X Y Z (r ∷ []) e o
 
-  offers-is : (now : ℕ) (v : Move) → Moved f x ts mo tb v → (n : ℕ) → n ≤ rules → {m : Machine} {e : Engine} →
-      S now 0 m e →
-      S now 0 (offer-firstM f x v n m) (through (offer now (T (v .entity)) (T (v .from)) (T (v .to))) (take n (mo .rules)) e)
+  -- each of the n automations may begin a run
+  offers-is : (now : ℕ) (v : Move) → Moved f x ts mo tb v → (n room all : ℕ) → n ≤ rules → all ≡ n + room →
+      {m : Machine} {e : Engine} → S now all m e →
+      S now room (offer-firstM f x v n m) (through (offer now (T (v .entity)) (T (v .from)) (T (v .to))) (take n (mo .rules)) e)
   unfolding offer-firstM through
-  offers-is now v w zero h s = s
-  offers-is now v w (suc n) h {m} {e} s =
+  offers-is now v w zero room all h q {m} {e} s =
+      let z : all ≡ room = omega arith in
+      subst (λ (i : ℕ). S now i m e) z s
+  offers-is now v w (suc n) room all h q {m} {e} s =
       rw
       (take-suc (mo .rules) n no-rule (omega arith), through-end (offer now (T (v .entity)) (T (v .from)) (T (v .to))) (take n (mo .rules)) (A n) e)
-      (follow f x ts mo tb (offerM f x v n) (offer now (T (v .entity)) (T (v .from)) (T (v .to)) (A n)) (offers-is now v w n (omega arith) s)
+      (follow f x ts mo tb (offerM f x v n) (offer now (T (v .entity)) (T (v .from)) (T (v .to)) (A n)) (offers-is now v w n (suc room) all (omega arith) (omega arith) s)
       (λ k. offer-is now n (omega arith) v w k)
       (λ i z p. s-offer i z f x v n _ p)
       (λ i o. over-offer i now _ _ _ (A n) _ o))
@@ -339,7 +344,7 @@ module _ (f x : List ℕ) (ts : List Text) (mo : Model) (tb : Tabled f x ts mo) 
     abbrev to : Engine → ℕ → Engine
     to e n = wake-to now (T (v .entity)) (T (v .from)) (T (v .to)) e (R no-run) n
 
-    module _ {m : Machine} {e : Engine} (l : L now 0 m e) (n : ℕ) (h : n < length (m .runs)) where
+    module _ {room : ℕ} {m : Machine} {e : Engine} (l : L now room m e) (n : ℕ) (h : n < length (m .runs)) where
       abbrev r : ARun
       r = getD (m .runs) n no-run
 
@@ -367,7 +372,7 @@ module _ (f x : List ℕ) (ts : List Text) (mo : Model) (tb : Tabled f x ts mo) 
               ∙ overflow-stays i .on-add _ _ (overflow-stays i .on-runs _ _ o)
           by (is-false b) = ap (λ (y : Engine). y .overflow) (e-stay b) ∙ o
 
-      module _ (k : Machine) (u : Untouched f v n m k) (y : L now 0 k (to e n)) where
+      module _ (k : Machine) (u : Untouched f v n m k) (y : L now room k (to e n)) where
         long-k : n < length (k .runs)
         long-k = omega (arith, h, u .long)
 
@@ -384,7 +389,7 @@ module _ (f x : List ℕ) (ts : List Text) (mo : Model) (tb : Tabled f x ts mo) 
         unfolding run-of
         going = refl
 
-        woken-live : L now 0 (put-runM n (phaseR phase.Going r) k) (with-runs (set (to e n .runs) n (waits none (R r))) (to e n))
+        woken-live : L now room (put-runM n (phaseR phase.Going r) k) (with-runs (set (to e n .runs) n (waits none (R r))) (to e n))
         woken-live =
             runs-are f x ts mo tb y (set (k .runs) n (phaseR phase.Going r)) _
             (subst (λ (q : Run). Running f x ts mo tb (k .sequences) (set (k .runs) n (phaseR phase.Going r)) (set (to e n .runs) n q)) going (placed f x ts mo tb (k .sequences) (k .runs) (to e n .runs) (y .runs) n long-k (phaseR phase.Going r) calm-good (ap (λ (q : ARun). q .automation) same) (ap (λ (q : ARun). q .sequence) same)))
@@ -393,29 +398,29 @@ module _ (f x : List ℕ) (ts : List Text) (mo : Model) (tb : Tabled f x ts mo) 
         unfolding wake-oneM
         one-is = ap (λ (q : ARun). wake-runM f v n q k) (run-is f x ts mo tb y n long-k ∙ same)
 
-        live-step : S now 0 (wake-oneM f v n k) (to e (suc n))
+        live-step : S now room (wake-oneM f v n k) (to e (suc n))
         live-step = by (woke n r k (r .phase) refl (good .phase))
           where
-            by : Woke n r k → S now 0 (wake-oneM f v n k) (to e (suc n))
+            by : Woke n r k → S now room (wake-oneM f v n k) (to e (suc n))
             by (stays b o) = rw (one-is ∙ o, e-stay b) (live y)
             by (wakes b o) = rw (one-is ∙ o, e-wake b) (now-is f x ts mo tb woken-live r (good .rule))
 
-    wake-firsts : {m : Machine} {e : Engine} → L now 0 m e → (n : ℕ) → n ≤ length (m .runs) →
-        S now 0 (wake-firstM f v n m) (to e n)
+    wake-firsts : {room : ℕ} {m : Machine} {e : Engine} → L now room m e → (n : ℕ) → n ≤ length (m .runs) →
+        S now room (wake-firstM f v n m) (to e n)
     unfolding wake-firstM
-    wake-firsts {m} {e} l zero h = rw (to-none now (T (v .entity)) (T (v .from)) (T (v .to)) e (R no-run)) (live l)
-    wake-firsts {m} {e} l (suc n) h = by (wake-firsts l n (omega arith))
+    wake-firsts {room} {m} {e} l zero h = rw (to-none now (T (v .entity)) (T (v .from)) (T (v .to)) e (R no-run)) (live l)
+    wake-firsts {room} {m} {e} l (suc n) h = by (wake-firsts l n (omega arith))
       where
-        by : S now 0 (wake-firstM f v n m) (to e n) → S now 0 (wake-oneM f v n (wake-firstM f v n m)) (to e (suc n))
+        by : S now room (wake-firstM f v n m) (to e n) → S now room (wake-oneM f v n (wake-firstM f v n m)) (to e (suc n))
         by (live y) = live-step l n (omega arith) (wake-firstM f v n m) (wake-untouched f v n m) y
         by (dead i z p o) = dead i z (s-wake-one i z f v n _ p) (over-step l n (omega arith) i o)
 
-    pub wake-is : {m : Machine} {e : Engine} → L now 0 m e →
-        S now 0 (wakeM f v m) (wake now (T (v .entity)) (T (v .from)) (T (v .to)) e)
+    pub wake-is : {room : ℕ} {m : Machine} {e : Engine} → L now room m e →
+        S now room (wakeM f v m) (wake now (T (v .entity)) (T (v .from)) (T (v .to)) e)
     unfolding wakeM
-    wake-is {m} {e} l =
+    wake-is {room} {m} {e} l =
         let long = ap length (l .runs .is) ∙ lists.each-length R (m .runs) in
-        subst (S now 0 (wake-firstM f v (length (m .runs)) m))
+        subst (S now room (wake-firstM f v (length (m .runs)) m))
         (to-all now (T (v .entity)) (T (v .from)) (T (v .to)) e (R no-run) (length (m .runs)) (omega (arith, long)))
         (wake-firsts l (length (m .runs)) (omega arith))
 
@@ -423,10 +428,11 @@ module _ (f x : List ℕ) (ts : List Text) (mo : Model) (tb : Tabled f x ts mo) 
     unfolding reads.rules
     rules-are = most-is (getD x 1 0) 32 (omega (arith, tb .automations, tb .few-automations)) ∙ tb .automations
 
-    pub trigger-is : {m : Machine} {e : Engine} → L now 0 m e →
-        S now 0 (triggerM f x v m) (engine.trigger now (T (v .entity)) (T (v .from)) (T (v .to)) (mo .rules) e)
+    pub trigger-is : {room : ℕ} {m : Machine} {e : Engine} → L now (room + 32) m e →
+        S now room (triggerM f x v m) (engine.trigger now (T (v .entity)) (T (v .from)) (T (v .to)) (mo .rules) e)
     unfolding triggerM engine.trigger
-    trigger-is {m} {e} l =
-        let a = offers-is now v w rules (omega arith) (wake-is l) in
+    trigger-is {room} {m} {e} l =
+        let few : L now (rules + room) m e = weaker f x ts mo tb (omega (arith, tb .few-automations)) l in
+        let a = offers-is now v w rules room (rules + room) (omega arith) refl (wake-is few) in
         rw rules-are
-        (subst (λ (k : List Automation). S now 0 (offer-firstM f x v rules (wakeM f v m)) (through (offer now (T (v .entity)) (T (v .from)) (T (v .to))) k (wake now (T (v .entity)) (T (v .from)) (T (v .to)) e))) (take-all rules (mo .rules) (omega arith)) a)
+        (subst (λ (k : List Automation). S now room (offer-firstM f x v rules (wakeM f v m)) (through (offer now (T (v .entity)) (T (v .from)) (T (v .to))) k (wake now (T (v .entity)) (T (v .from)) (T (v .to)) e))) (take-all rules (mo .rules) (omega arith)) a)

@@ -32,12 +32,13 @@ use Rattle.engine_state.specs.Machine.{Machine, later, more, put-cells, raisedC
 use Rattle.engine_state.specs.Changes.{saying, addM, logM, log-ruleM, log-actionM, log-plainM, log-writeM, next-stepM}
 use Rattle.engine_steps.specs.Writes.{cells, move, expiryM, changedM, writeM, update-atM, updateM}
 use Rattle.engine_places.specs.Meaning as meaning
-use Rattle.engine_places.specs.Meaning.{id-at, key-of, kind-of, work-of, item-of, record-of, rule-of, where-of, source-of, stale-of, cell-at, cells-from, cells-of, run-of, Tabled}
+use Rattle.engine_places.specs.Meaning.{id-at, key-of, work-of, item-of, record-of, rule-of, where-of, source-of, stale-of, cell-at, cells-from, cells-of, run-of, Tabled}
 use Rattle.engine_places.proofs.Numbers.{later-is, more-is}
 use Rattle.engine_places.proofs.Truth.{Sought, here, nowhere, cell-is, cell-named, name-in, put-is, entities-are, Moved}
 use Rattle.engine_places.proofs.Full.{s-changed, s-log-write}
 use Rattle.engine_places.proofs.Overflow.{overflow-stays, c-adds, c-log}
 use Rattle.engine_places.proofs.Relation.{Celled, Low, Live, Sim, live, follow, add-is, log-is, cells-are}
+use Rattle.engine_places.proofs.Words.{Tells, GoodRule, worded}
 
 no-entity : Entity
 no-entity = record { name = []; domain = []; initial = []; tier = observational; stale-after = none }
@@ -61,42 +62,53 @@ module _ (f x : List ℕ) (ts : List Text) (mo : Model) (tb : Tabled f x ts mo) 
 
   -- ---- records
 
-  module _ {now s : ℕ} {m : Machine} {e : Engine} (l : L now (suc s) m e) where
-    pub log-rule-is : (k d a : ℕ) (K : Kind) → kind-of x ts k d ≡ K →
+  abbrev Says : ℕ → ℕ → Kind → Type 0
+  Says = Tells f x ts mo tb
+
+  module _ {now s : ℕ} {m : Machine} {e : Engine} (l : L now s m e) where
+    pub log-rule-is : (k d a : ℕ) (K : Kind) → Says k d K → a < length (mo .rules) →
         S now s (log-ruleM k d a m) (log-rule now K (id-at x ts a) e)
     unfolding log-ruleM log-rule log record-of
-    log-rule-is k d a K h =
+    log-rule-is k d a K h g =
         log-is f x ts mo tb l (saying k d) (Of a) Nowhere NoChange _
-        (ap (λ (y : Kind). record { at = now; kind = y; automation = some (id-at x ts a); source = none; change = none }) h)
+        (ap (λ (y : Kind). record { at = now; kind = y; automation = some (id-at x ts a); source = none; change = none }) (h .is))
+        (worded f x ts mo tb now k d (Of a) Nowhere NoChange K h g tt)
 
-    pub log-plain-is : (k : ℕ) (K : Kind) → kind-of x ts k 0 ≡ K → S now s (log-plainM k m) (log now K none none none e)
+    pub log-plain-is : (k : ℕ) (K : Kind) → Says k 0 K → S now s (log-plainM k m) (log now K none none none e)
     unfolding log-plainM log record-of
     log-plain-is k K h =
         log-is f x ts mo tb l (saying k 0) NoRule Nowhere NoChange _
-        (ap (λ (y : Kind). record { at = now; kind = y; automation = none; source = none; change = none }) h)
+        (ap (λ (y : Kind). record { at = now; kind = y; automation = none; source = none; change = none }) (h .is))
+        (worded f x ts mo tb now k 0 NoRule Nowhere NoChange K h tt tt)
 
-    pub log-action-is : (k d : ℕ) (src : ASource) (r : ARun) (K : Kind) → kind-of x ts k d ≡ K →
+    pub log-action-is : (k d : ℕ) (src : ASource) (r : ARun) (K : Kind) → Says k d K →
+        r .automation < length (mo .rules) →
         S now s (log-actionM k d src r m) (log-action now K (source-of src) (run-of x ts f r) e)
     unfolding log-actionM log-action log record-of run-of key-of
-    log-action-is k d src r K h =
+    log-action-is k d src r K h g =
         log-is f x ts mo tb l (saying k d) (Of (r .automation)) (From (src .line) (src .column)) NoChange _
-        (ap (λ (y : Kind). record { at = now; kind = y; automation = some (id-at x ts (r .automation)); source = some (source-of src); change = none }) h)
+        (ap (λ (y : Kind). record { at = now; kind = y; automation = some (id-at x ts (r .automation)); source = some (source-of src); change = none }) (h .is))
+        (worded f x ts mo tb now k d (Of (r .automation)) (From (src .line) (src .column)) NoChange K h g tt)
 
-    pub log-at-is : (k d a line column : ℕ) (K : Kind) → kind-of x ts k d ≡ K →
+    pub log-at-is : (k d a line column : ℕ) (K : Kind) → Says k d K → a < length (mo .rules) →
         S now s (logM (saying k d) (Of a) (From line column) NoChange m)
         (log now K (some (id-at x ts a)) (some (record { line = line; column = column })) none e)
     unfolding log record-of
-    log-at-is k d a line column K h =
+    log-at-is k d a line column K h g =
         log-is f x ts mo tb l (saying k d) (Of a) (From line column) NoChange _
-        (ap (λ (y : Kind). record { at = now; kind = y; automation = some (id-at x ts a); source = some (record { line = line; column = column }); change = none }) h)
+        (ap (λ (y : Kind). record { at = now; kind = y; automation = some (id-at x ts a); source = some (record { line = line; column = column }); change = none }) (h .is))
+        (worded f x ts mo tb now k d (Of a) (From line column) NoChange K h g tt)
 
-    pub log-write-is : (w : Setting) (v : Move) (K : Kind) → kind-of x ts (w .kind) 0 ≡ K →
+    pub log-write-is : (w : Setting) (v : Move) (K : Kind) → Says (w .kind) 0 K → GoodRule f x ts mo tb (w .rule) →
+        Moved f x ts mo tb v →
         S now s (log-writeM w v m)
         (log now K (rule-of x ts (w .rule)) (where-of (w .source)) (some (record { entity = T (v .entity); before = T (v .from); after = T (v .to) })) e)
     unfolding log-writeM log record-of
-    log-write-is w v K h =
+    log-write-is w v K h g i =
         log-is f x ts mo tb l (saying (w .kind) 0) (w .rule) (w .source) (Write (v .entity) (v .from) (v .to)) _
-        (ap (λ (y : Kind). record { at = now; kind = y; automation = rule-of x ts (w .rule); source = where-of (w .source); change = some (record { entity = T (v .entity); before = T (v .from); after = T (v .to) }) }) h)
+        (ap (λ (y : Kind). record { at = now; kind = y; automation = rule-of x ts (w .rule); source = where-of (w .source); change = some (record { entity = T (v .entity); before = T (v .from); after = T (v .to) }) }) (h .is))
+        (worded f x ts mo tb now (w .kind) 0 (w .rule) (w .source) (Write (v .entity) (v .from) (v .to)) K h g
+        (i .entity-in, (i .from-in, i .to-in)))
 
   -- ---- the queue
 
@@ -214,16 +226,19 @@ module _ (f x : List ℕ) (ts : List Text) (mo : Model) (tb : Tabled f x ts mo) 
   -- ---- a write
 
   -- a version raised by one
-  raised-low : {s records made : ℕ} {ns : List ℕ} (j : ℕ) → j < length ns → s ≤ 1 → Low f x ts mo tb s records made ns →
-      records ≤ 4294967000 → Low f x ts mo tb (suc s) records made (set ns j (more (getD ns j 0)))
-  raised-low {s} {records} {made} {ns} j h k g o = record { made-low = omega (arith, g .made-low); version-low = λ e. low e (case (eqb e j)); slack = omega arith }
+  raised-low : {s made : ℕ} {ns : List ℕ} (j : ℕ) → j < length ns → Low f x ts mo tb (suc s) made ns →
+      Low f x ts mo tb s made (set ns j (more (getD ns j 0)))
+  raised-low {s} {made} {ns} j h g = record {
+    made-low = omega (arith, g .made-low);
+    version-low = λ e. low e (case (eqb e j));
+  }
     where
-      low : (e : ℕ) → Case (eqb e j) → getD (set ns j (more (getD ns j 0))) e 0 ≤ records + suc s
+      low : (e : ℕ) → Case (eqb e j) → getD (set ns j (more (getD ns j 0))) e 0 + s ≤ 4294967295
       low e (is-true b) = let q : e ≡ j = eqb-true e j b in rw (q, getD-set-same ns j (more (getD ns j 0)) 0 h, more-is (getD ns j 0) (omega (arith, g .version-low j))) (omega (arith, g .version-low j))
       low e (is-false b) =
           rw (getD-set-other ns j e (more (getD ns j 0)) 0 (λ y. eqb-false e j b y)) (omega (arith, g .version-low e))
 
-  module _ {now : ℕ} {m : Machine} {e : Engine} (l : L now 0 m e) (w : Setting) (j : ℕ) (h : j < many) (q : name x j ≡ w .entity) (i : w .value < length ts) (K : Kind) (kind : kind-of x ts (w .kind) 0 ≡ K) where
+  module _ {now s : ℕ} {m : Machine} {e : Engine} (l : L now (suc s) m e) (w : Setting) (j : ℕ) (h : j < many) (q : name x j ≡ w .entity) (i : w .value < length ts) (K : Kind) (kind : Says (w .kind) 0 K) (rule : GoodRule f x ts mo tb (w .rule)) where
     abbrev old : ℕ
     old = getD (m .values) j 0
 
@@ -243,7 +258,7 @@ module _ (f x : List ℕ) (ts : List Text) (mo : Model) (tb : Tabled f x ts mo) 
     cs = put X (T (w .value)) 1 (e .cells)
 
     version : more (getD (m .versions) j 0) ≡ getD (m .versions) j 0 + 1
-    version = more-is (getD (m .versions) j 0) (omega (arith, l .low .version-low j, l .sizes .fits, l .sizes .word))
+    version = more-is (getD (m .versions) j 0) (omega (arith, l .low .version-low j))
 
     celled : Celled f x ts mo tb (set (m .values) j (w .value)) (set (m .versions) j (more (getD (m .versions) j 0))) cs
     celled =
@@ -251,10 +266,10 @@ module _ (f x : List ℕ) (ts : List Text) (mo : Model) (tb : Tabled f x ts mo) 
         (λ (n : ℕ). Celled f x ts mo tb (set (m .values) j (w .value)) (set (m .versions) j (more (getD (m .versions) j 0))) (put (T n) (T (w .value)) 1 (e .cells))) q
         (stored-is (m .values) (m .versions) (e .cells) (l .cells) j (w .value) 1 (more (getD (m .versions) j 0)) h i version)
 
-    written : L now 1 (put-cells (raisedC (storedC (cells m) j (w .value)) j) m) (with-cells cs e)
+    written : L now s (put-cells (raisedC (storedC (cells m) j (w .value)) j) m) (with-cells cs e)
     written =
         cells-are f x ts mo tb l (raisedC (storedC (cells m) j (w .value)) j) cs celled
-        (raised-low j (omega (arith, l .cells .long, tb .few-entities)) (omega arith) (l .low) (omega (arith, l .sizes .fits, l .sizes .word)))
+        (raised-low j (omega (arith, l .cells .long, tb .few-entities)) (l .low))
 
     cell : cell-of X cs ≡ some (cell-at x ts (set (m .values) j (w .value)) (set (m .versions) j (more (getD (m .versions) j 0))) j)
     cell =
@@ -262,11 +277,11 @@ module _ (f x : List ℕ) (ts : List Text) (mo : Model) (tb : Tabled f x ts mo) 
         ∙ ap (cell-of (T (name x j))) (celled .is)
         ∙ entity-found (set (m .values) j (w .value)) (set (m .versions) j (more (getD (m .versions) j 0))) j h .cell
 
-    expiring : S now 1 (expiryM x j (put-cells (raisedC (storedC (cells m) j (w .value)) j) m)) (adds (expiry-of now (cell-of X cs)) (with-cells cs e))
+    expiring : S now s (expiryM x j (put-cells (raisedC (storedC (cells m) j (w .value)) j) m)) (adds (expiry-of now (cell-of X cs)) (with-cells cs e))
     unfolding expiry-of
     expiring =
         subst
-        (λ (o : Option Cell). S now 1 (expiryM x j (put-cells (raisedC (storedC (cells m) j (w .value)) j) m)) (adds (expiry-of now o) (with-cells cs e)))
+        (λ (o : Option Cell). S now s (expiryM x j (put-cells (raisedC (storedC (cells m) j (w .value)) j) m)) (adds (expiry-of now o) (with-cells cs e)))
         (sym cell) (expiry-is written j h)
 
     abbrev change : Text → Option Change
@@ -278,16 +293,16 @@ module _ (f x : List ℕ) (ts : List Text) (mo : Model) (tb : Tabled f x ts mo) 
     abbrev src : Option Source
     src = where-of (w .source)
 
-    recorded : S now 0 (log-writeM w mv (expiryM x j (put-cells (raisedC (storedC (cells m) j (w .value)) j) m))) (log now K id src (change (T old)) (adds (expiry-of now (cell-of X cs)) (with-cells cs e)))
-    recorded = follow f x ts mo tb (log-writeM w mv) (log now K id src (change (T old))) expiring (λ k. log-write-is k w mv K kind) (λ n z p. s-log-write n z w mv _ p) (λ n o. c-log (Over n) (overflow-stays n) now K id src (change (T old)) _ o)
+    recorded : S now s (log-writeM w mv (expiryM x j (put-cells (raisedC (storedC (cells m) j (w .value)) j) m))) (log now K id src (change (T old)) (adds (expiry-of now (cell-of X cs)) (with-cells cs e)))
+    recorded = follow f x ts mo tb (log-writeM w mv) (log now K id src (change (T old))) expiring (λ k. log-write-is k w mv K kind rule moved) (λ n z p. s-log-write n z w mv _ p) (λ n o. c-log (Over n) (overflow-stays n) now K id src (change (T old)) _ o)
 
-    done : S now 0 (changedM mv (log-writeM w mv (expiryM x j (put-cells (raisedC (storedC (cells m) j (w .value)) j) m)))) (adds (change-of now X (T old) (T (w .value))) (log now K id src (change (T old)) (adds (expiry-of now (cell-of X cs)) (with-cells cs e))))
+    done : S now s (changedM mv (log-writeM w mv (expiryM x j (put-cells (raisedC (storedC (cells m) j (w .value)) j) m)))) (adds (change-of now X (T old) (T (w .value))) (log now K id src (change (T old)) (adds (expiry-of now (cell-of X cs)) (with-cells cs e))))
     done =
         follow f x ts mo tb (changedM mv) (adds (change-of now X (T old) (T (w .value)))) recorded
         (λ k. changed-is k mv moved) (λ n z p. s-changed n z mv _ p)
         (λ n o. c-adds (Over n) (overflow-stays n) (change-of now X (T old) (T (w .value))) _ o)
 
-    pub update-is : S now 0 (updateM x w m) (update now (T (w .entity)) (T (w .value)) (rule-of x ts (w .rule)) (where-of (w .source)) K e)
+    pub update-is : S now s (updateM x w m) (update now (T (w .entity)) (T (w .value)) (rule-of x ts (w .rule)) (where-of (w .source)) K e)
     unfolding updateM update-atM writeM update
     update-is =
         let z : entityOf x (w .entity) ≡ j = ap (entityOf x) (sym q) ∙ entity-found (m .values) (m .versions) j h .number in

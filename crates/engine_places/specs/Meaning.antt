@@ -239,6 +239,7 @@ pub record Tabled (f x : List ℕ) (ts : List Text) (m : Model) : Type 0 where
   pub horizon : getD x 2 0 ≡ m .scenario .limits .horizon
   pub day : m .scenario .limits .horizon ≤ 86400
   pub steps : getD x 3 0 ≡ m .scenario .limits .max-steps
+  pub few-steps : m .scenario .limits .max-steps ≤ 10000
   -- the parts
   pub columns : (d : Entity) (e : ℕ) → e < length (m .scenario .entities) → Column x ts e (getD (m .scenario .entities) e d)
   pub rows : (d : Automation) (i : ℕ) → i < length (m .rules) → Row f x ts (m .scenario .entities) i (getD (m .rules) i d)

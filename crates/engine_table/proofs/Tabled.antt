@@ -72,7 +72,7 @@ times-length r s zero p {l} e = let z : l ≡ [] = cc in ap length z
 times-length r s (suc i) p e = let m = more r s i p e in ap length (m .both) ∙ ap suc (times-length r s i (m .after) (m .are-others))
 
 module _ {A : Type 0} (r : Reader A) (w : ℕ) (s : List ℕ) (h : (p : ℕ) (a : A) (q : ℕ) → r s p ≡ got a q → Wide w s p q) where
-  times-wide : (i p : ℕ) (l : List A) (q : ℕ) → p ≤ length s → times i r s p ≡ got l q → Wide (w * i) s p q
+  pub times-wide : (i p : ℕ) (l : List A) (q : ℕ) → p ≤ length s → times i r s p ≡ got l q → Wide (w * i) s p q
   times-wide zero p l q o e = let z = none-read r s p e in record { ends = omega arith; inside = omega arith }
   times-wide (suc i) p l q o e =
       let m = more r s i p e in

@@ -925,3 +925,23 @@ module _ (s : List ℕ) (file : File) where
       cases : (a : Answer Model) → Says s file a → validity.Refused k ≡ validity-of a
       cases (answer m) h = absurd (read-or-not (h .0) e)
       cases (refused i) h = let z : status.Refused k ≡ status.Refused i = sym e ∙ refused-status i h in (cc)
+
+  -- the model of a file that was accepted, or the number that refuses it: what every entry goes on from
+  pub accept-read : Says s file (accepted s) → file .status ≡ status.Read →
+      (m : Model) × ((accepted s ≡ answer m) × Indexed s (file .index) m)
+  accept-read says e = cases (accepted s) refl says
+    where
+      cases : (a : Answer Model) → accepted s ≡ a → Says s file a →
+          (m : Model) × ((accepted s ≡ answer m) × Indexed s (file .index) m)
+      cases (answer m) z h = (m, (z, h .1))
+      cases (refused k) z h = absurd (read-or-not e (refused-status k h))
+
+  pub accept-refused : Says s file (accepted s) → {k : ℕ} → file .status ≡ status.Refused k → accepted s ≡ refused k
+  accept-refused says {k} e = cases (accepted s) refl says
+    where
+      cases : (a : Answer Model) → accepted s ≡ a → Says s file a → accepted s ≡ refused k
+      cases (answer m) z h = absurd (read-or-not (h .0) e)
+      cases (refused i) z h =
+          let y : status.Refused k ≡ status.Refused i = sym e ∙ refused-status i h in
+          let same : k ≡ i = cc in
+          z ∙ ap refused (sym same)

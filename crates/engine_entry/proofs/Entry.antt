@@ -1,0 +1,211 @@
+-- The entries, put together from their parts.
+use Prim.Native.Nat.{ℕ, _/_, _≤_, _<_}
+use mathlib.Core.Path.{_≡_, refl, sym, ap, subst, _∙_}
+use mathlib.Core.List.{List, []}
+use native.Mathlib.Omega.{arith}
+use lib.ListN.{length, getD, replicate}
+use Rattle.texts.specs.Lists.{each}
+use Rattle.texts.specs.Texts.{Text}
+use Rattle.areas.specs.Areas.{area}
+use Rattle.records.specs.Records.{recordWords}
+use Rattle.records.specs.declared.Record.{Record}
+use Rattle.reasons.specs.Lists.{Holds}
+use Rattle.model.specs.Answer.{Answer, answer, refused, _>>=_}
+use Rattle.model.specs.Model.{Event, Input, Automation, Model}
+use Rattle.model.specs.File.{texts, got}
+use Rattle.model.specs.Validate.{accepted}
+use Rattle.model_index.specs.declared.File.{File}
+use Rattle.model_index.specs.declared.Index.{Index}
+use Rattle.model_index.specs.declared.Status.the-variants as status
+use Rattle.model_index.specs.Indexed as indexed
+use Rattle.model_index.specs.Indexed.{Indexed}
+use Rattle.model_validate.proofs.Agrees.{accept-read, accept-refused}
+use Rattle.model_validate.proofs.Refusals.{Refuses, Refusal, Listed, refusal-numbers}
+use mathlib.Core.Logic.{inl, inr}
+use Rattle.engine.specs.Cells.{Cell, initial-cells}
+use Rattle.engine.specs.Memory.{Lent, entries, zeros, all-zeros, lent-after, simulate-lent}
+use Rattle.engine.specs.Records.{Trace, Areas}
+use Rattle.engine.specs.Simulate as engine
+use Rattle.engine.specs.Simulate.{simulated, simulate, unsupported-of}
+use Rattle.engine.specs.Unsupported.{unsupported}
+use Rattle.engine.specs.Words.{trace-words, texts-in, words-in, entry-words, simulate-memory}
+use Rattle.engine.proofs.Memory.{refusals}
+use Rattle.engine_reads.specs.Reads.{atMost}
+use Rattle.engine_run.specs.Run.{refusalS}
+use Rattle.engine_run.specs.Run as run
+use Rattle.engine_run.specs.declared.Simulation.{Simulation as Run}
+use Rattle.engine_places.specs.Meaning.{record-of, cells-of, Tabled}
+use Rattle.engine_places.proofs.Accepted.{accepted-lawful}
+use Rattle.engine_places.proofs.Lists.{each-length}
+use Rattle.engine_places.proofs.Numbers.{most-is}
+use Rattle.engine_places.proofs.Simulated.{EventAt}
+use Rattle.engine_places.proofs.Truth.{entities-are}
+use Rattle.engine_places.proofs.Words.{record-area}
+use Rattle.engine_table.proofs.Laws as table
+use Rattle.engine_begin.specs.Begin.{EventsOf}
+use Rattle.engine_begin.proofs.Begins.{event-here}
+use Rattle.engine_entry.specs.declared.Ground.{Ground}
+use Rattle.engine_entry.specs.declared.Notes.{Notes}
+use Rattle.engine_entry.specs.declared.Simulation.{Simulation}
+use Rattle.engine_entry.specs.Answers.{Grounds, no-notes, NotesSay, incomplete-of, values-of, no-simulation, Shows, Says, lent, Simulates}
+use Rattle.engine_entry.specs.Parts.{Few, Firsts, ShownAs, RunsAs}
+use Rattle.engine_entry.proofs.Core.{tb, notes-held, Done, Ran, done, full, ran}
+use Rattle.engine_entry.proofs.Final.{values-are}
+
+-- ---- unsupported
+
+module _ (f : List ℕ) (x : File) (says : indexed.Says f x (accepted f)) where
+  pub notes-read : ((k : ℕ) → getD f k 0 < 256) → x .status ≡ status.Read → (g : Ground) → Grounds f (x .index) g →
+      NotesSay f (record { refused = 0; count = g .count; reasons = g .reasons }) (unsupported-of f)
+  notes-read bytes e g gr =
+      let a = accept-read f x says e in
+      subst (NotesSay f (record { refused = 0; count = g .count; reasons = g .reasons })) (sym (law (a .0) (a .1 .0)))
+      (refl, notes-held f (x .index) (a .0) (a .1 .0) (a .1 .1) bytes g gr)
+    where
+      law : (m : Model) → accepted f ≡ answer m → unsupported-of f ≡ answer (unsupported (m .rules))
+      law m z = unfold unsupported-of _>>=_ in rw z
+
+  pub notes-refused : {n : ℕ} → x .status ≡ status.Refused n → {r : Notes} → r ≡ no-notes n → NotesSay f r (unsupported-of f)
+  notes-refused {n} e {r} h = subst (NotesSay f r) (sym (law (accept-refused f x says e))) h
+    where
+      law : accepted f ≡ refused n → unsupported-of f ≡ refused n
+      law z = unfold unsupported-of _>>=_ in rw z
+
+-- ---- a model's simulation
+
+module _ (f : List ℕ) (i : Index) (m : Model) (acc : accepted f ≡ answer m) (o : Indexed f i m) (bytes : (k : ℕ) → getD f k 0 < 256) (g : Ground) (gr : Grounds f i g) where
+  abbrev x : List ℕ
+  x = g .table
+
+  abbrev t : Tabled f x (o .ts) m
+  t = tb f i m acc o bytes g gr
+
+  abbrev ids : List Text
+  ids = each (λ (a : Automation). a .id) (m .rules)
+
+  abbrev events : List Event
+  events = m .scenario .events
+
+  simulate-law : (areas : Areas) → simulate areas f ≡ simulated areas m (initial-cells (m .scenario .entities)) events
+  unfolding simulate _>>=_
+  simulate-law areas = rw acc
+
+  events-count : atMost (getD x 8 0) 100 ≡ length events
+  events-count =
+      let e : getD x 8 0 ≡ length events = gr .table .words 8 (omega arith) ∙ table.table-head f i 8 (omega arith) ∙ table.head-high f i 8 (omega arith) (λ z. absurd (omega arith)) (λ z. absurd (omega arith)) (omega arith) ∙ table.count-8 i 8 refl ∙ o .events .counts in
+      most-is (getD x 8 0) 100 (omega (arith, e, accepted-lawful f m acc .few-events)) ∙ e
+
+  -- ---- the record area
+
+  texts-here : texts-in f ≡ o .ts
+  unfolding texts-in
+  texts-here = rw (o .all-texts .1, texts-in)
+
+  words-here : words-in f ≡ trace-words (o .ts) ids
+  unfolding words-in trace-words
+  words-here = λ j w. at w j
+    where
+      at : (w : Trace) → words-in f w ≡ trace-words (o .ts) ids w
+      at w = rw (acc, words-in) (ap (λ (ts : List Text). trace-words ts ids w) texts-here)
+
+  -- ---- the answer
+
+  module _ {v : List ℕ} (ev : EventsOf f i v) {count n k : ℕ} (few : Few (g .count) count) (many : n ≡ atMost (getD x 8 0) 100) (entities : k ≡ atMost (getD x 0 0) 32) {s : Run} {q q' a a' r r' u' : List ℕ} (does : run.Simulates f x v n (g .cells) count s q q' a a' r r' (g .reasons) u') {ans : Simulation} (shown : ShownAs s k (getD x 2 0) u' ans) where
+    abbrev sizes : Areas
+    sizes = record { queue = length q / 5; records = length a / 13; runs = length r / 28 }
+
+    abbrev none-such : Event
+    none-such = record { at = 0; input = Input.restart }
+
+    evs : (j : ℕ) → j < length events → EventAt f x (o .ts) m t v j (getD events j none-such)
+    evs j h = event-here f x i m acc o t v ev none-such j h
+
+    -- 41 to 43
+    refused-here : (n : ℕ) → 41 ≤ n → n ≤ 43 → simulate sizes f ≡ refused n → s ≡ refusalS n → a' ≡ replicate (length a) 0 →
+        Simulates f ans (lent q a r) (lent q' a' r')
+    unfolding simulate-memory simulate-lent entries all-zeros zeros
+    refused-here n lo hi e is z =
+        let no : s .refused ≡ n = ap (λ (y : Run). y .refused) is ∙ unfold refusalS in refl in
+        record {
+          says = subst (Says f ans) (sym e) (shown .full (λ y. absurd (omega (arith, no, y))) ∙ ap no-simulation no);
+          memory = rw (does .queue, does .runs, z)
+              (sym (ap (λ (y : Answer engine.Simulation). lent-after (words-in f) (λ (b : engine.Simulation). b .trace) y (lent q a r)) e ∙ refusals (words-in f) (λ (b : engine.Simulation). b .trace) (lent q a r) .areas n lo hi));
+        }
+
+    abbrev Said : engine.Simulation → Type 0
+    Said sim = Done f i m acc o bytes g gr v none-such events evs s q q' a a' r r' u' sim
+
+    many-entities : k ≡ length (m .scenario .entities)
+    many-entities = entities ∙ unfold Rattle.engine_reads.specs.Reads.entities in entities-are f x (o .ts) m t
+
+    shows-here : (sim : engine.Simulation) → Said sim → Shows f ans sim
+    shows-here sim d =
+        let y = shown .done (d .accepted) in
+        record {
+          accepted = y .accepted;
+          steps = y .steps ∙ d .steps;
+          records = y .records ∙ d .count ∙ sym (ap length (d .trace) ∙ each-length (record-of x (o .ts)) (d .records));
+          horizon = y .horizon ∙ t .horizon ∙ sym (d .horizon);
+          values =
+              values-are f x (o .ts) m t (s .values) (d .versions) (d .valued) (ans .values) (subst (λ (j : ℕ). Firsts (s .values) j (ans .values)) many-entities (y .values))
+              ∙ ap (λ (ts : List Text). values-of ts (each (λ (c : Cell). (c .name, c .value)) (cells-of x (o .ts) (s .values) (d .versions)))) (sym texts-here)
+              ∙ ap (values-of (texts-in f)) (sym (d .final));
+          unknown =
+              subst (λ (u : List ℕ). Holds f (sim .unknown) (ans .unknown) u) (sym (y .reasons))
+              (subst (λ (j : ℕ). Holds f (sim .unknown) j u') (sym (y .unknown)) (d .unknown));
+          incomplete = ap (λ (w : ℕ). incomplete-of w (ans .waiting)) (y .why) ∙ ap (incomplete-of (s .why)) (y .waiting) ∙ d .incomplete;
+        }
+
+    records-here : (sim : engine.Simulation) → Said sim → a' ≡ area (words-in f) (length a) (sim .trace)
+    records-here sim d =
+        d .area-is
+        ∙ record-area x (o .ts) m (length a) (d .records) (d .words)
+        ∙ ap (λ (w : Trace → List ℕ). area w (length a) (each (record-of x (o .ts)) (d .records))) (sym words-here)
+        ∙ ap (area (words-in f) (length a)) (sym (d .trace))
+
+    done-here : (sim : engine.Simulation) → simulate sizes f ≡ answer sim → Said sim →
+        Simulates f ans (lent q a r) (lent q' a' r')
+    unfolding simulate-memory simulate-lent entries zeros lent-after
+    done-here sim e d = record {
+      says = subst (Says f ans) (sym e) (shows-here sim d);
+      memory = rw (does .queue, does .runs, records-here sim d)
+          (sym (ap (λ (y : Answer engine.Simulation). lent-after (words-in f) (λ (b : engine.Simulation). b .trace) y (lent q a r)) e));
+    }
+
+    pub runs-as : Simulates f ans (lent q a r) (lent q' a' r')
+    runs-as = by (ran f i m acc o bytes g gr v none-such events evs s q q' a a' r r' u' (many ∙ events-count) few does)
+      where
+        by : Ran f i m acc o bytes g gr v none-such events evs s q q' a a' r r' u' → Simulates f ans (lent q a r) (lent q' a' r')
+        by (done sim e d) = done-here sim (simulate-law sizes ∙ e) d
+        by (full n lo hi e is z) = refused-here n lo hi (simulate-law sizes ∙ e) is z
+
+-- ---- the entry
+
+pub run-is : (f : List ℕ) (i : Index) (bytes : (k : ℕ) → getD f k 0 < 256) (g : Ground) → Grounds f i g → {count : ℕ} → Few (g .count) count →
+    {v : List ℕ} → EventsOf f i v → {n : ℕ} → n ≡ atMost (getD (g .table) 8 0) 100 → {s : Run} {q q' a a' r r' u' : List ℕ} →
+    run.Simulates f (g .table) v n (g .cells) count s q q' a a' r r' (g .reasons) u' → {k : ℕ} → k ≡ atMost (getD (g .table) 0 0) 32 →
+    {ans : Simulation} → ShownAs s k (getD (g .table) 2 0) u' ans → RunsAs f i ans (lent q a r) (lent q' a' r')
+run-is f i bytes g gr few ev many does entities shown m acc o = runs-as f i m acc o bytes g gr ev few many entities does shown
+
+module _ (f : List ℕ) (x : File) (says : indexed.Says f x (accepted f)) where
+  pub simulate-read : x .status ≡ status.Read → {s : Simulation} {before after : Lent} → RunsAs f (x .index) s before after →
+      Simulates f s before after
+  simulate-read e h = let a = accept-read f x says e in h (a .0) (a .1 .0) (a .1 .1)
+
+  -- memory is as it came
+  pub simulate-refused : {n : ℕ} → x .status ≡ status.Refused n → {s : Simulation} → s ≡ no-simulation n → (before : Lent) →
+      Simulates f s before before
+  unfolding simulate-memory simulate-lent
+  simulate-refused {n} e {s} is before =
+      let acc = accept-refused f x says e in
+      record {
+        says = subst (Says f s) (sym (law acc (entries entry-words before))) is;
+        memory = sym (ap (λ (y : Answer engine.Simulation). lent-after (words-in f) (λ (b : engine.Simulation). b .trace) y before) (law acc (entries entry-words before)) ∙ kept (subst (Refuses Refusal) acc (refusal-numbers f)));
+      }
+    where
+      law : accepted f ≡ refused n → (areas : Areas) → simulate areas f ≡ refused n
+      law z areas = unfold simulate _>>=_ in rw z
+
+      kept : Refusal n → lent-after (words-in f) (λ (b : engine.Simulation). b .trace) (refused n) before ≡ before
+      kept (inl h) = refusals (words-in f) (λ (b : engine.Simulation). b .trace) before .between n (omega arith) (omega arith)
+      kept (inr h) = refusals (words-in f) (λ (b : engine.Simulation). b .trace) before .below n (omega arith)

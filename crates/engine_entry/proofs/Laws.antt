@@ -1,0 +1,43 @@
+-- Laws for the functions of the entries.
+use Prim.Native.Nat.{ℕ, zero, suc, _+_, _≤_, _<_}
+use mathlib.Core.Path.{_≡_, refl, sym, ap, subst, _∙_}
+use mathlib.Core.List.{List}
+use native.Mathlib.Omega.{arith}
+use lib.ListN.{length, getD, set, replicate, length-replicate, length-set}
+use lib.Seq.{getD-set-other}
+use Rattle.engine_begin.proofs.Laws.{one-more}
+use Rattle.engine_run.specs.declared.Simulation.{Simulation as Run}
+use Rattle.engine_entry.specs.declared.Simulation.{Simulation}
+use Rattle.engine_entry.specs.Answers.{no-simulation}
+use Rattle.engine_entry.specs.Parts.{Firsts, Repeats, ShownAs}
+
+-- ---- the first values
+
+pub zeros : (n e : ℕ) → _≡_ {A = ℕ} (getD (replicate n 0) e 0) 0
+zeros zero e = refl
+zeros (suc n) zero = refl
+zeros (suc n) (suc e) = zeros n e
+
+module _ (vs : List ℕ) where
+  pub firsts-none : Firsts vs 0 (replicate 32 0)
+  firsts-none = record { long = length-replicate {A = ℕ} 32 0; first = λ e h. absurd (omega arith); rest = λ e h k. zeros 32 e }
+
+  pub firsts-more : (a : List ℕ) (n v : ℕ) → Firsts vs n a → n < 32 → v ≡ getD vs n 0 → Firsts vs (n + 1) (set a n v)
+  firsts-more a n v f h is = record {
+    long = length-set a n v ∙ f .long;
+    first = one-more (λ (j : ℕ). getD vs j 0) a n v (f .first) (omega (arith, f .long)) is;
+    rest = λ e k o. getD-set-other a n e v 0 (λ z. absurd (omega arith)) ∙ f .rest e (omega arith) o;
+  }
+
+-- ---- the answer
+
+module _ (s : Run) (n h : ℕ) (u : List ℕ) where
+  pub shown-full : (s .refused ≡ 0 → ⊥) → (r : Simulation) → r ≡ no-simulation (s .refused) → ShownAs s n h u r
+  shown-full z r e = record { done = λ y. absurd (z y); full = λ y. e }
+
+  pub shown-done : s .refused ≡ 0 → (vs : List ℕ) → Firsts (s .values) n vs →
+      ShownAs s n h u (record { refused = 0; steps = s .steps; records = s .records; horizon = h; values = vs; unknown = s .reasons; reasons = u; why = s .why; waiting = s .waiting })
+  shown-done z vs f = record {
+    done = λ y. record { accepted = refl; steps = refl; records = refl; horizon = refl; values = f; unknown = refl; reasons = refl; why = refl; waiting = refl };
+    full = λ y. absurd (y z);
+  }

@@ -1,0 +1,5 @@
+pub mod Laws
+pub mod Numbers
+pub mod Final
+pub mod Core
+pub mod Entry

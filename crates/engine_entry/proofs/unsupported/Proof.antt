@@ -1,0 +1,22 @@
+use borrow.Author.Needs.{needs}
+use native.Mathlib.Omega.{arith}
+use Rattle.engine_entry.proofs.Entry as entry
+use Rattle.engine_entry.proofs.unsupported.Statement.{statement}
+use Rattle.engine_entry.proofs.unsupported.Tie as tie
+use Rattle.engine_entry.proofs.unsupported.Reads as reads
+use Rattle.engine_entry.proofs.unsupported.Lts as lts
+use Rattle.engine_entry.proofs.prepared.Reads as prepared-reads
+use Rattle.engine_entry.proofs.refused_notes.Reads as refused-notes-reads
+use Rattle.model_validate.proofs.accept.Reads as accept-reads
+
+pub unsupported-spec : {M : Type 1} → statement M
+unsupported-spec =
+    tie.close
+    (tie.spec
+    (λ c κs. search needs)
+    (λ c. search needs)
+    (λ c κs. search needs)
+    (λ c. search needs)
+    (λ c κs. search needs)
+    (λ c. entry.notes-refused _ _ (c .before .before .before .before .accept .ensures) (c .before .before .status .given .1) (c .refused-notes .ensures))
+    (λ c. entry.notes-read _ _ (c .before .before .before .before .accept .ensures) (λ k. omega (arith, c .before .before .before .before .before .shared-slice-known .given k)) (c .before .before .enum-told .given .1) _ (c .before .prepared .ensures)))

@@ -1,0 +1,78 @@
+-- What the entries answer, by the definitions of crate `engine`: each number of the answer, and each word of the lent areas.
+use Prim.Native.Nat.{ℕ, _-_}
+use mathlib.Core.Path.{_≡_}
+use mathlib.Core.Bool.{Bool, false}
+use mathlib.Core.List.{List, [], _∷_, _++_}
+use lib.Dec.{eqb}
+use lib.ListN.{length, replicate}
+use Rattle.texts.specs.Lists.{if_then_else_, each}
+use Rattle.texts.specs.Texts.{Text}
+use Rattle.model.specs.Answer.{Answer, answer, refused}
+use Rattle.model_index.specs.declared.Index.{Index}
+use Rattle.reasons.specs.Lists.{Holds}
+use Rattle.engine.specs.Memory.{Lent, entries}
+use Rattle.engine.specs.Reasons.{space-spent, steps-spent, runs-left}
+use Rattle.engine.specs.Simulate as engine
+use Rattle.engine.specs.Words.{place-of, texts-in, entry-words, simulate-memory}
+use Rattle.engine_unsupported.specs.Listing.{unsupportedL}
+use Rattle.engine_table.specs.Table.{TableOf}
+use Rattle.engine_begin.specs.Begin.{CellsOf}
+use Rattle.engine_entry.specs.declared.Ground.{Ground}
+use Rattle.engine_entry.specs.declared.Notes.{Notes}
+use Rattle.engine_entry.specs.declared.Simulation.{Simulation}
+
+-- ---- unsupported
+
+unfoldable pub no-notes : (number : ℕ) → Notes
+no-notes n = record { refused = n; count = 0; reasons = replicate 1500 0 }
+
+-- The reasons' renderings are the definition's list. Which of two reasons with the same rendering stands there is left free,
+-- and so are the words behind the last reason.
+abbrev pub NotesSay : (file : List ℕ) → Notes → Answer (List Text) → Type 0
+NotesSay f r (answer l) = (r .refused ≡ 0) × Holds f l (r .count) (r .reasons)
+NotesSay f r (refused n) = r ≡ no-notes n
+
+-- ---- simulate
+
+-- why the simulation is incomplete: 1, records or items were spent; 2, steps were; runs were left
+unfoldable pub incomplete-of : (why : ℕ) → (waiting : Bool) → List Text
+incomplete-of w b =
+    (if eqb w 0 then [] else if eqb w 1 then space-spent ∷ [] else steps-spent ∷ [])
+    ++ (if b then runs-left ∷ [] else [])
+
+-- the values' places among the texts, then zeros
+unfoldable pub values-of : (texts : List Text) → List (Text × Text) → List ℕ
+values-of ts l = each (λ p. place-of (p .1) ts) l ++ replicate (32 - length l) 0
+
+-- the answer's numbers say what the definition's simulation says; the words behind the last reason are left free
+pub record Shows (f : List ℕ) (r : Simulation) (s : engine.Simulation) : Type 0 where
+  pub accepted : r .refused ≡ 0
+  pub steps : r .steps ≡ s .steps
+  pub records : r .records ≡ length (s .trace)
+  pub horizon : r .horizon ≡ s .horizon
+  pub values : r .values ≡ values-of (texts-in f) (s .final-state)
+  pub unknown : Holds f (s .unknown) (r .unknown) (r .reasons)
+  pub incomplete : incomplete-of (r .why) (r .waiting) ≡ s .incomplete
+
+unfoldable pub no-simulation : (number : ℕ) → Simulation
+no-simulation n = record { refused = n; steps = 0; records = 0; horizon = 0; values = replicate 32 0; unknown = 0; reasons = replicate 1500 0; why = 0; waiting = false }
+
+abbrev pub Says : (file : List ℕ) → Simulation → Answer engine.Simulation → Type 0
+Says f r (answer s) = Shows f r s
+Says f r (refused n) = r ≡ no-simulation n
+
+abbrev pub lent : (queue records runs : List ℕ) → Lent
+lent q a r = record { queue = q; records = a; runs = r }
+
+-- the entry `simulate`: its answer, and each word of the areas afterwards
+pub record Simulates (f : List ℕ) (r : Simulation) (before after : Lent) : Type 0 where
+  pub says : Says f r (engine.simulate (entries entry-words before) f)
+  pub memory : after ≡ simulate-memory f before
+
+-- ---- what the simulations of one model share, from the file and its index
+
+pub record Grounds (f : List ℕ) (i : Index) (g : Ground) : Type 0 where
+  pub table : TableOf f i (g .table)
+  pub cells : CellsOf f i (g .cells)
+  pub reasons : Holds f (unsupportedL f (g .table)) (g .count) (g .reasons)
+  pub room : length (g .reasons) ≡ 1500

@@ -1,0 +1,45 @@
+-- What the parts of the entries promise.
+use Prim.Native.Nat.{ℕ, _≤_, _<_}
+use mathlib.Core.Path.{_≡_}
+use mathlib.Core.List.{List}
+use lib.ListN.{length, getD}
+use Rattle.model.specs.Answer.{answer}
+use Rattle.model.specs.Model.{Model}
+use Rattle.model.specs.Validate.{accepted}
+use Rattle.model_index.specs.declared.Index.{Index}
+use Rattle.model_index.specs.Indexed.{Indexed}
+use Rattle.engine.specs.Memory.{Lent}
+use Rattle.engine_run.specs.declared.Simulation.{Simulation as Run}
+use Rattle.engine_entry.specs.declared.Simulation.{Simulation}
+use Rattle.engine_entry.specs.Answers.{no-simulation, Simulates}
+
+-- at most 300
+pub record Few (n r : ℕ) : Type 0 where
+  pub most : r ≤ 300
+  pub same : n ≤ 300 → r ≡ n
+
+-- the first n of 32 values, then zeros
+pub record Firsts (vs : List ℕ) (n : ℕ) (r : List ℕ) : Type 0 where
+  pub long : length r ≡ 32
+  pub first : (e : ℕ) → e < n → getD r e 0 ≡ getD vs e 0
+  pub rest : (e : ℕ) → n ≤ e → e < 32 → getD r e 0 ≡ 0
+
+-- the answer repeats that of the run
+pub record Repeats (s : Run) (n h : ℕ) (u : List ℕ) (r : Simulation) : Type 0 where
+  pub accepted : r .refused ≡ 0
+  pub steps : r .steps ≡ s .steps
+  pub records : r .records ≡ s .records
+  pub horizon : r .horizon ≡ h
+  pub values : Firsts (s .values) n (r .values)
+  pub unknown : r .unknown ≡ s .reasons
+  pub reasons : r .reasons ≡ u
+  pub why : r .why ≡ s .why
+  pub waiting : r .waiting ≡ s .waiting
+
+pub record ShownAs (s : Run) (n h : ℕ) (u : List ℕ) (r : Simulation) : Type 0 where
+  pub done : s .refused ≡ 0 → Repeats s n h u r
+  pub full : (s .refused ≡ 0 → ⊥) → r ≡ no-simulation (s .refused)
+
+-- the simulation of the model whose index this is
+abbrev pub RunsAs : (f : List ℕ) → Index → Simulation → (before after : Lent) → Type 0
+RunsAs f i s before after = (m : Model) → accepted f ≡ answer m → Indexed f i m → Simulates f s before after
