@@ -1,0 +1,29 @@
+use Rattle.checker_judge.specs.Judging.{passesJ}
+use borrow.Author.Needs.{needs}
+use Rattle.checker_judge.proofs.passes.Statement.{statement}
+use Rattle.checker_judge.proofs.passes.Tie as tie
+
+returns : tie.Need-returns
+unfolding passesJ
+returns c = rw (c .enum-told .given .1)
+
+returns-2 : tie.Need-returns-2
+unfolding passesJ
+returns-2 c = rw (c .before .before .before .before .before .before .change .given .1, ← (c .before .before .before .before .two-at .ensures .0), ← (c .before .before .before .two-at2 .ensures .0), ← (c .before .before .both .ensures), ← (c .before .two-at3 .ensures .0)) (c .both2 .ensures)
+
+pub passes-spec : {M : Type 1} → statement M
+passes-spec =
+    tie.close
+    (tie.spec
+    (λ c. search needs)
+    (λ c. search needs)
+    (λ c. search needs)
+    (λ c κs. search needs)
+    (λ c. search needs)
+    (λ c κs. search needs)
+    (λ c κs. search needs)
+    (λ c. search needs)
+    (λ c κs. search needs)
+    (λ c κs. search needs)
+    returns
+    returns-2)

@@ -1,0 +1,23 @@
+use Rattle.checker_judge.specs.Judging.{guardJ}
+use borrow.Author.Needs.{needs}
+use Rattle.checker_judge.proofs.read_guard.Statement.{statement}
+use Rattle.checker_judge.proofs.read_guard.Tie as tie
+
+returns : tie.Need-returns
+unfolding guardJ
+returns c = rw (← (c .before .before .before .before .is-about .ensures), c .before .before .before .if1 .taken, ← (c .before .before .after .ensures), ← (c .before .evaluate-all .ensures)) (c .guarded .ensures)
+
+returns-2 : tie.Need-returns-2
+unfolding guardJ
+returns-2 c = rw (← (c .before .is-about .ensures), c .if1 .left)
+
+pub read-guard-spec : {M : Type 1} → statement M
+read-guard-spec =
+    tie.close
+    (tie.spec
+    (λ c κs. search needs)
+    (λ c κs. search needs)
+    (λ c κs. search needs)
+    (λ c κs. search needs)
+    returns
+    returns-2)

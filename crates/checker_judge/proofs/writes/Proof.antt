@@ -1,0 +1,26 @@
+use Rattle.checker_judge.specs.Judging.{writesJ}
+use borrow.Author.Needs.{needs}
+use Rattle.checker_judge.proofs.writes.Statement.{statement}
+use Rattle.checker_judge.proofs.writes.Tie as tie
+
+returns : tie.Need-returns
+unfolding writesJ
+returns c = rw (c .enum-told .given .1)
+
+returns-2 : tie.Need-returns-2
+unfolding writesJ
+returns-2 c = rw (c .before .before .before .before .change .given .1, ← (c .before .before .two-at .ensures .0), ← (c .before .two-at2 .ensures .0)) (c .both .ensures)
+
+pub writes-spec : {M : Type 1} → statement M
+writes-spec =
+    tie.close
+    (tie.spec
+    (λ c. search needs)
+    (λ c. search needs)
+    (λ c. search needs)
+    (λ c κs. search needs)
+    (λ c. search needs)
+    (λ c κs. search needs)
+    (λ c κs. search needs)
+    returns
+    returns-2)

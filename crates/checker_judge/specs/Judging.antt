@@ -1,0 +1,226 @@
+-- The judging of one invariant, on places: the invariant at a position of the file f, with the table x, over records and
+-- the values by entity number. What is written here for positions says checker's Judge of texts.
+use Prim.Native.Nat.{ℕ, _+_, _<_}
+use mathlib.Core.Path.{_≡_}
+use mathlib.Core.Bool.{Bool, true, false, _&&_, _||_}
+use mathlib.Core.List.{List, [], _∷_}
+use lib.Dec.{ltb, leb, eqb}
+use lib.ListN.{length, getD}
+use Rattle.texts.specs.Lists.{if_then_else_}
+use Rattle.records.specs.Records.{recorded}
+use Rattle.records.specs.declared.Where.{Where}
+use Rattle.records.specs.declared.Where.the-variants.{Nowhere}
+use Rattle.records.specs.declared.Change.{Change}
+use Rattle.records.specs.declared.Change.the-variants.{NoChange, Write}
+use Rattle.records.specs.declared.Record.{Record}
+use Rattle.engine_reads.specs.Reads.{two, four, cap, entityOf}
+use Rattle.engine_state.specs.Machine.{later, storedC}
+use Rattle.engine_state.specs.declared.Cells.{Cells}
+use Rattle.engine_truth.specs.Truths.{evaluateT, sizeT, allT}
+use Rattle.engine_truth.specs.declared.Truth.{Truth}
+use Rattle.engine_truth.specs.declared.Truth.the-variants.{Yes, No, Unknown}
+use Rattle.checker_judge.specs.declared.Failure.{Failure}
+use Rattle.checker_judge.specs.declared.Failure.the-variants.{NoFailure, ProhibitedState, GuardViolated, ForbiddenTransition, DeadlineMissed}
+use Rattle.checker_judge.specs.declared.Wait.{Wait}
+use Rattle.checker_judge.specs.declared.Wait.the-variants.{NoWait, Until}
+use Rattle.checker_judge.specs.declared.Memory.{Memory}
+use Rattle.checker_judge.specs.declared.Shown.{Shown}
+use Rattle.checker_judge.specs.declared.Seen.{Seen}
+use Rattle.checker_judge.specs.declared.Reading.{Reading}
+use Rattle.checker_judge.specs.declared.Turn.{Turn}
+
+unfoldable pub yesJ : Truth → Bool
+yesJ Yes = true
+yesJ No = false
+yesJ Unknown = false
+
+unfoldable pub noJ : Truth → Bool
+noJ Yes = false
+noJ No = true
+noJ Unknown = false
+
+unfoldable pub unknownJ : Truth → Bool
+unknownJ Yes = false
+unknownJ No = false
+unknownJ Unknown = true
+
+-- a failure, if the test holds
+unfoldable pub failsJ : Bool → Failure → Failure
+failsJ b e = if b then e else NoFailure
+
+unfoldable pub failedJ : Failure → Bool
+failedJ NoFailure = false
+failedJ ProhibitedState = true
+failedJ GuardViolated = true
+failedJ ForbiddenTransition = true
+failedJ (DeadlineMissed d) = true
+
+unfoldable pub or-elseJ : Failure → Failure → Failure
+or-elseJ a b = if failedJ a then a else b
+
+abbrev pub nothingJ : Memory
+nothingJ = record { wait = NoWait; held = false; unknown = false; unclear = false; beyond = false }
+
+-- a predicate is unknown at this record
+unfoldable pub unsureJ : Bool → Memory → Memory
+unsureJ b m = record { wait = m .wait; held = m .held; unknown = m .unknown || b; unclear = m .unclear; beyond = m .beyond }
+
+-- ---- the values after a change; a name that no entity has changes nothing
+
+unfoldable pub putJ : (x : List ℕ) → Cells → (id value : ℕ) → Cells
+putJ x c id v = if ltb (entityOf x id) 32 then storedC c (entityOf x id) v else c
+
+unfoldable pub afterJ : (x : List ℕ) → Change → Cells → Cells
+afterJ x NoChange c = c
+afterJ x (Write e b v) c = putJ x c e v
+
+-- ---- never, guard, transition
+
+unfoldable pub neverJ : (f x : List ℕ) → (at : ℕ) → (present : List ℕ) → Memory → Shown
+neverJ f x at present m =
+    let t = allT f x present (later at 3) .truth in
+    record { failure = failsJ (yesJ t) ProhibitedState; memory = unsureJ (unknownJ t) m }
+
+-- the change sets the guard's entity to its value
+unfoldable pub writesJ : List ℕ → (at : ℕ) → Change → Bool
+writesJ f at NoChange = false
+writesJ f at (Write e b v) = eqb e (two f (at + 3)) && eqb v (two f (at + 5))
+
+unfoldable pub aboutJ : List ℕ → (at : ℕ) → Record → Bool
+aboutJ f at r = eqb (r .kind) 2 && writesJ f at (r .change)
+
+-- what a record that the guard is about shows, by the truth of what the guard requires
+unfoldable pub guardedJ : Truth → Memory → Shown
+guardedJ t m = record { failure = failsJ (noJ t) GuardViolated; memory = unsureJ (unknownJ t) m }
+
+unfoldable pub guardJ : (f x : List ℕ) → (at : ℕ) → (before : List ℕ) → Record → Memory → Shown
+guardJ f x at before r m =
+    if aboutJ f at r then guardedJ (allT f x before (later at 7) .truth) m else record { failure = NoFailure; memory = m }
+
+-- the change takes the transition's entity from its first value to its second
+unfoldable pub passesJ : List ℕ → (at : ℕ) → Change → Bool
+passesJ f at NoChange = false
+passesJ f at (Write e b v) = eqb e (two f (at + 3)) && eqb b (two f (at + 5)) && eqb v (two f (at + 7))
+
+unfoldable pub transitionJ : List ℕ → (at : ℕ) → Record → Memory → Shown
+transitionJ f at r m = record { failure = failsJ (passesJ f at (r .change)) ForbiddenTransition; memory = m }
+
+-- ---- a response
+
+-- the deadline, if it waits, has passed
+unfoldable pub overdueJ : (now : ℕ) → Wait → Bool
+overdueJ now NoWait = false
+overdueJ now (Until d) = ltb d now
+
+-- a deadline that has passed is missed if the goal did not hold before the record
+unfoldable pub missedJ : (now : ℕ) → (earlier : Truth) → Wait → Failure
+missedJ now g NoWait = NoFailure
+missedJ now g (Until d) = failsJ (ltb d now && noJ g) (DeadlineMissed d)
+
+-- a deadline that has passed is dropped
+unfoldable pub keptJ : (now : ℕ) → Wait → Wait
+keptJ now w = if overdueJ now w then NoWait else w
+
+unfoldable pub startedJ : (deadline : ℕ) → Wait → Wait
+startedJ d NoWait = Until d
+startedJ d (Until e) = Until e
+
+-- if `when` rises and nothing waits, a wait begins
+unfoldable pub begunJ : (now within : ℕ) → (cause : Truth) → (held : Bool) → Wait → Wait
+begunJ now within cause held w = if held then w else if yesJ cause then startedJ (now + within) w else w
+
+-- what waits after a record; the goal ends it
+unfoldable pub waitsJ : (now : ℕ) → Seen → (held : Bool) → Wait → Wait
+waitsJ now s held w = if yesJ (s .goal) then NoWait else begunJ now (s .within) (s .cause) held (keptJ now w)
+
+-- at the horizon what still waits is missed, if its deadline is reached
+unfoldable pub at-endJ : (now : ℕ) → (goal : Truth) → Wait → Failure
+at-endJ now g NoWait = NoFailure
+at-endJ now g (Until d) = failsJ (leb d now && noJ g) (DeadlineMissed d)
+
+unfoldable pub beyondJ : (now : ℕ) → Wait → Bool
+beyondJ now NoWait = false
+beyondJ now (Until d) = ltb now d
+
+-- by what the predicates say: a failure at the end is told before one that came before
+unfoldable pub failureJ : Seen → (now : ℕ) → (end : Bool) → (old new : Wait) → Failure
+failureJ s now end old new =
+    or-elseJ (if end then at-endJ now (s .goal) new else NoFailure) (missedJ now (s .earlier) old)
+
+unfoldable pub memoryJ : Seen → (now : ℕ) → (end : Bool) → Memory → (new : Wait) → Memory
+memoryJ s now end m new = record {
+  wait = new;
+  held = yesJ (s .cause);
+  unknown = m .unknown || unknownJ (s .cause) || unknownJ (s .goal);
+  unclear = m .unclear || overdueJ now (m .wait) && unknownJ (s .earlier);
+  beyond = m .beyond || end && beyondJ now new;
+}
+
+unfoldable pub respondedJ : Seen → (now : ℕ) → (end : Bool) → Memory → Shown
+respondedJ s now end m =
+    let new = waitsJ now s (m .held) (m .wait) in
+    record { failure = failureJ s now end (m .wait) new; memory = memoryJ s now end m new }
+
+-- where the goal stands, and the seconds
+unfoldable pub goal-at : List ℕ → (at : ℕ) → ℕ
+goal-at f at = later (later at 3) (sizeT f (later at 3))
+
+unfoldable pub within-at : List ℕ → (at : ℕ) → ℕ
+within-at f at = later (goal-at f at) (sizeT f (goal-at f at))
+
+unfoldable pub seenJ : (f x : List ℕ) → (at : ℕ) → (before present : List ℕ) → Seen
+seenJ f x at before present = record {
+  cause = evaluateT f x present (later at 3);
+  goal = evaluateT f x present (goal-at f at);
+  earlier = evaluateT f x before (goal-at f at);
+  within = four f (within-at f at);
+}
+
+-- ---- any invariant
+
+-- what a record shows; `before` and `present` are the values before it and after it
+unfoldable pub readJ : (f x : List ℕ) → (at : ℕ) → (before present : List ℕ) → Record → Memory → Shown
+readJ f x at before present r m =
+    if eqb (getD f at 0) 0 then neverJ f x at present m
+    else if eqb (getD f at 0) 1 then guardJ f x at before r m
+    else if eqb (getD f at 0) 2 then transitionJ f at r m
+    else respondedJ (seenJ f x at before present) (r .second) (eqb (r .kind) 9) m
+
+-- ---- all records
+
+abbrev pub turnedJ : (k : ℕ) → Record → Cells → Shown → Turn
+turnedJ k r present s = record {
+  cells = present;
+  reading = record { failure = s .failure; index = k; second = r .second; source = r .source; memory = s .memory };
+}
+
+-- the record with the index k, with the values before it
+unfoldable pub turnJ : (f x : List ℕ) → (at : ℕ) → Cells → Memory → (k : ℕ) → Record → Turn
+turnJ f x at c m k r =
+    let present = afterJ x (r .change) c in
+    turnedJ k r present (readJ f x at (c .values) (present .values) r m)
+
+abbrev pub unfailedJ : Memory → Reading
+unfailedJ m = record { failure = NoFailure; index = 0; second = 0; source = Nowhere; memory = m }
+
+-- the records from index k on: the first that fails, or none
+unfoldable pub readingJ : (f x : List ℕ) → (at : ℕ) → Cells → Memory → (k : ℕ) → List Record → Reading
+readingJ f x at c m k [] = unfailedJ m
+readingJ f x at c m k (r ∷ l) =
+    let t = turnJ f x at c m k r in
+    elim (failedJ (t .reading .failure)) [
+      | true ↦ t .reading
+      | false ↦ readingJ f x at (t .cells) (t .reading .memory) (k + 1) l
+    ]
+
+-- from the values that the simulation started from
+unfoldable pub judgeJ : (f x : List ℕ) → (at : ℕ) → Cells → List Record → Reading
+judgeJ f x at c l = readingJ f x (cap at) c nothingJ 0 l
+
+-- ---- over the record area a, whatever records it holds
+
+pub record Turned (f x : List ℕ) (at : ℕ) (c : Cells) (m : Memory) (a : List ℕ) (k : ℕ) (t : Turn) : Type 0 where
+  pub is : (l : List Record) (d : Record) → k < length l → a ≡ recorded (length a) l → t ≡ turnJ f x at c m k (getD l k d)
+
+pub record Judges (f x : List ℕ) (at : ℕ) (c : Cells) (a : List ℕ) (n : ℕ) (r : Reading) : Type 0 where
+  pub is : (l : List Record) → length l ≡ n → a ≡ recorded (length a) l → r ≡ judgeJ f x at c l

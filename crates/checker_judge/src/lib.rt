@@ -1,0 +1,547 @@
+// The judging of one invariant over the records of a simulation, on places in the model file.
+// An invariant: 0 kind, 1 identifier; from 3 on what its kind holds. Kinds: 0 never, 1 guard, 2 transition, 3 response.
+// A record of kind 2 is an action, one of kind 9 the horizon.
+use engine_reads::byte_at;
+use engine_reads::four_at;
+use engine_reads::two_at;
+use engine_state::Cells;
+use engine_state::after;
+use engine_truth::Truth;
+use engine_truth::evaluate;
+use engine_truth::evaluate_all;
+use records::Change;
+use records::Record;
+use records::Where;
+ghost use mathlib.Core.Path.{_≡_};
+ghost use mathlib.Core.Bool.{_&&_, _||_};
+ghost use Prim.Native.Nat.{_*_, _+_, _≤_, _<_};
+ghost use lib.ListN.{length};
+ghost use Rattle.engine_truth.specs.Truths.{sizeT};
+ghost use Rattle.engine_state.specs.Machine.{later};
+ghost use Rattle.checker_judge.specs.Judging.{yesJ, noJ, unknownJ, failsJ, failedJ, or-elseJ, nothingJ, unsureJ, putJ, afterJ, neverJ, writesJ, aboutJ, guardedJ, guardJ, passesJ, transitionJ, overdueJ, missedJ, keptJ, startedJ, begunJ, waitsJ, at-endJ, beyondJ, failureJ, memoryJ, respondedJ, seenJ, readJ, unfailedJ, Turned, Judges};
+
+// Why a record fails an invariant, if it does.
+pub enum Failure {
+    NoFailure,
+    ProhibitedState,
+    GuardViolated,
+    ForbiddenTransition,
+    DeadlineMissed(u64),
+}
+
+// Whether a response waits, and for which second. A second and `within` are words, so their sum fits.
+pub enum Wait {
+    NoWait,
+    Until(u64),
+}
+
+// What a reading keeps from record to record: the response's wait; whether its `when` held at the last record; whether a
+// predicate was unknown, the goal was unknown when its deadline had passed, a deadline lay beyond the horizon.
+pub struct Memory {
+    pub wait: Wait,
+    pub held: bool,
+    pub unknown: bool,
+    pub unclear: bool,
+    pub beyond: bool,
+}
+
+// What one record shows.
+pub struct Shown {
+    pub failure: Failure,
+    pub memory: Memory,
+}
+
+// The failing record: its index, its second, its source; without a failure these are 0 and none.
+pub struct Reading {
+    pub failure: Failure,
+    pub index: usize,
+    pub second: u32,
+    pub source: Where,
+    pub memory: Memory,
+}
+
+// The values after a record, and the reading up to it.
+pub struct Turn {
+    pub cells: Cells,
+    pub reading: Reading,
+}
+
+// A response's predicates at a record: `when` and the goal after it, and the goal before it.
+pub struct Seen {
+    pub cause: Truth,
+    pub goal: Truth,
+    pub earlier: Truth,
+    pub within: u32,
+}
+
+// ---- truths, failures, memory
+
+fn is_yes(t: Truth) -> bool
+    ensures { λ r. ⌜ r ≡ yesJ t ⌝ }
+{
+    match t {
+        Truth::Yes => true,
+        Truth::No => false,
+        Truth::Unknown => false,
+    }
+}
+
+fn is_no(t: Truth) -> bool
+    ensures { λ r. ⌜ r ≡ noJ t ⌝ }
+{
+    match t {
+        Truth::Yes => false,
+        Truth::No => true,
+        Truth::Unknown => false,
+    }
+}
+
+fn is_unknown(t: Truth) -> bool
+    ensures { λ r. ⌜ r ≡ unknownJ t ⌝ }
+{
+    match t {
+        Truth::Yes => false,
+        Truth::No => false,
+        Truth::Unknown => true,
+    }
+}
+
+fn both(a: bool, b: bool) -> bool
+    ensures { λ r. ⌜ r ≡ (a && b) ⌝ }
+{
+    if a {
+        return b;
+    }
+    false
+}
+
+fn either(a: bool, b: bool) -> bool
+    ensures { λ r. ⌜ r ≡ (a || b) ⌝ }
+{
+    if a {
+        return true;
+    }
+    b
+}
+
+// The failure, if the test holds.
+fn fails_if(b: bool, e: Failure) -> Failure
+    ensures { λ r. ⌜ r ≡ failsJ b e ⌝ }
+{
+    if b {
+        return e;
+    }
+    Failure::NoFailure
+}
+
+pub fn failed(e: Failure) -> bool
+    ensures { λ r. ⌜ r ≡ failedJ e ⌝ }
+{
+    match e {
+        Failure::NoFailure => false,
+        Failure::ProhibitedState => true,
+        Failure::GuardViolated => true,
+        Failure::ForbiddenTransition => true,
+        Failure::DeadlineMissed(_) => true,
+    }
+}
+
+fn or_else(a: Failure, b: Failure) -> Failure
+    ensures { λ r. ⌜ r ≡ or-elseJ a b ⌝ }
+{
+    if failed(a) {
+        return a;
+    }
+    b
+}
+
+// A predicate is unknown at this record.
+fn unsure(b: bool, m: Memory) -> Memory
+    ensures { λ r. ⌜ r ≡ unsureJ b m ⌝ }
+{
+    let mut r = m;
+    r.unknown = either(m.unknown, b);
+    r
+}
+
+// ---- the values after a change
+
+fn put(x: &[u32; 436], c: Cells, id: u32, value: u32) -> Cells
+    ensures { λ r. ⌜ r ≡ putJ (now (x .entry)) c id value ⌝ }
+{
+    let e = engine_reads::entity_of(x, id);
+    if e < 32 {
+        return engine_state::stored(c, e, value);
+    }
+    c
+}
+
+fn after_change(x: &[u32; 436], change: Change, c: Cells) -> Cells
+    ensures { λ r. ⌜ r ≡ afterJ (now (x .entry)) change c ⌝ }
+{
+    match change {
+        Change::NoChange => c,
+        Change::Write {
+            entity,
+            before: _,
+            after,
+        } => put(x, c, entity, after),
+    }
+}
+
+// ---- never, guard, transition
+
+fn read_never(f: &[u8], x: &[u32; 436], at: u32, present: Cells, m: Memory) -> Shown
+    ensures { λ r. ⌜ r ≡ neverJ (now (f .entry)) (now (x .entry)) at (present .values) m ⌝ }
+{
+    let judged = evaluate_all(f, x, present, after(at, 3));
+    let t = judged.truth;
+    let failure = fails_if(is_yes(t), Failure::ProhibitedState);
+    let memory = unsure(is_unknown(t), m);
+    Shown { failure, memory }
+}
+
+// Whether a change sets the guard's entity to its value.
+fn writes(f: &[u8], at: u32, change: Change) -> bool
+    ensures { λ r. ⌜ r ≡ writesJ (now (f .entry)) at change ⌝ }
+{
+    match change {
+        Change::NoChange => false,
+        Change::Write {
+            entity,
+            before: _,
+            after,
+        } => both(
+            entity == two_at(f, at as usize + 3),
+            after == two_at(f, at as usize + 5),
+        ),
+    }
+}
+
+// Whether a record is an action that the guard is about.
+fn is_about(f: &[u8], at: u32, r: Record) -> bool
+    ensures { λ b. ⌜ b ≡ aboutJ (now (f .entry)) at r ⌝ }
+{
+    let change = r.change;
+    if r.kind == 2 {
+        return writes(f, at, change);
+    }
+    false
+}
+
+fn guarded(t: Truth, m: Memory) -> Shown
+    ensures { λ r. ⌜ r ≡ guardedJ t m ⌝ }
+{
+    let failure = fails_if(is_no(t), Failure::GuardViolated);
+    let memory = unsure(is_unknown(t), m);
+    Shown { failure, memory }
+}
+
+// A guard reads the values before the record.
+fn read_guard(f: &[u8], x: &[u32; 436], at: u32, before: Cells, r: Record, m: Memory) -> Shown
+    ensures { λ s. ⌜ s ≡ guardJ (now (f .entry)) (now (x .entry)) at (before .values) r m ⌝ }
+{
+    if is_about(f, at, r) {
+        let judged = evaluate_all(f, x, before, after(at, 7));
+        let t = judged.truth;
+        return guarded(t, m);
+    }
+    Shown {
+        failure: Failure::NoFailure,
+        memory: m,
+    }
+}
+
+// Whether a change takes the transition's entity from its first value to its second.
+fn passes(f: &[u8], at: u32, change: Change) -> bool
+    ensures { λ r. ⌜ r ≡ passesJ (now (f .entry)) at change ⌝ }
+{
+    match change {
+        Change::NoChange => false,
+        Change::Write {
+            entity,
+            before,
+            after,
+        } => both(
+            both(
+                entity == two_at(f, at as usize + 3),
+                before == two_at(f, at as usize + 5),
+            ),
+            after == two_at(f, at as usize + 7),
+        ),
+    }
+}
+
+fn read_transition(f: &[u8], at: u32, r: Record, m: Memory) -> Shown
+    ensures { λ s. ⌜ s ≡ transitionJ (now (f .entry)) at r m ⌝ }
+{
+    let change = r.change;
+    let failure = fails_if(passes(f, at, change), Failure::ForbiddenTransition);
+    Shown { failure, memory: m }
+}
+
+// ---- a response
+
+// Whether the deadline, if there is one, has passed.
+fn overdue(now: u32, w: Wait) -> bool
+    ensures { λ r. ⌜ r ≡ overdueJ now w ⌝ }
+{
+    match w {
+        Wait::NoWait => false,
+        Wait::Until(d) => d < now as u64,
+    }
+}
+
+// A deadline that has passed is missed if the goal did not hold before the record.
+fn missed(now: u32, earlier: Truth, w: Wait) -> Failure
+    ensures { λ r. ⌜ r ≡ missedJ now earlier w ⌝ }
+{
+    match w {
+        Wait::NoWait => Failure::NoFailure,
+        Wait::Until(d) => fails_if(
+            both(d < now as u64, is_no(earlier)),
+            Failure::DeadlineMissed(d),
+        ),
+    }
+}
+
+// A deadline that has passed is dropped.
+fn kept(now: u32, w: Wait) -> Wait
+    ensures { λ r. ⌜ r ≡ keptJ now w ⌝ }
+{
+    if overdue(now, w) {
+        return Wait::NoWait;
+    }
+    w
+}
+
+fn started(deadline: u64, w: Wait) -> Wait
+    ensures { λ r. ⌜ r ≡ startedJ deadline w ⌝ }
+{
+    match w {
+        Wait::NoWait => Wait::Until(deadline),
+        Wait::Until(d) => Wait::Until(d),
+    }
+}
+
+// If `when` rises and nothing waits, a wait begins.
+fn begun(now: u32, within: u32, cause: Truth, held: bool, w: Wait) -> Wait
+    ensures { λ r. ⌜ r ≡ begunJ now within cause held w ⌝ }
+{
+    if held {
+        return w;
+    }
+    if is_yes(cause) {
+        return started(now as u64 + within as u64, w);
+    }
+    w
+}
+
+// What waits after a record. The goal ends it.
+fn waits_after(now: u32, s: Seen, held: bool, w: Wait) -> Wait
+    ensures { λ r. ⌜ r ≡ waitsJ now s held w ⌝ }
+{
+    let goal = s.goal;
+    let cause = s.cause;
+    if is_yes(goal) {
+        return Wait::NoWait;
+    }
+    begun(now, s.within, cause, held, kept(now, w))
+}
+
+// At the horizon what still waits is missed, if its deadline is reached.
+fn missed_at_end(now: u32, goal: Truth, w: Wait) -> Failure
+    ensures { λ r. ⌜ r ≡ at-endJ now goal w ⌝ }
+{
+    match w {
+        Wait::NoWait => Failure::NoFailure,
+        Wait::Until(d) => fails_if(
+            both(d <= now as u64, is_no(goal)),
+            Failure::DeadlineMissed(d),
+        ),
+    }
+}
+
+fn is_beyond(now: u32, w: Wait) -> bool
+    ensures { λ r. ⌜ r ≡ beyondJ now w ⌝ }
+{
+    match w {
+        Wait::NoWait => false,
+        Wait::Until(d) => (now as u64) < d,
+    }
+}
+
+fn response_failure(s: Seen, now: u32, end: bool, old: Wait, new: Wait) -> Failure
+    ensures { λ r. ⌜ r ≡ failureJ s now end old new ⌝ }
+{
+    let goal = s.goal;
+    let earlier = s.earlier;
+    let late = missed(now, earlier, old);
+    if end {
+        return or_else(missed_at_end(now, goal, new), late);
+    }
+    late
+}
+
+fn response_memory(s: Seen, now: u32, end: bool, m: Memory, new: Wait) -> Memory
+    ensures { λ r. ⌜ r ≡ memoryJ s now end m new ⌝ }
+{
+    let cause = s.cause;
+    let goal = s.goal;
+    let earlier = s.earlier;
+    let old = m.wait;
+    let held = is_yes(cause);
+    let unknown = either(either(m.unknown, is_unknown(cause)), is_unknown(goal));
+    let unclear = either(m.unclear, both(overdue(now, old), is_unknown(earlier)));
+    let beyond = either(m.beyond, both(end, is_beyond(now, new)));
+    Memory {
+        wait: new,
+        held,
+        unknown,
+        unclear,
+        beyond,
+    }
+}
+
+fn responded(s: Seen, now: u32, end: bool, m: Memory) -> Shown
+    ensures { λ r. ⌜ r ≡ respondedJ s now end m ⌝ }
+{
+    let old = m.wait;
+    let new = waits_after(now, s, m.held, old);
+    let failure = response_failure(s, now, end, old, new);
+    let memory = response_memory(s, now, end, m, new);
+    Shown { failure, memory }
+}
+
+// The position after the predicate at a position.
+fn after_predicate(f: &[u8], at: u32) -> u32
+    ensures { λ r. ⌜ r ≡ later at (sizeT (now (f .entry)) at) ⌝ }
+{
+    if byte_at(f, at as usize) == 1 {
+        return after(at, 3);
+    }
+    after(at, 5)
+}
+
+// The goal is read before the record and after it, the cause after it.
+fn seen_at(f: &[u8], x: &[u32; 436], at: u32, before: Cells, present: Cells) -> Seen
+    ensures { λ r. ⌜ r ≡ seenJ (now (f .entry)) (now (x .entry)) at (before .values) (present .values) ⌝ }
+{
+    let p = after(at, 3);
+    let q = after_predicate(f, p);
+    let cause = evaluate(f, x, present, p);
+    let goal = evaluate(f, x, present, q);
+    let earlier = evaluate(f, x, before, q);
+    let within = four_at(f, after_predicate(f, q) as usize);
+    Seen {
+        cause,
+        goal,
+        earlier,
+        within,
+    }
+}
+
+// ---- any invariant
+
+// What a record shows, with the values before it and after it.
+fn read(
+    f: &[u8],
+    x: &[u32; 436],
+    at: u32,
+    before: Cells,
+    present: Cells,
+    r: Record,
+    m: Memory,
+) -> Shown
+    ensures { λ s. ⌜ s ≡ readJ (now (f .entry)) (now (x .entry)) at (before .values) (present .values) r m ⌝ }
+{
+    let kind = byte_at(f, at as usize);
+    if kind == 0 {
+        return read_never(f, x, at, present, m);
+    }
+    if kind == 1 {
+        return read_guard(f, x, at, before, r, m);
+    }
+    if kind == 2 {
+        return read_transition(f, at, r, m);
+    }
+    responded(seen_at(f, x, at, before, present), r.second, r.kind == 9, m)
+}
+
+// ---- all records
+
+// The record at k, with the values before it.
+fn next_turn(f: &[u8], x: &[u32; 436], at: u32, c: Cells, m: Memory, a: &[u32], k: usize) -> Turn
+    requires { ⌜ k * 13 + 13 ≤ length (now a) ⌝ }
+    ensures { λ r. ⌜ Turned (now (f .entry)) (now (x .entry)) at c m (now (a .entry)) k r ⌝ }
+{
+    let r = records::get_record(a, k);
+    let change = r.change;
+    let source = r.source;
+    let present = after_change(x, change, c);
+    let s = read(f, x, at, c, present, r, m);
+    let failure = s.failure;
+    let memory = s.memory;
+    let reading = Reading {
+        failure,
+        index: k,
+        second: r.second,
+        source,
+        memory,
+    };
+    Turn {
+        cells: present,
+        reading,
+    }
+}
+
+fn nothing_yet() -> Memory
+    ensures { λ r. ⌜ r ≡ nothingJ ⌝ }
+{
+    Memory {
+        wait: Wait::NoWait,
+        held: false,
+        unknown: false,
+        unclear: false,
+        beyond: false,
+    }
+}
+
+fn unfailed(m: Memory) -> Reading
+    ensures { λ r. ⌜ r ≡ unfailedJ m ⌝ }
+{
+    Reading {
+        failure: Failure::NoFailure,
+        index: 0,
+        second: 0,
+        source: Where::Nowhere,
+        memory: m,
+    }
+}
+
+// The invariant at a position over the first n records of the area, from the values that the simulation started from:
+// the first failing record, or none.
+pub fn judge(f: &[u8], x: &[u32; 436], at: usize, cells: Cells, a: &[u32], n: usize) -> Reading
+    requires { ⌜ n * 13 ≤ length (now a) ⌝ }
+    ensures { λ r. ⌜ Judges (now (f .entry)) (now (x .entry)) at cells (now (a .entry)) n r ⌝ }
+{
+    let p = engine_reads::capped(at);
+    let mut c = cells;
+    let mut m = nothing_yet();
+    let mut k: usize = 0;
+    let reading = loop {
+        if n <= k {
+            break unfailed(m);
+        }
+        let t = next_turn(f, x, p, c, m, a, k);
+        let shown = t.reading;
+        let failure = shown.failure;
+        if failed(failure) {
+            break shown;
+        }
+        m = shown.memory;
+        c = t.cells;
+        k += 1;
+    };
+    reading
+}
