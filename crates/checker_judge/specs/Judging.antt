@@ -8,7 +8,6 @@ use lib.Dec.{ltb, leb, eqb}
 use lib.ListN.{length, getD}
 use Rattle.texts.specs.Lists.{if_then_else_}
 use Rattle.records.specs.Records.{recorded}
-use Rattle.records.specs.declared.Where.{Where}
 use Rattle.records.specs.declared.Where.the-variants.{Nowhere}
 use Rattle.records.specs.declared.Change.{Change}
 use Rattle.records.specs.declared.Change.the-variants.{NoChange, Write}
