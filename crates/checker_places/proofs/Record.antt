@@ -64,6 +64,12 @@ transition-is : (b : Bool) (m : Memory) →
 unfolding shown-of
 transition-is b m = rw (fails-is b ForbiddenTransition judge.forbidden-transition refl)
 
+same-guard : (ps : List Predicate) {a b c d e v : Text} → a ≡ b → c ≡ d → e ≡ v → guard a c e ps ≡ guard b d v ps
+same-guard ps h i j = rw (h, i, j)
+
+same-transition : {a b c d e v u w : Text} → a ≡ b → c ≡ d → e ≡ v → u ≡ w → transition a c e u ≡ transition b d v w
+same-transition h i j k = rw (h, i, j, k)
+
 -- ---- kinds of records
 
 record Named (kind : Kind) (k : ℕ) : Type 0 where
@@ -100,19 +106,33 @@ module _ (f x : List ℕ) (ts : List Text) (mo : Model) (tb : Tabled f x ts mo) 
 
   -- ---- the parts of an invariant, where they stand
 
-  data Parts (at : ℕ) : Invariant → Type 0 where
-    of-never : (id : Text) (ps : List Predicate) (q : ℕ) → getD f at 0 ≡ 0 → at + 3 ≤ length f →
-        counted (predicate ts) f (at + 3) ≡ got ps q → Parts at (never id ps)
-    of-guard : (id : Text) (e v : ℕ) (ps : List Predicate) (q : ℕ) → getD f at 0 ≡ 1 → at + 7 ≤ length f →
-        two f (at + 3) ≡ e → e < length ts → two f (at + 5) ≡ v → v < length ts →
-        counted (predicate ts) f (at + 7) ≡ got ps q → Parts at (guard id (T e) (T v) ps)
-    of-transition : (id : Text) (e v w : ℕ) → getD f at 0 ≡ 2 → at + 9 ≤ length f → two f (at + 3) ≡ e → e < length ts →
-        two f (at + 5) ≡ v → v < length ts → two f (at + 7) ≡ w → w < length ts →
-        Parts at (transition id (T e) (T v) (T w))
-    of-response : (id : Text) (p q : Predicate) (n b c : ℕ) → getD f at 0 ≡ 3 → at + 3 ≤ length f →
-        predicate ts f (at + 3) ≡ got p b → predicate ts f b ≡ got q c → four f c ≡ n → Parts at (response id p q n)
+  record TextAt (p : ℕ) (t : Text) (q : ℕ) : Type 0 where
+    is : t ≡ T (two f p)
+    place-in : two f p < length ts
+    ends : q ≡ p + 2
+    inside : p + 2 ≤ length f
 
-  parts : (at : ℕ) (i : Invariant) (q : ℕ) → invariant ts f at ≡ got i q → Parts at i
+  text-at : {n : ℕ} (p : ℕ) {t : Text} {q : ℕ} → n ≡ p → place ts f n ≡ got t q → TextAt p t q
+  text-at {n} p y e =
+      let a = place-found ts e in
+      let w = u16-wide f n (a .is-place) in
+      let z : two f p ≡ a .at = ap (two f) (sym y) ∙ two-is f n (a .is-place) in
+      record { is = a .is-text ∙ ap T (sym z); place-in = rw z (a .is-in); ends = omega arith; inside = omega arith }
+
+  pub data Parts (at : ℕ) : Invariant → Type 0 where
+    of-never : (ps : List Predicate) (q : ℕ) → getD f at 0 ≡ 0 → two f (at + 1) < length ts → at + 3 ≤ length f →
+        counted (predicate ts) f (at + 3) ≡ got ps q → Parts at (never (T (two f (at + 1))) ps)
+    of-guard : (ps : List Predicate) (q : ℕ) → getD f at 0 ≡ 1 → two f (at + 1) < length ts → at + 7 ≤ length f →
+        two f (at + 3) < length ts → two f (at + 5) < length ts → counted (predicate ts) f (at + 7) ≡ got ps q →
+        Parts at (guard (T (two f (at + 1))) (T (two f (at + 3))) (T (two f (at + 5))) ps)
+    of-transition : getD f at 0 ≡ 2 → two f (at + 1) < length ts → at + 9 ≤ length f → two f (at + 3) < length ts →
+        two f (at + 5) < length ts → two f (at + 7) < length ts →
+        Parts at (transition (T (two f (at + 1))) (T (two f (at + 3))) (T (two f (at + 5))) (T (two f (at + 7))))
+    of-response : (p q : Predicate) (n b c : ℕ) → getD f at 0 ≡ 3 → two f (at + 1) < length ts → at + 3 ≤ length f →
+        predicate ts f (at + 3) ≡ got p b → predicate ts f b ≡ got q c → four f c ≡ n →
+        Parts at (response (T (two f (at + 1))) p q n)
+
+  pub parts : (at : ℕ) (i : Invariant) (q : ℕ) → invariant ts f at ≡ got i q → Parts at i
   unfolding invariant
   parts at i q e = cases (k .kind) refl (k .holds)
     where
@@ -130,94 +150,79 @@ module _ (f x : List ℕ) (ts : List Text) (mo : Model) (tb : Tabled f x ts mo) 
       kind : (n : ℕ) → k .kind ≡ n → getD f at 0 ≡ n
       kind n z = byte-is f at (k .is-kind) ∙ z
 
+      start : k .next ≡ at + 1
+      start = u8-wide f at (k .is-kind) .ends
+
       cases : (n : ℕ) → k .kind ≡ n → getD rs n refuse f (k .next) ≡ got i q → Parts at i
       cases zero z h =
           let d = bound (place ts) _ h in
           let ps = bound (counted (predicate ts)) _ (d .rest) in
           let g = given _ _ _ (ps .rest) in
-          let w = u8-wide f at (k .is-kind) in
-          let w₁ = u16-wide f (k .next) (place-found ts (d .first) .is-place) in
+          let t = text-at (at + 1) start (d .first) in
           let y : d .next ≡ at + 3 = omega arith in
-          subst (Parts at) (g .0)
-          (of-never (d .value) (ps .value) (ps .next) (kind 0 z) (omega arith) (ap (counted (predicate ts) f) (sym y) ∙ ps .first))
+          subst (Parts at) (ap (λ (u : Text). never u (ps .value)) (sym (t .is)) ∙ g .0)
+          (of-never (ps .value) (ps .next) (kind 0 z) (t .place-in) (omega arith) (ap (counted (predicate ts) f) (sym y) ∙ ps .first))
       cases (suc zero) z h =
           let d = bound (place ts) _ h in
           let e = bound (place ts) _ (d .rest) in
           let v = bound (place ts) _ (e .rest) in
           let ps = bound (counted (predicate ts)) _ (v .rest) in
           let g = given _ _ _ (ps .rest) in
-          let a₁ = place-found ts (e .first) in
-          let a₂ = place-found ts (v .first) in
-          let w = u8-wide f at (k .is-kind) in
-          let w₁ = u16-wide f (k .next) (place-found ts (d .first) .is-place) in
-          let w₂ = u16-wide f (d .next) (a₁ .is-place) in
-          let w₃ = u16-wide f (e .next) (a₂ .is-place) in
-          let y₁ : d .next ≡ at + 3 = omega arith in
-          let y₂ : e .next ≡ at + 5 = omega arith in
-          let y₃ : v .next ≡ at + 7 = omega arith in
-          let o = of-guard (d .value) (a₁ .at) (a₂ .at) (ps .value) (ps .next) (kind 1 z) (omega arith) (ap (two f) (sym y₁) ∙ two-is f (d .next) (a₁ .is-place)) (a₁ .is-in) (ap (two f) (sym y₂) ∙ two-is f (e .next) (a₂ .is-place)) (a₂ .is-in) (ap (counted (predicate ts) f) (sym y₃) ∙ ps .first) in
-          subst (Parts at)
-          (ap (λ (t : Text). guard (d .value) t (T (a₂ .at)) (ps .value)) (sym (a₁ .is-text)) ∙ ap (λ (t : Text). guard (d .value) (e .value) t (ps .value)) (sym (a₂ .is-text)) ∙ g .0)
-          o
+          let t = text-at (at + 1) start (d .first) in
+          let t₁ = text-at (at + 3) (omega arith) (e .first) in
+          let t₂ = text-at (at + 5) (omega arith) (v .first) in
+          let y : v .next ≡ at + 7 = omega arith in
+          subst (Parts at) (sym (same-guard (ps .value) (t .is) (t₁ .is) (t₂ .is)) ∙ g .0)
+          (of-guard (ps .value) (ps .next) (kind 1 z) (t .place-in) (omega arith) (t₁ .place-in) (t₂ .place-in) (ap (counted (predicate ts) f) (sym y) ∙ ps .first))
       cases (suc (suc zero)) z h =
           let d = bound (place ts) _ h in
           let e = bound (place ts) _ (d .rest) in
           let v = bound (place ts) _ (e .rest) in
-          let u = bound (place ts) _ (v .rest) in
-          let g = given _ _ _ (u .rest) in
-          let a₁ = place-found ts (e .first) in
-          let a₂ = place-found ts (v .first) in
-          let a₃ = place-found ts (u .first) in
-          let w = u8-wide f at (k .is-kind) in
-          let w₁ = u16-wide f (k .next) (place-found ts (d .first) .is-place) in
-          let w₂ = u16-wide f (d .next) (a₁ .is-place) in
-          let w₃ = u16-wide f (e .next) (a₂ .is-place) in
-          let w₄ = u16-wide f (v .next) (a₃ .is-place) in
-          let y₁ : d .next ≡ at + 3 = omega arith in
-          let y₂ : e .next ≡ at + 5 = omega arith in
-          let y₃ : v .next ≡ at + 7 = omega arith in
-          let o = of-transition (d .value) (a₁ .at) (a₂ .at) (a₃ .at) (kind 2 z) (omega arith) (ap (two f) (sym y₁) ∙ two-is f (d .next) (a₁ .is-place)) (a₁ .is-in) (ap (two f) (sym y₂) ∙ two-is f (e .next) (a₂ .is-place)) (a₂ .is-in) (ap (two f) (sym y₃) ∙ two-is f (v .next) (a₃ .is-place)) (a₃ .is-in) in
-          subst (Parts at)
-          (ap (λ (t : Text). transition (d .value) t (T (a₂ .at)) (T (a₃ .at))) (sym (a₁ .is-text)) ∙ ap (λ (t : Text). transition (d .value) (e .value) t (T (a₃ .at))) (sym (a₂ .is-text)) ∙ ap (λ (t : Text). transition (d .value) (e .value) (v .value) t) (sym (a₃ .is-text)) ∙ g .0)
-          o
+          let w = bound (place ts) _ (v .rest) in
+          let g = given _ _ _ (w .rest) in
+          let t = text-at (at + 1) start (d .first) in
+          let t₁ = text-at (at + 3) (omega arith) (e .first) in
+          let t₂ = text-at (at + 5) (omega arith) (v .first) in
+          let t₃ = text-at (at + 7) (omega arith) (w .first) in
+          subst (Parts at) (sym (same-transition (t .is) (t₁ .is) (t₂ .is) (t₃ .is)) ∙ g .0)
+          (of-transition (kind 2 z) (t .place-in) (omega arith) (t₁ .place-in) (t₂ .place-in) (t₃ .place-in))
       cases (suc (suc (suc zero))) z h =
           let d = bound (place ts) _ h in
           let p = bound (predicate ts) _ (d .rest) in
           let o = bound (predicate ts) _ (p .rest) in
           let n = bound u32 _ (o .rest) in
           let g = given _ _ _ (n .rest) in
-          let w = u8-wide f at (k .is-kind) in
-          let w₁ = u16-wide f (k .next) (place-found ts (d .first) .is-place) in
+          let t = text-at (at + 1) start (d .first) in
           let y : d .next ≡ at + 3 = omega arith in
-          subst (Parts at) (g .0)
-          (of-response (d .value) (p .value) (o .value) (n .value) (p .next) (o .next) (kind 3 z) (omega arith)
+          subst (Parts at) (ap (λ (u : Text). response u (p .value) (o .value) (n .value)) (sym (t .is)) ∙ g .0)
+          (of-response (p .value) (o .value) (n .value) (p .next) (o .next) (kind 3 z) (t .place-in) (omega arith)
           (ap (predicate ts f) (sym y) ∙ p .first) (o .first) (four-is f (o .next) (n .first)))
       cases (suc (suc (suc (suc n)))) z h = absurd (found.refused f (k .next) h)
 
   -- ---- the change of a record
 
-  writes-is : (at e v : ℕ) (c : Change) → Placed ts c → two f (at + 3) ≡ e → e < length ts → two f (at + 5) ≡ v →
-      v < length ts → writesJ f at c ≡ present-and (writes (T e) (T v)) (change-of x ts c)
+  writes-is : (at : ℕ) (c : Change) → Placed ts c → two f (at + 3) < length ts → two f (at + 5) < length ts →
+      writesJ f at c ≡ present-and (writes (T (two f (at + 3))) (T (two f (at + 5)))) (change-of x ts c)
   unfolding writesJ present-and writes
-  writes-is at e v NoChange h a i b j = refl
-  writes-is at e v (Write y u w) h a i b j =
-      rw (a, b) (rw (tb .same y e (h .0) i, tb .same w v (h .1 .1) j))
+  writes-is at NoChange h i j = refl
+  writes-is at (Write y u w) h i j = rw (tb .same y (two f (at + 3)) (h .0) i, tb .same w (two f (at + 5)) (h .1 .1) j)
 
-  passes-is : (at e v w : ℕ) (c : Change) → Placed ts c → two f (at + 3) ≡ e → e < length ts → two f (at + 5) ≡ v →
-      v < length ts → two f (at + 7) ≡ w → w < length ts →
-      passesJ f at c ≡ present-and (passes (T e) (T v) (T w)) (change-of x ts c)
+  passes-is : (at : ℕ) (c : Change) → Placed ts c → two f (at + 3) < length ts → two f (at + 5) < length ts →
+      two f (at + 7) < length ts →
+      passesJ f at c ≡ present-and (passes (T (two f (at + 3))) (T (two f (at + 5))) (T (two f (at + 7)))) (change-of x ts c)
   unfolding passesJ present-and passes
-  passes-is at e v w NoChange h a i b j d k = refl
-  passes-is at e v w (Write y u z) h a i b j d k =
-      rw (a, b, d) (rw (tb .same y e (h .0) i, tb .same u v (h .1 .0) j, tb .same z w (h .1 .1) k))
+  passes-is at NoChange h i j k = refl
+  passes-is at (Write y u z) h i j k =
+      rw
+      (tb .same y (two f (at + 3)) (h .0) i, tb .same u (two f (at + 5)) (h .1 .0) j, tb .same z (two f (at + 7)) (h .1 .1) k)
 
-  about-is : (at e v : ℕ) (r : Record) → Placed ts (r .change) → two f (at + 3) ≡ e → e < length ts → two f (at + 5) ≡ v →
-      v < length ts →
-      aboutJ f at r ≡ (is-action (record-of x ts r) && present-and (writes (T e) (T v)) (record-of x ts r .change))
+  about-is : (at : ℕ) (r : Record) → Placed ts (r .change) → two f (at + 3) < length ts → two f (at + 5) < length ts →
+      aboutJ f at r
+      ≡ (is-action (record-of x ts r) && present-and (writes (T (two f (at + 3))) (T (two f (at + 5)))) (record-of x ts r .change))
   unfolding aboutJ record-of
-  about-is at e v r h a i b j =
+  about-is at r h i j =
       ap (λ (z : Bool). z && writesJ f at (r .change)) (sym (action-is x ts r))
-      ∙ ap (λ (z : Bool). is-action (record-of x ts r) && z) (writes-is at e v (r .change) h a i b j)
+      ∙ ap (λ (z : Bool). is-action (record-of x ts r) && z) (writes-is at (r .change) h i j)
 
   -- ---- the record: values before it and after it
   module _ (at : ℕ) (vs ns ws os : List ℕ) (ok : Valued f x ts mo tb vs) (good : Valued f x ts mo tb ws) (r : Record) (placed : Placed ts (r .change)) (m : Memory) where
@@ -275,17 +280,18 @@ module _ (f x : List ℕ) (ts : List Text) (mo : Model) (tb : Tabled f x ts mo) 
 
     by-parts : (i : Invariant) → Parts at i → Is i
     unfolding readJ read neverJ guardJ transitionJ record-of
-    by-parts i (of-never id ps q k inside e) =
+    by-parts i (of-never ps q k d inside e) =
         let t = later-is at 3 (omega (arith, tb .size)) in
-        rw (k, t) (never-is (allT f x ws (at + 3) .truth) (evaluate-all ps present) m (all-is f x ts mo tb ws os good (at + 3) ps q e .is))
-    by-parts i (of-guard id e v ps q k inside a h b j s) =
+        rw (k, t)
+        (never-is (allT f x ws (at + 3) .truth) (evaluate-all ps present) m (all-is f x ts mo tb ws os good (at + 3) ps q e .is))
+    by-parts i (of-guard ps q k d inside h j e) =
         let t = later-is at 7 (omega (arith, tb .size)) in
-        rw (k, t, ← about-is at e v r placed a h b j)
-        (guard-is (aboutJ f at r) (allT f x vs (at + 7) .truth) (evaluate-all ps before) m (all-is f x ts mo tb vs ns ok (at + 7) ps q s .is))
-    by-parts i (of-transition id e v w k inside a h b j c o) =
-        rw (k, ← passes-is at e v w (r .change) placed a h b j c o)
-        (transition-is (passesJ f at (r .change)) m)
-    by-parts i (of-response id p q n b c k inside e g h) = rw k (response-is p q n b c inside e g h id)
+        rw (k, t, ← about-is at r placed h j)
+        (guard-is (aboutJ f at r) (allT f x vs (at + 7) .truth) (evaluate-all ps before) m (all-is f x ts mo tb vs ns ok (at + 7) ps q e .is))
+    by-parts i (of-transition k d inside h j o) =
+        rw (k, ← passes-is at (r .change) placed h j o) (transition-is (passesJ f at (r .change)) m)
+    by-parts i (of-response p q n b c k d inside e g h) =
+        rw k (response-is p q n b c inside e g h (T (two f (at + 1))))
 
     pub read-is : (i : Invariant) (q : ℕ) → invariant ts f at ≡ got i q → Is i
     read-is i q e = by-parts i (parts at i q e)
