@@ -4,3 +4,5 @@ pub mod Response
 pub mod Record
 -- all records
 pub mod Judge
+-- its reasons
+pub mod Reasons

@@ -109,7 +109,7 @@ module _ (f x : List ℕ) (ts : List Text) (mo : Model) (tb : Tabled f x ts mo) 
   past (y ∷ l) zero h = absurd (omega arith)
   past (y ∷ l) (suc at) h = past l at (omega arith)
 
-  no-text : textAt f 4294967295 ≡ []
+  pub no-text : textAt f 4294967295 ≡ []
   unfolding textAt
   no-text = rw (past f 4294967295 (omega (arith, tb .size)))
 
@@ -118,7 +118,7 @@ module _ (f x : List ℕ) (ts : List Text) (mo : Model) (tb : Tabled f x ts mo) 
   start-low zero p n h = omega arith
   start-low (suc k) p n h = omega (arith, start-low k (p + 1 + getD f p 0) (n + 256) (omega (arith, tb .bytes p)))
 
-  position-is : (k : ℕ) → k < length ts → textAt f (textPosition f k) ≡ getD ts k []
+  pub position-is : (k : ℕ) → k < length ts → textAt f (textPosition f k) ≡ getD ts k []
   unfolding textPosition
   position-is k h =
       rw

@@ -1,0 +1,44 @@
+-- The reasons that the reading of the invariant at a position of the file f gives, by what it kept.
+use Prim.Native.Nat.{ℕ, _+_}
+use mathlib.Core.Bool.{Bool}
+use mathlib.Core.List.{List, [], _∷_, map}
+use lib.Dec.{eqb}
+use lib.ListN.{getD}
+use Rattle.texts.specs.Lists.{if_then_else_}
+use Rattle.texts.specs.Texts.{Text}
+use Rattle.reasons.specs.Reasons.{render}
+use Rattle.reasons.specs.declared.Reason.{Reason}
+use Rattle.engine_reads.specs.Reads.{two, textPosition}
+use Rattle.checker_judge.specs.declared.Memory.{Memory}
+use Rattle.checker_reasons.specs.declared.Told.{Told}
+use Rattle.checker_reasons.specs.declared.Told.the-variants.{Nothing, One, Two}
+
+abbrev pub list-of : Told → List Reason
+list-of Nothing = []
+list-of (One r) = r ∷ []
+list-of (Two r s) = r ∷ s ∷ []
+
+unfoldable pub renderings : List ℕ → Told → List Text
+renderings f t = map (render f) (list-of t)
+
+-- the invariant's identifier and the words of a kind
+unfoldable pub aboutI : List ℕ → (at kind : ℕ) → Reason
+aboutI f at k = record { kind = k; first = textPosition f (two f (at + 1)); second = 4294967295; line = 0; column = 0 }
+
+unfoldable pub ifI : Bool → Reason → Told
+ifI b r = if b then One r else Nothing
+
+unfoldable pub temporalI : Memory → (late predicate : Reason) → Told
+temporalI m late predicate = if m .unclear then (if m .unknown then Two late predicate else One late) else ifI (m .unknown) predicate
+
+-- state predicate, action guard; response at deadline and temporal predicate
+unfoldable pub unknownI : List ℕ → (at : ℕ) → Memory → Told
+unknownI f at m =
+    if eqb (getD f at 0) 0 then ifI (m .unknown) (aboutI f at 140)
+    else if eqb (getD f at 0) 1 then ifI (m .unknown) (aboutI f at 166)
+    else if eqb (getD f at 0) 2 then Nothing
+    else temporalI m (aboutI f at 189) (aboutI f at 220)
+
+-- response deadline beyond horizon
+unfoldable pub incompleteI : List ℕ → (at : ℕ) → Memory → Told
+incompleteI f at m = ifI (m .beyond) (aboutI f at 249)

@@ -1,0 +1,96 @@
+// The reasons that the reading of one invariant gives, by what it kept; and a sorted list of reasons with them.
+use checker_judge::Memory;
+use engine_reads::byte_at;
+use engine_reads::capped;
+use engine_reads::text_position;
+use engine_reads::two_at;
+use reasons::Reason;
+use reasons::insert_sorted;
+ghost use mathlib.Core.Path.{_≡_};
+ghost use Prim.Native.Nat.{_*_, _≤_};
+ghost use lib.ListN.{length};
+ghost use Rattle.reasons.specs.Lists.{listed, insertAll, Holds};
+ghost use Rattle.engine_reads.specs.Reads.{cap};
+ghost use Rattle.checker_reasons.specs.Told.{renderings, aboutI, ifI, temporalI, unknownI, incompleteI};
+
+// An invariant gives at most two.
+pub enum Told {
+    Nothing,
+    One(Reason),
+    Two(Reason, Reason),
+}
+
+// A reason about the invariant at a position.
+fn about(f: &[u8], at: u32, kind: u32) -> Reason
+    ensures { λ r. ⌜ r ≡ aboutI (now (f .entry)) at kind ⌝ }
+{
+    Reason {
+        kind,
+        first: text_position(f, two_at(f, at as usize + 1)),
+        second: reasons::ABSENT,
+        line: 0,
+        column: 0,
+    }
+}
+
+// The reason, if it came up.
+fn told_if(b: bool, r: Reason) -> Told
+    ensures { λ t. ⌜ t ≡ ifI b r ⌝ }
+{
+    if b {
+        return Told::One(r);
+    }
+    Told::Nothing
+}
+
+// A response's: whether its goal was unknown at a deadline, and whether a predicate was unknown.
+fn temporal(m: Memory, late: Reason, predicate: Reason) -> Told
+    ensures { λ t. ⌜ t ≡ temporalI m late predicate ⌝ }
+{
+    if m.unclear {
+        if m.unknown {
+            return Told::Two(late, predicate);
+        }
+        return Told::One(late);
+    }
+    told_if(m.unknown, predicate)
+}
+
+pub fn unknown_reasons(f: &[u8], at: usize, m: Memory) -> Told
+    ensures { λ t. ⌜ t ≡ unknownI (now (f .entry)) (cap at) m ⌝ }
+{
+    let p = capped(at);
+    let kind = byte_at(f, p as usize);
+    if kind == 0 {
+        return told_if(m.unknown, about(f, p, reasons::STATE_PREDICATE));
+    }
+    if kind == 1 {
+        return told_if(m.unknown, about(f, p, reasons::ACTION_GUARD));
+    }
+    if kind == 2 {
+        return Told::Nothing;
+    }
+    let late = about(f, p, reasons::RESPONSE_AT_DEADLINE);
+    temporal(m, late, about(f, p, reasons::TEMPORAL_PREDICATE))
+}
+
+pub fn incomplete_reasons(f: &[u8], at: usize, m: Memory) -> Told
+    ensures { λ t. ⌜ t ≡ incompleteI (now (f .entry)) (cap at) m ⌝ }
+{
+    told_if(m.beyond, about(f, capped(at), reasons::BEYOND_HORIZON))
+}
+
+// The reasons among the first n of an area, which ascend as rendered; the answer is how many there are then.
+pub fn insert_told(f: &[u8], a: &mut [u32], n: usize, t: Told) -> usize
+    requires { ⌜ length (insertAll (renderings (now f) t) (listed (now f) n (now a))) * 5 ≤ length (now a) ⌝ }
+    ensures { λ k. ⌜ Holds (now (f .entry)) (insertAll (renderings (now (f .entry)) t) (listed (now (f .entry)) n (now (a .entry)))) k (now (a .exit)) ⌝ }
+{
+    match t {
+        Told::Nothing => n,
+        Told::One(r) => insert_sorted(f, a, n, r),
+        Told::Two(r, s) => {
+            let k = insert_sorted(f, a, n, r);
+            insert_sorted(f, a, k, s)
+        }
+    }
+}
