@@ -21,7 +21,7 @@ use Rattle.engine.specs.Cells.{Cell, is-cell, cell-of, overwrite, put}
 use Rattle.engine.proofs.Lists.{none-some, Each}
 use Rattle.engine_reads.specs.Reads.{entityOf}
 use Rattle.engine_state.specs.declared.Cells.{Cells}
-use Rattle.engine_places.specs.Meaning.{where-of, cells-of, change-of, record-of, Tabled}
+use Rattle.engine_places.specs.Meaning.{Placed, where-of, cells-of, change-of, record-of, Tabled}
 use Rattle.engine_places.proofs.Numbers.{cap-is}
 use Rattle.engine_places.proofs.Truth.{Valued, Sought, here, nowhere, cell-is}
 use Rattle.engine_places.proofs.Relation.{Celled}
@@ -34,7 +34,7 @@ use Rattle.checker_judge.specs.declared.Failure.the-variants.{NoFailure, Prohib
 use Rattle.checker_judge.specs.declared.Memory.{Memory}
 use Rattle.checker_judge.specs.declared.Shown.{Shown}
 use Rattle.checker_judge.specs.declared.Reading.{Reading}
-use Rattle.checker_places.specs.Meaning.{failure-of, memory-of, shown-of, failing-of, reading-of, Placed}
+use Rattle.checker_places.specs.Meaning.{failure-of, memory-of, shown-of, failing-of, reading-of}
 use Rattle.checker_places.proofs.Record.{read-is}
 
 -- a write of a name that no cell has changes nothing

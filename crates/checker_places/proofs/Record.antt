@@ -26,7 +26,7 @@ use Rattle.engine_reads.specs.Reads.{two, four}
 use Rattle.engine_state.specs.Machine.{later}
 use Rattle.engine_truth.specs.Truths.{evaluateT, sizeT, allT}
 use Rattle.engine_truth.specs.declared.Truth.{Truth}
-use Rattle.engine_places.specs.Meaning.{truth-of, cells-of, kind-of, change-of, record-of, Tabled}
+use Rattle.engine_places.specs.Meaning.{Placed, truth-of, cells-of, kind-of, change-of, record-of, Tabled}
 use Rattle.engine_places.proofs.Numbers.{byte-is, two-is, four-is, later-is}
 use Rattle.engine_places.proofs.Truth.{Valued, evaluate-is, all-is}
 use Rattle.checker.specs.Judge.{is-action, is-horizon, writes, passes, fails-if, read-response, read}
@@ -34,7 +34,7 @@ use Rattle.checker.specs.Judge as judge
 use Rattle.checker_judge.specs.Judging.{yesJ, noJ, unknownJ, failsJ, unsureJ, neverJ, writesJ, aboutJ, guardedJ, guardJ, passesJ, transitionJ, goal-at, within-at, seenJ, respondedJ, readJ}
 use Rattle.checker_judge.specs.declared.Failure.the-variants.{NoFailure, ProhibitedState, GuardViolated, ForbiddenTransition}
 use Rattle.checker_judge.specs.declared.Memory.{Memory}
-use Rattle.checker_places.specs.Meaning.{memory-of, shown-of, Placed}
+use Rattle.checker_places.specs.Meaning.{memory-of, shown-of}
 use Rattle.checker_places.proofs.Response.{yes-is, no-is, unknown-is, fails-is, told, responded-is}
 
 -- ---- what a verdict shows

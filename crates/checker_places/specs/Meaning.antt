@@ -1,11 +1,6 @@
 -- What a reading on places says, in the terms of checker's Judge.
-use Prim.Native.Nat.{ℕ, _<_}
-use mathlib.Core.List.{List}
+use Prim.Native.Nat.{ℕ}
 use mathlib.Core.Option.{Option, none, some}
-use lib.ListN.{length}
-use Rattle.texts.specs.Texts.{Text}
-use Rattle.records.specs.declared.Change.{Change}
-use Rattle.records.specs.declared.Change.the-variants.{NoChange, Write}
 use Rattle.checker.specs.Judge as judge
 use Rattle.checker_judge.specs.declared.Failure.{Failure}
 use Rattle.checker_judge.specs.declared.Failure.the-variants.{NoFailure, ProhibitedState, GuardViolated, ForbiddenTransition, DeadlineMissed}
@@ -46,8 +41,3 @@ failing-of r (some e) = some (record { index = r .index; at = r .second; source 
 
 unfoldable pub reading-of : Reading → judge.Reading
 reading-of r = record { failing = failing-of r (failure-of (r .failure)); memory = memory-of (r .memory) }
-
--- the places of a change are those of texts
-abbrev pub Placed : List Text → Change → Type 0
-Placed ts NoChange = Unit {0}
-Placed ts (Write e b v) = (e < length ts) × ((b < length ts) × (v < length ts))

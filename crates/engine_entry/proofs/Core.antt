@@ -136,10 +136,10 @@ module _ (f : List ℕ) (i : Index) (m : Model) (acc : accepted f ≡ answer m) 
       pub unknown : Holds f (sim .unknown) (s .reasons) u'
       pub incomplete : incomplete-of (s .why) (s .waiting) ≡ sim .incomplete
 
-    pub data Ran : Type 0 where
-      done : (sim : engine.Simulation) → simulated sizes m cells vs ≡ answer sim → Done sim → Ran
+    pub data Outcome : Type 0 where
+      done : (sim : engine.Simulation) → simulated sizes m cells vs ≡ answer sim → Done sim → Outcome
       full : (n : ℕ) → 41 ≤ n → n ≤ 43 → simulated sizes m cells vs ≡ refused n → s ≡ refusalS n →
-          a' ≡ replicate (length a) 0 → Ran
+          a' ≡ replicate (length a) 0 → Outcome
 
     halted : Answered f x ts m tb halt (simulated sizes m cells vs)
     unfolding whollyM
@@ -183,7 +183,7 @@ module _ (f : List ℕ) (i : Index) (m : Model) (acc : accepted f ≡ answer m) 
         }
 
     pub ran : {n count : ℕ} → n ≡ length vs → Few (g .count) count →
-        run.Simulates f x l n (g .cells) count s q q' a a' r r' (g .reasons) u' → Ran
+        run.Simulates f x l n (g .cells) count s q q' a a' r r' (g .reasons) u' → Outcome
     ran {n} {count} many few does = by halted
       where
         held : Holds f notes count (g .reasons)
@@ -192,7 +192,7 @@ module _ (f : List ℕ) (i : Index) (m : Model) (acc : accepted f ≡ answer m) 
         told : Answers f x s a a' u' halt
         told = (subst (λ (j : ℕ). run.Simulates f x l j (g .cells) count s q q' a a' r r' (g .reasons) u') many does) .does notes held
 
-        by : Answered f x ts m tb halt (simulated sizes m cells vs) → Ran
+        by : Answered f x ts m tb halt (simulated sizes m cells vs) → Outcome
         by (shows z e k) = done _ e (shown-done halt told z k)
         by (refuses j z h e) =
             let other : halt .last .full ≡ 0 → ⊥ = λ y. z (sym h ∙ y) in

@@ -36,7 +36,8 @@ use Rattle.engine_run.specs.Run as run
 use Rattle.engine_run.specs.declared.Simulation.{Simulation as Run}
 use Rattle.engine_places.specs.Meaning.{record-of, cells-of, Tabled}
 use Rattle.engine_places.proofs.Accepted.{accepted-lawful}
-use Rattle.engine_places.proofs.Lists.{each-length}
+use Rattle.engine.proofs.Lists.{Each}
+use Rattle.engine_places.proofs.Relation.{Worded}
 use Rattle.engine_places.proofs.Numbers.{most-is}
 use Rattle.engine_places.proofs.Simulated.{EventAt}
 use Rattle.engine_places.proofs.Truth.{entities-are}
@@ -48,9 +49,9 @@ use Rattle.engine_entry.specs.declared.Ground.{Ground}
 use Rattle.engine_entry.specs.declared.Notes.{Notes}
 use Rattle.engine_entry.specs.declared.Simulation.{Simulation}
 use Rattle.engine_entry.specs.Answers.{Grounds, no-notes, NotesSay, incomplete-of, values-of, no-simulation, Shows, Says, lent, Simulates}
-use Rattle.engine_entry.specs.Parts.{Few, Firsts, ShownAs, RunsAs}
-use Rattle.engine_entry.proofs.Core.{tb, notes-held, Done, Ran, done, full, ran}
-use Rattle.engine_entry.proofs.Final.{values-are}
+use Rattle.engine_entry.specs.Parts.{Ran, RunsAs}
+use Rattle.engine_entry.proofs.Core.{tb, notes-held}
+use Rattle.engine_entry.proofs.Promise.{texts-here, Promise, answers, refuses, promise}
 
 -- ---- unsupported
 
@@ -97,95 +98,55 @@ module _ (f : List ℕ) (i : Index) (m : Model) (acc : accepted f ≡ answer m) 
 
   -- ---- the record area
 
-  texts-here : texts-in f ≡ o .ts
-  unfolding texts-in
-  texts-here = rw (o .all-texts .1, texts-in)
-
   words-here : words-in f ≡ trace-words (o .ts) ids
   unfolding words-in trace-words
   words-here = λ j w. at w j
     where
       at : (w : Trace) → words-in f w ≡ trace-words (o .ts) ids w
-      at w = rw (acc, words-in) (ap (λ (ts : List Text). trace-words ts ids w) texts-here)
+      at w = rw (acc, words-in) (ap (λ (ts : List Text). trace-words ts ids w) (texts-here f i m acc o bytes g gr))
 
   -- ---- the answer
 
-  module _ {v : List ℕ} (ev : EventsOf f i v) {count n k : ℕ} (few : Few (g .count) count) (many : n ≡ atMost (getD x 8 0) 100) (entities : k ≡ atMost (getD x 0 0) 32) {s : Run} {q q' a a' r r' u' : List ℕ} (does : run.Simulates f x v n (g .cells) count s q q' a a' r r' (g .reasons) u') {ans : Simulation} (shown : ShownAs s k (getD x 2 0) u' ans) where
+  abbrev none-such : Event
+  none-such = record { at = 0; input = Input.restart }
+
+  module _ {v : List ℕ} (ev : EventsOf f i v) {n : ℕ} (many : n ≡ atMost (getD x 8 0) 100) {ans : Simulation} {q q' a a' r r' : List ℕ} (ran : Ran f g v n ans q q' a a' r r') where
     abbrev sizes : Areas
     sizes = record { queue = length q / 5; records = length a / 13; runs = length r / 28 }
-
-    abbrev none-such : Event
-    none-such = record { at = 0; input = Input.restart }
 
     evs : (j : ℕ) → j < length events → EventAt f x (o .ts) m t v j (getD events j none-such)
     evs j h = event-here f x i m acc o t v ev none-such j h
 
-    -- 41 to 43
-    refused-here : (n : ℕ) → 41 ≤ n → n ≤ 43 → simulate sizes f ≡ refused n → s ≡ refusalS n → a' ≡ replicate (length a) 0 →
-        Simulates f ans (lent q a r) (lent q' a' r')
-    unfolding simulate-memory simulate-lent entries all-zeros zeros
-    refused-here n lo hi e is z =
-        let no : s .refused ≡ n = ap (λ (y : Run). y .refused) is ∙ unfold refusalS in refl in
-        record {
-          says = subst (Says f ans) (sym e) (shown .full (λ y. absurd (omega (arith, no, y))) ∙ ap no-simulation no);
-          memory = rw (does .queue, does .runs, z)
-              (sym (ap (λ (y : Answer engine.Simulation). lent-after (words-in f) (λ (b : engine.Simulation). b .trace) y (lent q a r)) e ∙ refusals (words-in f) (λ (b : engine.Simulation). b .trace) (lent q a r) .areas n lo hi));
-        }
+    abbrev after : Answer engine.Simulation → Lent
+    after y = lent-after (words-in f) (λ (b : engine.Simulation). b .trace) y (lent q a r)
 
-    abbrev Said : engine.Simulation → Type 0
-    Said sim = Done f i m acc o bytes g gr v none-such events evs s q q' a a' r r' u' sim
+    records-here : (l : List Record) (tr : List Trace) → Each (Worded x (o .ts) m) l → tr ≡ each (record-of x (o .ts)) l →
+        area recordWords (length a) l ≡ area (words-in f) (length a) tr
+    records-here l tr w e =
+        record-area x (o .ts) m (length a) l w
+        ∙ ap (λ (h : Trace → List ℕ). area h (length a) (each (record-of x (o .ts)) l)) (sym words-here)
+        ∙ ap (area (words-in f) (length a)) (sym e)
 
-    many-entities : k ≡ length (m .scenario .entities)
-    many-entities = entities ∙ unfold Rattle.engine_reads.specs.Reads.entities in entities-are f x (o .ts) m t
-
-    shows-here : (sim : engine.Simulation) → Said sim → Shows f ans sim
-    shows-here sim d =
-        let y = shown .done (d .accepted) in
-        record {
-          accepted = y .accepted;
-          steps = y .steps ∙ d .steps;
-          records = y .records ∙ d .count ∙ sym (ap length (d .trace) ∙ each-length (record-of x (o .ts)) (d .records));
-          horizon = y .horizon ∙ t .horizon ∙ sym (d .horizon);
-          values =
-              values-are f x (o .ts) m t (s .values) (d .versions) (d .valued) (ans .values) (subst (λ (j : ℕ). Firsts (s .values) j (ans .values)) many-entities (y .values))
-              ∙ ap (λ (ts : List Text). values-of ts (each (λ (c : Cell). (c .name, c .value)) (cells-of x (o .ts) (s .values) (d .versions)))) (sym texts-here)
-              ∙ ap (values-of (texts-in f)) (sym (d .final));
-          unknown =
-              subst (λ (u : List ℕ). Holds f (sim .unknown) (ans .unknown) u) (sym (y .reasons))
-              (subst (λ (j : ℕ). Holds f (sim .unknown) j u') (sym (y .unknown)) (d .unknown));
-          incomplete = ap (λ (w : ℕ). incomplete-of w (ans .waiting)) (y .why) ∙ ap (incomplete-of (s .why)) (y .waiting) ∙ d .incomplete;
-        }
-
-    records-here : (sim : engine.Simulation) → Said sim → a' ≡ area (words-in f) (length a) (sim .trace)
-    records-here sim d =
-        d .area-is
-        ∙ record-area x (o .ts) m (length a) (d .records) (d .words)
-        ∙ ap (λ (w : Trace → List ℕ). area w (length a) (each (record-of x (o .ts)) (d .records))) (sym words-here)
-        ∙ ap (area (words-in f) (length a)) (sym (d .trace))
-
-    done-here : (sim : engine.Simulation) → simulate sizes f ≡ answer sim → Said sim →
-        Simulates f ans (lent q a r) (lent q' a' r')
-    unfolding simulate-memory simulate-lent entries zeros lent-after
-    done-here sim e d = record {
-      says = subst (Says f ans) (sym e) (shows-here sim d);
-      memory = rw (does .queue, does .runs, records-here sim d)
-          (sym (ap (λ (y : Answer engine.Simulation). lent-after (words-in f) (λ (b : engine.Simulation). b .trace) y (lent q a r)) e));
-    }
-
-    pub runs-as : Simulates f ans (lent q a r) (lent q' a' r')
-    runs-as = by (ran f i m acc o bytes g gr v none-such events evs s q q' a a' r r' u' (many ∙ events-count) few does)
+    runs-as : Simulates f ans (lent q a r) (lent q' a' r')
+    unfolding simulate-memory simulate-lent entries all-zeros zeros lent-after
+    runs-as = by (promise f i m acc o bytes g gr v none-such events evs (many ∙ events-count) ran)
       where
-        by : Ran f i m acc o bytes g gr v none-such events evs s q q' a a' r r' u' → Simulates f ans (lent q a r) (lent q' a' r')
-        by (done sim e d) = done-here sim (simulate-law sizes ∙ e) d
-        by (full n lo hi e is z) = refused-here n lo hi (simulate-law sizes ∙ e) is z
+        by : Promise f i m acc o bytes g gr v none-such events evs (many ∙ events-count) ran → Simulates f ans (lent q a r) (lent q' a' r')
+        by (answers sim e k) = record {
+          says = subst (Says f ans) (sym (simulate-law sizes ∙ e)) (k .shows);
+          memory = rw (ran .does .queue, ran .does .runs, k .area-is, records-here (k .records) (sim .trace) (k .words) (k .trace)) (sym (ap after (simulate-law sizes ∙ e)));
+        }
+        by (refuses n lo hi e is z) = record {
+          says = subst (Says f ans) (sym (simulate-law sizes ∙ e)) is;
+          memory = rw (ran .does .queue, ran .does .runs, z) (sym (ap after (simulate-law sizes ∙ e) ∙ refusals (words-in f) (λ (b : engine.Simulation). b .trace) (lent q a r) .areas n lo hi));
+        }
 
 -- ---- the entry
 
-pub run-is : (f : List ℕ) (i : Index) (bytes : (k : ℕ) → getD f k 0 < 256) (g : Ground) → Grounds f i g → {count : ℕ} → Few (g .count) count →
-    {v : List ℕ} → EventsOf f i v → {n : ℕ} → n ≡ atMost (getD (g .table) 8 0) 100 → {s : Run} {q q' a a' r r' u' : List ℕ} →
-    run.Simulates f (g .table) v n (g .cells) count s q q' a a' r r' (g .reasons) u' → {k : ℕ} → k ≡ atMost (getD (g .table) 0 0) 32 →
-    {ans : Simulation} → ShownAs s k (getD (g .table) 2 0) u' ans → RunsAs f i ans (lent q a r) (lent q' a' r')
-run-is f i bytes g gr few ev many does entities shown m acc o = runs-as f i m acc o bytes g gr ev few many entities does shown
+pub run-is : (f : List ℕ) (i : Index) → ((k : ℕ) → getD f k 0 < 256) → (g : Ground) → Grounds f i g → {v : List ℕ} → EventsOf f i v →
+    {n : ℕ} → n ≡ atMost (getD (g .table) 8 0) 100 → {ans : Simulation} {q q' a a' r r' : List ℕ} → Ran f g v n ans q q' a a' r r' →
+    RunsAs f i ans (lent q a r) (lent q' a' r')
+run-is f i bytes g gr ev many ran m acc o = runs-as f i m acc o bytes g gr ev many ran
 
 module _ (f : List ℕ) (x : File) (says : indexed.Says f x (accepted f)) where
   pub simulate-read : x .status ≡ status.Read → {s : Simulation} {before after : Lent} → RunsAs f (x .index) s before after →

@@ -6,10 +6,13 @@ use native.Mathlib.Omega.{arith}
 use lib.ListN.{length, getD, set, replicate, length-replicate, length-set}
 use lib.Seq.{getD-set-other}
 use Rattle.engine_begin.proofs.Laws.{one-more}
+use Rattle.engine_reads.specs.Reads.{atMost}
+use Rattle.engine_run.specs.Run as run
 use Rattle.engine_run.specs.declared.Simulation.{Simulation as Run}
+use Rattle.engine_entry.specs.declared.Ground.{Ground}
 use Rattle.engine_entry.specs.declared.Simulation.{Simulation}
 use Rattle.engine_entry.specs.Answers.{no-simulation}
-use Rattle.engine_entry.specs.Parts.{Firsts, Repeats, ShownAs}
+use Rattle.engine_entry.specs.Parts.{Few, Firsts, ShownAs, Ran}
 
 -- ---- the first values
 
@@ -41,3 +44,17 @@ module _ (s : Run) (n h : ℕ) (u : List ℕ) where
     done = λ y. record { accepted = refl; steps = refl; records = refl; horizon = refl; values = f; unknown = refl; reasons = refl; why = refl; waiting = refl };
     full = λ y. absurd (y z);
   }
+
+-- ---- a run
+
+pub ran-so : {f : List ℕ} {g : Ground} {events : List ℕ} {n count : ℕ} {s : Run} {q q' a a' r r' u : List ℕ} → Few (g .count) count →
+    run.Simulates f (g .table) events n (g .cells) count s q q' a a' r r' (g .reasons) u → {k : ℕ} → k ≡ atMost (getD (g .table) 0 0) 32 →
+    {ans : Simulation} → ShownAs s k (getD (g .table) 2 0) u ans → Ran f g events n ans q q' a a' r r'
+ran-so {f} {g} {events} {n} {count} {s} {q} {q'} {a} {a'} {r} {r'} {u} few does e {ans} shown = record {
+  told = s;
+  words = u;
+  count = count;
+  few = few;
+  does = does;
+  shown = subst (λ (j : ℕ). ShownAs s j (getD (g .table) 2 0) u ans) e shown;
+}

@@ -1,5 +1,10 @@
 pub mod Laws
+-- which numbers refuse a simulation
 pub mod Numbers
+-- the values at the end
 pub mod Final
+-- the code's simulation is the definition's
 pub mod Core
+pub mod Promise
+-- the entries
 pub mod Entry

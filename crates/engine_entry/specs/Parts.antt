@@ -9,7 +9,10 @@ use Rattle.model.specs.Validate.{accepted}
 use Rattle.model_index.specs.declared.Index.{Index}
 use Rattle.model_index.specs.Indexed.{Indexed}
 use Rattle.engine.specs.Memory.{Lent}
+use Rattle.engine_reads.specs.Reads.{atMost}
+use Rattle.engine_run.specs.Run as run
 use Rattle.engine_run.specs.declared.Simulation.{Simulation as Run}
+use Rattle.engine_entry.specs.declared.Ground.{Ground}
 use Rattle.engine_entry.specs.declared.Simulation.{Simulation}
 use Rattle.engine_entry.specs.Answers.{no-simulation, Simulates}
 
@@ -39,6 +42,15 @@ pub record Repeats (s : Run) (n h : ℕ) (u : List ℕ) (r : Simulation) : Type 
 pub record ShownAs (s : Run) (n h : ℕ) (u : List ℕ) (r : Simulation) : Type 0 where
   pub done : s .refused ≡ 0 → Repeats s n h u r
   pub full : (s .refused ≡ 0 → ⊥) → r ≡ no-simulation (s .refused)
+
+-- a run from the ground g with n events, and its answer
+pub record Ran (f : List ℕ) (g : Ground) (events : List ℕ) (n : ℕ) (s : Simulation) (q q' a a' r r' : List ℕ) : Type 0 where
+  pub told : Run
+  pub words : List ℕ
+  pub count : ℕ
+  pub few : Few (g .count) count
+  pub does : run.Simulates f (g .table) events n (g .cells) count told q q' a a' r r' (g .reasons) words
+  pub shown : ShownAs told (atMost (getD (g .table) 0 0) 32) (getD (g .table) 2 0) words s
 
 -- the simulation of the model whose index this is
 abbrev pub RunsAs : (f : List ℕ) → Index → Simulation → (before after : Lent) → Type 0

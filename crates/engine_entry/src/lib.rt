@@ -3,10 +3,11 @@ use engine_state::Cells;
 use model_index::Index;
 use model_index::Status;
 ghost use mathlib.Core.Path.{_≡_};
-ghost use Prim.Native.Nat.{_≤_};
+ghost use Prim.Native.Nat.{_*_, _≤_};
+ghost use lib.ListN.{length};
 ghost use Rattle.engine.specs.Simulate.{unsupported-of};
 ghost use Rattle.engine_entry.specs.Answers.{Grounds, no-notes, NotesSay, no-simulation, lent, Simulates};
-ghost use Rattle.engine_entry.specs.Parts.{Few, Firsts, ShownAs, RunsAs};
+ghost use Rattle.engine_entry.specs.Parts.{Few, Firsts, ShownAs, Ran, RunsAs};
 
 // ---- what the simulations of one model share
 
@@ -163,6 +164,39 @@ fn few(n: usize) -> usize
     n
 }
 
+// A simulation of a model from its own values, with the first n of the events that stand in four words each.
+pub fn run_events(
+    file: &[u8],
+    g: Ground,
+    events: &[u32],
+    n: usize,
+    queue: &mut [u32],
+    records: &mut [u32],
+    runs: &mut [u32],
+) -> Simulation
+    requires { ⌜ (n * 4 ≤ length (now events)) × (length (g .reasons) ≡ 1500) ⌝ }
+    ensures { λ s. ⌜ Ran (now (file .entry)) g (now (events .entry)) n s (now (queue .entry)) (now (queue .exit)) (now (records .entry)) (now (records .exit)) (now (runs .entry)) (now (runs .exit)) ⌝ }
+{
+    let table = g.table;
+    let mut reasons = g.reasons;
+    let count = few(g.count);
+    let cells = g.cells;
+    let s = engine_run::simulated(
+        file,
+        &table,
+        events,
+        n,
+        cells,
+        count,
+        queue,
+        records,
+        runs,
+        &mut reasons,
+    );
+    let entities = engine_reads::at_most(table[0], 32);
+    shown(s, entities, table[2], reasons)
+}
+
 // The simulation of an accepted model with its own values and events.
 fn run(
     file: &[u8],
@@ -175,26 +209,10 @@ fn run(
 {
     let g = prepared(file, index);
     let table = g.table;
-    let mut reasons = g.reasons;
-    let count = few(g.count);
-    let cells = g.cells;
     let v = engine_begin::events_of(file, index);
     let events = v.words;
     let n = engine_reads::at_most(table[8], 100);
-    let s = engine_run::simulated(
-        file,
-        &table,
-        &events,
-        n,
-        cells,
-        count,
-        queue,
-        records,
-        runs,
-        &mut reasons,
-    );
-    let entities = engine_reads::at_most(table[0], 32);
-    shown(s, entities, table[2], reasons)
+    run_events(file, g, &events, n, queue, records, runs)
 }
 
 // The simulation of a model file, with lent areas of any size.

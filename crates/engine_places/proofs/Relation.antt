@@ -45,7 +45,7 @@ use Rattle.engine_state.specs.declared.Told.{Told}
 use Rattle.engine_state.specs.Machine.{Machine, more, put-full, put-counts, put-cells, put-queue, put-records, put-runs, put-reasons}
 use Rattle.engine_state.specs.Changes.{item, entry, addM, logM, add-runM, uncertainM}
 use Rattle.engine_steps.specs.Runs.{no-run}
-use Rattle.engine_places.specs.Meaning.{id-at, key-of, cells-of, item-of, record-of, run-of, pool-of, Tabled}
+use Rattle.engine_places.specs.Meaning.{id-at, key-of, cells-of, item-of, Placed, record-of, run-of, pool-of, Tabled}
 use Rattle.engine_places.proofs.Numbers.{more-is}
 use Rattle.engine_places.proofs.Truth.{Valued}
 use Rattle.engine_places.proofs.Stack.{Places}
@@ -95,10 +95,11 @@ noted-full n used size o e h = rw (e, noted) (rw (le-leb size used h))
 unfoldable pub no-rule : Automation
 no-rule = record { id = []; mode = single; max = 0; triggers = []; conditions = []; actions = done; source = record { line = 0; column = 0 }; notes = [] }
 
--- the record's words are those of the record that it stands for
+-- the record's words are those of the record that it stands for, and its change names texts
 module _ (x : List ℕ) (ts : List Text) (mo : Model) where
-  abbrev pub Worded : Record → Type 0
-  Worded r = recordWords r ≡ trace-words ts (each (λ (a : Automation). a .id) (mo .rules)) (record-of x ts r)
+  pub record Worded (r : Record) : Type 0 where
+    pub words : recordWords r ≡ trace-words ts (each (λ (a : Automation). a .id) (mo .rules)) (record-of x ts r)
+    pub placed : Placed ts (r .change)
 
 module _ (f x : List ℕ) (ts : List Text) (mo : Model) (tb : Tabled f x ts mo) where
   abbrev T : ℕ → Text

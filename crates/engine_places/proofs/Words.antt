@@ -23,7 +23,7 @@ use Rattle.engine.specs.Records.{Kind}
 use Rattle.engine.specs.Words.{place-of, kind-number, detail-number, automation-words, source-words, change-words, trace-words}
 use Rattle.engine.proofs.Lists.{Each, eqT-same}
 use Rattle.engine_state.specs.Changes.{entry, saying}
-use Rattle.engine_places.specs.Meaning.{id-at, kind-of, rule-of, where-of, change-of, record-of, Tabled}
+use Rattle.engine_places.specs.Meaning.{Placed, id-at, kind-of, rule-of, where-of, change-of, record-of, Tabled}
 use Rattle.engine_places.proofs.Relation.{Worded, same-rule, no-rule}
 use Rattle.engine_places.proofs.Lists as lists
 
@@ -42,7 +42,9 @@ module _ {A B : Type 0} (a : A → List ℕ) (b : B → List ℕ) (g : A → B) 
 -- the record area, by the definition's records
 pub record-area : (x : List ℕ) (ts : List Text) (mo : Model) (n : ℕ) (l : List Record) → Each (Worded x ts mo) l →
     area recordWords n l ≡ area (trace-words ts (each (λ (a : Automation). a .id) (mo .rules))) n (each (record-of x ts) l)
-record-area x ts mo n l h = same-area recordWords _ (record-of x ts) n l h
+record-area x ts mo n l h =
+    same-area recordWords (trace-words ts (each (λ (a : Automation). a .id) (mo .rules))) (record-of x ts) n l
+    (lists.each-imp (Worded x ts mo) _ (λ r w. w .words) l h)
 
 -- ---- places
 
@@ -89,10 +91,6 @@ module _ (f x : List ℕ) (ts : List Text) (mo : Model) (tb : Tabled f x ts mo) 
   GoodRule NoRule = Unit {0}
   GoodRule (Of a) = a < length (mo .rules)
 
-  abbrev pub GoodChange : AChange → Type 0
-  GoodChange NoChange = Unit {0}
-  GoodChange (Write e b a) = (e < length ts) × ((b < length ts) × (a < length ts))
-
   rule-words : (u : Rule) → GoodRule u → automation-words ts ids (rule-of x ts u) ≡ ruleWords u
   unfolding automation-words
   rule-words NoRule g = refl
@@ -103,13 +101,15 @@ module _ (f x : List ℕ) (ts : List Text) (mo : Model) (tb : Tabled f x ts mo) 
   where-words Nowhere = refl
   where-words (From l c) = refl
 
-  changed-words : (c : AChange) → GoodChange c → change-words ts ids (change-of x ts c) ≡ changeWords c
+  changed-words : (c : AChange) → Placed ts c → change-words ts ids (change-of x ts c) ≡ changeWords c
   unfolding change-words
   changed-words NoChange g = refl
   changed-words (Write e b a) g = rw (text-place e (g .0), text-place b (g .1 .0), text-place a (g .1 .1))
 
-  pub worded : (now k d : ℕ) (u : Rule) (w : Where) (c : AChange) (K : Kind) → Tells k d K → GoodRule u → GoodChange c →
+  pub worded : (now k d : ℕ) (u : Rule) (w : Where) (c : AChange) (K : Kind) → Tells k d K → GoodRule u → Placed ts c →
       Worded x ts mo (entry now (saying k d) u w c)
   unfolding recordWords trace-words record-of
-  worded now k d u w c K t g h =
-      rw (t .is, t .number, t .detail, rule-words u g, where-words w, changed-words c h)
+  worded now k d u w c K t g h = record {
+    words = rw (t .is, t .number, t .detail, rule-words u g, where-words w, changed-words c h);
+    placed = h;
+  }

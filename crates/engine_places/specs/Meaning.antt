@@ -72,6 +72,11 @@ abbrev pub where-of : Where → Option Source
 where-of Nowhere = none
 where-of (From l c) = some (record { line = l; column = c })
 
+-- the places of a change are those of texts
+abbrev pub Placed : List Text → AChange → Type 0
+Placed ts NoChange = Unit {0}
+Placed ts (Write e b v) = (e < length ts) × ((b < length ts) × (v < length ts))
+
 module _ (x : List ℕ) (ts : List Text) where
   -- the automation's identifier
   unfoldable pub id-at : ℕ → Text

@@ -1,5 +1,4 @@
 use borrow.Author.Needs.{needs}
-use mathlib.Core.Path.{sym}
 use native.Mathlib.Omega.{arith}
 use Rattle.engine_entry.proofs.Entry as entry
 use Rattle.engine_entry.proofs.run.Statement.{statement}
@@ -7,11 +6,9 @@ use Rattle.engine_entry.proofs.run.Tie as tie
 use Rattle.engine_entry.proofs.run.Reads as reads
 use Rattle.engine_entry.proofs.run.Lts as lts
 use Rattle.engine_begin.proofs.events_of.Reads as events-of-reads
-use Rattle.engine_entry.proofs.few.Reads as few-reads
 use Rattle.engine_entry.proofs.prepared.Reads as prepared-reads
-use Rattle.engine_entry.proofs.shown.Reads as shown-reads
+use Rattle.engine_entry.proofs.run_events.Reads as run-events-reads
 use Rattle.engine_reads.proofs.at_most.Reads as at-most-reads
-use Rattle.engine_run.proofs.simulated.Reads as simulated-reads
 
 pub run-spec : {M : Type 1} → statement M
 run-spec =
@@ -19,12 +16,6 @@ run-spec =
     (tie.spec
     (λ c κs. search needs)
     (λ c κs. search needs)
-    (λ c κs. search needs)
-    (λ c. search needs)
-    (λ c κs. search needs)
-    (λ c. search needs)
-    (λ c. sym (c .before .before .before .before .before .before .before .before .before .before .before .before .before .prepared .ensures .room))
-    (λ c κs. (omega (arith, c .before .before .before .before .before .before .before .before .events-of .ensures .long, c .before .before .before .before .before .before .at-most .ensures .1), (omega (arith, c .before .before .before .before .before .before .before .before .before .before .few .ensures .most, c .before .before .before .before .before .before .before .before .before .before .before .before .before .prepared .ensures .room), omega (arith, c .before .before .before .before .before .before .before .before .before .before .before .before .before .prepared .ensures .room))))
     (λ c. search needs)
     (λ c κs. search needs)
     (λ c. search needs)
@@ -32,4 +23,4 @@ run-spec =
     (λ c. search needs)
     (λ c. search needs)
     (λ c. search needs)
-    (λ c. entry.run-is _ _ (λ k. omega (arith, c .before .before .before .before .before .before .before .before .before .before .before .before .before .before .before .before .before .before .before .before .before .before .before .before .before .before .before .shared-slice-known .given k)) _ (c .before .before .before .before .before .before .before .before .before .before .before .before .before .before .before .before .before .before .before .before .before .before .before .prepared .ensures) (c .before .before .before .before .before .before .before .before .before .before .before .before .before .before .before .before .before .before .before .before .few .ensures) (c .before .before .before .before .before .before .before .before .before .before .before .before .before .before .before .before .before .before .events-of .ensures) (c .before .before .before .before .before .before .before .before .before .before .before .before .before .before .before .before .at-most .ensures .0) (c .before .before .before .before .before .before .before .before .before .simulated .ensures) (c .before .at-most2 .ensures .0) (c .shown .ensures)))
+    (λ c. entry.run-is _ _ (λ k. omega (arith, c .before .before .before .before .before .before .before .before .before .before .before .before .before .before .before .before .before .before .before .shared-slice-known .given k)) _ (c .before .before .before .before .before .before .before .before .before .before .before .before .before .before .before .prepared .ensures) (c .before .before .before .before .before .before .before .before .before .before .before .before .before .events-of .ensures) (c .before .before .before .before .before .before .before .before .before .before .before .at-most .ensures .0) (c .before .before .before .before .before .before .run-events .ensures)))

@@ -1,0 +1,126 @@
+-- The simulator's promise: what `run_events` answers and leaves in the areas, by the definition's simulation of the model.
+-- Whoever runs a simulation goes on from it.
+use Prim.Native.Nat.{ℕ, _/_, _≤_, _<_}
+use mathlib.Core.Path.{_≡_, refl, sym, ap, subst, _∙_}
+use mathlib.Core.List.{List, []}
+use native.Mathlib.Omega.{arith}
+use lib.ListN.{length, getD, replicate}
+use Rattle.texts.specs.Lists.{each}
+use Rattle.texts.specs.Texts.{Text}
+use Rattle.areas.specs.Areas.{area}
+use Rattle.records.specs.Records.{recordWords}
+use Rattle.records.specs.declared.Record.{Record}
+use Rattle.reasons.specs.Lists.{Holds}
+use Rattle.model.specs.Answer.{Answer, answer, refused, _>>=_}
+use Rattle.model.specs.Model.{Event, Input, Automation, Model}
+use Rattle.model.specs.File.{texts, got}
+use Rattle.model.specs.Validate.{accepted}
+use Rattle.model_index.specs.declared.File.{File}
+use Rattle.model_index.specs.declared.Index.{Index}
+use Rattle.model_index.specs.declared.Status.the-variants as status
+use Rattle.model_index.specs.Indexed as indexed
+use Rattle.model_index.specs.Indexed.{Indexed}
+use Rattle.model_validate.proofs.Agrees.{accept-read, accept-refused}
+use Rattle.model_validate.proofs.Refusals.{Refuses, Refusal, Listed, refusal-numbers}
+use mathlib.Core.Logic.{inl, inr}
+use Rattle.engine.specs.Cells.{Cell, initial-cells}
+use Rattle.engine.specs.Memory.{Lent, entries, zeros, all-zeros, lent-after, simulate-lent}
+use Rattle.engine.specs.Records.{Trace, Areas}
+use Rattle.engine.specs.Simulate as engine
+use Rattle.engine.specs.Simulate.{simulated, simulate, unsupported-of}
+use Rattle.engine.specs.Unsupported.{unsupported}
+use Rattle.engine.specs.Words.{trace-words, texts-in, words-in, entry-words, simulate-memory}
+use Rattle.engine.proofs.Memory.{refusals}
+use Rattle.engine_reads.specs.Reads.{atMost}
+use Rattle.engine_run.specs.Run.{refusalS}
+use Rattle.engine_run.specs.Run as run
+use Rattle.engine_run.specs.declared.Simulation.{Simulation as Run}
+use Rattle.engine_places.specs.Meaning.{record-of, cells-of, Tabled}
+use Rattle.engine_places.proofs.Accepted.{accepted-lawful}
+use Rattle.engine.proofs.Lists.{Each}
+use Rattle.engine_places.proofs.Lists.{each-length}
+use Rattle.engine_places.proofs.Relation.{Worded}
+use Rattle.engine_places.proofs.Numbers.{most-is}
+use Rattle.engine_places.proofs.Simulated.{EventAt}
+use Rattle.engine_places.proofs.Truth.{entities-are}
+use Rattle.engine_places.proofs.Words.{record-area}
+use Rattle.engine_table.proofs.Laws as table
+use Rattle.engine_begin.specs.Begin.{EventsOf}
+use Rattle.engine_begin.proofs.Begins.{event-here}
+use Rattle.engine_entry.specs.declared.Ground.{Ground}
+use Rattle.engine_entry.specs.declared.Notes.{Notes}
+use Rattle.engine_entry.specs.declared.Simulation.{Simulation}
+use Rattle.engine_entry.specs.Answers.{Grounds, no-notes, NotesSay, incomplete-of, values-of, no-simulation, Shows, Says, lent, Simulates}
+use Rattle.engine_entry.specs.Parts.{Firsts, Ran}
+use Rattle.engine_entry.proofs.Core.{tb, Done, Outcome, done, full, ran}
+use Rattle.engine_entry.proofs.Final.{values-are}
+
+module _ (f : List ℕ) (i : Index) (m : Model) (acc : accepted f ≡ answer m) (o : Indexed f i m) (bytes : (k : ℕ) → getD f k 0 < 256) (g : Ground) (gr : Grounds f i g) where
+  abbrev x : List ℕ
+  x = g .table
+
+  abbrev t : Tabled f x (o .ts) m
+  t = tb f i m acc o bytes g gr
+
+  pub texts-here : texts-in f ≡ o .ts
+  unfolding texts-in
+  texts-here = rw (o .all-texts .1, texts-in)
+
+  -- with the events vs, given as words
+  module _ (v : List ℕ) (d : Event) (vs : List Event) (evs : (j : ℕ) → j < length vs → EventAt f x (o .ts) m t v j (getD vs j d)) {n : ℕ} (many : n ≡ length vs) {ans : Simulation} {q q' a a' r r' : List ℕ} (ran-so : Ran f g v n ans q q' a a' r r') where
+    abbrev sizes : Areas
+    sizes = record { queue = length q / 5; records = length a / 13; runs = length r / 28 }
+
+    abbrev plain : Answer engine.Simulation
+    plain = simulated sizes m (initial-cells (m .scenario .entities)) vs
+
+    -- the answer says what the definition's simulation says, and the record area holds its records
+    pub record Told (sim : engine.Simulation) : Type 0 where
+      pub shows : Shows f ans sim
+      pub records : List Record
+      pub count : ans .records ≡ length records
+      pub trace : sim .trace ≡ each (record-of x (o .ts)) records
+      pub area-is : a' ≡ area recordWords (length a) records
+      pub words : Each (Worded x (o .ts) m) records
+
+    pub data Promise : Type 0 where
+      answers : (sim : engine.Simulation) → plain ≡ answer sim → Told sim → Promise
+      refuses : (n : ℕ) → 41 ≤ n → n ≤ 43 → plain ≡ refused n → ans ≡ no-simulation n → a' ≡ replicate (length a) 0 → Promise
+
+    abbrev Said : engine.Simulation → Type 0
+    Said sim = Done f i m acc o bytes g gr v d vs evs (ran-so .told) q q' a a' r r' (ran-so .words) sim
+
+    many-entities : atMost (getD x 0 0) 32 ≡ length (m .scenario .entities)
+    many-entities = unfold Rattle.engine_reads.specs.Reads.entities in entities-are f x (o .ts) m t
+
+    shows-here : (sim : engine.Simulation) → Said sim → Shows f ans sim
+    shows-here sim e =
+        let s = ran-so .told in
+        let y = ran-so .shown .done (e .accepted) in
+        record {
+          accepted = y .accepted;
+          steps = y .steps ∙ e .steps;
+          records = y .records ∙ e .count ∙ sym (ap length (e .trace) ∙ each-length (record-of x (o .ts)) (e .records));
+          horizon = y .horizon ∙ t .horizon ∙ sym (e .horizon);
+          values =
+              values-are f x (o .ts) m t (s .values) (e .versions) (e .valued) (ans .values) (subst (λ (j : ℕ). Firsts (s .values) j (ans .values)) many-entities (y .values))
+              ∙ ap (λ (ts : List Text). values-of ts (each (λ (c : Cell). (c .name, c .value)) (cells-of x (o .ts) (s .values) (e .versions)))) (sym texts-here)
+              ∙ ap (values-of (texts-in f)) (sym (e .final));
+          unknown =
+              subst (λ (u : List ℕ). Holds f (sim .unknown) (ans .unknown) u) (sym (y .reasons))
+              (subst (λ (j : ℕ). Holds f (sim .unknown) j (ran-so .words)) (sym (y .unknown)) (e .unknown));
+          incomplete = ap (λ (w : ℕ). incomplete-of w (ans .waiting)) (y .why) ∙ ap (incomplete-of (s .why)) (y .waiting) ∙ e .incomplete;
+        }
+
+    refused-as : (n : ℕ) → 41 ≤ n → ran-so .told ≡ refusalS n → ans ≡ no-simulation n
+    refused-as n lo is =
+        let no : ran-so .told .refused ≡ n = ap (λ (y : Run). y .refused) is ∙ unfold refusalS in refl in
+        ran-so .shown .full (λ y. absurd (omega (arith, no, y))) ∙ ap no-simulation no
+
+    pub promise : Promise
+    promise = by (ran f i m acc o bytes g gr v d vs evs (ran-so .told) q q' a a' r r' (ran-so .words) many (ran-so .few) (ran-so .does))
+      where
+        by : Outcome f i m acc o bytes g gr v d vs evs (ran-so .told) q q' a a' r r' (ran-so .words) → Promise
+        by (done sim e y) =
+            answers sim e (record { shows = shows-here sim y; records = y .records; count = ran-so .shown .done (y .accepted) .records ∙ y .count; trace = y .trace; area-is = y .area-is; words = y .words })
+        by (full n lo hi e is z) = refuses n lo hi e (refused-as n lo is) z
