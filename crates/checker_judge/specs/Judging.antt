@@ -1,5 +1,5 @@
 -- The judging of one invariant, on places: the invariant at a position of the file f, with the table x, over records and
--- the values by entity number. What is written here for positions says checker's Judge of texts.
+-- the values by entity number. It goes as checker's Judge does for texts.
 use Prim.Native.Nat.{ℕ, _+_, _<_}
 use mathlib.Core.Path.{_≡_}
 use mathlib.Core.Bool.{Bool, true, false, _&&_, _||_}

@@ -14,7 +14,7 @@ use records::Record;
 use records::Where;
 ghost use mathlib.Core.Path.{_≡_};
 ghost use mathlib.Core.Bool.{_&&_, _||_};
-ghost use Prim.Native.Nat.{_*_, _+_, _≤_, _<_};
+ghost use Prim.Native.Nat.{_*_, _+_, _≤_};
 ghost use lib.ListN.{length};
 ghost use Rattle.engine_truth.specs.Truths.{sizeT};
 ghost use Rattle.engine_state.specs.Machine.{later};

@@ -37,6 +37,10 @@ use Rattle.checker_judge.specs.declared.Reading.{Reading}
 use Rattle.checker_places.specs.Meaning.{failure-of, memory-of, shown-of, failing-of, reading-of}
 use Rattle.checker_places.proofs.Record.{read-is}
 
+-- records whose places are those of texts
+abbrev pub Traced : List Text → List Record → Type 0
+Traced ts l = Each (λ (r : Record). Placed ts (r .change)) l
+
 -- a write of a name that no cell has changes nothing
 put-nowhere : (t v : Text) (k : ℕ) (l : List Cell) → cell-of t l ≡ none → put t v k l ≡ l
 unfolding cell-of find put each overwrite
@@ -56,9 +60,9 @@ module _ (f x : List ℕ) (ts : List Text) (mo : Model) (tb : Tabled f x ts mo) 
 
   -- ---- the values after a record, with some versions
 
-  pub record After (c : Cells) (l : List Cell) : Type 0 where
-    pub versions : List ℕ
-    pub are : C (c .values) versions l
+  record After (c : Cells) (l : List Cell) : Type 0 where
+    versions : List ℕ
+    are : C (c .values) versions l
 
   put-after : (c : Cells) (ns : List ℕ) (cs : List Cell) → C (c .values) ns cs → (e v : ℕ) → e < length ts →
       v < length ts → After (putJ x c e v) (put (T e) (T v) 0 cs)
@@ -111,11 +115,8 @@ module _ (f x : List ℕ) (ts : List Text) (mo : Model) (tb : Tabled f x ts mo) 
         cases ForbiddenTransition = refl
         cases (DeadlineMissed d) = refl
 
-  abbrev pub Traced : List Record → Type 0
-  Traced l = Each (λ (r : Record). Placed ts (r .change)) l
-
   module _ (at : ℕ) (i : Invariant) (q : ℕ) (stands : invariant ts f at ≡ got i q) where
-    reading-is : (l : List Record) → Traced l → (k : ℕ) (c : Cells) (m : Memory) (ns : List ℕ) (cs : List Cell) →
+    reading-is : (l : List Record) → Traced ts l → (k : ℕ) (c : Cells) (m : Memory) (ns : List ℕ) (cs : List Cell) →
         C (c .values) ns cs →
         reading-of (readingJ f x at c m k l) ≡ reading i k cs (memory-of m) (each (record-of x ts) l)
     unfolding readingJ reading each reading-of failing-of turnJ record-of
@@ -129,9 +130,9 @@ module _ (f x : List ℕ) (ts : List Text) (mo : Model) (tb : Tabled f x ts mo) 
         (reading-is l (h .1) (k + 1) d (s .memory) (a .versions) (after (record-of x ts r) cs) (a .are))
         ∙ ap (told at k r d i (after (record-of x ts r) cs) l) e
 
-  -- the invariant at a position of an accepted file, over records whose places are those of texts, from the values vs
+  -- the invariant at a position, over records whose places are those of texts, from values that are places of texts
   pub judge-is : (at : ℕ) (i : Invariant) → Reads (invariant ts) f at i → (c : Cells) (ns : List ℕ) →
-      Valued f x ts mo tb (c .values) → length ns ≡ 32 → (l : List Record) → Traced l →
+      Valued f x ts mo tb (c .values) → length ns ≡ 32 → (l : List Record) → Traced ts l →
       reading-of (judgeJ f x at c l) ≡ read-all i (cells-of x ts (c .values) ns) (each (record-of x ts) l)
   unfolding judgeJ read-all memory-of invariant kinds
   judge-is at i (q, e) c ns ok long l h =
@@ -142,7 +143,7 @@ module _ (f x : List ℕ) (ts : List Text) (mo : Model) (tb : Tabled f x ts mo) 
 
   -- what `judge` answers
   pub judged-is : (at : ℕ) (i : Invariant) → Reads (invariant ts) f at i → (c : Cells) (ns : List ℕ) →
-      Valued f x ts mo tb (c .values) → length ns ≡ 32 → (l : List Record) → Traced l → (a : List ℕ) (n : ℕ) (r : Reading) →
+      Valued f x ts mo tb (c .values) → length ns ≡ 32 → (l : List Record) → Traced ts l → (a : List ℕ) (n : ℕ) (r : Reading) →
       Judges f x at c a n r → length l ≡ n → a ≡ recorded (length a) l →
       reading-of r ≡ read-all i (cells-of x ts (c .values) ns) (each (record-of x ts) l)
   judged-is at i s c ns ok long l h a n r j many e = ap reading-of (j .is l many e) ∙ judge-is at i s c ns ok long l h
