@@ -1,22 +1,17 @@
 -- What stands in the record area, word for word (docs/FORMAT.md): texts as places among the file's texts, automations as numbers.
-use Prim.Native.Nat.{ℕ, suc}
-use mathlib.Core.Bool.{Bool, true, false}
+use Prim.Native.Nat.{ℕ}
 use mathlib.Core.List.{List, [], _∷_, _++_}
 use mathlib.Core.Option.{Option, none, some}
-use Rattle.texts.specs.Lists.{if_then_else_, each, all-lists}
-use Rattle.texts.specs.Texts.{Text, eqT, all-texts}
+use Rattle.texts.specs.Lists.{if_then_else_, each}
+use Rattle.texts.specs.Texts.{Text}
 use Rattle.model.specs.Answer.{Answer, answer, refused}
 use Rattle.model.specs.Model.{Source, Model}
 use Rattle.model.specs.File.{got, broken, texts}
+use Rattle.model.specs.Rewrite.{place-of}
 use Rattle.model.specs.Validate.{accepted}
 use Rattle.engine.specs.Kleene.{Truth, Yes, No, Unknown}
 use Rattle.engine.specs.Records.{Kind, Change, Trace, Areas}
-use Rattle.engine.specs.Memory.{Lent, simulate-lent, all-memory}
-
--- the number of the first text that equals t
-unfoldable pub place-of : Text → List Text → ℕ
-place-of t [] = 0
-place-of t (u ∷ l) = if eqT t u then 0 else suc (place-of t l)
+use Rattle.engine.specs.Memory.{Lent, simulate-lent}
 
 unfoldable pub truth-number : Truth → ℕ
 truth-number Yes = 0

@@ -10,7 +10,7 @@ use Rattle.texts.specs.Lists.{each}
 use Rattle.texts.specs.Texts.{Text}
 use Rattle.model.specs.Model.{Model}
 use Rattle.engine.specs.Cells.{Cell}
-use Rattle.engine.specs.Words.{place-of}
+use Rattle.model.specs.Rewrite.{place-of}
 use Rattle.engine_reads.specs.Reads.{entities}
 use Rattle.engine_places.specs.Meaning.{cell-at, cells-from, cells-of, Tabled}
 use Rattle.engine_places.proofs.Truth.{Valued, entities-are}

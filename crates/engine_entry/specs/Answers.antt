@@ -13,7 +13,8 @@ use Rattle.reasons.specs.Lists.{Holds}
 use Rattle.engine.specs.Memory.{Lent, entries}
 use Rattle.engine.specs.Reasons.{space-spent, steps-spent, runs-left}
 use Rattle.engine.specs.Simulate as engine
-use Rattle.engine.specs.Words.{place-of, texts-in, entry-words, simulate-memory}
+use Rattle.model.specs.Rewrite.{place-of}
+use Rattle.engine.specs.Words.{texts-in, entry-words, simulate-memory}
 use Rattle.engine_unsupported.specs.Listing.{unsupportedL}
 use Rattle.engine_table.specs.Table.{TableOf}
 use Rattle.engine_begin.specs.Begin.{CellsOf}

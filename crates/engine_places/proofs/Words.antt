@@ -20,7 +20,8 @@ use Rattle.records.specs.declared.Change.{Change as AChange}
 use Rattle.records.specs.declared.Change.the-variants.{NoChange, Write}
 use Rattle.records.specs.declared.Record.{Record}
 use Rattle.engine.specs.Records.{Kind}
-use Rattle.engine.specs.Words.{place-of, kind-number, detail-number, automation-words, source-words, change-words, trace-words}
+use Rattle.model.specs.Rewrite.{place-of}
+use Rattle.engine.specs.Words.{kind-number, detail-number, automation-words, source-words, change-words, trace-words}
 use Rattle.engine.proofs.Lists.{Each, eqT-same}
 use Rattle.engine_state.specs.Changes.{entry, saying}
 use Rattle.engine_places.specs.Meaning.{Placed, id-at, kind-of, rule-of, where-of, change-of, record-of, Tabled}
@@ -55,7 +56,7 @@ unfolding place-of
 place-first t [] k h a b = absurd (omega arith)
 place-first t (u ∷ l) zero h a b = rw a
 place-first t (u ∷ l) (suc k) h a b =
-    rw (b 0 (omega arith)) (ap suc (place-first t l k (omega arith) a (λ j o. b (suc j) (omega arith))))
+    rw (b 0 (omega arith)) (omega (arith, place-first t l k (omega arith) a (λ j o. b (suc j) (omega arith))))
 
 module _ (f x : List ℕ) (ts : List Text) (mo : Model) (tb : Tabled f x ts mo) where
   abbrev ids : List Text
