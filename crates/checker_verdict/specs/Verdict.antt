@@ -1,0 +1,112 @@
+-- Violations as numbers, and what judging one invariant after the other gathers.
+use Prim.Native.Nat.{ℕ, zero, suc, _+_, _*_, _≤_}
+use mathlib.Core.Path.{_≡_}
+use mathlib.Core.Bool.{Bool, true, false}
+use mathlib.Core.List.{List, [], _∷_, _++_}
+use lib.Dec.{eqb}
+use lib.ListN.{length, getD}
+use Rattle.texts.specs.Lists.{if_then_else_}
+use Rattle.texts.specs.Texts.{Text}
+use Rattle.areas.specs.Areas.{area}
+use Rattle.records.specs.Records.{recorded}
+use Rattle.records.specs.declared.Record.{Record}
+use Rattle.records.specs.declared.Where.{Where}
+use Rattle.records.specs.declared.Where.the-variants.{Nowhere, From}
+use Rattle.reasons.specs.Lists.{insertAll, Holds}
+use Rattle.model_parts.specs.declared.Section.{Section}
+use Rattle.engine_reads.specs.Reads.{two, cap, atMost}
+use Rattle.engine_state.specs.declared.Cells.{Cells}
+use Rattle.checker_judge.specs.declared.Failure.{Failure}
+use Rattle.checker_judge.specs.declared.Failure.the-variants.{NoFailure, ProhibitedState, GuardViolated, ForbiddenTransition, DeadlineMissed}
+use Rattle.checker_judge.specs.declared.Reading.{Reading}
+use Rattle.checker_judge.specs.Judging.{failedJ, judgeJ}
+use Rattle.checker_reasons.specs.Told.{renderings, unknownI, incompleteI}
+use Rattle.checker_verdict.specs.declared.Counts.{Counts}
+
+-- ---- violations
+
+abbrev pub failure-number : Failure → ℕ
+failure-number NoFailure = 0
+failure-number ProhibitedState = 1
+failure-number GuardViolated = 2
+failure-number ForbiddenTransition = 3
+failure-number (DeadlineMissed d) = 4
+
+abbrev pub failure-deadline : Failure → ℕ
+failure-deadline NoFailure = 0
+failure-deadline ProhibitedState = 0
+failure-deadline GuardViolated = 0
+failure-deadline ForbiddenTransition = 0
+failure-deadline (DeadlineMissed d) = d
+
+abbrev pub sourceV : Where → ℕ → ℕ
+sourceV Nowhere j = 0
+sourceV (From l c) j = if eqb j 0 then 1 else if eqb j 1 then l else c
+
+-- eight numbers: the identifier's place, second, index, failure, deadline, source
+abbrev pub numbersV : (id : ℕ) → Reading → List ℕ
+numbersV id r =
+    id ∷ r .second ∷ r .index ∷ failure-number (r .failure) ∷ failure-deadline (r .failure)
+    ∷ sourceV (r .source) 0 ∷ sourceV (r .source) 1 ∷ sourceV (r .source) 2 ∷ []
+
+-- a violation: the place of the invariant's identifier, and the reading with the failing record
+pub record Broken : Type 0 where
+  pub id : ℕ
+  pub reading : Reading
+
+abbrev pub brokenV : Broken → List ℕ
+brokenV b = numbersV (b .id) (b .reading)
+
+unfoldable pub violatedV : (id : ℕ) → Reading → List Broken
+violatedV id r = if failedJ (r .failure) then record { id = id; reading = r } ∷ [] else []
+
+pub record Pushed (v : List ℕ) (n id : ℕ) (r : Reading) (v' : List ℕ) (k : ℕ) : Type 0 where
+  pub most : k ≤ n + 1
+  pub is : (l : List Broken) → length l ≡ n → v ≡ area brokenV (length v) l →
+      (v' ≡ area brokenV (length v) (l ++ violatedV id r)) × (k ≡ length (l ++ violatedV id r))
+
+-- ---- what is gathered
+
+pub record Gathered : Type 0 where
+  pub violations : List Broken
+  pub unknown : List Text
+  pub incomplete : List Text
+
+-- the invariant at a position, over the records l
+unfoldable pub oneV : (f x : List ℕ) → (at : ℕ) → Cells → List Record → Gathered → Gathered
+oneV f x at c l g =
+    let r = judgeJ f x at c l in
+    record {
+      violations = g .violations ++ violatedV (two f (cap at + 1)) r;
+      unknown = insertAll (renderings f (unknownI f (cap at) (r .memory))) (g .unknown);
+      incomplete = insertAll (renderings f (incompleteI f (cap at) (r .memory))) (g .incomplete);
+    }
+
+-- the first n invariants
+unfoldable pub firstV : (f x starts : List ℕ) → Cells → List Record → (n : ℕ) → Gathered → Gathered
+firstV f x starts c l zero g = g
+firstV f x starts c l (suc n) g = oneV f x (getD starts n 0) c l (firstV f x starts c l n g)
+
+-- the areas hold what is gathered
+pub record Keeps (f v u w : List ℕ) (s : Counts) (g : Gathered) : Type 0 where
+  pub violations : v ≡ area brokenV (length v) (g .violations)
+  pub many : s .violations ≡ length (g .violations)
+  pub unknown : Holds f (g .unknown) (s .unknown) u
+  pub incomplete : Holds f (g .incomplete) (s .incomplete) w
+
+-- counts grow by at most so much, the areas keep their sizes, and what they hold is changed by F
+pub record Changes (F : List Record → Gathered → Gathered) (one two three : ℕ) (f a : List ℕ) (n : ℕ) (s t : Counts) (v v' u u' w w' : List ℕ) : Type 0 where
+  pub most-violations : t .violations ≤ s .violations + one
+  pub most-unknown : t .unknown ≤ s .unknown + two
+  pub most-incomplete : t .incomplete ≤ s .incomplete + three
+  pub long-v : length v' ≡ length v
+  pub long-u : length u' ≡ length u
+  pub long-w : length w' ≡ length w
+  pub does : (l : List Record) → length l ≡ n → a ≡ recorded (length a) l → (g : Gathered) → Keeps f v u w s g →
+      Keeps f v' u' w' t (F l g)
+
+abbrev pub Gathers : (f x : List ℕ) → (at : ℕ) → Cells → (a : List ℕ) → (n : ℕ) → (s t : Counts) → (v v' u u' w w' : List ℕ) → Type 0
+Gathers f x at c a n = Changes (oneV f x at c) 1 2 1 f a n
+
+abbrev pub GathersAll : (f x : List ℕ) → Section → Cells → (a : List ℕ) → (n : ℕ) → (s t : Counts) → (v v' u u' w w' : List ℕ) → Type 0
+GathersAll f x i c a n = Changes (λ (l : List Record). firstV f x (i .starts) c l (atMost (i .count) 32)) 32 64 32 f a n
