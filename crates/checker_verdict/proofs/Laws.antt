@@ -81,7 +81,7 @@ one-told f at m = by (m .beyond)
     by true = omega arith
     by false = omega arith
 
-all-many : (ts l : List Text) → length (insertAll ts l) ≤ length l + length ts
+pub all-many : (ts l : List Text) → length (insertAll ts l) ≤ length l + length ts
 unfolding insertAll
 all-many [] l = omega arith
 all-many (t ∷ ts) l = omega (arith, all-many ts (insertT t l), listing.one-more t l)

@@ -134,6 +134,7 @@ module _ (f : List ℕ) (i : Index) (m : Model) (acc : accepted f ≡ answer m) 
       pub final : sim .final-state ≡ each (λ (c : Cell). (c .name, c .value)) (cells-of x ts (s .values) versions)
       pub valued : Valued f x ts m tb (s .values)
       pub unknown : Holds f (sim .unknown) (s .reasons) u'
+      pub few : length (sim .unknown) ≤ 300
       pub incomplete : incomplete-of (s .why) (s .waiting) ≡ sim .incomplete
 
     pub data Outcome : Type 0 where
@@ -179,6 +180,7 @@ module _ (f : List ℕ) (i : Index) (m : Model) (acc : accepted f ≡ answer m) 
           final = ap (λ (v : List ℕ). each (λ (c : Cell). (c .name, c .value)) (cells-of x ts v (p .last .versions))) (sym (ap (λ (y : Run). y .values) e));
           valued = subst (Valued f x ts m tb) (sym (ap (λ (y : Run). y .values) e)) (k .valued);
           unknown = subst (λ (n : ℕ). Holds f (p .last .reasons) n u') (sym (ap (λ (y : Run). y .reasons) e)) (told .reasons);
+          few = k .few;
           incomplete = ap (λ (y : Run). incomplete-of (y .why) (y .waiting)) e ∙ ap (λ (t : List Text). reasons-of (p .why) ++ t) (left-as (length (p .last .runs)));
         }
 

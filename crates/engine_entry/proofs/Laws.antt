@@ -48,13 +48,14 @@ module _ (s : Run) (n h : ℕ) (u : List ℕ) where
 -- ---- a run
 
 pub ran-so : {f : List ℕ} {g : Ground} {events : List ℕ} {n count : ℕ} {s : Run} {q q' a a' r r' u : List ℕ} → Few (g .count) count →
-    run.Simulates f (g .table) events n (g .cells) count s q q' a a' r r' (g .reasons) u → {k : ℕ} → k ≡ atMost (getD (g .table) 0 0) 32 →
+    run.Simulates f (g .table) events n (g .cells) count s q q' a a' r r' (g .reasons) u → length u ≡ length (g .reasons) → {k : ℕ} → k ≡ atMost (getD (g .table) 0 0) 32 →
     {ans : Simulation} → ShownAs s k (getD (g .table) 2 0) u ans → Ran f g events n ans q q' a a' r r'
-ran-so {f} {g} {events} {n} {count} {s} {q} {q'} {a} {a'} {r} {r'} {u} few does e {ans} shown = record {
+ran-so {f} {g} {events} {n} {count} {s} {q} {q'} {a} {a'} {r} {r'} {u} few does long e {ans} shown = record {
   told = s;
   words = u;
   count = count;
   few = few;
   does = does;
+  long = long;
   shown = subst (λ (j : ℕ). ShownAs s j (getD (g .table) 2 0) u ans) e shown;
 }

@@ -82,6 +82,7 @@ module _ (f : List ℕ) (i : Index) (m : Model) (acc : accepted f ≡ answer m) 
       pub trace : sim .trace ≡ each (record-of x (o .ts)) records
       pub area-is : a' ≡ area recordWords (length a) records
       pub words : Each (Worded x (o .ts) m) records
+      pub few : length (sim .unknown) ≤ 300
 
     pub data Promise : Type 0 where
       answers : (sim : engine.Simulation) → plain ≡ answer sim → Told sim → Promise
@@ -122,5 +123,5 @@ module _ (f : List ℕ) (i : Index) (m : Model) (acc : accepted f ≡ answer m) 
       where
         by : Outcome f i m acc o bytes g gr v d vs evs (ran-so .told) q q' a a' r r' (ran-so .words) → Promise
         by (done sim e y) =
-            answers sim e (record { shows = shows-here sim y; records = y .records; count = ran-so .shown .done (y .accepted) .records ∙ y .count; trace = y .trace; area-is = y .area-is; words = y .words })
+            answers sim e (record { shows = shows-here sim y; records = y .records; count = ran-so .shown .done (y .accepted) .records ∙ y .count; trace = y .trace; area-is = y .area-is; words = y .words; few = y .few })
         by (full n lo hi e is z) = refuses n lo hi e (refused-as n lo is) z

@@ -50,6 +50,7 @@ pub record Ran (f : List ℕ) (g : Ground) (events : List ℕ) (n : ℕ) (s : Si
   pub count : ℕ
   pub few : Few (g .count) count
   pub does : run.Simulates f (g .table) events n (g .cells) count told q q' a a' r r' (g .reasons) words
+  pub long : length words ≡ length (g .reasons)
   pub shown : ShownAs told (atMost (getD (g .table) 0 0) 32) (getD (g .table) 2 0) words s
 
 -- the simulation of the model whose index this is

@@ -91,7 +91,7 @@ pub struct Simulation {
     pub waiting: bool,
 }
 
-fn refused(number: u32) -> Simulation
+pub fn refused(number: u32) -> Simulation
     ensures { λ r. ⌜ r ≡ no-simulation number ⌝ }
 {
     Simulation {
@@ -155,7 +155,7 @@ fn shown(
 }
 
 // At most 300.
-fn few(n: usize) -> usize
+pub fn few(n: usize) -> usize
     ensures { λ r. ⌜ Few n r ⌝ }
 {
     if 300 < n {

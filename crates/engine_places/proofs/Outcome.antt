@@ -3,7 +3,7 @@
 use mathlib.Core.Path.{_≡_, refl, sym, ap, _∙_, subst}
 use mathlib.Core.List.{List, [], _∷_, _++_}
 use mathlib.Core.Option.{Option}
-use Prim.Native.Nat.{ℕ, zero, suc, _+_, _-_, _*_, _<_}
+use Prim.Native.Nat.{ℕ, zero, suc, _+_, _-_, _*_, _≤_, _<_}
 use native.Mathlib.Omega.{arith}
 use lib.ListN.{length, getD}
 use lib.Dec.{eqb}
@@ -26,6 +26,7 @@ use Rattle.engine_loop.specs.Loop.{eventW, begunM, Halt, loopM, closedM}
 use Rattle.engine_places.specs.Meaning.{work-of, record-of, cell-at, cells-from, cells-of, run-of, pool-of, Column, Tabled}
 use Rattle.engine_places.proofs.Truth.{Valued, entities-are}
 use Rattle.engine_places.proofs.Checked.{known-value}
+use Rattle.engine_places.proofs.Pigeons.{at-most}
 use Rattle.engine_places.proofs.Relation.{Worded, GoodWork, Live}
 use Rattle.engine_places.proofs.Acts.{declared}
 use Rattle.engine_places.proofs.Loop.{reasons-of}
@@ -44,10 +45,11 @@ module _ (f x : List ℕ) (ts : List Text) (mo : Model) (tb : Tabled f x ts mo) 
     horizon = mo .scenario .limits .horizon;
   }
 
-  -- each record's words are those of the record that it stands for, and the values are places of texts
+  -- each record's words are those of the record that it stands for, the values are places of texts, and reasons are few
   pub record Kept (k : Machine) : Type 0 where
     pub words : Each (Worded x ts mo) (k .records)
     pub valued : Valued f x ts mo tb (k .values)
+    pub few : length (k .reasons) ≤ 300
 
   -- an answer, or the number of the area that was full
   pub data Answered (p : Halt) (a : Answer Simulation) : Type 0 where
@@ -76,7 +78,7 @@ module _ (f x : List ℕ) (ts : List Text) (mo : Model) (tb : Tabled f x ts mo) 
   result-is areas cells vs p (ends now l s w i) =
       shows (l .free)
       (ap (λ (y : Option ℕ). unless-full y (outcome mo (ended areas mo cells vs))) (l .calm) ∙ ap answer (shown-is p (ended areas mo cells vs) now l s i))
-      (record { words = l .records .words; valued = l .cells .valued })
+      (record { words = l .records .words; valued = l .cells .valued; few = omega (arith, ap length (l .reasons .is), at-most (ended areas mo cells vs .engine .unknown) (pool-of mo) (l .reasons .differ) (l .reasons .among), tb .few-reasons) })
   result-is areas cells vs p (full n z h o) =
       refuses n z (h .is) (ap (λ (y : Option ℕ). unless-full y (outcome mo (ended areas mo cells vs))) o)
 

@@ -23,4 +23,4 @@ run-events-spec =
     (λ c. search needs)
     (λ c. search needs)
     (λ c. search needs)
-    (λ c. laws.ran-so (c .before .before .before .before .before .before .before .before .before .before .before .before .before .before .before .before .few .ensures) (c .before .before .before .before .before .before .before .before .before .simulated .ensures) (c .before .at-most .ensures .0) (c .shown .ensures)))
+    (λ c. laws.ran-so (c .before .before .before .before .before .before .before .before .before .before .before .before .before .before .before .before .few .ensures) (c .before .before .before .before .before .before .before .before .before .simulated .ensures) (c .before .before .before .before .before .before .before .before .before .simulated .kept .1 .1 .1 .1 .1 .1 .1 .1 .1 .0) (c .before .at-most .ensures .0) (c .shown .ensures)))

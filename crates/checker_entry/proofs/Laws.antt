@@ -1,0 +1,102 @@
+-- Laws for the functions of the entry.
+use Prim.Native.Nat.{ℕ, _+_, _*_, _≤_, _<_, _/_}
+use mathlib.Core.Path.{_≡_, refl, sym, ap, subst, _∙_}
+use mathlib.Core.Bool.{Bool, true, false}
+use mathlib.Core.List.{List, [], _∷_, map}
+use native.Mathlib.Omega.{arith}
+use lib.ListN.{length, replicate, length-replicate}
+use borrow.Author.Tests.{eq-eqb, ne-eqb}
+use Rattle.texts.specs.Texts.{Text, insertT}
+use Rattle.areas.proofs.Laws as areas
+use Rattle.records.specs.Records.{recorded}
+use Rattle.records.specs.declared.Record.{Record}
+use Rattle.reasons.specs.Lists.{reasons, listed, insertAll, Holds}
+use Rattle.reasons.specs.Reasons.{render}
+use Rattle.reasons.specs.declared.Reason.{Reason}
+use Rattle.reasons.proofs.Listing as listing
+use Rattle.model_index.specs.declared.Index.{Index}
+use Rattle.engine_reads.specs.Reads.{atMost, alone}
+use Rattle.engine_state.specs.declared.Cells.{Cells}
+use Rattle.engine_entry.specs.declared.Ground.{Ground}
+use Rattle.engine_entry.specs.declared.Simulation.{Simulation}
+use Rattle.engine_entry.specs.Answers.{no-simulation}
+use Rattle.engine_entry.specs.Parts.{Few, Ran}
+use Rattle.checker_verdict.specs.declared.Counts.{Counts}
+use Rattle.checker_verdict.specs.Verdict.{brokenV, Gathered, firstV, Keeps, GathersAll}
+use Rattle.checker_verdict.proofs.Laws.{all-many}
+use Rattle.checker_entry.specs.declared.Status.{Status}
+use Rattle.checker_entry.specs.declared.Status.the-variants as status
+use Rattle.checker_entry.specs.declared.Check.{Check}
+use Rattle.checker_entry.specs.Answers.{no-check}
+use Rattle.checker_entry.specs.Parts.{Fits, statusV, stoppedR, leftR, Starts, Ends, startV, counts, Verdict, Checked}
+
+-- ---- the status
+
+module _ (t : Counts) where
+  pub status-unknown : (t .unknown ≡ 0 → ⊥) → status.Unknown ≡ statusV t
+  unfolding statusV
+  status-unknown z = rw (ne-eqb (t .unknown) 0 z)
+
+  pub status-violation : t .unknown ≡ 0 → (t .violations ≡ 0 → ⊥) → status.Violation ≡ statusV t
+  unfolding statusV
+  status-violation a z = rw (eq-eqb (t .unknown) 0 a, ne-eqb (t .violations) 0 z)
+
+  pub status-incomplete : t .unknown ≡ 0 → t .violations ≡ 0 → (t .incomplete ≡ 0 → ⊥) → status.Incomplete ≡ statusV t
+  unfolding statusV
+  status-incomplete a b z = rw (eq-eqb (t .unknown) 0 a, eq-eqb (t .violations) 0 b, ne-eqb (t .incomplete) 0 z)
+
+  pub status-none : t .unknown ≡ 0 → t .violations ≡ 0 → t .incomplete ≡ 0 → status.NoViolationInTrace ≡ statusV t
+  unfolding statusV
+  status-none a b c = rw (eq-eqb (t .unknown) 0 a, eq-eqb (t .violations) 0 b, eq-eqb (t .incomplete) 0 c)
+
+pub refused-is : (n : ℕ) {s : Simulation} → s ≡ no-simulation n →
+    record { status = status.Refused n; violations = 0; violated = replicate 256 0; unknown = 0; unknowns = replicate 2000 0; incomplete = 0; incompletes = replicate 200 0; simulation = s } ≡ no-check n
+unfolding no-check
+refused-is n e = rw e
+
+-- ---- the simulation's own reasons
+
+-- room for one more
+pub insert-room : (f a : List ℕ) (n : ℕ) (r : Reason) → n * 5 + 5 ≤ length a → length (insertT (render f r) (listed f n a)) * 5 ≤ length a
+insert-room f a n r h = omega (arith, h, listing.one-more (render f r) (listed f n a), listing.length-listed f n a)
+
+module _ (f : List ℕ) (why : ℕ) where
+  pub starts-none : why ≡ 0 → (w : List ℕ) → Starts f why 0 w
+  unfolding stoppedR insertAll reasons
+  starts-none z w = record { most = omega arith; holds = rw (eq-eqb why 0 z) (record { many = refl; texts = refl }) }
+
+  starts-one : (w w' : List ℕ) (k : ℕ) (r : Reason) → stoppedR why ≡ r ∷ [] → Holds f (insertT (render f r) (listed f 0 w)) k w' → Starts f why k w'
+  unfolding insertAll reasons
+  starts-one w w' k r e h = record {
+    most = omega (arith, h .many, listing.one-more (render f r) []);
+    holds = rw e h;
+  }
+
+  pub starts-space : (why ≡ 0 → ⊥) → why ≡ 1 → {r : Reason} → r ≡ alone 284 → (w w' : List ℕ) {k : ℕ} →
+      Holds f (insertT (render f r) (listed f 0 w)) k w' → Starts f why k w'
+  unfolding stoppedR
+  starts-space z o {r} e w w' {k} h = starts-one w w' k r (rw (ne-eqb why 0 z, eq-eqb why 1 o, e)) h
+
+  pub starts-steps : (why ≡ 0 → ⊥) → (why ≡ 1 → ⊥) → {r : Reason} → r ≡ alone 316 → (w w' : List ℕ) {k : ℕ} →
+      Holds f (insertT (render f r) (listed f 0 w)) k w' → Starts f why k w'
+  unfolding stoppedR
+  starts-steps z o {r} e w w' {k} h = starts-one w w' k r (rw (ne-eqb why 0 z, ne-eqb why 1 o, e)) h
+
+module _ (f : List ℕ) (n : ℕ) (w : List ℕ) where
+  pub ends-none : {b : Bool} → b ≡ false → Ends f b n w n w
+  unfolding leftR insertAll
+  ends-none e = record { most = omega arith; holds = rw e (record { many = sym (listing.length-listed f n w); texts = refl }) }
+
+  pub ends-one : {b : Bool} → b ≡ true → {r : Reason} → r ≡ alone 338 → {w' : List ℕ} {k : ℕ} →
+      Holds f (insertT (render f r) (listed f n w)) k w' → Ends f b n w k w'
+  unfolding leftR insertAll
+  ends-one e {r} a {w'} {k} h = record {
+    most = omega (arith, h .many, listing.one-more (render f r) (listed f n w), listing.length-listed f n w);
+    holds = rw e (rw (← a) h);
+  }
+
+pub fits-most : (n len : ℕ) → len / 13 < n → Fits n len (len / 13)
+fits-most n len h = record { most = omega arith; same = λ k. absurd (omega arith) }
+
+pub fits-all : (n len : ℕ) → n ≤ len / 13 → Fits n len n
+fits-all n len h = record { most = omega arith; same = λ k. refl }
