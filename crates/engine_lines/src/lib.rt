@@ -341,3 +341,110 @@ pub fn put_record(out: &mut [u8], n: usize, f: &[u8], x: &[u32; 436], a: &[u32],
     let r = records::get_record(a, k);
     put_entry(out, n, f, x, k, r)
 }
+
+// ---- printing: lines behind the first n bytes of `out`, which goes to standard output first where a line may not fit.
+// The answer is where the next text goes; whoever printed last flushes.
+
+// No line is longer, however its texts are escaped.
+const LINE: usize = 4096;
+
+// Which line a reason gets.
+pub enum Word {
+    Reason,
+    SimUnknown,
+}
+
+// n, or the most if it is more.
+fn at_most(n: usize, most: usize) -> usize
+    ensures { λ r. ⌜ r ≤ most ⌝ }
+{
+    if most < n {
+        return most;
+    }
+    n
+}
+
+fn print_reason(out: &mut [u8], n: usize, word: Word, f: &[u8], a: &[u32], i: usize) -> usize
+    requires { ⌜ i * 5 + 5 ≤ length (now a) ⌝ }
+{
+    let m = show::room(out, n, LINE);
+    match word {
+        Word::Reason => put_reason(out, m, f, a, i),
+        Word::SimUnknown => put_unknown(out, m, f, a, i),
+    }
+}
+
+// The first `count` reasons of a list, or as many as it has room for.
+pub fn print_reasons(
+    out: &mut [u8],
+    n: usize,
+    word: Word,
+    f: &[u8],
+    a: &[u32],
+    count: usize,
+) -> usize {
+    let many = at_most(count, a.len() / 5);
+    let mut m = n;
+    let mut i: usize = 0;
+    while i < many {
+        m = print_reason(out, m, word, f, a, i);
+        i += 1;
+    }
+    m
+}
+
+fn print_record(out: &mut [u8], n: usize, f: &[u8], x: &[u32; 436], a: &[u32], k: usize) -> usize
+    requires { ⌜ k * 13 + 13 ≤ length (now a) ⌝ }
+{
+    let m = show::room(out, n, LINE);
+    put_record(out, m, f, x, a, k)
+}
+
+// The first `count` records of the record area, or as many as it has room for.
+pub fn print_records(
+    out: &mut [u8],
+    n: usize,
+    f: &[u8],
+    x: &[u32; 436],
+    a: &[u32],
+    count: usize,
+) -> usize {
+    let many = at_most(count, a.len() / 13);
+    let mut m = n;
+    let mut k: usize = 0;
+    while k < many {
+        m = print_record(out, m, f, x, a, k);
+        k += 1;
+    }
+    m
+}
+
+fn print_final(out: &mut [u8], n: usize, f: &[u8], x: &[u32; 436], e: usize, value: u32) -> usize
+    requires { ⌜ e < 32 ⌝ }
+{
+    let m = show::room(out, n, LINE);
+    put_final(out, m, f, x, e, value)
+}
+
+// The entities' values at the end, by the places of their texts.
+pub fn print_finals(
+    out: &mut [u8],
+    n: usize,
+    f: &[u8],
+    x: &[u32; 436],
+    values: &[u32; 32],
+) -> usize {
+    let many = engine_reads::at_most(x[0], 32);
+    let mut m = n;
+    let mut e: usize = 0;
+    while e < many {
+        m = print_final(out, m, f, x, e, values[e]);
+        e += 1;
+    }
+    m
+}
+
+pub fn print_incomplete(out: &mut [u8], n: usize, why: u32, waiting: bool) -> usize {
+    let m = show::room(out, n, LINE);
+    put_incomplete(out, m, why, waiting)
+}
