@@ -1,12 +1,14 @@
 // Replays stored batches of model files: for each model its number and the lines that the entry's program prints.
 // A batch holds for each model its length as a u32, little-endian, and its bytes. A new entry gets a variant of Entry,
-// an arm in put_answer and a line in main.
+// an arm in print_lines and a line in main.
 use model_walk::Num;
 ghost use Rattle.replay.specs.Reading.{Within};
 
 // What is asked of the models of a batch.
 enum Entry {
     Validate,
+    Unsupported,
+    Simulate,
 }
 
 // What stands next in a batch: a model of so many bytes, the end, or no whole model.
@@ -39,17 +41,26 @@ fn read_model(fd: i32, file: &mut [u8]) -> Next
     Next::Model(size)
 }
 
-// The lines of an entry's answer.
-fn put_answer(entry: Entry, out: &mut [u8], n: usize, file: &[u8]) -> usize {
+// The lines of an entry's answer, behind the first n bytes of `out`; what doesn't fit there is printed before.
+fn print_lines(entry: Entry, out: &mut [u8], n: usize, file: &[u8]) -> usize {
     match entry {
         Entry::Validate => validate_lines::put_answer(out, n, file),
+        Entry::Unsupported => simulate_lines::print_unsupported(out, n, file),
+        Entry::Simulate => simulate_lines::print_simulate(
+            out,
+            n,
+            file,
+            simulate_lines::QUEUE,
+            simulate_lines::RECORDS,
+            simulate_lines::RUNS,
+        ),
     }
 }
 
 fn print_answer(entry: Entry, k: u32, file: &[u8]) {
-    let mut out = io::buffer();
+    let mut out = io::large_buffer();
     let n = show::put_model(&mut out, 0, k);
-    let m = put_answer(entry, &mut out, n, file);
+    let m = print_lines(entry, &mut out, n, file);
     show::flush(&out, m);
 }
 
@@ -100,4 +111,10 @@ fn main() {
         b"entry validate boundaries\n",
         Entry::Validate,
     );
+    replay(
+        b"unsupported.batch",
+        b"entry unsupported\n",
+        Entry::Unsupported,
+    );
+    replay(b"simulate.batch", b"entry simulate\n", Entry::Simulate);
 }
