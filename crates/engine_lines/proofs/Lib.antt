@@ -1,4 +1,5 @@
 pub mod Laws
 pub mod Numbers
 pub mod Texts
+pub mod Lengths
 pub mod Examples

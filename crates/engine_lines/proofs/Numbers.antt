@@ -23,11 +23,11 @@ use Rattle.engine_lines.specs.Parts.{names-file, details-file, name-of, 
 
 -- ---- a rule for n numbers from i on, shown at each of them
 
-abbrev Each : (ℕ → Type 0) → (n i : ℕ) → Type 0
+abbrev pub Each : (ℕ → Type 0) → (n i : ℕ) → Type 0
 Each P zero i = Unit {0}
 Each P (suc n) i = P i × Each P n (i + 1)
 
-each : (P : ℕ → Type 0) (n i : ℕ) → Each P n i → (k : ℕ) → i ≤ k → k < i + n → P k
+pub each : (P : ℕ → Type 0) (n i : ℕ) → Each P n i → (k : ℕ) → i ≤ k → k < i + n → P k
 each P zero i e k h l = absurd (omega arith)
 each P (suc n) i e k h l =
     ⊎-elim
@@ -36,7 +36,7 @@ each P (suc n) i e k h l =
     (lt-or-ge i k)
 
 infixr 5 _and_
-_and_ : {A B : Type 0} → A → B → A × B
+pub _and_ : {A B : Type 0} → A → B → A × B
 a and b = (a, b)
 
 -- ---- names and details by place
@@ -76,7 +76,7 @@ module _ (x : List ℕ) (ts : List Text) where
       (λ h. rw (le-ltb k 18 h) (sym (ap kind-name (kind-unknown k d h))))
       (lt-or-ge k 18)
 
-  detail-known : (d k : ℕ) → k < 18 → detail-begins k ++ detail-ends k d ≡ detail (kind-of x ts k d)
+  pub detail-known : (d k : ℕ) → k < 18 → detail-begins k ++ detail-ends k d ≡ detail (kind-of x ts k d)
   unfolding kind-of detail-begins detail-ends all-records all-places
   detail-known d k h = each (λ (k : ℕ). detail-begins k ++ detail-ends k d ≡ detail (kind-of x ts k d)) 18 0 (refl and refl and refl and refl and refl and refl and refl and refl and refl and refl and refl and refl and refl and refl and refl and refl and refl and refl and tt) k (omega arith) h
 

@@ -345,7 +345,7 @@ pub fn put_record(out: &mut [u8], n: usize, f: &[u8], x: &[u32; 436], a: &[u32],
 // ---- printing: lines behind the first n bytes of `out`, which goes to standard output first where a line may not fit.
 // The answer is where the next text goes; whoever printed last flushes.
 
-// No line is longer, however its texts are escaped.
+// No line is longer, however its texts are escaped (proofs/Lengths: record-short, final-short).
 const LINE: usize = 4096;
 
 // Which line a reason gets.
