@@ -5,7 +5,8 @@ use mathlib.Core.Bool.{Bool, true, false}
 use mathlib.Core.List.{List, [], _∷_, map}
 use native.Mathlib.Omega.{arith}
 use lib.ListN.{length, replicate, length-replicate}
-use borrow.Author.Tests.{eq-eqb, ne-eqb}
+use lib.Dec.{eqb}
+use borrow.Author.Tests.{eq-eqb, ne-eqb, eqb-true, eqb-false}
 use Rattle.texts.specs.Texts.{Text, insertT}
 use Rattle.areas.proofs.Laws as areas
 use Rattle.records.specs.Records.{recorded}
@@ -15,6 +16,7 @@ use Rattle.reasons.specs.Reasons.{render}
 use Rattle.reasons.specs.declared.Reason.{Reason}
 use Rattle.reasons.proofs.Listing as listing
 use Rattle.model_index.specs.declared.Index.{Index}
+use Rattle.model_walk.proofs.Found.{Case, is-true, is-false, case}
 use Rattle.engine_reads.specs.Reads.{atMost, alone}
 use Rattle.engine_state.specs.declared.Cells.{Cells}
 use Rattle.engine_entry.specs.declared.Ground.{Ground}
@@ -100,3 +102,57 @@ fits-most n len h = record { most = omega arith; same = λ k. absurd (omega arit
 
 pub fits-all : (n len : ℕ) → n ≤ len / 13 → Fits n len n
 fits-all n len h = record { most = omega arith; same = λ k. refl }
+
+-- ---- the verdict
+
+module _ (f : List ℕ) (m : ℕ) (b a : List ℕ) where
+  merged-few : length (insertAll (listed f m b) (listed f 0 a)) ≤ m
+  unfolding reasons
+  merged-few = omega (arith, all-many (listed f m b) [], listing.length-listed f m b)
+
+  pub merge-room : m ≤ 300 → length b ≡ 1500 → length a ≡ 2000 →
+      (m * 5 ≤ length b) × (length (insertAll (listed f m b) (listed f 0 a)) * 5 ≤ length a)
+  merge-room h lb la = (omega (arith, h, lb), omega (arith, h, la, merged-few))
+
+  pub merged-most : m ≤ 300 → {k : ℕ} {a' : List ℕ} → Holds f (insertAll (listed f m b) (listed f 0 a)) k a' → k ≤ 300
+  merged-most h e = omega (arith, h, e .many, merged-few)
+
+module _ {f x : List ℕ} {i : Index} {c : Cells} {a : List ℕ} (s : Simulation) where
+  pub verdict-is : {many : ℕ} → Few (s .unknown) many → (u₀ : List ℕ) {u₁ : List ℕ} {k : ℕ} → Holds f (insertAll (listed f many (s .reasons)) (listed f 0 u₀)) k u₁ →
+      {w₁ w₂ : List ℕ} {j h : ℕ} → Starts f (s .why) j w₁ → Ends f (s .waiting) j w₁ h w₂ → {n : ℕ} → Fits (s .records) (length a) n →
+      {t : Counts} {v' u₂ w₃ : List ℕ} → GathersAll f x (i .invariants) c a n (record { violations = 0; unknown = k; incomplete = h }) t (replicate 256 0) v' u₁ u₂ w₂ w₃ →
+      {y : Status} → y ≡ statusV t →
+      Verdict f x i c a s (record { status = y; violations = t .violations; violated = v'; unknown = t .unknown; unknowns = u₂; incomplete = t .incomplete; incompletes = w₃; simulation = s })
+  unfolding startV reasons
+  verdict-is {many} few u₀ {u₁} {k} merged {w₁} {w₂} {j} {h} st en {n} fi {t} {v'} {u₂} {w₃} all e = record {
+    status-is = e;
+    simulation = refl;
+    long = all .long-v ∙ length-replicate {A = ℕ} 256 0;
+    holds = λ ok l long roomy rep. all .does l (long ∙ sym (fi .same roomy)) rep (startV f s) (record {
+      violations = sym (areas.area-none brokenV 256) ∙ ap (λ (q : ℕ). Rattle.areas.specs.Areas.area brokenV q []) (sym (length-replicate {A = ℕ} 256 0));
+      many = refl;
+      unknown = subst (λ (q : ℕ). Holds f (insertAll (listed f q (s .reasons)) []) k u₁) (few .same ok) merged;
+      incomplete = subst (λ (q : List Text). Holds f (insertAll (map (render f) (leftR (s .waiting))) q) h w₂) (st .holds .texts) (en .holds);
+    });
+  }
+
+-- ---- a check with given events
+
+module _ {f : List ℕ} {g : Ground} {events : List ℕ} {n : ℕ} (s : Simulation) {q q' a a' u u' : List ℕ} (ran : Ran f g events n s q q' a a' u u') where
+  pub reasons-long : length (g .reasons) ≡ 1500 → s .refused ≡ 0 → ran .told .refused ≡ 0 → length (s .reasons) ≡ 1500
+  reasons-long l z y = ap length (ran .shown .done y .reasons) ∙ ran .long ∙ l
+
+  -- a simulation that isn't refused was not refused below
+  pub told-none : s .refused ≡ 0 → ran .told .refused ≡ 0
+  unfolding no-simulation
+  told-none z = by (case (eqb (ran .told .refused) 0))
+    where
+      by : Case (eqb (ran .told .refused) 0) → ran .told .refused ≡ 0
+      by (is-true e) = eqb-true (ran .told .refused) 0 e
+      by (is-false e) = sym (ap (λ (y : Simulation). y .refused) (ran .shown .full (eqb-false (ran .told .refused) 0 e))) ∙ z
+
+  pub checked-full : {i : Index} → (s .refused ≡ 0 → ⊥) → {r : Check} → r ≡ no-check (s .refused) → Checked f i g events n r q q' a a' u u'
+  checked-full z e = record { simulation = s; ran = ran; done = λ y. absurd (z y); full = λ y. e }
+
+  pub checked-done : {i : Index} → s .refused ≡ 0 → {r : Check} → Verdict f (g .table) i (g .cells) a' s r → Checked f i g events n r q q' a a' u u'
+  checked-done z v = record { simulation = s; ran = ran; done = λ y. v; full = λ y. absurd (y z) }

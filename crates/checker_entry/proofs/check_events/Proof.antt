@@ -1,4 +1,5 @@
 use borrow.Author.Needs.{needs}
+use Rattle.checker_entry.proofs.Laws as laws
 use Rattle.checker_entry.proofs.check_events.Statement.{statement}
 use Rattle.checker_entry.proofs.check_events.Tie as tie
 use Rattle.checker_entry.proofs.check_events.Reads as reads
@@ -29,11 +30,11 @@ same-length-3 c = search needs
 
 -- src/lib.rt:175:9
 returns : tie.Need-returns
-returns c = ?
+returns c = laws.checked-full _ (c .before .before .before .before .before .before .before .before .before .run-events .ensures) (c .before .if1 .taken) (c .refused .ensures)
 
 -- src/lib.rt:177:5
 verdict-requires : tie.Need-verdict-requires
-verdict-requires c κs = search needs
+verdict-requires c κs = laws.reasons-long _ (c .before .before .before .before .before .before .before .before .before .before .run-events .ensures) (c .before .before .before .before .before .before .before .before .before .before .before .before .before .before .before .before .before .before .before .before .before .pre .1) (c .before .before .if1 .left) (laws.told-none _ (c .before .before .before .before .before .before .before .before .before .before .run-events .ensures) (c .before .before .if1 .left))
 
 -- src/lib.rt:158:1
 same-length-4 : tie.Need-same-length-4
@@ -49,7 +50,7 @@ same-length-6 c = search needs
 
 -- src/lib.rt:158:1
 returns-2 : tie.Need-returns-2
-returns-2 c = ?
+returns-2 c = laws.checked-done _ (c .before .before .before .before .before .before .before .before .before .before .before .run-events .ensures) (c .before .before .before .if1 .left) (c .verdict .ensures)
 
 pub check-events-spec : {M : Type 1} → statement M
 check-events-spec =

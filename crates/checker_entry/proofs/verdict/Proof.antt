@@ -1,4 +1,8 @@
 use borrow.Author.Needs.{needs}
+use Rattle.checker_entry.proofs.Laws as laws
+use Prim.Native.Nat.{ℕ}
+use native.Mathlib.Omega.{arith}
+use lib.ListN.{length-replicate}
 use Rattle.checker_entry.proofs.verdict.Statement.{statement}
 use Rattle.checker_entry.proofs.verdict.Tie as tie
 use Rattle.checker_entry.proofs.verdict.Reads as reads
@@ -25,7 +29,7 @@ slice-aggregate-merge-2 c = search needs
 
 -- src/lib.rt:123:9
 merge-requires : tie.Need-merge-requires
-merge-requires c κs = ?
+merge-requires c κs = laws.merge-room _ _ _ _ (c .before .before .few .ensures .most) (c .before .before .before .before .before .before .pre) (length-replicate {A = ℕ} 2000 0)
 
 -- src/lib.rt:124:34
 slice-aggregate-add-stopped : tie.Need-slice-aggregate-add-stopped
@@ -61,7 +65,7 @@ slice-aggregate-judge-all-3 c = search needs
 
 -- src/lib.rt:133:9
 judge-all-requires : tie.Need-judge-all-requires
-judge-all-requires c κs = ?
+judge-all-requires c κs = (c .before .before .before .before .fitting .ensures .most, (omega (arith, length-replicate {A = ℕ} 256 0), (omega (arith, laws.merged-most _ _ _ _ (c .before .before .before .before .before .before .before .before .before .before .before .before .before .before .before .few .ensures .most) (c .before .before .before .before .before .before .before .before .before .before .before .before .merge .ensures), c .before .before .before .before .before .before .before .before .before .before .before .before .merge .kept .1 .0, length-replicate {A = ℕ} 2000 0), omega (arith, c .before .before .before .before .before .before .add-waiting .ensures .most, c .before .before .before .before .before .before .before .before .before .add-stopped .ensures .most, c .before .before .before .before .before .before .add-waiting .kept .1 .0, c .before .before .before .before .before .before .before .before .before .add-stopped .kept .1 .0, length-replicate {A = ℕ} 200 0))))
 
 -- src/lib.rt:145:9
 status-of-requires : tie.Need-status-of-requires
@@ -69,7 +73,7 @@ status-of-requires c κs = search needs
 
 -- src/lib.rt:107:1
 returns : tie.Need-returns
-returns c = ?
+returns c = laws.verdict-is (c .before .before .before .before .before .before .before .before .before .before .before .before .before .before .before .before .before .before .before .before .before .before .before .before .args .s) (c .before .before .before .before .before .before .before .before .before .before .before .before .before .before .before .before .before .before .before .before .few .ensures) _ (c .before .before .before .before .before .before .before .before .before .before .before .before .before .before .before .before .before .merge .ensures) (c .before .before .before .before .before .before .before .before .before .before .before .before .before .before .add-stopped .ensures) (c .before .before .before .before .before .before .before .before .before .before .before .add-waiting .ensures) (c .before .before .before .before .before .before .before .before .before .fitting .ensures) (c .before .before .before .before .judge-all .ensures) (c .status-of .ensures)
 
 pub verdict-spec : {M : Type 1} → statement M
 verdict-spec =
