@@ -28,7 +28,7 @@ use Rattle.checker_verdict.specs.Verdict.{brokenV, Gathered, firstV, Keeps, Gat
 use Rattle.checker_verdict.proofs.Laws.{all-many}
 use Rattle.checker_entry.specs.declared.Status.{Status}
 use Rattle.checker_entry.specs.declared.Status.the-variants as status
-use Rattle.checker_entry.specs.declared.Check.{Check}
+use Rattle.checker_entry.specs.declared.CheckResult.{CheckResult}
 use Rattle.checker_entry.specs.Answers.{no-check}
 use Rattle.checker_entry.specs.Parts.{Fits, statusV, stoppedR, leftR, Starts, Ends, startV, counts, Verdict, Checked}
 
@@ -151,8 +151,8 @@ module _ {f : List ℕ} {g : Ground} {events : List ℕ} {n : ℕ} (s : Simulati
       by (is-true e) = eqb-true (ran .told .refused) 0 e
       by (is-false e) = sym (ap (λ (y : Simulation). y .refused) (ran .shown .full (eqb-false (ran .told .refused) 0 e))) ∙ z
 
-  pub checked-full : {i : Index} → (s .refused ≡ 0 → ⊥) → {r : Check} → r ≡ no-check (s .refused) → Checked f i g events n r q q' a a' u u'
+  pub checked-full : {i : Index} → (s .refused ≡ 0 → ⊥) → {r : CheckResult} → r ≡ no-check (s .refused) → Checked f i g events n r q q' a a' u u'
   checked-full z e = record { simulation = s; ran = ran; done = λ y. absurd (z y); full = λ y. e }
 
-  pub checked-done : {i : Index} → s .refused ≡ 0 → {r : Check} → Verdict f (g .table) i (g .cells) a' s r → Checked f i g events n r q q' a a' u u'
+  pub checked-done : {i : Index} → s .refused ≡ 0 → {r : CheckResult} → Verdict f (g .table) i (g .cells) a' s r → Checked f i g events n r q q' a a' u u'
   checked-done z v = record { simulation = s; ran = ran; done = λ y. v; full = λ y. absurd (y z) }

@@ -16,7 +16,7 @@ use Rattle.checker.specs.Check as check
 use Rattle.checker.specs.Judge as judge
 use Rattle.checker_entry.specs.declared.Status.{Status}
 use Rattle.checker_entry.specs.declared.Status.the-variants as status
-use Rattle.checker_entry.specs.declared.Check.{Check}
+use Rattle.checker_entry.specs.declared.CheckResult.{CheckResult}
 
 -- the status by its name in the scope
 abbrev pub status-as : check.Status → Status
@@ -40,7 +40,7 @@ violation-words ts v =
 
 -- The answer says what the definition's check says. Which of two reasons with the same rendering stands there is left free,
 -- and so are the words behind the last reason.
-pub record Shows (f : List ℕ) (r : Check) (c : check.Check) : Type 0 where
+pub record Shows (f : List ℕ) (r : CheckResult) (c : check.Check) : Type 0 where
   pub status-is : r .status ≡ status-as (c .status)
   pub violations : r .violations ≡ length (c .violations)
   pub violated : r .violated ≡ area (violation-words (texts-in f)) 256 (c .violations)
@@ -48,10 +48,10 @@ pub record Shows (f : List ℕ) (r : Check) (c : check.Check) : Type 0 where
   pub incomplete : Holds f (c .incomplete) (r .incomplete) (r .incompletes)
   pub simulation : engine.Shows f (r .simulation) (c .simulation)
 
-unfoldable pub no-check : (number : ℕ) → Check
+unfoldable pub no-check : (number : ℕ) → CheckResult
 no-check n = record { status = status.Refused n; violations = 0; violated = replicate 256 0; unknown = 0; unknowns = replicate 2000 0; incomplete = 0; incompletes = replicate 200 0; simulation = no-simulation n }
 
-abbrev pub Says : (file : List ℕ) → Check → Answer check.Check → Type 0
+abbrev pub Says : (file : List ℕ) → CheckResult → Answer check.Check → Type 0
 Says f r (answer c) = Shows f r c
 Says f r (refused n) = r ≡ no-check n
 
@@ -60,6 +60,6 @@ unfoldable pub check-memory : (file : List ℕ) → Lent → Lent
 check-memory f l = lent-after (words-in f) (λ (c : check.Check). c .simulation .trace) (check.check (entries entry-words l) f) l
 
 -- the entry `check`: its answer, and each word of the areas afterwards
-pub record Checks (f : List ℕ) (r : Check) (before after : Lent) : Type 0 where
+pub record Checks (f : List ℕ) (r : CheckResult) (before after : Lent) : Type 0 where
   pub says : Says f r (check.check (entries entry-words before) f)
   pub memory : after ≡ check-memory f before

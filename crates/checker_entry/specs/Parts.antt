@@ -26,7 +26,7 @@ use Rattle.checker_verdict.specs.declared.Counts.{Counts}
 use Rattle.checker_verdict.specs.Verdict.{Gathered, firstV, Keeps}
 use Rattle.checker_entry.specs.declared.Status.{Status}
 use Rattle.checker_entry.specs.declared.Status.the-variants as status
-use Rattle.checker_entry.specs.declared.Check.{Check}
+use Rattle.checker_entry.specs.declared.CheckResult.{CheckResult}
 use Rattle.checker_entry.specs.Answers.{no-check, Checks}
 
 -- at most as many records as the area holds
@@ -63,11 +63,11 @@ startV f s = record {
   incomplete = insertAll (map (render f) (leftR (s .waiting))) (insertAll (map (render f) (stoppedR (s .why))) []);
 }
 
-abbrev pub counts : Check → Counts
+abbrev pub counts : CheckResult → Counts
 counts r = record { violations = r .violations; unknown = r .unknown; incomplete = r .incomplete }
 
 -- the verdict on the records in the area a, whatever they are
-pub record Verdict (f x : List ℕ) (i : Index) (c : Cells) (a : List ℕ) (s : Simulation) (r : Check) : Type 0 where
+pub record Verdict (f x : List ℕ) (i : Index) (c : Cells) (a : List ℕ) (s : Simulation) (r : CheckResult) : Type 0 where
   pub status-is : r .status ≡ statusV (counts r)
   pub simulation : r .simulation ≡ s
   pub long : length (r .violated) ≡ 256
@@ -75,12 +75,12 @@ pub record Verdict (f x : List ℕ) (i : Index) (c : Cells) (a : List ℕ) (s : 
       Keeps f (r .violated) (r .unknowns) (r .incompletes) (counts r) (firstV f x (i .invariants .starts) c l (atMost (i .invariants .count) 32) (startV f s))
 
 -- a simulation, and the verdict on it unless an area was full
-pub record Checked (f : List ℕ) (i : Index) (g : Ground) (events : List ℕ) (n : ℕ) (r : Check) (q q' a a' u u' : List ℕ) : Type 0 where
+pub record Checked (f : List ℕ) (i : Index) (g : Ground) (events : List ℕ) (n : ℕ) (r : CheckResult) (q q' a a' u u' : List ℕ) : Type 0 where
   pub simulation : Simulation
   pub ran : Ran f g events n simulation q q' a a' u u'
   pub done : simulation .refused ≡ 0 → Verdict f (g .table) i (g .cells) a' simulation r
   pub full : (simulation .refused ≡ 0 → ⊥) → r ≡ no-check (simulation .refused)
 
 -- the check of the model whose index this is
-abbrev pub RunsAs : (f : List ℕ) → Index → Check → (before after : Lent) → Type 0
+abbrev pub RunsAs : (f : List ℕ) → Index → CheckResult → (before after : Lent) → Type 0
 RunsAs f i r before after = (m : Model) → accepted f ≡ answer m → Indexed f i m → Checks f r before after

@@ -21,7 +21,7 @@ pub enum Status {
 
 // The status, or the refusal's number; then all counts and words are 0. `violated` holds the violations, eight numbers each;
 // `unknowns` and `incompletes` hold the reasons, five words each, sorted as rendered.
-pub struct Check {
+pub struct CheckResult {
     pub status: Status,
     pub violations: usize,
     pub violated: [u64; 256],
@@ -32,11 +32,11 @@ pub struct Check {
     pub simulation: Simulation,
 }
 
-fn refused(number: u32) -> Check
+fn refused(number: u32) -> CheckResult
     ensures { λ r. ⌜ r ≡ no-check number ⌝ }
 {
     let simulation = engine_entry::refused(number);
-    Check {
+    CheckResult {
         status: Status::Refused(number),
         violations: 0,
         violated: [0u64; 256],
@@ -111,7 +111,7 @@ fn verdict(
     cells: Cells,
     a: &[u32],
     s: Simulation,
-) -> Check
+) -> CheckResult
     requires { ⌜ length (s .reasons) ≡ 1500 ⌝ }
     ensures { λ r. ⌜ Verdict (now (f .entry)) (now (x .entry)) index cells (now (a .entry)) s r ⌝ }
 {
@@ -143,7 +143,7 @@ fn verdict(
         start,
     );
     let status = status_of(t);
-    Check {
+    CheckResult {
         status,
         violations: t.violations,
         violated,
@@ -165,7 +165,7 @@ pub fn check_events(
     queue: &mut [u32],
     records: &mut [u32],
     runs: &mut [u32],
-) -> Check
+) -> CheckResult
     requires { ⌜ (n * 4 ≤ length (now events)) × (length (g .reasons) ≡ 1500) ⌝ }
     ensures { λ r. ⌜ Checked (now (file .entry)) index g (now (events .entry)) n r (now (queue .entry)) (now (queue .exit)) (now (records .entry)) (now (records .exit)) (now (runs .entry)) (now (runs .exit)) ⌝ }
 {
@@ -176,4 +176,34 @@ pub fn check_events(
         return refused(s.refused);
     }
     verdict(file, &table, index, cells, records, s)
+}
+
+// The check of an accepted model with its own values and events.
+fn run(
+    file: &[u8],
+    index: Index,
+    queue: &mut [u32],
+    records: &mut [u32],
+    runs: &mut [u32],
+) -> CheckResult
+    ensures { λ r. ⌜ RunsAs (now (file .entry)) index r (lent (now (queue .entry)) (now (records .entry)) (now (runs .entry))) (lent (now (queue .exit)) (now (records .exit)) (now (runs .exit))) ⌝ }
+{
+    let g = engine_entry::prepared(file, index);
+    let table = g.table;
+    let v = engine_begin::events_of(file, index);
+    let events = v.words;
+    let n = engine_reads::at_most(table[8], 100);
+    check_events(file, index, g, &events, n, queue, records, runs)
+}
+
+// The check of a model file, with lent areas of any size.
+pub fn check(file: &[u8], queue: &mut [u32], records: &mut [u32], runs: &mut [u32]) -> CheckResult
+    ensures { λ r. ⌜ Checks (now (file .entry)) r (lent (now (queue .entry)) (now (records .entry)) (now (runs .entry))) (lent (now (queue .exit)) (now (records .exit)) (now (runs .exit))) ⌝ }
+{
+    let x = model_validate::accept(file);
+    let status = x.status;
+    match status {
+        model_index::Status::Refused(number) => refused(number),
+        model_index::Status::Read => run(file, x.index, queue, records, runs),
+    }
 }

@@ -51,7 +51,7 @@ use Rattle.engine_entry.specs.declared.Simulation.{Simulation}
 use Rattle.engine_entry.specs.Answers.{Grounds, no-notes, NotesSay, incomplete-of, values-of, no-simulation, Shows, Says, lent, Simulates}
 use Rattle.engine_entry.specs.Parts.{Ran, RunsAs}
 use Rattle.engine_entry.proofs.Core.{tb, notes-held}
-use Rattle.engine_entry.proofs.Promise.{texts-here, Promise, answers, refuses, promise}
+use Rattle.engine_entry.proofs.Promise.{records-here, Promise, answers, refuses, promise}
 
 -- ---- unsupported
 
@@ -81,9 +81,6 @@ module _ (f : List ℕ) (i : Index) (m : Model) (acc : accepted f ≡ answer m) 
   abbrev t : Tabled f x (o .ts) m
   t = tb f i m acc o bytes g gr
 
-  abbrev ids : List Text
-  ids = each (λ (a : Automation). a .id) (m .rules)
-
   abbrev events : List Event
   events = m .scenario .events
 
@@ -91,19 +88,10 @@ module _ (f : List ℕ) (i : Index) (m : Model) (acc : accepted f ≡ answer m) 
   unfolding simulate _>>=_
   simulate-law areas = rw acc
 
-  events-count : atMost (getD x 8 0) 100 ≡ length events
+  pub events-count : atMost (getD x 8 0) 100 ≡ length events
   events-count =
       let e : getD x 8 0 ≡ length events = gr .table .words 8 (omega arith) ∙ table.table-head f i 8 (omega arith) ∙ table.head-high f i 8 (omega arith) (λ z. absurd (omega arith)) (λ z. absurd (omega arith)) (omega arith) ∙ table.count-8 i 8 refl ∙ o .events .counts in
       most-is (getD x 8 0) 100 (omega (arith, e, accepted-lawful f m acc .few-events)) ∙ e
-
-  -- ---- the record area
-
-  words-here : words-in f ≡ trace-words (o .ts) ids
-  unfolding words-in trace-words
-  words-here = λ j w. at w j
-    where
-      at : (w : Trace) → words-in f w ≡ trace-words (o .ts) ids w
-      at w = rw (acc, words-in) (ap (λ (ts : List Text). trace-words ts ids w) (texts-here f i m acc o bytes g gr))
 
   -- ---- the answer
 
@@ -120,13 +108,6 @@ module _ (f : List ℕ) (i : Index) (m : Model) (acc : accepted f ≡ answer m) 
     abbrev after : Answer engine.Simulation → Lent
     after y = lent-after (words-in f) (λ (b : engine.Simulation). b .trace) y (lent q a r)
 
-    records-here : (l : List Record) (tr : List Trace) → Each (Worded x (o .ts) m) l → tr ≡ each (record-of x (o .ts)) l →
-        area recordWords (length a) l ≡ area (words-in f) (length a) tr
-    records-here l tr w e =
-        record-area x (o .ts) m (length a) l w
-        ∙ ap (λ (h : Trace → List ℕ). area h (length a) (each (record-of x (o .ts)) l)) (sym words-here)
-        ∙ ap (area (words-in f) (length a)) (sym e)
-
     runs-as : Simulates f ans (lent q a r) (lent q' a' r')
     unfolding simulate-memory simulate-lent entries all-zeros zeros lent-after
     runs-as = by (promise f i m acc o bytes g gr v none-such events evs (many ∙ events-count) ran)
@@ -134,7 +115,7 @@ module _ (f : List ℕ) (i : Index) (m : Model) (acc : accepted f ≡ answer m) 
         by : Promise f i m acc o bytes g gr v none-such events evs (many ∙ events-count) ran → Simulates f ans (lent q a r) (lent q' a' r')
         by (answers sim e k) = record {
           says = subst (Says f ans) (sym (simulate-law sizes ∙ e)) (k .shows);
-          memory = rw (ran .does .queue, ran .does .runs, k .area-is, records-here (k .records) (sim .trace) (k .words) (k .trace)) (sym (ap after (simulate-law sizes ∙ e)));
+          memory = rw (ran .does .queue, ran .does .runs, k .area-is, records-here f i m acc o bytes g gr (length a) (k .records) (sim .trace) (k .words) (k .trace)) (sym (ap after (simulate-law sizes ∙ e)));
         }
         by (refuses n lo hi e is z) = record {
           says = subst (Says f ans) (sym (simulate-law sizes ∙ e)) is;

@@ -66,6 +66,27 @@ module _ (f : List ℕ) (i : Index) (m : Model) (acc : accepted f ≡ answer m) 
   unfolding texts-in
   texts-here = rw (o .all-texts .1, texts-in)
 
+  -- ---- the record area, by the definition's records
+
+  abbrev ids : List Text
+  ids = each (λ (a : Automation). a .id) (m .rules)
+
+  words-here : words-in f ≡ trace-words (o .ts) ids
+  unfolding words-in trace-words
+  words-here = λ j w. at w j
+    where
+      at : (w : Trace) → words-in f w ≡ trace-words (o .ts) ids w
+      at w = rw (acc, words-in) (ap (λ (ts : List Text). trace-words ts ids w) texts-here)
+
+  pub records-here : (n : ℕ) (l : List Record) (tr : List Trace) → Each (Worded x (o .ts) m) l → tr ≡ each (record-of x (o .ts)) l →
+      area recordWords n l ≡ area (words-in f) n tr
+  records-here n l tr w e =
+      record-area x (o .ts) m n l w
+      ∙ ap (λ (h : Trace → List ℕ). area h n (each (record-of x (o .ts)) l)) (sym words-here)
+      ∙ ap (area (words-in f) n) (sym e)
+
+  -- ---- a run
+
   -- with the events vs, given as words
   module _ (v : List ℕ) (d : Event) (vs : List Event) (evs : (j : ℕ) → j < length vs → EventAt f x (o .ts) m t v j (getD vs j d)) {n : ℕ} (many : n ≡ length vs) {ans : Simulation} {q q' a a' r r' : List ℕ} (ran-so : Ran f g v n ans q q' a a' r r') where
     abbrev sizes : Areas

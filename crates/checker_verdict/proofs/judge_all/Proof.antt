@@ -21,69 +21,21 @@ Inv-loop f x cells a n v₀ u₀ w₀ invariants many t₀ k₀ v u w t k =
 abbrev μ-loop : tie.MeasureT-loop
 μ-loop f x cells a n v₀ u₀ w₀ invariants many t₀ k₀ v u w t k = many - k
 
--- src/lib.rt:168:9
-at-most-requires : tie.Need-at-most-requires Inv-loop μ-loop
-at-most-requires c κs = search needs
-
--- src/lib.rt:171:5
-loop-holds : tie.Need-loop-holds Inv-loop μ-loop
-loop-holds c = (omega arith, laws.gathers-none _ _ _ _)
-
--- src/lib.rt:172:29
-mul-judge-one : tie.Need-mul-judge-one Inv-loop μ-loop
-mul-judge-one c = search needs
-
--- src/lib.rt:172:29
-element-copy-out-judge-one : tie.Need-element-copy-out-judge-one Inv-loop μ-loop
-element-copy-out-judge-one c = omega (arith, c .before .before .at-most .ensures .1, c .loop-test .taken)
-
--- src/lib.rt:172:9
-judge-one-requires : tie.Need-judge-one-requires Inv-loop μ-loop
-judge-one-requires c κs = laws.judge-room (c .before .before .before .before .before .before .before .before .before .before .before .before .pre) (c .before .before .before .before .before .loop .inv .1) (omega (arith, c .before .before .before .before .loop-test .taken, c .before .before .before .before .before .before .at-most .ensures .1))
-
--- src/lib.rt:173:9
-add-k : tie.Need-add-k Inv-loop μ-loop
-add-k c = search needs
-
--- src/lib.rt:171:5
-loop-less : tie.Need-loop-less Inv-loop μ-loop
-loop-less c = search needs
-
--- src/lib.rt:171:5
-loop-again : tie.Need-loop-again Inv-loop μ-loop
-loop-again c = (omega arith, laws.gathers-more _ _ _ _ _ (c .before .before .before .before .before .before .before .before .before .before .before .before .loop .inv .1) (c .before .before .before .before .before .before .judge-one .ensures))
-
--- src/lib.rt:153:1
-same-length : tie.Need-same-length Inv-loop μ-loop
-same-length c = c .before .loop .inv .1 .long-v
-
--- src/lib.rt:153:1
-same-length-2 : tie.Need-same-length-2 Inv-loop μ-loop
-same-length-2 c = c .before .loop .inv .1 .long-u
-
--- src/lib.rt:153:1
-same-length-3 : tie.Need-same-length-3 Inv-loop μ-loop
-same-length-3 c = c .before .loop .inv .1 .long-w
-
--- src/lib.rt:153:1
-returns : tie.Need-returns Inv-loop μ-loop
-returns c = laws.gathers-all _ _ _ _ _ (c .before .before .at-most .ensures) (omega (arith, c .loop-test .left, c .before .loop .inv .0)) (c .before .loop .inv .1)
-
 pub judge-all-spec : {M : Type 1} → statement M
 judge-all-spec =
     tie.close
     (tie.spec
     Inv-loop
     μ-loop
-    at-most-requires
-    loop-holds
-    mul-judge-one
-    element-copy-out-judge-one
-    judge-one-requires
-    add-k
-    loop-less
-    loop-again
-    same-length
-    same-length-2
-    same-length-3
-    returns)
+    (λ c κs. search needs)
+    (λ c. (omega arith, laws.gathers-none _ _ _ _))
+    (λ c. search needs)
+    (λ c. omega (arith, c .before .before .at-most .ensures .1, c .loop-test .taken))
+    (λ c κs. laws.judge-room (c .before .before .before .before .before .before .before .before .before .before .before .before .pre) (c .before .before .before .before .before .loop .inv .1) (omega (arith, c .before .before .before .before .loop-test .taken, c .before .before .before .before .before .before .at-most .ensures .1)))
+    (λ c. search needs)
+    (λ c. search needs)
+    (λ c. (omega arith, laws.gathers-more _ _ _ _ _ (c .before .before .before .before .before .before .before .before .before .before .before .before .loop .inv .1) (c .before .before .before .before .before .before .judge-one .ensures)))
+    (λ c. c .before .loop .inv .1 .long-v)
+    (λ c. c .before .loop .inv .1 .long-u)
+    (λ c. c .before .loop .inv .1 .long-w)
+    (λ c. laws.gathers-all _ _ _ _ _ (c .before .before .at-most .ensures) (omega (arith, c .loop-test .left, c .before .loop .inv .0)) (c .before .loop .inv .1)))
