@@ -1,0 +1,17 @@
+use mathlib.Core.Path.{refl, sym, _∙_}
+use Rattle.model_rewrite.proofs.Laws as laws
+use borrow.Author.Needs.{needs}
+use Rattle.model_rewrite.proofs.events_in.Statement.{statement}
+use Rattle.model_rewrite.proofs.events_in.Tie as tie
+
+pub events-in-spec : {M : Type 1} → statement M
+events-in-spec =
+    tie.close
+    (tie.spec
+    (λ c κs. search needs)
+    (λ c. search needs)
+    (λ c. search needs)
+    (λ c κs. search needs)
+    (λ c. c .no-span .ensures ∙ sym (laws.span-is _ (c .before .before .before .section-at .ensures) ∙ laws.behind-broken _ _ refl (c .before .enum-told .given .1)))
+    (λ c κs. search needs)
+    (λ c. c .events-behind .ensures ∙ sym (laws.span-is _ (c .before .before .before .before .section-at .ensures) ∙ laws.behind-to _ _ refl (c .before .before .a .given .1))))

@@ -1,0 +1,31 @@
+use mathlib.Core.Path.{refl}
+use native.Mathlib.Omega.{arith}
+use Rattle.model_rewrite.proofs.Laws as laws
+use borrow.Author.Needs.{needs}
+use Rattle.model_rewrite.proofs.rewrite.Statement.{statement}
+use Rattle.model_rewrite.proofs.rewrite.Tie as tie
+
+pub rewrite-spec : {M : Type 1} → statement M
+rewrite-spec =
+    tie.close
+    (tie.spec
+    (λ c. search needs)
+    (λ c. search needs)
+    (λ c. search needs)
+    (λ c κs. let a = c .before .before .before .before .before .args in let h = laws.sizes (a .file .now) (a .place) (a .events .now) (a .n) (search needs) (search needs) in omega arith)
+    (λ c. let a = c .before .before .before .before .before .before .before .before .args in let h = laws.sizes (a .file .now) (a .place) (a .events .now) (a .n) (search needs) (search needs) in search needs)
+    (λ c. let a = c .before .before .before .before .before .before .before .before .args in let h = laws.sizes (a .file .now) (a .place) (a .events .now) (a .n) (search needs) (search needs) in search needs)
+    (λ c. search needs)
+    (λ c κs. let a = c .before .before .before .before .before .before .before .before .before .args in let h = laws.sizes (a .file .now) (a .place) (a .events .now) (a .n) (search needs) (search needs) in search needs)
+    (λ c. let a = c .before .before .before .before .before .before .before .before .before .before .before .before .args in let h = laws.sizes (a .file .now) (a .place) (a .events .now) (a .n) (search needs) (search needs) in omega (arith, c .before .before .write-events .ensures .is-size))
+    (λ c. search needs)
+    (λ c. search needs)
+    (λ c. search needs)
+    (λ c. let a = c .before .before .before .before .before .before .before .before .before .before .before .before .before .args in let h = laws.sizes (a .file .now) (a .place) (a .events .now) (a .n) (search needs) (search needs) in let w = c .before .before .before .write-events .ensures .is-size in search needs)
+    (λ c. let a = c .before .before .before .before .before .before .before .before .before .before .before .before .before .args in let h = laws.sizes (a .file .now) (a .place) (a .events .now) (a .n) (search needs) (search needs) in let w = c .before .before .before .write-events .ensures .is-size in search needs)
+    (λ c. search needs)
+    (λ c κs. let a = c .before .before .before .before .before .before .before .before .before .before .before .before .before .before .args in let h = laws.sizes (a .file .now) (a .place) (a .events .now) (a .n) (search needs) (search needs) in let w = c .before .before .before .before .write-events .ensures .is-size in search needs)
+    (λ c. search needs)
+    (λ c. let a = c .before .before .before .before .before .before .before .before .before .before .before .before .before .before .before .before .before .args in let h = laws.sizes (a .file .now) (a .place) (a .events .now) (a .n) (search needs) (search needs) in omega (arith, c .before .before .before .before .before .before .before .write-events .ensures .is-size))
+    (λ c. search needs)
+    (λ c. let a = c .before .before .before .before .before .before .before .before .before .before .before .before .before .before .before .before .before .args in laws.file-wrote (a .file .now) (a .place) (a .events .now) (a .n) (search needs) (search needs) (c .before .before .before .before .before .before .before .before .before .before .before .before .before .before .before .before .before .pre .1 .1 .1) (c .before .before .before .before .before .before .before .before .before .before .before .copy .ensures) refl (c .before .before .before .before .before .before .before .write-events .ensures) refl (c .before .before .copy2 .ensures)))

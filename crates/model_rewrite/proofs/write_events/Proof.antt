@@ -1,0 +1,19 @@
+use mathlib.Core.Path.{refl}
+use native.Mathlib.Omega.{arith}
+use Rattle.model_rewrite.proofs.Laws as laws
+use borrow.Author.Needs.{needs}
+use Rattle.model_rewrite.proofs.write_events.Statement.{statement}
+use Rattle.model_rewrite.proofs.write_events.Tie as tie
+
+pub write-events-spec : {M : Type 1} → statement M
+write-events-spec =
+    tie.close
+    (tie.spec
+    (λ c κs. let h = laws.section-size (c .before .before .before .args .events .now) (c .before .before .before .args .n) in omega arith)
+    (λ c. let h = laws.section-size (c .before .before .before .before .before .before .args .events .now) (c .before .before .before .before .before .before .args .n) in search needs)
+    (λ c. let h = laws.section-size (c .before .before .before .before .before .before .args .events .now) (c .before .before .before .before .before .before .args .n) in search needs)
+    (λ c. search needs)
+    (λ c κs. let h = laws.section-size (c .before .before .before .before .before .before .before .args .events .now) (c .before .before .before .before .before .before .before .args .n) in search needs)
+    (λ c. let h = laws.section-size (c .before .before .before .before .before .before .before .before .before .before .args .events .now) (c .before .before .before .before .before .before .before .before .before .before .args .n) in omega (arith, c .before .before .write-each .ensures .is-size))
+    (λ c. search needs)
+    (λ c. laws.section-wrote (c .before .before .before .before .before .before .before .before .before .before .args .events .now) (c .before .before .before .before .before .before .before .before .before .before .args .n) (c .before .before .before .before .before .before .before .before .before .before .pre .1) (c .before .before .before .before .before .before .write-count .ensures) refl (c .before .before .write-each .ensures)))

@@ -1,0 +1,23 @@
+use lib.ListN.{length-set}
+use native.Mathlib.Omega.{arith}
+use Rattle.model_rewrite.proofs.Laws as laws
+use borrow.Author.Needs.{needs}
+use Rattle.model_rewrite.proofs.write_start.Statement.{statement}
+use Rattle.model_rewrite.proofs.write_start.Tie as tie
+
+pub write-start-spec : {M : Type 1} → statement M
+write-start-spec =
+    tie.close
+    (tie.spec
+    (λ c. search needs)
+    (λ c. search needs)
+    (λ c. search needs)
+    (λ c. simp length-set (omega arith))
+    (λ c. search needs)
+    (λ c. simp length-set (omega arith))
+    (λ c. search needs)
+    (λ c. simp length-set (omega arith))
+    (λ c. search needs)
+    (λ c. search needs)
+    (λ c. search needs)
+    (λ c. laws.five (c .args .out .now) (c .args .second) (c .args .kind) (search needs)))
