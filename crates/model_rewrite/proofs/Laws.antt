@@ -199,7 +199,7 @@ unfolding file-with
 file-is f x l n h =
     let e : x .start - 0 ≡ x .start = omega arith in
     let t : take (length f - x .end) (drop (x .end) f) ≡ drop (x .end) f = take-all (length f - x .end) (drop (x .end) f) (simp length-drop (omega arith)) in
-    rw (e, t, append-assoc (take (x .start) f) (section-bytes l n) (drop (x .end) f))
+    rw (e, t)
 
 file-size : (f : List ℕ) (x : Span) (l : List ℕ) (n : ℕ) → x .start ≤ length f → length (file-with f x l n) ≡ x .start + length (section-bytes l n) + (length f - x .end)
 unfolding file-with

@@ -9,11 +9,11 @@ pub write-events-spec : {M : Type 1} → statement M
 write-events-spec =
     tie.close
     (tie.spec
-    (λ c κs. let h = laws.section-size (c .before .before .before .args .events .now) (c .before .before .before .args .n) in omega arith)
-    (λ c. let h = laws.section-size (c .before .before .before .before .before .before .args .events .now) (c .before .before .before .before .before .before .args .n) in search needs)
-    (λ c. let h = laws.section-size (c .before .before .before .before .before .before .args .events .now) (c .before .before .before .before .before .before .args .n) in search needs)
+    (λ c κs. let a = c .before .before .before .args in let h = laws.section-size (a .events .now) (a .n) in omega arith)
+    (λ c. let a = c .before .before .before .before .before .before .args in let h = laws.section-size (a .events .now) (a .n) in search needs)
+    (λ c. let a = c .before .before .before .before .before .before .args in let h = laws.section-size (a .events .now) (a .n) in search needs)
     (λ c. search needs)
-    (λ c κs. let h = laws.section-size (c .before .before .before .before .before .before .before .args .events .now) (c .before .before .before .before .before .before .before .args .n) in search needs)
-    (λ c. let h = laws.section-size (c .before .before .before .before .before .before .before .before .before .before .args .events .now) (c .before .before .before .before .before .before .before .before .before .before .args .n) in omega (arith, c .before .before .write-each .ensures .is-size))
+    (λ c κs. let a = c .before .before .before .before .before .before .before .args in let h = laws.section-size (a .events .now) (a .n) in search needs)
+    (λ c. let a = c .before .before .before .before .before .before .before .before .before .before .args in let h = laws.section-size (a .events .now) (a .n) in omega (arith, c .before .before .write-each .ensures .is-size))
     (λ c. search needs)
-    (λ c. laws.section-wrote (c .before .before .before .before .before .before .before .before .before .before .args .events .now) (c .before .before .before .before .before .before .before .before .before .before .args .n) (c .before .before .before .before .before .before .before .before .before .before .pre .1) (c .before .before .before .before .before .before .write-count .ensures) refl (c .before .before .write-each .ensures)))
+    (λ c. let a = c .before .before .before .before .before .before .before .before .before .before .args in laws.section-wrote (a .events .now) (a .n) (c .before .before .before .before .before .before .before .before .before .before .pre .1) (c .before .before .before .before .before .before .write-count .ensures) refl (c .before .before .write-each .ensures)))

@@ -18,4 +18,4 @@ write-places-spec =
     (λ c. search needs)
     (λ c. search needs)
     (λ c. search needs)
-    (λ c. laws.four (c .args .out .now) (c .args .entity) (c .args .value) (search needs)))
+    (λ c. let a = c .args in laws.four (a .out .now) (a .entity) (a .value) (search needs)))

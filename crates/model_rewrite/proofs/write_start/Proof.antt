@@ -20,4 +20,4 @@ write-start-spec =
     (λ c. search needs)
     (λ c. search needs)
     (λ c. search needs)
-    (λ c. laws.five (c .args .out .now) (c .args .second) (c .args .kind) (search needs)))
+    (λ c. let a = c .args in laws.five (a .out .now) (a .second) (a .kind) (search needs)))

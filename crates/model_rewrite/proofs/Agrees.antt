@@ -1,0 +1,211 @@
+-- The bytes of events that stand as words are those of the definition, and so is the file with them.
+use mathlib.Core.Path.{_≡_, refl, sym, ap, _∙_, subst}
+use mathlib.Core.List.{List, [], _∷_, _++_, append-assoc, append-nil}
+use mathlib.Core.Bool.{true, false, _&&_, Bool}
+use Prim.Native.Nat.{ℕ, zero, suc, _+_, _*_, _-_, _≤_, _<_}
+use native.Mathlib.Omega.{arith}
+use lib.ListN.{length, getD, take, drop, length-append, length-drop}
+use lib.Seq.{take-suc, take-all}
+use borrow.Author.Tests.{eq-eqb, ne-eqb}
+use Rattle.texts.specs.Lists.{flat}
+use Rattle.texts.specs.Texts.{Text, eqT}
+use Rattle.model.specs.Answer.{answer}
+use Rattle.model.specs.Model.{Model, Entity, Event, Input, reload}
+use Rattle.model.specs.File.{got, Reader, times, counted, one-text, texts, place, entity, entities, event, events, head, ascending, decode}
+use Rattle.model.specs.Rewrite.{bytes2, bytes4, place-of, input-bytes, event-bytes, events-bytes, rewritten}
+use Rattle.model_walk.specs.declared.Walked.the-variants as walked
+use Rattle.model_walk.specs.Walk.{capped, seen, Walk, placeW}
+use Rattle.model_walk.proofs.Found.{bound, given, required, counted-found}
+use Rattle.model_walk.proofs.Sees.{Sees, quiet, sees-counted, sees-place}
+use Rattle.model_parts.specs.declared.Part.the-variants as part
+use Rattle.model_parts.specs.Parts.{partW, sectionW, textW, entityW, eventW}
+use Rattle.model_parts.specs.Stand.{Reads}
+use Rattle.model_parts.proofs.Sees.{sees-text, sees-entity, sees-event}
+use Rattle.model_parts.proofs.Stands.{section-ends, section-counts}
+use Rattle.model_order.proofs.Places.{same-place}
+use Rattle.model_index.specs.declared.Index.{Index}
+use Rattle.model_index.specs.Indexed.{Indexed}
+use Rattle.model_rewrite.specs.Span.{behind, bodyW, spanW}
+use Rattle.model_rewrite.specs.Written.{event-start, two-places, event-of, event-at, first-events, section-bytes, file-with}
+use Rattle.model_rewrite.proofs.Laws as laws
+use Rattle.model_rewrite.proofs.Spelled as spelled
+use Rattle.model_rewrite.proofs.Spelled.{Spelled, local-counted, local-event, local-head}
+use Rattle.model_rewrite.proofs.Opened.{Opened, opened, Headed, headed}
+
+-- ---- places of texts
+
+-- the first text that equals t
+place-first : (t : Text) (l : List Text) (k : ℕ) → k < length l → eqT t (getD l k []) ≡ true →
+    ((j : ℕ) → j < k → eqT t (getD l j []) ≡ false) → place-of t l ≡ k
+unfolding place-of
+place-first t [] k h a b = absurd (omega arith)
+place-first t (u ∷ l) zero h a b = rw a
+place-first t (u ∷ l) (suc k) h a b =
+    rw (b 0 (omega arith)) (omega (arith, place-first t l k (omega arith) a (λ j o. b (suc j) (omega arith))))
+
+-- texts ascend, so a text's place is where it stands
+pub place-is : (ts : List Text) → ascending ts ≡ true → (k : ℕ) → k < length ts → place-of (getD ts k []) ts ≡ k
+place-is ts a k h =
+    place-first (getD ts k []) ts k h (same-place ts a k k h h ∙ eq-eqb k k refl)
+    (λ j o. same-place ts a k j h (omega arith) ∙ ne-eqb k j (λ e. absurd (omega arith)))
+
+-- ---- events
+
+-- an input's words: kind 0 sets the entity at a place to the value at a place, 1 restarts, 2 reloads
+abbrev pub InputWords : List Text → (kind e v : ℕ) → Input → Type 0
+InputWords ts k e v (Input.set a b) = (k ≡ 0) × (((e < length ts) × (a ≡ getD ts e [])) × ((v < length ts) × (b ≡ getD ts v [])))
+InputWords ts k e v Input.restart = k ≡ 1
+InputWords ts k e v reload = k ≡ 2
+
+-- the four words of the k-th event
+pub record EventWords (ts : List Text) (l : List ℕ) (k : ℕ) (v : Event) : Type 0 where
+  pub second : getD l (k * 4) 0 ≡ v .at
+  pub input : InputWords ts (getD l (k * 4 + 1) 0) (getD l (k * 4 + 2) 0) (getD l (k * 4 + 3) 0) (v .input)
+
+module _ (ts : List Text) (asc : ascending ts ≡ true) where
+  input-agrees : (s k e v : ℕ) (i : Input) → InputWords ts k e v i → event-of s k e v ≡ bytes4 s ++ input-bytes ts i
+  unfolding event-of event-start two-places input-bytes bytes4 bytes2
+  input-agrees s k e v (Input.set a b) w =
+      let pa : place-of a ts ≡ e = ap (λ (t : Text). place-of t ts) (w .1 .0 .1) ∙ place-is ts asc e (w .1 .0 .0) in
+      let pb : place-of b ts ≡ v = ap (λ (t : Text). place-of t ts) (w .1 .1 .1) ∙ place-is ts asc v (w .1 .1 .0) in
+      rw (w .0, pa, pb)
+  input-agrees s k e v Input.restart w = rw w
+  input-agrees s k e v reload w = rw w
+
+  event-agrees : (l : List ℕ) (k : ℕ) (v : Event) → EventWords ts l k v → event-at l k ≡ event-bytes ts v
+  unfolding event-at event-bytes
+  event-agrees l k v w =
+      input-agrees (getD l (k * 4) 0) (getD l (k * 4 + 1) 0) (getD l (k * 4 + 2) 0) (getD l (k * 4 + 3) 0) (v .input) (w .input)
+      ∙ ap (λ (x : ℕ). bytes4 x ++ input-bytes ts (v .input)) (w .second)
+
+  flat-end : (g : Event → List ℕ) (vs : List Event) (v : Event) → flat g (vs ++ (v ∷ [])) ≡ flat g vs ++ g v
+  unfolding flat
+  flat-end g [] v = append-nil (g v)
+  flat-end g (x ∷ vs) v = rw (flat-end g vs v) (sym (append-assoc (g x) (flat g vs) (g v)))
+
+  module _ (l : List ℕ) (d : Event) (vs : List Event) (ws : (k : ℕ) → k < length vs → EventWords ts l k (getD vs k d)) where
+    first-agrees : (k : ℕ) → k ≤ length vs → first-events l k ≡ flat (event-bytes ts) (take k vs)
+    unfolding first-events flat
+    first-agrees zero h = refl
+    first-agrees (suc k) h =
+        rw (first-agrees k (omega arith), event-agrees l k (getD vs k d) (ws k (omega arith)), take-suc vs k d (omega arith))
+        (sym (flat-end (event-bytes ts) (take k vs) (getD vs k d)))
+
+    pub section-agrees : section-bytes l (length vs) ≡ events-bytes ts vs
+    unfolding section-bytes events-bytes
+    section-agrees = rw (first-agrees (length vs) (omega arith), take-all (length vs) vs (omega arith))
+
+-- ---- where the events stand
+
+-- as many values as the count says
+pub times-length : {A : Type 0} (r : Reader A) (s : List ℕ) (n p : ℕ) (l : List A) (q : ℕ) → times n r s p ≡ got l q → length l ≡ n
+unfolding times
+times-length r s zero p l q e = ap length (sym (given s p [] e .0))
+times-length r s (suc n) p l q e =
+    let x = bound r _ e in
+    let y = bound (times n r) _ (x .rest) in
+    ap length (sym (given _ _ _ (y .rest) .0)) ∙ ap suc (times-length r s n (x .next) (y .value) (y .next) (y .first))
+
+module _ {A : Type 0} (r : Reader A) (k : Walk) (e : Sees quiet r k) (s : List ℕ) (p : ℕ) {l : List A} {q : ℕ} (h : counted r s p ≡ got l q) where
+  section-end : sectionW k s p 0 .end ≡ walked.To q 0
+  unfolding seen capped
+  section-end = section-ends k s p 0 ∙ sees-counted quiet quiet refl (λ x l. refl) r k e 0 s p ∙ ap (seen quiet 0) h
+
+  section-count : sectionW k s p 0 .count ≡ length l
+  section-count = let x = counted-found r h in section-counts k s p 0 (x .is-count) ∙ sym (times-length r s (x .count) (x .start) l q (x .are-values))
+
+and-true : (a b : Bool) → (a && b) ≡ true → a ≡ true
+and-true true b h = refl
+and-true false b h = h
+
+-- the texts, and that they ascend
+pub texts-found : (s : List ℕ) (p : ℕ) {ts : List Text} {q : ℕ} → texts s p ≡ got ts q → (counted one-text s p ≡ got ts q) × (ascending ts ≡ true)
+unfolding texts
+texts-found s p e =
+    let x = bound (counted one-text) _ e in
+    let g = required _ _ _ _ (x .rest) in
+    let h = x .first in
+    let u = g .1 .0 in
+    let w = g .1 .1 in
+    ((cc), subst (λ (l : List Text). ascending l ≡ true) (g .1 .0) (and-true _ _ (g .0)))
+
+entities-found : (ts : List Text) (s : List ℕ) (p : ℕ) {es : List Entity} {q : ℕ} → entities ts s p ≡ got es q → counted (entity ts) s p ≡ got es q
+unfolding entities
+entities-found ts s p e =
+    let x = bound (counted (entity ts)) _ e in
+    let g = required _ _ _ _ (x .rest) in
+    let h = x .first in
+    let u = g .1 .0 in
+    let w = g .1 .1 in
+    cc
+
+place-end : (ts : List Text) (s : List ℕ) (p : ℕ) {t : Text} {q : ℕ} → place ts s p ≡ got t q → placeW (length ts) s p 0 ≡ walked.To q 0
+unfolding seen capped
+place-end ts s p h = sees-place ts 0 s p ∙ ap (seen quiet 0) h
+
+module _ (f : List ℕ) (m : Model) (o : Opened f m) where
+  abbrev ts : List Text
+  ts = o .h .texts
+
+  pub parted : Headed f (o .h) (o .start)
+  parted = headed f (o .h) (o .start) (o .is-head)
+
+  pub head-ascends : ascending ts ≡ true
+  head-ascends = texts-found f 4 (parted .are-texts) .1
+
+  body-agrees : bodyW f (length ts) (parted .at-title) ≡ record { start = o .start; end = o .end }
+  unfolding bodyW behind partW events
+  body-agrees =
+      rw (place-end ts f (parted .at-title) (parted .is-title), behind)
+      (rw (section-end (entity ts) (entityW (length ts)) (sees-entity ts) f (parted .at-entities) (entities-found ts f (parted .at-entities) (parted .are-entities)), behind)
+      (rw (section-end (event ts) (eventW (length ts)) (sees-event ts) f (o .start) (o .are-events), behind)))
+
+  pub span-agrees : spanW f ≡ record { start = o .start; end = o .end }
+  unfolding spanW behind partW
+  span-agrees =
+      rw (section-end one-text textW sees-text f 4 (texts-found f 4 (parted .are-texts) .0), behind)
+      (rw (section-count one-text textW sees-text f 4 (texts-found f 4 (parted .are-texts) .0)) body-agrees)
+
+  -- ---- and that they stand in the file
+
+  within : {A : Type 0} {r : Reader A} {p q : ℕ} {a : A} → Spelled r f p a q → p ≤ length f → q ≤ length f
+  within {p = p} {q = q} x h = omega (arith, x .ends, length-drop p f, length-drop q f, ap length (x .stands), length-append (x .bytes) (drop q f))
+
+  pub first-part : Spelled head f 0 (o .h) (o .start)
+  first-part = local-head f 0 (o .h) (o .start) (o .is-head)
+
+  pub events-part : Spelled (events (o .h)) f (o .start) (m .scenario .events) (o .end)
+  unfolding events
+  events-part = local-counted (event ts) (local-event ts) f (o .start) (m .scenario .events) (o .end) (o .are-events)
+
+  pub start-inside : o .start ≤ length f
+  start-inside = within first-part (omega arith)
+
+  pub end-inside : o .end ≤ length f
+  end-inside = within events-part start-inside
+
+  pub rewritten-is : (vs : List Event) → rewritten f vs ≡ take (o .start) f ++ events-bytes ts vs ++ drop (o .end) f
+  unfolding rewritten
+  rewritten-is vs = rw (o .is-head, rewritten) (rw (o .are-events, rewritten))
+
+  -- the texts that an index names are the file's
+  pub same-texts : (l : List Text) → Reads texts f 4 l → l ≡ ts
+  same-texts l r = let a = r .1 in let b = parted .are-texts in cc
+
+-- ---- of a file that decodes
+
+-- the bounds that `rewrite` asks for, at the place that `events_in` finds
+pub span-inside : (f : List ℕ) (m : Model) → decode f ≡ answer m → (spanW f .start ≤ spanW f .end) × (spanW f .end ≤ length f)
+span-inside f m dec =
+    let o = opened f m dec in
+    rw (span-agrees f m o) (omega (arith, events-part f m o .ends), end-inside f m o)
+
+-- what `rewrite` writes is the file with these events
+pub file-agrees : (f : List ℕ) (m : Model) (i : Index) → decode f ≡ answer m → (x : Indexed f i m) (l : List ℕ) (d : Event) (vs : List Event) →
+    ((k : ℕ) → k < length vs → EventWords (x .ts) l k (getD vs k d)) → (n : ℕ) → n ≡ length vs → file-with f (spanW f) l n ≡ rewritten f vs
+unfolding file-with
+file-agrees f m i dec x l d vs ws n e =
+    let o = opened f m dec in
+    let t = same-texts f m o (x .ts) (x .all-texts) in
+    let w = subst (λ (ts : List Text). (k : ℕ) → k < length vs → EventWords ts l k (getD vs k d)) t ws in
+    rw (span-agrees f m o, e, section-agrees (o .h .texts) (head-ascends f m o) l d vs w) (sym (rewritten-is f m o vs))
