@@ -1,0 +1,381 @@
+-- The file with other events decodes to the model with those events, all else the same; and how long it is.
+use mathlib.Core.Path.{_≡_, refl, sym, ap, _∙_, subst}
+use mathlib.Core.List.{List, [], _∷_, _++_, append-assoc, append-nil}
+use mathlib.Core.Bool.{true}
+use Prim.Native.Nat.{ℕ, zero, suc, _+_, _*_, _-_, _/_, _%_, _≤_, _<_}
+use native.Mathlib.Omega.{arith}
+use lib.ListN.{length, getD, take, drop, length-append, length-drop, drop-of-length-le}
+use lib.Seq.{take-at, length-take-le}
+use lib.Dec.{ltb}
+use borrow.Author.Tests.{lt-ltb, le-ltb}
+use Rattle.texts.specs.Lists.{flat}
+use Rattle.texts.specs.Texts.{Text}
+use Rattle.model.specs.Answer.{answer}
+use Rattle.model.specs.Notes.{notes-of}
+use Rattle.model.specs.Model.{Model, Event, Input, reload}
+use Rattle.model.specs.File.{got, Reader, _>>=_, give, refuse, require, u8, u16, u32, times, counted, kinds, one-text, texts, place, limits, input, event, events, Head, head, ascending, model, decoded, decode}
+use Rattle.model.specs.Rewrite.{bytes2, bytes4, place-of, input-bytes, event-bytes, events-bytes, rewritten}
+use Rattle.model_walk.proofs.Found.{bound, given, refused, required, kind-found, counted-found, place-found, u8-wide, u16-wide, u32-wide}
+use Rattle.model_parts.specs.Stand.{Reads}
+use Rattle.model_rewrite.proofs.Spelled.{
+  Spells,
+  Spelled,
+  Local,
+  spells-give,
+  spells-bind,
+  spells-last,
+  spells-require,
+  spells-u8,
+  local-u8,
+  local-u32,
+  local-times,
+  local-place,
+  local-entities,
+  local-counted,
+  local-input,
+  local-invariant,
+  local-limits,
+  local-automation,
+}
+use Rattle.model_rewrite.proofs.Opened.{Opened, opened, after, model-is}
+use Rattle.model_rewrite.proofs.Agrees.{InputWords, EventWords, place-is, times-length, texts-found, parted, head-ascends, first-part, start-inside, end-inside, rewritten-is, same-texts}
+
+-- the model with other events
+abbrev pub with-events : List Event → Model → Model
+with-events vs m = record {
+  scenario = record {
+    version = m .scenario .version;
+    title = m .scenario .title;
+    entities = m .scenario .entities;
+    events = vs;
+    invariants = m .scenario .invariants;
+    alphabet = m .scenario .alphabet;
+    gaps = m .scenario .gaps;
+    limits = m .scenario .limits;
+  };
+  rules = m .rules;
+}
+
+-- ---- what can be written
+
+-- the text is among these
+pub record Among (ts : List Text) (t : Text) : Type 0 where
+  pub at : ℕ
+  pub inside : at < length ts
+  pub is-text : t ≡ getD ts at []
+
+abbrev pub FitsInput : List Text → Input → Type 0
+FitsInput ts (Input.set x v) = Among ts x × Among ts v
+FitsInput ts Input.restart = Unit {0}
+FitsInput ts reload = Unit {0}
+
+pub record Fits (ts : List Text) (v : Event) : Type 0 where
+  pub second : v .at < 4294967296
+  pub input : FitsInput ts (v .input)
+
+-- events that stand as words of 32 bits
+pub words-fit : (ts : List Text) (l : List ℕ) (k : ℕ) (v : Event) → EventWords ts l k v → getD l (k * 4) 0 < 4294967296 → Fits ts v
+words-fit ts l k v w h = record { second = omega (arith, w .second); input = inputs (v .input) (w .input) }
+  where
+    inputs : (i : Input) → InputWords ts (getD l (k * 4 + 1) 0) (getD l (k * 4 + 2) 0) (getD l (k * 4 + 3) 0) i → FitsInput ts i
+    inputs (Input.set x y) u = (
+      record { at = getD l (k * 4 + 2) 0; inside = u .1 .0 .0; is-text = u .1 .0 .1 },
+      record { at = getD l (k * 4 + 3) 0; inside = u .1 .1 .0; is-text = u .1 .1 .1 },
+    )
+    inputs Input.restart u = tt
+    inputs reload u = tt
+
+-- ---- the bytes of events are read back
+
+-- two bytes are the number's remainder
+spells-low : (n : ℕ) → Spells u16 (n % 256 + 256 * (n / 256 % 256)) (bytes2 n)
+unfolding u16 bytes2
+spells-low n = spells-bind u8 _ (n % 256 ∷ []) (n / 256 % 256 ∷ []) (spells-u8 (n % 256)) (spells-last u8 (λ b. n % 256 + 256 * b) (n / 256 % 256 ∷ []) (spells-u8 (n / 256 % 256)))
+
+spells-u16 : (n : ℕ) → n < 65536 → Spells u16 n (bytes2 n)
+spells-u16 n h =
+    let e : n % 256 + 256 * (n / 256 % 256) ≡ n = omega arith in
+    subst (λ (x : ℕ). Spells u16 x (bytes2 n)) e (spells-low n)
+
+spells-u32 : (n : ℕ) → n < 4294967296 → Spells u32 n (bytes4 n)
+unfolding u32 bytes4
+spells-u32 n h =
+    let d : n / 65536 ≡ n / 256 / 256 = omega arith in
+    let e : n % 256 + 256 * (n / 256 % 256) + 65536 * (n / 65536) ≡ n = omega arith in
+    subst (λ (x : ℕ). Spells u32 x (bytes2 n ++ bytes2 (n / 65536))) e
+    (spells-bind u16 _ (bytes2 n) (bytes2 (n / 65536)) (spells-low n) (spells-last u16 (λ b. n % 256 + 256 * (n / 256 % 256) + 65536 * b) (bytes2 (n / 65536)) (spells-u16 (n / 65536) (omega arith))))
+
+module _ (ts : List Text) (asc : ascending ts ≡ true) (few : length ts ≤ 65536) where
+  spells-place : (t : Text) → Among ts t → Spells (place ts) t (bytes2 (place-of t ts))
+  unfolding place
+  spells-place t a =
+      let p : place-of t ts ≡ a .at = ap (λ (u : Text). place-of u ts) (a .is-text) ∙ place-is ts asc (a .at) (a .inside) in
+      let s = spells-bind u16 (λ p. require (ltb p (length ts)) (getD ts p [])) (bytes2 (a .at)) [] (spells-u16 (a .at) (omega (arith, a .inside))) (spells-require (ltb (a .at) (length ts)) (getD ts (a .at) []) (lt-ltb (a .at) (length ts) (a .inside))) in
+      rw (p, a .is-text) (rw append-nil at s)
+
+  spells-input : (i : Input) → FitsInput ts i → Spells (input ts) i (input-bytes ts i)
+  unfolding input kinds input-bytes
+  spells-input (Input.set x v) h =
+      spells-bind u8 _ (0 ∷ []) (bytes2 (place-of x ts) ++ bytes2 (place-of v ts)) (spells-u8 0)
+      (spells-bind (place ts) _ (bytes2 (place-of x ts)) (bytes2 (place-of v ts)) (spells-place x (h .0)) (spells-last (place ts) (Input.set x) (bytes2 (place-of v ts)) (spells-place v (h .1))))
+  spells-input Input.restart h = spells-bind u8 _ (1 ∷ []) [] (spells-u8 1) (spells-give Input.restart)
+  spells-input reload h = spells-bind u8 _ (2 ∷ []) [] (spells-u8 2) (spells-give reload)
+
+  spells-event : (v : Event) → Fits ts v → Spells (event ts) v (event-bytes ts v)
+  unfolding event event-bytes
+  spells-event v h =
+      spells-bind u32 _ (bytes4 (v .at)) (input-bytes ts (v .input)) (spells-u32 (v .at) (h .second))
+      (spells-last (input ts) (λ i. record { at = v .at; input = i }) (input-bytes ts (v .input)) (spells-input (v .input) (h .input)))
+
+  spells-times : (d : Event) (vs : List Event) → ((k : ℕ) → k < length vs → Fits ts (getD vs k d)) → Spells (times (length vs) (event ts)) vs (flat (event-bytes ts) vs)
+  unfolding times flat
+  spells-times d [] h = spells-give []
+  spells-times d (v ∷ vs) h =
+      spells-bind (event ts) _ (event-bytes ts v) (flat (event-bytes ts) vs) (spells-event v (h 0 (omega arith)))
+      (spells-last (times (length vs) (event ts)) (λ l. v ∷ l) (flat (event-bytes ts) vs) (spells-times d vs (λ k o. h (suc k) (omega arith))))
+
+  spells-events : (d : Event) (vs : List Event) → ((k : ℕ) → k < length vs → Fits ts (getD vs k d)) → length vs ≤ 65535 → Spells (counted (event ts)) vs (events-bytes ts vs)
+  unfolding counted events-bytes
+  spells-events d vs h n = spells-bind u16 _ (bytes2 (length vs)) (flat (event-bytes ts) vs) (spells-u16 (length vs) (omega arith)) (spells-times d vs h)
+
+-- ---- what follows the events is read as before
+
+-- what the reader r finds, the reader r′ finds as `g` of it, in the same bytes
+abbrev Twin : {A : Type 0} → Reader A → Reader A → (A → A) → Type 0
+Twin {A} r r′ g = (s : List ℕ) (p : ℕ) (a : A) (q : ℕ) → r s p ≡ got a q → Spelled r′ s p (g a) q
+
+twin-bind : {A B : Type 0} (r : Reader A) (k k′ : A → Reader B) (g : B → B) → Local r → ((a : A) → Twin (k a) (k′ a) g) → Twin (r >>= k) (r >>= k′) g
+twin-bind r k k′ g f t s p b q e =
+    let x = bound r k e in
+    let y = f s p (x .value) (x .next) (x .first) in
+    let z = t (x .value) s (x .next) b q (x .rest) in
+    record {
+      bytes = y .bytes ++ z .bytes;
+      stands = y .stands ∙ ap (λ (l : List ℕ). y .bytes ++ l) (z .stands) ∙ sym (append-assoc (y .bytes) (z .bytes) (drop q s));
+      ends = omega (arith, y .ends, z .ends, length-append (y .bytes) (z .bytes));
+      spells = spells-bind r k′ (y .bytes) (z .bytes) (y .spells) (z .spells);
+    }
+
+twin-give : {A : Type 0} (b : A) (g : A → A) → Twin (give b) (give (g b)) g
+twin-give b g s p a q e =
+    let h = given s p b e in
+    record {
+      bytes = [];
+      stands = ap (λ (i : ℕ). drop i s) (h .1);
+      ends = omega (arith, h .1);
+      spells = subst (λ (x : _). Spells (give (g b)) (g x) []) (h .0) (spells-give (g b));
+    }
+
+after-twin : (h : Head) (old vs : List Event) → Twin (after h old) (after h vs) (with-events vs)
+unfolding after
+after-twin h old vs =
+    twin-bind _ _ _ _ (local-counted _ (local-invariant (h .texts))) λ is.
+    twin-bind _ _ _ _ (local-counted _ (local-input (h .texts))) λ al.
+    twin-bind _ _ _ _ (local-counted _ local-u32) λ gs.
+    twin-bind _ _ _ _ local-limits λ ls.
+    twin-bind _ _ _ _ (local-counted _ (local-automation (h .texts))) λ rs.
+    twin-give _ _
+
+-- ---- how many texts there are
+
+-- each value takes a byte or more
+grows : {A : Type 0} (r : Reader A) (s : List ℕ) → ((p : ℕ) (a : A) (q : ℕ) → r s p ≡ got a q → p + 1 ≤ q) → (n p : ℕ) (l : List A) (q : ℕ) → times n r s p ≡ got l q → p + n ≤ q
+unfolding times
+grows r s f zero p l q e = omega (arith, given s p [] e .1)
+grows r s f (suc n) p l q e =
+    let x = bound r _ e in
+    let y = bound (times n r) _ (x .rest) in
+    omega (arith, f p (x .value) (x .next) (x .first), grows r s f n (x .next) (y .value) (y .next) (y .first), given _ _ _ (y .rest) .1)
+
+text-grows : (s : List ℕ) (p : ℕ) (t : Text) (q : ℕ) → one-text s p ≡ got t q → p + 1 ≤ q
+unfolding one-text
+text-grows s p t q e =
+    let x = bound u8 _ e in
+    let y = bound (times (x .value) u8) _ (x .rest) in
+    omega (arith, u8-wide s p (x .first) .ends, local-times u8 local-u8 (x .value) s (x .next) (y .value) (y .next) (y .first) .ends, required _ _ _ _ (y .rest) .1 .1)
+
+module _ (f : List ℕ) (m : Model) (o : Opened f m) where
+  abbrev ts : List Text
+  ts = o .h .texts
+
+  few-texts : length ts ≤ 65536
+  few-texts =
+      let h = parted f m o in
+      let c = counted-found one-text (texts-found f 4 (h .are-texts) .0) in
+      let n = times-length one-text f (c .count) (c .start) ts (h .at-title) (c .are-values) in
+      let g = grows one-text f (text-grows f) (c .count) (c .start) ts (h .at-title) (c .are-values) in
+      let t = local-place ts f (h .at-title) (o .h .title) (h .at-entities) (h .is-title) .ends in
+      let e = local-entities ts f (h .at-entities) (o .h .entities) (o .start) (h .are-entities) .ends in
+      omega (arith, n, g, t, e, start-inside f m o, o .small)
+
+  -- ---- the file with other events is read back
+
+  start-bytes : take (o .start) f ≡ first-part f m o .bytes
+  start-bytes =
+      let x = first-part f m o in
+      ap (take (o .start)) (x .stands) ∙ take-at (x .bytes) (drop (o .start) f) (o .start) (omega (arith, x .ends))
+
+  module _ (vs : List Event) where
+    rest-part : Spelled (after (o .h) vs) f (o .end) (with-events vs m) (o .last)
+    rest-part = after-twin (o .h) (m .scenario .events) vs f (o .end) m (o .last) (o .is-after)
+
+    rest-bytes : drop (o .end) f ≡ rest-part .bytes
+    rest-bytes =
+        rest-part .stands
+        ∙ ap (λ (l : List ℕ). rest-part .bytes ++ l) (drop-of-length-le f {i = o .last} (o .whole))
+        ∙ append-nil (rest-part .bytes)
+
+    new-bytes : rewritten f vs ≡ first-part f m o .bytes ++ (events-bytes ts vs ++ rest-part .bytes)
+    new-bytes =
+        rewritten-is f m o vs
+        ∙ append-assoc (take (o .start) f) (events-bytes ts vs) (drop (o .end) f)
+        ∙ rw (start-bytes, rest-bytes)
+
+    module _ (d : Event) (fits : (k : ℕ) → k < length vs → Fits ts (getD vs k d)) (many : length vs ≤ 65535) where
+      new-spelled : Spells (head >>= λ h. events h >>= λ evs. after h evs) (with-events vs m) (first-part f m o .bytes ++ (events-bytes ts vs ++ rest-part .bytes))
+      unfolding events
+      new-spelled =
+          spells-bind head _ (first-part f m o .bytes) (events-bytes ts vs ++ rest-part .bytes) (first-part f m o .spells)
+          (spells-bind (counted (event ts)) (λ evs. after (o .h) evs) (events-bytes ts vs) (rest-part .bytes) (spells-events ts (head-ascends f m o) few-texts d vs fits many) (rest-part .spells))
+
+      new-model : model (rewritten f vs) 0 ≡ got (with-events vs m) (length (rewritten f vs))
+      new-model =
+          model-is (rewritten f vs) 0
+          ∙ new-spelled (rewritten f vs) 0 [] (new-bytes ∙ sym (append-nil _))
+          ∙ ap (got (with-events vs m)) (omega (arith, ap length new-bytes))
+
+notes-same : (vs : List Event) (m : Model) → notes-of (with-events vs m) ≡ notes-of m
+unfolding notes-of
+notes-same vs m = refl
+
+-- a file's notes stay, so that the new file decodes if it is not too long
+pub decodes : (f : List ℕ) (m : Model) → decode f ≡ answer m → (ts : List Text) → Reads texts f 4 ts → (d : Event) (vs : List Event) →
+    ((k : ℕ) → k < length vs → Fits ts (getD vs k d)) → length vs ≤ 65535 → length (rewritten f vs) ≤ 32768 →
+    decode (rewritten f vs) ≡ answer (with-events vs m)
+unfolding decode decoded
+decodes f m dec ts r d vs fits many h =
+    let o = opened f m dec in
+    let w = subst (λ (l : List Text). (k : ℕ) → k < length vs → Fits l (getD vs k d)) (same-texts f m o ts r) fits in
+    let n : length (notes-of (with-events vs m)) ≤ 64 = rw notes-same (o .few-notes) in
+    rw (le-ltb 32768 (length (rewritten f vs)) h, new-model f m o vs d w many, decoded)
+    (rw (le-ltb 64 (length (notes-of (with-events vs m))) n, le-ltb (length (rewritten f vs)) (length (rewritten f vs)) (omega arith)))
+
+-- ---- how long it is
+
+-- some of a list's elements, in their order
+pub data Some {A : Type 0} : List A → List A → Type 0 where
+  no-more : Some [] []
+  skip : {x : A} {l m : List A} → Some l m → Some l (x ∷ m)
+  keep : {x : A} {l m : List A} → Some l m → Some (x ∷ l) (x ∷ m)
+
+pub some-all : {A : Type 0} (l : List A) → Some l l
+some-all [] = no-more
+some-all (x ∷ l) = keep (some-all l)
+
+pub some-some : {A : Type 0} {l m n : List A} → Some l m → Some m n → Some l n
+some-some a (skip b) = skip (some-some a b)
+some-some (skip a) (keep b) = skip (some-some a b)
+some-some (keep a) (keep b) = keep (some-some a b)
+some-some a no-more = a
+
+module _ (ts : List Text) where
+  event-size : (v : Event) → length (event-bytes ts v) ≤ 9
+  unfolding event-bytes input-bytes bytes4 bytes2
+  event-size v = cases (v .input)
+    where
+      cases : (i : Input) → length (bytes4 (v .at) ++ input-bytes ts i) ≤ 9
+      cases (Input.set x y) = omega arith
+      cases Input.restart = omega arith
+      cases reload = omega arith
+
+  more-size : (v : Event) (vs : List Event) → length (flat (event-bytes ts) (v ∷ vs)) ≡ length (event-bytes ts v) + length (flat (event-bytes ts) vs)
+  unfolding flat
+  more-size v vs = length-append (event-bytes ts v) (flat (event-bytes ts) vs)
+
+  section-size : (vs : List Event) → length (events-bytes ts vs) ≡ 2 + length (flat (event-bytes ts) vs)
+  unfolding events-bytes bytes2
+  section-size vs = length-append (bytes2 (length vs)) (flat (event-bytes ts) vs)
+
+  at-most : (vs : List Event) → length (flat (event-bytes ts) vs) ≤ 9 * length vs
+  unfolding flat
+  at-most [] = omega arith
+  at-most (v ∷ vs) = omega (arith, more-size v vs, event-size v, at-most vs)
+
+  some-size : {l m : List Event} → Some l m → length (flat (event-bytes ts) l) ≤ length (flat (event-bytes ts) m)
+  some-size no-more = omega arith
+  some-size (skip {x} {l} {m} a) = omega (arith, more-size x m, some-size a)
+  some-size (keep {x} {l} {m} a) = omega (arith, more-size x m, more-size x l, some-size a)
+
+  -- a reader of events takes as many bytes as are written
+
+  input-kinds : List (Reader Input)
+  input-kinds = (place ts >>= λ e. place ts >>= λ v. give (Input.set e v)) ∷ give Input.restart ∷ give reload ∷ []
+
+  input-read : (s : List ℕ) (p : ℕ) (v : Input) (q : ℕ) → input ts s p ≡ got v q → q ≡ p + length (input-bytes ts v)
+  unfolding input input-kinds input-bytes bytes2
+  input-read s p v q h =
+      let k = kind-found input-kinds h in
+      cases (k .kind) (k .next) (u8-wide s p (k .is-kind) .ends) (k .holds)
+    where
+      cases : (n o : ℕ) → o ≡ p + 1 → getD input-kinds n refuse s o ≡ got v q → q ≡ p + length (input-bytes ts v)
+      cases zero o w y =
+          let a = bound (place ts) _ y in
+          let b = bound (place ts) _ (a .rest) in
+          let g = given _ _ _ (b .rest) in
+          let u = u16-wide s o (place-found ts (a .first) .is-place) .ends in
+          let x = u16-wide s (a .next) (place-found ts (b .first) .is-place) .ends in
+          subst (λ (i : Input). q ≡ p + length (input-bytes ts i)) (g .0) (omega (arith, w, u, x, g .1))
+      cases (suc zero) o w y = let g = given _ _ _ y in subst (λ (i : Input). q ≡ p + length (input-bytes ts i)) (g .0) (omega (arith, w, g .1))
+      cases (suc (suc zero)) o w y = let g = given _ _ _ y in subst (λ (i : Input). q ≡ p + length (input-bytes ts i)) (g .0) (omega (arith, w, g .1))
+      cases (suc (suc (suc n))) o w y = absurd (refused s o y)
+
+  event-read : (s : List ℕ) (p : ℕ) (v : Event) (q : ℕ) → event ts s p ≡ got v q → q ≡ p + length (event-bytes ts v)
+  unfolding event event-bytes bytes4 bytes2
+  event-read s p v q h =
+      let a = bound u32 _ h in
+      let b = bound (input ts) _ (a .rest) in
+      let g = given _ _ _ (b .rest) in
+      let n = length-append (bytes4 (a .value)) (input-bytes ts (b .value)) in
+      subst (λ (x : Event). q ≡ p + length (event-bytes ts x)) (g .0)
+      (omega (arith, u32-wide s p (a .first) .ends, input-read s (a .next) (b .value) (b .next) (b .first), g .1, n))
+
+  times-read : (s : List ℕ) (n p : ℕ) (l : List Event) (q : ℕ) → times n (event ts) s p ≡ got l q → q ≡ p + length (flat (event-bytes ts) l)
+  unfolding times flat
+  times-read s zero p l q h = let g = given s p [] h in subst (λ (x : List Event). q ≡ p + length (flat (event-bytes ts) x)) (g .0) (omega (arith, g .1))
+  times-read s (suc n) p l q h =
+      let a = bound (event ts) _ h in
+      let b = bound (times n (event ts)) _ (a .rest) in
+      let g = given _ _ _ (b .rest) in
+      subst (λ (x : List Event). q ≡ p + length (flat (event-bytes ts) x)) (g .0)
+      (omega (arith, event-read s p (a .value) (a .next) (a .first), times-read s n (a .next) (b .value) (b .next) (b .first), g .1, more-size (a .value) (b .value)))
+
+  events-read : (s : List ℕ) (p : ℕ) (l : List Event) (q : ℕ) → counted (event ts) s p ≡ got l q → q ≡ p + length (events-bytes ts l)
+  events-read s p l q h =
+      let c = counted-found (event ts) h in
+      omega (arith, u16-wide s p (c .is-count) .ends, times-read s (c .count) (c .start) l q (c .are-values), section-size l)
+
+-- the new file's length
+new-size : (f : List ℕ) (m : Model) (o : Opened f m) (vs : List Event) →
+    length (rewritten f vs) + length (events-bytes (o .h .texts) (m .scenario .events)) ≡ length f + length (events-bytes (o .h .texts) vs)
+unfolding events
+new-size f m o vs =
+    let n = length-append (take (o .start) f ++ events-bytes (o .h .texts) vs) (drop (o .end) f) in
+    let a = length-append (take (o .start) f) (events-bytes (o .h .texts) vs) in
+    let t = length-take-le (o .start) f (start-inside f m o) in
+    let d = length-drop (o .end) f in
+    let e = events-read (o .h .texts) f (o .start) (m .scenario .events) (o .end) (o .are-events) in
+    omega (arith, ap length (rewritten-is f m o vs), n, a, t, d, e, end-inside f m o)
+
+-- at most 5 events: at most 45 bytes more
+pub few-events : (f : List ℕ) (m : Model) → decode f ≡ answer m → (vs : List Event) → length vs ≤ 5 → length (rewritten f vs) ≤ length f + 45
+few-events f m dec vs h =
+    let o = opened f m dec in
+    let ts = o .h .texts in
+    omega (arith, new-size f m o vs, section-size ts vs, section-size ts (m .scenario .events), at-most ts vs)
+
+-- some of the file's events: no byte more
+pub some-events : (f : List ℕ) (m : Model) → decode f ≡ answer m → (vs : List Event) → Some vs (m .scenario .events) → length (rewritten f vs) ≤ length f
+some-events f m dec vs h =
+    let o = opened f m dec in
+    let ts = o .h .texts in
+    omega (arith, new-size f m o vs, section-size ts vs, section-size ts (m .scenario .events), some-size ts h)
