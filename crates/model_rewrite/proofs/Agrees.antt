@@ -25,10 +25,9 @@ use Rattle.model_parts.proofs.Stands.{section-ends, section-counts}
 use Rattle.model_order.proofs.Places.{same-place}
 use Rattle.model_index.specs.declared.Index.{Index}
 use Rattle.model_index.specs.Indexed.{Indexed}
+use Rattle.model_rewrite.specs.declared.Span.{Span}
 use Rattle.model_rewrite.specs.Span.{behind, bodyW, spanW}
-use Rattle.model_rewrite.specs.Written.{event-start, two-places, event-of, event-at, first-events, section-bytes, file-with}
-use Rattle.model_rewrite.proofs.Laws as laws
-use Rattle.model_rewrite.proofs.Spelled as spelled
+use Rattle.model_rewrite.specs.Written.{event-start, two-places, event-of, event-at, first-events, section-bytes, file-with, Wrote}
 use Rattle.model_rewrite.proofs.Spelled.{Spelled, local-counted, local-event, local-head}
 use Rattle.model_rewrite.proofs.Opened.{Opened, opened, Headed, headed}
 
@@ -194,18 +193,26 @@ module _ (f : List ℕ) (m : Model) (o : Opened f m) where
 
 -- ---- of a file that decodes
 
--- the bounds that `rewrite` asks for, at the place that `events_in` finds
-pub span-inside : (f : List ℕ) (m : Model) → decode f ≡ answer m → (spanW f .start ≤ spanW f .end) × (spanW f .end ≤ length f)
-span-inside f m dec =
-    let o = opened f m dec in
-    rw (span-agrees f m o) (omega (arith, events-part f m o .ends), end-inside f m o)
+module _ (f : List ℕ) (m : Model) (i : Index) (dec : decode f ≡ answer m) (x : Indexed f i m)
+    (l : List ℕ) (d : Event) (vs : List Event) (ws : (k : ℕ) → k < length vs → EventWords (x .ts) l k (getD vs k d)) where
+  -- what `rewrite` writes, at the place that `events_in` finds, is the file with these events
+  pub file-agrees : file-with f (spanW f) l (length vs) ≡ rewritten f vs
+  unfolding file-with
+  file-agrees =
+      let o = opened f m dec in
+      let t = same-texts f m o (x .ts) (x .all-texts) in
+      let w = subst (λ (ts : List Text). (k : ℕ) → k < length vs → EventWords ts l k (getD vs k d)) t ws in
+      rw (span-agrees f m o, section-agrees (o .h .texts) (head-ascends f m o) l d vs w) (sym (rewritten-is f m o vs))
 
--- what `rewrite` writes is the file with these events
-pub file-agrees : (f : List ℕ) (m : Model) (i : Index) → decode f ≡ answer m → (x : Indexed f i m) (l : List ℕ) (d : Event) (vs : List Event) →
-    ((k : ℕ) → k < length vs → EventWords (x .ts) l k (getD vs k d)) → (n : ℕ) → n ≡ length vs → file-with f (spanW f) l n ≡ rewritten f vs
-unfolding file-with
-file-agrees f m i dec x l d vs ws n e =
-    let o = opened f m dec in
-    let t = same-texts f m o (x .ts) (x .all-texts) in
-    let w = subst (λ (ts : List Text). (k : ℕ) → k < length vs → EventWords ts l k (getD vs k d)) t ws in
-    rw (span-agrees f m o, e, section-agrees (o .h .texts) (head-ascends f m o) l d vs w) (sym (rewritten-is f m o vs))
+  module _ {s : Span} {n : ℕ} (is-span : s ≡ spanW f) (many : n ≡ length vs) where
+    -- what `rewrite` asks for holds where the new file has room
+    pub asked : (o : List ℕ) → n * 4 ≤ length l → length (rewritten f vs) ≤ length o →
+        (s .start ≤ s .end) × ((s .end ≤ length f) × ((n * 4 ≤ length l) × (length (file-with f s l n) ≤ length o)))
+    asked o h r =
+        let y = opened f m dec in
+        let w : length (file-with f s l n) ≤ length o = rw (is-span, many, file-agrees) r in
+        let p : (s .start ≤ s .end) × (s .end ≤ length f) = rw (is-span, span-agrees f m y) (omega (arith, events-part f m y .ends), end-inside f m y) in
+        (p .0, (p .1, (h, w)))
+
+    pub told : {r : ℕ} {o e : List ℕ} → Wrote (file-with f s l n) r o e → Wrote (rewritten f vs) r o e
+    told {r} {o} {e} w = subst (λ (b : List ℕ). Wrote b r o e) (rw (is-span, many) file-agrees) w

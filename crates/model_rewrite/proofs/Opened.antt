@@ -12,7 +12,6 @@ use Rattle.model.specs.Notes.{notes-of}
 use Rattle.model.specs.Model.{Model, Event, Input, Invariant, Automation, Limits}
 use Rattle.model.specs.File.{Got, got, broken, Reader, _>>=_, give, u32, counted, limits, texts, place, input, invariant, automation, Head, head, events, entities, model, decoded, decode}
 use Rattle.model_walk.proofs.Found.{Case, is-true, is-false, case, bound, given, u32-wide}
-use Rattle.model_rewrite.proofs.Spelled as spelled
 
 -- the model of its parts
 abbrev made : Head → List Event → List Invariant → List Input → List ℕ → Limits → List Automation → Model

@@ -10,7 +10,7 @@ use lib.Dec.{ltb}
 use borrow.Author.Tests.{lt-ltb, le-ltb}
 use Rattle.texts.specs.Lists.{flat}
 use Rattle.texts.specs.Texts.{Text}
-use Rattle.model.specs.Answer.{answer}
+use Rattle.model.specs.Answer.{Answer, answer}
 use Rattle.model.specs.Notes.{notes-of}
 use Rattle.model.specs.Model.{Model, Event, Input, reload}
 use Rattle.model.specs.File.{got, Reader, _>>=_, give, refuse, require, u8, u16, u32, times, counted, kinds, one-text, texts, place, limits, input, event, events, Head, head, ascending, model, decoded, decode}
@@ -259,6 +259,11 @@ decodes f m dec ts r d vs fits many h =
     let n : length (notes-of (with-events vs m)) ≤ 64 = rw notes-same (o .few-notes) in
     rw (le-ltb 32768 (length (rewritten f vs)) h, new-model f m o vs d w many, decoded)
     (rw (le-ltb 64 (length (notes-of (with-events vs m))) n, le-ltb (length (rewritten f vs)) (length (rewritten f vs)) (omega arith)))
+
+-- a longer one is not read
+pub too-long : (f : List ℕ) (vs : List Event) → 32768 < length (rewritten f vs) → decode (rewritten f vs) ≡ Answer.refused 30
+unfolding decode
+too-long f vs h = rw (lt-ltb 32768 (length (rewritten f vs)) h)
 
 -- ---- how long it is
 
