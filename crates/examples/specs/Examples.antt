@@ -167,6 +167,8 @@ pub record Table : Type 0 where
       ≡ answer (no-counterexample-within-bounds, (3, [])))
       × (search (searched (Input.set (text "lamp") (text "on") ∷ reload ∷ []))
       ≡ answer (no-counterexample-within-bounds, (7, [])))
+  -- a record area of no entries
+  pub no-records : simulated (record { queue = 100; records = 0; runs = 100 }) (fading 0) (cells-of (fading 0)) [] ≡ refused 42
 
 pub examples : Table
 unfolding all-verify files.all-files lamp-with model-with model turn lamp-is at room cells-of final records status violations search verdict fading told told-of lamp-from place dim-toggled dimmed searched
@@ -183,4 +185,5 @@ examples = record {
   p10 = (refl, refl);
   p11 = ((refl, refl), (refl, refl));
   p12 = (refl, refl);
+  no-records = refl;
 }
