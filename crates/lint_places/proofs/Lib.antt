@@ -1,0 +1,4 @@
+pub mod Sets
+pub mod Agree
+pub mod Tiers
+pub mod Accepted
