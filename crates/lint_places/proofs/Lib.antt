@@ -1,4 +1,9 @@
+pub mod Lists
 pub mod Sets
 pub mod Agree
 pub mod Tiers
 pub mod Accepted
+pub mod Stage
+pub mod Rules
+pub mod Pairs
+pub mod Cycled

@@ -11,13 +11,14 @@ use lib.Bits.{bitOr, or-shifted-r, or-lt}
 use lib.Dec.{eqb, ltb}
 use lib.ListN.{length, getD}
 use borrow.Author.Tests.{eqb-true, eqb-false, eq-eqb, ne-eqb}
-use Rattle.texts.specs.Lists.{if_then_else_, keep, each, through}
+use Rattle.texts.specs.Lists.{if_then_else_, is-empty, keep, each, through}
 use Rattle.texts.specs.Texts.{Text, eqT}
 use Rattle.texts.proofs.Ordering.{eq-refl}
 use Rattle.engine.specs.Words.{place-of}
 use Rattle.lint.specs.Reach.{places}
 use Rattle.lint.specs.Words.{set-of}
 use Rattle.lint_reach.specs.Sets.{holds, members}
+use Rattle.lint_reach.proofs.Bits.{holds-none, keep-none}
 
 -- ---- a set is that of its members
 
@@ -67,9 +68,24 @@ module _ (x : ℕ) where
       let z : 0 ≡ x % 2 ^ 0 = omega arith in
       ap (through (λ i x. bitOr x (2 ^ i)) (keep (holds x) (places 32 0))) z ∙ collected 32 0 ∙ mod-eq-of-lt h
 
+members-none : members 0 ≡ []
+unfolding members
+members-none = keep-none (holds 0) 32 0 (λ j a b. holds-none j)
+
+-- a set is 0 exactly if it has no members
+pub set-empty : (x : ℕ) → x < 2 ^ 32 → eqb x 0 ≡ is-empty (members x)
+set-empty x h = cases (members x) refl
+  where
+    none-of : set-of [] ≡ 0
+    none-of = unfold set-of through in refl
+
+    cases : (l : List ℕ) → members x ≡ l → eqb x 0 ≡ is-empty l
+    cases [] e = unfold is-empty in eq-eqb x 0 (sym (set-members x h) ∙ ap set-of e ∙ none-of)
+    cases (y ∷ l) e = unfold is-empty in ne-eqb x 0 (λ z. let w : y ∷ l ≡ [] = sym e ∙ ap members z ∙ members-none in let q : _≡_ {A = ℕ} 0 1 = cc in omega arith)
+
 -- ---- numbers of texts
 
-pub Once : List Text → Type 0
+unfoldable pub Once : List Text → Type 0
 Once l = (i j : ℕ) → i < length l → j < length l → eqT (getD l i []) (getD l j []) ≡ eqb i j
 
 eqb-suc : (a b : ℕ) → eqb (suc a) (suc b) ≡ eqb a b

@@ -10,7 +10,7 @@ use lib.Seq.{getD-take}
 use native.Mathlib.Decide.{decLt}
 use lib.Dec.{eqb, ltb}
 use lib.ListN.{length, getD}
-use borrow.Author.Tests.{lt-ltb, le-ltb, eq-eqb, ne-eqb}
+use borrow.Author.Tests.{lt-ltb, le-ltb, eq-eqb, ne-eqb, eqb-true}
 use Rattle.texts.specs.Lists.{if_then_else_, absent, listed, keep, each, flat}
 use Rattle.texts.specs.Texts.{Text, eqT, memT, sortedT}
 use mathlib.Core.Logic.{_⊎_, inl, inr}
@@ -122,10 +122,36 @@ module _ (s : List ℕ) (e : Section) (ts : List Text) (es : List Entity) (g : G
     ]
   ]
 
+  -- the number of a declared name, and of one that isn't declared
+  pub number-at : (x j : ℕ) → x < length ts → j < length es → nameAt es j ≡ T x → number-of e x s ≡ j
+  number-at x j h k n = cases (lt-or-ge (number-of e x s) (e .count))
+    where
+      f : Firsts (e .starts) x s (e .count) 0 (number-of e x s)
+      f = firsts (e .starts) x s (e .count) 0
+
+      cases : (number-of e x s < e .count) ⊎ (e .count ≤ number-of e x s) → number-of e x s ≡ j
+      cases (inl b) =
+          let l : number-of e x s < length es = omega (arith, g .counts) in
+          let a : eqT (nameAt es (number-of e x s)) (T x) ≡ true = sym (name-is x (number-of e x s) h l) ∙ f .here (omega arith) in
+          eqb-true (number-of e x s) j (sym (name-once (number-of e x s) j l k) ∙ ap (eqT (nameAt es (number-of e x s))) n ∙ a)
+      cases (inr b) = absurd (not-both (sym (name-is x j h k) ∙ f .ahead j (omega arith) (omega (arith, g .counts))) (is-eq n))
+
+  pub number-none : (x : ℕ) → x < length ts → ((j : ℕ) → j < length es → eqT (nameAt es j) (T x) ≡ false) → e .count ≤ number-of e x s
+  number-none x h n = cases (lt-or-ge (number-of e x s) (e .count))
+    where
+      f : Firsts (e .starts) x s (e .count) 0 (number-of e x s)
+      f = firsts (e .starts) x s (e .count) 0
+
+      cases : (number-of e x s < e .count) ⊎ (e .count ≤ number-of e x s) → e .count ≤ number-of e x s
+      cases (inl b) =
+          let l : number-of e x s < length es = omega (arith, g .counts) in
+          absurd (not-both (n (number-of e x s) l) (sym (name-is x (number-of e x s) h l) ∙ f .here (omega arith)))
+      cases (inr b) = b
+
   -- ---- what is added
 
   -- no place is held past the last entity
-  pub Inside : ℕ → Type 0
+  unfoldable pub Inside : ℕ → Type 0
   Inside set = (j : ℕ) → length es ≤ j → j < 32 → holds set j ≡ false
 
   -- the j-th entity is declared, and its name is among the texts
@@ -412,7 +438,7 @@ module _ (s : List ℕ) (e : Section) (ts : List Text) (es : List Entity) (g : G
   -- ---- a set as a list of names
 
   -- each of the texts is declared
-  pub Declares : List Text → Type 0
+  unfoldable pub Declares : List Text → Type 0
   Declares l = (t : Text) → memT t l ≡ true → (j : ℕ) × ((j < length es) × (nameAt es j ≡ t))
 
   above-names : (set n i j : ℕ) → j < i → i + n ≤ length es → Above (nameAt es j) (each (nameAt es) (keep (holds set) (places n i)))
@@ -424,7 +450,7 @@ module _ (s : List ℕ) (e : Section) (ts : List Text) (es : List Entity) (g : G
       cases true ih = over-one (rising-before (each (λ e. e .name) es) (g .rising) j i h (rw (each-many (λ e. e .name) es) (omega arith))) ih
       cases false ih = ih
 
-  rising-names : (set n i : ℕ) → i + n ≤ length es → Rising (each (nameAt es) (keep (holds set) (places n i)))
+  pub rising-names : (set n i : ℕ) → i + n ≤ length es → Rising (each (nameAt es) (keep (holds set) (places n i)))
   unfolding each keep places
   rising-names set zero i k = rise-none
   rising-names set (suc n) i k = cases (holds set i) (rising-names set n (i + 1) (omega arith))
@@ -434,7 +460,7 @@ module _ (s : List ℕ) (e : Section) (ts : List Text) (es : List Entity) (g : G
       cases false ih = ih
 
   -- the held entities below n are all that are held
-  members-below : (set : ℕ) → Inside set → members set ≡ keep (holds set) (places (length es) 0)
+  pub members-below : (set : ℕ) → Inside set → members set ≡ keep (holds set) (places (length es) 0)
   unfolding members Inside
   members-below set f =
       let n = length es in

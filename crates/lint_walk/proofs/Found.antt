@@ -289,6 +289,10 @@ module _ (ts : List Text) (s : List ℕ) where
     pub at-notes : ℕ
     pub are-actions : actions ts 18 s (actionsZ s p) ≡ got (r .actions) at-source
     pub source-at : source s at-source ≡ got (r .source) at-notes
+    pub behind-id : ℕ
+    pub id-at : place ts s p ≡ got (r .id) behind-id
+    pub end : ℕ
+    pub notes-at : counted (place ts) s at-notes ≡ got (r .notes) end
 
   times-length : {A : Type 0} (r : Reader A) (n p : ℕ) (l : List A) (q : ℕ) → times n r s p ≡ got l q → length l ≡ n
   unfolding times
@@ -327,4 +331,8 @@ module _ (ts : List Text) (s : List ℕ) where
         at-notes = o .next;
         are-actions = ap (actions ts 18 s) za ∙ a .first;
         source-at = o .first;
+        behind-id = i .next;
+        id-at = i .first;
+        end = n .next;
+        notes-at = n .first;
       })
