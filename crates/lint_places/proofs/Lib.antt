@@ -7,3 +7,4 @@ pub mod Stage
 pub mod Rules
 pub mod Pairs
 pub mod Cycled
+pub mod Staged

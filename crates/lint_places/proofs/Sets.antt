@@ -88,7 +88,7 @@ set-empty x h = cases (members x) refl
 unfoldable pub Once : List Text → Type 0
 Once l = (i j : ℕ) → i < length l → j < length l → eqT (getD l i []) (getD l j []) ≡ eqb i j
 
-eqb-suc : (a b : ℕ) → eqb (suc a) (suc b) ≡ eqb a b
+pub eqb-suc : (a b : ℕ) → eqb (suc a) (suc b) ≡ eqb a b
 eqb-suc a b = cases (eqb a b) refl
   where
     cases : (c : Bool) → eqb a b ≡ c → eqb (suc a) (suc b) ≡ eqb a b
