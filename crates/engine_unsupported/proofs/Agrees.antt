@@ -489,3 +489,12 @@ unsupported-agrees {f} {x} {ts} m a h =
     ap (λ (n : ℕ). rulesL f x n 0 []) (ap (λ (n : ℕ). atMost n 32) (a .automations) ∙ sym (most-yes (length rs) 32 (a .few-automations)))
     ∙ rules-agree f ts (a .size) (a .few-texts) (a .text-at) x rs 0 [] (λ d j k. let z : j ≡ 0 + j = omega arith in subst (λ (n : ℕ). RuleAt f x ts n (getD rs j d)) z (a .rows d j k))
     ∙ add-sorted (flat rule-reasons rs) (omega (arith, many-rules rs, length-append (flat of-invariant (m .scenario .invariants)) (flat of-rule rs)))
+
+-- the notes of one automation
+pub alone-agrees : {f x : List ℕ} {ts : List Text} → length f ≤ 32768 → length ts ≤ 65535 → ((k : ℕ) → k < length ts → textAt f (startFrom f 6 k) ≡ getD ts k []) →
+    (i : ℕ) (r : Automation) → RuleAt f x ts i r → length (of-rule r) ≤ 64 → ruleL f x i [] ≡ unsupported (r ∷ [])
+unfolding unsupported flat
+alone-agrees {f} {x} {ts} size few text-at i r a h =
+    rule-agrees f ts size few text-at x i r [] a
+    ∙ ap (λ (l : List Text). addAll l []) (sym (append-nil (rule-reasons r)))
+    ∙ add-sorted (rule-reasons r ++ []) (omega (arith, many-rules (r ∷ []), length-append (of-rule r) []))

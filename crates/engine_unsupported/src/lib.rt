@@ -338,7 +338,8 @@ fn own_notes(f: &[u8], x: &[u32; 436], u: &mut [u32], i: usize, n: usize) -> usi
     c.count
 }
 
-fn rule_notes(f: &[u8], x: &[u32; 436], u: &mut [u32], i: usize, n: usize) -> usize
+// All notes of the i-th automation.
+pub fn rule_notes(f: &[u8], x: &[u32; 436], u: &mut [u32], i: usize, n: usize) -> usize
     requires { ⌜ (1500 ≤ length (now u)) × (i < 32) ⌝ }
     ensures { λ k. ⌜ Makes (ruleL (now (f .entry)) (now (x .entry)) i) (now (f .entry)) n (now (u .entry)) k (now (u .exit)) ⌝ }
 {

@@ -1,0 +1,84 @@
+-- The laws that the proofs of the notes cite.
+use mathlib.Core.Path.{_≡_, refl, sym, ap, _∙_, subst}
+use mathlib.Core.List.{List, [], _∷_}
+use Prim.Native.Nat.{ℕ, zero, suc, _+_, _*_, _-_, _^_, _≤_, _<_}
+use native.Mathlib.Omega.{arith}
+use lib.Bits.{bitOr}
+use lib.ListN.{getD, set, replicate}
+use Rattle.model_parts.specs.declared.Section.{Section}
+use Rattle.texts.specs.Texts.{Text}
+use Rattle.reasons.specs.Lists.{listed, reasons}
+use Rattle.engine_reads.specs.Reads.{cap}
+use Rattle.engine_unsupported.specs.Listing.{ruleL}
+use Rattle.lint_walk.specs.declared.Walk.{Walk}
+use Rattle.lint_walk.specs.Raw.{placeZ, numberZ, past, triggersZ, conditionsZ, actionsZ, predicatesEnd}
+use Rattle.lint_walk.specs.Walks.{walkW}
+use Rattle.lint_board.specs.Board.{finding, Board, pushes}
+use Rattle.lint_findings.specs.Entries.{itemsN}
+use Rattle.lint_findings.proofs.Laws.{numbers-start}
+use Rattle.lint_notes.specs.Notes.{noteZ, noteItems, RowOf, Few, RuleNotes, AllNotes, no-notes, more-notes}
+
+pub words-is : (set line column : ℕ) (u : List ℕ) (j k : ℕ) → k ≡ 5 * j →
+    (9 ∷ 2 ∷ 5 ∷ 0 ∷ set ∷ line ∷ column ∷ 0 ∷ 0 ∷ getD u k 0 ∷ getD u (k + 1) 0 ∷ getD u (k + 2) 0 ∷ getD u (k + 3) 0 ∷ getD u (k + 4) 0 ∷ []) ≡ noteZ set line column u j
+unfolding noteZ
+words-is set line column u j k e = rw e
+
+pub items-is : (set line column : ℕ) (u : List ℕ) (n : ℕ) (x : Board) → pushes (noteItems set line column u n) x ≡ pushes (itemsN (λ j. finding (noteZ set line column u j) ∷ []) (n - 0) 0) x
+unfolding noteItems
+items-is set line column u n x = numbers-start (λ j. finding (noteZ set line column u j) ∷ []) {n = n} {m = n} x refl
+
+pub actions-is : (s : List ℕ) (p : ℕ) {c : ℕ} → c ≡ conditionsZ s p → predicatesEnd s c ≡ actionsZ s p
+unfolding actionsZ
+actions-is s p e = rw e
+
+pub row-is : (s : List ℕ) (p q : ℕ) {a k t b c l d n e : ℕ} → k ≡ conditionsZ s p → a ≡ placeZ s p → t ≡ triggersZ s p → b ≡ cap t → c ≡ cap k → l ≡ predicatesEnd s k → d ≡ cap l → n ≡ past s q 8 → e ≡ cap n →
+    RowOf s p q (set (set (set (set (set (replicate 436 0) 80 a) 83 b) 84 c) 85 d) 87 e)
+row-is s p q z₁ z₂ z₃ z₄ z₅ z₆ z₇ z₈ z₉ = record {
+  id = z₂;
+  triggers = z₄ ∙ ap cap z₃;
+  conditions = z₅ ∙ ap cap z₁;
+  actions = z₇ ∙ ap cap (z₆ ∙ actions-is s p z₁);
+  notes = z₉ ∙ ap cap z₈;
+}
+
+-- no reason yet
+pub none-listed : (f a : List ℕ) → listed f 0 a ≡ []
+unfolding reasons
+none-listed f a = refl
+
+pub rule-is : (s : List ℕ) (rules : Section) (i : ℕ) {w : Walk} {row : List ℕ} (u : List ℕ) {n k line q column x : ℕ} (b : Board) {c : Board} {l : List Text} →
+    w ≡ walkW s (getD (rules .starts) i 0) → RowOf s (getD (rules .starts) i 0) (w .next) row → l ≡ [] → listed s n u ≡ ruleL s row 0 l → Few n k →
+    line ≡ numberZ s (w .next) → q ≡ past s (w .next) 4 → column ≡ numberZ s q → x ≡ bitOr 0 (2 ^ i) → c ≡ pushes (noteItems x line column u k) b → RuleNotes s rules i b c
+rule-is s rules i {w} {row} u {n} {k} {line} {q} {column} {x} b e f z g h l m o p j = record {
+  row = row;
+  reasons = u;
+  many = n;
+  count = k;
+  is-row = subst (λ (v : Walk). RowOf s (getD (rules .starts) i 0) (v .next) row) e f;
+  are-reasons = g ∙ ap (ruleL s row 0) z;
+  counts = h;
+  inserted = j
+      ∙ ap (λ (y : ℕ). pushes (noteItems y line column u k) b) p
+      ∙ ap (λ (y : ℕ). pushes (noteItems (bitOr 0 (2 ^ i)) y column u k) b) (l ∙ ap (λ (v : Walk). numberZ s (v .next)) e)
+      ∙ ap (λ (y : ℕ). pushes (noteItems (bitOr 0 (2 ^ i)) (numberZ s (walkW s (getD (rules .starts) i 0) .next)) y u k) b) (o ∙ ap (numberZ s) (m ∙ ap (λ (v : Walk). past s (v .next) 4) e));
+}
+
+module _ (s : List ℕ) (rules : Section) where
+  -- one automation less is left
+  pub one-less : (n i : ℕ) {b c e : Board} → i < n → RuleNotes s rules i b c → AllNotes s rules (n - (i + 1)) (i + 1) c e → AllNotes s rules (n - i) i b e
+  one-less n i {b} {c} {e} h f g =
+      let z : n - i ≡ suc (n - (i + 1)) = omega arith in
+      subst (λ (k : ℕ). AllNotes s rules k i b e) (sym z) (more-notes f g)
+
+  pub none-left : (n i : ℕ) {b : Board} → n ≤ i → AllNotes s rules (n - i) i b b
+  none-left n i {b} h =
+      let z : n - i ≡ 0 = omega arith in
+      subst (λ (k : ℕ). AllNotes s rules k i b b) (sym z) no-notes
+
+  pub from-start : (n : ℕ) {b e : Board} → AllNotes s rules (n - 0) 0 b e → AllNotes s rules n 0 b e
+  from-start n {b} {e} h =
+      let z : n - 0 ≡ n = omega arith in
+      subst (λ (k : ℕ). AllNotes s rules k 0 b e) z h
+
+pub one-finding : {w v : List ℕ} (x : Board) {y : Board} → w ≡ v → y ≡ pushes (finding w ∷ []) x → y ≡ pushes (finding v ∷ []) x
+one-finding x e f = rw (← e) f

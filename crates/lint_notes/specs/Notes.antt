@@ -1,0 +1,51 @@
+-- The notes of each automation as findings, on places.
+use Prim.Native.Nat.{ℕ, zero, suc, _+_, _*_, _^_, _≤_}
+use mathlib.Core.Path.{_≡_}
+use mathlib.Core.List.{List, [], _∷_}
+use lib.Bits.{bitOr}
+use lib.ListN.{getD}
+use Rattle.model_parts.specs.declared.Section.{Section}
+use Rattle.reasons.specs.Lists.{listed}
+use Rattle.engine_reads.specs.Reads.{cap, word}
+use Rattle.engine_unsupported.specs.Listing.{ruleL}
+use Rattle.lint_walk.specs.Raw.{placeZ, numberZ, past, triggersZ, conditionsZ, actionsZ}
+use Rattle.lint_walk.specs.Walks.{walkW}
+use Rattle.lint_board.specs.Board.{Item, finding, Board, pushes}
+use Rattle.lint_findings.specs.Entries.{itemsN}
+
+-- the words of the j-th reason's finding
+unfoldable pub noteZ : (set line column : ℕ) → (reasons : List ℕ) → (j : ℕ) → List ℕ
+noteZ set line column u j =
+    9 ∷ 2 ∷ 5 ∷ 0 ∷ set ∷ line ∷ column ∷ 0 ∷ 0 ∷ getD u (5 * j) 0 ∷ getD u (5 * j + 1) 0 ∷ getD u (5 * j + 2) 0 ∷ getD u (5 * j + 3) 0 ∷ getD u (5 * j + 4) 0 ∷ []
+
+unfoldable pub noteItems : (set line column : ℕ) → (reasons : List ℕ) → (count : ℕ) → List Item
+noteItems set line column u n = itemsN (λ j. finding (noteZ set line column u j) ∷ []) n 0
+
+-- the first row of the table x is the automation at p, whose source stands at q
+pub record RowOf (s : List ℕ) (p q : ℕ) (x : List ℕ) : Type 0 where
+  pub id : word x 0 0 ≡ placeZ s p
+  pub triggers : word x 0 3 ≡ cap (triggersZ s p)
+  pub conditions : word x 0 4 ≡ cap (conditionsZ s p)
+  pub actions : word x 0 5 ≡ cap (actionsZ s p)
+  pub notes : word x 0 7 ≡ cap (past s q 8)
+
+-- at most 300
+pub record Few (n r : ℕ) : Type 0 where
+  pub most : r ≤ 300
+  pub same : n ≤ 300 → r ≡ n
+
+-- the findings of the i-th automation's notes, whose reasons the listing gives, make c of b
+pub record RuleNotes (s : List ℕ) (rules : Section) (i : ℕ) (b c : Board) : Type 0 where
+  pub row : List ℕ
+  pub reasons : List ℕ
+  pub many : ℕ
+  pub count : ℕ
+  pub is-row : RowOf s (getD (rules .starts) i 0) (walkW s (getD (rules .starts) i 0) .next) row
+  pub are-reasons : listed s many reasons ≡ ruleL s row 0 []
+  pub counts : Few many count
+  pub inserted : c ≡ pushes (noteItems (bitOr 0 (2 ^ i)) (numberZ s (walkW s (getD (rules .starts) i 0) .next)) (numberZ s (past s (walkW s (getD (rules .starts) i 0) .next) 4)) reasons count) b
+
+-- those of `left` automations from the i-th on
+pub data AllNotes (s : List ℕ) (rules : Section) : (left i : ℕ) → Board → Board → Type 0 where
+  no-notes : {i : ℕ} {b : Board} → AllNotes s rules zero i b b
+  more-notes : {left i : ℕ} {b c e : Board} → RuleNotes s rules i b c → AllNotes s rules left (i + 1) c e → AllNotes s rules (suc left) i b e

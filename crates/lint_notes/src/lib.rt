@@ -1,0 +1,127 @@
+// The notes of each automation as findings: unsupported.
+use lint_board::Out;
+use model_parts::Section;
+ghost use mathlib.Core.Path.{_≡_};
+ghost use mathlib.Core.List.{List};
+ghost use Prim.Native.Nat.{ℕ, _≤_, _<_, _+_, _*_, _-_};
+ghost use lib.ListN.{length};
+ghost use Rattle.lint_board.specs.Board.{board, pushes};
+ghost use Rattle.lint_notes.specs.Notes.{noteZ, noteItems, RowOf, Few, RuleNotes, AllNotes};
+
+// ---- where the notes of an automation stand
+
+// The first row of a table is the automation's: its identifier, and where its triggers, conditions, actions and notes stand.
+pub struct Row {
+    pub words: [u32; 436],
+}
+
+fn row_of(s: &[u8], at: usize, source: usize) -> Row
+    ensures { λ r. ⌜ RowOf (now (s .entry)) at source (r .words) ⌝ }
+{
+    let conditions = lint_walk::conditions_at(s, at);
+    let mut words = [0u32; 436];
+    words[80] = lint_walk::place_at(s, at);
+    words[83] = engine_reads::capped(lint_walk::triggers_at(s, at));
+    words[84] = engine_reads::capped(conditions);
+    words[85] = engine_reads::capped(lint_walk::predicates_end(s, conditions));
+    words[87] = engine_reads::capped(lint_walk::past(s, source, 8));
+    Row { words }
+}
+
+// At most 300.
+fn few(n: usize) -> usize
+    ensures { λ r. ⌜ Few n r ⌝ }
+{
+    if 300 < n {
+        return 300;
+    }
+    n
+}
+
+// ---- findings
+
+// The words of a finding about the automation of a set, with the j-th reason.
+fn note_words(set: u32, line: u32, column: u32, reasons: &[u32; 1500], j: usize) -> [u32; 14]
+    requires { ⌜ j < 300 ⌝ }
+    ensures { λ w. ⌜ w ≡ noteZ set line column (now (reasons .entry)) j ⌝ }
+{
+    let k = 5 * j;
+    [
+        9,
+        2,
+        5,
+        0,
+        set,
+        line,
+        column,
+        0,
+        0,
+        reasons[k],
+        reasons[k + 1],
+        reasons[k + 2],
+        reasons[k + 3],
+        reasons[k + 4],
+    ]
+}
+
+// A finding for each reason.
+fn note_findings(
+    set: u32,
+    line: u32,
+    column: u32,
+    reasons: &[u32; 1500],
+    count: usize,
+    findings: &mut [u32],
+    o: Out,
+) -> Out
+    requires { ⌜ count ≤ 300 ⌝ }
+    ensures { λ r. ⌜ ((k : List ℕ) → board (now (findings .exit)) k r ≡ pushes (noteItems set line column (now (reasons .entry)) count) (board (now (findings .entry)) k o)) ⌝ }
+{
+    let mut out = o;
+    let mut j: usize = 0;
+    while j < count {
+        out = lint_board::push_finding(findings, out, note_words(set, line, column, reasons, j));
+        j += 1;
+    }
+    out
+}
+
+// The notes of the i-th automation.
+fn rule_notes(s: &[u8], rules: Section, i: usize, findings: &mut [u32], o: Out) -> Out
+    requires { ⌜ i < 32 ⌝ }
+    ensures { λ r. ⌜ ((k : List ℕ) → RuleNotes (now (s .entry)) rules i (board (now (findings .entry)) k o) (board (now (findings .exit)) k r)) ⌝ }
+{
+    let at = rules.starts[i];
+    let w = lint_walk::rule_walk(s, at);
+    let source = w.next;
+    let row = row_of(s, at, source);
+    let words = row.words;
+    let mut reasons = [0u32; 1500];
+    let count = few(engine_unsupported::rule_notes(s, &words, &mut reasons, 0, 0));
+    let line = lint_walk::number_at(s, source);
+    let column = lint_walk::number_at(s, lint_walk::past(s, source, 4));
+    note_findings(
+        lint_reach::with(0, i),
+        line,
+        column,
+        &reasons,
+        count,
+        findings,
+        o,
+    )
+}
+
+// The notes of all automations.
+pub fn notes(s: &[u8], rules: Section, findings: &mut [u32], o: Out) -> Out
+    requires { ⌜ rules .count ≤ 32 ⌝ }
+    ensures { λ r. ⌜ ((k : List ℕ) → AllNotes (now (s .entry)) rules (rules .count) 0 (board (now (findings .entry)) k o) (board (now (findings .exit)) k r)) ⌝ }
+{
+    let count = rules.count as usize;
+    let mut out = o;
+    let mut i: usize = 0;
+    while i < count {
+        out = rule_notes(s, rules, i, findings, out);
+        i += 1;
+    }
+    out
+}
