@@ -112,8 +112,7 @@ module _ (es : List Entity) where
         let b = bind-inv (check-branches es bs d n) _ _ e in
         let f = branches-fine bs d n (b .0) (b .1 .0) in
         let g = actions-fine a (d + 1) (b .0) k (b .1 .1) in
-        let m = length-append (within-branches bs) (walk a) in
-        (
+        let m = length-append (within-branches bs) (walk a) in (
           (f .0 .0, each-join FineA (within-branches bs) (walk a) (f .0 .1) (g .0)),
           record { many-is = omega (arith, f .1 .many-is, g .1 .many-is, m); few = λ h. g .1 .few (f .1 .few h) },
         )
@@ -128,8 +127,7 @@ module _ (es : List Entity) where
         let b = bind-inv (check-effect es g d (c .0)) _ _ (c .1 .1) in
         let f = effect-fine g d (c .0) (b .0) (b .1 .0) in
         let h = actions-fine r d (b .0) k (b .1 .1) in
-        let m = length-append (within g) (walk r) in
-        (
+        let m = length-append (within g) (walk r) in (
           (f .0 .0, each-join FineA (within g) (walk r) (f .0 .1) (h .0)),
           record { many-is = omega (arith, f .1 .many-is, h .1 .many-is, m, o .0); few = λ z. h .1 .few (f .1 .few (omega (arith, o .0, o .1))) },
         )
@@ -141,8 +139,7 @@ module _ (es : List Entity) where
         let b = bind-inv (check-actions es a (d + 1) n) _ _ (and-inv _ _ _ e) in
         let f = actions-fine a (d + 1) n (b .0) (b .1 .0) in
         let g = branches-fine bs d (b .0) k (b .1 .1) in
-        let m = length-append (walk a) (within-branches bs) in
-        (
+        let m = length-append (walk a) (within-branches bs) in (
           ((p, g .0 .0), each-join FineA (walk a) (within-branches bs) (f .0) (g .0 .1)),
           record { many-is = omega (arith, f .1 .many-is, g .1 .many-is, m); few = λ h. g .1 .few (f .1 .few h) },
         )
@@ -162,8 +159,7 @@ module _ (es : List Entity) where
       let b = bind-inv (check-rule es ids r n) (check-rules es (r .id ∷ ids) rs) k e in
       let e₃ = and-inv _ _ _ (and-inv _ _ _ (b .1 .0)) in
       let e₄ = and-inv _ _ _ e₃ in
-      let f = actions-fine (r .actions) 0 n (b .0) (and-inv _ _ _ e₄) in
-      (
+      let f = actions-fine (r .actions) 0 n (b .0) (and-inv _ _ _ e₄) in (
         record {
           triggers = each-verdict (check-trigger es) FineT trigger-fine (r .triggers) (and-first _ _ _ e₃);
           conditions = each-verdict (check-predicate es) FineP predicate-fine (r .conditions) (and-first _ _ _ e₄);

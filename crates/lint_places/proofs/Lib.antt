@@ -8,3 +8,4 @@ pub mod Rules
 pub mod Pairs
 pub mod Cycled
 pub mod Staged
+pub mod Noted

@@ -54,7 +54,6 @@ use Rattle.lint_places.proofs.Tiers.{entity-at, no-entity, tier-at, exp
 use Rattle.lint_places.proofs.Accepted.{Declared, FineA, Legal}
 use Rattle.lint_places.proofs.Stage.{Stage, no-rule, each-at, each-long, writes-small, rule-start, rule-of, rule-at, legal-at, walked-at, id-number, agree-actions}
 
-
 -- the entities that an action writes are declared
 written-fine : (es : List Entity) (a : Action) → FineA es a → (t : Text) → memT t (each (λ w. w .entity) (listed (write (a .source) (a .effect)))) ≡ true → Declared es t
 unfolding write listed each

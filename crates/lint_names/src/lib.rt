@@ -1,0 +1,129 @@
+// The undeclared names that automations read: the entities of waits whose triggers have notes. A model has at most 64.
+use lint_walk::Walk;
+use model_parts::Section;
+ghost use mathlib.Core.Path.{_≡_};
+ghost use Prim.Native.Nat.{_≤_, _<_, _+_, _-_};
+ghost use lib.ListN.{length};
+ghost use Rattle.lint_names.specs.Strange.{awaitZ, awaitsZ, strangeZ, withU, nameU, namesU, ruleU, undeclaredU};
+
+// Whether the action at a position waits for the entity that a place names.
+fn awaits_at(s: &[u8], place: u32, at: usize) -> bool
+    ensures { λ r. ⌜ r ≡ awaitZ (now (s .entry)) place at ⌝ }
+{
+    if lint_walk::kind_at(s, at) != 5 {
+        return false;
+    }
+    lint_walk::place_at(s, lint_walk::past(s, at, 9)) == place
+}
+
+// Whether one of the actions does.
+fn awaits(s: &[u8], w: Walk, place: u32) -> bool
+    requires { ⌜ (w .count ≤ 512) × (length (w .list) ≡ 512) ⌝ }
+    ensures { λ r. ⌜ r ≡ awaitsZ (now (s .entry)) w place ⌝ }
+{
+    let count = w.count;
+    let mut k: usize = 0;
+    while k < count {
+        if awaits_at(s, place, w.list[k]) {
+            return true;
+        }
+        k += 1;
+    }
+    false
+}
+
+// Whether the walk's automation reads the name at a place, and no entity has it.
+fn strange(s: &[u8], entities: Section, w: Walk, place: u32) -> bool
+    requires { ⌜ (entities .count ≤ 32) × (w .count ≤ 512) × (length (w .list) ≡ 512) ⌝ }
+    ensures { λ r. ⌜ r ≡ strangeZ (now (s .entry)) entities w place ⌝ }
+{
+    if awaits(s, w, place) {
+        let count = entities.count as usize;
+        return count <= model_check::number_of(s, entities, place);
+    }
+    false
+}
+
+// The first `count` of `names`, as places, and the automations that read them, by number; then zeros.
+pub struct Undeclared {
+    pub count: usize,
+    pub names: [u32; 64],
+    pub readers: [u32; 64],
+}
+
+fn with_name(u: Undeclared, reader: u32, place: u32) -> Undeclared
+    ensures { λ r. ⌜ r ≡ withU u reader place ⌝ }
+{
+    let count = u.count;
+    if count < 64 {
+        let mut names = u.names;
+        let mut readers = u.readers;
+        names[count] = place;
+        readers[count] = reader;
+        return Undeclared {
+            count: count + 1,
+            names,
+            readers,
+        };
+    }
+    u
+}
+
+// With the name at a place, if the walk's automation reads it and no entity has it.
+fn with_strange(
+    s: &[u8],
+    entities: Section,
+    w: Walk,
+    i: u32,
+    place: u32,
+    u: Undeclared,
+) -> Undeclared
+    requires { ⌜ (entities .count ≤ 32) × (w .count ≤ 512) × (length (w .list) ≡ 512) ⌝ }
+    ensures { λ r. ⌜ r ≡ nameU (now (s .entry)) entities w i place u ⌝ }
+{
+    if strange(s, entities, w, place) {
+        return with_name(u, i, place);
+    }
+    u
+}
+
+// With the names that the i-th automation reads, of so many texts.
+fn rule_names(
+    s: &[u8],
+    entities: Section,
+    rules: Section,
+    texts: u32,
+    i: usize,
+    u: Undeclared,
+) -> Undeclared
+    requires { ⌜ (entities .count ≤ 32) × (i < 32) ⌝ }
+    ensures { λ r. ⌜ r ≡ ruleU (now (s .entry)) entities rules texts i u ⌝ }
+{
+    let w = lint_walk::rule_walk(s, rules.starts[i]);
+    let mut v = u;
+    let mut place: u32 = 0;
+    while place < texts {
+        v = with_strange(s, entities, w, i as u32, place, v);
+        place += 1;
+    }
+    v
+}
+
+// The undeclared names that each automation reads, ascending.
+pub fn undeclared_names(s: &[u8], entities: Section, rules: Section, texts: u32) -> Undeclared
+    requires { ⌜ (entities .count ≤ 32) × (rules .count ≤ 32) ⌝ }
+    ensures { λ r. ⌜ r ≡ undeclaredU (now (s .entry)) entities rules texts ⌝ }
+{
+    let count = rules.count as usize;
+    let mut u = Undeclared {
+        count: 0,
+        names: [0u32; 64],
+        readers: [0u32; 64],
+    };
+    let mut i: usize = 0;
+    while i < count {
+        u = rule_names(s, entities, rules, texts, i, u);
+        i += 1;
+    }
+    u
+}
