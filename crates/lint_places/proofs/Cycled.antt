@@ -74,7 +74,7 @@ unfolding any
 any-append p [] m = refl
 any-append p (x ∷ l) m = ap (λ (b : Bool). p x || b) (any-append p l m) ∙ sym (or-assoc (p x) (any p l) (any p m))
 
-any-flat : {A B : Type 0} (p : B → Bool) (g : A → List B) (l : List A) → any p (flat g l) ≡ any (λ a. any p (g a)) l
+pub any-flat : {A B : Type 0} (p : B → Bool) (g : A → List B) (l : List A) → any p (flat g l) ≡ any (λ a. any p (g a)) l
 unfolding any flat
 any-flat p g [] = refl
 any-flat p g (x ∷ l) = any-append p (g x) (flat g l) ∙ ap (λ (b : Bool). any p (g x) || b) (any-flat p g l)
@@ -93,17 +93,17 @@ each-kept P p (x ∷ l) h = cases (p x) (each-kept P p l (h .1))
     cases true ih = (h .0, ih)
     cases false ih = ih
 
-each-flat : {A B : Type 0} (f : A → B) (l : List A) → each f l ≡ flat (λ x. f x ∷ []) l
+pub each-flat : {A B : Type 0} (f : A → B) (l : List A) → each f l ≡ flat (λ x. f x ∷ []) l
 unfolding each flat
 each-flat f [] = refl
 each-flat f (x ∷ l) = ap (λ (y : List _). f x ∷ y) (each-flat f l)
 
-each-each : {A B C : Type 0} (f : B → C) (g : A → B) (l : List A) → each f (each g l) ≡ each (λ x. f (g x)) l
+pub each-each : {A B C : Type 0} (f : B → C) (g : A → B) (l : List A) → each f (each g l) ≡ each (λ x. f (g x)) l
 unfolding each
 each-each f g [] = refl
 each-each f g (x ∷ l) = ap (λ (y : List _). f (g x) ∷ y) (each-each f g l)
 
-each-same : {A B : Type 0} (P : A → Type 0) (f g : A → B) → ((x : A) → P x → f x ≡ g x) → (l : List A) → Each P l → each f l ≡ each g l
+pub each-same : {A B : Type 0} (P : A → Type 0) (f g : A → B) → ((x : A) → P x → f x ≡ g x) → (l : List A) → Each P l → each f l ≡ each g l
 unfolding each
 each-same P f g h [] k = refl
 each-same P f g h (x ∷ l) k = ap (λ (y : _). y ∷ each f l) (h x (k .0)) ∙ ap (λ (y : List _). g x ∷ y) (each-same P f g h l (k .1))
@@ -201,7 +201,7 @@ module _ {s : List ℕ} {d : Names} {rs : Section} {ts : List Text} {m : Model} 
   abbrev n : ℕ
   n = length (m .rules)
 
-  any-over : (f : ℕ → Bool) (g : Action → Bool) → ((p : ℕ) (a : Action) → ActionAt ts s p a → FineA (es st) a → f p ≡ g a) →
+  pub any-over : (f : ℕ → Bool) (g : Action → Bool) → ((p : ℕ) (a : Action) → ActionAt ts s p a → FineA (es st) a → f p ≡ g a) →
       (l : List ℕ) (k : ℕ) (ps : List ℕ) (acts : List Action) → ((i : ℕ) → i < length ps → getD l (k + i) 0 ≡ getD ps i 0) → ActionsAt ts s ps acts → Each (FineA (es st)) acts → anyL f l (length ps) k ≡ any g acts
   unfolding anyL any
   any-over f g h l k ps acts e no-action fine = refl

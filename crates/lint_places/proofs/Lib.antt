@@ -9,3 +9,4 @@ pub mod Pairs
 pub mod Cycled
 pub mod Staged
 pub mod Noted
+pub mod Strangers
