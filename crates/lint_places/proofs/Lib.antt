@@ -10,3 +10,4 @@ pub mod Cycled
 pub mod Staged
 pub mod Noted
 pub mod Strangers
+pub mod Packed

@@ -47,7 +47,7 @@ or-no : (b : Bool) → (b || false) ≡ b
 or-no true = refl
 or-no false = refl
 
-keep-append : {A : Type 0} (p : A → Bool) (l m : List A) → keep p (l ++ m) ≡ keep p l ++ keep p m
+pub keep-append : {A : Type 0} (p : A → Bool) (l m : List A) → keep p (l ++ m) ≡ keep p l ++ keep p m
 unfolding keep
 keep-append p [] m = refl
 keep-append p (x ∷ l) m = cases (p x) (keep-append p l m)
@@ -256,7 +256,7 @@ module _ {s : List ℕ} {d : Names} {rs : Section} {ts : List Text} {m : Model} 
         cases (is-false n) (is-false c) = rw (n, c)
         cases (is-false n) (is-true c) = rw (n, c) (some-text x n (walked-at st i h .positions) acts (walked-at st i h .are-actions) (legal .actions) (sym (reads-acts x n) ∙ c))
 
-    pub found-places : List ℕ
+    unfoldable pub found-places : List ℕ
     found-places = keep (strangeZ s (d .entities) w) (places (length ts) 0)
 
     -- the names at the places that the code finds
