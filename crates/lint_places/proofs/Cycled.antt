@@ -248,7 +248,7 @@ module _ {s : List ℕ} {d : Names} {rs : Section} {ts : List Text} {m : Model} 
 
   -- ---- a component
 
-  abbrev rules-at : List ℕ → List Automation
+  abbrev pub rules-at : List ℕ → List Automation
   rules-at l = each (λ i. getD (m .rules) i no-rule) l
 
   writes-from : (set k i x j : ℕ) → i + k ≤ n → j < length (es st) →
@@ -275,10 +275,10 @@ module _ {s : List ℕ} {d : Names} {rs : Section} {ts : List Text} {m : Model} 
       cases (is-false z) ih = rw z (ih x)
 
   module _ (set : ℕ) (small : set < 2 ^ 32) (below : Each (λ (i : ℕ). i < n) (members set)) where
-    found-rules : flat (at-place (m .rules)) (members set) ≡ rules-at (members set)
+    pub found-rules : flat (at-place (m .rules)) (members set) ≡ rules-at (members set)
     found-rules = at-places (m .rules) (members set) below
 
-    cycle-set : set ≡ ids-set (names st) (ids st) (each (λ r. r .id) (rules-at (members set)))
+    pub cycle-set : set ≡ ids-set (names st) (ids st) (each (λ r. r .id) (rules-at (members set)))
     unfolding ids-set
     cycle-set = sym (
         ap (λ (l : List Text). set-of (each (λ t. place-of t (ids st)) l)) (each-each (λ r. r .id) (λ i. getD (m .rules) i no-rule) (members set) ∙ each-same (λ (i : ℕ). i < n) (λ i. getD (m .rules) i no-rule .id) (λ i. getD (ids st) i []) (λ i h. sym (each-at (λ r. r .id) [] no-rule (m .rules) i h)) (members set) below)
@@ -310,7 +310,7 @@ module _ {s : List ℕ} {d : Names} {rs : Section} {ts : List Text} {m : Model} 
 
   -- ---- all components
 
-  module _ (c : Components) (cy : Cycles (edgesZ s (d .star) rs) (rs .count) c) (long : length (c .sets) ≡ 32) (small : (k : ℕ) → k < 32 → getD (c .sets) k 0 < 2 ^ 32) where
+  module _ (c : Components) (cy : Cycles (edgesZ s (d .star) rs) (rs .count) c) where
     abbrev sets : List ℕ
     sets = take (c .count) (c .sets)
 
@@ -318,7 +318,7 @@ module _ {s : List ℕ} {d : Names} {rs : Section} {ts : List Text} {m : Model} 
     few-sets = omega (arith, cy .few, st .rules .counts, st .lawful .few-rules)
 
     pub sets-long : length sets ≡ c .count
-    sets-long = length-take-le (c .count) (c .sets) (omega (arith, few-sets))
+    sets-long = length-take-le (c .count) (c .sets) (omega (arith, few-sets, cy .long))
 
     pub components-are : each members sets ≡ components (closure edges)
     components-are = cy .are edges copies
@@ -333,9 +333,6 @@ module _ {s : List ℕ} {d : Names} {rs : Section} {ts : List Text} {m : Model} 
     unfolding cycles findings.reach
     cycles-listed = ap (each (flat (at-place (m .rules)))) (sym components-are) ∙ each-each (flat (at-place (m .rules))) members sets
 
-    pub set-small : (j : ℕ) → j < c .count → getD sets j 0 < 2 ^ 32
-    set-small j h = rw (getD-take (c .count) (c .sets) j 0 h) (small j (omega (arith, few-sets)))
-
     pub cycles-agree : Agrees st (each (cycle-entry (m .scenario)) (cycles (m .rules))) (cyclesItems s (d .entities) rs c)
     unfolding cyclesItems
     cycles-agree =
@@ -346,7 +343,7 @@ module _ {s : List ℕ} {d : Names} {rs : Section} {ts : List Text} {m : Model} 
         let z : 0 + j ≡ j = omega arith in
         let b : j < c .count = omega (arith, sets-long) in
         let y : getD sets j 0 ≡ getD (c .sets) j 0 = getD-take (c .count) (c .sets) j 0 b in
-        rw z (rw (← y) (both (cycle-stands (getD sets j 0) (set-small j b) (nth (λ (x : ℕ). Each (λ (i : ℕ). i < n) (members x)) 0 sets sets-below j h)) neither)))))
+        rw z (rw (← y) (both (cycle-stands (getD sets j 0) (cy .small j) (nth (λ (x : ℕ). Each (λ (i : ℕ). i < n) (members x)) 0 sets sets-below j h)) neither)))))
       where
         items : ℕ → List Item
         items k = Item.finding (cycleZ s (d .entities) rs (getD (c .sets) k 0)) ∷ []

@@ -11,3 +11,4 @@ pub mod Staged
 pub mod Noted
 pub mod Strangers
 pub mod Packed
+pub mod ById

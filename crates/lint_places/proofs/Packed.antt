@@ -143,9 +143,18 @@ module _ (es : List Entity) where
       let sorted : keep und (sortedT (l₁ ++ l₂ ++ l₃)) ≡ sortedT (keep und (l₁ ++ l₂ ++ l₃)) =
       unique (keep und (sortedT (l₁ ++ l₂ ++ l₃))) (sortedT (keep und (l₁ ++ l₂ ++ l₃))) (rising-keep und (rising-sorted (l₁ ++ l₂ ++ l₃))) (rising-sorted (keep und (l₁ ++ l₂ ++ l₃)))
       (λ t. mem-keep und t (sortedT (l₁ ++ l₂ ++ l₃)) ∙ ap (λ (b : Bool). und t && b) (mem-sorted t (l₁ ++ l₂ ++ l₃)) ∙ sym (mem-sorted t (keep und (l₁ ++ l₂ ++ l₃)) ∙ mem-keep und t (l₁ ++ l₂ ++ l₃))) in
-      omega (arith, ap length sorted, sorted-fewer (keep und (l₁ ++ l₂ ++ l₃)), ap length (keep-append und (l₁ ++ l₂) l₃ ∙ ap (λ (y : List Text). y ++ keep und l₃) (keep-append und l₁ l₂)),
-      length-append (keep und l₁ ++ keep und l₂) (keep und l₃), length-append (keep und l₁) (keep und l₂), ap length (triggers-known (r .triggers) (legal .triggers)), ap length (flat-known predicate-reads (FineP es) predicate-known (r .conditions) (legal .conditions)),
-      actions-few (r .actions) (legal .actions), length-append (r .notes ++ flat of-trigger (r .triggers) ++ flat of-predicate (r .conditions)) (of-actions (r .actions)))
+      omega (
+        arith,
+        ap length sorted,
+        sorted-fewer (keep und (l₁ ++ l₂ ++ l₃)),
+        ap length (keep-append und (l₁ ++ l₂) l₃ ∙ ap (λ (y : List Text). y ++ keep und l₃) (keep-append und l₁ l₂)),
+        length-append (keep und l₁ ++ keep und l₂) (keep und l₃),
+        length-append (keep und l₁) (keep und l₂),
+        ap length (triggers-known (r .triggers) (legal .triggers)),
+        ap length (flat-known predicate-reads (FineP es) predicate-known (r .conditions) (legal .conditions)),
+        actions-few (r .actions) (legal .actions),
+        length-append (r .notes ++ flat of-trigger (r .triggers) ++ flat of-predicate (r .conditions)) (of-actions (r .actions)),
+      )
 
   pub rules-few : (l : List Automation) → Each (Legal es) l → length (flat (λ r. undeclared names-of (reads-of r)) l) ≤ length (flat of-rule l)
   unfolding flat
@@ -155,7 +164,7 @@ module _ (es : List Entity) where
 -- ---- the places of the answer
 
 -- so many places, and then zeros
-pub packed : (names readers : List ℕ) → Undeclared
+unfoldable pub packed : (names readers : List ℕ) → Undeclared
 packed l k = record { count = length l; names = padded 64 l; readers = padded 64 k }
 
 set-padded : (l : List ℕ) (x : ℕ) → length l < 64 → set (padded 64 l) (length l) x ≡ padded 64 (l ++ x ∷ [])

@@ -74,7 +74,7 @@ keep-texts f g all (x ∷ l) k h e =
     cases true a ih = rw (a, ih)
     cases false a ih = ih
 
-places-below : (f : ℕ → Bool) (n k j : ℕ) → j < length (keep f (places n k)) → getD (keep f (places n k)) j 0 < k + n
+pub places-below : (f : ℕ → Bool) (n k j : ℕ) → j < length (keep f (places n k)) → getD (keep f (places n k)) j 0 < k + n
 unfolding keep places
 places-below f zero k j h = absurd (omega arith)
 places-below f (suc n) k j h = cases (f k) j h (λ i b. places-below f n (k + 1) i b)

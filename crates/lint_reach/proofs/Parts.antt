@@ -2,13 +2,15 @@
 use mathlib.Core.Path.{_≡_, refl, sym, ap, _∙_}
 use mathlib.Core.Bool.{Bool, true, false}
 use mathlib.Core.List.{List, [], _∷_, _++_, append-assoc, append-nil}
-use Prim.Native.Nat.{ℕ, suc, _+_, _-_, _/_, _%_, _^_, _≤_, _<_}
+use Prim.Native.Nat.{ℕ, zero, suc, _+_, _-_, _/_, _%_, _^_, _≤_, _<_}
 use native.Mathlib.Omega.{arith}
-use lib.Bits.{bitOr}
+use lib.Bits.{bitOr, or-lt}
+use lib.Pow.{pow-lt, pow-pos}
 use lib.Dec.{eqb}
-use lib.ListN.{length, take, set, replicate, length-set}
+use lib.ListN.{length, getD, take, set, replicate, length-set}
 use lib.Seq.{take-suc-set}
 use native.Mathlib.Numerals.{add-one}
+use Rattle.texts.specs.Lists.{if_then_else_}
 use Rattle.lint_reach.specs.declared.Components.{Components}
 use Rattle.lint_reach.specs.Steps.{Square, cell}
 use Rattle.lint_reach.specs.Sets.{holds, withS, collect}
@@ -125,8 +127,37 @@ gathered-none r n =
     let e : n ≡ n - 0 = omega arith in
     record { all = ap (λ (z : ℕ). componentsFrom r n z 0 0) e; few = omega arith; size = refl }
 
-pub gathered-all : (r : Square) (n i : ℕ) (c : Components) → n ≤ i → i ≤ n → Gathered r n i c → (take (c .count) (c .sets) ≡ componentsS r n) × (c .count ≤ n)
+pub gathered-all : (r : Square) (n i : ℕ) (c : Components) → n ≤ i → i ≤ n → Gathered r n i c → (take (c .count) (c .sets) ≡ componentsS r n) × (c .count ≤ n) × (length (c .sets) ≡ 32)
 unfolding componentsFrom
 gathered-all r n i c h k g =
     let e : n - i ≡ 0 = omega arith in
-    (sym (g .all ∙ ap (λ (z : ℕ). take (c .count) (c .sets) ++ componentsFrom r n z i (c .assigned)) e ∙ append-nil (take (c .count) (c .sets))), omega (arith, g .few))
+    (sym (g .all ∙ ap (λ (z : ℕ). take (c .count) (c .sets) ++ componentsFrom r n z i (c .assigned)) e ∙ append-nil (take (c .count) (c .sets))), omega (arith, g .few), g .size)
+
+-- ---- a component is a set of places below 32
+
+collect-small : (f : ℕ → Bool) (n i x : ℕ) → i + n ≤ 32 → x < 2 ^ 32 → collect f n i x < 2 ^ 32
+unfolding collect withS
+collect-small f zero i x h k = k
+collect-small f (suc n) i x h k = collect-small f n (i + 1) (if f i then bitOr x (2 ^ i) else x) (omega arith) (cases (f i))
+  where
+    cases : (b : Bool) → (if b then bitOr x (2 ^ i) else x) < 2 ^ 32
+    cases true = or-lt 32 x (2 ^ i) k (pow-lt {j = 32} (omega arith))
+    cases false = k
+
+from-small : (r : Square) (n : ℕ) → n ≤ 32 → (left i a k : ℕ) → getD (componentsFrom r n left i a) k 0 < 2 ^ 32
+unfolding componentsFrom componentS
+from-small r n h zero i a k = pow-pos 32
+from-small r n h (suc left) i a k = cases (startsS r a i) k (λ j. from-small r n h left (i + 1) (bitOr a (collect (bothS r i) n 0 0)) j) (from-small r n h left (i + 1) a k)
+  where
+    x : ℕ
+    x = collect (bothS r i) n 0 0
+
+    cases : (b : Bool) (k : ℕ) → ((j : ℕ) → getD (componentsFrom r n left (i + 1) (bitOr a (collect (bothS r i) n 0 0))) j 0 < 2 ^ 32) → getD (componentsFrom r n left (i + 1) a) k 0 < 2 ^ 32 →
+        getD (elim b [ true ↦ collect (bothS r i) n 0 0 ∷ componentsFrom r n left (i + 1) (bitOr a (collect (bothS r i) n 0 0)) | false ↦ componentsFrom r n left (i + 1) a ]) k 0 < 2 ^ 32
+    cases true zero f g = collect-small (bothS r i) n 0 0 (omega arith) (pow-pos 32)
+    cases true (suc k) f g = f k
+    cases false k f g = g
+
+pub components-small : (r : Square) (n : ℕ) → n ≤ 32 → {l : List ℕ} → l ≡ componentsS r n → (k : ℕ) → getD l k 0 < 2 ^ 32
+unfolding componentsS
+components-small r n h e k = rw e (from-small r n h n 0 0 k)

@@ -1,5 +1,5 @@
 -- The components of a closed square, as sets of places.
-use Prim.Native.Nat.{ℕ, zero, suc, _+_, _<_, _≤_}
+use Prim.Native.Nat.{ℕ, zero, suc, _+_, _^_, _<_, _≤_}
 use mathlib.Core.Path.{_≡_}
 use mathlib.Core.Bool.{Bool, true, false}
 use mathlib.Core.List.{List, [], _∷_}
@@ -49,4 +49,6 @@ pub record Copies (start : Square) (n : ℕ) (sq : Square) : Type 0 where
 -- the sets are the components of the square's closure
 pub record Cycles (start : Square) (n : ℕ) (r : Components) : Type 0 where
   pub few : r .count ≤ n
+  pub long : length (r .sets) ≡ 32
+  pub small : (k : ℕ) → getD (take (r .count) (r .sets)) k 0 < 2 ^ 32
   pub are : (sq : Square) → Copies start n sq → each members (take (r .count) (r .sets)) ≡ lint.components (closure sq)

@@ -6,7 +6,7 @@ ghost use lib.Count.{ones};
 ghost use lib.Dec.{ltb};
 ghost use Rattle.lint_reach.specs.Sets.{holds, withS};
 ghost use Rattle.lint_reach.specs.Paths.{Full, Closes};
-ghost use lib.ListN.{take};
+ghost use lib.ListN.{length, take};
 ghost use Rattle.lint_reach.specs.Cycles.{bothS, componentS, startsS, nextS, componentsS, Cycles};
 
 // ---- sets of places below 32
@@ -127,7 +127,7 @@ fn with_component(reach: [[bool; 32]; 32], n: usize, i: usize, found: Components
 // The components of the places below n that reach themselves, each once.
 fn gather(reach: [[bool; 32]; 32], n: usize) -> Components
     requires { ⌜ (n ≤ 32) × Full reach ⌝ }
-    ensures { λ r. ⌜ (take (r .count) (r .sets) ≡ componentsS reach n) × (r .count ≤ n) ⌝ }
+    ensures { λ r. ⌜ (take (r .count) (r .sets) ≡ componentsS reach n) × (r .count ≤ n) × (length (r .sets) ≡ 32) ⌝ }
 {
     let mut found = Components {
         count: 0,

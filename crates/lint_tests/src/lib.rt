@@ -6,7 +6,7 @@ ghost use Prim.Native.Nat.{_≤_, _<_, _+_, _-_};
 ghost use lib.ListN.{length};
 ghost use Rattle.lint_tests.specs.Tests.{clashZ, clashesZ, meetsZ, contradictoryZ, mismatchZ, mismatchedZ, delaysZ, guardZ, guardedZ, unguardedZ, setsOffZ, leadsZ, opposedZ, tierZ, staleZ, highestZ, greaterZ};
 
-// What a test needs of a model: its declared entities, its invariants, and the places of `on`, `off` and `*`; 65,535 for no `*`.
+// What a test needs of a model: its declared entities, its invariants, and the places of `on`, `off` and `*`; the number of texts for no `*`.
 pub struct Names {
     pub entities: Section,
     pub invariants: Section,

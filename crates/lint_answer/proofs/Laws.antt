@@ -1,0 +1,106 @@
+-- The laws that the proofs of the entry's parts cite.
+use mathlib.Core.Path.{_≡_, refl, sym, ap, _∙_, subst}
+use mathlib.Core.List.{List}
+use Prim.Native.Nat.{ℕ, _-_, _≤_}
+use native.Mathlib.Omega.{arith}
+use lib.ListN.{length, getD, replicate}
+use Rattle.texts.specs.Texts.{text}
+use Rattle.model_order.specs.Order.{place-from}
+use Rattle.model_index.specs.declared.Index.{Index}
+use Rattle.model_parts.specs.declared.Section.{Section}
+use Rattle.lint_board.specs.declared.Out.{Out}
+use Rattle.lint_reach.specs.declared.Components.{Components}
+use Rattle.lint_walk.specs.declared.Walk.{Walk}
+use Rattle.lint_walk.specs.Walks.{walkW}
+use Rattle.lint_touches.specs.Sets.{readsS, writesS}
+use Rattle.lint_tests.specs.declared.Names.{Names}
+use Rattle.lint_names.specs.declared.Undeclared.{Undeclared}
+use Rattle.lint_names.specs.Strange.{undeclaredU}
+use Rattle.lint_board.specs.Board.{Board, board}
+use Rattle.lint_entry.specs.Order.{fillL, Lints}
+use Rattle.lint_entry.specs.declared.Linted.{Linted}
+use Rattle.lint_notes.specs.Notes.{AllNotes}
+use Rattle.lint_places.specs.Ground.{namesOf}
+use Rattle.lint_answer.specs.declared.Report.{Report}
+use Rattle.lint_answer.specs.Parts.{firstL, readSets, writeSets, Bounds, Inserts, Tells}
+
+pub first-is : (l : List ℕ) (n : ℕ) → firstL l n ≡ fillL (λ i. getD l i 0) (n - 0) 0 (replicate 32 0)
+unfolding firstL
+first-is l n =
+    let m : n - 0 ≡ n = omega arith in
+    rw m
+
+module _ (s : List ℕ) (e rules : Section) where
+  pub reads-are : readSets s e rules ≡ fillL (λ i. readsS s e (getD (rules .starts) i 0) (walkW s (getD (rules .starts) i 0))) (rules .count - 0) 0 (replicate 32 0)
+  unfolding readSets
+  reads-are =
+      let m : rules .count - 0 ≡ rules .count = omega arith in
+      rw m
+
+  pub writes-are : writeSets s e rules ≡ fillL (λ i. writesS s e (walkW s (getD (rules .starts) i 0))) (rules .count - 0) 0 (replicate 32 0)
+  unfolding writeSets
+  writes-are =
+      let m : rules .count - 0 ≡ rules .count = omega arith in
+      rw m
+
+-- the walk of the automation at a position
+module _ (s : List ℕ) (e : Section) (p : ℕ) {w : Walk} {x : ℕ} (d : w ≡ walkW s p) where
+  pub read-is : x ≡ readsS s e p w → x ≡ readsS s e p (walkW s p)
+  read-is f = f ∙ ap (readsS s e p) d
+
+  pub write-is : x ≡ writesS s e w → x ≡ writesS s e (walkW s p)
+  write-is f = f ∙ ap (writesS s e) d
+
+pub names-are : (s : List ℕ) (i : Index) {a b c : ℕ} → a ≡ place-from (i .texts .count) 0 (text "on") s 6 → b ≡ place-from (i .texts .count) 0 (text "off") s 6 → c ≡ place-from (i .texts .count) 0 (text "*") s 6 →
+    record { entities = i .entities; invariants = i .invariants; on = a; off = b; star = c } ≡ namesOf s i
+unfolding namesOf
+names-are s i d e f = rw (d, e, f)
+
+pub told-is : (s : List ℕ) (i : Index) (o : Out) (c : Components) {a b e : List ℕ} {u : Undeclared} → a ≡ firstL (c .sets) (c .count) → b ≡ readSets s (i .entities) (i .rules) → e ≡ writeSets s (i .entities) (i .rules) → u ≡ undeclaredU s (i .entities) (i .rules) (i .texts .count) →
+    Tells s i o c (record {
+      refused = 0;
+      findings = o .findings;
+      interactions = o .interactions;
+      components = c .count;
+      cycles = a;
+      reads = b;
+      writes = e;
+      undeclared = u .count;
+      names = u .names;
+      readers = u .readers;
+    })
+told-is s i o c d f g h = record {
+  accepted = refl;
+  findings = refl;
+  interactions = refl;
+  components = refl;
+  cycles = d;
+  reads = f;
+  writes = g;
+  undeclared = ap (λ (x : Undeclared). x .count) h;
+  names = ap (λ (x : Undeclared). x .names) h;
+  readers = ap (λ (x : Undeclared). x .readers) h;
+}
+
+pub names-few : (s : List ℕ) (i : Index) {n : Names} → n ≡ namesOf s i → Bounds i → (n .entities .count ≤ 32) × (n .invariants .count ≤ 32)
+unfolding namesOf
+names-few s i e b = rw e (b .entities, b .invariants)
+
+-- the areas as they were cleared, the entries, and the notes
+pub inserts : (s : List ℕ) (i : Index) (F I : List ℕ) {d : Names} {f₀ i₀ f k g : List ℕ} (x : Linted) (o : Out) →
+    (f₀ ≡ replicate (length F) 0) × (i₀ ≡ replicate (length I) 0) → d ≡ namesOf s i →
+    Lints s d (i .rules) (board f₀ i₀ (record { findings = 0; interactions = 0; refusal = 0 })) x (board f k (x .out)) →
+    ((y : List ℕ) → AllNotes s (i .rules) (i .rules .count) 0 (board f y (x .out)) (board g y o)) → Inserts s i F I (record { out = o; found = x .found }) (board g k o)
+inserts s i F I {d} {f₀} {i₀} {f} {k} {g} x o z e h n = record {
+  first = x;
+  between = board f k (x .out);
+  entries =
+      subst (λ (a : List ℕ). Lints s (namesOf s i) (i .rules) (board a (replicate (length I) 0) (record { findings = 0; interactions = 0; refusal = 0 })) x (board f k (x .out))) (z .0)
+      (subst (λ (a : List ℕ). Lints s (namesOf s i) (i .rules) (board f₀ a (record { findings = 0; interactions = 0; refusal = 0 })) x (board f k (x .out))) (z .1)
+      (subst (λ (a : Names). Lints s a (i .rules) (board f₀ i₀ (record { findings = 0; interactions = 0; refusal = 0 })) x (board f k (x .out))) e h));
+  found = refl;
+  notes = n k;
+}
+
+pub found-few : (s : List ℕ) (i : Index) (F I : List ℕ) (r : Linted) (e : Board) → Inserts s i F I r e → Bounds i → r .found .count ≤ 32
+found-few s i F I r e h b = omega (arith, ap (λ (c : Components). c .count) (h .found), h .entries .components .few, b .rules)

@@ -1,0 +1,200 @@
+// The entry `lint`: the findings and interactions of a model file in two lent areas, and with the answer the components of
+// trigger cycles, and what each automation reads and writes.
+use lint_board::Out;
+use lint_entry::Linted;
+use lint_reach::Components;
+use lint_tests::Names;
+use model_index::Index;
+use model_index::Status;
+use model_parts::Section;
+ghost use mathlib.Core.Path.{_≡_};
+ghost use Prim.Native.Nat.{_≤_, _<_, _+_, _-_};
+ghost use lib.ListN.{length};
+ghost use Rattle.lint.specs.Memory.{lent};
+ghost use Rattle.lint_board.specs.Board.{board};
+ghost use Rattle.lint_places.specs.Ground.{namesOf};
+ghost use Rattle.lint_answer.specs.Answers.{no-lint, Answers};
+ghost use Rattle.lint_answer.specs.Parts.{firstL, readSets, writeSets, Bounds, Inserts, Tells, AnswersAs};
+
+// `refused` is 0 or the refusal's number; then the rest is 0. As many `findings` and `interactions` stand in their areas.
+// The first `components` of `cycles` are the components, as sets of automations by number. `reads` and `writes` are sets of
+// declared entities, by automation. The first `undeclared` of `names` are the places of names that no entity has and that
+// the automations at the same places of `readers` read.
+pub struct Report {
+    pub refused: u32,
+    pub findings: usize,
+    pub interactions: usize,
+    pub components: usize,
+    pub cycles: [u32; 32],
+    pub reads: [u32; 32],
+    pub writes: [u32; 32],
+    pub undeclared: usize,
+    pub names: [u32; 64],
+    pub readers: [u32; 64],
+}
+
+fn refused(number: u32) -> Report
+    ensures { λ r. ⌜ r ≡ no-lint number ⌝ }
+{
+    Report {
+        refused: number,
+        findings: 0,
+        interactions: 0,
+        components: 0,
+        cycles: [0u32; 32],
+        reads: [0u32; 32],
+        writes: [0u32; 32],
+        undeclared: 0,
+        names: [0u32; 64],
+        readers: [0u32; 64],
+    }
+}
+
+// ---- sets
+
+pub struct Sets {
+    pub list: [u32; 32],
+}
+
+// The first n sets, then zeros.
+fn first_sets(sets: [u32; 32], n: usize) -> Sets
+    requires { ⌜ n ≤ 32 ⌝ }
+    ensures { λ r. ⌜ r .list ≡ firstL sets n ⌝ }
+{
+    let mut list = [0u32; 32];
+    let mut i: usize = 0;
+    while i < n {
+        list[i] = sets[i];
+        i += 1;
+    }
+    Sets { list }
+}
+
+// The declared entities that each automation reads.
+fn read_sets(s: &[u8], entities: Section, rules: Section) -> Sets
+    requires { ⌜ (entities .count ≤ 32) × (rules .count ≤ 32) ⌝ }
+    ensures { λ r. ⌜ r .list ≡ readSets (now (s .entry)) entities rules ⌝ }
+{
+    let count = rules.count as usize;
+    let mut list = [0u32; 32];
+    let mut i: usize = 0;
+    while i < count {
+        let at = rules.starts[i];
+        let w = lint_walk::rule_walk(s, at);
+        list[i] = lint_touches::reads(s, entities, at, w);
+        i += 1;
+    }
+    Sets { list }
+}
+
+// The entities that each automation writes.
+fn write_sets(s: &[u8], entities: Section, rules: Section) -> Sets
+    requires { ⌜ (entities .count ≤ 32) × (rules .count ≤ 32) ⌝ }
+    ensures { λ r. ⌜ r .list ≡ writeSets (now (s .entry)) entities rules ⌝ }
+{
+    let count = rules.count as usize;
+    let mut list = [0u32; 32];
+    let mut i: usize = 0;
+    while i < count {
+        let w = lint_walk::rule_walk(s, rules.starts[i]);
+        list[i] = lint_touches::writes(s, entities, w);
+        i += 1;
+    }
+    Sets { list }
+}
+
+// ---- the answer
+
+// What the tests need of the model.
+fn names_of(s: &[u8], index: Index) -> Names
+    ensures { λ r. ⌜ r ≡ namesOf (now (s .entry)) index ⌝ }
+{
+    let texts = index.texts;
+    let count = texts.count;
+    let entities = index.entities;
+    let invariants = index.invariants;
+    Names {
+        entities,
+        invariants,
+        on: model_order::place_of(s, b"on", count),
+        off: model_order::place_of(s, b"off", count),
+        star: model_order::place_of(s, b"*", count),
+    }
+}
+
+// The answer of a model whose entries all have their place.
+fn told(s: &[u8], index: Index, out: Out, found: Components) -> Report
+    requires { ⌜ Bounds index × (found .count ≤ 32) ⌝ }
+    ensures { λ r. ⌜ Tells (now (s .entry)) index out found r ⌝ }
+{
+    let entities = index.entities;
+    let rules = index.rules;
+    let texts = index.texts;
+    let sets = found.sets;
+    let c = first_sets(sets, found.count);
+    let x = read_sets(s, entities, rules);
+    let y = write_sets(s, entities, rules);
+    let u = lint_names::undeclared_names(s, entities, rules, texts.count);
+    let cycles = c.list;
+    let reads = x.list;
+    let writes = y.list;
+    let names = u.names;
+    let readers = u.readers;
+    Report {
+        refused: 0,
+        findings: out.findings,
+        interactions: out.interactions,
+        components: found.count,
+        cycles,
+        reads,
+        writes,
+        undeclared: u.count,
+        names,
+        readers,
+    }
+}
+
+// All entries of an accepted model into areas of zeros: their counts or the refusal, and the components.
+fn inserted(s: &[u8], index: Index, findings: &mut [u32], interactions: &mut [u32]) -> Linted
+    requires { ⌜ Bounds index ⌝ }
+    ensures { λ r. ⌜ Inserts (now (s .entry)) index (now (findings .entry)) (now (interactions .entry)) r (board (now (findings .exit)) (now (interactions .exit)) (r .out)) ⌝ }
+{
+    let rules = index.rules;
+    let start = Out {
+        findings: 0,
+        interactions: 0,
+        refusal: 0,
+    };
+    lint_board::clear(findings, interactions);
+    let names = names_of(s, index);
+    let l = lint_entry::entries(s, names, rules, findings, interactions, start);
+    let out = lint_notes::notes(s, rules, findings, l.out);
+    let found = l.found;
+    Linted { out, found }
+}
+
+// The lint of an accepted model.
+fn linted(s: &[u8], index: Index, findings: &mut [u32], interactions: &mut [u32]) -> Report
+    requires { ⌜ Bounds index ⌝ }
+    ensures { λ r. ⌜ AnswersAs (now (s .entry)) index r (lent (now (findings .entry)) (now (interactions .entry))) (lent (now (findings .exit)) (now (interactions .exit))) ⌝ }
+{
+    let l = inserted(s, index, findings, interactions);
+    let out = l.out;
+    if out.refusal != 0 {
+        lint_board::clear(findings, interactions);
+        return refused(out.refusal);
+    }
+    told(s, index, out, l.found)
+}
+
+// The lint of a model file, with lent areas of any size.
+pub fn lint(file: &[u8], findings: &mut [u32], interactions: &mut [u32]) -> Report
+    ensures { λ r. ⌜ Answers (now (file .entry)) r (lent (now (findings .entry)) (now (interactions .entry))) (lent (now (findings .exit)) (now (interactions .exit))) ⌝ }
+{
+    let x = model_validate::accept(file);
+    let status = x.status;
+    match status {
+        Status::Refused(number) => refused(number),
+        Status::Read => linted(file, x.index, findings, interactions),
+    }
+}
