@@ -13,7 +13,7 @@ use Rattle.model.specs.Validate.{accepted}
 use Rattle.reasons.specs.declared.Reason.{Reason}
 use Rattle.reasons.specs.Reasons.{render}
 use Rattle.reasons.specs.Lists.{words-of}
-use Rattle.engine.specs.Words.{place-of}
+use Rattle.model.specs.Rewrite.{place-of}
 use Rattle.lint.specs.Findings.{Problem, unreachable-conditions, trigger-condition-mismatch, delayed-write, unreachable-branch, high-fanout, trigger-cycle, freshness-assumption, missing-safety-guard, opposing-writes, unsupported-note, Finding, Interaction}
 
 -- numbers below 32 as the bits of a number

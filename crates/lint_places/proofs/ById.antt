@@ -17,7 +17,7 @@ use Rattle.model.specs.Model.{Automation, Model}
 use Rattle.model_walk.proofs.Found.{Case, is-true, is-false, case}
 use Rattle.model_parts.specs.declared.Section.{Section}
 use Rattle.engine.proofs.Lists.{Each}
-use Rattle.engine.specs.Words.{place-of}
+use Rattle.model.specs.Rewrite.{place-of}
 use Rattle.lint.specs.Lint.{Touched, insert, by-id}
 use Rattle.lint.specs.Reach.{places}
 use Rattle.lint.specs.Touches.{reads-of, writes-of}

@@ -19,7 +19,7 @@ use Rattle.model.specs.Model.{Source, Entity, Automation, Model}
 use Rattle.model_walk.proofs.Found.{Case, is-true, is-false, case}
 use Rattle.model_parts.specs.declared.Section.{Section}
 use Rattle.engine.proofs.Lists.{Each}
-use Rattle.engine.specs.Words.{place-of}
+use Rattle.model.specs.Rewrite.{place-of}
 use Rattle.lint.specs.Reach.{Square, places, square, by-way-of, closure, component, components-from, components}
 use Rattle.lint.specs.Reach as reach
 use Rattle.lint.specs.Touches.{Action, Write, write, written-by, writes-of}

@@ -22,7 +22,7 @@ use Rattle.reasons.specs.declared.Reason.{Reason}
 use Rattle.reasons.specs.Reasons.{render}
 use Rattle.reasons.specs.Lists.{words-of, reason-of, reasons, listed}
 use Rattle.engine.specs.Unsupported.{unsupported, rule-reasons}
-use Rattle.engine.specs.Words.{place-of}
+use Rattle.model.specs.Rewrite.{place-of}
 use Rattle.engine_reads.specs.Reads.{cap, word}
 use Rattle.engine_unsupported.specs.Listing.{ruleL}
 use Rattle.engine_unsupported.specs.Rows.{RuleAt as Row}

@@ -16,7 +16,7 @@ use Rattle.model.specs.Notes.{of-predicate, of-trigger, of-effect, of-actions, 
 use Rattle.model_walk.proofs.Found.{Case, is-true, is-false, case}
 use Rattle.model_parts.specs.declared.Section.{Section}
 use Rattle.engine.proofs.Lists.{Each}
-use Rattle.engine.specs.Words.{place-of}
+use Rattle.model.specs.Rewrite.{place-of}
 use Rattle.lint.specs.Reach.{places}
 use Rattle.lint.specs.Touches.{Action, within, walk, within-branches, conditions-of, predicate-reads, effect-reads, reads-of}
 use Rattle.lint.specs.Touches as touches

@@ -17,7 +17,7 @@ use Rattle.model.specs.Model.{Source, Tier, Entity, Automation, Model}
 use Rattle.model_walk.proofs.Found.{Case, is-true, is-false, case}
 use Rattle.model_parts.specs.declared.Section.{Section}
 use Rattle.model_check.specs.Checks.{number-of}
-use Rattle.engine.specs.Words.{place-of}
+use Rattle.model.specs.Rewrite.{place-of}
 use Rattle.lint.specs.Touches.{Action, Write, write, written-by}
 use Rattle.lint.specs.Touches as touches
 use Rattle.lint.specs.Findings.{opposing-writes, Finding, Entry, rank, spelled, is-star, opposed, tier-of, opposing, pair-entries, opposing-entries}

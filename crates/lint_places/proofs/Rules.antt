@@ -21,7 +21,7 @@ use Rattle.model_walk.proofs.Found.{Case, is-true, is-false, case, bound, given
 use Rattle.model_parts.specs.declared.Section.{Section}
 use Rattle.model_check.specs.Checks.{number-of}
 use Rattle.engine.proofs.Lists.{Each}
-use Rattle.engine.specs.Words.{place-of}
+use Rattle.model.specs.Rewrite.{place-of}
 use Rattle.lint.specs.Reach.{places}
 use Rattle.lint.specs.Touches.{Action, conditions-of, branch-conditions, is-delay, Write, write, written-by, reads-of, writes-of}
 use Rattle.lint.specs.Touches as touches

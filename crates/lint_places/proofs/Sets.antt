@@ -14,7 +14,7 @@ use borrow.Author.Tests.{eqb-true, eqb-false, eq-eqb, ne-eqb}
 use Rattle.texts.specs.Lists.{if_then_else_, is-empty, keep, each, through}
 use Rattle.texts.specs.Texts.{Text, eqT}
 use Rattle.texts.proofs.Ordering.{eq-refl}
-use Rattle.engine.specs.Words.{place-of}
+use Rattle.model.specs.Rewrite.{place-of}
 use Rattle.lint.specs.Reach.{places}
 use Rattle.lint.specs.Words.{set-of}
 use Rattle.lint_reach.specs.Sets.{holds, members}
@@ -109,7 +109,7 @@ place-at [] o j h = absurd (omega arith)
 place-at (t ∷ l) o zero h = rw (eq-refl t)
 place-at (t ∷ l) o (suc j) h =
     let z : eqT (getD l j []) t ≡ false = once-at (t ∷ l) o (suc j) 0 h (omega arith) ∙ ne-eqb (suc j) 0 (λ e. omega arith) in
-    rw z (ap suc (place-at l (once-rest t l o) j (omega arith)))
+    rw z (omega (arith, place-at l (once-rest t l o) j (omega arith)))
 
 pub places-at : (l : List Text) → Once l → (ns : List ℕ) → ((j : ℕ) → j < length ns → getD ns j 0 < length l) → each (λ t. place-of t l) (each (λ i. getD l i []) ns) ≡ ns
 unfolding each

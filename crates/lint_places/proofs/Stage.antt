@@ -22,7 +22,7 @@ use Rattle.model_order.specs.Order.{Fixed}
 use Rattle.model_check.specs.Checks.{number-of}
 use Rattle.model_index.specs.Indexed.{Holds}
 use Rattle.engine.proofs.Lists.{Each}
-use Rattle.engine.specs.Words.{place-of}
+use Rattle.model.specs.Rewrite.{place-of}
 use Rattle.lint.specs.Touches.{Action}
 use Rattle.lint.specs.Touches as touches
 use Rattle.lint.specs.Findings.{Entry}

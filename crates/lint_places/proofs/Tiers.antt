@@ -17,7 +17,7 @@ use Rattle.model.specs.Model.{Tier, observational, comfort, property, access-sa
 use Rattle.model.specs.File.{entity}
 use Rattle.model_walk.proofs.Found.{Case, is-true, is-false, case}
 use Rattle.model_parts.specs.declared.Section.{Section}
-use Rattle.engine.specs.Words.{place-of}
+use Rattle.model.specs.Rewrite.{place-of}
 use Rattle.lint.specs.Findings.{rank, rank-name, greater, tier-of, highest, expires, spelled}
 use Rattle.lint.specs.Words.{tier-number}
 use Rattle.lint_reach.specs.Sets.{holds}

@@ -7,7 +7,7 @@ use mathlib.Core.Option.{none, some}
 use lib.ListN.{length, replicate}
 use Rattle.texts.specs.Lists.{keep, find, each, flat}
 use Rattle.texts.specs.Texts.{Text, eqT, memT}
-use Rattle.engine.specs.Words.{place-of}
+use Rattle.model.specs.Rewrite.{place-of}
 use Rattle.lint.specs.Lint.{Touched}
 use Rattle.lint.specs.Words.{set-of}
 
