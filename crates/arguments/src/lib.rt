@@ -1,0 +1,47 @@
+// Numbers as arguments of a program.
+ghost use mathlib.Core.Path.{_≡_};
+ghost use Prim.Native.Nat.{_≤_};
+ghost use lib.ListN.{length};
+ghost use Rattle.arguments.specs.Number.{with-digit, number-of};
+
+// A number with a digit behind it, or the most if it is more.
+fn next(k: usize, digit: u8, most: usize) -> usize
+    requires { ⌜ (k ≤ most) × (most ≤ 1000000) ⌝ }
+    ensures { λ r. ⌜ (r ≡ with-digit most k digit) × (r ≤ most) ⌝ }
+{
+    if digit < 48 {
+        return k;
+    }
+    let x = k * 10 + (digit - 48) as usize;
+    if most < x {
+        return most;
+    }
+    x
+}
+
+// A number in decimal, or the most if it is more.
+fn number(t: &[u8], most: usize) -> usize
+    requires { ⌜ most ≤ 1000000 ⌝ }
+    ensures { λ r. ⌜ (r ≡ number-of most (now (t .entry))) × (r ≤ most) ⌝ }
+{
+    let mut k: usize = 0;
+    let mut i: usize = 0;
+    while i < t.len() {
+        k = next(k, t[i], most);
+        i += 1;
+    }
+    k
+}
+
+// The number that is argument i, or the most if there is none.
+pub fn entries(i: usize, most: usize) -> usize
+    requires { ⌜ most ≤ 1000000 ⌝ }
+    ensures { λ r. ⌜ r ≤ most ⌝ }
+{
+    let mut text = io::buffer();
+    let n = os::arg(i, &mut text);
+    if n == 0 {
+        return most;
+    }
+    number(&text[..n], most)
+}
