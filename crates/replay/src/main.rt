@@ -9,6 +9,7 @@ enum Entry {
     Validate,
     Unsupported,
     Simulate,
+    Fullcheck,
 }
 
 // What stands next in a batch: a model of so many bytes, the end, or no whole model.
@@ -53,6 +54,14 @@ fn print_lines(entry: Entry, out: &mut [u8], n: usize, file: &[u8]) -> usize {
             simulate_lines::QUEUE,
             simulate_lines::RECORDS,
             simulate_lines::RUNS,
+        ),
+        Entry::Fullcheck => check_lines::print_full_check(
+            out,
+            n,
+            file,
+            check_lines::QUEUE,
+            check_lines::RECORDS,
+            check_lines::RUNS,
         ),
     }
 }
@@ -117,4 +126,5 @@ fn main() {
         Entry::Unsupported,
     );
     replay(b"simulate.batch", b"entry simulate\n", Entry::Simulate);
+    replay(b"fullcheck.batch", b"entry fullcheck\n", Entry::Fullcheck);
 }
