@@ -19,7 +19,7 @@ use Rattle.reasons.specs.Reasons.{placed}
 use Rattle.reasons.proofs.Digits as digits
 use Rattle.show.specs.declared.Source.{Source}
 use Rattle.show.specs.declared.Source.the-variants.{At, Absent}
-use Rattle.show.specs.Writing.{Written}
+use Rattle.show.specs.Writing.{Written, Kept}
 use Rattle.show.specs.Lines.{newline, escape, quoted, dash, quoted-or-dash, source, accepted-line, refused-line, model-line}
 
 -- ---- one text
@@ -84,6 +84,10 @@ module _ {t u : Text} {a b c : List ℕ} {n m k : ℕ} (w : Written t a n b m) (
 -- the same text
 pub is : {t u : Text} {a b : List ℕ} {n m : ℕ} → t ≡ u → Written t a n b m → Written u a n b m
 is {t} {u} {a} {b} {n} {m} e w = rw e at w
+
+-- a text in the room r that was made for it is not lost
+pub kept : {t : Text} {a b : List ℕ} {r m : ℕ} (n : ℕ) → Written t a r b m → length t ≤ 4096 → (4096 ≤ length a → r + 4096 ≤ length a) → Kept a n b m
+kept n w short room many h = let k = room many in omega (arith, w .room (omega arith) .0, w .same)
 
 -- ---- a text byte by byte
 

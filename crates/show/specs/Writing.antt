@@ -12,3 +12,8 @@ pub record Written (t : Text) (a : List ℕ) (n : ℕ) (b : List ℕ) (m : ℕ) 
   pub same : length b ≡ length a
   pub room : n + length t ≤ length a → (m ≡ n + length t) × (b ≡ take n a ++ (t ++ drop (n + length t) a))
   pub full : length a < n + length t → (length a < m) × (take n b ≡ take n a)
+
+-- No line is lost by what is printed behind the first n bytes of the area a, which goes to standard output first where a line may
+-- not fit: b is the area afterwards, and the next free index m is not past its end. A line is at most 4,096 bytes long.
+abbrev pub Kept : (a : List ℕ) (n : ℕ) (b : List ℕ) (m : ℕ) → Type 0
+Kept a n b m = 4096 ≤ length a → n ≤ length a → m ≤ length b
