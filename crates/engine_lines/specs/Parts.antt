@@ -85,7 +85,9 @@ detail-ends k d =
 
 -- ---- a record of the record area
 
--- whatever records the area a holds: the line of the k-th one is written
+-- a record's line is written; whatever records the area a holds, that of the k-th one
 pub record RecordPut (f x a : List ℕ) (k : ℕ) (out : List ℕ) (n : ℕ) (out' : List ℕ) (m : ℕ) : Type 0 where
   pub is : (l : List Record) (d : Record) → k < length l → a ≡ recorded (length a) l →
       Written (record-line k (record-of x (texts-of f x) (getD l k d))) out n out' m
+  pub read : Record
+  pub written : Written (record-line k (record-of x (texts-of f x) read)) out n out' m

@@ -18,7 +18,7 @@ ghost use Rattle.engine.specs.Records.{detail};
 ghost use Rattle.engine_reads.specs.Reads.{name, word};
 ghost use Rattle.engine_places.specs.Meaning.{verdict-of, kind-of, rule-of, where-of, change-of, record-of};
 ghost use Rattle.show.specs.Lines.{quoted};
-ghost use Rattle.show.specs.Writing.{Written};
+ghost use Rattle.show.specs.Writing.{Written, Kept};
 ghost use Rattle.engine_lines.specs.Lines.{number-line, text-line, steps-line, records-line, horizon-line, unsupported-line, reason-line, sim-unknown-line, halted, incomplete-of, incomplete-lines, final-line, quoted-if, placed-if, changed, record-line};
 ghost use Rattle.engine_lines.specs.Parts.{texts-of, text-of, name-of, detail-begins, detail-ends, RecordPut};
 
@@ -343,10 +343,10 @@ pub fn put_record(out: &mut [u8], n: usize, f: &[u8], x: &[u32; 436], a: &[u32],
 }
 
 // ---- printing: lines behind the first n bytes of `out`, which goes to standard output first where a line may not fit.
-// The answer is where the next text goes; whoever printed last flushes.
+// The answer is where the next text goes; whoever printed last flushes. No line is lost if `out` has room for the longest one.
 
-// No line is longer, however its texts are escaped (proofs/Lengths: record-short, final-short).
-const LINE: usize = 4096;
+// No line is longer, however its texts are escaped (proofs/Lengths).
+pub const LINE: usize = 4096;
 
 // Which line a reason gets.
 pub enum Word {
@@ -366,6 +366,7 @@ fn at_most(n: usize, most: usize) -> usize
 
 fn print_reason(out: &mut [u8], n: usize, word: Word, f: &[u8], a: &[u32], i: usize) -> usize
     requires { ⌜ i * 5 + 5 ≤ length (now a) ⌝ }
+    ensures { λ m. ⌜ Kept (now (out .entry)) n (now (out .exit)) m ⌝ }
 {
     let m = show::room(out, n, LINE);
     match word {
@@ -382,7 +383,9 @@ pub fn print_reasons(
     f: &[u8],
     a: &[u32],
     count: usize,
-) -> usize {
+) -> usize
+    ensures { λ m. ⌜ Kept (now (out .entry)) n (now (out .exit)) m ⌝ }
+{
     let many = at_most(count, a.len() / 5);
     let mut m = n;
     let mut i: usize = 0;
@@ -395,6 +398,7 @@ pub fn print_reasons(
 
 fn print_record(out: &mut [u8], n: usize, f: &[u8], x: &[u32; 436], a: &[u32], k: usize) -> usize
     requires { ⌜ k * 13 + 13 ≤ length (now a) ⌝ }
+    ensures { λ m. ⌜ Kept (now (out .entry)) n (now (out .exit)) m ⌝ }
 {
     let m = show::room(out, n, LINE);
     put_record(out, m, f, x, a, k)
@@ -408,7 +412,9 @@ pub fn print_records(
     x: &[u32; 436],
     a: &[u32],
     count: usize,
-) -> usize {
+) -> usize
+    ensures { λ m. ⌜ Kept (now (out .entry)) n (now (out .exit)) m ⌝ }
+{
     let many = at_most(count, a.len() / 13);
     let mut m = n;
     let mut k: usize = 0;
@@ -421,6 +427,7 @@ pub fn print_records(
 
 fn print_final(out: &mut [u8], n: usize, f: &[u8], x: &[u32; 436], e: usize, value: u32) -> usize
     requires { ⌜ e < 32 ⌝ }
+    ensures { λ m. ⌜ Kept (now (out .entry)) n (now (out .exit)) m ⌝ }
 {
     let m = show::room(out, n, LINE);
     put_final(out, m, f, x, e, value)
@@ -433,7 +440,9 @@ pub fn print_finals(
     f: &[u8],
     x: &[u32; 436],
     values: &[u32; 32],
-) -> usize {
+) -> usize
+    ensures { λ m. ⌜ Kept (now (out .entry)) n (now (out .exit)) m ⌝ }
+{
     let many = engine_reads::at_most(x[0], 32);
     let mut m = n;
     let mut e: usize = 0;
@@ -444,7 +453,9 @@ pub fn print_finals(
     m
 }
 
-pub fn print_incomplete(out: &mut [u8], n: usize, why: u32, waiting: bool) -> usize {
+pub fn print_incomplete(out: &mut [u8], n: usize, why: u32, waiting: bool) -> usize
+    ensures { λ m. ⌜ Kept (now (out .entry)) n (now (out .exit)) m ⌝ }
+{
     let m = show::room(out, n, LINE);
     put_incomplete(out, m, why, waiting)
 }

@@ -209,3 +209,8 @@ pub length-source : (s : Source) → length (source s) ≤ 41
 unfolding source placed
 length-source (At line column) = omega (arith, length-append (decimal line) (58 ∷ decimal column), digits.at-most line, digits.at-most column)
 length-source Absent = omega arith
+
+-- a refusal
+pub length-refused : (n : ℕ) → length (refused-line n) ≤ 29
+unfolding refused-line
+length-refused n = omega (arith, length-append (text "refused ") (decimal n ++ newline), length-append (decimal n) newline, digits.at-most n)

@@ -1,8 +1,10 @@
 // The answers of `unsupported` and `simulate`, printed line by line through a lent area of bytes.
 // No contract can say what is printed; the lines are those of `engine_lines`, and their order is the order of the calls here.
+// None is lost if `out` has room for the longest one (`Kept`).
 use engine_lines::Word;
 use engine_table::Table;
 ghost use Prim.Native.Nat.{_≤_};
+ghost use Rattle.show.specs.Writing.{Kept};
 
 // Areas of so many entries are never too small.
 pub const QUEUE: usize = 20544;
@@ -11,13 +13,29 @@ pub const RECORDS: usize = 10096;
 
 pub const RUNS: usize = 512;
 
-pub fn print_unsupported(out: &mut [u8], n: usize, file: &[u8]) -> usize {
+fn print_refused(out: &mut [u8], n: usize, number: u32) -> usize
+    ensures { λ m. ⌜ Kept (now (out .entry)) n (now (out .exit)) m ⌝ }
+{
+    let m = show::room(out, n, engine_lines::LINE);
+    show::put_refused(out, m, number)
+}
+
+fn print_count(out: &mut [u8], n: usize, count: usize) -> usize
+    ensures { λ m. ⌜ Kept (now (out .entry)) n (now (out .exit)) m ⌝ }
+{
+    let m = show::room(out, n, engine_lines::LINE);
+    engine_lines::put_unsupported(out, m, count)
+}
+
+pub fn print_unsupported(out: &mut [u8], n: usize, file: &[u8]) -> usize
+    ensures { λ m. ⌜ Kept (now (out .entry)) n (now (out .exit)) m ⌝ }
+{
     let r = engine_entry::unsupported(file);
     if r.refused != 0 {
-        return show::put_refused(out, n, r.refused);
+        return print_refused(out, n, r.refused);
     }
     let reasons = r.reasons;
-    let m = engine_lines::put_unsupported(out, n, r.count);
+    let m = print_count(out, n, r.count);
     engine_lines::print_reasons(out, m, Word::Reason, file, &reasons, r.count)
 }
 
@@ -35,15 +53,20 @@ fn print_places(
     a: &[u32],
     records: usize,
     values: &[u32; 32],
-) -> usize {
+) -> usize
+    ensures { λ m. ⌜ Kept (now (out .entry)) n (now (out .exit)) m ⌝ }
+{
     let t = table(file);
     let words = t.words;
     let m = engine_lines::print_records(out, n, file, &words, a, records);
     engine_lines::print_finals(out, m, file, &words, values)
 }
 
-fn put_numbers(out: &mut [u8], n: usize, steps: u32, records: usize, horizon: u32) -> usize {
-    let a = engine_lines::put_steps(out, n, steps);
+fn print_numbers(out: &mut [u8], n: usize, steps: u32, records: usize, horizon: u32) -> usize
+    ensures { λ m. ⌜ Kept (now (out .entry)) n (now (out .exit)) m ⌝ }
+{
+    let m = show::room(out, n, engine_lines::LINE);
+    let a = engine_lines::put_steps(out, m, steps);
     let b = engine_lines::put_records(out, a, records);
     engine_lines::put_horizon(out, b, horizon)
 }
@@ -54,7 +77,9 @@ fn print_unknown(
     file: &[u8],
     reasons: &[u32; 1500],
     count: usize,
-) -> usize {
+) -> usize
+    ensures { λ m. ⌜ Kept (now (out .entry)) n (now (out .exit)) m ⌝ }
+{
     engine_lines::print_reasons(out, n, Word::SimUnknown, file, reasons, count)
 }
 
@@ -66,14 +91,16 @@ fn print_lent(
     q: &mut [u32],
     a: &mut [u32],
     r: &mut [u32],
-) -> usize {
+) -> usize
+    ensures { λ m. ⌜ Kept (now (out .entry)) n (now (out .exit)) m ⌝ }
+{
     let s = engine_entry::simulate(file, q, a, r);
     if s.refused != 0 {
-        return show::put_refused(out, n, s.refused);
+        return print_refused(out, n, s.refused);
     }
     let values = s.values;
     let reasons = s.reasons;
-    let m = put_numbers(out, n, s.steps, s.records, s.horizon);
+    let m = print_numbers(out, n, s.steps, s.records, s.horizon);
     let k = print_places(out, m, file, a, s.records, &values);
     let l = print_unknown(out, k, file, &reasons, s.unknown);
     engine_lines::print_incomplete(out, l, s.why, s.waiting)
@@ -89,6 +116,7 @@ pub fn print_simulate(
     runs: usize,
 ) -> usize
     requires { ⌜ (queue ≤ 20544) × ((records ≤ 10096) × (runs ≤ 512)) ⌝ }
+    ensures { λ m. ⌜ Kept (now (out .entry)) n (now (out .exit)) m ⌝ }
 {
     let mut q = [0u32; 102720];
     let mut a = [0u32; 131248];
