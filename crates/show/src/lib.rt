@@ -60,7 +60,7 @@ pub fn put_number(out: &mut [u8], n: usize, x: u64) -> usize
 }
 
 // A byte of a quoted text.
-fn put_escaped(out: &mut [u8], n: usize, b: u8) -> usize
+pub fn put_escaped(out: &mut [u8], n: usize, b: u8) -> usize
     ensures { λ m. ⌜ Written (escape b) (now (out .entry)) n (now (out .exit)) m ⌝ }
 {
     if b == 34 {
