@@ -31,7 +31,7 @@ use Rattle.show.specs.declared.Source.the-variants.{At}
 use Rattle.show.specs.Lines.{newline, quoted, source}
 use Rattle.show.specs.Lines as lines
 use Rattle.show.proofs.Laws as show
-use Rattle.engine_lines.specs.Lines.{number-line, text-line, sim-incomplete-line, incomplete-of, incomplete-lines, final-line, quoted-if, placed-if, changed, record-line, all-lines}
+use Rattle.engine_lines.specs.Lines.{number-line, steps-line, records-line, horizon-line, text-line, sim-incomplete-line, incomplete-of, incomplete-lines, final-line, quoted-if, placed-if, changed, record-line, all-lines}
 use Rattle.engine_lines.specs.Parts.{texts-of, text-of, name-of, detail-begins, detail-ends}
 use Rattle.engine_lines.proofs.Numbers.{each, _and_, name-out, name-is, detail-known, detail-text}
 
@@ -48,6 +48,18 @@ module _ (s t : Text) (m n : ℕ) (a : length s ≤ m) (b : length t ≤ n) wher
 pub number-short : (w : Text) (n : ℕ) → length (number-line w n) ≤ length w + 22
 unfolding number-line
 number-short w n = omega (arith, length-append w (32 ∷ (decimal n ++ newline)), length-append (decimal n) newline, digits.at-most n)
+
+-- the three lines before the records
+pub numbers-short : (s r h : ℕ) → length (steps-line s ++ (records-line r ++ horizon-line h)) ≤ 4096
+numbers-short s r h =
+    omega (
+      arith,
+      length-append (steps-line s) (records-line r ++ horizon-line h),
+      length-append (records-line r) (horizon-line h),
+      number-short (text "steps") s,
+      number-short (text "records") r,
+      number-short (text "horizon") h,
+    )
 
 text-line-short : (w t : Text) → length (text-line w t) ≤ length w + 2 * length t + 4
 unfolding text-line
@@ -203,13 +215,14 @@ module _ (f : List ℕ) (bytes : (i : ℕ) → getD f i 0 < 256) where
     where
       go : (b : Bool) → length (if b then (decimal (r .line) ++ (58 ∷ decimal (r .column))) ++ body f r else body f r) ≤ 1000
       go true =
-          omega
-          (arith,
-          length-append (decimal (r .line) ++ (58 ∷ decimal (r .column))) (body f r),
-          length-append (decimal (r .line)) (58 ∷ decimal (r .column)),
-          digits.at-most (r .line),
-          digits.at-most (r .column),
-          body-short f bytes [] r)
+          omega (
+            arith,
+            length-append (decimal (r .line) ++ (58 ∷ decimal (r .column))) (body f r),
+            length-append (decimal (r .line)) (58 ∷ decimal (r .column)),
+            digits.at-most (r .line),
+            digits.at-most (r .column),
+            body-short f bytes [] r,
+          )
       go false = omega (arith, body-short f bytes [] r)
 
   pub reason-short : (w : Text) (r : Reason) → length w ≤ 11 → length (text-line w (render f r)) ≤ 4096

@@ -434,13 +434,7 @@ fn print_final(out: &mut [u8], n: usize, f: &[u8], x: &[u32; 436], e: usize, val
 }
 
 // The entities' values at the end, by the places of their texts.
-pub fn print_finals(
-    out: &mut [u8],
-    n: usize,
-    f: &[u8],
-    x: &[u32; 436],
-    values: &[u32; 32],
-) -> usize
+pub fn print_finals(out: &mut [u8], n: usize, f: &[u8], x: &[u32; 436], values: &[u32; 32]) -> usize
     ensures { λ m. ⌜ Kept (now (out .entry)) n (now (out .exit)) m ⌝ }
 {
     let many = engine_reads::at_most(x[0], 32);
