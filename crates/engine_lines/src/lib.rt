@@ -343,7 +343,7 @@ pub fn put_record(out: &mut [u8], n: usize, f: &[u8], x: &[u32; 436], a: &[u32],
 }
 
 // ---- printing: lines behind the first n bytes of `out`, which goes to standard output first where a line may not fit.
-// The answer is where the next text goes; whoever printed last flushes. No line is lost if `out` has room for the longest one.
+// The answer is where the next text goes; whoever printed last flushes. No line is cut if `out` has room for the longest one.
 
 // No line is longer, however its texts are escaped (proofs/Lengths).
 pub const LINE: usize = 4096;

@@ -13,7 +13,8 @@ pub record Written (t : Text) (a : List ℕ) (n : ℕ) (b : List ℕ) (m : ℕ) 
   pub room : n + length t ≤ length a → (m ≡ n + length t) × (b ≡ take n a ++ (t ++ drop (n + length t) a))
   pub full : length a < n + length t → (length a < m) × (take n b ≡ take n a)
 
--- No line is lost by what is printed behind the first n bytes of the area a, which goes to standard output first where a line may
--- not fit: b is the area afterwards, and the next free index m is not past its end. A line is at most 4,096 bytes long.
+-- What was printed last behind the first n bytes of the area a fits: b is the area afterwards, and the next free index m is not
+-- past its end, if there is room for the longest line, 4,096 bytes. Each function that prints one line promises this, so that
+-- none is cut.
 abbrev pub Kept : (a : List ℕ) (n : ℕ) (b : List ℕ) (m : ℕ) → Type 0
 Kept a n b m = 4096 ≤ length a → n ≤ length a → m ≤ length b
