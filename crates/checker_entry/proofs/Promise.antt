@@ -118,16 +118,16 @@ module _ (f : List ℕ) (i : Index) (m : Model) (acc : accepted f ≡ answer m) 
   abbrev t : Tabled f x (o .ts) m
   t = tb f i m acc o bytes g gr
 
-  abbrev cells : List Cell
+  abbrev pub cells : List Cell
   cells = initial-cells (m .scenario .entities)
 
-  abbrev is : List Invariant
+  abbrev pub is : List Invariant
   is = m .scenario .invariants
 
   abbrev starts : List ℕ
   starts = i .invariants .starts
 
-  few-invariants : length is ≤ 32
+  pub few-invariants : length is ≤ 32
   few-invariants = accepted-lawful f m acc .few-invariants
 
   stand : (d : Invariant) (k : ℕ) → k < length is → Reads (invariant (o .ts)) f (getD starts k 0) (getD is k d)
@@ -216,7 +216,7 @@ module _ (f : List ℕ) (i : Index) (m : Model) (acc : accepted f ≡ answer m) 
     abbrev sizes : Areas
     sizes = record { queue = length q / 5; records = length a / 13; runs = length u / 28 }
 
-    abbrev plain : Answer check.Check
+    abbrev pub plain : Answer check.Check
     plain = checked sizes m cells vs
 
     -- the answer says what the definition's check says, and the record area holds its records
@@ -224,11 +224,11 @@ module _ (f : List ℕ) (i : Index) (m : Model) (acc : accepted f ≡ answer m) 
       answers : (c : check.Check) → plain ≡ answer c → said.Shows f r c → a' ≡ area (words-in f) (length a) (c .simulation .trace) → Promise
       refuses : (n : ℕ) → 41 ≤ n → n ≤ 43 → plain ≡ refused n → r ≡ no-check n → a' ≡ replicate (length a) 0 → Promise
 
-    answer-law : (sim : engine.Simulation) → simulated sizes m cells vs ≡ answer sim → plain ≡ answer (judged is cells sim)
+    pub answer-law : (sim : engine.Simulation) → simulated sizes m cells vs ≡ answer sim → plain ≡ answer (judged is cells sim)
     unfolding checked _>>=_
     answer-law sim e = rw e
 
-    refuse-law : (k : ℕ) → simulated sizes m cells vs ≡ refused k → plain ≡ refused k
+    pub refuse-law : (k : ℕ) → simulated sizes m cells vs ≡ refused k → plain ≡ refused k
     unfolding checked _>>=_
     refuse-law k e = rw e
 

@@ -35,6 +35,7 @@ use Rattle.engine_places.specs.Meaning.{record-of, cells-of, rule-pool, pool-of
 use Rattle.engine_places.proofs.Accepted.{accepted-notes}
 use Rattle.engine_places.proofs.Loop.{reasons-of}
 use Rattle.engine_places.proofs.Outcome.{Answered, shows, refuses, Kept, shown, simulated-is}
+use Rattle.engine_places.proofs.Pigeons.{Among}
 use Rattle.engine_places.proofs.Relation.{Worded}
 use Rattle.engine_places.proofs.Simulated.{EventAt, Beginning}
 use Rattle.engine_places.proofs.Truth.{Valued}
@@ -135,6 +136,8 @@ module _ (f : List ℕ) (i : Index) (m : Model) (acc : accepted f ≡ answer m) 
       pub valued : Valued f x ts m tb (s .values)
       pub unknown : Holds f (sim .unknown) (s .reasons) u'
       pub few : length (sim .unknown) ≤ 300
+      pub among : Among (pool-of m) (sim .unknown)
+      pub why : s .why ≤ 2
       pub incomplete : incomplete-of (s .why) (s .waiting) ≡ sim .incomplete
 
     pub data Outcome : Type 0 where
@@ -162,10 +165,10 @@ module _ (f : List ℕ) (i : Index) (m : Model) (acc : accepted f ≡ answer m) 
         by true = refl
         by false = refl
 
-    shown-done : (p : Halt) → Answers f x s a a' u' p → p .last .full ≡ 0 → Kept f x ts m tb (p .last) →
-        Done (shown f x ts m tb p)
+    shown-done : (p : Halt) → Answers f x s a a' u' p → p .last .full ≡ 0 → p .why ≤ 2 →
+        Kept f x ts m tb (p .last) → Done (shown f x ts m tb p)
     unfolding shown incomplete-of reasons-of
-    shown-done p told z k =
+    shown-done p told z w k =
         let e = told .answer ∙ answer-done (getD x 3 0) p z in
         record {
           records = p .last .records;
@@ -181,6 +184,8 @@ module _ (f : List ℕ) (i : Index) (m : Model) (acc : accepted f ≡ answer m) 
           valued = subst (Valued f x ts m tb) (sym (ap (λ (y : Run). y .values) e)) (k .valued);
           unknown = subst (λ (n : ℕ). Holds f (p .last .reasons) n u') (sym (ap (λ (y : Run). y .reasons) e)) (told .reasons);
           few = k .few;
+          among = k .among;
+          why = omega (arith, w, ap (λ (y : Run). y .why) e);
           incomplete = ap (λ (y : Run). incomplete-of (y .why) (y .waiting)) e ∙ ap (λ (t : List Text). reasons-of (p .why) ++ t) (left-as (length (p .last .runs)));
         }
 
@@ -195,7 +200,7 @@ module _ (f : List ℕ) (i : Index) (m : Model) (acc : accepted f ≡ answer m) 
         told = (subst (λ (j : ℕ). run.Simulates f x l j (g .cells) count s q q' a a' r r' (g .reasons) u') many does) .does notes held
 
         by : Answered f x ts m tb halt (simulated sizes m cells vs) → Outcome
-        by (shows z e k) = done _ e (shown-done halt told z k)
+        by (shows z e w k) = done _ e (shown-done halt told z w k)
         by (refuses j z h e) =
             let other : halt .last .full ≡ 0 → ⊥ = λ y. z (sym h ∙ y) in
             let w = area-numbers sizes m cells vs j e in

@@ -35,10 +35,11 @@ use Rattle.engine_reads.specs.Reads.{atMost}
 use Rattle.engine_run.specs.Run.{refusalS}
 use Rattle.engine_run.specs.Run as run
 use Rattle.engine_run.specs.declared.Simulation.{Simulation as Run}
-use Rattle.engine_places.specs.Meaning.{record-of, cells-of, Tabled}
+use Rattle.engine_places.specs.Meaning.{record-of, cells-of, pool-of, Tabled}
 use Rattle.engine_places.proofs.Accepted.{accepted-lawful}
 use Rattle.engine.proofs.Lists.{Each}
 use Rattle.engine_places.proofs.Lists.{each-length}
+use Rattle.engine_places.proofs.Pigeons.{Among}
 use Rattle.engine_places.proofs.Relation.{Worded}
 use Rattle.engine_places.proofs.Numbers.{most-is}
 use Rattle.engine_places.proofs.Simulated.{EventAt}
@@ -104,6 +105,7 @@ module _ (f : List ℕ) (i : Index) (m : Model) (acc : accepted f ≡ answer m) 
       pub area-is : a' ≡ area recordWords (length a) records
       pub words : Each (Worded x (o .ts) m) records
       pub few : length (sim .unknown) ≤ 300
+      pub among : Among (pool-of m) (sim .unknown)
 
     pub data Promise : Type 0 where
       answers : (sim : engine.Simulation) → plain ≡ answer sim → Told sim → Promise
@@ -131,6 +133,7 @@ module _ (f : List ℕ) (i : Index) (m : Model) (acc : accepted f ≡ answer m) 
           unknown =
               subst (λ (u : List ℕ). Holds f (sim .unknown) (ans .unknown) u) (sym (y .reasons))
               (subst (λ (j : ℕ). Holds f (sim .unknown) j (ran-so .words)) (sym (y .unknown)) (e .unknown));
+          why = omega (arith, y .why, e .why);
           incomplete = ap (λ (w : ℕ). incomplete-of w (ans .waiting)) (y .why) ∙ ap (incomplete-of (s .why)) (y .waiting) ∙ e .incomplete;
         }
 
@@ -144,5 +147,5 @@ module _ (f : List ℕ) (i : Index) (m : Model) (acc : accepted f ≡ answer m) 
       where
         by : Outcome f i m acc o bytes g gr v d vs evs (ran-so .told) q q' a a' r r' (ran-so .words) → Promise
         by (done sim e y) =
-            answers sim e (record { shows = shows-here sim y; records = y .records; count = ran-so .shown .done (y .accepted) .records ∙ y .count; trace = y .trace; area-is = y .area-is; words = y .words; few = y .few })
+            answers sim e (record { shows = shows-here sim y; records = y .records; count = ran-so .shown .done (y .accepted) .records ∙ y .count; trace = y .trace; area-is = y .area-is; words = y .words; few = y .few; among = y .among })
         by (full n lo hi e is z) = refuses n lo hi e (refused-as n lo is) z

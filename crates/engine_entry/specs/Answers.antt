@@ -1,5 +1,5 @@
 -- What the entries answer, by the definitions of crate `engine`: each number of the answer, and each word of the lent areas.
-use Prim.Native.Nat.{ℕ, _-_}
+use Prim.Native.Nat.{ℕ, _-_, _≤_}
 use mathlib.Core.Path.{_≡_}
 use mathlib.Core.Bool.{Bool, false}
 use mathlib.Core.List.{List, [], _∷_, _++_}
@@ -53,6 +53,7 @@ pub record Shows (f : List ℕ) (r : Simulation) (s : engine.Simulation) : Type 
   pub horizon : r .horizon ≡ s .horizon
   pub values : r .values ≡ values-of (texts-in f) (s .final-state)
   pub unknown : Holds f (s .unknown) (r .unknown) (r .reasons)
+  pub why : r .why ≤ 2
   pub incomplete : incomplete-of (r .why) (r .waiting) ≡ s .incomplete
 
 unfoldable pub no-simulation : (number : ℕ) → Simulation

@@ -26,7 +26,7 @@ use Rattle.engine_loop.specs.Loop.{eventW, begunM, Halt, loopM, closedM}
 use Rattle.engine_places.specs.Meaning.{work-of, record-of, cell-at, cells-from, cells-of, run-of, pool-of, Column, Tabled}
 use Rattle.engine_places.proofs.Truth.{Valued, entities-are}
 use Rattle.engine_places.proofs.Checked.{known-value}
-use Rattle.engine_places.proofs.Pigeons.{at-most}
+use Rattle.engine_places.proofs.Pigeons.{Among, at-most}
 use Rattle.engine_places.proofs.Relation.{Worded, GoodWork, Live}
 use Rattle.engine_places.proofs.Acts.{declared}
 use Rattle.engine_places.proofs.Loop.{reasons-of}
@@ -45,15 +45,17 @@ module _ (f x : List ℕ) (ts : List Text) (mo : Model) (tb : Tabled f x ts mo) 
     horizon = mo .scenario .limits .horizon;
   }
 
-  -- each record's words are those of the record that it stands for, the values are places of texts, and reasons are few
+  -- each record's words are those of the record that it stands for, the values are places of texts, and reasons are few and
+  -- among those that the model can give
   pub record Kept (k : Machine) : Type 0 where
     pub words : Each (Worded x ts mo) (k .records)
     pub valued : Valued f x ts mo tb (k .values)
     pub few : length (k .reasons) ≤ 300
+    pub among : Among (pool-of mo) (k .reasons)
 
   -- an answer, or the number of the area that was full
   pub data Answered (p : Halt) (a : Answer Simulation) : Type 0 where
-    shows : p .last .full ≡ 0 → a ≡ answer (shown p) → Kept (p .last) → Answered p a
+    shows : p .last .full ≡ 0 → a ≡ answer (shown p) → p .why ≤ 2 → Kept (p .last) → Answered p a
     refuses : (n : ℕ) → (n ≡ 0 → ⊥) → p .last .full ≡ n → a ≡ refused n → Answered p a
 
   left-is : (n : ℕ) (rs : List Run) → length rs ≡ n → left-over rs ≡ (if eqb n 0 then [] else runs-left ∷ [])
@@ -78,7 +80,13 @@ module _ (f x : List ℕ) (ts : List Text) (mo : Model) (tb : Tabled f x ts mo) 
   result-is areas cells vs p (ends now l s w i) =
       shows (l .free)
       (ap (λ (y : Option ℕ). unless-full y (outcome mo (ended areas mo cells vs))) (l .calm) ∙ ap answer (shown-is p (ended areas mo cells vs) now l s i))
-      (record { words = l .records .words; valued = l .cells .valued; few = omega (arith, ap length (l .reasons .is), at-most (ended areas mo cells vs .engine .unknown) (pool-of mo) (l .reasons .differ) (l .reasons .among), tb .few-reasons) })
+      w
+      (record {
+        words = l .records .words;
+        valued = l .cells .valued;
+        few = omega (arith, ap length (l .reasons .is), at-most (ended areas mo cells vs .engine .unknown) (pool-of mo) (l .reasons .differ) (l .reasons .among), tb .few-reasons);
+        among = subst (Among (pool-of mo)) (sym (l .reasons .is)) (l .reasons .among);
+      })
   result-is areas cells vs p (full n z h o) =
       refuses n z (h .is) (ap (λ (y : Option ℕ). unless-full y (outcome mo (ended areas mo cells vs))) o)
 

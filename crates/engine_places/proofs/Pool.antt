@@ -27,7 +27,7 @@ or-true : (a b : Bool) → b ≡ true → (a || b) ≡ true
 or-true true b h = refl
 or-true false b h = h
 
-mem-right : (t : Text) (l m : List Text) → memT t m ≡ true → memT t (l ++ m) ≡ true
+pub mem-right : (t : Text) (l m : List Text) → memT t m ≡ true → memT t (l ++ m) ≡ true
 unfolding memT any
 mem-right t [] m h = h
 mem-right t (y ∷ l) m h = or-true (eqT t y) _ (mem-right t l m h)
