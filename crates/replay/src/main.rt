@@ -10,6 +10,7 @@ enum Entry {
     Unsupported,
     Simulate,
     Fullcheck,
+    Lint,
 }
 
 // What stands next in a batch: a model of so many bytes, the end, or no whole model.
@@ -62,6 +63,13 @@ fn print_lines(entry: Entry, out: &mut [u8], n: usize, file: &[u8]) -> usize {
             check_lines::QUEUE,
             check_lines::RECORDS,
             check_lines::RUNS,
+        ),
+        Entry::Lint => report_lines::print_lint(
+            out,
+            n,
+            file,
+            report_lines::FINDINGS,
+            report_lines::INTERACTIONS,
         ),
     }
 }
@@ -127,4 +135,5 @@ fn main() {
     );
     replay(b"simulate.batch", b"entry simulate\n", Entry::Simulate);
     replay(b"fullcheck.batch", b"entry fullcheck\n", Entry::Fullcheck);
+    replay(b"lint.batch", b"entry lint\n", Entry::Lint);
 }

@@ -1,0 +1,32 @@
+use borrow.Author.Needs.{needs}
+use Prim.Native.Nat.{_-_, _≤_, _<_, _+_}
+use mathlib.Core.Path.{_≡_, refl}
+use lib.ListN.{length}
+use native.Mathlib.Omega.{arith}
+use Rattle.report_lines.proofs.print_findings.Statement.{statement}
+use Rattle.report_lines.proofs.print_findings.Tie as tie
+use Rattle.report_lines.proofs.print_findings.Reads as reads
+use Rattle.report_lines.proofs.print_findings.Lts as lts
+use Rattle.lint_lines.proofs.put_finding_at.Reads as put-finding-at-reads
+use Rattle.show.proofs.room.Reads as room-reads
+
+abbrev Inv-loop : tie.InvT-loop
+Inv-loop out₀ n f index count a m₀ k₀ out m k = length out ≡ length out₀
+
+abbrev μ-loop : tie.MeasureT-loop
+μ-loop out₀ n f index count a m₀ k₀ out m k = count - k
+
+pub print-findings-spec : {M : Type 1} → statement M
+print-findings-spec =
+    tie.close
+    (tie.spec
+    Inv-loop
+    μ-loop
+    (λ c. search needs)
+    (λ c κs. search needs)
+    (λ c κs. search needs)
+    (λ c. search needs)
+    (λ c. search needs)
+    (λ c. search needs)
+    (λ c. search needs)
+    (λ c. search needs))
