@@ -12,7 +12,16 @@ use Rattle.model.specs.Validate.{accepted}
 use Rattle.engine.specs.Cells.{initial-cells}
 use Rattle.engine.specs.Records.{Areas}
 use Rattle.engine.specs.Simulate.{Simulation}
-use Rattle.checker.specs.Judge.{Failure, prohibited-state, guard-violated, forbidden-transition, deadline-missed, Reading, read-all, unknown-reasons}
+use Rattle.checker.specs.Judge.{
+  Failure,
+  prohibited-state,
+  guard-violated,
+  forbidden-transition,
+  deadline-missed,
+  Reading,
+  read-all,
+  unknown-reasons,
+}
 use Rattle.checker.specs.Check.{Violation, Check, violation-of, check}
 use Rattle.checker.specs.Verify.{Verification, verify}
 use Rattle.cone.specs.Alike.{Alike, SameSearch}

@@ -1,15 +1,23 @@
 -- Two accepted models that are alike: the engine's premises, from the statement's.
-use Prim.Native.Nat.{ℕ}
-use mathlib.Core.Bool.{Bool, true, false}
-use mathlib.Core.List.{List, [], _∷_}
+use mathlib.Core.Bool.{Bool}
+use mathlib.Core.List.{List, []}
 use mathlib.Core.Path.{_≡_, refl, sym, ap, _∙_, subst}
-use Rattle.texts.specs.Lists.{if_then_else_, keep, each}
+use Rattle.texts.specs.Lists.{keep, each}
 use Rattle.texts.specs.Texts.{Text, memT}
-use Rattle.model.specs.Model.{Entity, Automation, Input, reload, Event, Model}
-use Rattle.engine.specs.Cells.{Cell, initial-cells}
-use Rattle.cone.specs.Cone.{Cone, cone-of, Among, here, later}
-use Rattle.cone.specs.Alike.{Alike, entity-in, automation-in, input-in, event-in, cone-declarations, cone-automations, cone-events}
-use Rattle.independence.proofs.Base.{Case, is-true, is-false, case, keep-each, keep-same, every-yes, Every}
+use Rattle.model.specs.Model.{Entity, Input, reload, Event, Model}
+use Rattle.engine.specs.Cells.{initial-cells}
+use Rattle.cone.specs.Cone.{Cone, cone-of}
+use Rattle.cone.specs.Alike.{
+  Alike,
+  entity-in,
+  automation-in,
+  input-in,
+  event-in,
+  cone-declarations,
+  cone-automations,
+  cone-events,
+}
+use Rattle.independence.proofs.Base.{keep-each, keep-same, every-yes, Every}
 use Rattle.independence.proofs.View
 use Rattle.independence.proofs.Steps
 use Rattle.independence.proofs.Check.{Inside, cone-event}
@@ -23,7 +31,8 @@ module _ (m m′ : Model) (a : Alike m m′) where
   same-cone : cone-of m ≡ cone-of m′
   unfolding cone-automations
   same-cone =
-      let u : (cone-of m) .automations ≡ (cone-of m′) .automations = autos m ∙ ap (each (λ r. r .id)) (a .same-automations) ∙ sym (autos m′) in
+      let u : (cone-of m) .automations ≡ (cone-of m′) .automations = autos m
+      ∙ ap (each (λ r. r .id)) (a .same-automations) ∙ sym (autos m′) in
       λ j. record { entities = (a .same-entities) j; automations = u j }
 
   abbrev inE : Text → Bool
@@ -35,19 +44,32 @@ module _ (m m′ : Model) (a : Alike m m′) where
   rules-same : keep (View.cone-rule inE inA) (m .rules) ≡ keep (View.cone-rule inE inA) (m′ .rules)
   unfolding cone-automations
   rules-same =
-      keep-ext (View.cone-rule inE inA) (automation-in (cone-of m)) (λ r. unfold View.cone-rule automation-in in refl) (m .rules)
+      keep-ext (View.cone-rule inE inA) (automation-in (cone-of m)) (λ r. unfold View.cone-rule automation-in in refl)
+      (m .rules)
       ∙ a .same-automations
       ∙ ap (λ (c : Cone). keep (automation-in c) (m′ .rules)) (sym same-cone)
-      ∙ sym (keep-ext (View.cone-rule inE inA) (automation-in (cone-of m)) (λ r. unfold View.cone-rule automation-in in refl) (m′ .rules))
+      ∙ sym (keep-ext (View.cone-rule inE inA) (automation-in (cone-of m))
+      (λ r. unfold View.cone-rule automation-in in refl) (m′ .rules))
 
-  cells-of : (l : List Entity) → keep (View.cone-cell inE inA) (initial-cells l) ≡ initial-cells (keep (entity-in (cone-of m)) l)
+  cells-of : (l : List Entity)
+      → keep (View.cone-cell inE inA) (initial-cells l) ≡ initial-cells (keep (entity-in (cone-of m)) l)
   unfolding initial-cells View.cone-cell entity-in
-  cells-of l = keep-each (λ e. record { name = e .name; stale-after = e .stale-after; value = e .initial; version = 0 }) (View.cone-cell inE inA) (entity-in (cone-of m)) (λ e. refl) l
+  cells-of l = keep-each (λ e. record {
+    name = e .name;
+    stale-after = e .stale-after;
+    value = e .initial;
+    version =
+        0;
+  }) (View.cone-cell inE inA) (entity-in (cone-of m)) (λ e. refl) l
 
-  cells-same : keep (View.cone-cell inE inA) (initial-cells (m .scenario .entities)) ≡ keep (View.cone-cell inE inA) (initial-cells (m′ .scenario .entities))
+  cells-same : keep (View.cone-cell inE inA) (initial-cells (m .scenario .entities)) ≡ keep (View.cone-cell inE inA)
+      (initial-cells (m′ .scenario .entities))
   unfolding cone-declarations
   cells-same =
-      cells-of (m .scenario .entities) ∙ ap initial-cells (a .same-declarations ∙ ap (λ (c : Cone). keep (entity-in c) (m′ .scenario .entities)) (sym same-cone)) ∙ sym (cells-of (m′ .scenario .entities))
+      cells-of (m .scenario .entities)
+      ∙ ap initial-cells (a .same-declarations
+      ∙ ap (λ (c : Cone). keep (entity-in c) (m′ .scenario .entities)) (sym same-cone))
+      ∙ sym (cells-of (m′ .scenario .entities))
 
   event-same : (v : Event) → cone-event inE inA v ≡ event-in (cone-of m) v
   unfolding cone-event event-in
@@ -66,10 +88,12 @@ module _ (m m′ : Model) (a : Alike m m′) where
       ∙ ap (λ (c : Cone). keep (event-in c) (m′ .scenario .events)) (sym same-cone)
       ∙ sym (keep-ext (cone-event inE inA) (event-in (cone-of m)) event-same (m′ .scenario .events))
 
-  pub inside-of-alike : Fresh [] (m .rules) → Fresh [] (m′ .rules) → Inside inE inA m m′ (initial-cells (m .scenario .entities)) (initial-cells (m′ .scenario .entities))
+  pub inside-of-alike : Fresh [] (m .rules) → Fresh [] (m′ .rules)
+      → Inside inE inA m m′ (initial-cells (m .scenario .entities)) (initial-cells (m′ .scenario .entities))
   inside-of-alike f f′ = record {
     good = cone-good m f;
-    good′ = subst (λ (c : Cone). Every (Steps.good-rule (λ x. memT x (c .entities)) (λ id. memT id (c .automations))) (m′ .rules)) (sym same-cone) (cone-good m′ f′);
+    good′ = subst (λ (c : Cone). Every (Steps.good-rule (λ x. memT x (c .entities)) (λ id. memT id (c .automations)))
+        (m′ .rules)) (sym same-cone) (cone-good m′ f′);
     same-rules = rules-same;
     same-cells = cells-same;
     same-horizon = a .same-horizon;

@@ -1,11 +1,11 @@
 -- Laws on lists, texts and tests: how `keep` commutes with what the engine does to lists.
-use Prim.Native.Nat.{ℕ, suc, _+_, _≤_, _<_}
+use Prim.Native.Nat.{ℕ, _+_, _≤_, _<_}
 use mathlib.Core.Path.{_≡_, refl, sym, ap, _∙_, subst}
-use mathlib.Core.Bool.{Bool, true, false, not, _&&_, _||_, true≢false, false≢true}
+use mathlib.Core.Bool.{Bool, true, false, not, _&&_, _||_, true≢false}
 use mathlib.Core.List.{List, [], _∷_, _++_}
 use mathlib.Core.Option.{Option, none, some}
 use native.Mathlib.Omega.{arith}
-use lib.Dec.{eqb, leb, ltb, T, leb→le, le→leb, eqb→eq, eqb-refl, nleb→lt}
+use lib.Dec.{leb, T, leb→le, nleb→lt}
 pub use Rattle.engine.proofs.Lists.{
   Case,
   is-true,
@@ -23,16 +23,12 @@ pub use Rattle.engine.proofs.Lists.{
   found-is,
 }
 pub use Rattle.engine.proofs.Distinct.{or-no′}
-use Rattle.texts.specs.Lists.{if_then_else_, any, all, keep, find, tally, each, flat, through, present-and}
-use Rattle.texts.specs.Texts.{Text, eqT, memT, insertT, sortedT, ltT}
+use Rattle.texts.specs.Lists.{if_then_else_, any, all, keep, find, tally, each, flat}
+use Rattle.texts.specs.Texts.{Text, eqT, insertT, sortedT, ltT}
 
 -- a test that is true, and one that is false
 pub T-true : {b : Bool} → b ≡ true → T b
 T-true e = subst T (sym e) tt
-
-pub true-T : (b : Bool) → T b → b ≡ true
-true-T true t = refl
-true-T false t = absurd t
 
 pub leb-le : (m n : ℕ) → leb m n ≡ true → m ≤ n
 leb-le m n e = leb→le m n (T-true e)
@@ -58,7 +54,8 @@ pub if-prop : {A : Type 0} (P : A → Type 0) (b : Bool) {x y : A} → P x → P
 if-prop P true p q = p
 if-prop P false p q = q
 
-pub if-hom : {A B : Type 0} (f : A → B) (b : Bool) {x y : A} {u w : B} → f x ≡ u → f y ≡ w → f (if b then x else y) ≡ if b then u else w
+pub if-hom : {A B : Type 0} (f : A → B) (b : Bool) {x y : A} {u w : B} → f x ≡ u → f y ≡ w
+    → f (if b then x else y) ≡ if b then u else w
 if-hom f true p q = p
 if-hom f false p q = q
 
@@ -91,7 +88,8 @@ module _ {A : Type 0} where
   keep-nil p = refl
 
   pub keep-end-out : (p : A → Bool) (l : List A) (x : A) → p x ≡ false → keep p (l ++ x ∷ []) ≡ keep p l
-  keep-end-out p l x e = keep-append p l (x ∷ []) ∙ ap {B = List A} (λ t. keep p l ++ t) (keep-out p x [] e ∙ keep-nil p) ∙ append-none (keep p l)
+  keep-end-out p l x e = keep-append p l (x ∷ [])
+      ∙ ap {B = List A} (λ t. keep p l ++ t) (keep-out p x [] e ∙ keep-nil p) ∙ append-none (keep p l)
 
   -- two filters change places
   pub keep-swap : (p q : A → Bool) (l : List A) → keep p (keep q l) ≡ keep q (keep p l)
@@ -99,7 +97,8 @@ module _ {A : Type 0} where
   keep-swap p q [] = refl
   keep-swap p q (x ∷ l) = go (case (p x)) (case (q x)) (keep-swap p q l)
     where
-      go : Case (p x) → Case (q x) → keep p (keep q l) ≡ keep q (keep p l) → keep p (keep q (x ∷ l)) ≡ keep q (keep p (x ∷ l))
+      go : Case (p x) → Case (q x) → keep p (keep q l) ≡ keep q (keep p l)
+          → keep p (keep q (x ∷ l)) ≡ keep q (keep p (x ∷ l))
       go (is-true a) (is-true b) e = simp (a, b) (cons-eq e)
       go (is-true a) (is-false b) e = simp (a, b) e
       go (is-false a) (is-true b) e = simp (a, b) e
@@ -198,27 +197,25 @@ module _ {A : Type 0} where
   pub all-r : (p : A → Bool) (l m : List A) → all p (l ++ m) ≡ true → all p m ≡ true
   all-r p l m h = and-r (all p l) (all p m) (sym (all-append p l m) ∙ h)
 
-  pub any-l : (p : A → Bool) (l m : List A) → any p (l ++ m) ≡ false → any p l ≡ false
-  any-l p l m h = or-no (any p l) (any p m) (sym (any-append p l m) ∙ h)
-
-  pub any-r : (p : A → Bool) (l m : List A) → any p (l ++ m) ≡ false → any p m ≡ false
-  any-r p l m h = or-no′ (any p l) (any p m) (sym (any-append p l m) ∙ h)
-
   pub all-weaken : (p q : A → Bool) → ((x : A) → p x ≡ true → q x ≡ true) → (l : List A) → all p l ≡ true → all q l ≡ true
   unfolding all
   all-weaken p q h [] e = refl
-  all-weaken p q h (x ∷ l) e = and-i (q x) (all q l) (h x (and-l (p x) (all p l) e)) (all-weaken p q h l (and-r (p x) (all p l) e))
+  all-weaken p q h (x ∷ l) e =
+      and-i (q x) (all q l) (h x (and-l (p x) (all p l) e)) (all-weaken p q h l (and-r (p x) (all p l) e))
 
   pub all-both : (p q : A → Bool) (l : List A) → all p l ≡ true → all q l ≡ true → all (λ x. p x && q x) l ≡ true
   unfolding all
   all-both p q [] h k = refl
   all-both p q (x ∷ l) h k =
-      and-i (p x && q x) (all (λ y. p y && q y) l) (and-i (p x) (q x) (and-l (p x) (all p l) h) (and-l (q x) (all q l) k)) (all-both p q l (and-r (p x) (all p l) h) (and-r (q x) (all q l) k))
+      and-i (p x && q x) (all (λ y. p y && q y) l)
+      (and-i (p x) (q x) (and-l (p x) (all p l) h) (and-l (q x) (all q l) k))
+      (all-both p q l (and-r (p x) (all p l) h) (and-r (q x) (all q l) k))
 
   pub any-not : (p : A → Bool) (l : List A) → any p l ≡ false → all (λ x. not (p x)) l ≡ true
   unfolding any all
   any-not p [] h = refl
-  any-not p (x ∷ l) h = and-i (not (p x)) (all (λ y. not (p y)) l) (ap not (or-no (p x) (any p l) h)) (any-not p l (or-no′ (p x) (any p l) h))
+  any-not p (x ∷ l) h = and-i (not (p x)) (all (λ y. not (p y)) l) (ap not (or-no (p x) (any p l) h))
+      (any-not p l (or-no′ (p x) (any p l) h))
 
   pub not-any : (p : A → Bool) (l : List A) → ((x : A) → p x ≡ true → ⊥) → any p l ≡ false
   unfolding any
@@ -241,7 +238,8 @@ module _ {A : Type 0} where
   all-every p (x ∷ l) h = (and-l (p x) (all p l) h, all-every p l (and-r (p x) (all p l) h))
 
 module _ {A B : Type 0} where
-  pub keep-each : (f : A → B) (p : B → Bool) (q : A → Bool) → ((x : A) → p (f x) ≡ q x) → (l : List A) → keep p (each f l) ≡ each f (keep q l)
+  pub keep-each : (f : A → B) (p : B → Bool) (q : A → Bool) → ((x : A) → p (f x) ≡ q x) → (l : List A)
+      → keep p (each f l) ≡ each f (keep q l)
   unfolding each keep
   keep-each f p q h [] = refl
   keep-each f p q h (x ∷ l) = go (case (q x)) (keep-each f p q h l)
@@ -250,7 +248,8 @@ module _ {A B : Type 0} where
       go (is-true a) e = simp (h x, a) (cons-eq e)
       go (is-false a) e = simp (h x, a) e
 
-  pub tally-each : (f : A → B) (p : B → Bool) (q : A → Bool) → ((x : A) → p (f x) ≡ q x) → (l : List A) → tally p (each f l) ≡ tally q l
+  pub tally-each : (f : A → B) (p : B → Bool) (q : A → Bool) → ((x : A) → p (f x) ≡ q x) → (l : List A)
+      → tally p (each f l) ≡ tally q l
   unfolding each tally
   tally-each f p q h [] = refl
   tally-each f p q h (x ∷ l) = rw (h x, tally-each f p q h l)
@@ -259,7 +258,8 @@ module _ {A B : Type 0} where
   opt f none = none
   opt f (some x) = some (f x)
 
-  pub find-each : (f : A → B) (p : B → Bool) (q : A → Bool) → ((x : A) → p (f x) ≡ q x) → (l : List A) → find p (each f l) ≡ opt f (find q l)
+  pub find-each : (f : A → B) (p : B → Bool) (q : A → Bool) → ((x : A) → p (f x) ≡ q x) → (l : List A)
+      → find p (each f l) ≡ opt f (find q l)
   unfolding each find opt
   find-each f p q h [] = refl
   find-each f p q h (x ∷ l) = go (case (q x)) (find-each f p q h l)
@@ -296,10 +296,12 @@ module _ {A B : Type 0} where
   pub flat-append : (f : A → List B) (l m : List A) → flat f (l ++ m) ≡ flat f l ++ flat f m
   unfolding flat
   flat-append f [] m = refl
-  flat-append f (x ∷ l) m = ap {B = List B} (λ t. f x ++ t) (flat-append f l m) ∙ sym (append-assoc (f x) (flat f l) (flat f m))
+  flat-append f (x ∷ l) m = ap {B = List B} (λ t. f x ++ t) (flat-append f l m)
+      ∙ sym (append-assoc (f x) (flat f l) (flat f m))
 
   -- each list without what lies outside: those of what lies inside
-  pub keep-flat : (f : A → List B) (p : A → Bool) (q : B → Bool) → ((x : A) → p x ≡ true → keep q (f x) ≡ f x) → ((x : A) → p x ≡ false → keep q (f x) ≡ [])
+  pub keep-flat : (f : A → List B) (p : A → Bool) (q : B → Bool) → ((x : A) → p x ≡ true → keep q (f x) ≡ f x)
+      → ((x : A) → p x ≡ false → keep q (f x) ≡ [])
       → (l : List A) → keep q (flat f l) ≡ flat f (keep p l)
   unfolding flat keep
   keep-flat f p q h k [] = refl
@@ -310,7 +312,8 @@ module _ {A B : Type 0} where
       go (is-false a) e = simp a (rw (k x a, e))
 
 module _ {A B C : Type 0} where
-  pub each-each : (f : A → B) (g : B → C) (h : A → C) → ((x : A) → g (f x) ≡ h x) → (l : List A) → each g (each f l) ≡ each h l
+  pub each-each : (f : A → B) (g : B → C) (h : A → C) → ((x : A) → g (f x) ≡ h x) → (l : List A)
+      → each g (each f l) ≡ each h l
   unfolding each
   each-each f g h e [] = refl
   each-each f g h e (x ∷ l) = λ i. e x i ∷ each-each f g h e l i
@@ -321,10 +324,12 @@ module _ {A B C : Type 0} where
   each-flat g f (x ∷ l) = each-append g (f x) (flat f l) ∙ ap {B = List C} (λ t. each g (f x) ++ t) (each-flat g f l)
 
 module _ {A : Type 0} where
-  pub each-keep : (f : A → A) (p : A → Bool) → ((x : A) → p (f x) ≡ p x) → (l : List A) → keep p (each f l) ≡ each f (keep p l)
+  pub each-keep : (f : A → A) (p : A → Bool) → ((x : A) → p (f x) ≡ p x) → (l : List A)
+      → keep p (each f l) ≡ each f (keep p l)
   each-keep f p h l = keep-each f p p h l
 
-  pub each-idle : (f : A → A) (p g : A → Bool) → ((x : A) → p x ≡ true → g x ≡ true → f x ≡ x) → (l : List A) → Every g l → each f (keep p l) ≡ keep p l
+  pub each-idle : (f : A → A) (p g : A → Bool) → ((x : A) → p x ≡ true → g x ≡ true → f x ≡ x) → (l : List A)
+      → Every g l → each f (keep p l) ≡ keep p l
   unfolding each keep
   each-idle f p g h [] k = refl
   each-idle f p g h (x ∷ l) k = go (case (p x)) (each-idle f p g h l (k .1))
@@ -333,7 +338,8 @@ module _ {A : Type 0} where
       go (is-true a) e = simp a (ap {B = List A} (λ t. t ∷ each f (keep p l)) (h x a (k .0)) ∙ cons-eq e)
       go (is-false a) e = simp a e
 
-  pub every-each : (g : A → Bool) (f : A → A) → ((x : A) → g x ≡ true → g (f x) ≡ true) → (l : List A) → Every g l → Every g (each f l)
+  pub every-each : (g : A → Bool) (f : A → A) → ((x : A) → g x ≡ true → g (f x) ≡ true) → (l : List A) → Every g l
+      → Every g (each f l)
   unfolding each
   every-each g f h [] e = tt
   every-each g f h (x ∷ l) e = (h x (e .0), every-each g f h l (e .1))

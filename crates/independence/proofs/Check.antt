@@ -1,28 +1,26 @@
 -- Two models that are alike inside a cone, both simulated to the end: every invariant has one answer.
-use Prim.Native.Nat.{ℕ, zero, suc, _+_, _≤_, _<_}
-use mathlib.Core.Bool.{Bool, true, false, not, _&&_, _||_, true≢false, false≢true}
+use Prim.Native.Nat.{ℕ, _+_}
+use mathlib.Core.Bool.{Bool, true, false}
 use mathlib.Core.List.{List, [], _∷_, _++_}
 use mathlib.Core.Option.{Option, none, some}
 use mathlib.Core.Path.{_≡_, refl, sym, ap, _∙_, subst}
 use native.Mathlib.Omega.{arith}
-use lib.Dec.{leb, ltb}
-use Rattle.texts.specs.Lists.{if_then_else_, _▸_, absent, all, keep, each, flat, through}
+use Rattle.texts.specs.Lists.{if_then_else_, absent, all, keep, each, flat}
 use Rattle.texts.specs.Texts.{Text, sortedT, insertT, eqT, ltT}
-use Rattle.model.specs.Answer.{Answer, answer, refused, _>>=_}
-use Rattle.model.specs.Model.{Automation, Event, Invariant, id-of, Model}
+use Rattle.model.specs.Answer.{answer}
+use Rattle.model.specs.Model.{Event, Invariant, id-of, Model}
 use Rattle.engine.specs.Cells.{Cell}
-use Rattle.engine.specs.Records.{Run, Work, Item, Kind, Trace, Areas, Engine}
-use Rattle.engine.specs.Changes.{add, append, adds}
-use Rattle.engine.specs.Reasons.{runs-left}
+use Rattle.engine.specs.Records.{Item, Kind, Trace, Areas, Engine}
+use Rattle.engine.specs.Changes.{append}
 use Rattle.engine.specs.Unsupported.{unsupported}
 use Rattle.engine.specs.Engine.{log, expiry, loop, event-item, begun, left-over, last-record, closed, Ended}
 use Rattle.engine.specs.Simulate.{Simulation, ended, outcome, unless-full, simulated}
 use Rattle.engine.proofs.Distinct.{answer-eq, refused-answer, bind-inv}
-use Rattle.checker.specs.Judge.{Failing, Reading, read-all, unknown-reasons, incomplete-reasons}
-use Rattle.checker.specs.Check.{Violation, Check, violation-of, judged, checked, status-of}
+use Rattle.checker.specs.Judge.{Failing, Reading, read-all, unknown-reasons}
+use Rattle.checker.specs.Check.{Check, violation-of, judged, checked}
 use Rattle.cone.specs.Cone.{names}
 use Rattle.cone.specs.Demand.{Told, failed, missed, told, About, holds, fails, late, about-failing, about, violation-told}
-use Rattle.independence.proofs.Base.{Case, is-true, is-false, case, keep-append, keep-flat, each-flat, Every, every-end, le-leb}
+use Rattle.independence.proofs.Base.{keep-append, keep-flat, each-flat, Every, every-end, le-leb}
 use Rattle.independence.proofs.Queue
 use Rattle.independence.proofs.View
 use Rattle.independence.proofs.View.{boundary}
@@ -85,27 +83,39 @@ unfolding Queue.late
 all-late [] = tt
 all-late (x ∷ l) = (le-leb 0 (x .at) (omega arith), all-late l)
 
-begun-tidy : (areas : Areas) (cells : List Cell) (notes : List Text) (events : List Event) → Tidy 0 (begun areas cells notes events)
+begun-tidy : (areas : Areas) (cells : List Cell) (notes : List Text) (events : List Event)
+    → Tidy 0 (begun areas cells notes events)
 unfolding begun log append fair headed boundary absent
 begun-tidy areas cells notes events =
     Tidy.t-adds 0 (flat (expiry 0) cells) _ (all-late (flat (expiry 0) cells))
-    (Tidy.t-adds 0 (each event-item events) _ (all-late (each event-item events)) (record { due = tt; told = (omega arith, omega arith); begins = refl; plain = (refl, tt) }))
+    (Tidy.t-adds 0 (each event-item events) _ (all-late (each event-item events))
+    (record { due = tt; told = (omega arith, omega arith); begins = refl; plain = (refl, tt) }))
 
 -- the loop of a model, with given cells and events
 unfoldable pub run-of : Areas → Model → List Cell → List Event → Ended
 run-of areas m cells events =
-    loop (m .rules) (m .scenario .limits .horizon) (m .scenario .limits .max-steps) 0 (begun areas cells (unsupported (m .rules)) events)
+    loop (m .rules) (m .scenario .limits .horizon) (m .scenario .limits .max-steps) 0
+    (begun areas cells (unsupported (m .rules)) events)
 
-ended-is : (areas : Areas) (m : Model) (cells : List Cell) (events : List Event) → ended areas m cells events ≡ closed (m .scenario .limits .horizon) (run-of areas m cells events)
+trace-is : (areas : Areas) (m : Model) (cells : List Cell) (events : List Event)
+    → (ended areas m cells events) .incomplete ≡ []
+    → (ended areas m cells events) .engine .trace ≡ (run-of areas m cells events) .engine .trace
+    ++ record {
+      at = m .scenario .limits .horizon;
+      kind = Kind.horizon;
+      automation = none;
+      source = none;
+      change =
+          none;
+    } ∷ []
 unfolding ended run-of
-ended-is areas m cells events = refl
+trace-is areas m cells events e =
+    ap (λ (x : Engine). x .trace) ((whole (m .scenario .limits .horizon) (run-of areas m cells events) e) .engine-is)
+    ∙ (unfold log append in refl)
 
-trace-is : (areas : Areas) (m : Model) (cells : List Cell) (events : List Event) → (ended areas m cells events) .incomplete ≡ []
-    → (ended areas m cells events) .engine .trace ≡ (run-of areas m cells events) .engine .trace ++ record { at = m .scenario .limits .horizon; kind = Kind.horizon; automation = none; source = none; change = none } ∷ []
-unfolding ended run-of
-trace-is areas m cells events e = ap (λ (x : Engine). x .trace) ((whole (m .scenario .limits .horizon) (run-of areas m cells events) e) .engine-is) ∙ (unfold log append in refl)
-
-records : (areas : Areas) (m : Model) (cells : List Cell) (events : List Event) → (ended areas m cells events) .incomplete ≡ [] → Records (m .scenario .limits .horizon) ((ended areas m cells events) .engine .trace)
+records : (areas : Areas) (m : Model) (cells : List Cell) (events : List Event)
+    → (ended areas m cells events) .incomplete ≡ []
+    → Records (m .scenario .limits .horizon) ((ended areas m cells events) .engine .trace)
 records areas m cells events e = subst (Records h) (sym (trace-is areas m cells events e)) (record {
   heads = headed-end l t (k .heads);
   rises = rising-end 0 l h h t (k .rises) (omega arith) (omega arith);
@@ -123,7 +133,9 @@ records areas m cells events e = subst (Records h) (sym (trace-is areas m cells 
     t = record { at = h; kind = Kind.horizon; automation = none; source = none; change = none }
 
     k : Tidy.Told h l
-    k = unfold run-of in (tidy-loop (m .rules) h (m .scenario .limits .max-steps) 0 0 (begun areas cells (unsupported (m .rules)) events) (begun-tidy areas cells (unsupported (m .rules)) events) (omega arith))
+    k = unfold run-of in (tidy-loop (m .rules) h (m .scenario .limits .max-steps) 0 0
+        (begun areas cells (unsupported (m .rules)) events) (begun-tidy areas cells (unsupported (m .rules)) events)
+        (omega arith))
 
 module _ (inE inA : Text → Bool) where
   unfoldable pub cone-event : Event → Bool
@@ -139,37 +151,58 @@ module _ (inE inA : Text → Bool) where
     pub same-invariants : m .scenario .invariants ≡ m′ .scenario .invariants
     pub named : Every (λ i. all inE (names i)) (m .scenario .invariants)
 
-  begun-good : (areas : Areas) (cells : List Cell) (notes : List Text) (events : List Event) → Every (Steps.good-run inE inA) ((begun areas cells notes events) .runs)
+  begun-good : (areas : Areas) (cells : List Cell) (notes : List Text) (events : List Event)
+      → Every (Steps.good-run inE inA) ((begun areas cells notes events) .runs)
   unfolding begun log append
-  begun-good areas cells notes events = Good.g-adds inE inA (flat (expiry 0) cells) _ (Good.g-adds inE inA (each event-item events) _ tt)
+  begun-good areas cells notes events =
+      Good.g-adds inE inA (flat (expiry 0) cells) _ (Good.g-adds inE inA (each event-item events) _ tt)
 
-  begun-like : (areas areas′ : Areas) (cells cells′ : List Cell) (notes notes′ : List Text) (events events′ : List Event) → keep (View.cone-cell inE inA) cells ≡ keep (View.cone-cell inE inA) cells′
-      → keep cone-event events ≡ keep cone-event events′ → Steps.Like inE inA (begun areas cells notes events) (begun areas′ cells′ notes′ events′)
+  begun-like : (areas areas′ : Areas) (cells cells′ : List Cell) (notes notes′ : List Text)
+      (events events′ : List Event) → keep (View.cone-cell inE inA) cells ≡ keep (View.cone-cell inE inA) cells′
+      → keep cone-event events ≡ keep cone-event events′
+      → Steps.Like inE inA (begun areas cells notes events) (begun areas′ cells′ notes′ events′)
   unfolding begun log
   begun-like areas areas′ cells cells′ notes notes′ events events′ p q =
       View.l-adds inE inA _ _
       (View.l-adds inE inA _ _
-      (View.l-append inE inA (record { of-cells = p; of-queue = refl; of-runs = refl; of-made = refl; of-trace = refl }) _ _ refl)
+      (View.l-append inE inA (record {
+        of-cells = p;
+        of-queue = refl;
+        of-runs = refl;
+        of-made = refl;
+        of-trace =
+            refl;
+      }) _ _ refl)
       (each event-item events) (each event-item events′) (side events ∙ ap (each event-item) q ∙ sym (side events′)))
       (flat (expiry 0) cells) (flat (expiry 0) cells′) (stale cells ∙ ap (flat (expiry 0)) p ∙ sym (stale cells′))
     where
       side : (l : List Event) → keep (View.cone-item inE inA) (each event-item l) ≡ each event-item (keep cone-event l)
-      side l = Rattle.independence.proofs.Base.keep-each event-item (View.cone-item inE inA) cone-event (λ v. unfold View.cone-item View.cone-work event-item cone-event in refl) l
+      side l = Rattle.independence.proofs.Base.keep-each event-item (View.cone-item inE inA) cone-event
+          (λ v. unfold View.cone-item View.cone-work event-item cone-event in refl) l
 
-      stale : (l : List Cell) → keep (View.cone-item inE inA) (flat (expiry 0) l) ≡ flat (expiry 0) (keep (View.cone-cell inE inA) l)
-      stale l = keep-flat (expiry 0) (View.cone-cell inE inA) (View.cone-item inE inA) (View.expiry-in inE inA 0) (View.expiry-out inE inA 0) l
+      stale : (l : List Cell) → keep (View.cone-item inE inA) (flat (expiry 0) l) ≡ flat (expiry 0)
+          (keep (View.cone-cell inE inA) l)
+      stale l = keep-flat (expiry 0) (View.cone-cell inE inA) (View.cone-item inE inA) (View.expiry-in inE inA 0)
+          (View.expiry-out inE inA 0) l
 
-  module _ (m m′ : Model) (cells cells′ : List Cell) (a : Inside m m′ cells cells′) (areas areas′ : Areas) (events events′ : List Event) (v : keep cone-event events ≡ keep cone-event events′)
+  module _ (m m′ : Model) (cells cells′ : List Cell) (a : Inside m m′ cells cells′) (areas areas′ : Areas)
+      (events events′ : List Event) (v : keep cone-event events ≡ keep cone-event events′)
       (e : (ended areas m cells events) .incomplete ≡ []) (e′ : (ended areas′ m′ cells′ events′) .incomplete ≡ []) where
-    same-view : Slice.strip inE inA ((run-of areas m cells events) .engine) ≡ Slice.strip inE inA ((run-of areas′ m′ cells′ events′) .engine)
+    same-view : Slice.strip inE inA ((run-of areas m cells events) .engine) ≡ Slice.strip inE inA
+        ((run-of areas′ m′ cells′ events′) .engine)
     unfolding run-of
     same-view =
-        Slice.alike inE inA (m .rules) (m′ .rules) (m .scenario .limits .horizon) (a .good) (a .good′) (a .same-rules) (m .scenario .limits .max-steps) (m′ .scenario .limits .max-steps) s s′
-        (begun-good areas cells (unsupported (m .rules)) events) (begun-good areas′ cells′ (unsupported (m′ .rules)) events′)
-        (Slice.strip-eq inE inA (begun-like areas areas′ cells cells′ (unsupported (m .rules)) (unsupported (m′ .rules)) events events′ (a .same-cells) v))
+        Slice.alike inE inA (m .rules) (m′ .rules) (m .scenario .limits .horizon) (a .good) (a .good′) (a .same-rules)
+        (m .scenario .limits .max-steps) (m′ .scenario .limits .max-steps) s s′
+        (begun-good areas cells (unsupported (m .rules)) events)
+        (begun-good areas′ cells′ (unsupported (m′ .rules)) events′)
+        (Slice.strip-eq inE inA (begun-like areas areas′ cells cells′ (unsupported (m .rules))
+        (unsupported (m′ .rules)) events events′ (a .same-cells) v))
         ((whole (m .scenario .limits .horizon) (run-of areas m cells events) (unfold ended in e)) .before)
-        (rw (a .same-horizon) ((whole (m′ .scenario .limits .horizon) (run-of areas′ m′ cells′ events′) (unfold ended in e′)) .before))
-        ∙ ap (λ (h : ℕ). Slice.strip inE inA ((loop (m′ .rules) h (m′ .scenario .limits .max-steps) 0 s′) .engine)) (a .same-horizon)
+        (rw (a .same-horizon) ((whole (m′ .scenario .limits .horizon) (run-of areas′ m′ cells′ events′)
+        (unfold ended in e′)) .before))
+        ∙ ap (λ (h : ℕ). Slice.strip inE inA ((loop (m′ .rules) h (m′ .scenario .limits .max-steps) 0 s′) .engine))
+        (a .same-horizon)
       where
         s : Engine
         s = begun areas cells (unsupported (m .rules)) events
@@ -177,30 +210,38 @@ module _ (inE inA : Text → Bool) where
         s′ : Engine
         s′ = begun areas′ cells′ (unsupported (m′ .rules)) events′
 
-    same-told : keep (View.cone-trace inE inA) ((run-of areas m cells events) .engine .trace) ≡ keep (View.cone-trace inE inA) ((run-of areas′ m′ cells′ events′) .engine .trace)
+    same-told : keep (View.cone-trace inE inA) ((run-of areas m cells events) .engine .trace) ≡ keep
+        (View.cone-trace inE inA) ((run-of areas′ m′ cells′ events′) .engine .trace)
     unfolding Slice.strip
     same-told = ap (λ (x : Engine). x .trace) same-view
 
-    same-records : keep (View.cone-trace inE inA) ((ended areas m cells events) .engine .trace) ≡ keep (View.cone-trace inE inA) ((ended areas′ m′ cells′ events′) .engine .trace)
+    same-records : keep (View.cone-trace inE inA) ((ended areas m cells events) .engine .trace) ≡ keep
+        (View.cone-trace inE inA) ((ended areas′ m′ cells′ events′) .engine .trace)
     same-records =
         ap (keep (View.cone-trace inE inA)) (trace-is areas m cells events e)
         ∙ keep-append (View.cone-trace inE inA) _ _
-        ∙ (λ j. same-told j ++ keep (View.cone-trace inE inA) (record { at = (a .same-horizon) j; kind = Kind.horizon; automation = none; source = none; change = none } ∷ []))
+        ∙ (λ j. same-told j ++ keep (View.cone-trace inE inA)
+        (record { at = (a .same-horizon) j; kind = Kind.horizon; automation = none; source = none; change = none } ∷ []))
         ∙ sym (keep-append (View.cone-trace inE inA) _ _)
         ∙ sym (ap (keep (View.cone-trace inE inA)) (trace-is areas′ m′ cells′ events′ e′))
 
     -- one invariant
     one-answer : (i : Invariant) → all inE (names i) ≡ true
-        → about i (read-all i cells ((ended areas m cells events) .engine .trace)) ≡ about i (read-all i cells′ ((ended areas′ m′ cells′ events′) .engine .trace))
+        → about i (read-all i cells ((ended areas m cells events) .engine .trace)) ≡ about i
+        (read-all i cells′ ((ended areas′ m′ cells′ events′) .engine .trace))
     one-answer i h =
-        let k : Records (m .scenario .limits .horizon) ((ended areas m cells events) .engine .trace) = records areas m cells events e in
-        let k′ : Records (m′ .scenario .limits .horizon) ((ended areas′ m′ cells′ events′) .engine .trace) = records areas′ m′ cells′ events′ e′ in
+        let k : Records (m .scenario .limits .horizon) ((ended areas m cells events) .engine .trace) =
+        records areas m cells events e in
+        let k′ : Records (m′ .scenario .limits .horizon) ((ended areas′ m′ cells′ events′) .engine .trace) =
+        records areas′ m′ cells′ events′ e′ in
         Judge.judge-view inE inA i h cells _ (m .scenario .limits .horizon) (k .heads) (k .rises) (k .closes) (k .fairs)
         ∙ (λ j. about i (read-all i ((a .same-cells) j) (same-records j)))
-        ∙ sym (Judge.judge-view inE inA i h cells′ _ (m′ .scenario .limits .horizon) (k′ .heads) (k′ .rises) (k′ .closes) (k′ .fairs))
+        ∙ sym (Judge.judge-view inE inA i h cells′ _ (m′ .scenario .limits .horizon) (k′ .heads) (k′ .rises)
+        (k′ .closes) (k′ .fairs))
 
     all-answers : (l : List Invariant) → Every (λ i. all inE (names i)) l
-        → each (λ i. about i (read-all i cells ((ended areas m cells events) .engine .trace))) l ≡ each (λ i. about i (read-all i cells′ ((ended areas′ m′ cells′ events′) .engine .trace))) l
+        → each (λ i. about i (read-all i cells ((ended areas m cells events) .engine .trace))) l ≡ each
+        (λ i. about i (read-all i cells′ ((ended areas′ m′ cells′ events′) .engine .trace))) l
     unfolding each
     all-answers [] h = refl
     all-answers (i ∷ l) h = λ j. one-answer i (h .0) j ∷ all-answers l (h .1) j
@@ -225,19 +266,27 @@ module _ (inE inA : Text → Bool) where
               | some f ↦ about-failing (told (f .failure) (f .at) (f .source)) (unknown-reasons i (r .memory))
             ])
         go none = unfold each violation-of told-of in refl
-        go (some f) = unfold each violation-of violation-told in (by (told (f .failure) (f .at) (f .source)) (unknown-reasons i (r .memory)))
+        go (some f) = unfold each violation-of violation-told in
+            (by (told (f .failure) (f .at) (f .source)) (unknown-reasons i (r .memory)))
 
     flat-told : (l : List Invariant) → Every (λ i. all inE (names i)) l
-        → flat (λ i. each violation-told (violation-of i ((read-all i cells ((ended areas m cells events) .engine .trace)) .failing))) l
-        ≡ flat (λ i. each violation-told (violation-of i ((read-all i cells′ ((ended areas′ m′ cells′ events′) .engine .trace)) .failing))) l
+        → flat (λ i. each violation-told
+        (violation-of i ((read-all i cells ((ended areas m cells events) .engine .trace)) .failing))) l
+        ≡ flat (λ i. each violation-told
+        (violation-of i ((read-all i cells′ ((ended areas′ m′ cells′ events′) .engine .trace)) .failing))) l
     unfolding flat
     flat-told [] h = refl
     flat-told (i ∷ l) h =
-        λ j. (told-is i (read-all i cells ((ended areas m cells events) .engine .trace)) ∙ ap (told-of i) (one-answer i (h .0)) ∙ sym (told-is i (read-all i cells′ ((ended areas′ m′ cells′ events′) .engine .trace)))) j ++ flat-told l (h .1) j
+        λ j. (told-is i (read-all i cells ((ended areas m cells events) .engine .trace))
+        ∙ ap (told-of i) (one-answer i (h .0))
+        ∙ sym (told-is i (read-all i cells′ ((ended areas′ m′ cells′ events′) .engine .trace)))) j ++ flat-told l
+        (h .1) j
 
     all-told : (l : List Invariant) → Every (λ i. all inE (names i)) l
-        → each violation-told (flat (λ i. violation-of i ((read-all i cells ((ended areas m cells events) .engine .trace)) .failing)) l)
-        ≡ each violation-told (flat (λ i. violation-of i ((read-all i cells′ ((ended areas′ m′ cells′ events′) .engine .trace)) .failing)) l)
+        → each violation-told
+        (flat (λ i. violation-of i ((read-all i cells ((ended areas m cells events) .engine .trace)) .failing)) l)
+        ≡ each violation-told
+        (flat (λ i. violation-of i ((read-all i cells′ ((ended areas′ m′ cells′ events′) .engine .trace)) .failing)) l)
     all-told l h = each-flat violation-told _ l ∙ flat-told l h ∙ sym (each-flat violation-told _ l)
 
 -- ---- a check that is not refused
@@ -255,28 +304,43 @@ simulated-is areas m cells events s e = go ((ended areas m cells events) .engine
     go none p = sym (answer-eq p)
     go (some n) p = absurd (refused-answer p)
 
-pub checked-is : (areas : Areas) (m : Model) (cells : List Cell) (events : List Event) (c : Check) → checked areas m cells events ≡ answer c
+pub checked-is : (areas : Areas) (m : Model) (cells : List Cell) (events : List Event) (c : Check)
+    → checked areas m cells events ≡ answer c
     → c ≡ judged (m .scenario .invariants) cells (simulation-of areas m cells events)
 unfolding checked
 checked-is areas m cells events c e =
-    let b : (s : Simulation) × ((simulated areas m cells events ≡ answer s) × (answer (judged (m .scenario .invariants) cells s) ≡ answer c)) = bind-inv (simulated areas m cells events) (λ s. answer (judged (m .scenario .invariants) cells s)) c e in
-    sym (answer-eq (b .1 .1)) ∙ ap (judged (m .scenario .invariants) cells) (simulated-is areas m cells events (b .0) (b .1 .0))
+    let b : (s : Simulation) × ((simulated areas m cells events ≡ answer s)
+    × (answer (judged (m .scenario .invariants) cells s) ≡ answer c)) =
+    bind-inv (simulated areas m cells events) (λ s. answer (judged (m .scenario .invariants) cells s)) c e in
+    sym (answer-eq (b .1 .1)) ∙ ap (judged (m .scenario .invariants) cells)
+    (simulated-is areas m cells events (b .0) (b .1 .0))
 
 -- what two checks have in common
 pub record Common (m m′ : Model) (cells cells′ : List Cell) (c c′ : Check) : Type 0 where
-  pub answers : each (λ i. about i (read-all i cells (c .simulation .trace))) (m .scenario .invariants) ≡ each (λ i. about i (read-all i cells′ (c′ .simulation .trace))) (m′ .scenario .invariants)
+  pub answers : each (λ i. about i (read-all i cells (c .simulation .trace))) (m .scenario .invariants) ≡ each
+      (λ i. about i (read-all i cells′ (c′ .simulation .trace))) (m′ .scenario .invariants)
   pub returned : each violation-told (c .violations) ≡ each violation-told (c′ .violations)
 
 module _ (inE inA : Text → Bool) where
-  pub check-same : (m m′ : Model) (cells cells′ : List Cell) → Inside inE inA m m′ cells cells′ → (areas areas′ : Areas) (events events′ : List Event) → keep (cone-event inE inA) events ≡ keep (cone-event inE inA) events′
-      → (c c′ : Check) → checked areas m cells events ≡ answer c → checked areas′ m′ cells′ events′ ≡ answer c′ → c .simulation .incomplete ≡ [] → c′ .simulation .incomplete ≡ []
+  pub check-same : (m m′ : Model) (cells cells′ : List Cell) → Inside inE inA m m′ cells cells′
+      → (areas areas′ : Areas) (events events′ : List Event)
+      → keep (cone-event inE inA) events ≡ keep (cone-event inE inA) events′
+      → (c c′ : Check) → checked areas m cells events ≡ answer c → checked areas′ m′ cells′ events′ ≡ answer c′
+      → c .simulation .incomplete ≡ [] → c′ .simulation .incomplete ≡ []
       → Common m m′ cells cells′ c c′
   check-same m m′ cells cells′ a areas areas′ events events′ v c c′ p p′ e e′ =
       rw (checked-is areas m cells events c p, checked-is areas′ m′ cells′ events′ c′ p′)
       (record {
-        answers = unfold judged outcome in (all-answers inE inA m m′ cells cells′ a areas areas′ events events′ v d d′ (m .scenario .invariants) (a .named) ∙ ap (each (λ i. about i (read-all i cells′ ((ended areas′ m′ cells′ events′) .engine .trace)))) (a .same-invariants));
-        returned = unfold judged outcome in (all-told inE inA m m′ cells cells′ a areas areas′ events events′ v d d′ (m .scenario .invariants) (a .named)
-            ∙ ap (λ (l : List Invariant). each violation-told (flat (λ i. violation-of i ((read-all i cells′ ((ended areas′ m′ cells′ events′) .engine .trace)) .failing)) l)) (a .same-invariants));
+        answers = unfold judged outcome in
+            (all-answers inE inA m m′ cells cells′ a areas areas′ events events′ v d d′ (m .scenario .invariants)
+            (a .named)
+            ∙ ap (each (λ i. about i (read-all i cells′ ((ended areas′ m′ cells′ events′) .engine .trace))))
+            (a .same-invariants));
+        returned = unfold judged outcome in
+            (all-told inE inA m m′ cells cells′ a areas areas′ events events′ v d d′ (m .scenario .invariants) (a .named)
+            ∙ ap (λ (l : List Invariant). each violation-told
+            (flat (λ i. violation-of i
+            ((read-all i cells′ ((ended areas′ m′ cells′ events′) .engine .trace)) .failing)) l)) (a .same-invariants));
       })
     where
       d : (ended areas m cells events) .incomplete ≡ []

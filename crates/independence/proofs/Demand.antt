@@ -1,19 +1,17 @@
 -- Demand 3, as Demand.antt of the crate cone states it.
 use Prim.Native.Nat.{ℕ}
-use mathlib.Core.Bool.{Bool, true, false}
 use mathlib.Core.List.{List, []}
-use mathlib.Core.Path.{_≡_, refl, sym, ap, _∙_, subst}
-use Rattle.texts.specs.Lists.{keep, each, is-empty}
-use Rattle.model.specs.Answer.{Answer, answer, refused, _>>=_, _and_, _when_}
-use Rattle.model.specs.Model.{Event, Model}
+use mathlib.Core.Path.{_≡_, refl, sym, _∙_}
+use Rattle.model.specs.Answer.{Answer, answer, _>>=_}
+use Rattle.model.specs.Model.{Model}
 use Rattle.model.specs.Validate.{accepted}
 use Rattle.engine.specs.Cells.{Cell, initial-cells}
 use Rattle.engine.specs.Records.{Areas}
-use Rattle.checker.specs.Check.{Check, checked, check}
-use Rattle.checker.specs.Verify.{Verification, verified, verify, short-of-room}
-use Rattle.cone.specs.Alike.{Alike, SameSearch}
-use Rattle.cone.specs.Demand.{reading-for, about-all, violation-told, witness-incomplete, SameCheck, SameVerification, CheckClaim, VerifyClaim, Demand3}
-use Rattle.independence.proofs.Check.{Inside, cone-event, Common, check-same}
+use Rattle.checker.specs.Check.{checked, check}
+use Rattle.checker.specs.Verify.{Verification, verified, verify}
+use Rattle.cone.specs.Alike.{Alike}
+use Rattle.cone.specs.Demand.{reading-for, about-all, witness-incomplete, SameCheck, SameVerification, CheckClaim, Demand3}
+use Rattle.independence.proofs.Check.{Inside, Common, check-same}
 use Rattle.engine.proofs.Distinct.{and-inv, accepted-fresh}
 use Rattle.independence.proofs.Closure.{in-entities, in-automations}
 use Rattle.independence.proofs.Alike.{inside-of-alike, events-same}
@@ -30,14 +28,16 @@ pub record Sought (m m′ : Model) : Type 0 where
   pub alphabet : m .scenario .alphabet ≡ m′ .scenario .alphabet
   pub gaps : m .scenario .gaps ≡ m′ .scenario .gaps
 
-module _ (file file′ : List ℕ) (m m′ : Model) (p : accepted file ≡ answer m) (p′ : accepted file′ ≡ answer m′) (a : Alike m m′) where
+module _ (file file′ : List ℕ) (m m′ : Model) (p : accepted file ≡ answer m) (p′ : accepted file′ ≡ answer m′)
+    (a : Alike m m′) where
   abbrev start : Model → List Cell
   start m = initial-cells (m .scenario .entities)
 
   inside : Inside (in-entities m) (in-automations m) m m′ (start m) (start m′)
   inside = inside-of-alike m m′ a (accepted-fresh file m p) (accepted-fresh file′ m′ p′)
 
-  check-is : (areas : Areas) (file : List ℕ) (m : Model) → accepted file ≡ answer m → check areas file ≡ checked areas m (start m) (m .scenario .events)
+  check-is : (areas : Areas) (file : List ℕ) (m : Model) → accepted file ≡ answer m
+      → check areas file ≡ checked areas m (start m) (m .scenario .events)
   unfolding check
   check-is areas file m q = bind-is (accepted file) m _ q
 
@@ -60,23 +60,28 @@ module _ (file file′ : List ℕ) (m m′ : Model) (p : accepted file ≡ answe
         readings′ = of-checked areas′ m′ (m′ .scenario .events) c′ q′;
       }
 
-  verify-is : (areas : Areas) (output : ℕ) (file : List ℕ) (m : Model) (v : Verification) → accepted file ≡ answer m → verify areas output file ≡ answer v → verified areas m (start m) ≡ answer v
+  verify-is : (areas : Areas) (output : ℕ) (file : List ℕ) (m : Model) (v : Verification) → accepted file ≡ answer m
+      → verify areas output file ≡ answer v → verified areas m (start m) ≡ answer v
   unfolding verify
   verify-is areas output file m v q e = and-inv _ _ v (and-inv _ _ v (sym (bind-is (accepted file) m _ q) ∙ e))
 
-  verify-claim : Sought m m′ → (areas areas′ : Areas) (output output′ : ℕ) (v v′ : Verification) → verify areas output file ≡ answer v → verify areas′ output′ file′ ≡ answer v′
+  verify-claim : Sought m m′ → (areas areas′ : Areas) (output output′ : ℕ) (v v′ : Verification)
+      → verify areas output file ≡ answer v → verify areas′ output′ file′ ≡ answer v′
       → v .reasons ≡ [] → v′ .reasons ≡ [] → witness-incomplete v ≡ [] → witness-incomplete v′ ≡ [] → SameVerification v v′
   verify-claim s areas areas′ output output′ v v′ e e′ r r′ w w′ =
       verified-same areas areas′ m m′ (start m) (start m′)
-      (λ events c c′ q q′ z z′. (check-same (in-entities m) (in-automations m) m m′ (start m) (start m′) inside areas areas′ events events refl c c′ q q′ z z′) .returned)
-      (s .depth) (a .same-horizon) (s .alphabet) (s .gaps) v v′ (verify-is areas output file m v p e) (verify-is areas′ output′ file′ m′ v′ p′ e′) r r′ w w′
+      (λ events c c′ q q′ z z′. (check-same (in-entities m) (in-automations m) m m′ (start m)
+      (start m′) inside areas areas′ events events refl c c′ q q′ z z′) .returned)
+      (s .depth) (a .same-horizon) (s .alphabet) (s .gaps) v v′ (verify-is areas output file m v p e)
+      (verify-is areas′ output′ file′ m′ v′ p′ e′) r r′ w w′
 
 -- stronger than stated: neither the bound on cases nor where the alphabet's entities lie matters
 abbrev pub Demand3Strong : Type 0
 Demand3Strong =
     (file file′ : List ℕ) (m m′ : Model) → accepted file ≡ answer m → accepted file′ ≡ answer m′ → Alike m m′
     → CheckClaim file file′ m m′
-    × (Sought m m′ → (areas areas′ : Areas) (output output′ : ℕ) (v v′ : Verification) → verify areas output file ≡ answer v → verify areas′ output′ file′ ≡ answer v′
+    × (Sought m m′ → (areas areas′ : Areas) (output output′ : ℕ) (v v′ : Verification)
+    → verify areas output file ≡ answer v → verify areas′ output′ file′ ≡ answer v′
     → v .reasons ≡ [] → v′ .reasons ≡ [] → witness-incomplete v ≡ [] → witness-incomplete v′ ≡ [] → SameVerification v v′)
 
 pub demand3-strong : Demand3Strong
@@ -84,5 +89,8 @@ demand3-strong file file′ m m′ p p′ a = (check-claim file file′ m m′ p
 
 -- the theorem
 pub demand3 : Demand3
-demand3 file file′ m m′ p p′ a =
-    (check-claim file file′ m m′ p p′ a, λ s. verify-claim file file′ m m′ p p′ a (record { depth = s .same-depth; alphabet = s .same-alphabet; gaps = s .same-gaps }))
+demand3 file file′ m m′ p p′ a = (
+  check-claim file file′ m m′ p p′ a,
+  λ s. verify-claim file file′ m m′ p p′ a
+      (record { depth = s .same-depth; alphabet = s .same-alphabet; gaps = s .same-gaps }),
+)

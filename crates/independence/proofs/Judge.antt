@@ -1,23 +1,66 @@
 -- Reading the records for one invariant: those outside the cone change no answer.
-use Prim.Native.Nat.{ℕ, zero, suc, _+_, _≤_, _<_}
+use Prim.Native.Nat.{ℕ, suc, _+_, _≤_}
 use mathlib.Core.Bool.{Bool, true, false, not, _&&_, _||_, true≢false, false≢true}
 use mathlib.Core.List.{List, [], _∷_, _++_}
 use mathlib.Core.Option.{Option, none, some}
 use mathlib.Core.Path.{_≡_, refl, sym, ap, _∙_, subst}
 use native.Mathlib.Omega.{arith}
-use lib.Dec.{leb, ltb}
+use lib.Dec.{ltb}
 use Rattle.texts.specs.Lists.{if_then_else_, absent, present-and, all, keep, flat}
 use Rattle.texts.specs.Texts.{Text, text, eqT}
-use Rattle.model.specs.Model.{Source, Predicate, Invariant, never, guard, transition, response}
+use Rattle.model.specs.Model.{Predicate, Invariant, never, guard, transition, response}
 use Rattle.engine.specs.Cells.{Cell, put}
 use Rattle.engine.specs.Kleene.{Truth, Yes, No, Unknown, is-yes, is-no, is-unknown}
 use Rattle.engine.specs.Truth.{evaluate, evaluate-all}
 use Rattle.engine.specs.Records.{Kind, kind-name, Change, Trace}
 use Rattle.lint.specs.Touches.{predicate-reads}
-use Rattle.checker.specs.Judge.{Failure, prohibited-state, guard-violated, forbidden-transition, deadline-missed, Memory, nothing-yet, Shown, unsure, after, is-action, is-horizon, writes, passes, fails-if, overdue, missed, waits-after, missed-at-end, beyond, or-else, read-response, read, Failing, Reading, reading, read-all, unknown-reasons}
+use Rattle.checker.specs.Judge.{
+  Failure,
+  prohibited-state,
+  deadline-missed,
+  Memory,
+  nothing-yet,
+  Shown,
+  after,
+  is-action,
+  is-horizon,
+  writes,
+  passes,
+  fails-if,
+  overdue,
+  missed,
+  waits-after,
+  missed-at-end,
+  beyond,
+  or-else,
+  read-response,
+  read,
+  Reading,
+  reading,
+  read-all,
+}
 use Rattle.cone.specs.Cone.{names}
-use Rattle.cone.specs.Demand.{told, About, holds, fails, late, about-failing, about}
-use Rattle.independence.proofs.Base.{Case, is-true, is-false, case, and-l, and-r, or-no, or-no′, eqT-eq, some-eq, none-some, keep-in, keep-out, keep-nil, Every, leb-le, le-leb, all-l, all-r}
+use Rattle.cone.specs.Demand.{told, About, late, about-failing, about}
+use Rattle.independence.proofs.Base.{
+  Case,
+  is-true,
+  is-false,
+  case,
+  and-l,
+  and-r,
+  or-no,
+  or-no′,
+  eqT-eq,
+  none-some,
+  keep-in,
+  keep-out,
+  keep-nil,
+  Every,
+  leb-le,
+  le-leb,
+  all-l,
+  all-r,
+}
 use Rattle.independence.proofs.View
 use Rattle.independence.proofs.View.{boundary}
 use Rattle.independence.proofs.Tidy.{Rising, headed, fair}
@@ -136,18 +179,22 @@ record Settled (w g : Truth) (m : Memory) : Type 0 where
 
 settled-after : (w g g₀ : Truth) (n : ℕ) (t : Trace) (m : Memory) → Settled w g ((shown-response w g g₀ n t m) .memory)
 unfolding shown-response waits-after
-settled-after w g g₀ n t m = record { s1 = refl; s2 = by _ g; s3 = or-again (m .unknown-predicate) (is-unknown w) (is-unknown g) }
+settled-after w g g₀ n t m =
+    record { s1 = refl; s2 = by _ g; s3 = or-again (m .unknown-predicate) (is-unknown w) (is-unknown g) }
   where
-    by : (o : Option ℕ) (g : Truth) → (if is-yes g then none else (if is-yes g then none else o)) ≡ (if is-yes g then none else o)
+    by : (o : Option ℕ) (g : Truth)
+        → (if is-yes g then none else (if is-yes g then none else o)) ≡ (if is-yes g then none else o)
     by o Yes = unfold is-yes in refl
     by o No = unfold is-yes in refl
     by o Unknown = unfold is-yes in refl
 
-waits-idle : (now n : ℕ) (w g : Truth) (was : Bool) (o : Option ℕ) → overdue now o ≡ false → was ≡ is-yes w → (if is-yes g then none else o) ≡ o → waits-after now n w g was o ≡ o
+waits-idle : (now n : ℕ) (w g : Truth) (was : Bool) (o : Option ℕ) → overdue now o ≡ false → was ≡ is-yes w
+    → (if is-yes g then none else o) ≡ o → waits-after now n w g was o ≡ o
 unfolding waits-after
 waits-idle now n w g was o p q s = rw (p, q) (by w)
   where
-    by : (w : Truth) → (if is-yes g then none else (if is-yes w && not (is-yes w) && absent o then some (now + n) else o)) ≡ o
+    by : (w : Truth) → (if is-yes g then
+        none else (if is-yes w && not (is-yes w) && absent o then some (now + n) else o)) ≡ o
     by Yes = unfold is-yes in (unfold is-yes in s)
     by No = unfold is-yes in (unfold is-yes in s)
     by Unknown = unfold is-yes in (unfold is-yes in s)
@@ -157,7 +204,8 @@ unfolding missed overdue present-and fails-if
 missed-idle now g none p = refl
 missed-idle now g (some d) p = rw p
 
-response-idle : (w g : Truth) (n : ℕ) (t : Trace) (m : Memory) → Settled w g m → is-horizon t ≡ false → overdue (t .at) (m .deadline) ≡ false → shown-response w g g n t m ≡ quiet m
+response-idle : (w g : Truth) (n : ℕ) (t : Trace) (m : Memory) → Settled w g m → is-horizon t ≡ false
+    → overdue (t .at) (m .deadline) ≡ false → shown-response w g g n t m ≡ quiet m
 unfolding shown-response or-else
 response-idle w g n t m s h o =
     rw (h, o, missed-idle (t .at) g (m .deadline) o)
@@ -183,7 +231,8 @@ module _ (inE inA : Text → Bool) where
   unfolding after
   after-keep t l = go (t .change)
     where
-      go : (o : Option Change) → keepC (elim o [ none ↦ l | some c ↦ put (c .entity) (c .after) 0 l ]) ≡ elim o [ none ↦ keepC l | some c ↦ put (c .entity) (c .after) 0 (keepC l) ]
+      go : (o : Option Change) → keepC (elim o [ none ↦ l | some c ↦ put (c .entity) (c .after) 0 l ]) ≡ elim o
+          [ none ↦ keepC l | some c ↦ put (c .entity) (c .after) 0 (keepC l) ]
       go none = refl
       go (some c) = View.put-keep inE inA (c .entity) (c .after) 0 l
 
@@ -199,18 +248,27 @@ module _ (inE inA : Text → Bool) where
   unfolding after
   after-out t h l = go (t .change) (kept-change t h)
     where
-      go : (o : Option Change) → present-and (λ c. inE (c .entity)) o ≡ false → keepC (elim o [ none ↦ l | some c ↦ put (c .entity) (c .after) 0 l ]) ≡ keepC l
+      go : (o : Option Change) → present-and (λ c. inE (c .entity)) o ≡ false
+          → keepC (elim o [ none ↦ l | some c ↦ put (c .entity) (c .after) 0 l ]) ≡ keepC l
       go none q = refl
       go (some c) q = View.put-out inE inA (c .entity) (c .after) 0 (unfold present-and in q) l
 
   -- the same record read in two states that agree in the cone
-  read-same : (i : Invariant) → all inE (names i) ≡ true → (b b′ p p′ : List Cell) → keepC b ≡ keepC b′ → keepC p ≡ keepC p′ → (t : Trace) (m : Memory) → read i b p t m ≡ read i b′ p′ t m
+  read-same : (i : Invariant) → all inE (names i) ≡ true → (b b′ p p′ : List Cell) → keepC b ≡ keepC b′
+      → keepC p ≡ keepC p′ → (t : Trace) (m : Memory) → read i b p t m ≡ read i b′ p′ t m
   unfolding read read-response names all
   read-same (never id ps) h b b′ p p′ x y t m = rw (View.same-truths inE inA p p′ y ps h)
   read-same (guard id e v ps) h b b′ p p′ x y t m = rw (View.same-truths inE inA b b′ x ps (and-r (inE e) _ h))
   read-same (transition id e f v) h b b′ p p′ x y t m = refl
   read-same (response id w g n) h b b′ p p′ x y t m =
-      rw (View.same-truth inE inA p p′ y w (all-l inE (predicate-reads w) (predicate-reads g) h), View.same-truth inE inA p p′ y g (all-r inE (predicate-reads w) (predicate-reads g) h), View.same-truth inE inA b b′ x g (all-r inE (predicate-reads w) (predicate-reads g) h))
+      rw (
+        View.same-truth inE inA p p′ y w
+            (all-l inE (predicate-reads w) (predicate-reads g) h),
+        View.same-truth inE inA p p′ y g
+            (all-r inE (predicate-reads w) (predicate-reads g) h),
+        View.same-truth inE inA b b′ x g
+            (all-r inE (predicate-reads w) (predicate-reads g) h),
+      )
 
   module _ (i : Invariant) where
     -- what follows a record, by what it shows
@@ -223,27 +281,39 @@ module _ (inE inA : Text → Bool) where
       | none ↦ reading i (k + 1) present (shown .memory) ts
     ]
 
-    step : (k : ℕ) (c : List Cell) (m : Memory) (t : Trace) (ts : List Trace) → reading i k c m (t ∷ ts) ≡ next k t (after t c) ts (read i c (after t c) t m)
+    step : (k : ℕ) (c : List Cell) (m : Memory) (t : Trace) (ts : List Trace)
+        → reading i k c m (t ∷ ts) ≡ next k t (after t c) ts (read i c (after t c) t m)
     unfolding reading next
     step k c m t ts = refl
 
-    quiet-next : (k : ℕ) (t : Trace) (c : List Cell) (ts : List Trace) (m : Memory) → next k t c ts (quiet m) ≡ reading i (k + 1) c m ts
+    quiet-next : (k : ℕ) (t : Trace) (c : List Cell) (ts : List Trace) (m : Memory)
+        → next k t c ts (quiet m) ≡ reading i (k + 1) c m ts
     unfolding next
     quiet-next k t c ts m = refl
 
     next-same : (k k′ : ℕ) (t : Trace) (c c′ : List Cell) (ts ts′ : List Trace) (s : Shown)
-        → (s .failure ≡ none → about i (reading i (k + 1) c (s .memory) ts) ≡ about i (reading i (k′ + 1) c′ (s .memory) ts′))
+        → (s .failure ≡ none → about i (reading i (k + 1) c (s .memory) ts) ≡ about i
+        (reading i (k′ + 1) c′ (s .memory) ts′))
         → about i (next k t c ts s) ≡ about i (next k′ t c′ ts′ s)
     unfolding next
     next-same k k′ t c c′ ts ts′ s ih = go (s .failure) ih
       where
-        go : (o : Option Failure) → (o ≡ none → about i (reading i (k + 1) c (s .memory) ts) ≡ about i (reading i (k′ + 1) c′ (s .memory) ts′))
+        go : (o : Option Failure) → (o ≡ none
+            → about i (reading i (k + 1) c (s .memory) ts) ≡ about i (reading i (k′ + 1) c′ (s .memory) ts′))
             → about i (elim o [
-              | some f ↦ record { failing = some (record { index = k; at = t .at; source = t .source; failure = f }); memory = s .memory }
+              | some f ↦ record {
+                failing =
+                    some (record { index = k; at = t .at; source = t .source; failure = f });
+                memory = s .memory;
+              }
               | none ↦ reading i (k + 1) c (s .memory) ts
             ])
             ≡ about i (elim o [
-              | some f ↦ record { failing = some (record { index = k′; at = t .at; source = t .source; failure = f }); memory = s .memory }
+              | some f ↦ record {
+                failing =
+                    some (record { index = k′; at = t .at; source = t .source; failure = f });
+                memory = s .memory;
+              }
               | none ↦ reading i (k′ + 1) c′ (s .memory) ts′
             ])
         go none q = q refl
@@ -253,22 +323,27 @@ module _ (inE inA : Text → Bool) where
       -- a record inside
       inside : (k k′ : ℕ) (c : List Cell) (m : Memory) (t : Trace) (l : List Trace) → kept t ≡ true
           → ((read i c (after t c) t m) .failure ≡ none
-          → about i (reading i (k + 1) (after t c) ((read i c (after t c) t m) .memory) l) ≡ about i (reading i (k′ + 1) (keepC (after t c)) ((read i c (after t c) t m) .memory) (keep kept l)))
+          → about i (reading i (k + 1) (after t c) ((read i c (after t c) t m) .memory) l) ≡ about i
+          (reading i (k′ + 1) (keepC (after t c)) ((read i c (after t c) t m) .memory) (keep kept l)))
           → about i (reading i k c m (t ∷ l)) ≡ about i (reading i k′ (keepC c) m (keep kept (t ∷ l)))
       inside k k′ c m t l q ih =
           ap (about i) (step k c m t l)
           ∙ next-same k k′ t (after t c) (keepC (after t c)) l (keep kept l) (read i c (after t c) t m) ih
-          ∙ ap (about i) (side ∙ sym (step k′ (keepC c) m t (keep kept l)) ∙ ap (reading i k′ (keepC c) m) (sym (keep-in kept t l q)))
+          ∙ ap (about i) (side ∙ sym (step k′ (keepC c) m t (keep kept l))
+          ∙ ap (reading i k′ (keepC c) m) (sym (keep-in kept t l q)))
         where
           again : (l : List Cell) → keepC l ≡ keepC (keepC l)
           again l = sym (Rattle.independence.proofs.Base.keep-again (View.cone-cell inE inA) l)
 
-          side : next k′ t (keepC (after t c)) (keep kept l) (read i c (after t c) t m) ≡ next k′ t (after t (keepC c)) (keep kept l) (read i (keepC c) (after t (keepC c)) t m)
+          side : next k′ t (keepC (after t c)) (keep kept l) (read i c (after t c) t m) ≡ next k′ t
+              (after t (keepC c)) (keep kept l) (read i (keepC c) (after t (keepC c)) t m)
           side = λ j. next k′ t (after-keep t c j) (keep kept l)
-              ((read-same i h c (keepC c) (after t c) (after t (keepC c)) (again c) (again (after t c) ∙ ap keepC (after-keep t c)) t m) j)
+              ((read-same i h c (keepC c) (after t c) (after t (keepC c)) (again c)
+              (again (after t c) ∙ ap keepC (after-keep t c)) t m) j)
 
       -- a record outside that shows nothing
-      outside : (k k′ : ℕ) (c : List Cell) (m m′ : Memory) (t : Trace) (l : List Trace) → kept t ≡ false → read i c (after t c) t m ≡ quiet m′
+      outside : (k k′ : ℕ) (c : List Cell) (m m′ : Memory) (t : Trace) (l : List Trace) → kept t ≡ false
+          → read i c (after t c) t m ≡ quiet m′
           → about i (reading i (k + 1) (after t c) m′ l) ≡ about i (reading i k′ (keepC (after t c)) m′ (keep kept l))
           → about i (reading i k c m (t ∷ l)) ≡ about i (reading i k′ (keepC c) m′ (keep kept (t ∷ l)))
       outside k k′ c m m′ t l q e ih =
@@ -279,46 +354,69 @@ module _ (inE inA : Text → Bool) where
       -- an invariant for which a record outside shows nothing, once the state before it was read
       module _ (S : List Cell → Memory → Type 0)
           (still : (c : List Cell) (m : Memory) (t : Trace) → kept t ≡ false → S c m → read i c (after t c) t m ≡ quiet m)
-          (settles : (b p : List Cell) (t : Trace) (m : Memory) → (read i b p t m) .failure ≡ none → S p ((read i b p t m) .memory))
+          (settles : (b p : List Cell) (t : Trace) (m : Memory) → (read i b p t m) .failure ≡ none
+          → S p ((read i b p t m) .memory))
           (moves : (c c′ : List Cell) (m : Memory) → keepC c ≡ keepC c′ → S c m → S c′ m) where
-        plain-view : (l : List Trace) (k k′ : ℕ) (c : List Cell) (m : Memory) → S c m → about i (reading i k c m l) ≡ about i (reading i k′ (keepC c) m (keep kept l))
+        plain-view : (l : List Trace) (k k′ : ℕ) (c : List Cell) (m : Memory) → S c m
+            → about i (reading i k c m l) ≡ about i (reading i k′ (keepC c) m (keep kept l))
         plain-view [] k k′ c m s = rw (keep-nil kept) (unfold reading in refl)
         plain-view (t ∷ l) k k′ c m s = go (case (kept t)) (plain-view l)
           where
             IH : Type 0
-            IH = (k k′ : ℕ) (c : List Cell) (m : Memory) → S c m → about i (reading i k c m l) ≡ about i (reading i k′ (keepC c) m (keep kept l))
+            IH = (k k′ : ℕ) (c : List Cell) (m : Memory) → S c m
+                → about i (reading i k c m l) ≡ about i (reading i k′ (keepC c) m (keep kept l))
 
-            go : Case (kept t) → IH → about i (reading i k c m (t ∷ l)) ≡ about i (reading i k′ (keepC c) m (keep kept (t ∷ l)))
+            go : Case (kept t) → IH → about i (reading i k c m (t ∷ l)) ≡ about i
+                (reading i k′ (keepC c) m (keep kept (t ∷ l)))
             go (is-true q) ih = inside k k′ c m t l q (λ e. ih (k + 1) (k′ + 1) (after t c) _ (settles c (after t c) t m e))
-            go (is-false q) ih = outside k k′ c m m t l q (still c m t q s) (ih (k + 1) k′ (after t c) m (moves c (after t c) m (sym (after-out t q c)) s))
+            go (is-false q) ih = outside k k′ c m m t l q (still c m t q s)
+                (ih (k + 1) k′ (after t c) m (moves c (after t c) m (sym (after-out t q c)) s))
 
-        plain-all : (c : List Cell) (l : List Trace) → headed l ≡ true → about i (read-all i c l) ≡ about i (read-all i (keepC c) (keep kept l))
+        plain-all : (c : List Cell) (l : List Trace) → headed l ≡ true
+            → about i (read-all i c l) ≡ about i (read-all i (keepC c) (keep kept l))
         unfolding read-all headed
         plain-all c [] b = absurd (false≢true b)
-        plain-all c (t ∷ l) b = inside 0 0 c nothing-yet t l (unfold View.cone-trace in (rw b)) (λ e. plain-view l (0 + 1) (0 + 1) (after t c) _ (settles c (after t c) t nothing-yet e))
+        plain-all c (t ∷ l) b = inside 0 0 c nothing-yet t l (unfold View.cone-trace in (rw b))
+            (λ e. plain-view l (0 + 1) (0 + 1) (after t c) _ (settles c (after t c) t nothing-yet e))
 
   -- ---- never
 
   abbrev NeverSeen : List Predicate → List Cell → Memory → Type 0
-  NeverSeen ps c m = (is-yes (evaluate-all ps c) ≡ false) × (m .unknown-predicate || is-unknown (evaluate-all ps c) ≡ m .unknown-predicate)
+  NeverSeen ps c m = (is-yes (evaluate-all ps c) ≡ false)
+      × (m .unknown-predicate || is-unknown (evaluate-all ps c) ≡ m .unknown-predicate)
 
-  never-view : (id : Text) (ps : List Predicate) → all inE (names (never id ps)) ≡ true → (c : List Cell) (l : List Trace) → headed l ≡ true
-      → about (never id ps) (read-all (never id ps) c l) ≡ about (never id ps) (read-all (never id ps) (keepC c) (keep kept l))
+  never-view : (id : Text) (ps : List Predicate) → all inE (names (never id ps)) ≡ true
+      → (c : List Cell) (l : List Trace) → headed l ≡ true
+      → about (never id ps) (read-all (never id ps) c l) ≡ about (never id ps)
+      (read-all (never id ps) (keepC c) (keep kept l))
   never-view id ps h c l b = plain-all (never id ps) h (NeverSeen ps) still settles moves c l b
     where
       ps-in : all inE (flat predicate-reads ps) ≡ true
       ps-in = unfold names in h
 
-      still : (c : List Cell) (m : Memory) (t : Trace) → kept t ≡ false → NeverSeen ps c m → read (never id ps) c (after t c) t m ≡ quiet m
+      still : (c : List Cell) (m : Memory) (t : Trace) → kept t ≡ false → NeverSeen ps c m
+          → read (never id ps) c (after t c) t m ≡ quiet m
       still c m t q s = unfold read fails-if in
           (rw (View.same-truths inE inA (after t c) c (after-out t q c) ps ps-in, s .0)
           (λ j. record {
             failure = none;
-            memory = record { deadline = m .deadline; was-when = m .was-when; unknown-predicate = (s .1) j; unknown-at-deadline = m .unknown-at-deadline; beyond-horizon = m .beyond-horizon };
+            memory = record {
+              deadline = m .deadline;
+              was-when = m .was-when;
+              unknown-predicate =
+                  (s .1) j;
+              unknown-at-deadline = m .unknown-at-deadline;
+              beyond-horizon = m .beyond-horizon;
+            };
           }))
 
-      settles : (b p : List Cell) (t : Trace) (m : Memory) → (read (never id ps) b p t m) .failure ≡ none → NeverSeen ps p ((read (never id ps) b p t m) .memory)
-      settles b p t m e = unfold read in (no (is-yes (evaluate-all ps p)) (unfold read in e), or-same (m .unknown-predicate) (is-unknown (evaluate-all ps p)))
+      settles : (b p : List Cell) (t : Trace) (m : Memory) → (read (never id ps) b p t m) .failure ≡ none
+          → NeverSeen ps p ((read (never id ps) b p t m) .memory)
+      settles b p t m e = unfold read in (
+        no (is-yes (evaluate-all ps p)) (unfold read in e),
+        or-same (m .unknown-predicate)
+            (is-unknown (evaluate-all ps p)),
+      )
         where
           no : (y : Bool) → fails-if y prohibited-state ≡ none → y ≡ false
           no true f = absurd (none-some {a = prohibited-state} (sym (unfold fails-if in f)))
@@ -333,9 +431,12 @@ module _ (inE inA : Text → Bool) where
   and-false true = refl
   and-false false = refl
 
-  guard-view : (id x v : Text) (ps : List Predicate) → all inE (names (guard id x v ps)) ≡ true → (c : List Cell) (l : List Trace) → headed l ≡ true
-      → about (guard id x v ps) (read-all (guard id x v ps) c l) ≡ about (guard id x v ps) (read-all (guard id x v ps) (keepC c) (keep kept l))
-  guard-view id x v ps h c l b = plain-all (guard id x v ps) h (λ c m. Unit {0}) still (λ b p t m e. tt) (λ c c′ m e s. tt) c l b
+  guard-view : (id x v : Text) (ps : List Predicate) → all inE (names (guard id x v ps)) ≡ true
+      → (c : List Cell) (l : List Trace) → headed l ≡ true
+      → about (guard id x v ps) (read-all (guard id x v ps) c l) ≡ about (guard id x v ps)
+      (read-all (guard id x v ps) (keepC c) (keep kept l))
+  guard-view id x v ps h c l b = plain-all (guard id x v ps) h (λ c m. Unit {0}) still (λ b p t m e. tt)
+      (λ c c′ m e s. tt) c l b
     where
       x-in : inE x ≡ true
       x-in = and-l (inE x) (all inE (flat predicate-reads ps)) (unfold names all in h)
@@ -345,33 +446,49 @@ module _ (inE inA : Text → Bool) where
       none-writes (some d) q = unfold present-and writes in (go (case (eqT (d .entity) x)))
         where
           go : Case (eqT (d .entity) x) → eqT (d .entity) x && eqT (d .after) v ≡ false
-          go (is-true a) = absurd (true≢false (sym x-in ∙ sym (ap inE (eqT-eq (d .entity) x a)) ∙ (unfold present-and in q)))
+          go (is-true a) = absurd (true≢false (sym x-in ∙ sym (ap inE (eqT-eq (d .entity) x a))
+              ∙ (unfold present-and in q)))
           go (is-false a) = rw a
 
-      still : (c : List Cell) (m : Memory) (t : Trace) → kept t ≡ false → Unit {0} → read (guard id x v ps) c (after t c) t m ≡ quiet m
+      still : (c : List Cell) (m : Memory) (t : Trace) → kept t ≡ false → Unit {0}
+          → read (guard id x v ps) c (after t c) t m ≡ quiet m
       still c m t q s = unfold read fails-if in
           (rw (none-writes (t .change) (kept-change t q), and-false (is-action t))
           (λ j. record {
             failure = none;
-            memory = record { deadline = m .deadline; was-when = m .was-when; unknown-predicate = or-false (m .unknown-predicate) j; unknown-at-deadline = m .unknown-at-deadline; beyond-horizon = m .beyond-horizon };
+            memory = record {
+              deadline = m .deadline;
+              was-when = m .was-when;
+              unknown-predicate =
+                  or-false (m .unknown-predicate) j;
+              unknown-at-deadline = m .unknown-at-deadline;
+              beyond-horizon =
+                  m .beyond-horizon;
+            };
           }))
 
-  transition-view : (id x from to : Text) → all inE (names (transition id x from to)) ≡ true → (c : List Cell) (l : List Trace) → headed l ≡ true
-      → about (transition id x from to) (read-all (transition id x from to) c l) ≡ about (transition id x from to) (read-all (transition id x from to) (keepC c) (keep kept l))
-  transition-view id x from to h c l b = plain-all (transition id x from to) h (λ c m. Unit {0}) still (λ b p t m e. tt) (λ c c′ m e s. tt) c l b
+  transition-view : (id x from to : Text) → all inE (names (transition id x from to)) ≡ true
+      → (c : List Cell) (l : List Trace) → headed l ≡ true
+      → about (transition id x from to) (read-all (transition id x from to) c l) ≡ about (transition id x from to)
+      (read-all (transition id x from to) (keepC c) (keep kept l))
+  transition-view id x from to h c l b =
+      plain-all (transition id x from to) h (λ c m. Unit {0}) still (λ b p t m e. tt) (λ c c′ m e s. tt) c l b
     where
       x-in : inE x ≡ true
       x-in = and-l (inE x) true (unfold names all in h)
 
-      none-passes : (o : Option Change) → present-and (λ c. inE (c .entity)) o ≡ false → present-and (passes x from to) o ≡ false
+      none-passes : (o : Option Change) → present-and (λ c. inE (c .entity)) o ≡ false
+          → present-and (passes x from to) o ≡ false
       none-passes none q = unfold present-and in refl
       none-passes (some d) q = unfold present-and passes in (go (case (eqT (d .entity) x)))
         where
           go : Case (eqT (d .entity) x) → eqT (d .entity) x && eqT (d .before) from && eqT (d .after) to ≡ false
-          go (is-true a) = absurd (true≢false (sym x-in ∙ sym (ap inE (eqT-eq (d .entity) x a)) ∙ (unfold present-and in q)))
+          go (is-true a) = absurd (true≢false (sym x-in ∙ sym (ap inE (eqT-eq (d .entity) x a))
+              ∙ (unfold present-and in q)))
           go (is-false a) = rw a
 
-      still : (c : List Cell) (m : Memory) (t : Trace) → kept t ≡ false → Unit {0} → read (transition id x from to) c (after t c) t m ≡ quiet m
+      still : (c : List Cell) (m : Memory) (t : Trace) → kept t ≡ false → Unit {0}
+          → read (transition id x from to) c (after t c) t m ≡ quiet m
       still c m t q s = unfold read fails-if in (rw (none-passes (t .change) (kept-change t q)))
 
   -- ---- response
@@ -386,11 +503,13 @@ module _ (inE inA : Text → Bool) where
       let y : suc d ≤ t .at = omega (arith, k .0) in
       (le-leb (suc d) (t .at) y, rising-passed d (t .at) l h y (k .1))
 
-  waits-dropped : (now n : ℕ) (w g : Truth) (was : Bool) (o : Option ℕ) → was ≡ is-yes w → overdue now o ≡ true → waits-after now n w g was o ≡ none
+  waits-dropped : (now n : ℕ) (w g : Truth) (was : Bool) (o : Option ℕ) → was ≡ is-yes w → overdue now o ≡ true
+      → waits-after now n w g was o ≡ none
   unfolding waits-after absent
   waits-dropped now n w g was o p q = rw (p, q) (by w g)
     where
-      by : (w g : Truth) → (if is-yes g then none else (if is-yes w && not (is-yes w) && true then some (now + n) else none)) ≡ none
+      by : (w g : Truth) → (if is-yes g then
+          none else (if is-yes w && not (is-yes w) && true then some (now + n) else none)) ≡ none
       by Yes Yes = unfold is-yes in refl
       by Yes No = unfold is-yes in refl
       by Yes Unknown = unfold is-yes in refl
@@ -409,7 +528,8 @@ module _ (inE inA : Text → Bool) where
   unfolding missed fails-if is-no
   missed-no now d o p q = rw (p, q)
 
-  lag-no : (n d : ℕ) (t : Trace) (m : Memory) (w w₀ g : Truth) → Settled w₀ No m → m .deadline ≡ some d → ltb d (t .at) ≡ true → (is-horizon t ≡ true → (w ≡ w₀) × (g ≡ No))
+  lag-no : (n d : ℕ) (t : Trace) (m : Memory) (w w₀ g : Truth) → Settled w₀ No m → m .deadline ≡ some d
+      → ltb d (t .at) ≡ true → (is-horizon t ≡ true → (w ≡ w₀) × (g ≡ No))
       → (shown-response w g No n t m) .failure ≡ some (deadline-missed d)
   unfolding shown-response
   lag-no n d t m w w₀ g s e b f = go (case (is-horizon t))
@@ -418,40 +538,65 @@ module _ (inE inA : Text → Bool) where
       last = missed-no (t .at) d (m .deadline) e b
 
       go : Case (is-horizon t)
-          → or-else (if is-horizon t then missed-at-end (t .at) g (waits-after (t .at) n w g (m .was-when) (m .deadline)) else none) (missed (t .at) No (m .deadline)) ≡ some (deadline-missed d)
+          → or-else (if is-horizon t then
+          missed-at-end (t .at) g (waits-after (t .at) n w g (m .was-when) (m .deadline)) else none)
+          (missed (t .at) No (m .deadline)) ≡ some (deadline-missed d)
       go (is-false a) = rw (a, last) (unfold or-else in refl)
       go (is-true a) =
-          rw (a, last, waits-dropped (t .at) n w g (m .was-when) (m .deadline) (s .s1 ∙ sym (ap is-yes (f a .0))) (ap (overdue (t .at)) e ∙ is-overdue (t .at) d b)) (unfold missed-at-end or-else in refl)
+          rw (
+            a,
+            last,
+            waits-dropped (t .at) n w g (m .was-when) (m .deadline) (s .s1 ∙ sym (ap is-yes (f a .0)))
+                (ap (overdue (t .at)) e ∙ is-overdue (t .at) d b),
+          ) (unfold missed-at-end or-else in refl)
 
   -- the memory once a deadline has passed in doubt
   abbrev doubted : Memory → Memory
-  doubted m = record { deadline = none; was-when = m .was-when; unknown-predicate = m .unknown-predicate; unknown-at-deadline = true; beyond-horizon = m .beyond-horizon }
+  doubted m = record {
+    deadline = none;
+    was-when = m .was-when;
+    unknown-predicate =
+        m .unknown-predicate;
+    unknown-at-deadline = true;
+    beyond-horizon = m .beyond-horizon;
+  }
 
   missed-unknown : (now : ℕ) (o : Option ℕ) → missed now Unknown o ≡ none
   unfolding missed fails-if is-no
   missed-unknown now none = refl
   missed-unknown now (some d) = rw (and-false (ltb d now))
 
-  waits-none : (now n : ℕ) (w g : Truth) (was : Bool) (o : Option ℕ) → overdue now o ≡ true → waits-after now n w g was o ≡ waits-after now n w g was none
+  waits-none : (now n : ℕ) (w g : Truth) (was : Bool) (o : Option ℕ) → overdue now o ≡ true
+      → waits-after now n w g was o ≡ waits-after now n w g was none
   unfolding waits-after overdue present-and
   waits-none now n w g was o q = rw q
 
-  lag-unknown : (n : ℕ) (t : Trace) (m : Memory) (w g : Truth) → overdue (t .at) (m .deadline) ≡ true → shown-response w g Unknown n t m ≡ shown-response w g Unknown n t (doubted m)
+  lag-unknown : (n : ℕ) (t : Trace) (m : Memory) (w g : Truth) → overdue (t .at) (m .deadline) ≡ true
+      → shown-response w g Unknown n t m ≡ shown-response w g Unknown n t (doubted m)
   unfolding shown-response is-unknown
   lag-unknown n t m w g o =
-      rw (missed-unknown (t .at) (m .deadline), missed-unknown (t .at) none, waits-none (t .at) n w g (m .was-when) (m .deadline) o, o)
+      rw (
+        missed-unknown (t .at) (m .deadline),
+        missed-unknown (t .at) none,
+        waits-none (t .at) n w g (m .was-when)
+            (m .deadline) o,
+        o,
+      )
       (λ j. record {
-        failure = or-else (if is-horizon t then missed-at-end (t .at) g (waits-after (t .at) n w g (m .was-when) none) else none) none;
+        failure = or-else (if is-horizon t then missed-at-end (t .at) g (waits-after (t .at) n w g (m .was-when) none)
+            else none) none;
         memory = record {
           deadline = waits-after (t .at) n w g (m .was-when) none;
           was-when = is-yes w;
           unknown-predicate = m .unknown-predicate || is-unknown w || is-unknown g;
           unknown-at-deadline = or-true (m .unknown-at-deadline) j;
-          beyond-horizon = m .beyond-horizon || is-horizon t && beyond (t .at) (waits-after (t .at) n w g (m .was-when) none);
+          beyond-horizon = m .beyond-horizon || is-horizon t && beyond (t .at)
+              (waits-after (t .at) n w g (m .was-when) none);
         };
       })
 
-  module _ (id : Text) (p q : Predicate) (n : ℕ) (hp : all inE (predicate-reads p) ≡ true) (hq : all inE (predicate-reads q) ≡ true) where
+  module _ (id : Text) (p q : Predicate) (n : ℕ) (hp : all inE (predicate-reads p) ≡ true)
+      (hq : all inE (predicate-reads q) ≡ true) where
     abbrev R : Invariant
     R = response id p q n
 
@@ -459,44 +604,60 @@ module _ (inE inA : Text → Bool) where
     unfolding names
     names-in = Rattle.independence.proofs.Base.all-i inE (predicate-reads p) (predicate-reads q) hp hq
 
-    is-shown : (b c : List Cell) (t : Trace) (m : Memory) → read R b c t m ≡ shown-response (evaluate p c) (evaluate q c) (evaluate q b) n t m
+    is-shown : (b c : List Cell) (t : Trace) (m : Memory)
+        → read R b c t m ≡ shown-response (evaluate p c) (evaluate q c) (evaluate q b) n t m
     unfolding read read-response shown-response
     is-shown b c t m = refl
 
-    fails-late : (k : ℕ) (t : Trace) (c : List Cell) (ts : List Trace) (s : Shown) (d : ℕ) → s .failure ≡ some (deadline-missed d) → about R (next R k t c ts s) ≡ late d
+    fails-late : (k : ℕ) (t : Trace) (c : List Cell) (ts : List Trace) (s : Shown) (d : ℕ)
+        → s .failure ≡ some (deadline-missed d) → about R (next R k t c ts s) ≡ late d
     unfolding next about about-failing told
     fails-late k t c ts s d e = go (s .failure) e
       where
         A : Option Failure → About
         A o = about R (elim o [
-          | some f ↦ record { failing = some (record { index = k; at = t .at; source = t .source; failure = f }); memory = s .memory }
+          | some f ↦ record {
+            failing =
+                some (record { index = k; at = t .at; source = t .source; failure = f });
+            memory = s .memory;
+          }
           | none ↦ reading R (k + 1) c (s .memory) ts
         ])
 
         go : (o : Option Failure) → o ≡ some (deadline-missed d) → A o ≡ late d
         go o z = ap A z
 
-    read-fails : (k : ℕ) (c : List Cell) (m : Memory) (t : Trace) (l : List Trace) (d : ℕ) → (shown-response (evaluate p (after t c)) (evaluate q (after t c)) (evaluate q c) n t m) .failure ≡ some (deadline-missed d)
+    read-fails : (k : ℕ) (c : List Cell) (m : Memory) (t : Trace) (l : List Trace) (d : ℕ)
+        → (shown-response (evaluate p (after t c)) (evaluate q (after t c)) (evaluate q c) n t m) .failure ≡ some
+        (deadline-missed d)
         → about R (reading R k c m (t ∷ l)) ≡ late d
-    read-fails k c m t l d e = ap (about R) (step R k c m t l) ∙ fails-late k t (after t c) l (read R c (after t c) t m) d (ap (λ (s : Shown). s .failure) (is-shown c (after t c) t m) ∙ e)
+    read-fails k c m t l d e = ap (about R) (step R k c m t l)
+        ∙ fails-late k t (after t c) l (read R c (after t c) t m) d
+        (ap (λ (s : Shown). s .failure) (is-shown c (after t c) t m) ∙ e)
 
     -- a deadline missed outside is found at the next record inside
-    lag-no-list : (l : List Trace) (k d : ℕ) (c : List Cell) (m : Memory) → ends-on l ≡ true → Every fair l → Every (passed d) l
-        → Settled (evaluate p c) No m → evaluate q c ≡ No → m .deadline ≡ some d → about R (reading R k c m (keep kept l)) ≡ late d
+    lag-no-list : (l : List Trace) (k d : ℕ) (c : List Cell) (m : Memory) → ends-on l ≡ true → Every fair l
+        → Every (passed d) l
+        → Settled (evaluate p c) No m → evaluate q c ≡ No → m .deadline ≡ some d
+        → about R (reading R k c m (keep kept l)) ≡ late d
     unfolding passed ends-on
     lag-no-list [] k d c m z f a s g e = absurd (false≢true z)
     lag-no-list (t ∷ l) k d c m z f a s g e = go (case (kept t)) (lag-no-list l)
       where
         go : Case (kept t)
-            → ((k d : ℕ) (c : List Cell) (m : Memory) → ends-on l ≡ true → Every fair l → Every (passed d) l → Settled (evaluate p c) No m → evaluate q c ≡ No → m .deadline ≡ some d → about R (reading R k c m (keep kept l)) ≡ late d)
+            → ((k d : ℕ) (c : List Cell) (m : Memory) → ends-on l ≡ true → Every fair l → Every (passed d) l
+            → Settled (evaluate p c) No m → evaluate q c ≡ No → m .deadline ≡ some d
+            → about R (reading R k c m (keep kept l)) ≡ late d)
             → about R (reading R k c m (keep kept (t ∷ l))) ≡ late d
         go (is-true i) ih = rw (keep-in kept t l i)
             (read-fails k c m t (keep kept l) d
             (ap (λ (x : Truth). (shown-response (evaluate p (after t c)) (evaluate q (after t c)) x n t m) .failure) g
-            ∙ lag-no n d t m (evaluate p (after t c)) (evaluate p c) (evaluate q (after t c)) s e (a .0) (λ y. (ap (evaluate p) (horizon-still t c (f .0) y), ap (evaluate q) (horizon-still t c (f .0) y) ∙ g))))
+            ∙ lag-no n d t m (evaluate p (after t c)) (evaluate p c) (evaluate q (after t c)) s e (a .0)
+            (λ y. (ap (evaluate p) (horizon-still t c (f .0) y), ap (evaluate q) (horizon-still t c (f .0) y) ∙ g))))
         go (is-false o) ih = rw (keep-out kept t l o) (ih k d c m (ends-next t l (kept-kind t o) z) (f .1) (a .1) s g e)
 
-    lag-unknown-list : (l : List Trace) (k d : ℕ) (c : List Cell) (m : Memory) → ends-on l ≡ true → Every (passed d) l → evaluate q c ≡ Unknown → m .deadline ≡ some d
+    lag-unknown-list : (l : List Trace) (k d : ℕ) (c : List Cell) (m : Memory) → ends-on l ≡ true → Every (passed d) l
+        → evaluate q c ≡ Unknown → m .deadline ≡ some d
         → about R (reading R k c m (keep kept l)) ≡ about R (reading R k c (doubted m) (keep kept l))
     unfolding passed ends-on
     lag-unknown-list [] k d c m z a g e = absurd (false≢true z)
@@ -505,15 +666,19 @@ module _ (inE inA : Text → Bool) where
         same : read R c (after t c) t m ≡ read R c (after t c) t (doubted m)
         same = is-shown c (after t c) t m
             ∙ ap (λ (x : Truth). shown-response (evaluate p (after t c)) (evaluate q (after t c)) x n t m) g
-            ∙ lag-unknown n t m (evaluate p (after t c)) (evaluate q (after t c)) (ap (overdue (t .at)) e ∙ is-overdue (t .at) d (a .0))
+            ∙ lag-unknown n t m (evaluate p (after t c)) (evaluate q (after t c))
+            (ap (overdue (t .at)) e ∙ is-overdue (t .at) d (a .0))
             ∙ ap (λ (x : Truth). shown-response (evaluate p (after t c)) (evaluate q (after t c)) x n t (doubted m)) (sym g)
             ∙ sym (is-shown c (after t c) t (doubted m))
 
         go : Case (kept t)
-            → ((k d : ℕ) (c : List Cell) (m : Memory) → ends-on l ≡ true → Every (passed d) l → evaluate q c ≡ Unknown → m .deadline ≡ some d → about R (reading R k c m (keep kept l)) ≡ about R (reading R k c (doubted m) (keep kept l)))
+            → ((k d : ℕ) (c : List Cell) (m : Memory) → ends-on l ≡ true → Every (passed d) l → evaluate q c ≡ Unknown
+            → m .deadline ≡ some d → about R (reading R k c m (keep kept l)) ≡ about R
+            (reading R k c (doubted m) (keep kept l)))
             → about R (reading R k c m (keep kept (t ∷ l))) ≡ about R (reading R k c (doubted m) (keep kept (t ∷ l)))
         go (is-true i) ih = rw (keep-in kept t l i)
-            (ap (about R) (step R k c m t (keep kept l) ∙ ap (next R k t (after t c) (keep kept l)) same ∙ sym (step R k c (doubted m) t (keep kept l))))
+            (ap (about R) (step R k c m t (keep kept l) ∙ ap (next R k t (after t c) (keep kept l)) same
+            ∙ sym (step R k c (doubted m) t (keep kept l))))
         go (is-false o) ih = rw (keep-out kept t l o) (ih k d c m (ends-next t l (kept-kind t o) z) (a .1) g e)
 
     same-p : (c c′ : List Cell) → keepC c ≡ keepC c′ → evaluate p c ≡ evaluate p c′
@@ -528,13 +693,15 @@ module _ (inE inA : Text → Bool) where
     again : (c : List Cell) → keepC c ≡ keepC (keepC c)
     again c = sym (Rattle.independence.proofs.Base.keep-again (View.cone-cell inE inA) c)
 
-    response-list : (l : List Trace) (h a : ℕ) (k k′ : ℕ) (c : List Cell) (m : Memory) → Rising a l h → ends l ≡ true → Every fair l → Settled (evaluate p c) (evaluate q c) m
+    response-list : (l : List Trace) (h a : ℕ) (k k′ : ℕ) (c : List Cell) (m : Memory) → Rising a l h → ends l ≡ true
+        → Every fair l → Settled (evaluate p c) (evaluate q c) m
         → about R (reading R k c m l) ≡ about R (reading R k′ (keepC c) m (keep kept l))
     response-list [] h a k k′ c m u z f s = rw (keep-nil kept) (unfold reading in refl)
     response-list (t ∷ l) h a k k′ c m u z f s = go (case (kept t)) (response-list l h (t .at))
       where
         IH : Type 0
-        IH = (k k′ : ℕ) (c : List Cell) (m : Memory) → Rising (t .at) l h → ends l ≡ true → Every fair l → Settled (evaluate p c) (evaluate q c) m
+        IH = (k k′ : ℕ) (c : List Cell) (m : Memory) → Rising (t .at) l h → ends l ≡ true → Every fair l
+            → Settled (evaluate p c) (evaluate q c) m
             → about R (reading R k c m l) ≡ about R (reading R k′ (keepC c) m (keep kept l))
 
         -- the state after a record outside
@@ -544,36 +711,54 @@ module _ (inE inA : Text → Bool) where
         q-same : kept t ≡ false → evaluate q (after t c) ≡ evaluate q c
         q-same o = same-q (after t c) c (after-out t o c)
 
-        shown : kept t ≡ false → read R c (after t c) t m ≡ shown-response (evaluate p c) (evaluate q c) (evaluate q c) n t m
+        shown : kept t ≡ false → read R c (after t c) t m ≡ shown-response (evaluate p c) (evaluate q c)
+            (evaluate q c) n t m
         shown o = is-shown c (after t c) t m ∙ (λ j. shown-response (p-same o j) (q-same o j) (evaluate q c) n t m)
 
-        on : kept t ≡ false → IH → (m′ : Memory) → read R c (after t c) t m ≡ quiet m′ → Settled (evaluate p c) (evaluate q c) m′ → about R (reading R k c m (t ∷ l)) ≡ about R (reading R k′ (keepC c) m′ (keep kept (t ∷ l)))
+        on : kept t ≡ false → IH → (m′ : Memory) → read R c (after t c) t m ≡ quiet m′
+            → Settled (evaluate p c) (evaluate q c) m′
+            → about R (reading R k c m (t ∷ l)) ≡ about R (reading R k′ (keepC c) m′ (keep kept (t ∷ l)))
         on o ih m′ e s′ = outside R names-in k k′ c m m′ t l o e
-            (ih (k + 1) k′ (after t c) m′ (u .1) (ends-tail t l z) (f .1) (settled-to (evaluate p c) (evaluate p (after t c)) (evaluate q c) (evaluate q (after t c)) m′ (sym (p-same o)) (sym (q-same o)) s′))
+            (ih (k + 1) k′ (after t c) m′ (u .1) (ends-tail t l z) (f .1)
+            (settled-to (evaluate p c) (evaluate p (after t c)) (evaluate q c) (evaluate q (after t c)) m′
+            (sym (p-same o)) (sym (q-same o)) s′))
 
-        due : kept t ≡ false → IH → (d : ℕ) → m .deadline ≡ some d → ltb d (t .at) ≡ true → (g : Truth) → evaluate q c ≡ g → about R (reading R k c m (t ∷ l)) ≡ about R (reading R k′ (keepC c) m (keep kept (t ∷ l)))
-        due o ih d e b Yes g = absurd (none-some (yes-none (m .deadline) ∙ ap (λ (x : Truth). if is-yes x then none else m .deadline) (sym g) ∙ s .s2 ∙ e))
+        due : kept t ≡ false → IH → (d : ℕ) → m .deadline ≡ some d → ltb d (t .at) ≡ true → (g : Truth)
+            → evaluate q c ≡ g → about R (reading R k c m (t ∷ l)) ≡ about R (reading R k′ (keepC c) m (keep kept (t ∷ l)))
+        due o ih d e b Yes g = absurd (none-some
+            (yes-none (m .deadline) ∙ ap (λ (x : Truth). if is-yes x then none else m .deadline) (sym g) ∙ s .s2 ∙ e))
         due o ih d e b No g =
             read-fails k c m t l d
             ((λ j. (shown-response (p-same o j) (q-same o j) (evaluate q c) n t m) .failure)
             ∙ ap (λ (x : Truth). (shown-response (evaluate p c) x x n t m) .failure) g
-            ∙ lag-no n d t m (evaluate p c) (evaluate p c) No (settled-to (evaluate p c) (evaluate p c) (evaluate q c) No m refl g s) e b (λ y. (refl, refl)))
+            ∙ lag-no n d t m (evaluate p c) (evaluate p c) No
+            (settled-to (evaluate p c) (evaluate p c) (evaluate q c) No m refl g s) e b (λ y. (refl, refl)))
             ∙ sym (rw (keep-out kept t l o)
-            (lag-no-list l k′ d (keepC c) m (ends-next t l (kept-kind t o) z) (f .1) (rising-passed d (t .at) l h (leb-le (suc d) (t .at) b) (u .1))
-            (settled-to (evaluate p c) (evaluate p (keepC c)) (evaluate q c) No m (same-p c (keepC c) (again c)) g s) (sym (same-q c (keepC c) (again c)) ∙ g) e))
+            (lag-no-list l k′ d (keepC c) m (ends-next t l (kept-kind t o) z) (f .1)
+            (rising-passed d (t .at) l h (leb-le (suc d) (t .at) b) (u .1))
+            (settled-to (evaluate p c) (evaluate p (keepC c)) (evaluate q c) No m (same-p c (keepC c) (again c)) g s)
+            (sym (same-q c (keepC c) (again c)) ∙ g) e))
         due o ih d e b Unknown g =
             on o ih (doubted m) quiet-doubt doubt-settled
             ∙ sym (rw (keep-out kept t l o)
-            (lag-unknown-list l k′ d (keepC c) m (ends-next t l (kept-kind t o) z) (rising-passed d (t .at) l h (leb-le (suc d) (t .at) b) (u .1)) (sym (same-q c (keepC c) (again c)) ∙ g) e))
+            (lag-unknown-list l k′ d (keepC c) m (ends-next t l (kept-kind t o) z)
+            (rising-passed d (t .at) l h (leb-le (suc d) (t .at) b) (u .1)) (sym (same-q c (keepC c) (again c)) ∙ g) e))
           where
             doubt-settled : Settled (evaluate p c) (evaluate q c) (doubted m)
-            doubt-settled = record { s1 = s .s1; s2 = ap (λ (x : Truth). if is-yes x then none else none) g ∙ (unfold is-yes in refl); s3 = s .s3 }
+            doubt-settled = record {
+              s1 = s .s1;
+              s2 = ap (λ (x : Truth). if is-yes x then none else none) g
+                  ∙ (unfold is-yes in refl);
+              s3 = s .s3;
+            }
 
             quiet-doubt : read R c (after t c) t m ≡ quiet (doubted m)
             quiet-doubt =
                 shown o ∙ ap (λ (x : Truth). shown-response (evaluate p c) x x n t m) g
                 ∙ lag-unknown n t m (evaluate p c) Unknown (ap (overdue (t .at)) e ∙ is-overdue (t .at) d b)
-                ∙ response-idle (evaluate p c) Unknown n t (doubted m) (settled-to (evaluate p c) (evaluate p c) (evaluate q c) Unknown (doubted m) refl g doubt-settled) (no-horizon t (kept-kind t o)) (unfold overdue present-and in refl)
+                ∙ response-idle (evaluate p c) Unknown n t (doubted m)
+                (settled-to (evaluate p c) (evaluate p c) (evaluate q c) Unknown (doubted m) refl g doubt-settled)
+                (no-horizon t (kept-kind t o)) (unfold overdue present-and in refl)
 
         due-at : (x : Option ℕ) → overdue (t .at) x ≡ true → (d : ℕ) × ((x ≡ some d) × (ltb d (t .at) ≡ true))
         due-at none b = absurd (false≢true (unfold overdue present-and in b))
@@ -582,25 +767,35 @@ module _ (inE inA : Text → Bool) where
         go : Case (kept t) → IH → about R (reading R k c m (t ∷ l)) ≡ about R (reading R k′ (keepC c) m (keep kept (t ∷ l)))
         go (is-true i) ih = inside R names-in k k′ c m t l i
             (λ e. ih (k + 1) (k′ + 1) (after t c) _ (u .1) (ends-tail t l z) (f .1)
-            (subst (λ (x : Shown). Settled (evaluate p (after t c)) (evaluate q (after t c)) (x .memory)) (sym (is-shown c (after t c) t m)) (settled-after (evaluate p (after t c)) (evaluate q (after t c)) (evaluate q c) n t m)))
+            (subst (λ (x : Shown). Settled (evaluate p (after t c)) (evaluate q (after t c)) (x .memory))
+            (sym (is-shown c (after t c) t m))
+            (settled-after (evaluate p (after t c)) (evaluate q (after t c)) (evaluate q c) n t m)))
         go (is-false o) ih = by (case (overdue (t .at) (m .deadline)))
           where
-            by : Case (overdue (t .at) (m .deadline)) → about R (reading R k c m (t ∷ l)) ≡ about R (reading R k′ (keepC c) m (keep kept (t ∷ l)))
-            by (is-true b) = let d : (d : ℕ) × ((m .deadline ≡ some d) × (ltb d (t .at) ≡ true)) = due-at (m .deadline) b in due o ih (d .0) (d .1 .0) (d .1 .1) (evaluate q c) refl
-            by (is-false b) = on o ih m (shown o ∙ response-idle (evaluate p c) (evaluate q c) n t m s (no-horizon t (kept-kind t o)) b) s
+            by : Case (overdue (t .at) (m .deadline))
+                → about R (reading R k c m (t ∷ l)) ≡ about R (reading R k′ (keepC c) m (keep kept (t ∷ l)))
+            by (is-true b) = let d : (d : ℕ) × ((m .deadline ≡ some d) × (ltb d (t .at) ≡ true)) =
+                due-at (m .deadline) b in due o ih (d .0) (d .1 .0) (d .1 .1) (evaluate q c) refl
+            by (is-false b) = on o ih m (shown o
+                ∙ response-idle (evaluate p c) (evaluate q c) n t m s (no-horizon t (kept-kind t o)) b) s
 
-    response-view : (c : List Cell) (l : List Trace) (h : ℕ) → headed l ≡ true → Rising 0 l h → ends l ≡ true → Every fair l → about R (read-all R c l) ≡ about R (read-all R (keepC c) (keep kept l))
+    response-view : (c : List Cell) (l : List Trace) (h : ℕ) → headed l ≡ true → Rising 0 l h → ends l ≡ true
+        → Every fair l → about R (read-all R c l) ≡ about R (read-all R (keepC c) (keep kept l))
     unfolding read-all headed
     response-view c [] h b u z f = absurd (false≢true b)
     response-view c (t ∷ l) h b u z f = inside R names-in 0 0 c nothing-yet t l (unfold View.cone-trace in (rw b))
         (λ e. response-list l h (t .at) (0 + 1) (0 + 1) (after t c) _ (u .1) (ends-tail t l z) (f .1)
-        (subst (λ (x : Shown). Settled (evaluate p (after t c)) (evaluate q (after t c)) (x .memory)) (sym (is-shown c (after t c) t nothing-yet)) (settled-after (evaluate p (after t c)) (evaluate q (after t c)) (evaluate q c) n t nothing-yet)))
+        (subst (λ (x : Shown). Settled (evaluate p (after t c)) (evaluate q (after t c)) (x .memory))
+        (sym (is-shown c (after t c) t nothing-yet))
+        (settled-after (evaluate p (after t c)) (evaluate q (after t c)) (evaluate q c) n t nothing-yet)))
 
   -- ---- any invariant
-  pub judge-view : (i : Invariant) → all inE (names i) ≡ true → (c : List Cell) (l : List Trace) (h : ℕ) → headed l ≡ true → Rising 0 l h → ends l ≡ true → Every fair l
+  pub judge-view : (i : Invariant) → all inE (names i) ≡ true → (c : List Cell) (l : List Trace) (h : ℕ)
+      → headed l ≡ true → Rising 0 l h → ends l ≡ true → Every fair l
       → about i (read-all i c l) ≡ about i (read-all i (keep (View.cone-cell inE inA) c) (keep (View.cone-trace inE inA) l))
   judge-view (never id ps) e c l h b u z f = never-view id ps e c l b
   judge-view (guard id x v ps) e c l h b u z f = guard-view id x v ps e c l b
   judge-view (transition id x from to) e c l h b u z f = transition-view id x from to e c l b
   judge-view (response id p q n) e c l h b u z f =
-      response-view id p q n (all-l inE (predicate-reads p) (predicate-reads q) (unfold names in e)) (all-r inE (predicate-reads p) (predicate-reads q) (unfold names in e)) c l h b u z f
+      response-view id p q n (all-l inE (predicate-reads p) (predicate-reads q) (unfold names in e))
+      (all-r inE (predicate-reads p) (predicate-reads q) (unfold names in e)) c l h b u z f

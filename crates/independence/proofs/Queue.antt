@@ -1,15 +1,30 @@
 -- The queue: the item taken is the first of the earliest, and a filter changes nothing in that.
-use Prim.Native.Nat.{ℕ, zero, suc, _+_, _≤_, _<_}
-use mathlib.Core.Bool.{Bool, true, false, not, true≢false, false≢true}
-use mathlib.Core.List.{List, [], _∷_, _++_}
+use Prim.Native.Nat.{ℕ, _≤_}
+use mathlib.Core.Bool.{Bool, true, false}
+use mathlib.Core.List.{List, [], _∷_}
 use mathlib.Core.Option.{Option, none, some}
 use mathlib.Core.Path.{_≡_, refl, sym, ap, _∙_, subst}
 use native.Mathlib.Omega.{arith}
 use lib.Dec.{leb}
 use Rattle.texts.specs.Lists.{if_then_else_, keep}
-use Rattle.engine.specs.Records.{Work, Item}
+use Rattle.engine.specs.Records.{Item}
 use Rattle.engine.specs.Engine.{sooner, pop}
-use Rattle.independence.proofs.Base.{keep-in, keep-out, cons-eq, Every, every-keep, Case, is-true, is-false, case, leb-le, le-leb, gt-leb, some-eq, none-some}
+use Rattle.independence.proofs.Base.{
+  keep-in,
+  keep-out,
+  cons-eq,
+  Every,
+  every-keep,
+  Case,
+  is-true,
+  is-false,
+  case,
+  leb-le,
+  le-leb,
+  gt-leb,
+  some-eq,
+  none-some,
+}
 
 abbrev pub Taken : Type 0
 Taken = Item × List Item
@@ -57,20 +72,25 @@ took x l y r e = go (pop l) refl e
     go (some (z, t)) q f = at-z (case (leb (x .at) (z .at)))
       where
         at-z : Case (leb (x .at) (z .at)) → Took x l y r
-        at-z (is-true b) = let p : _≡_ {A = Option Taken} (some (x, l)) (some (y, r)) = rw b at f in first z t q b (item-eq p) (rest-eq p)
+        at-z (is-true b) = let p : _≡_ {A = Option Taken} (some (x, l)) (some (y, r)) = rw b at f in
+            first z t q b (item-eq p) (rest-eq p)
         at-z (is-false b) =
             let p : _≡_ {A = Option Taken} (some (z, x ∷ t)) (some (y, r)) = rw b at f in
-            deeper t (q ∙ ap (λ (k : Item). some (k, t)) (item-eq p)) (subst (λ (k : Item). leb (x .at) (k .at) ≡ false) (item-eq p) b) (rest-eq p)
+            deeper t (q ∙ ap (λ (k : Item). some (k, t)) (item-eq p))
+            (subst (λ (k : Item). leb (x .at) (k .at) ≡ false) (item-eq p) b) (rest-eq p)
 
 pub pop-least : (l : List Item) (y : Item) (r : List Item) → pop l ≡ some (y, r) → Every (late (y .at)) l
 unfolding pop late
 pop-least [] y r e = absurd (none-some e)
 pop-least (x ∷ l) y r e = go (took x l y r e) (pop-least l)
   where
-    go : Took x l y r → ((y : Item) (r : List Item) → pop l ≡ some (y, r) → Every (late (y .at)) l) → Every (late (y .at)) (x ∷ l)
-    go (alone h p q) ih = subst (λ (k : Item). Every (late (k .at)) (x ∷ l)) p (le-leb (x .at) (x .at) (omega arith), subst (Every (late (x .at))) (sym h) tt)
+    go : Took x l y r → ((y : Item) (r : List Item) → pop l ≡ some (y, r) → Every (late (y .at)) l)
+        → Every (late (y .at)) (x ∷ l)
+    go (alone h p q) ih = subst (λ (k : Item). Every (late (k .at)) (x ∷ l)) p
+        (le-leb (x .at) (x .at) (omega arith), subst (Every (late (x .at))) (sym h) tt)
     go (first z t h b p q) ih =
-        subst (λ (k : Item). Every (late (k .at)) (x ∷ l)) p (le-leb (x .at) (x .at) (omega arith), late-le (x .at) (z .at) (leb-le (x .at) (z .at) b) l (ih z t h))
+        subst (λ (k : Item). Every (late (k .at)) (x ∷ l)) p
+        (le-leb (x .at) (x .at) (omega arith), late-le (x .at) (z .at) (leb-le (x .at) (z .at) b) l (ih z t h))
     go (deeper t h b q) ih = (le-leb (y .at) (x .at) (omega (arith, gt-leb (x .at) (y .at) b)), ih y t h)
 
 pub pop-late : (n : ℕ) (l : List Item) (y : Item) (r : List Item) → Every (late n) l → pop l ≡ some (y, r) → late n y ≡ true
@@ -78,7 +98,8 @@ unfolding pop
 pop-late n [] y r h e = absurd (none-some e)
 pop-late n (x ∷ l) y r h e = go (took x l y r e) (pop-late n l)
   where
-    go : Took x l y r → ((y : Item) (r : List Item) → Every (late n) l → pop l ≡ some (y, r) → late n y ≡ true) → late n y ≡ true
+    go : Took x l y r → ((y : Item) (r : List Item) → Every (late n) l → pop l ≡ some (y, r) → late n y ≡ true)
+        → late n y ≡ true
     go (alone a p q) ih = subst (λ (k : Item). late n k ≡ true) p (h .0)
     go (first z t a b p q) ih = subst (λ (k : Item). late n k ≡ true) p (h .0)
     go (deeper t a b q) ih = ih y t (h .1) a
@@ -104,7 +125,8 @@ pop-head x l h = go (pop l) refl
     go (some (y, r)) q = rw (pop-late (x .at) l y r h q)
 
 module _ (p : Item → Bool) where
-  pub pop-in : (l : List Item) (y : Item) (r : List Item) → pop l ≡ some (y, r) → p y ≡ true → pop (keep p l) ≡ some (y, keep p r)
+  pub pop-in : (l : List Item) (y : Item) (r : List Item) → pop l ≡ some (y, r) → p y ≡ true
+      → pop (keep p l) ≡ some (y, keep p r)
   unfolding pop
   pop-in [] y r e h = absurd (none-some e)
   pop-in (x ∷ l) y r e h = go (took x l y r e) (pop-in l)
@@ -112,7 +134,8 @@ module _ (p : Item → Bool) where
       head : Every (late (x .at)) l → x ≡ y → l ≡ r → pop (keep p (x ∷ l)) ≡ some (y, keep p r)
       head a b c = rw (keep-in p x l (ap p b ∙ h)) (pop-head x (keep p l) (every-keep (late (x .at)) p l a) ∙ rw (b, c))
 
-      go : Took x l y r → ((y : Item) (r : List Item) → pop l ≡ some (y, r) → p y ≡ true → pop (keep p l) ≡ some (y, keep p r)) → pop (keep p (x ∷ l)) ≡ some (y, keep p r)
+      go : Took x l y r → ((y : Item) (r : List Item) → pop l ≡ some (y, r) → p y ≡ true
+          → pop (keep p l) ≡ some (y, keep p r)) → pop (keep p (x ∷ l)) ≡ some (y, keep p r)
       go (alone a b c) ih = head (subst (Every (late (x .at))) (sym a) tt) b c
       go (first z t a b c d) ih = head (late-le (x .at) (z .at) (leb-le (x .at) (z .at) b) l (pop-least l z t a)) c d
       go (deeper t a b c) ih = rw (← c) (side (case (p x)))
@@ -126,7 +149,8 @@ module _ (p : Item → Bool) where
   pop-out [] y r e h = absurd (none-some e)
   pop-out (x ∷ l) y r e h = go (took x l y r e) (pop-out l)
     where
-      go : Took x l y r → ((y : Item) (r : List Item) → pop l ≡ some (y, r) → p y ≡ false → keep p r ≡ keep p l) → keep p r ≡ keep p (x ∷ l)
+      go : Took x l y r → ((y : Item) (r : List Item) → pop l ≡ some (y, r) → p y ≡ false → keep p r ≡ keep p l)
+          → keep p r ≡ keep p (x ∷ l)
       go (alone a b c) ih = rw (keep-out p x l (ap p b ∙ h), c)
       go (first z t a b c d) ih = rw (keep-out p x l (ap p c ∙ h), d)
       go (deeper t a b c) ih = rw (← c) (side (case (p x)))

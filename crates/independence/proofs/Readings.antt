@@ -1,13 +1,13 @@
 -- What a check returns is what the readings of its invariants give: its violations are theirs, and each invariant's own
 -- unknown reasons are among those that it lists.
-use mathlib.Core.Bool.{Bool, true, _||_}
+use mathlib.Core.Bool.{Bool, true}
 use mathlib.Core.List.{List, [], _∷_, _++_}
-use mathlib.Core.Path.{_≡_, refl, sym, ap, _∙_, subst}
+use mathlib.Core.Path.{_≡_, refl, sym, _∙_, subst}
 use Rattle.texts.specs.Lists.{any, all, flat}
 use Rattle.texts.specs.Texts.{Text, eqT, memT, sortedT}
 use Rattle.model.specs.Answer.{answer}
-use Rattle.model.specs.Model.{Event, Invariant, Model}
-use Rattle.engine.specs.Cells.{Cell, initial-cells}
+use Rattle.model.specs.Model.{Event, Model}
+use Rattle.engine.specs.Cells.{initial-cells}
 use Rattle.engine.specs.Records.{Areas}
 use Rattle.engine.specs.Simulate.{Simulation}
 use Rattle.checker.specs.Judge.{unknown-reasons}
@@ -23,7 +23,8 @@ module _ {A : Type 0} (f : A → List Text) (us : List Text) where
   unfolding memT
   in-whole x l m h = any-sorted (eqT x) (l ++ m) ∙ any-append (eqT x) l m ∙ or-r (any (eqT x) l) (any (eqT x) m) h
 
-  each-in : (l : List A) (p : Text → Bool) → ((x : Text) → memT x (flat f l) ≡ true → p x ≡ true) → all (λ i. all p (f i)) l ≡ true
+  each-in : (l : List A) (p : Text → Bool) → ((x : Text) → memT x (flat f l) ≡ true → p x ≡ true)
+      → all (λ i. all p (f i)) l ≡ true
   unfolding all flat
   each-in [] p h = refl
   each-in (i ∷ l) p h =

@@ -1,25 +1,42 @@
 -- The search: neither lists a reason, so case by case both say the same.
 use Prim.Native.Nat.{ℕ, zero, suc, _+_}
-use mathlib.Core.Bool.{Bool, true, false, not, _||_, true≢false, false≢true}
+use mathlib.Core.Bool.{Bool, true, false, _||_, true≢false, false≢true}
 use mathlib.Core.List.{List, [], _∷_, _++_}
 use mathlib.Core.Option.{Option, none, some}
 use mathlib.Core.Path.{_≡_, refl, sym, ap, _∙_, subst}
 use lib.Dec.{ltb, leb}
-use Rattle.texts.specs.Lists.{if_then_else_, is-empty, each, flat}
+use Rattle.texts.specs.Lists.{if_then_else_, is-empty, each}
 use Rattle.texts.specs.Texts.{Text, text, sortedT}
 use Rattle.model.specs.Answer.{Answer, answer, _>>=_}
 use Rattle.model.specs.Model.{Input, Event, Model}
 use Rattle.engine.specs.Cells.{Cell}
 use Rattle.engine.specs.Records.{Areas}
 use Rattle.engine.specs.Unsupported.{unsupported}
-use Rattle.checker.specs.Judge.{read-all, incomplete-reasons}
-use Rattle.checker.specs.Check.{Violation, Status, Check, is-violation, status-of, judged, checked}
-use Rattle.checker.specs.Verify.{Witness, Search, Found, Verification, last-at, after-case, out-of-budget, unless-stopped, Visitor, each-input, each-gap, try-case, visit, deepen, searched, found-of, verification-of, verified}
+use Rattle.checker.specs.Check.{Violation, Check, is-violation, status-of, judged, checked}
+use Rattle.checker.specs.Verify.{
+  Witness,
+  Search,
+  Verification,
+  last-at,
+  after-case,
+  out-of-budget,
+  unless-stopped,
+  Visitor,
+  each-input,
+  each-gap,
+  try-case,
+  visit,
+  deepen,
+  searched,
+  found-of,
+  verification-of,
+  verified,
+}
 use Rattle.cone.specs.Demand.{violation-told, witness-events, witness-incomplete, SameVerification}
-use Rattle.independence.proofs.Base.{Case, is-true, is-false, case, none-some}
+use Rattle.independence.proofs.Base.{none-some}
 use Rattle.independence.proofs.Slice.{cons-nil}
 use Rattle.engine.proofs.Distinct.{answer-eq, bind-inv}
-use Rattle.independence.proofs.Check.{nil-l, nil-r, nil-sorted, simulation-of, checked-is}
+use Rattle.independence.proofs.Check.{nil-l, nil-r, nil-sorted, checked-is}
 
 -- what a witness leaves open, and its events
 unfoldable left-open : Option Witness → List Text
@@ -40,7 +57,15 @@ record Twin (o o′ : Search) : Type 0 where
   same-stop : o .stopped ≡ o′ .stopped
 
 abbrev unsearched : Model → Search
-unsearched m = record { cases = 0; total-steps = 0; reasons = unsupported (m .rules); witness = none; shortest = false; stopped = false }
+unsearched m = record {
+  cases = 0;
+  total-steps = 0;
+  reasons = unsupported (m .rules);
+  witness = none;
+  shortest =
+      false;
+  stopped = false;
+}
 
 abbrev Go : Type 0
 Go = Search → Answer Search
@@ -57,7 +82,8 @@ abbrev FineGo : Go → Type 0
 FineGo F = (o o₁ : Search) → o .stopped ≡ false → F o ≡ answer o₁ → Clean o₁ → o .reasons ≡ []
 
 abbrev AgreeGo : Go → Go → Type 0
-AgreeGo F F′ = (o o′ o₁ o₁′ : Search) → o .stopped ≡ false → o′ .stopped ≡ false → Twin o o′ → F o ≡ answer o₁ → F′ o′ ≡ answer o₁′ → Clean o₁ → Clean o₁′ → Twin o₁ o₁′
+AgreeGo F F′ = (o o′ o₁ o₁′ : Search) → o .stopped ≡ false → o′ .stopped ≡ false → Twin o o′ → F o ≡ answer o₁
+    → F′ o′ ≡ answer o₁′ → Clean o₁ → Clean o₁′ → Twin o₁ o₁′
 
 answer-fine : Fine (λ o. answer o)
 answer-fine o o₁ e c = subst Clean (sym (answer-eq e)) c
@@ -77,7 +103,8 @@ unless-agree : (go go′ : Go) → AgreeGo go go′ → Agree (unless-stopped go
 unfolding unless-stopped
 unless-agree go go′ f o o′ o₁ o₁′ t e e′ c c′ = by (o .stopped) (o′ .stopped) refl refl e e′
   where
-    by : (b b′ : Bool) → o .stopped ≡ b → o′ .stopped ≡ b′ → elim b [ true ↦ answer o | false ↦ go o ] ≡ answer o₁ → elim b′ [ true ↦ answer o′ | false ↦ go′ o′ ] ≡ answer o₁′ → Twin o₁ o₁′
+    by : (b b′ : Bool) → o .stopped ≡ b → o′ .stopped ≡ b′ → elim b [ true ↦ answer o | false ↦ go o ] ≡ answer o₁
+        → elim b′ [ true ↦ answer o′ | false ↦ go′ o′ ] ≡ answer o₁′ → Twin o₁ o₁′
     by true true s s′ p p′ = answer-agree o o′ o₁ o₁′ t p p′ c c′
     by false false s s′ p p′ = f o o′ o₁ o₁′ s s′ t p p′ c c′
     by true false s s′ p p′ = absurd (true≢false (sym s ∙ t .same-stop ∙ s′))
@@ -92,23 +119,30 @@ then-agree : (F F′ G G′ : Go) → Agree F F′ → Fine G → Fine G′ → 
 then-agree F F′ G G′ f g g′ h o o′ o₁ o₁′ t e e′ c c′ =
     let b : (n : Search) × ((F o ≡ answer n) × (G n ≡ answer o₁)) = bind-inv (F o) G o₁ e in
     let b′ : (n : Search) × ((F′ o′ ≡ answer n) × (G′ n ≡ answer o₁′)) = bind-inv (F′ o′) G′ o₁′ e′ in
-    h (b .0) (b′ .0) o₁ o₁′ (f o o′ (b .0) (b′ .0) t (b .1 .0) (b′ .1 .0) (g (b .0) o₁ (b .1 .1) c) (g′ (b′ .0) o₁′ (b′ .1 .1) c′)) (b .1 .1) (b′ .1 .1) c c′
+    h (b .0) (b′ .0) o₁ o₁′ (f o o′ (b .0) (b′ .0) t (b .1 .0) (b′ .1 .0) (g (b .0) o₁ (b .1 .1) c)
+    (g′ (b′ .0) o₁′ (b′ .1 .1) c′)) (b .1 .1) (b′ .1 .1) c c′
 
 -- ---- inputs and gaps
 
-inputs-fine : (go : Visitor) → ((l : List Event) → FineGo (go l)) → (l : List Event) (at : ℕ) (is : List Input) → Fine (each-input go l at is)
+inputs-fine : (go : Visitor) → ((l : List Event) → FineGo (go l)) → (l : List Event) (at : ℕ) (is : List Input)
+    → Fine (each-input go l at is)
 unfolding each-input
 inputs-fine go f l at [] = answer-fine
 inputs-fine go f l at (i ∷ is) =
-    then-fine (unless-stopped (go (l ++ record { at = at; input = i } ∷ []))) (each-input go l at is) (unless-fine (go (l ++ record { at = at; input = i } ∷ [])) (f (l ++ record { at = at; input = i } ∷ []))) (inputs-fine go f l at is)
+    then-fine (unless-stopped (go (l ++ record { at = at; input = i } ∷ []))) (each-input go l at is)
+    (unless-fine (go (l ++ record { at = at; input = i } ∷ [])) (f (l ++ record { at = at; input = i } ∷ [])))
+    (inputs-fine go f l at is)
 
-inputs-agree : (go go′ : Visitor) → ((l : List Event) → FineGo (go l)) → ((l : List Event) → FineGo (go′ l)) → ((l : List Event) → AgreeGo (go l) (go′ l)) → (l : List Event) (at : ℕ) (is : List Input)
+inputs-agree : (go go′ : Visitor) → ((l : List Event) → FineGo (go l)) → ((l : List Event) → FineGo (go′ l))
+    → ((l : List Event) → AgreeGo (go l) (go′ l)) → (l : List Event) (at : ℕ) (is : List Input)
     → Agree (each-input go l at is) (each-input go′ l at is)
 unfolding each-input
 inputs-agree go go′ f f′ h l at [] = answer-agree
 inputs-agree go go′ f f′ h l at (i ∷ is) =
-    then-agree (unless-stopped (go (l ++ record { at = at; input = i } ∷ []))) (unless-stopped (go′ (l ++ record { at = at; input = i } ∷ []))) (each-input go l at is) (each-input go′ l at is)
-    (unless-agree (go (l ++ record { at = at; input = i } ∷ [])) (go′ (l ++ record { at = at; input = i } ∷ [])) (h (l ++ record { at = at; input = i } ∷ [])))
+    then-agree (unless-stopped (go (l ++ record { at = at; input = i } ∷ [])))
+    (unless-stopped (go′ (l ++ record { at = at; input = i } ∷ []))) (each-input go l at is) (each-input go′ l at is)
+    (unless-agree (go (l ++ record { at = at; input = i } ∷ [])) (go′ (l ++ record { at = at; input = i } ∷ []))
+    (h (l ++ record { at = at; input = i } ∷ [])))
     (inputs-fine go f l at is) (inputs-fine go′ f′ l at is) (inputs-agree go go′ f f′ h l at is)
 
 -- one gap, if it stays within the horizon
@@ -123,19 +157,26 @@ gap-agree : (b : Bool) (F F′ : Go) → Agree F F′ → Agree (one-gap b F) (o
 gap-agree true F F′ f = answer-agree
 gap-agree false F F′ f = f
 
-gaps-fine : (go : Visitor) → ((l : List Event) → FineGo (go l)) → (l : List Event) (h : ℕ) (is : List Input) (gs : List ℕ) → Fine (each-gap go l h is gs)
+gaps-fine : (go : Visitor) → ((l : List Event) → FineGo (go l))
+    → (l : List Event) (h : ℕ) (is : List Input) (gs : List ℕ) → Fine (each-gap go l h is gs)
 unfolding each-gap
 gaps-fine go f l h is [] = answer-fine
 gaps-fine go f l h is (g ∷ gs) =
-    then-fine (one-gap (ltb h (last-at l + g)) (each-input go l (last-at l + g) is)) (each-gap go l h is gs) (gap-fine (ltb h (last-at l + g)) (each-input go l (last-at l + g) is) (inputs-fine go f l (last-at l + g) is)) (gaps-fine go f l h is gs)
+    then-fine (one-gap (ltb h (last-at l + g)) (each-input go l (last-at l + g) is)) (each-gap go l h is gs)
+    (gap-fine (ltb h (last-at l + g)) (each-input go l (last-at l + g) is)
+    (inputs-fine go f l (last-at l + g) is)) (gaps-fine go f l h is gs)
 
-gaps-agree : (go go′ : Visitor) → ((l : List Event) → FineGo (go l)) → ((l : List Event) → FineGo (go′ l)) → ((l : List Event) → AgreeGo (go l) (go′ l)) → (l : List Event) (h : ℕ) (is : List Input) (gs : List ℕ)
+gaps-agree : (go go′ : Visitor) → ((l : List Event) → FineGo (go l)) → ((l : List Event) → FineGo (go′ l))
+    → ((l : List Event) → AgreeGo (go l) (go′ l)) → (l : List Event) (h : ℕ) (is : List Input) (gs : List ℕ)
     → Agree (each-gap go l h is gs) (each-gap go′ l h is gs)
 unfolding each-gap
 gaps-agree go go′ f f′ k l h is [] = answer-agree
 gaps-agree go go′ f f′ k l h is (g ∷ gs) =
-    then-agree (one-gap (ltb h (last-at l + g)) (each-input go l (last-at l + g) is)) (one-gap (ltb h (last-at l + g)) (each-input go′ l (last-at l + g) is)) (each-gap go l h is gs) (each-gap go′ l h is gs)
-    (gap-agree (ltb h (last-at l + g)) (each-input go l (last-at l + g) is) (each-input go′ l (last-at l + g) is) (inputs-agree go go′ f f′ k l (last-at l + g) is))
+    then-agree (one-gap (ltb h (last-at l + g)) (each-input go l (last-at l + g) is))
+    (one-gap (ltb h (last-at l + g)) (each-input go′ l (last-at l + g) is)) (each-gap go l h is gs)
+    (each-gap go′ l h is gs)
+    (gap-agree (ltb h (last-at l + g)) (each-input go l (last-at l + g) is) (each-input go′ l (last-at l + g) is)
+    (inputs-agree go go′ f f′ k l (last-at l + g) is))
     (gaps-fine go f l h is gs) (gaps-fine go′ f′ l h is gs) (gaps-agree go go′ f f′ k l h is gs)
 
 -- ---- one case
@@ -151,7 +192,8 @@ after-as found events c o = record {
   stopped = found;
 }
 
-after-is : (events : List Event) (c : Check) (o : Search) → after-case events c o ≡ after-as (is-violation (c .status)) events c o
+after-is : (events : List Event) (c : Check) (o : Search)
+    → after-case events c o ≡ after-as (is-violation (c .status)) events c o
 unfolding after-case
 after-is events c o = refl
 
@@ -159,35 +201,49 @@ spent-unclean : (o : Search) → Clean (out-of-budget o) → ⊥
 unfolding out-of-budget
 spent-unclean o c = cons-nil (nil-r (o .reasons) (text "search budget exhausted" ∷ []) (c .no-reason))
 
-case-inv : (areas : Areas) (m : Model) (cells : List Cell) (events : List Event) (o o₁ : Search) → try-case areas m cells events o ≡ answer o₁ → Clean o₁
+case-inv : (areas : Areas) (m : Model) (cells : List Cell) (events : List Event) (o o₁ : Search)
+    → try-case areas m cells events o ≡ answer o₁ → Clean o₁
     → (c : Check) × ((checked areas m cells events ≡ answer c) × (o₁ ≡ after-as (is-violation (c .status)) events c o))
 unfolding try-case
-case-inv areas m cells events o o₁ e k = go (leb (m .scenario .limits .max-cases) (o .cases) || leb 200000 (o .total-steps)) e
+case-inv areas m cells events o o₁ e k =
+    go (leb (m .scenario .limits .max-cases) (o .cases) || leb 200000 (o .total-steps)) e
   where
-    go : (b : Bool) → elim b [ true ↦ answer (out-of-budget o) | false ↦ checked areas m cells events >>= λ c. answer (after-case events c o) ] ≡ answer o₁
+    go : (b : Bool) → elim b [
+      | true ↦ answer (out-of-budget o)
+      | false ↦ checked areas m cells events >>=
+          λ c. answer (after-case events c o)
+    ] ≡ answer o₁
         → (c : Check) × ((checked areas m cells events ≡ answer c) × (o₁ ≡ after-as (is-violation (c .status)) events c o))
     go true p = absurd (spent-unclean o (subst Clean (sym (answer-eq p)) k))
     go false p =
-        let b : (c : Check) × ((checked areas m cells events ≡ answer c) × (answer (after-case events c o) ≡ answer o₁)) = bind-inv (checked areas m cells events) (λ c. answer (after-case events c o)) o₁ p in
+        let b : (c : Check) × ((checked areas m cells events ≡ answer c)
+        × (answer (after-case events c o) ≡ answer o₁)) =
+        bind-inv (checked areas m cells events) (λ c. answer (after-case events c o)) o₁ p in
         (b .0, (b .1 .0, sym (answer-eq (b .1 .1)) ∙ after-is events (b .0) o))
 
 case-fine : (areas : Areas) (m : Model) (cells : List Cell) (events : List Event) → FineGo (try-case areas m cells events)
 case-fine areas m cells events o o₁ s e k =
-    let b : (c : Check) × ((checked areas m cells events ≡ answer c) × (o₁ ≡ after-as (is-violation (c .status)) events c o)) = case-inv areas m cells events o o₁ e k in
+    let b : (c : Check) × ((checked areas m cells events ≡ answer c)
+    × (o₁ ≡ after-as (is-violation (c .status)) events c o)) = case-inv areas m cells events o o₁ e k in
     go (b .0) (is-violation (b .0 .status)) (subst Clean (b .1 .1) k)
   where
     go : (c : Check) (f : Bool) → Clean (after-as f events c o) → o .reasons ≡ []
     go c true q = q .no-reason
-    go c false q = nil-l (o .reasons) (c .unknown) (nil-l (o .reasons ++ c .unknown) (c .incomplete) (nil-sorted (o .reasons ++ c .unknown ++ c .incomplete) (q .no-reason)))
+    go c false q = nil-l (o .reasons) (c .unknown)
+        (nil-l (o .reasons ++ c .unknown) (c .incomplete)
+        (nil-sorted (o .reasons ++ c .unknown ++ c .incomplete) (q .no-reason)))
 
 -- what a check's status says
 record Judged (c : Check) : Type 0 where
   status-is : c .status ≡ status-of (c .violations) (c .unknown) (c .incomplete)
   complete : c .incomplete ≡ [] → c .simulation .incomplete ≡ []
 
-is-judged : (areas : Areas) (m : Model) (cells : List Cell) (events : List Event) (c : Check) → checked areas m cells events ≡ answer c → Judged c
+is-judged : (areas : Areas) (m : Model) (cells : List Cell) (events : List Event) (c : Check)
+    → checked areas m cells events ≡ answer c → Judged c
 unfolding judged
-is-judged areas m cells events c e = subst Judged (sym (checked-is areas m cells events c e)) (record { status-is = refl; complete = λ q. nil-l _ _ (nil-sorted _ q) })
+is-judged areas m cells events c e =
+    subst Judged (sym (checked-is areas m cells events c e))
+    (record { status-is = refl; complete = λ q. nil-l _ _ (nil-sorted _ q) })
 
 no-violation : (us is : List Text) → is-violation (status-of [] us is) ≡ false
 unfolding status-of is-empty is-violation
@@ -206,75 +262,112 @@ told-nil [] vs′ e z = refl
 told-nil (v ∷ vs) [] e z = absurd (cons-nil e)
 told-nil (v ∷ vs) (w ∷ ws) e z = absurd (cons-nil z)
 
-clash : (c c′ : Check) → Judged c → Judged c′ → is-violation (c .status) ≡ true → is-violation (c′ .status) ≡ false → c′ .unknown ≡ []
+clash : (c c′ : Check) → Judged c → Judged c′ → is-violation (c .status) ≡ true → is-violation (c′ .status) ≡ false
+    → c′ .unknown ≡ []
     → each violation-told (c .violations) ≡ each violation-told (c′ .violations) → ⊥
 clash c c′ j j′ v v′ u t =
-    true≢false (sym v ∙ ap is-violation (j .status-is) ∙ ap (λ (l : List Violation). is-violation (status-of l (c .unknown) (c .incomplete))) none-here ∙ no-violation (c .unknown) (c .incomplete))
+    true≢false (sym v ∙ ap is-violation (j .status-is)
+    ∙ ap (λ (l : List Violation). is-violation (status-of l (c .unknown) (c .incomplete))) none-here
+    ∙ no-violation (c .unknown) (c .incomplete))
   where
     none-there : c′ .violations ≡ []
-    none-there = not-violated (c′ .violations) (c′ .incomplete) (sym (ap (λ (l : List Text). is-violation (status-of (c′ .violations) l (c′ .incomplete))) u) ∙ sym (ap is-violation (j′ .status-is)) ∙ v′)
+    none-there = not-violated (c′ .violations) (c′ .incomplete)
+        (sym (ap (λ (l : List Text). is-violation (status-of (c′ .violations) l (c′ .incomplete))) u)
+        ∙ sym (ap is-violation (j′ .status-is)) ∙ v′)
 
     none-here : c .violations ≡ []
     none-here = told-nil (c .violations) (c′ .violations) t none-there
 
 module _ (areas areas′ : Areas) (m m′ : Model) (cells cells′ : List Cell)
-    (agree : (events : List Event) (c c′ : Check) → checked areas m cells events ≡ answer c → checked areas′ m′ cells′ events ≡ answer c′ → c .simulation .incomplete ≡ [] → c′ .simulation .incomplete ≡ []
+    (agree : (events : List Event) (c c′ : Check) → checked areas m cells events ≡ answer c
+    → checked areas′ m′ cells′ events ≡ answer c′ → c .simulation .incomplete ≡ [] → c′ .simulation .incomplete ≡ []
     → each violation-told (c .violations) ≡ each violation-told (c′ .violations))
-    (same-depth : m .scenario .limits .search-depth ≡ m′ .scenario .limits .search-depth) (same-horizon : m .scenario .limits .horizon ≡ m′ .scenario .limits .horizon)
-    (same-alphabet : m .scenario .alphabet ≡ m′ .scenario .alphabet) (same-gaps : m .scenario .gaps ≡ m′ .scenario .gaps) where
+    (same-depth : m .scenario .limits .search-depth ≡ m′ .scenario .limits .search-depth)
+    (same-horizon : m .scenario .limits .horizon ≡ m′ .scenario .limits .horizon)
+    (same-alphabet : m .scenario .alphabet ≡ m′ .scenario .alphabet)
+    (same-gaps : m .scenario .gaps ≡ m′ .scenario .gaps) where
   case-agree : (events : List Event) → AgreeGo (try-case areas m cells events) (try-case areas′ m′ cells′ events)
   case-agree events o o′ o₁ o₁′ s s′ t e e′ k k′ =
-      let b : (c : Check) × ((checked areas m cells events ≡ answer c) × (o₁ ≡ after-as (is-violation (c .status)) events c o)) = case-inv areas m cells events o o₁ e k in
-      let b′ : (c : Check) × ((checked areas′ m′ cells′ events ≡ answer c) × (o₁′ ≡ after-as (is-violation (c .status)) events c o′)) = case-inv areas′ m′ cells′ events o′ o₁′ e′ k′ in
-      subst (λ (x : Search). Twin x o₁′) (sym (b .1 .1)) (subst (Twin (after-as (is-violation (b .0 .status)) events (b .0) o)) (sym (b′ .1 .1))
-      (go (b .0) (b′ .0) (b .1 .0) (b′ .1 .0) (is-violation (b .0 .status)) (is-violation (b′ .0 .status)) refl refl (subst Clean (b .1 .1) k) (subst Clean (b′ .1 .1) k′)))
+      let b : (c : Check) × ((checked areas m cells events ≡ answer c)
+      × (o₁ ≡ after-as (is-violation (c .status)) events c o)) = case-inv areas m cells events o o₁ e k in
+      let b′ : (c : Check) × ((checked areas′ m′ cells′ events ≡ answer c)
+      × (o₁′ ≡ after-as (is-violation (c .status)) events c o′)) = case-inv areas′ m′ cells′ events o′ o₁′ e′ k′ in
+      subst (λ (x : Search). Twin x o₁′) (sym (b .1 .1))
+      (subst (Twin (after-as (is-violation (b .0 .status)) events (b .0) o)) (sym (b′ .1 .1))
+      (go (b .0) (b′ .0) (b .1 .0) (b′ .1 .0) (is-violation (b .0 .status)) (is-violation (b′ .0 .status)) refl refl
+      (subst Clean (b .1 .1) k) (subst Clean (b′ .1 .1) k′)))
     where
-      go : (c c′ : Check) → checked areas m cells events ≡ answer c → checked areas′ m′ cells′ events ≡ answer c′ → (f f′ : Bool) → is-violation (c .status) ≡ f → is-violation (c′ .status) ≡ f′
-          → Clean (after-as f events c o) → Clean (after-as f′ events c′ o′) → Twin (after-as f events c o) (after-as f′ events c′ o′)
-      go c c′ p p′ true true v v′ q q′ = record { same-cases = ap (λ (n : ℕ). n + 1) (t .same-cases); same-events = unfold events-of in refl; same-stop = refl }
-      go c c′ p p′ false false v v′ q q′ = record { same-cases = ap (λ (n : ℕ). n + 1) (t .same-cases); same-events = t .same-events; same-stop = refl }
+      go : (c c′ : Check) → checked areas m cells events ≡ answer c → checked areas′ m′ cells′ events ≡ answer c′
+          → (f f′ : Bool) → is-violation (c .status) ≡ f → is-violation (c′ .status) ≡ f′
+          → Clean (after-as f events c o) → Clean (after-as f′ events c′ o′)
+          → Twin (after-as f events c o) (after-as f′ events c′ o′)
+      go c c′ p p′ true true v v′ q q′ =
+          record {
+            same-cases = ap (λ (n : ℕ). n + 1) (t .same-cases);
+            same-events = unfold events-of in
+                refl;
+            same-stop = refl;
+          }
+      go c c′ p p′ false false v v′ q q′ =
+          record { same-cases = ap (λ (n : ℕ). n + 1) (t .same-cases); same-events = t .same-events; same-stop = refl }
       go c c′ p p′ true false v v′ q q′ =
-          let n : o′ .reasons ++ c′ .unknown ++ c′ .incomplete ≡ [] = nil-sorted (o′ .reasons ++ c′ .unknown ++ c′ .incomplete) (q′ .no-reason) in
+          let n : o′ .reasons ++ c′ .unknown ++ c′ .incomplete ≡ [] =
+          nil-sorted (o′ .reasons ++ c′ .unknown ++ c′ .incomplete) (q′ .no-reason) in
           absurd (clash c c′ (is-judged areas m cells events c p) (is-judged areas′ m′ cells′ events c′ p′) v v′
           (nil-r (o′ .reasons) (c′ .unknown) (nil-l (o′ .reasons ++ c′ .unknown) (c′ .incomplete) n))
-          (agree events c c′ p p′ ((is-judged areas m cells events c p) .complete (unfold left-open in (q .whole refl))) ((is-judged areas′ m′ cells′ events c′ p′) .complete (nil-r (o′ .reasons ++ c′ .unknown) (c′ .incomplete) n))))
+          (agree events c c′ p p′ ((is-judged areas m cells events c p) .complete
+          (unfold left-open in (q .whole refl)))
+          ((is-judged areas′ m′ cells′ events c′ p′) .complete (nil-r (o′ .reasons ++ c′ .unknown) (c′ .incomplete) n))))
       go c c′ p p′ false true v v′ q q′ =
-          let n : o .reasons ++ c .unknown ++ c .incomplete ≡ [] = nil-sorted (o .reasons ++ c .unknown ++ c .incomplete) (q .no-reason) in
+          let n : o .reasons ++ c .unknown ++ c .incomplete ≡ [] =
+          nil-sorted (o .reasons ++ c .unknown ++ c .incomplete) (q .no-reason) in
           absurd (clash c′ c (is-judged areas′ m′ cells′ events c′ p′) (is-judged areas m cells events c p) v′ v
           (nil-r (o .reasons) (c .unknown) (nil-l (o .reasons ++ c .unknown) (c .incomplete) n))
-          (sym (agree events c c′ p p′ ((is-judged areas m cells events c p) .complete (nil-r (o .reasons ++ c .unknown) (c .incomplete) n)) ((is-judged areas′ m′ cells′ events c′ p′) .complete (unfold left-open in (q′ .whole refl))))))
+          (sym (agree events c c′ p p′
+          ((is-judged areas m cells events c p) .complete (nil-r (o .reasons ++ c .unknown) (c .incomplete) n))
+          ((is-judged areas′ m′ cells′ events c′ p′) .complete (unfold left-open in (q′ .whole refl))))))
 
   -- ---- all cases
 
-  visit-fine : (areas : Areas) (m : Model) (cells : List Cell) (n : ℕ) (events : List Event) → FineGo (visit areas m cells n events)
+  visit-fine : (areas : Areas) (m : Model) (cells : List Cell) (n : ℕ) (events : List Event)
+      → FineGo (visit areas m cells n events)
   unfolding visit
   visit-fine areas m cells zero events o o₁ s e k = case-fine areas m cells events o o₁ s e k
-  visit-fine areas m cells (suc n) events o o₁ s e k = (gaps-fine (visit areas m cells n) (visit-fine areas m cells n) events (m .scenario .limits .horizon) (m .scenario .alphabet) (m .scenario .gaps) o o₁ e k) .no-reason
+  visit-fine areas m cells (suc n) events o o₁ s e k =
+      (gaps-fine (visit areas m cells n) (visit-fine areas m cells n) events (m .scenario .limits .horizon)
+      (m .scenario .alphabet) (m .scenario .gaps) o o₁ e k) .no-reason
 
   visit-agree : (n : ℕ) (events : List Event) → AgreeGo (visit areas m cells n events) (visit areas′ m′ cells′ n events)
   unfolding visit
   visit-agree zero events o o′ o₁ o₁′ s s′ t e e′ k k′ = case-agree events o o′ o₁ o₁′ s s′ t e e′ k k′
   visit-agree (suc n) events o o′ o₁ o₁′ s s′ t e e′ k k′ =
-      gaps-agree (visit areas m cells n) (visit areas′ m′ cells′ n) (visit-fine areas m cells n) (visit-fine areas′ m′ cells′ n) (visit-agree n) events (m .scenario .limits .horizon) (m .scenario .alphabet) (m .scenario .gaps)
+      gaps-agree (visit areas m cells n) (visit areas′ m′ cells′ n) (visit-fine areas m cells n)
+      (visit-fine areas′ m′ cells′ n) (visit-agree n) events (m .scenario .limits .horizon)
+      (m .scenario .alphabet) (m .scenario .gaps)
       o o′ o₁ o₁′ t e (rw (same-horizon, same-alphabet, same-gaps) e′) k k′
 
   deepen-fine : (areas : Areas) (m : Model) (cells : List Cell) (n d : ℕ) → Fine (deepen areas m cells n d)
   unfolding deepen
   deepen-fine areas m cells zero d = answer-fine
   deepen-fine areas m cells (suc n) d =
-      then-fine (unless-stopped (visit areas m cells d [])) (deepen areas m cells n (d + 1)) (unless-fine (visit areas m cells d []) (visit-fine areas m cells d [])) (deepen-fine areas m cells n (d + 1))
+      then-fine (unless-stopped (visit areas m cells d [])) (deepen areas m cells n (d + 1))
+      (unless-fine (visit areas m cells d []) (visit-fine areas m cells d [])) (deepen-fine areas m cells n (d + 1))
 
   deepen-agree : (n d : ℕ) → Agree (deepen areas m cells n d) (deepen areas′ m′ cells′ n d)
   unfolding deepen
   deepen-agree zero d = answer-agree
   deepen-agree (suc n) d =
-      then-agree (unless-stopped (visit areas m cells d [])) (unless-stopped (visit areas′ m′ cells′ d [])) (deepen areas m cells n (d + 1)) (deepen areas′ m′ cells′ n (d + 1))
-      (unless-agree (visit areas m cells d []) (visit areas′ m′ cells′ d []) (visit-agree d [])) (deepen-fine areas m cells n (d + 1)) (deepen-fine areas′ m′ cells′ n (d + 1)) (deepen-agree n (d + 1))
+      then-agree (unless-stopped (visit areas m cells d [])) (unless-stopped (visit areas′ m′ cells′ d []))
+      (deepen areas m cells n (d + 1)) (deepen areas′ m′ cells′ n (d + 1))
+      (unless-agree (visit areas m cells d []) (visit areas′ m′ cells′ d []) (visit-agree d []))
+      (deepen-fine areas m cells n (d + 1)) (deepen-fine areas′ m′ cells′ n (d + 1)) (deepen-agree n (d + 1))
 
-  searched-agree : (o o′ : Search) → searched areas m cells ≡ answer o → searched areas′ m′ cells′ ≡ answer o′ → Clean o → Clean o′ → Twin o o′
+  searched-agree : (o o′ : Search) → searched areas m cells ≡ answer o → searched areas′ m′ cells′ ≡ answer o′
+      → Clean o → Clean o′ → Twin o o′
   unfolding searched
   searched-agree o o′ e e′ k k′ =
-      deepen-agree (m .scenario .limits .search-depth + 1) 0 (unsearched m) (unsearched m′) o o′ (record { same-cases = refl; same-events = refl; same-stop = refl }) e (rw same-depth e′) k k′
+      deepen-agree (m .scenario .limits .search-depth + 1) 0 (unsearched m) (unsearched m′) o o′
+      (record { same-cases = refl; same-events = refl; same-stop = refl }) e (rw same-depth e′) k k′
 
   found-same : (w w′ : Option Witness) → events-of w ≡ events-of w′ → found-of w [] ≡ found-of w′ []
   unfolding events-of found-of
@@ -283,12 +376,16 @@ module _ (areas areas′ : Areas) (m m′ : Model) (cells cells′ : List Cell)
   found-same (some w) none e = absurd (none-some (sym e))
   found-same (some w) (some w′) e = refl
 
-  pub verified-same : (v v′ : Verification) → verified areas m cells ≡ answer v → verified areas′ m′ cells′ ≡ answer v′ → v .reasons ≡ [] → v′ .reasons ≡ [] → witness-incomplete v ≡ [] → witness-incomplete v′ ≡ []
+  pub verified-same : (v v′ : Verification) → verified areas m cells ≡ answer v
+      → verified areas′ m′ cells′ ≡ answer v′ → v .reasons ≡ [] → v′ .reasons ≡ [] → witness-incomplete v ≡ []
+      → witness-incomplete v′ ≡ []
       → SameVerification v v′
   unfolding verified
   verified-same v v′ e e′ =
-      let b : (o : Search) × ((searched areas m cells ≡ answer o) × (answer (verification-of o) ≡ answer v)) = bind-inv (searched areas m cells) (λ o. answer (verification-of o)) v e in
-      let b′ : (o : Search) × ((searched areas′ m′ cells′ ≡ answer o) × (answer (verification-of o) ≡ answer v′)) = bind-inv (searched areas′ m′ cells′) (λ o. answer (verification-of o)) v′ e′ in
+      let b : (o : Search) × ((searched areas m cells ≡ answer o) × (answer (verification-of o) ≡ answer v)) =
+      bind-inv (searched areas m cells) (λ o. answer (verification-of o)) v e in
+      let b′ : (o : Search) × ((searched areas′ m′ cells′ ≡ answer o) × (answer (verification-of o) ≡ answer v′)) =
+      bind-inv (searched areas′ m′ cells′) (λ o. answer (verification-of o)) v′ e′ in
       rw (← (answer-eq (b .1 .1)), ← (answer-eq (b′ .1 .1))) (go (b .0) (b′ .0) (b .1 .0) (b′ .1 .0))
     where
       open-is : (o : Search) → witness-incomplete (verification-of o) ≡ left-open (o .witness)
@@ -306,7 +403,11 @@ module _ (areas areas′ : Areas) (m m′ : Model) (cells cells′ : List Cell)
           by (some w) = unfold events-of in refl
 
       clean : (o : Search) → (verification-of o) .reasons ≡ [] → witness-incomplete (verification-of o) ≡ [] → Clean o
-      clean o r w = record { no-reason = nil-sorted (o .reasons) (unfold verification-of in r); whole = λ q. sym (open-is o) ∙ w }
+      clean o r w = record {
+        no-reason = nil-sorted (o .reasons) (unfold verification-of in r);
+        whole =
+            λ q. sym (open-is o) ∙ w;
+      }
 
       status-is : (o : Search) → (verification-of o) .reasons ≡ [] → (verification-of o) .status ≡ found-of (o .witness) []
       status-is o r = unfold verification-of in (ap (found-of (o .witness)) (unfold verification-of in r))
@@ -314,8 +415,10 @@ module _ (areas areas′ : Areas) (m m′ : Model) (cells cells′ : List Cell)
       cases-is : (o : Search) → (verification-of o) .cases ≡ o .cases
       cases-is o = unfold verification-of in refl
 
-      go : (o o′ : Search) → searched areas m cells ≡ answer o → searched areas′ m′ cells′ ≡ answer o′ → (verification-of o) .reasons ≡ [] → (verification-of o′) .reasons ≡ []
-          → witness-incomplete (verification-of o) ≡ [] → witness-incomplete (verification-of o′) ≡ [] → SameVerification (verification-of o) (verification-of o′)
+      go : (o o′ : Search) → searched areas m cells ≡ answer o → searched areas′ m′ cells′ ≡ answer o′
+          → (verification-of o) .reasons ≡ [] → (verification-of o′) .reasons ≡ []
+          → witness-incomplete (verification-of o) ≡ [] → witness-incomplete (verification-of o′) ≡ []
+          → SameVerification (verification-of o) (verification-of o′)
       go o o′ p p′ r r′ w w′ =
           let t : Twin o o′ = searched-agree o o′ p p′ (clean o r w) (clean o′ r′ w′) in
           record {

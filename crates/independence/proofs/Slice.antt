@@ -1,20 +1,33 @@
--- The loop: a complete one, seen from the cone, is that of the cone's automations alone; so two models alike in the cone have one view.
-use Prim.Native.Nat.{ℕ, zero, suc, _+_, _≤_, _<_}
-use mathlib.Core.Bool.{Bool, true, false, not, _||_, true≢false, false≢true}
-use mathlib.Core.List.{List, [], _∷_, _++_}
+-- The loop: a complete one, seen from the cone, is that of the cone's automations alone; so two models alike in the
+-- cone have one view.
+use Prim.Native.Nat.{ℕ, zero, suc, _+_}
+use mathlib.Core.Bool.{Bool, true, false, _||_, false≢true}
+use mathlib.Core.List.{List, [], _∷_}
 use mathlib.Core.Option.{Option, none, some}
 use mathlib.Core.Path.{_≡_, refl, sym, ap, _∙_, subst}
-use native.Mathlib.Omega.{arith}
 use lib.Dec.{leb, ltb}
 use lib.ListN.{length}
 use Rattle.texts.specs.Lists.{if_then_else_, _▸_, keep, each}
 use Rattle.texts.specs.Texts.{Text}
 use Rattle.model.specs.Model.{Automation}
-use Rattle.engine.specs.Records.{Run, Work, Item, Areas, Engine}
+use Rattle.engine.specs.Records.{Run, Item, Engine}
 use Rattle.engine.specs.Changes.{with-queue}
 use Rattle.engine.specs.Reasons.{space-spent, steps-spent}
 use Rattle.engine.specs.Engine.{pop, process, Next, stop, exhausted, take, next-of, Ended, loop}
-use Rattle.independence.proofs.Base.{keep-again, keep-each, each-each, Every, every-keep, Case, is-true, is-false, case, leb-le, le-leb, gt-leb, some-eq, none-some}
+use Rattle.independence.proofs.Base.{
+  keep-again,
+  keep-each,
+  each-each,
+  Every,
+  every-keep,
+  Case,
+  is-true,
+  is-false,
+  case,
+  leb-le,
+  some-eq,
+  none-some,
+}
 use Rattle.independence.proofs.Queue.{Taken, late, late-le, pop-empty, pop-least, pop-late, pop-in, pop-out}
 use Rattle.independence.proofs.View
 use Rattle.independence.proofs.View.{bare}
@@ -42,9 +55,11 @@ goes h e = go (pop (e .queue)) refl
     go none p = stops (subst (Every (late (suc h))) (sym (pop-empty (e .queue) p)) tt)
     go (some (i, l)) p = by (leb 10000 (length (e .trace)) || ltb 20000 (length (e .queue))) (case (ltb h (i .at)))
       where
-        by : (b : Bool) → Case (ltb h (i .at)) → Goes h e (if b then exhausted else if ltb h (i .at) then stop else take i l)
+        by : (b : Bool) → Case (ltb h (i .at))
+            → Goes h e (if b then exhausted else if ltb h (i .at) then stop else take i l)
         by true c = spent
-        by false (is-true c) = rw c (stops (late-le (suc h) (i .at) (leb-le (suc h) (i .at) c) (e .queue) (pop-least (e .queue) i l p)))
+        by false (is-true c) = rw c (stops
+            (late-le (suc h) (i .at) (leb-le (suc h) (i .at) c) (e .queue) (pop-least (e .queue) i l p)))
         by false (is-false c) = rw c (takes i l p c)
 
 module _ (inE inA : Text → Bool) where
@@ -77,7 +92,8 @@ module _ (inE inA : Text → Bool) where
   bares-again : (l : List Run) → View.bares inE inA (View.bares inE inA l) ≡ View.bares inE inA l
   unfolding View.bares View.cone-run bare
   bares-again l =
-      ap (each bare) (keep-each bare (View.cone-run inE inA) (View.cone-run inE inA) (λ x. refl) (keep (View.cone-run inE inA) l))
+      ap (each bare) (keep-each bare (View.cone-run inE inA) (View.cone-run inE inA) (λ x. refl)
+      (keep (View.cone-run inE inA) l))
       ∙ each-each bare bare bare (λ x. refl) (keep (View.cone-run inE inA) (keep (View.cone-run inE inA) l))
       ∙ ap (each bare) (keep-again (View.cone-run inE inA) l)
 
@@ -98,10 +114,12 @@ module _ (inE inA : Text → Bool) where
 
   unfoldable pub cone-loop : (rules : List Automation) → (h n : ℕ) → Engine → Option Engine
   cone-loop rules h zero c = onward h (λ i l. none) c (pop (c .queue))
-  cone-loop rules h (suc n) c = onward h (λ i l. cone-loop rules h n (strip (process (i .at) rules (i .work) (with-queue l c)))) c (pop (c .queue))
+  cone-loop rules h (suc n) c =
+      onward h (λ i l. cone-loop rules h n (strip (process (i .at) rules (i .work) (with-queue l c)))) c (pop (c .queue))
 
   module _ (rules : List Automation) (h : ℕ) where
-    onward-stop : (go : Item → List Item → Option Engine) (c : Engine) → Every (late (suc h)) (c .queue) → onward h go c (pop (c .queue)) ≡ some c
+    onward-stop : (go : Item → List Item → Option Engine) (c : Engine) → Every (late (suc h)) (c .queue)
+        → onward h go c (pop (c .queue)) ≡ some c
     unfolding onward late
     onward-stop go c k = by (pop (c .queue)) refl
       where
@@ -122,7 +140,8 @@ module _ (inE inA : Text → Bool) where
     -- how a loop that ends went on
     data Went (go : Item → List Item → Option Engine) (c t : Engine) : Type 0 where
       ended : c ≡ t → Every (late (suc h)) (c .queue) → Went go c t
-      took-one : (i : Item) (l : List Item) → pop (c .queue) ≡ some (i, l) → ltb h (i .at) ≡ false → go i l ≡ some t → Went go c t
+      took-one : (i : Item) (l : List Item) → pop (c .queue) ≡ some (i, l) → ltb h (i .at) ≡ false → go i l ≡ some t
+          → Went go c t
 
     went : (go : Item → List Item → Option Engine) (c t : Engine) → onward h go c (pop (c .queue)) ≡ some t → Went go c t
     unfolding onward late
@@ -133,7 +152,8 @@ module _ (inE inA : Text → Bool) where
         by (some (i, l)) q e = by′ (case (ltb h (i .at)))
           where
             by′ : Case (ltb h (i .at)) → Went go c t
-            by′ (is-true b) = ended (some-eq (rw b at e)) (late-le (suc h) (i .at) (leb-le (suc h) (i .at) b) (c .queue) (pop-least (c .queue) i l q))
+            by′ (is-true b) = ended (some-eq (rw b at e))
+                (late-le (suc h) (i .at) (leb-le (suc h) (i .at) b) (c .queue) (pop-least (c .queue) i l q))
             by′ (is-false b) = took-one i l q b (rw b at e)
 
     loop-more : (n : ℕ) (c t : Engine) → cone-loop rules h n c ≡ some t → cone-loop rules h (suc n) c ≡ some t
@@ -146,7 +166,8 @@ module _ (inE inA : Text → Bool) where
     loop-more (suc n) c t e = by (went _ c t e) (loop-more n)
       where
         by : Went (λ i l. cone-loop rules h n (strip (process (i .at) rules (i .work) (with-queue l c)))) c t
-            → ((c t : Engine) → cone-loop rules h n c ≡ some t → cone-loop rules h (suc n) c ≡ some t) → cone-loop rules h (suc (suc n)) c ≡ some t
+            → ((c t : Engine) → cone-loop rules h n c ≡ some t → cone-loop rules h (suc n) c ≡ some t)
+            → cone-loop rules h (suc (suc n)) c ≡ some t
         by (ended p k) ih = loop-stop (suc (suc n)) c k ∙ ap some p
         by (took-one i l p b q) ih = took-on (suc n) c i l p b ∙ ih _ t q
 
@@ -171,18 +192,27 @@ module _ (inE inA : Text → Bool) where
         by (took-one i l p b q) ih = ih _ t u q (sym (took-on m c i l p b) ∙ g)
 
   -- one step of the whole loop, seen from the cone
-  one-in : (rules : List Automation) (h n : ℕ) (s : Engine) (i : Item) (l : List Item) → Every (Steps.good-rule inE inA) rules → Every (Steps.good-run inE inA) (s .runs)
+  one-in : (rules : List Automation) (h n : ℕ) (s : Engine) (i : Item) (l : List Item)
+      → Every (Steps.good-rule inE inA) rules → Every (Steps.good-run inE inA) (s .runs)
       → pop (s .queue) ≡ some (i, l) → ltb h (i .at) ≡ false → View.cone-work inE inA (i .work) ≡ true
-      → cone-loop (keep (View.cone-rule inE inA) rules) h (suc n) (strip s) ≡ cone-loop (keep (View.cone-rule inE inA) rules) h n (strip (process (i .at) rules (i .work) (with-queue l s)))
+      → cone-loop (keep (View.cone-rule inE inA) rules) h (suc n) (strip s) ≡ cone-loop
+      (keep (View.cone-rule inE inA) rules) h n (strip (process (i .at) rules (i .work) (with-queue l s)))
   one-in rules h n s i l good g p b c =
-      took-on (keep (View.cone-rule inE inA) rules) h n (strip s) i (keep (View.cone-item inE inA) l) (unfold strip in (pop-in (View.cone-item inE inA) (s .queue) i l p (unfold View.cone-item in c))) b
-      ∙ ap (cone-loop (keep (View.cone-rule inE inA) rules) h n) (sym (strip-eq (Steps.process-in inE inA (i .at) rules (i .work) (with-queue l s) (with-queue (keep (View.cone-item inE inA) l) (strip s)) good (unfold with-queue in g) c
-      (View.l-with-queue inE inA (strip-like s) l (keep (View.cone-item inE inA) l) (sym (keep-again (View.cone-item inE inA) l))))))
+      took-on (keep (View.cone-rule inE inA) rules) h n (strip s) i (keep (View.cone-item inE inA) l)
+      (unfold strip in (pop-in (View.cone-item inE inA) (s .queue) i l p (unfold View.cone-item in c))) b
+      ∙ ap (cone-loop (keep (View.cone-rule inE inA) rules) h n)
+      (sym (strip-eq (Steps.process-in inE inA (i .at) rules (i .work) (with-queue l s)
+      (with-queue (keep (View.cone-item inE inA) l) (strip s)) good (unfold with-queue in g) c
+      (View.l-with-queue inE inA (strip-like s) l (keep (View.cone-item inE inA) l)
+      (sym (keep-again (View.cone-item inE inA) l))))))
 
-  one-out : (rules : List Automation) (s : Engine) (i : Item) (l : List Item) → Every (Steps.good-rule inE inA) rules → Every (Steps.good-run inE inA) (s .runs)
-      → pop (s .queue) ≡ some (i, l) → View.cone-work inE inA (i .work) ≡ false → strip (process (i .at) rules (i .work) (with-queue l s)) ≡ strip s
+  one-out : (rules : List Automation) (s : Engine) (i : Item) (l : List Item) → Every (Steps.good-rule inE inA) rules
+      → Every (Steps.good-run inE inA) (s .runs)
+      → pop (s .queue) ≡ some (i, l) → View.cone-work inE inA (i .work) ≡ false
+      → strip (process (i .at) rules (i .work) (with-queue l s)) ≡ strip s
   one-out rules s i l good g p c =
-      strip-eq (View.like-trans inE inA (Steps.process-out inE inA (i .at) rules (i .work) (with-queue l s) good (unfold with-queue in g) c)
+      strip-eq (View.like-trans inE inA
+      (Steps.process-out inE inA (i .at) rules (i .work) (with-queue l s) good (unfold with-queue in g) c)
       (View.o-with-queue inE inA s l (pop-out (View.cone-item inE inA) (s .queue) i l p (unfold View.cone-item in c))))
 
   view-late : (n : ℕ) (s : Engine) → Every (late n) (s .queue) → Every (late n) ((strip s) .queue)
@@ -191,7 +221,8 @@ module _ (inE inA : Text → Bool) where
 
   module _ (rules : List Automation) (h : ℕ) (good : Every (Steps.good-rule inE inA) rules) where
     abbrev Seen : ℕ → Engine → Ended → Type 0
-    Seen n s d = d .incomplete ≡ [] → cone-loop (keep (View.cone-rule inE inA) rules) h n (strip s) ≡ some (strip (d .engine))
+    Seen n s d = d .incomplete ≡ [] → cone-loop (keep (View.cone-rule inE inA) rules) h n (strip s) ≡ some
+        (strip (d .engine))
 
     pub slice : (n k : ℕ) (s : Engine) → Every (Steps.good-run inE inA) (s .runs) → Seen n s (loop rules h n k s)
     unfolding loop
@@ -208,7 +239,8 @@ module _ (inE inA : Text → Bool) where
         by (takes i l p b) e = absurd (cons-nil e)
     slice (suc n) k s g = by (goes h s) (slice n)
       where
-        by : {x : Next} → Goes h s x → ((k : ℕ) (s : Engine) → Every (Steps.good-run inE inA) (s .runs) → Seen n s (loop rules h n k s))
+        by : {x : Next} → Goes h s x
+            → ((k : ℕ) (s : Engine) → Every (Steps.good-run inE inA) (s .runs) → Seen n s (loop rules h n k s))
             → Seen (suc n) s (elim x [
               | stop ↦ record { engine = s; steps = k; incomplete = [] }
               | exhausted ↦ record { engine = s; steps = k; incomplete = space-spent ∷ [] }
@@ -218,19 +250,25 @@ module _ (inE inA : Text → Bool) where
         by spent ih e = absurd (cons-nil e)
         by (takes i l p b) ih e = side (case (View.cone-work inE inA (i .work)))
           where
-            rest : cone-loop (keep (View.cone-rule inE inA) rules) h n (strip (process (i .at) rules (i .work) (with-queue l s)))
+            rest : cone-loop (keep (View.cone-rule inE inA) rules) h n
+                (strip (process (i .at) rules (i .work) (with-queue l s)))
                 ≡ some (strip ((loop rules h n (k + 1) (process (i .at) rules (i .work) (with-queue l s))) .engine))
-            rest = ih (k + 1) (process (i .at) rules (i .work) (with-queue l s)) (Good.process-good inE inA (i .at) rules (i .work) (with-queue l s) good (unfold with-queue in g)) e
+            rest = ih (k + 1) (process (i .at) rules (i .work) (with-queue l s))
+                (Good.process-good inE inA (i .at) rules (i .work) (with-queue l s) good (unfold with-queue in g)) e
 
             side : Case (View.cone-work inE inA (i .work))
-                → cone-loop (keep (View.cone-rule inE inA) rules) h (suc n) (strip s) ≡ some (strip ((loop rules h n (k + 1) (process (i .at) rules (i .work) (with-queue l s))) .engine))
+                → cone-loop (keep (View.cone-rule inE inA) rules) h (suc n) (strip s) ≡ some
+                (strip ((loop rules h n (k + 1) (process (i .at) rules (i .work) (with-queue l s))) .engine))
             side (is-true c) = one-in rules h n s i l good g p b c ∙ rest
-            side (is-false c) = loop-more (keep (View.cone-rule inE inA) rules) h n (strip s) _ (ap (cone-loop (keep (View.cone-rule inE inA) rules) h n) (sym (one-out rules s i l good g p c)) ∙ rest)
+            side (is-false c) = loop-more (keep (View.cone-rule inE inA) rules) h n (strip s) _
+                (ap (cone-loop (keep (View.cone-rule inE inA) rules) h n) (sym (one-out rules s i l good g p c)) ∙ rest)
 
   -- two models alike in the cone
-  pub alike : (rules rules′ : List Automation) (h : ℕ) → Every (Steps.good-rule inE inA) rules → Every (Steps.good-rule inE inA) rules′
+  pub alike : (rules rules′ : List Automation) (h : ℕ) → Every (Steps.good-rule inE inA) rules
+      → Every (Steps.good-rule inE inA) rules′
       → keep (View.cone-rule inE inA) rules ≡ keep (View.cone-rule inE inA) rules′
-      → (n n′ : ℕ) (s s′ : Engine) → Every (Steps.good-run inE inA) (s .runs) → Every (Steps.good-run inE inA) (s′ .runs) → strip s ≡ strip s′
+      → (n n′ : ℕ) (s s′ : Engine) → Every (Steps.good-run inE inA) (s .runs)
+      → Every (Steps.good-run inE inA) (s′ .runs) → strip s ≡ strip s′
       → (loop rules h n 0 s) .incomplete ≡ [] → (loop rules′ h n′ 0 s′) .incomplete ≡ []
       → strip ((loop rules h n 0 s) .engine) ≡ strip ((loop rules′ h n′ 0 s′) .engine)
   alike rules rules′ h good good′ same n n′ s s′ g g′ e p q =

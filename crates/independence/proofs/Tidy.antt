@@ -1,15 +1,30 @@
--- Time: no work is due before now, the records' seconds never fall, the first record is a boundary, and boundaries show no change.
-use Prim.Native.Nat.{ℕ, zero, suc, _+_, _≤_, _<_}
-use mathlib.Core.Bool.{Bool, true, false, not, _&&_, _||_, true≢false, false≢true}
+-- Time: no work is due before now, the records' seconds never fall, the first record is a boundary, and boundaries
+-- show no change.
+use Prim.Native.Nat.{ℕ, zero, suc, _+_, _≤_}
+use mathlib.Core.Bool.{Bool, true, false, not, _&&_, _||_, false≢true}
 use mathlib.Core.List.{List, [], _∷_, _++_}
 use mathlib.Core.Option.{Option, none, some}
-use mathlib.Core.Path.{_≡_, refl, sym, ap, _∙_, subst}
+use mathlib.Core.Path.{_≡_, refl}
 use native.Mathlib.Omega.{arith}
-use lib.Dec.{leb, ltb, eqb}
-use Rattle.texts.specs.Lists.{if_then_else_, _▸_, absent, any, keep, find, tally, each, flat, through}
+use lib.Dec.{eqb}
+use Rattle.texts.specs.Lists.{if_then_else_, _▸_, absent, any, keep, find, tally, each, through}
 use Rattle.texts.specs.Texts.{Text, text, eqT}
 use Rattle.model.specs.Validate.{undecided}
-use Rattle.model.specs.Model.{Source, Predicate, Trigger, Effect, toggle, delay, condition, choose, wait, Actions, done, act, Automation, Input, reload}
+use Rattle.model.specs.Model.{
+  Source,
+  Effect,
+  toggle,
+  delay,
+  condition,
+  choose,
+  wait,
+  Actions,
+  done,
+  act,
+  Automation,
+  Input,
+  reload,
+}
 use Rattle.engine.specs.Cells.{Cell, cell-of, value-of, put}
 use Rattle.engine.specs.Kleene.{Truth, Yes, No, Unknown}
 use Rattle.engine.specs.Truth.{evaluate, evaluate-all, matches}
@@ -17,11 +32,65 @@ use Rattle.engine.specs.Modes.{Decision, already-running, max-reached, start, s
 use Rattle.engine.specs.Reasons.{unsupported-wait, space-spent, steps-spent}
 use Rattle.engine.specs.Records.{Key, Waiting, Run, Work, Item, Kind, Change, Trace, Engine}
 use Rattle.engine.specs.Changes.{if-some, with-cells, add, append, with-runs, add-run, uncertain, with-queue, adds}
-use Rattle.engine.specs.Engine.{is-run, of-rule, other-run, of-other-rule, in-line, store, left, waits, released, new-run, awaits, woken, toggled, _then_, select, at-once, next-step, log, log-rule, log-action, expiry, expiry-of, change-of, update, let-go, release, finish, wake, begin, carry-out, admit, offer, trigger, go-on-after, write, flip, tested, chosen, begin-wait, perform, go-on, step, resume, wait-over, end-wait, time-out, expire, go-stale, drop-runs, process, pop, Next, stop, exhausted, take, Ended, loop}
-use Rattle.independence.proofs.Base.{Every, every-end, every-both, Case, is-true, is-false, case, if-prop, leb-le, le-leb, gt-leb}
-use Rattle.independence.proofs.Queue.{late, late-le, pop-least, pop-late, pop-rest}
+use Rattle.engine.specs.Engine.{
+  is-run,
+  of-rule,
+  in-line,
+  store,
+  left,
+  waits,
+  released,
+  new-run,
+  awaits,
+  toggled,
+  _then_,
+  select,
+  at-once,
+  next-step,
+  log,
+  log-rule,
+  log-action,
+  expiry,
+  expiry-of,
+  change-of,
+  update,
+  let-go,
+  release,
+  finish,
+  wake,
+  begin,
+  carry-out,
+  admit,
+  offer,
+  trigger,
+  go-on-after,
+  write,
+  flip,
+  tested,
+  chosen,
+  begin-wait,
+  perform,
+  go-on,
+  step,
+  resume,
+  wait-over,
+  end-wait,
+  time-out,
+  expire,
+  go-stale,
+  drop-runs,
+  process,
+  Next,
+  stop,
+  exhausted,
+  take,
+  Ended,
+  loop,
+}
+use Rattle.independence.proofs.Base.{Every, every-end, if-prop, leb-le, le-leb, gt-leb}
+use Rattle.independence.proofs.Queue.{late, pop-least, pop-late, pop-rest}
 use Rattle.independence.proofs.View.{boundary}
-use Rattle.independence.proofs.Slice.{Goes, stops, spent, takes, goes, cons-nil}
+use Rattle.independence.proofs.Slice.{Goes, stops, spent, takes, goes}
 
 -- seconds never fall, and end at the last
 abbrev pub Rising : ℕ → List Trace → ℕ → Type 0
@@ -35,7 +104,8 @@ headed (t ∷ l) = boundary (t .kind)
 unfoldable pub fair : Trace → Bool
 fair t = not (boundary (t .kind)) || absent (t .change)
 
-pub rising-end : (a : ℕ) (l : List Trace) (b c : ℕ) (t : Trace) → Rising a l b → b ≤ t .at → t .at ≤ c → Rising a (l ++ t ∷ []) c
+pub rising-end : (a : ℕ) (l : List Trace) (b c : ℕ) (t : Trace) → Rising a l b → b ≤ t .at → t .at ≤ c
+    → Rising a (l ++ t ∷ []) c
 rising-end a [] b c t h p q = (omega arith, q)
 rising-end a (x ∷ l) b c t h p q = (h .0, rising-end (x .at) l b c t (h .1) p q)
 
@@ -64,7 +134,8 @@ module _ (now : ℕ) where
     plain = every-end fair (e .trace) t (h .plain) q;
   }
 
-  t-log : (k : Kind) (id : Option Text) (s : Option Source) (c : Option Change) (e : Engine) → boundary k ≡ false → Tidy now e → Tidy now (log now k id s c e)
+  t-log : (k : Kind) (id : Option Text) (s : Option Source) (c : Option Change) (e : Engine) → boundary k ≡ false
+      → Tidy now e → Tidy now (log now k id s c e)
   unfolding log fair
   t-log k id s c e q h = t-append (record { at = now; kind = k; automation = id; source = s; change = c }) e refl (rw q) h
 
@@ -72,13 +143,20 @@ module _ (now : ℕ) where
   unfolding log-rule
   t-rule k id e q h = t-log k (some id) none none e q h
 
-  t-act : (k : Kind) (src : Source) (r : Run) (e : Engine) → boundary k ≡ false → Tidy now e → Tidy now (log-action now k src r e)
+  t-act : (k : Kind) (src : Source) (r : Run) (e : Engine) → boundary k ≡ false → Tidy now e
+      → Tidy now (log-action now k src r e)
   unfolding log-action
   t-act k src r e q h = t-log k (some (r .key .rule)) (some src) none e q h
 
   t-add : (i : Item) (e : Engine) → now ≤ i .at → Tidy now e → Tidy now (add i e)
   unfolding add late
-  t-add i e p h = record { due = every-end (late now) (e .queue) i (h .due) (le-leb now (i .at) p); told = h .told; begins = h .begins; plain = h .plain }
+  t-add i e p h = record {
+    due = every-end (late now) (e .queue) i (h .due) (le-leb now (i .at) p);
+    told =
+        h .told;
+    begins = h .begins;
+    plain = h .plain;
+  }
 
   t-next : (r : Run) (e : Engine) → Tidy now e → Tidy now (add (next-step now r) e)
   unfolding next-step at-once
@@ -109,13 +187,17 @@ module _ (now : ℕ) where
   unfolding store
   t-store r e h = t-with-runs _ e h
 
-  t-update : (x v : Text) (id : Option Text) (src : Option Source) (k : Kind) (e : Engine) → boundary k ≡ false → Tidy now e → Tidy now (update now x v id src k e)
+  t-update : (x v : Text) (id : Option Text) (src : Option Source) (k : Kind) (e : Engine) → boundary k ≡ false
+      → Tidy now e → Tidy now (update now x v id src k e)
   unfolding update
   t-update x v id src k e q h =
       t-adds (change-of now x (value-of x (e .cells)) v) _ (ch (eqT (value-of x (e .cells)) v))
-      (t-log k id src _ _ q (t-adds (expiry-of now (cell-of x (put x v 1 (e .cells)))) _ (ex (cell-of x (put x v 1 (e .cells)))) (t-with-cells _ e h)))
+      (t-log k id src _ _ q (t-adds (expiry-of now (cell-of x (put x v 1 (e .cells)))) _
+      (ex (cell-of x (put x v 1 (e .cells)))) (t-with-cells _ e h)))
     where
-      one : (c : Cell) (o : Option ℕ) → Every (late now) (elim o [ none ↦ [] | some ttl ↦ record { at = now + ttl + 1; work = Work.stale (c .name) (c .version) } ∷ [] ])
+      one : (c : Cell) (o : Option ℕ)
+          → Every (late now)
+          (elim o [ none ↦ [] | some ttl ↦ record { at = now + ttl + 1; work = Work.stale (c .name) (c .version) } ∷ [] ])
       one c none = tt
       one c (some t) = unfold late in (le-leb now (now + t + 1) (omega arith), tt)
 
@@ -125,7 +207,8 @@ module _ (now : ℕ) where
 
       ch : (b : Bool) → Every (late now) (change-of now x (value-of x (e .cells)) v)
       ch b = unfold change-of at-once late in
-          (if-prop (Every (late now)) (eqT (value-of x (e .cells)) v) {x = []} {y = record { at = now; work = Work.changed x (value-of x (e .cells)) v } ∷ []} tt (le-leb now now (omega arith), tt))
+          (if-prop (Every (late now)) (eqT (value-of x (e .cells)) v) {x = []} {y =
+          record { at = now; work = Work.changed x (value-of x (e .cells)) v } ∷ []} tt (le-leb now now (omega arith), tt))
 
   t-release : (id : Text) (e : Engine) → Tidy now e → Tidy now (release now id e)
   unfolding release if-some let-go
@@ -152,9 +235,13 @@ module _ (now : ℕ) where
   unfolding begin boundary
   t-begin r later e h =
       t-adds (if later then [] else next-step now (new-run r later (e .made)) ∷ []) _ (first later)
-      (t-rule (if later then Kind.queued ((new-run r later (e .made)) .number) else Kind.start ((new-run r later (e .made)) .number)) (r .id) _ (kind later) (t-add-run (new-run r later (e .made)) e h))
+      (t-rule (if later then Kind.queued ((new-run r later (e .made)) .number)
+      else Kind.start ((new-run r later (e .made)) .number)) (r .id) _ (kind later)
+      (t-add-run (new-run r later (e .made)) e h))
     where
-      kind : (b : Bool) → boundary (if b then Kind.queued ((new-run r later (e .made)) .number) else Kind.start ((new-run r later (e .made)) .number)) ≡ false
+      kind : (b : Bool) → boundary
+          (if b then Kind.queued ((new-run r later (e .made)) .number)
+          else Kind.start ((new-run r later (e .made)) .number)) ≡ false
       kind true = refl
       kind false = refl
 
@@ -174,18 +261,22 @@ module _ (now : ℕ) where
   unfolding admit
   t-admit Yes r e h = go (r .notes)
     where
-      go : (l : List Text) → Tidy now (elim l [ [] ↦ carry-out now (decide (r .mode) (r .max) (tally (of-rule (r .id)) (e .runs))) r e | x ∷ y ↦ e ])
+      go : (l : List Text) → Tidy now
+          (elim l [ [] ↦ carry-out now (decide (r .mode) (r .max) (tally (of-rule (r .id)) (e .runs))) r e | x ∷ y ↦ e ])
       go [] = t-carry _ r e h
       go (x ∷ y) = h
   t-admit No r e h = h
   t-admit Unknown r e h = t-uncertain _ e h
 
-  t-offers : (x from to : Text) (l : List Automation) (e : Engine) → Tidy now e → Tidy now (through (offer now x from to) l e)
+  t-offers : (x from to : Text) (l : List Automation) (e : Engine) → Tidy now e
+      → Tidy now (through (offer now x from to) l e)
   unfolding through offer boundary
   t-offers x from to [] e h = h
   t-offers x from to (r ∷ l) e h =
       t-offers x from to l _
-      (if-prop (Tidy now) (any (matches x from to) (r .triggers)) (t-admit (evaluate-all (r .conditions) (e .cells)) r _ (t-log (Kind.trigger (evaluate-all (r .conditions) (e .cells))) (some (r .id)) (some (r .source)) none e refl h)) h)
+      (if-prop (Tidy now) (any (matches x from to) (r .triggers))
+      (t-admit (evaluate-all (r .conditions) (e .cells)) r _
+      (t-log (Kind.trigger (evaluate-all (r .conditions) (e .cells))) (some (r .id)) (some (r .source)) none e refl h)) h)
 
   t-write : (x v : Text) (src : Source) (r : Run) (e : Engine) → Tidy now e → Tidy now (write now x v src r e)
   unfolding write boundary
@@ -206,15 +297,21 @@ module _ (now : ℕ) where
   unfolding perform flip go-on-after begin-wait boundary
   t-perform (Effect.set x v) src r e h = t-next r _ (t-write x v src r e h)
   t-perform (toggle x) src r e h =
-      t-next r _ (if-prop (Tidy now) (undecided (value-of x (e .cells))) (t-uncertain _ e h) (t-write x (toggled (value-of x (e .cells))) src r e h))
-  t-perform (delay m) src r e h = t-add (record { at = now + m; work = Work.resume (r .key) }) _ (omega arith) (t-act (Kind.delay m) src r e refl h)
-  t-perform (condition p) src r e h = t-tested (evaluate p (e .cells)) r _ (t-act (Kind.condition (evaluate p (e .cells))) src r e refl h)
+      t-next r _ (if-prop (Tidy now) (undecided (value-of x (e .cells))) (t-uncertain _ e h)
+      (t-write x (toggled (value-of x (e .cells))) src r e h))
+  t-perform (delay m) src r e h = t-add (record { at = now + m; work = Work.resume (r .key) }) _ (omega arith)
+      (t-act (Kind.delay m) src r e refl h)
+  t-perform (condition p) src r e h =
+      t-tested (evaluate p (e .cells)) r _ (t-act (Kind.condition (evaluate p (e .cells))) src r e refl h)
   t-perform (choose bs d) src r e h = t-chosen (select bs d (e .cells)) src r e h
   t-perform (wait t s c) src r e h =
       if-prop (Tidy now) (absent (t .note))
-      (t-act (Kind.wait s) src r _ refl (t-add (record { at = now + s; work = Work.timeout (r .key) }) _ (omega arith) (t-store (waits (some (record { trigger = t; deadline = now + s; continue = c; source = src })) r) e h)))
+      (t-act (Kind.wait s) src r _ refl
+      (t-add (record { at = now + s; work = Work.timeout (r .key) }) _ (omega arith)
+      (t-store (waits (some (record { trigger = t; deadline = now + s; continue = c; source = src })) r) e h)))
       (t-finish r _ (t-uncertain unsupported-wait e h))
-  t-perform (Effect.unknown reason) src r e h = t-finish r _ (t-act (Kind.unknown reason) src r _ refl (t-uncertain reason e h))
+  t-perform (Effect.unknown reason) src r e h =
+      t-finish r _ (t-act (Kind.unknown reason) src r _ refl (t-uncertain reason e h))
 
   t-go-on : (l : Actions) (r : Run) (e : Engine) → Tidy now e → Tidy now (go-on now l r e)
   unfolding go-on
@@ -232,8 +329,10 @@ module _ (now : ℕ) where
   t-over : (w : Waiting) (r : Run) (e : Engine) → Tidy now e → Tidy now (wait-over now w r e)
   unfolding wait-over boundary
   t-over w r e h =
-      let t : Tidy now (log-action now (Kind.timeout (w .continue)) (w .source) r e) = t-act (Kind.timeout (w .continue)) (w .source) r e refl h in
-      if-prop (Tidy now) (eqb (w .deadline) now) (if-prop (Tidy now) (w .continue) (t-next r _ (t-store (waits none r) _ t)) (t-finish r _ t)) h
+      let t : Tidy now (log-action now (Kind.timeout (w .continue)) (w .source) r e) =
+      t-act (Kind.timeout (w .continue)) (w .source) r e refl h in
+      if-prop (Tidy now) (eqb (w .deadline) now)
+      (if-prop (Tidy now) (w .continue) (t-next r _ (t-store (waits none r) _ t)) (t-finish r _ t)) h
 
   t-time-out : (k : Key) (e : Engine) → Tidy now e → Tidy now (time-out now k e)
   unfolding time-out if-some end-wait
@@ -255,7 +354,8 @@ module _ (now : ℕ) where
       go none = h
       go (some d) = unfold expire at-once boundary in
           (if-prop (Tidy now) (eqb (d .version) n && not (eqT (d .value) (text "unknown")))
-          (t-add (record { at = now; work = Work.changed (d .name) (d .value) (text "unknown") }) _ (omega arith) (t-log Kind.stale none none _ _ refl (t-with-cells _ e h)))
+          (t-add (record { at = now; work = Work.changed (d .name) (d .value) (text "unknown") }) _ (omega arith)
+          (t-log Kind.stale none none _ _ refl (t-with-cells _ e h)))
           h)
 
   t-drop : (e : Engine) → Tidy now e → Tidy now (drop-runs now e)
@@ -278,7 +378,8 @@ pub record Told (h : ℕ) (l : List Trace) : Type 0 where
   pub heads : headed l ≡ true
   pub fairs : Every fair l
 
-pub tidy-loop : (rules : List Automation) (h n k now : ℕ) (s : Engine) → Tidy now s → now ≤ h → Told h ((loop rules h n k s) .engine .trace)
+pub tidy-loop : (rules : List Automation) (h n k now : ℕ) (s : Engine) → Tidy now s → now ≤ h
+    → Told h ((loop rules h n k s) .engine .trace)
 unfolding loop
 tidy-loop rules h zero k now s t z = by (goes h s)
   where
@@ -299,7 +400,8 @@ tidy-loop rules h (suc n) k now s t z = by (goes h s) (tidy-loop rules h n)
     here : Told h (s .trace)
     here = record { rises = rising-up 0 (s .trace) now h (t .told) z; heads = t .begins; fairs = t .plain }
 
-    by : {x : Next} → Goes h s x → ((k now : ℕ) (s : Engine) → Tidy now s → now ≤ h → Told h ((loop rules h n k s) .engine .trace))
+    by : {x : Next} → Goes h s x
+        → ((k now : ℕ) (s : Engine) → Tidy now s → now ≤ h → Told h ((loop rules h n k s) .engine .trace))
         → Told h (_▸_ {A = Ended} (elim x [
           | stop ↦ record { engine = s; steps = k; incomplete = [] }
           | exhausted ↦ record { engine = s; steps = k; incomplete = space-spent ∷ [] }
@@ -307,7 +409,8 @@ tidy-loop rules h (suc n) k now s t z = by (goes h s) (tidy-loop rules h n)
         ]) (λ (d : Ended). d .engine .trace))
     by (stops q) ih = here
     by spent ih = here
-    by (takes i l p b) ih = ih (k + 1) (i .at) (process (i .at) rules (i .work) (with-queue l s)) (tidy-process (i .at) rules (i .work) (with-queue l s) popped) in-time
+    by (takes i l p b) ih = ih (k + 1) (i .at) (process (i .at) rules (i .work) (with-queue l s))
+        (tidy-process (i .at) rules (i .work) (with-queue l s) popped) in-time
       where
         at-least : now ≤ i .at
         at-least = leb-le now (i .at) (unfold late in (pop-late now (s .queue) i l (t .due) p))
@@ -317,4 +420,10 @@ tidy-loop rules h (suc n) k now s t z = by (goes h s) (tidy-loop rules h n)
 
         popped : Tidy (i .at) (with-queue l s)
         popped = unfold with-queue in
-            (record { due = pop-rest (late (i .at)) (s .queue) i l (pop-least (s .queue) i l p) p; told = rising-up 0 (s .trace) now (i .at) (t .told) at-least; begins = t .begins; plain = t .plain })
+            (record {
+              due = pop-rest (late (i .at)) (s .queue) i l (pop-least (s .queue) i l p) p;
+              told =
+                  rising-up 0 (s .trace) now (i .at) (t .told) at-least;
+              begins = t .begins;
+              plain = t .plain;
+            })

@@ -1,22 +1,64 @@
 -- What two engines have in common inside the cone, and how the parts of the engine keep it.
 use Prim.Native.Nat.{ℕ, _+_}
 use mathlib.Core.Path.{_≡_, refl, sym, ap, _∙_, subst}
-use mathlib.Core.Bool.{Bool, true, false, not, _&&_, _||_, true≢false, false≢true}
+use mathlib.Core.Bool.{Bool, true, false, _||_, true≢false}
 use mathlib.Core.List.{List, [], _∷_, _++_}
 use mathlib.Core.Option.{Option, none, some}
-use lib.Dec.{eqb}
-use lib.ListN.{length}
-use Rattle.texts.specs.Lists.{if_then_else_, present-and, absent-or, any, all, keep, find, tally, each, flat, through}
+use Rattle.texts.specs.Lists.{if_then_else_, present-and, all, keep, find, tally, each, flat, through}
 use Rattle.texts.specs.Texts.{Text, eqT}
-use Rattle.model.specs.Model.{Source, Predicate, state, Input, reload, Automation, Actions}
+use Rattle.model.specs.Model.{Source, Predicate, state, Input, reload, Automation}
 use Rattle.engine.specs.Cells.{Cell, is-cell, cell-of, value-of, overwrite, put}
-use Rattle.engine.specs.Kleene.{Truth, _and₃_}
-use Rattle.engine.specs.Truth.{evaluate, evaluate-all, matches}
-use Rattle.engine.specs.Records.{Key, Waiting, Run, Work, Item, Kind, Change, Trace, Areas, Engine}
+use Rattle.engine.specs.Truth.{evaluate, evaluate-all}
+use Rattle.engine.specs.Records.{Key, Run, Work, Item, Kind, Trace, Engine}
 use Rattle.engine.specs.Changes.{with-cells, add, append, with-runs, add-run, uncertain, with-queue, adds}
-use Rattle.engine.specs.Engine.{is-run, of-rule, other-run, of-other-rule, in-line, in-place, store, new-run, awaits, woken, at-once, next-step, log, expiry, expiry-of, change-of}
+use Rattle.engine.specs.Engine.{
+  is-run,
+  of-rule,
+  in-place,
+  awaits,
+  woken,
+  at-once,
+  next-step,
+  log,
+  expiry,
+  expiry-of,
+  change-of,
+}
 use Rattle.lint.specs.Touches.{predicate-reads}
-use Rattle.independence.proofs.Base.{Case, is-true, is-false, case, and-l, and-r, and-i, if-hom, if-both, if-prop, eqT-eq, eqT-same, some-eq, none-some, cons-eq, append-none, append-assoc, keep-in, keep-out, keep-nil, keep-append, keep-end-out, keep-swap, keep-idle, keep-again, find-keep, tally-keep, Every, every-keep, every-find, found-is, keep-each, tally-each, opt, find-each, each-append, each-each, each-keep, each-idle, every-yes, all-l, all-r}
+use Rattle.independence.proofs.Base.{
+  Case,
+  is-true,
+  is-false,
+  case,
+  and-l,
+  if-hom,
+  if-both,
+  eqT-eq,
+  some-eq,
+  none-some,
+  append-none,
+  append-assoc,
+  keep-nil,
+  keep-append,
+  keep-end-out,
+  keep-swap,
+  keep-idle,
+  find-keep,
+  tally-keep,
+  Every,
+  found-is,
+  keep-each,
+  tally-each,
+  opt,
+  find-each,
+  each-append,
+  each-each,
+  each-keep,
+  each-idle,
+  every-yes,
+  all-l,
+  all-r,
+}
 
 -- the first record and the last
 unfoldable pub boundary : Kind → Bool
@@ -49,7 +91,14 @@ renum n r = record { key = r .key; number = n; actions = r .actions; waiting = r
 
 renum-eq : (r r′ : Run) → bare r ≡ bare r′ → renum (r′ .number) r ≡ r′
 unfolding bare
-renum-eq r r′ p = λ i. record { key = (p i) .key; number = r′ .number; actions = (p i) .actions; waiting = (p i) .waiting; queued = (p i) .queued }
+renum-eq r r′ p = λ i. record {
+  key = (p i) .key;
+  number = r′ .number;
+  actions = (p i) .actions;
+  waiting =
+      (p i) .waiting;
+  queued = (p i) .queued;
+}
 
 -- the same run is found in two engines, but for its number
 pub data Found : Option Run → Option Run → Type 0 where
@@ -110,7 +159,8 @@ module _ (inE inA : Text → Bool) where
 
   pub put-out : (x v : Text) (k : ℕ) → inE x ≡ false → (l : List Cell) → keep cone-cell (put x v k l) ≡ keep cone-cell l
   unfolding put overwrite cone-cell is-cell
-  put-out x v k h l = put-keep x v k l ∙ each-idle (overwrite x v k) cone-cell (λ c. true) (λ c q g. go c q (case (is-cell x c))) l (every-yes l)
+  put-out x v k h l = put-keep x v k l
+      ∙ each-idle (overwrite x v k) cone-cell (λ c. true) (λ c q g. go c q (case (is-cell x c))) l (every-yes l)
     where
       go : (c : Cell) → inE (c .name) ≡ true → Case (is-cell x c) → overwrite x v k c ≡ c
       go c q (is-true a) = absurd (true≢false (sym q ∙ ap inE (eqT-eq (c .name) x a) ∙ h))
@@ -132,10 +182,16 @@ module _ (inE inA : Text → Bool) where
     same-truth (state x v) h = rw (same-cell x (and-l (inE x) true h), evaluate)
     same-truth (Predicate.unknown r) h = refl
 
-    pub same-truths : (ps : List Predicate) → all inE (flat predicate-reads ps) ≡ true → evaluate-all ps l ≡ evaluate-all ps l′
+    pub same-truths : (ps : List Predicate) → all inE (flat predicate-reads ps) ≡ true
+        → evaluate-all ps l ≡ evaluate-all ps l′
     unfolding evaluate-all flat
     same-truths [] h = refl
-    same-truths (p ∷ ps) h = rw (same-truth p (all-l inE (predicate-reads p) (flat predicate-reads ps) h), same-truths ps (all-r inE (predicate-reads p) (flat predicate-reads ps) h))
+    same-truths (p ∷ ps) h = rw (
+      same-truth p
+          (all-l inE (predicate-reads p) (flat predicate-reads ps) h),
+      same-truths ps
+          (all-r inE (predicate-reads p) (flat predicate-reads ps) h),
+    )
 
   -- ---- items
 
@@ -143,7 +199,8 @@ module _ (inE inA : Text → Bool) where
   unfolding expiry keep cone-item cone-work cone-cell
   expiry-in now c h = go (c .stale-after)
     where
-      go : (o : Option ℕ) → keep cone-item (elim o [ none ↦ [] | some ttl ↦ record { at = now + ttl + 1; work = Work.stale (c .name) (c .version) } ∷ [] ])
+      go : (o : Option ℕ) → keep cone-item
+          (elim o [ none ↦ [] | some ttl ↦ record { at = now + ttl + 1; work = Work.stale (c .name) (c .version) } ∷ [] ])
           ≡ elim o [ none ↦ [] | some ttl ↦ record { at = now + ttl + 1; work = Work.stale (c .name) (c .version) } ∷ [] ]
       go none = refl
       go (some t) = rw h
@@ -152,11 +209,20 @@ module _ (inE inA : Text → Bool) where
   unfolding expiry keep cone-item cone-work cone-cell
   expiry-out now c h = go (c .stale-after)
     where
-      go : (o : Option ℕ) → keep cone-item (elim o [ none ↦ [] | some ttl ↦ record { at = now + ttl + 1; work = Work.stale (c .name) (c .version) } ∷ [] ]) ≡ []
+      go : (o : Option ℕ) → keep cone-item
+          (elim o [
+            | none ↦ []
+            | some ttl ↦ record {
+              at = now + ttl + 1;
+              work =
+                  Work.stale (c .name) (c .version);
+            } ∷ []
+          ]) ≡ []
       go none = refl
       go (some t) = rw h
 
-  pub expiry-of-out : (now : ℕ) (x : Text) → inE x ≡ false → (l : List Cell) → keep cone-item (expiry-of now (cell-of x l)) ≡ []
+  pub expiry-of-out : (now : ℕ) (x : Text) → inE x ≡ false → (l : List Cell)
+      → keep cone-item (expiry-of now (cell-of x l)) ≡ []
   unfolding cone-cell
   expiry-of-out now x h l = go (cell-of x l) (cell-name x l)
     where
@@ -198,11 +264,13 @@ module _ (inE inA : Text → Bool) where
       go (is-true a) = absurd (true≢false (sym q ∙ ap inA (eqT-eq (r .key .rule) id a) ∙ h))
       go (is-false a) = a
 
-  find-bares : (q : Run → Bool) → ((x : Run) → q x ≡ true → cone-run x ≡ true) → ((x : Run) → q (bare x) ≡ q x) → (l : List Run) → find q (bares l) ≡ opt bare (find q l)
+  find-bares : (q : Run → Bool) → ((x : Run) → q x ≡ true → cone-run x ≡ true) → ((x : Run) → q (bare x) ≡ q x)
+      → (l : List Run) → find q (bares l) ≡ opt bare (find q l)
   unfolding bares
   find-bares q h k l = find-each bare q q k (keep cone-run l) ∙ ap (opt bare) (find-keep q cone-run h l)
 
-  pub tally-bares : (q : Run → Bool) → ((x : Run) → q x ≡ true → cone-run x ≡ true) → ((x : Run) → q (bare x) ≡ q x) → (l : List Run) → tally q (bares l) ≡ tally q l
+  pub tally-bares : (q : Run → Bool) → ((x : Run) → q x ≡ true → cone-run x ≡ true) → ((x : Run) → q (bare x) ≡ q x)
+      → (l : List Run) → tally q (bares l) ≡ tally q l
   unfolding bares
   tally-bares q h k l = tally-each bare q q k (keep cone-run l) ∙ tally-keep q cone-run h l
 
@@ -210,18 +278,21 @@ module _ (inE inA : Text → Bool) where
   unfolding bares
   bares-keep q k l = ap (each bare) (keep-swap cone-run q l) ∙ sym (keep-each bare q q k (keep cone-run l))
 
-  pub bares-drop : (q : Run → Bool) → ((x : Run) → cone-run x ≡ true → q x ≡ true) → (l : List Run) → bares (keep q l) ≡ bares l
+  pub bares-drop : (q : Run → Bool) → ((x : Run) → cone-run x ≡ true → q x ≡ true) → (l : List Run)
+      → bares (keep q l) ≡ bares l
   unfolding bares
   bares-drop q h l = ap (each bare) (keep-idle cone-run q l h)
 
-  pub bares-each : (f f′ : Run → Run) → ((x : Run) → cone-run (f x) ≡ cone-run x) → ((x : Run) → f′ (bare x) ≡ bare (f x)) → (l : List Run) → bares (each f l) ≡ each f′ (bares l)
+  pub bares-each : (f f′ : Run → Run) → ((x : Run) → cone-run (f x) ≡ cone-run x)
+      → ((x : Run) → f′ (bare x) ≡ bare (f x)) → (l : List Run) → bares (each f l) ≡ each f′ (bares l)
   unfolding bares
   bares-each f f′ h k l =
       ap (each bare) (each-keep f cone-run h l)
       ∙ each-each f bare (λ x. bare (f x)) (λ x. refl) (keep cone-run l)
       ∙ sym (each-each bare f′ (λ x. bare (f x)) k (keep cone-run l))
 
-  pub bares-idle : (f : Run → Run) (g : Run → Bool) → ((x : Run) → cone-run (f x) ≡ cone-run x) → ((x : Run) → cone-run x ≡ true → g x ≡ true → f x ≡ x)
+  pub bares-idle : (f : Run → Run) (g : Run → Bool) → ((x : Run) → cone-run (f x) ≡ cone-run x)
+      → ((x : Run) → cone-run x ≡ true → g x ≡ true → f x ≡ x)
       → (l : List Run) → Every g l → bares (each f l) ≡ bares l
   unfolding bares
   bares-idle f g h k l e = ap (each bare) (each-keep f cone-run h l ∙ each-idle f cone-run g k l e)
@@ -230,7 +301,8 @@ module _ (inE inA : Text → Bool) where
   unfolding bares
   bares-append l m = ap (each bare) (keep-append cone-run l m) ∙ each-append bare (keep cone-run l) (keep cone-run m)
 
-  pub find-pair : (q : Run → Bool) → ((x : Run) → q x ≡ true → cone-run x ≡ true) → ((x : Run) → q (bare x) ≡ q x) → (l l′ : List Run) → bares l ≡ bares l′ → Found (find q l) (find q l′)
+  pub find-pair : (q : Run → Bool) → ((x : Run) → q x ≡ true → cone-run x ≡ true) → ((x : Run) → q (bare x) ≡ q x)
+      → (l l′ : List Run) → bares l ≡ bares l′ → Found (find q l) (find q l′)
   find-pair q h k l l′ e = paired (find q l) (find q l′) (sym (find-bares q h k l) ∙ ap (find q) e ∙ find-bares q h k l′)
 
   in-place-rule : (r x : Run) → cone-run (in-place r x) ≡ cone-run x
@@ -242,11 +314,13 @@ module _ (inE inA : Text → Bool) where
       go (is-false a) = rw a
 
   pub bares-place : (r : Run) (l : List Run) → bares (each (in-place r) l) ≡ each (in-place (bare r)) (bares l)
-  bares-place r l = bares-each (in-place r) (in-place (bare r)) (in-place-rule r) (λ x. unfold in-place is-run bare in (sym (if-hom bare (is-run (r .key) x) refl refl))) l
+  bares-place r l = bares-each (in-place r) (in-place (bare r)) (in-place-rule r)
+      (λ x. unfold in-place is-run bare in (sym (if-hom bare (is-run (r .key) x) refl refl))) l
 
   pub bares-place-out : (r : Run) → cone-run r ≡ false → (l : List Run) → bares (each (in-place r) l) ≡ bares l
   unfolding cone-run
-  bares-place-out r h l = bares-idle (in-place r) (λ x. true) (in-place-rule r) (λ x q g. unfold in-place in (rw (is-run-out (r .key) h x q))) l (every-yes l)
+  bares-place-out r h l = bares-idle (in-place r) (λ x. true) (in-place-rule r)
+      (λ x q g. unfold in-place in (rw (is-run-out (r .key) h x q))) l (every-yes l)
 
   woken-rule : (x from to : Text) (r : Run) → cone-run (woken x from to r) ≡ cone-run r
   unfolding woken cone-run
@@ -254,13 +328,18 @@ module _ (inE inA : Text → Bool) where
 
   pub bares-woken : (x from to : Text) (l : List Run) → bares (each (woken x from to) l) ≡ each (woken x from to) (bares l)
   bares-woken x from to l =
-      bares-each (woken x from to) (woken x from to) (woken-rule x from to) (λ r. unfold woken awaits bare in (sym (if-hom bare (awaits x from to r) refl refl))) l
+      bares-each (woken x from to) (woken x from to) (woken-rule x from to)
+      (λ r. unfold woken awaits bare in (sym (if-hom bare (awaits x from to r) refl refl))) l
 
-  pub bares-woken-out : (x from to : Text) (g : Run → Bool) → ((r : Run) → cone-run r ≡ true → g r ≡ true → awaits x from to r ≡ false)
+  pub bares-woken-out : (x from to : Text) (g : Run → Bool)
+      → ((r : Run) → cone-run r ≡ true → g r ≡ true → awaits x from to r ≡ false)
       → (l : List Run) → Every g l → bares (each (woken x from to) l) ≡ bares l
-  bares-woken-out x from to g h l e = bares-idle (woken x from to) g (woken-rule x from to) (λ r q k. unfold woken in (rw (h r q k))) l e
+  bares-woken-out x from to g h l e =
+      bares-idle (woken x from to) g (woken-rule x from to) (λ r q k. unfold woken in (rw (h r q k))) l e
 
-  pub steps-keep : (now : ℕ) (x from to : Text) (l : List Run) → keep cone-item (each (next-step now) (keep (awaits x from to) l)) ≡ each (next-step now) (keep (awaits x from to) (bares l))
+  pub steps-keep : (now : ℕ) (x from to : Text) (l : List Run)
+      → keep cone-item (each (next-step now) (keep (awaits x from to) l)) ≡ each (next-step now)
+      (keep (awaits x from to) (bares l))
   unfolding bares next-step at-once cone-item cone-work cone-run awaits bare
   steps-keep now x from to l =
       keep-each (next-step now) cone-item cone-run (λ r. refl) (keep (awaits x from to) l)
@@ -281,7 +360,14 @@ module _ (inE inA : Text → Bool) where
   like-refl = record { of-cells = refl; of-queue = refl; of-runs = refl; of-made = refl; of-trace = refl }
 
   pub like-sym : {e c : Engine} → Like e c → Like c e
-  like-sym h = record { of-cells = sym (h .of-cells); of-queue = sym (h .of-queue); of-runs = sym (h .of-runs); of-made = sym (h .of-made); of-trace = sym (h .of-trace) }
+  like-sym h = record {
+    of-cells = sym (h .of-cells);
+    of-queue = sym (h .of-queue);
+    of-runs =
+        sym (h .of-runs);
+    of-made = sym (h .of-made);
+    of-trace = sym (h .of-trace);
+  }
 
   pub like-trans : {e c d : Engine} → Like e c → Like c d → Like e d
   like-trans h k = record {
@@ -307,21 +393,44 @@ module _ (inE inA : Text → Bool) where
   module _ {e c : Engine} (h : Like e c) where
     pub l-with-cells : (l l′ : List Cell) → keep cone-cell l ≡ keep cone-cell l′ → Like (with-cells l e) (with-cells l′ c)
     unfolding with-cells
-    l-with-cells l l′ p = record { of-cells = p; of-queue = h .of-queue; of-runs = h .of-runs; of-made = h .of-made; of-trace = h .of-trace }
+    l-with-cells l l′ p = record {
+      of-cells = p;
+      of-queue = h .of-queue;
+      of-runs = h .of-runs;
+      of-made =
+          h .of-made;
+      of-trace = h .of-trace;
+    }
 
     pub l-with-queue : (l l′ : List Item) → keep cone-item l ≡ keep cone-item l′ → Like (with-queue l e) (with-queue l′ c)
     unfolding with-queue
-    l-with-queue l l′ p = record { of-cells = h .of-cells; of-queue = p; of-runs = h .of-runs; of-made = h .of-made; of-trace = h .of-trace }
+    l-with-queue l l′ p = record {
+      of-cells = h .of-cells;
+      of-queue = p;
+      of-runs = h .of-runs;
+      of-made =
+          h .of-made;
+      of-trace = h .of-trace;
+    }
 
     pub l-with-runs : (l l′ : List Run) → bares l ≡ bares l′ → Like (with-runs l e) (with-runs l′ c)
     unfolding with-runs
-    l-with-runs l l′ p = record { of-cells = h .of-cells; of-queue = h .of-queue; of-runs = p; of-made = h .of-made; of-trace = h .of-trace }
+    l-with-runs l l′ p = record {
+      of-cells = h .of-cells;
+      of-queue = h .of-queue;
+      of-runs = p;
+      of-made =
+          h .of-made;
+      of-trace = h .of-trace;
+    }
 
     pub l-add : (i : Item) → Like (add i e) (add i c)
     unfolding add
     l-add i = record {
       of-cells = h .of-cells;
-      of-queue = keep-append cone-item (e .queue) (i ∷ []) ∙ ap {B = List Item} (λ t. t ++ keep cone-item (i ∷ [])) (h .of-queue) ∙ sym (keep-append cone-item (c .queue) (i ∷ []));
+      of-queue = keep-append cone-item (e .queue) (i ∷ [])
+          ∙ ap {B = List Item} (λ t. t ++ keep cone-item (i ∷ [])) (h .of-queue)
+          ∙ sym (keep-append cone-item (c .queue) (i ∷ []));
       of-runs = h .of-runs;
       of-made = h .of-made;
       of-trace = h .of-trace;
@@ -349,7 +458,9 @@ module _ (inE inA : Text → Bool) where
           bares-append (e .runs) (r ∷ [])
           ∙ (λ i. (h .of-runs) i ++ one i)
           ∙ sym (bares-append (c .runs) (renum n r ∷ []));
-      of-made = keep-append inA (e .made) (r .key .rule ∷ []) ∙ ap {B = List Text} (λ t. t ++ keep inA (r .key .rule ∷ [])) (h .of-made) ∙ sym (keep-append inA (c .made) (r .key .rule ∷ []));
+      of-made = keep-append inA (e .made) (r .key .rule ∷ [])
+          ∙ ap {B = List Text} (λ t. t ++ keep inA (r .key .rule ∷ [])) (h .of-made)
+          ∙ sym (keep-append inA (c .made) (r .key .rule ∷ []));
       of-trace = h .of-trace;
     }
       where
@@ -362,7 +473,14 @@ module _ (inE inA : Text → Bool) where
 
     pub l-uncertain : (t t′ : Text) → Like (uncertain t e) (uncertain t′ c)
     unfolding uncertain
-    l-uncertain t t′ = record { of-cells = h .of-cells; of-queue = h .of-queue; of-runs = h .of-runs; of-made = h .of-made; of-trace = h .of-trace }
+    l-uncertain t t′ = record {
+      of-cells = h .of-cells;
+      of-queue = h .of-queue;
+      of-runs = h .of-runs;
+      of-made =
+          h .of-made;
+      of-trace = h .of-trace;
+    }
 
   module _ (e : Engine) where
     pub o-with-cells : (l : List Cell) → keep cone-cell l ≡ keep cone-cell (e .cells) → Like (with-cells l e) e
@@ -379,13 +497,28 @@ module _ (inE inA : Text → Bool) where
 
     pub o-add : (i : Item) → cone-item i ≡ false → Like (add i e) e
     unfolding add
-    o-add i p = record { of-cells = refl; of-queue = keep-end-out cone-item (e .queue) i p; of-runs = refl; of-made = refl; of-trace = refl }
+    o-add i p = record {
+      of-cells = refl;
+      of-queue = keep-end-out cone-item (e .queue) i p;
+      of-runs = refl;
+      of-made =
+          refl;
+      of-trace = refl;
+    }
 
     pub o-append : (t : Trace) → cone-trace t ≡ false → Like (append t e) e
     unfolding append
-    o-append t p = record { of-cells = refl; of-queue = refl; of-runs = refl; of-made = refl; of-trace = keep-end-out cone-trace (e .trace) t p }
+    o-append t p = record {
+      of-cells = refl;
+      of-queue = refl;
+      of-runs = refl;
+      of-made = refl;
+      of-trace =
+          keep-end-out cone-trace (e .trace) t p;
+    }
 
-    pub o-log : (now : ℕ) (k : Kind) (id : Option Text) (s : Option Source) → boundary k ≡ false → Like (log now k id s none e) e
+    pub o-log : (now : ℕ) (k : Kind) (id : Option Text) (s : Option Source) → boundary k ≡ false
+        → Like (log now k id s none e) e
     unfolding log cone-trace present-and
     o-log now k id s p = o-append (record { at = now; kind = k; automation = id; source = s; change = none }) (rw p)
 
@@ -414,10 +547,19 @@ module _ (inE inA : Text → Bool) where
   adds-else [] e = like-refl
   adds-else (i ∷ l) e = go (adds-else l (add i e))
     where
-      go : Like (with-queue ((add i e) .queue) (adds l (add i e))) (add i e) → Like (with-queue (e .queue) (adds l (add i e))) e
-      go k = unfold add in (record { of-cells = k .of-cells; of-queue = refl; of-runs = k .of-runs; of-made = k .of-made; of-trace = k .of-trace })
+      go : Like (with-queue ((add i e) .queue) (adds l (add i e))) (add i e)
+          → Like (with-queue (e .queue) (adds l (add i e))) e
+      go k = unfold add in (record {
+        of-cells = k .of-cells;
+        of-queue = refl;
+        of-runs = k .of-runs;
+        of-made =
+            k .of-made;
+        of-trace = k .of-trace;
+      })
 
-  pub l-adds : (e c : Engine) → Like e c → (l l′ : List Item) → keep cone-item l ≡ keep cone-item l′ → Like (adds l e) (adds l′ c)
+  pub l-adds : (e c : Engine) → Like e c → (l l′ : List Item) → keep cone-item l ≡ keep cone-item l′
+      → Like (adds l e) (adds l′ c)
   unfolding with-queue
   l-adds e c h l l′ p =
       let a : Like (with-queue (e .queue) (adds l e)) e = adds-else l e in

@@ -1,0 +1,2 @@
+-- the two files meet all premises of demand 3
+pub mod Example

@@ -1,0 +1,93 @@
+-- Two model files about a door that a lamp unlocks. Inside the cone they agree: the door, the lamp, the automation
+-- `lampdoor`, the event `lamp on` at second 5, the invariant `nodoor`. Outside it nothing agrees: the first has a fan
+-- that the
+-- lamp switches, the second a radio that turns itself down. Their texts differ, and so do the places of the texts
+-- they share.
+use Prim.Native.Nat.{ℕ}
+use mathlib.Core.List.{List, [], _∷_, _++_}
+use lib.ListN.{length}
+use Rattle.texts.specs.Texts.{Text, text}
+
+-- ---- parts of a file: numbers below 256, a text, an absent place
+
+abbrev two : ℕ → List ℕ
+two n = n ∷ 0 ∷ []
+
+abbrev four : ℕ → List ℕ
+four n = n ∷ 0 ∷ 0 ∷ 0 ∷ []
+
+abbrev sized : Text → List ℕ
+sized t = length t ∷ t
+
+abbrev absent : List ℕ
+absent = 255 ∷ 255 ∷ []
+
+-- an entity with two values that never goes stale; tier 1 is comfort
+unfoldable pub entity : (name first second initial : ℕ) → List ℕ
+entity x v w i = two x ++ two 2 ++ two v ++ two w ++ two i ++ 1 ∷ absent ++ absent
+
+-- at a second an entity gets a value
+unfoldable pub event : (at name value : ℕ) → List ℕ
+event t x v = four t ++ 0 ∷ two x ++ two v
+
+-- one automation: a trigger on an entity's change to a value, no condition, actions, its source, no note
+unfoldable pub automation : (id mode entity to : ℕ) → (count : ℕ) → (actions : List ℕ) → (line : ℕ) → List ℕ
+automation i m x v n as′ line =
+    two i ++ m ∷ four 1 ++ two 1 ++ two x ++ absent ++ two v ++ four line ++ four 1 ++ absent ++ two 0
+    ++ two n ++ as′ ++ four line ++ four 1 ++ two 0
+
+-- an action that sets an entity, and one that waits
+unfoldable pub sets : (line column name value : ℕ) → List ℕ
+sets l c x v = four l ++ four c ++ 0 ∷ two x ++ two v
+
+unfoldable pub delays : (line column seconds : ℕ) → List ℕ
+delays l c n = four l ++ four c ++ 2 ∷ four n
+
+-- never: the door is unlocked; the alphabet is `lamp on`, the only gap is 1; horizon 10, search depth 1, 100 cases
+unfoldable pub settings : (nodoor door unlocked lamp on steps : ℕ) → List ℕ
+settings i d u l o n =
+    two 1 ++ 0 ∷ two i ++ two 1 ++ 0 ∷ two d ++ two u
+    ++ two 1 ++ 0 ∷ two l ++ two o
+    ++ two 1 ++ four 1
+    ++ four 10 ++ four n ++ four 1 ++ four 100
+
+-- ---- the first file: places cool 0, door 1, fan 2, home 3, lamp 4, lampdoor 5, locked 6, nodoor 7, off 8, on 9,
+-- unavailable 10, unknown 11, unlocked 12
+
+unfoldable pub first-texts : List ℕ
+first-texts =
+    two 13 ++ sized (text "cool") ++ sized (text "door") ++ sized (text "fan") ++ sized (text "home") ++ sized (text "lamp")
+    ++ sized (text "lampdoor") ++ sized (text "locked") ++ sized (text "nodoor") ++ sized (text "off") ++ sized (text "on")
+    ++ sized (text "unavailable") ++ sized (text "unknown") ++ sized (text "unlocked")
+
+unfoldable pub first : List ℕ
+first =
+    four 1 ++ first-texts ++ two 3
+    ++ two 3 ++ entity 1 6 12 6 ++ entity 2 8 9 8 ++ entity 4 8 9 8
+    ++ two 2 ++ event 2 2 9 ++ event 5 4 9
+    ++ settings 7 1 12 4 9 100
+    ++ two 2 ++ automation 0 0 4 9 1 (sets 2 5 2 8) 2 ++ automation 5 0 4 9 1 (sets 7 3 1 12) 6
+
+-- ---- the second file: places apple 0, door 1, lamp 2, lampdoor 3, locked 4, loud 5, nodoor 6, off 7, on 8, other 9,
+-- play 10,
+-- quiet 11, radio 12, unavailable 13, unknown 14, unlocked 15
+
+unfoldable pub second-texts : List ℕ
+second-texts =
+    two 16 ++ sized (text "apple") ++ sized (text "door") ++ sized (text "lamp") ++ sized (text "lampdoor")
+    ++ sized (text "locked") ++ sized (text "loud") ++ sized (text "nodoor") ++ sized (text "off") ++ sized (text "on")
+    ++ sized (text "other") ++ sized (text "play") ++ sized (text "quiet") ++ sized (text "radio")
+    ++ sized (text "unavailable") ++ sized (text "unknown") ++ sized (text "unlocked")
+
+unfoldable pub second : List ℕ
+second =
+    four 1 ++ second-texts ++ two 9
+    ++ two 3 ++ entity 1 4 15 4 ++ entity 2 7 8 7 ++ entity 12 5 11 11
+    ++ two 3 ++ event 3 12 5 ++ event 5 2 8 ++ event 7 12 11
+    ++ settings 6 1 15 2 8 200
+    ++ two 2 ++ automation 3 0 2 8 1 (sets 7 3 1 15) 6 ++ automation 10 1 12 5 2 (delays 9 1 1 ++ sets 10 1 12 11) 8
+
+-- opens the file, for proofs by computation
+unfoldable pub all-files : Unit {0}
+unfolding entity event automation sets delays settings first-texts first second-texts second
+all-files = tt

@@ -1,0 +1,2 @@
+-- two model files, byte by byte
+pub mod Files
