@@ -1,4 +1,6 @@
--- Two accepted models that are alike: the engine's premises, from the statement's.
+-- Two accepted models that are alike, as Alike.antt of the crate cone says it: they have one cone, and inside it the same
+-- automations, cells and events. That is all that the engine's part of the proof asks of them (`inside-of-alike`,
+-- `events-same`).
 use mathlib.Core.Bool.{Bool}
 use mathlib.Core.List.{List, []}
 use mathlib.Core.Path.{_≡_, refl, sym, ap, _∙_, subst}

@@ -1,4 +1,5 @@
--- Laws on lists, texts and tests: how `keep` commutes with what the engine does to lists.
+-- Laws on lists, texts and tests: how `keep`, the filter that leaves only what lies inside the cone, commutes with what the
+-- engine does to lists (append, find, tally, each, flat), and that sorting texts keeps their members.
 use Prim.Native.Nat.{ℕ, _+_, _≤_, _<_}
 use mathlib.Core.Path.{_≡_, refl, sym, ap, _∙_, subst}
 use mathlib.Core.Bool.{Bool, true, false, not, _&&_, _||_, true≢false}

@@ -1,4 +1,5 @@
--- Two models that are alike inside a cone, both simulated to the end: every invariant has one answer.
+-- Two models that are alike inside a cone, both simulated to the end: every invariant has one answer in both
+-- (`all-answers`), and both checks return the same of each (`check-same`).
 use Prim.Native.Nat.{ℕ, _+_}
 use mathlib.Core.Bool.{Bool, true, false}
 use mathlib.Core.List.{List, [], _∷_, _++_}

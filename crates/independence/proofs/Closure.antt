@@ -1,5 +1,5 @@
--- The cone of an accepted model: nothing is left to add, and so its automations are good for the engine; and it is
--- the least such.
+-- The cone of an accepted model: it holds the start, and nothing is left to add (`facts`), so its automations are good for
+-- the engine (`cone-good`); and it is the least such pair (`cone-is-least`).
 use Prim.Native.Nat.{ℕ, zero, suc, _+_, _≤_}
 use mathlib.Core.Bool.{Bool, true, false, not, _&&_, _||_, true≢false, false≢true}
 use mathlib.Core.List.{List, [], _∷_, _++_}

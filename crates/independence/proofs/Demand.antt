@@ -1,4 +1,5 @@
--- Demand 3, as Demand.antt of the crate cone states it.
+-- Demand 3, as Demand.antt of the crate cone states it (`demand3`): two whole model files, each with lent areas of any
+-- sizes. `demand3-strong` needs less: neither the bound on cases nor where the alphabet's entities lie matters.
 use Prim.Native.Nat.{ℕ}
 use mathlib.Core.List.{List, []}
 use mathlib.Core.Path.{_≡_, refl, sym, _∙_}

@@ -1,4 +1,5 @@
--- Runs stay good: those of the cone read only what lies inside, those outside write only what lies outside.
+-- Runs stay good: those of the cone's automations read and toggle only what lies inside, those of other automations write
+-- only what lies outside. Every operation of the engine keeps this (`process-good`).
 use Prim.Native.Nat.{ℕ, _+_}
 use mathlib.Core.Path.{_≡_, refl, sym, ap, _∙_, subst}
 use mathlib.Core.Bool.{Bool, true, false, not, _&&_, _||_}

@@ -1,4 +1,5 @@
--- Reading the records for one invariant: those outside the cone change no answer.
+-- Reading the records for one invariant: those outside the cone change no answer (`judge-view`). For never, guard and
+-- transition such a record shows nothing new; a late response is found at the next record at the latest, with one deadline.
 use Prim.Native.Nat.{ℕ, suc, _+_, _≤_}
 use mathlib.Core.Bool.{Bool, true, false, not, _&&_, _||_, true≢false, false≢true}
 use mathlib.Core.List.{List, [], _∷_, _++_}

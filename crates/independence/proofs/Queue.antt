@@ -1,4 +1,5 @@
--- The queue: the item taken is the first of the earliest, and a filter changes nothing in that.
+-- The queue: the item taken is the first of the earliest, and nothing left is due before it. A filter on the queue changes
+-- nothing in that: an item inside is taken next of those inside too, one outside leaves them as they are.
 use Prim.Native.Nat.{ℕ, _≤_}
 use mathlib.Core.Bool.{Bool, true, false}
 use mathlib.Core.List.{List, [], _∷_}

@@ -1,4 +1,5 @@
--- The search: neither lists a reason, so case by case both say the same.
+-- The search: neither search lists a reason, so each case of both was checked to the end, and case by case both say the
+-- same. So do the searches: status, number of cases, and the witness's events (`verified-same`).
 use Prim.Native.Nat.{ℕ, zero, suc, _+_}
 use mathlib.Core.Bool.{Bool, true, false, _||_, true≢false, false≢true}
 use mathlib.Core.List.{List, [], _∷_, _++_}

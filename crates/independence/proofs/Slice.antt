@@ -1,5 +1,5 @@
--- The loop: a complete one, seen from the cone, is that of the cone's automations alone; so two models alike in the
--- cone have one view.
+-- The loop: a complete one, seen from the cone, is a complete one of the cone's automations alone (`slice`), however many
+-- steps each has; so two models alike in the cone have one view at the end (`alike`).
 use Prim.Native.Nat.{ℕ, zero, suc, _+_}
 use mathlib.Core.Bool.{Bool, true, false, _||_, false≢true}
 use mathlib.Core.List.{List, [], _∷_}

@@ -1,5 +1,5 @@
--- A step of the loop: on work inside the cone two engines stay alike; work outside leaves an engine as it is, inside
--- the cone.
+-- A step of the loop, operation by operation: on work inside the cone two engines that are alike there stay alike
+-- (`process-in`); work outside leaves an engine as it is, inside the cone (`process-out`).
 use Prim.Native.Nat.{ℕ, _+_}
 use mathlib.Core.Path.{_≡_, refl, sym, ap, _∙_, subst}
 use mathlib.Core.Bool.{Bool, true, false, not, _&&_, _||_, true≢false, false≢true}

@@ -1,5 +1,5 @@
 -- Time: no work is due before now, the records' seconds never fall, the first record is a boundary, and boundaries
--- show no change.
+-- show no change. The loop keeps this, and a complete simulation's records have it (`tidy-loop`).
 use Prim.Native.Nat.{ℕ, zero, suc, _+_, _≤_}
 use mathlib.Core.Bool.{Bool, true, false, not, _&&_, _||_, false≢true}
 use mathlib.Core.List.{List, [], _∷_, _++_}

@@ -1,4 +1,5 @@
--- What two engines have in common inside the cone, and how the parts of the engine keep it.
+-- What two engines have in common inside the cone (`Like`): cells, queue, runs without their number over all runs, runs
+-- made, and records. The parts and the primitive changes of the engine keep it.
 use Prim.Native.Nat.{ℕ, _+_}
 use mathlib.Core.Path.{_≡_, refl, sym, ap, _∙_, subst}
 use mathlib.Core.Bool.{Bool, true, false, _||_, true≢false}
