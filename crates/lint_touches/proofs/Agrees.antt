@@ -155,18 +155,18 @@ module _ (s : List ℕ) (e : Section) (ts : List Text) (es : List Entity) (g : G
   Inside set = (j : ℕ) → length es ≤ j → j < 32 → holds set j ≡ false
 
   -- the j-th entity is declared, and its name is among the texts
-  memN : ℕ → List Text → Bool
+  unfoldable pub memN : ℕ → List Text → Bool
   memN j l = ltb j (length es) && memT (nameAt es j) l
 
-  mem-in : (j : ℕ) (l : List Text) → j < length es → memN j l ≡ memT (nameAt es j) l
+  pub mem-in : (j : ℕ) (l : List Text) → j < length es → memN j l ≡ memT (nameAt es j) l
   unfolding memN
   mem-in j l h = rw (lt-ltb j (length es) h)
 
-  mem-out : (j : ℕ) (l : List Text) → length es ≤ j → memN j l ≡ false
+  pub mem-out : (j : ℕ) (l : List Text) → length es ≤ j → memN j l ≡ false
   unfolding memN
   mem-out j l h = rw (le-ltb j (length es) h)
 
-  memN-none : (j : ℕ) → memN j [] ≡ false
+  pub memN-none : (j : ℕ) → memN j [] ≡ false
   unfolding memN
   memN-none j = rw (mem-none (nameAt es j)) (go (ltb j (length es)))
     where
@@ -174,7 +174,7 @@ module _ (s : List ℕ) (e : Section) (ts : List Text) (es : List Entity) (g : G
       go true = refl
       go false = refl
 
-  memN-append : (j : ℕ) (l m : List Text) → memN j (l ++ m) ≡ (memN j l || memN j m)
+  pub memN-append : (j : ℕ) (l m : List Text) → memN j (l ++ m) ≡ (memN j l || memN j m)
   unfolding memN
   memN-append j l m = rw (mem-append (nameAt es j) l m) (go (ltb j (length es)) (memT (nameAt es j) l) (memT (nameAt es j) m))
     where
@@ -183,14 +183,14 @@ module _ (s : List ℕ) (e : Section) (ts : List Text) (es : List Entity) (g : G
       go false b c = refl
 
   -- the change adds the declared entities among the texts
-  pub Puts : Adds → List Text → Type 0
+  unfoldable pub Puts : Adds → List Text → Type 0
   Puts f l = (set j : ℕ) → holds (f set) j ≡ (holds set j || memN j l)
 
-  puts-none : Puts (λ set. set) []
+  pub puts-none : Puts (λ set. set) []
   unfolding Puts
   puts-none set j = sym (ap (λ (b : Bool). holds set j || b) (memN-none j) ∙ or-false (holds set j))
 
-  puts-then : (f h : Adds) (l m : List Text) → Puts f l → Puts h m → Puts (λ set. h (f set)) (l ++ m)
+  pub puts-then : (f h : Adds) (l m : List Text) → Puts f l → Puts h m → Puts (λ set. h (f set)) (l ++ m)
   unfolding Puts
   puts-then f h l m p q set j =
       q (f set) j
@@ -198,22 +198,22 @@ module _ (s : List ℕ) (e : Section) (ts : List Text) (es : List Entity) (g : G
       ∙ or-assoc (holds set j) (memN j l) (memN j m)
       ∙ ap (λ (b : Bool). holds set j || b) (sym (memN-append j l m))
 
-  puts-same : (f h : Adds) (l : List Text) → ((set : ℕ) → f set ≡ h set) → Puts f l → Puts h l
+  pub puts-same : (f h : Adds) (l : List Text) → ((set : ℕ) → f set ≡ h set) → Puts f l → Puts h l
   unfolding Puts
   puts-same f h l d p set j = ap (λ (x : ℕ). holds x j) (sym (d set)) ∙ p set j
 
-  puts-list : (f : Adds) (l m : List Text) → l ≡ m → Puts f l → Puts f m
+  pub puts-list : (f : Adds) (l m : List Text) → l ≡ m → Puts f l → Puts f m
   puts-list f l m d p = subst (Puts f) d p
 
   -- nothing is added past the last entity
-  stays-out : (f : Adds) (l : List Text) → Puts f l → (set j : ℕ) → length es ≤ j → holds set j ≡ false → holds (f set) j ≡ false
+  pub stays-out : (f : Adds) (l : List Text) → Puts f l → (set j : ℕ) → length es ≤ j → holds set j ≡ false → holds (f set) j ≡ false
   unfolding Puts
   stays-out f l p set j h z = p set j ∙ ap (λ (b : Bool). b || memN j l) z ∙ mem-out j l h
 
   one-name : (x j : ℕ) → memT (nameAt es j) (T x ∷ []) ≡ eqT (nameAt es j) (T x)
   one-name x j = mem-cons (nameAt es j) (T x) [] ∙ ap (λ (b : Bool). eqT (nameAt es j) (T x) || b) (mem-none (nameAt es j)) ∙ or-false (eqT (nameAt es j) (T x))
 
-  puts-entity : (x : ℕ) → x < length ts → Puts (addE s e x) (T x ∷ [])
+  pub puts-entity : (x : ℕ) → x < length ts → Puts (addE s e x) (T x ∷ [])
   unfolding Puts
   puts-entity x h set j = cases (lt-or-ge i (e .count)) (lt-or-ge j (length es))
     where
@@ -266,13 +266,13 @@ module _ (s : List ℕ) (e : Section) (ts : List Text) (es : List Entity) (g : G
 
   -- ---- predicates
 
-  predicate-puts : (p q : ℕ) (a : Predicate) → PredicateAt ts s p q a → Puts (addP s e p) (predicate-reads a)
+  pub predicate-puts : (p q : ℕ) (a : Predicate) → PredicateAt ts s p q a → Puts (addP s e p) (predicate-reads a)
   unfolding predicate-reads
   predicate-puts p q a (state-at x v k i j m n w) =
       puts-same (addE s e x) (addP s e p) (T x ∷ []) (λ set. laws.predicate-yes s e p set refl k refl (sym i)) (puts-entity x m)
   predicate-puts p q a (note-at r k w) = puts-same (λ set. set) (addP s e p) [] (λ set. laws.predicate-no s e p set refl (λ z. omega arith)) puts-none
 
-  predicates-put : (p : ℕ) (l : List Predicate) (q : ℕ) → counted (predicate ts) s p ≡ got l q → Puts (predicatesS s e p) (flat predicate-reads l)
+  pub predicates-put : (p : ℕ) (l : List Predicate) (q : ℕ) → counted (predicate ts) s p ≡ got l q → Puts (predicatesS s e p) (flat predicate-reads l)
   predicates-put p l q b =
       let c = counted-found (predicate ts) b in
       let y = puts-along (predicate ts) (addP s e) (predicateEnd s) predicate-reads (λ o a t d. let f = predicate-found ts s d in (predicate-puts o t a f, predicate-ends ts s f)) (c .count) (c .start) l q (c .are-values) in
@@ -384,7 +384,7 @@ module _ (s : List ℕ) (e : Section) (ts : List Text) (es : List Entity) (g : G
   filled-at w ps f i h = ap (λ (o : ℕ). getD (w .list) o 0) (zero-add i) ∙ sym (getD-take (length ps) (w .list) i 0 h) ∙ ap (λ (l : List ℕ). getD l i 0) (f .front)
 
   module _ (p : ℕ) (w : Walk) (r : Automation) (f : RuleAt ts s p r) (k : Walked ts s w r) where
-    over-all : (h : ℕ → Adds) (t : Action → List Text) → ((p : ℕ) (a : Action) → ActionAt ts s p a → Puts (h p) (t a)) → Puts (over h (w .list) (w .count) 0) (flat t (touches.actions-of r))
+    pub over-all : (h : ℕ → Adds) (t : Action → List Text) → ((p : ℕ) (a : Action) → ActionAt ts s p a → Puts (h p) (t a)) → Puts (over h (w .list) (w .count) 0) (flat t (touches.actions-of r))
     over-all h t d =
         puts-same _ _ _ (λ set. ap (λ (n : ℕ). over h (w .list) n 0 set) (sym (k .filled .many)))
         (puts-over h t d (w .list) 0 (k .positions) (touches.actions-of r) (filled-at w (k .positions) (k .filled)) (k .are-actions))

@@ -9,7 +9,7 @@ ghost use Rattle.lint_touches.specs.Sets.{addE, addP, predicatesS, addT,
 // ---- one entity
 
 // The set with the entity that has this name, if it is declared.
-fn add_entity(s: &[u8], entities: Section, set: u32, place: u32) -> u32
+pub fn add_entity(s: &[u8], entities: Section, set: u32, place: u32) -> u32
     requires { ⌜ entities .count ≤ 32 ⌝ }
     ensures { λ r. ⌜ r ≡ addE (now (s .entry)) entities place set ⌝ }
 {
@@ -21,7 +21,7 @@ fn add_entity(s: &[u8], entities: Section, set: u32, place: u32) -> u32
     set
 }
 
-fn add_predicate(s: &[u8], entities: Section, set: u32, at: usize) -> u32
+pub fn add_predicate(s: &[u8], entities: Section, set: u32, at: usize) -> u32
     requires { ⌜ entities .count ≤ 32 ⌝ }
     ensures { λ r. ⌜ r ≡ addP (now (s .entry)) entities at set ⌝ }
 {
@@ -35,7 +35,7 @@ fn add_predicate(s: &[u8], entities: Section, set: u32, at: usize) -> u32
 // ---- lists
 
 // A count, and as many predicates.
-fn add_predicates(s: &[u8], entities: Section, set: u32, at: usize) -> u32
+pub fn add_predicates(s: &[u8], entities: Section, set: u32, at: usize) -> u32
     requires { ⌜ entities .count ≤ 32 ⌝ }
     ensures { λ r. ⌜ r ≡ predicatesS (now (s .entry)) entities at set ⌝ }
 {
