@@ -1,0 +1,112 @@
+-- A text of the file stands at its place. The identifiers of an accepted model's invariants are texts of the file.
+use Prim.Native.Nat.{ℕ, zero, suc, _+_, _≤_, _<_}
+use mathlib.Core.Path.{_≡_, refl, sym, ap, _∙_, subst}
+use mathlib.Core.Bool.{Bool, true, false}
+use mathlib.Core.List.{List, [], _∷_}
+use native.Mathlib.Omega.{arith}
+use lib.ListN.{length, getD}
+use Rattle.texts.specs.Lists.{if_then_else_}
+use Rattle.texts.specs.Texts.{Text, eqT}
+use Rattle.model.specs.Answer.{Answer, answer, refused, _>>=_}
+use Rattle.model.specs.Model.{Predicate, Invariant, never, guard, transition, response, id-of, Model}
+use Rattle.model.specs.File.{got, Reader, give, refuse, u8, u32, counted, place, predicate, invariant, decode}
+use Rattle.model.specs.File.{_>>=_ as _>>=ᵣ_}
+use Rattle.model.specs.Rewrite.{place-of}
+use Rattle.model.specs.Validate.{accepted, validate}
+use Rattle.model_walk.proofs.Found.{bound, given, Kind, kind-found, Place, place-found}
+use Rattle.model_walk.proofs.Found as found
+use Rattle.model_index.specs.declared.Index.{Index}
+use Rattle.model_index.specs.Index.{readW}
+use Rattle.model_index.specs.Indexed.{Indexed, Says}
+use Rattle.model_index.proofs.Whole.{whole}
+use Rattle.engine.specs.Words.{texts-in}
+use Rattle.engine.proofs.Lists.{Case, is-true, is-false, case, eqT-eq, eqT-same}
+use Rattle.engine_places.proofs.Accepted.{accepted-lawful, accepted-decoded}
+
+-- the text is one of the list
+pub record In (t : Text) (ts : List Text) : Type 0 where
+  pub at : ℕ
+  pub inside : at < length ts
+  pub is : t ≡ getD ts at []
+
+later : (t x : Text) (l : List Text) → eqT t x ≡ false → (k : ℕ) → k < length (x ∷ l) → t ≡ getD (x ∷ l) k [] → In t l
+later t x l e zero h z =
+    let q : eqT t x ≡ true = ap (eqT t) (sym z) ∙ eqT-same t in
+    let w : true ≡ false = sym q ∙ e in
+    let y : _≡_ {A = ℕ} 0 1 = cc in
+    absurd (omega arith)
+later t x l e (suc k) h z = record { at = k; inside = omega arith; is = z }
+
+-- and then it stands at its place
+pub at-place : (t : Text) (ts : List Text) → In t ts → getD ts (place-of t ts) [] ≡ t
+unfolding place-of
+at-place t [] i = absurd (omega (arith, i .inside))
+at-place t (x ∷ l) i = by (case (eqT t x)) (at-place t l)
+  where
+    by : Case (eqT t x) → (In t l → getD l (place-of t l) [] ≡ t) →
+        getD (x ∷ l) (if eqT t x then 0 else 1 + place-of t l) [] ≡ t
+    by (is-true e) g = rw e (sym (eqT-eq t x e))
+    by (is-false e) g =
+        let n : 1 + place-of t l ≡ suc (place-of t l) = omega arith in
+        rw (e, n) (g (later t x l e (i .at) (i .inside) (i .is)))
+
+-- ---- identifiers
+
+module _ (ts : List Text) (s : List ℕ) where
+  in-place : (p : ℕ) {t : Text} {q : ℕ} → place ts s p ≡ got t q → In t ts
+  in-place p e = let x = place-found ts e in record { at = x .at; inside = x .is-in; is = x .is-text }
+
+  invariant-kinds : List (Reader Invariant)
+  invariant-kinds =
+      (place ts >>=ᵣ λ i. counted (predicate ts) >>=ᵣ λ ps. give (never i ps))
+      ∷ (place ts >>=ᵣ λ i. place ts >>=ᵣ λ x. place ts >>=ᵣ λ v. counted (predicate ts) >>=ᵣ λ ps. give (guard i x v ps))
+      ∷ (place ts >>=ᵣ λ i. place ts >>=ᵣ λ x. place ts >>=ᵣ λ f. place ts >>=ᵣ λ t. give (transition i x f t))
+      ∷ (place ts >>=ᵣ λ i. predicate ts >>=ᵣ λ p. predicate ts >>=ᵣ λ q. u32 >>=ᵣ λ n. give (response i p q n))
+      ∷ []
+
+  pub id-in : (p : ℕ) (a : Invariant) (q : ℕ) → invariant ts s p ≡ got a q → In (id-of a) ts
+  unfolding invariant invariant-kinds id-of
+  id-in p a q e = by (k .kind) (k .holds)
+    where
+      k : Kind invariant-kinds s p a q
+      k = kind-found invariant-kinds e
+
+      by : (i : ℕ) → getD invariant-kinds i refuse s (k .next) ≡ got a q → In (id-of a) ts
+      by zero h =
+          let i = bound (place ts) _ h in
+          let l = bound (counted (predicate ts)) _ (i .rest) in
+          subst (λ (y : Invariant). In (id-of y) ts) (given _ _ _ (l .rest) .0) (in-place _ (i .first))
+      by (suc zero) h =
+          let i = bound (place ts) _ h in
+          let x = bound (place ts) _ (i .rest) in
+          let v = bound (place ts) _ (x .rest) in
+          let l = bound (counted (predicate ts)) _ (v .rest) in
+          subst (λ (y : Invariant). In (id-of y) ts) (given _ _ _ (l .rest) .0) (in-place _ (i .first))
+      by (suc (suc zero)) h =
+          let i = bound (place ts) _ h in
+          let x = bound (place ts) _ (i .rest) in
+          let f = bound (place ts) _ (x .rest) in
+          let t = bound (place ts) _ (f .rest) in
+          subst (λ (y : Invariant). In (id-of y) ts) (given _ _ _ (t .rest) .0) (in-place _ (i .first))
+      by (suc (suc (suc zero))) h =
+          let i = bound (place ts) _ h in
+          let x = bound (predicate ts) _ (i .rest) in
+          let y = bound (predicate ts) _ (x .rest) in
+          let w = bound u32 _ (y .rest) in
+          subst (λ (y : Invariant). In (id-of y) ts) (given _ _ _ (w .rest) .0) (in-place _ (i .first))
+      by (suc (suc (suc (suc i)))) h = absurd (found.refused s (k .next) h)
+
+module _ (f : List ℕ) (m : Model) (acc : accepted f ≡ answer m) where
+  indexed : Indexed f (readW f .index) m
+  indexed = subst (Says f (readW f)) (accepted-decoded f m acc) (whole f) .1
+
+  texts-are : indexed .ts ≡ texts-in f
+  unfolding texts-in
+  texts-are = sym (rw (indexed .all-texts .1, texts-in))
+
+  pub invariant-in : (d : Invariant) (k : ℕ) → k < length (m .scenario .invariants) →
+      In (id-of (getD (m .scenario .invariants) k d)) (texts-in f)
+  invariant-in d k h =
+      let few = accepted-lawful f m acc .few-invariants in
+      let x = indexed .invariants .stand d k (omega arith) h in
+      subst (In (id-of (getD (m .scenario .invariants) k d))) texts-are (id-in (indexed .ts) f _ _ (x .0) (x .1))

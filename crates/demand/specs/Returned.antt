@@ -1,0 +1,65 @@
+-- Demand 3 of what `check` returns. An answer names texts by their places in its own file, so two answers are compared by the
+-- texts at those places.
+use Prim.Native.Nat.{ℕ, _+_, _*_, _≤_, _<_}
+use mathlib.Core.Path.{_≡_}
+use mathlib.Core.Bool.{false}
+use mathlib.Core.List.{List, []}
+use lib.ListN.{getD}
+use Rattle.texts.specs.Texts.{Text}
+use Rattle.model.specs.Answer.{answer}
+use Rattle.model.specs.Model.{Model}
+use Rattle.model.specs.Validate.{accepted}
+use Rattle.reasons.specs.Lists.{listed}
+use Rattle.engine.specs.Memory.{Lent, entries}
+use Rattle.engine.specs.Words.{texts-in, entry-words}
+use Rattle.checker.specs.Check.{Check, check}
+use Rattle.checker_entry.specs.declared.CheckResult.{CheckResult}
+use Rattle.checker_entry.specs.declared.Status.the-variants as status
+use Rattle.checker_entry.specs.Answers.{Checks}
+use Rattle.cone.specs.Alike.{Alike}
+use Rattle.cone.specs.Demand.{SameCheck}
+
+-- the j-th of the eight numbers of an answer's k-th violation (docs/FORMAT.md)
+abbrev pub number-at : CheckResult → (k j : ℕ) → ℕ
+number-at r k j = getD (r .violated) (k * 8 + j) 0
+
+-- the invariant that it names
+abbrev pub invariant-at : (file : List ℕ) → CheckResult → (k : ℕ) → Text
+invariant-at f r k = getD (texts-in f) (number-at r k 0) []
+
+-- The two answers' k-th violations are of one invariant. A missed response (number 4) has the same deadline, any other
+-- failure the same second (number 1) and source (numbers 5 to 7). The record's index (number 2) may differ.
+pub record SameViolation (f f′ : List ℕ) (r r′ : CheckResult) (k : ℕ) : Type 0 where
+  pub invariant : invariant-at f r k ≡ invariant-at f′ r′ k
+  pub deadline : number-at r k 4 ≡ number-at r′ k 4
+  pub missed : number-at r k 3 ≡ 4 → number-at r′ k 3 ≡ 4
+  pub second : (number-at r k 3 ≡ 4 → ⊥) → number-at r k 1 ≡ number-at r′ k 1
+  pub source : (number-at r k 3 ≡ 4 → ⊥) → (j : ℕ) → j < 3 → number-at r k (5 + j) ≡ number-at r′ k (5 + j)
+
+-- what an answer's reasons say is what the definition's check lists
+pub record Returns (f : List ℕ) (before : Lent) (r : CheckResult) (c : Check) : Type 0 where
+  pub is : check (entries entry-words before) f ≡ answer c
+  pub unknown : listed f (r .unknown) (r .unknowns) ≡ c .unknown
+
+pub record SameReturned (m m′ : Model) (f f′ : List ℕ) (before before′ : Lent) (r r′ : CheckResult) : Type 0 where
+  pub c : Check
+  pub c′ : Check
+  pub returns : Returns f before r c
+  pub returns′ : Returns f′ before′ r′ c′
+  -- of each invariant, failing or not: the same, and its own reasons are among those listed
+  pub invariants : SameCheck m m′ c c′
+  pub count : r .violations ≡ r′ .violations
+  pub violations : (k : ℕ) → k < r .violations → SameViolation f f′ r r′ k
+
+-- the answer isn't refused and its simulation isn't incomplete
+pub record Complete (r : CheckResult) : Type 0 where
+  pub answered : (n : ℕ) → r .status ≡ status.Refused n → ⊥
+  pub stopped : r .simulation .why ≡ 0
+  pub waiting : r .simulation .waiting ≡ false
+
+-- Two whole files, each with any lent areas: whatever `check` returns, as its contract has it.
+abbrev pub CheckReturned : Type 0
+CheckReturned =
+    (f f′ : List ℕ) (m m′ : Model) → accepted f ≡ answer m → accepted f′ ≡ answer m′ → Alike m m′
+    → (r r′ : CheckResult) (before after before′ after′ : Lent) → Checks f r before after → Checks f′ r′ before′ after′
+    → Complete r → Complete r′ → SameReturned m m′ f f′ before before′ r r′
