@@ -121,13 +121,17 @@ module _ {f x : List ℕ} {i : Index} {c : Cells} {a : List ℕ} (s : Simulation
   pub verdict-is : {many : ℕ} → Few (s .unknown) many → (u₀ : List ℕ) {u₁ : List ℕ} {k : ℕ} → Holds f (insertAll (listed f many (s .reasons)) (listed f 0 u₀)) k u₁ →
       {w₁ w₂ : List ℕ} {j h : ℕ} → Starts f (s .why) j w₁ → Ends f (s .waiting) j w₁ h w₂ → {n : ℕ} → Fits (s .records) (length a) n →
       {t : Counts} {v' u₂ w₃ : List ℕ} → GathersAll f x (i .invariants) c a n (record { violations = 0; unknown = k; incomplete = h }) t (replicate 256 0) v' u₁ u₂ w₂ w₃ →
-      {y : Status} → y ≡ statusV t →
+      {y : Status} → y ≡ statusV t → length u₁ ≡ 2000 → length w₂ ≡ 200 →
       Verdict f x i c a s (record { status = y; violations = t .violations; violated = v'; unknown = t .unknown; unknowns = u₂; incomplete = t .incomplete; incompletes = w₃; simulation = s })
   unfolding startV reasons
-  verdict-is {many} few u₀ {u₁} {k} merged {w₁} {w₂} {j} {h} st en {n} fi {t} {v'} {u₂} {w₃} all e = record {
+  verdict-is {many} few u₀ {u₁} {k} merged {w₁} {w₂} {j} {h} st en {n} fi {t} {v'} {u₂} {w₃} all {y} e lu lw = record {
     status-is = e;
     simulation = refl;
     long = all .long-v ∙ length-replicate {A = ℕ} 256 0;
+    unknowns-long = all .long-u ∙ lu;
+    incompletes-long = all .long-w ∙ lw;
+    few-unknown = omega (arith, all .most-unknown, merged-most f many (s .reasons) u₀ (few .most) merged);
+    few-incomplete = omega (arith, all .most-incomplete, st .most, en .most);
     holds = λ ok l long roomy rep. all .does l (long ∙ sym (fi .same roomy)) rep (startV f s) (record {
       violations = sym (areas.area-none brokenV 256) ∙ ap (λ (q : ℕ). Rattle.areas.specs.Areas.area brokenV q []) (sym (length-replicate {A = ℕ} 256 0));
       many = refl;
@@ -137,6 +141,31 @@ module _ {f x : List ℕ} {i : Index} {c : Cells} {a : List ℕ} (s : Simulation
   }
 
 -- ---- a check with given events
+
+-- how long the answer's arrays are, and how many reasons it has at most
+pub record Sized (r : CheckResult) : Type 0 where
+  pub unknowns : length (r .unknowns) ≡ 2000
+  pub incompletes : length (r .incompletes) ≡ 200
+  pub few-unknown : r .unknown ≤ 400
+  pub few-incomplete : r .incomplete ≤ 40
+
+no-check-sized : (n : ℕ) → Sized (no-check n)
+unfolding no-check
+no-check-sized n = record {
+  unknowns = length-replicate {A = ℕ} 2000 0;
+  incompletes = length-replicate {A = ℕ} 200 0;
+  few-unknown = omega arith;
+  few-incomplete = omega arith;
+}
+
+pub checked-sized : {f : List ℕ} {i : Index} {g : Ground} {v : List ℕ} {n : ℕ} {r : CheckResult} {q q' a a' u u' : List ℕ} → Checked f i g v n r q q' a a' u u' → Sized r
+checked-sized {r = r} ch = by (case (eqb (ch .simulation .refused) 0))
+  where
+    by : Case (eqb (ch .simulation .refused) 0) → Sized r
+    by (is-true e) =
+        let w = ch .done (eqb-true (ch .simulation .refused) 0 e) in
+        record { unknowns = w .unknowns-long; incompletes = w .incompletes-long; few-unknown = w .few-unknown; few-incomplete = w .few-incomplete }
+    by (is-false e) = subst Sized (sym (ch .full (eqb-false (ch .simulation .refused) 0 e))) (no-check-sized (ch .simulation .refused))
 
 module _ {f : List ℕ} {g : Ground} {events : List ℕ} {n : ℕ} (s : Simulation) {q q' a a' u u' : List ℕ} (ran : Ran f g events n s q q' a a' u u') where
   pub reasons-long : length (g .reasons) ≡ 1500 → s .refused ≡ 0 → ran .told .refused ≡ 0 → length (s .reasons) ≡ 1500

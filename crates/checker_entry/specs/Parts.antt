@@ -71,6 +71,10 @@ pub record Verdict (f x : List ℕ) (i : Index) (c : Cells) (a : List ℕ) (s : 
   pub status-is : r .status ≡ statusV (counts r)
   pub simulation : r .simulation ≡ s
   pub long : length (r .violated) ≡ 256
+  pub unknowns-long : length (r .unknowns) ≡ 2000
+  pub incompletes-long : length (r .incompletes) ≡ 200
+  pub few-unknown : r .unknown ≤ 400
+  pub few-incomplete : r .incomplete ≤ 40
   pub holds : s .unknown ≤ 300 → (l : List Record) → length l ≡ s .records → s .records * 13 ≤ length a → a ≡ recorded (length a) l →
       Keeps f (r .violated) (r .unknowns) (r .incompletes) (counts r) (firstV f x (i .invariants .starts) c l (atMost (i .invariants .count) 32) (startV f s))
 

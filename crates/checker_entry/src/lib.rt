@@ -32,7 +32,8 @@ pub struct CheckResult {
     pub simulation: Simulation,
 }
 
-fn refused(number: u32) -> CheckResult
+// A refusal: no violations, no reasons.
+pub fn refused(number: u32) -> CheckResult
     ensures { λ r. ⌜ r ≡ no-check number ⌝ }
 {
     let simulation = engine_entry::refused(number);
