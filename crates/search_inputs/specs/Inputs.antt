@@ -62,3 +62,4 @@ placing at a j = at ∷ getD (a .words) (j * 3) 0 ∷ getD (a .words) (j * 3 + 1
 pub record Placing (p : Placed) (at : ℕ) (a : Alphabet) (j : ℕ) (r : Placed) : Type 0 where
   pub count : r .count ≡ p .count + 1
   pub words : r .words ≡ written (p .words) (p .count * 4) (placing at a j)
+  pub long : length (r .words) ≡ length (p .words)

@@ -74,7 +74,7 @@ add-t10 c = search needs
 -- src/lib.rt:119:1
 returns : tie.Need-returns
 unfolding placing
-returns c = record { count = refl; words = c .before .put .ensures }
+returns c = record { count = refl; words = c .before .put .ensures; long = search needs }
 
 pub place-spec : {M : Type 1} → statement M
 place-spec =

@@ -1,0 +1,6 @@
+pub mod Walk
+pub mod Laws
+pub mod Sorted
+pub mod Budget
+pub mod Cases
+pub mod Visits

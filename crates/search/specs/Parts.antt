@@ -1,0 +1,140 @@
+-- What the parts of the search give, as the code does it.
+use Prim.Native.Nat.{ℕ, _+_, _*_, _/_, _%_, _≤_, _<_}
+use mathlib.Core.Path.{_≡_}
+use mathlib.Core.Bool.{Bool, true, false}
+use mathlib.Core.List.{List, []}
+use lib.Dec.{ltb, eqb}
+use lib.ListN.{length, getD, replicate}
+use Rattle.texts.specs.Lists.{if_then_else_}
+use Rattle.texts.specs.Texts.{insertT}
+use Rattle.reasons.specs.Lists.{listed, insertAll, Holds}
+use Rattle.reasons.specs.Reasons.{render}
+use Rattle.model_index.specs.declared.Index.{Index}
+use Rattle.engine_reads.specs.Reads.{four, cap, alone}
+use Rattle.engine_entry.specs.declared.Ground.{Ground}
+use Rattle.engine_entry.specs.Answers.{Grounds}
+use Rattle.checker_entry.specs.declared.Status.{Status}
+use Rattle.checker_entry.specs.declared.Status.the-variants as status
+use Rattle.checker_entry.specs.declared.CheckResult.{CheckResult}
+use Rattle.search_inputs.specs.declared.Placed.{Placed}
+use Rattle.search_inputs.specs.Inputs.{AlphabetOf, GapsOf, lastV, Placing}
+use Rattle.search.specs.declared.Plan.{Plan}
+use Rattle.search.specs.declared.Search.{Search}
+
+pub record AtMost (n m r : ℕ) : Type 0 where
+  pub most : r ≤ m
+  pub same : n ≤ m → r ≡ n
+
+-- ---- what a search goes by
+
+-- a limit of the model: 0 horizon, 4 steps, 8 depth, 12 cases
+unfoldable pub limitV : List ℕ → Index → (k : ℕ) → ℕ
+limitV f i k = four f (cap (i .limits) + k)
+
+pub record Plans (f : List ℕ) (i : Index) (p : Plan) : Type 0 where
+  pub index : p .index ≡ i
+  pub ground : Grounds f i (p .ground)
+  pub alphabet : AlphabetOf f i (p .alphabet)
+  pub gaps : GapsOf f i (p .gaps)
+  pub horizon : p .horizon ≡ limitV f i 0
+  pub cases : AtMost (limitV f i 12) 2000 (p .cases)
+
+-- the arrays' lengths, and the counts' bounds
+pub record Fitted (p : Plan) (room : ℕ) : Type 0 where
+  pub reasons : length (p .ground .reasons) ≡ 1500
+  pub inputs : p .alphabet .count ≤ 12
+  pub gaps : p .gaps .count ≤ 4
+  pub cases : p .cases ≤ 2000
+  pub area : room ≡ 4000
+
+-- and there is a place for each event that is still to come
+pub record Shaped (p : Plan) (placed : Placed) (remaining room : ℕ) : Type 0 where
+  pub fitted : Fitted p room
+  pub words : length (placed .words) ≡ 20
+  pub events : placed .count + remaining ≤ 5
+
+-- ---- a case
+
+abbrev pub refusalV : Status → ℕ
+refusalV (status.Refused n) = n
+refusalV status.Unknown = 0
+refusalV status.Violation = 0
+refusalV status.Incomplete = 0
+refusalV status.NoViolationInTrace = 0
+
+abbrev pub violatesV : Status → Bool
+violatesV (status.Refused n) = false
+violatesV status.Unknown = false
+violatesV status.Violation = true
+violatesV status.Incomplete = false
+violatesV status.NoViolationInTrace = false
+
+abbrev pub refusedS : Search → (number : ℕ) → Search
+refusedS o n = record {
+  refused = n;
+  cases = o .cases;
+  steps = o .steps;
+  reasons = o .reasons;
+  found = o .found;
+  shortest = o .shortest;
+  stopped = true;
+  witness = o .witness;
+}
+
+-- the budget is spent
+pub record Spends (f : List ℕ) (o : Search) (w : List ℕ) (r : Search) (w' : List ℕ) : Type 0 where
+  pub refused : r .refused ≡ o .refused
+  pub cases : r .cases ≡ o .cases
+  pub steps : r .steps ≡ o .steps
+  pub found : r .found ≡ o .found
+  pub shortest : r .shortest ≡ o .shortest
+  pub stopped : r .stopped ≡ true
+  pub witness : r .witness ≡ o .witness
+  pub reasons : o .reasons ≤ 400 → Holds f (insertT (render f (alone 387)) (listed f (o .reasons) w)) (r .reasons) w'
+
+-- a case was checked: a violation, or its reasons were gathered
+pub record Found (o : Search) (placed : Placed) (took : ℕ) (r : Search) : Type 0 where
+  pub refused : r .refused ≡ o .refused
+  pub cases : r .cases ≡ o .cases + 1
+  pub steps : took ≤ 10000 → r .steps ≡ o .steps + took
+  pub reasons : r .reasons ≡ o .reasons
+  pub found : r .found ≡ true
+  pub shortest : r .shortest ≡ eqb (o .reasons) 0
+  pub stopped : r .stopped ≡ true
+  pub witness : r .witness ≡ placed
+
+pub record Other (o : Search) (count took : ℕ) (r : Search) : Type 0 where
+  pub refused : r .refused ≡ o .refused
+  pub cases : r .cases ≡ o .cases + 1
+  pub steps : took ≤ 10000 → r .steps ≡ o .steps + took
+  pub reasons : r .reasons ≡ count
+  pub found : r .found ≡ o .found
+  pub shortest : r .shortest ≡ o .shortest
+  pub stopped : r .stopped ≡ false
+  pub witness : r .witness ≡ o .witness
+
+-- the reasons of a check among the n others, if there are few
+abbrev pub Gathers : (f : List ℕ) → (n : ℕ) → CheckResult → (w : List ℕ) → (r : ℕ) → (w' : List ℕ) → Type 0
+Gathers f n c w r w' =
+    n ≤ 400 → c .unknown ≤ 400 → c .incomplete ≤ 40 →
+    length (insertAll (listed f (c .unknown) (c .unknowns)) (listed f n w)) ≤ 400 →
+    Holds f (insertAll (listed f (c .incomplete) (c .incompletes)) (insertAll (listed f (c .unknown) (c .unknowns)) (listed f n w))) r w'
+
+-- ---- the next events
+
+unfoldable pub nextAt : Plan → Placed → (k : ℕ) → ℕ
+nextAt p placed k = cap (lastV placed + getD (p .gaps .seconds) (k / p .alphabet .count) 0)
+
+abbrev pub Nexts : Plan → Placed → (k : ℕ) → Placed → Type 0
+Nexts p placed k r = Placing placed (nextAt p placed k) (p .alphabet) (k % p .alphabet .count) r
+
+-- ---- before the first case
+
+pub record Begins (f : List ℕ) (g : Ground) (r : Search) (w' : List ℕ) : Type 0 where
+  pub refused : r .refused ≡ 0
+  pub cases : r .cases ≡ 0
+  pub steps : r .steps ≡ 0
+  pub found : r .found ≡ false
+  pub shortest : r .shortest ≡ false
+  pub stopped : r .stopped ≡ false
+  pub reasons : g .count ≤ 300 → Holds f (insertAll (listed f (g .count) (g .reasons)) []) (r .reasons) w'
