@@ -70,11 +70,12 @@ source-as Nowhere = refl
 source-as (From l c) = refl
 
 module _ (f x : List ℕ) (ts : List Text) (m : Model) (tb : Tabled f x ts m) where
-  record Named (at : ℕ) (i : Invariant) : Type 0 where
-    place-in : two f (cap at + 1) < length ts
-    is : id-of i ≡ getD ts (two f (cap at + 1)) []
+  -- an invariant's identifier is a text of the file
+  pub record Named (at : ℕ) (i : Invariant) : Type 0 where
+    pub place-in : two f (cap at + 1) < length ts
+    pub is : id-of i ≡ getD ts (two f (cap at + 1)) []
 
-  named : (at : ℕ) (i : Invariant) → Reads (invariant ts) f at i → Named at i
+  pub named : (at : ℕ) (i : Invariant) → Reads (invariant ts) f at i → Named at i
   unfolding id-of
   named at i (q, e) = by i (parts f x ts m tb at i q e)
     where

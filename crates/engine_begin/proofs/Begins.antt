@@ -65,13 +65,12 @@ each-under g P [] h = tt
 each-under g P (a ∷ l) h = (h .0, each-under g P l (h .1))
 
 -- an accepted model's events were checked
-event-accepted : (f : List ℕ) (m : Model) → accepted f ≡ answer m → (d : Event) (k : ℕ) → k < length (m .scenario .events) →
-    check-input (m .scenario .entities) (getD (m .scenario .events) k d .input) ≡ accept
-event-accepted f m acc d k h =
-    lists.each-getD (λ (v : Event). check-input (m .scenario .entities) (v .input) ≡ accept) (m .scenario .events) k d h
-    (each-under (λ (v : Event). v .input) (λ (v : Input). check-input (m .scenario .entities) v ≡ accept) (m .scenario .events)
+pub events-accepted : (f : List ℕ) (m : Model) → accepted f ≡ answer m →
+    Each (λ (v : Event). check-input (m .scenario .entities) (v .input) ≡ accept) (m .scenario .events)
+events-accepted f m acc =
+    each-under (λ (v : Event). v .input) (λ (v : Input). check-input (m .scenario .entities) v ≡ accept) (m .scenario .events)
     (each-split (λ (v : Input). check-input (m .scenario .entities) v ≡ accept)
-    (each (λ (v : Event). v .input) (m .scenario .events)) (m .scenario .alphabet) (accepted-lawful f m acc .inputs) .0))
+    (each (λ (v : Event). v .input) (m .scenario .events)) (m .scenario .alphabet) (accepted-lawful f m acc .inputs) .0)
 
 module _ (f x : List ℕ) (i : Index) (m : Model) (acc : accepted f ≡ answer m) (o : Indexed f i m) (tb : Tabled f x (o .ts) m) where
   abbrev ts : List Text
@@ -192,15 +191,20 @@ module _ (f x : List ℕ) (i : Index) (m : Model) (acc : accepted f ≡ answer m
         s .words (k * 4 + j) (omega (arith, h, few))
         ∙ rw (a, b, near p (read .inside))
 
-    pub event-here : EventAt f x ts m tb l k v
+    -- the event's second and its input, as words
+    pub words-here : (getD l (k * 4) 0 ≡ v .at)
+        × InputWords f x ts m tb (getD l (k * 4 + 1) 0) (getD l (k * 4 + 2) 0) (getD l (k * 4 + 3) 0) (v .input)
     unfolding event-part
-    event-here =
-        event-at f x ts m tb l k v accepted-here
-        (ap (λ (n : ℕ). getD l n 0) zero-more ∙ word-at 0 (omega arith) ∙ read .second)
-        (rw (word-at 1 (omega arith), word-at 2 (omega arith), word-at 3 (omega arith)) (read .words))
+    words-here = (
+      ap (λ (n : ℕ). getD l n 0) zero-more ∙ word-at 0 (omega arith) ∙ read .second,
+      rw (word-at 1 (omega arith), word-at 2 (omega arith), word-at 3 (omega arith)) (read .words),
+    )
       where
         zero-more : k * 4 ≡ k * 4 + 0
         zero-more = omega arith
 
-        accepted-here : check-input es (v .input) ≡ accept
-        accepted-here = event-accepted f m acc d k h
+    pub event-here : EventAt f x ts m tb l k v
+    event-here =
+        event-at f x ts m tb l k v
+        (lists.each-getD (λ (v : Event). check-input es (v .input) ≡ accept) events k d h (events-accepted f m acc))
+        (words-here .0) (words-here .1)

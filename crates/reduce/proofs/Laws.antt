@@ -1,0 +1,103 @@
+-- Laws for the small functions.
+use Prim.Native.Nat.{ℕ, zero, suc, _+_, _*_, _≤_, _<_}
+use mathlib.Core.Path.{_≡_, refl, sym, ap, _∙_}
+use mathlib.Core.Bool.{Bool, true, false, _||_}
+use mathlib.Core.List.{List}
+use native.Mathlib.Decide.{decLt}
+use native.Mathlib.Numerals.{add-one}
+use native.Mathlib.Omega.{arith}
+use lib.Dec.{ltb}
+use lib.ListN.{getD}
+use borrow.Author.Tests.{lt-ltb, le-ltb, eq-eqb, ne-eqb}
+use Rattle.checker_entry.specs.declared.Status.{Status}
+use Rattle.checker_entry.specs.declared.Status.the-variants as status
+use Rattle.checker_entry.specs.declared.CheckResult.{CheckResult}
+use Rattle.reduce.specs.declared.Reduced.{Reduced}
+use Rattle.reduce.specs.Parts.{among, is-violation, fewV, violatesV, Stops, passed, GoesOn}
+
+-- ---- the target among the violations
+
+or-true : (b : Bool) → (b || true) ≡ true
+or-true true = refl
+or-true false = refl
+
+module _ (l : List ℕ) (t : ℕ) where
+  pub among-none : among l 0 t ≡ false
+  unfolding among
+  among-none = refl
+
+  pub among-hit : (n k : ℕ) → k < n → getD l (k * 8) 0 ≡ t → among l n t ≡ true
+  unfolding among
+  among-hit zero k h e = absurd (omega arith)
+  among-hit (suc n) k h e = elim (decLt k n) [
+    | yes o ↦ rw (among-hit n k o e)
+    | no o ↦
+        let z : n ≡ k = omega arith in
+        rw (eq-eqb (getD l (n * 8) 0) t (ap (λ (j : ℕ). getD l (j * 8) 0) z ∙ e)) (or-true (among l n t))
+  ]
+
+  pub among-miss : (k : ℕ) → among l k t ≡ false → (getD l (k * 8) 0 ≡ t → ⊥) → among l (k + 1) t ≡ false
+  unfolding among
+  among-miss k h e = rw (add-one k) (rw (h, ne-eqb (getD l (k * 8) 0) t e))
+
+-- ---- a check that violates the target
+
+pub few-most : (n : ℕ) → 32 < n → 32 ≡ fewV n
+unfolding fewV
+few-most n h = rw (lt-ltb 32 n h)
+
+pub few-all : (n : ℕ) → n ≤ 32 → n ≡ fewV n
+unfolding fewV
+few-all n h = rw (le-ltb 32 n h)
+
+module _ (s : Status) where
+  pub is-refused : (n : ℕ) → s ≡ status.Refused n → false ≡ is-violation s
+  unfolding is-violation
+  is-refused n e = rw e
+
+  pub is-unknown : s ≡ status.Unknown → false ≡ is-violation s
+  unfolding is-violation
+  is-unknown e = rw e
+
+  pub is-one : s ≡ status.Violation → true ≡ is-violation s
+  unfolding is-violation
+  is-one e = rw e
+
+  pub is-incomplete : s ≡ status.Incomplete → false ≡ is-violation s
+  unfolding is-violation
+  is-incomplete e = rw e
+
+  pub is-none : s ≡ status.NoViolationInTrace → false ≡ is-violation s
+  unfolding is-violation
+  is-none e = rw e
+
+module _ (c : CheckResult) (t : ℕ) where
+  pub not-so : {b : Bool} → b ≡ is-violation (c .status) → b ≡ false → false ≡ violatesV c t
+  unfolding violatesV
+  not-so e z = rw (← e, z)
+
+  pub is-so : {b : Bool} → b ≡ is-violation (c .status) → b ≡ true → {n : ℕ} → n ≡ fewV (c .violations) → {r : Bool} → r ≡ among (c .violated) n t →
+      r ≡ violatesV c t
+  unfolding violatesV
+  is-so e z n h = h ∙ rw (← e, z, n)
+
+-- ---- when the reduction stops
+
+module _ (r : Reduced) where
+  impossible : {A : Type 0} → true ≡ false → A
+  impossible e = let z : _≡_ {A = ℕ} 0 1 = cc in absurd (omega arith)
+
+  pub stops : Stops r → GoesOn r false
+  stops s = record { more = λ e. impossible (sym e); stop = λ e. s }
+
+  pub goes : r .refused ≡ 0 → r .attempts < 200 → {b : Bool} → b ≡ ltb (r .reached) (r .count) → GoesOn r b
+  goes a h {b} e = elim (decLt (r .reached) (r .count)) [
+    | yes k ↦ record {
+      more = λ z. record { accepted = a; attempts = h; inside = k };
+      stop = λ z. impossible (sym (lt-ltb (r .reached) (r .count) k) ∙ sym e ∙ z);
+    }
+    | no k ↦ record {
+      more = λ z. impossible (sym z ∙ e ∙ le-ltb (r .reached) (r .count) (omega arith));
+      stop = λ z. passed a (omega arith);
+    }
+  ]

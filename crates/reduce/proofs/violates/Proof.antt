@@ -1,0 +1,13 @@
+use borrow.Author.Needs.{needs}
+use Rattle.reduce.proofs.Laws as laws
+use Rattle.reduce.proofs.violates.Statement.{statement}
+use Rattle.reduce.proofs.violates.Tie as tie
+use Rattle.reduce.proofs.violates.Reads as reads
+use Rattle.reduce.proofs.violates.Lts as lts
+use Rattle.reduce.proofs.few.Reads as few-reads
+use Rattle.reduce.proofs.is_violation.Reads as is-violation-reads
+use Rattle.reduce.proofs.named.Reads as named-reads
+
+pub violates-spec : {M : Type 1} → statement M
+violates-spec =
+    tie.close (tie.spec (λ c κs. search needs) (λ c κs. search needs) (λ c κs. search needs) (λ c. laws.is-so (c .before .before .before .before .before .before .args .c) _ (c .before .before .before .before .is-violation .ensures) (c .before .before .before .if1 .taken) (c .before .before .few .ensures .0) (c .named .ensures)) (λ c. laws.not-so (c .before .before .before .args .c) _ (c .before .is-violation .ensures) (c .if1 .left)))

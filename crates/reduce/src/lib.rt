@@ -1,0 +1,172 @@
+// The reduction of a violating model's events: each is left out in turn, for good if the violation stays.
+use checker_entry::CheckResult;
+use checker_entry::Status;
+use engine_begin::Events;
+use engine_entry::Ground;
+use model_index::Index;
+ghost use mathlib.Core.Path.{_≡_};
+ghost use Prim.Native.Nat.{_*_, _≤_, _<_};
+ghost use lib.ListN.{length};
+ghost use Rattle.reduce.specs.Parts.{Without, among, is-violation, fewV, violatesV, GoesOn, Open, Attempted, Begun, Reduces};
+
+// `refused` is 0, or 41 to 43 where a check was refused. The first `count` events in `words`, four words each, are left;
+// so many candidates were checked, and the place reached.
+pub struct Reduced {
+    pub refused: u32,
+    pub count: usize,
+    pub words: [u32; 400],
+    pub attempts: u32,
+    pub reached: usize,
+}
+
+// The first `count` events without the one at a place.
+fn without(words: [u32; 400], count: usize, place: usize) -> Events
+    requires { ⌜ (place < count) × ((count ≤ 100) × (length words ≡ 400)) ⌝ }
+    ensures { λ r. ⌜ Without words count place (r .words) ⌝ }
+{
+    let mut left = words;
+    areas::take_out(&mut left, place * 4, 4, count * 4);
+    Events { words: left }
+}
+
+// One of the first n violations, eight numbers each, is of the target.
+fn named(violated: &[u64; 256], n: usize, target: u64) -> bool
+    requires { ⌜ n ≤ 32 ⌝ }
+    ensures { λ r. ⌜ r ≡ among (now (violated .entry)) n target ⌝ }
+{
+    let mut k: usize = 0;
+    while k < n {
+        if violated[k * 8] == target {
+            return true;
+        }
+        k += 1;
+    }
+    false
+}
+
+pub fn is_violation(status: Status) -> bool
+    ensures { λ r. ⌜ r ≡ is-violation status ⌝ }
+{
+    match status {
+        Status::Refused(_) => false,
+        Status::Unknown => false,
+        Status::Violation => true,
+        Status::Incomplete => false,
+        Status::NoViolationInTrace => false,
+    }
+}
+
+// At most 32.
+fn few(n: usize) -> usize
+    ensures { λ r. ⌜ (r ≡ fewV n) × (r ≤ 32) ⌝ }
+{
+    if 32 < n {
+        return 32;
+    }
+    n
+}
+
+// The check is a violation, of the target too.
+fn violates(c: CheckResult, target: u64) -> bool
+    ensures { λ r. ⌜ r ≡ violatesV c target ⌝ }
+{
+    let status = c.status;
+    let violated = c.violated;
+    if is_violation(status) {
+        let n = few(c.violations);
+        return named(&violated, n, target);
+    }
+    false
+}
+
+// There is an event to try, and an attempt left.
+fn goes_on(r: Reduced) -> bool
+    ensures { λ b. ⌜ GoesOn r b ⌝ }
+{
+    if r.refused != 0 {
+        return false;
+    }
+    if 199 < r.attempts {
+        return false;
+    }
+    r.reached < r.count
+}
+
+// The check of the events without the one at the place reached.
+fn attempt(
+    file: &[u8],
+    index: Index,
+    g: Ground,
+    target: u64,
+    r: Reduced,
+    queue: &mut [u32],
+    records: &mut [u32],
+    runs: &mut [u32],
+) -> Reduced
+    requires { ⌜ Open g r ⌝ }
+    ensures { λ e. ⌜ Attempted (now (file .entry)) index g target r e (length (now (queue .entry))) (length (now (records .entry))) (length (now (runs .entry))) ⌝ }
+{
+    let words = r.words;
+    let n = r.count - 1;
+    let attempts = r.attempts + 1;
+    let w = without(words, r.count, r.reached);
+    let left = w.words;
+    let c = checker_entry::check_events(file, index, g, &left, n, queue, records, runs);
+    let s = c.simulation;
+    if s.refused != 0 {
+        return Reduced {
+            refused: s.refused,
+            count: r.count,
+            words,
+            attempts,
+            reached: r.reached,
+        };
+    }
+    if violates(c, target) {
+        return Reduced {
+            refused: 0,
+            count: n,
+            words: left,
+            attempts,
+            reached: 0,
+        };
+    }
+    Reduced {
+        refused: 0,
+        count: r.count,
+        words,
+        attempts,
+        reached: r.reached + 1,
+    }
+}
+
+// The first n of the events that stand in four words each, reduced; the violation of the target stays.
+pub fn reduce_events(
+    file: &[u8],
+    index: Index,
+    g: Ground,
+    target: u64,
+    events: Events,
+    n: usize,
+    queue: &mut [u32],
+    records: &mut [u32],
+    runs: &mut [u32],
+) -> Reduced
+    requires { ⌜ Begun g events n ⌝ }
+    ensures { λ r. ⌜ Reduces (now (file .entry)) index g target events n r (length (now (queue .entry))) (length (now (records .entry))) (length (now (runs .entry))) ⌝ }
+{
+    let words = events.words;
+    let mut r = Reduced {
+        refused: 0,
+        count: n,
+        words,
+        attempts: 0,
+        reached: 0,
+    };
+    let mut more = goes_on(r);
+    while more {
+        r = attempt(file, index, g, target, r, queue, records, runs);
+        more = goes_on(r);
+    }
+    r
+}
