@@ -74,7 +74,7 @@ module _ (areas : Areas) (m : Model) (cells : List Cell) (target : Text) (vs : L
 
 -- ---- one attempt
 
-refused-number : (n : ℕ) (c : CheckResult) → c ≡ no-check n → c .simulation .refused ≡ n
+pub refused-number : (n : ℕ) (c : CheckResult) → c ≡ no-check n → c .simulation .refused ≡ n
 unfolding no-check no-simulation
 refused-number n c e = ap (λ (y : CheckResult). y .simulation .refused) e
 

@@ -1,0 +1,54 @@
+-- What `minimize` answers, by the definitions of crate `checker`: each number of the answer, each word of the lent areas, and
+-- each byte of the output.
+use Prim.Native.Nat.{ℕ, _<_}
+use mathlib.Core.Path.{_≡_}
+use mathlib.Core.Bool.{false}
+use mathlib.Core.List.{List, _++_}
+use lib.ListN.{length, getD, drop, replicate}
+use Rattle.model.specs.Answer.{Answer, answer, refused}
+use Rattle.model.specs.Model.{Event}
+use Rattle.model.specs.Rewrite.{place-of}
+use Rattle.engine.specs.Memory.{Lent, entries, lent-after}
+use Rattle.engine.specs.Records.{Trace}
+use Rattle.engine.specs.Words.{texts-in, words-in, entry-words}
+use Rattle.checker.specs.Minimize.{minimize, reduced-file}
+use Rattle.checker.specs.Minimize as checker
+use Rattle.checker_entry.specs.Answers.{no-check}
+use Rattle.checker_entry.specs.Answers as check
+use Rattle.reduce.specs.Events.{EventWords}
+use Rattle.reduce_entry.specs.declared.Minimized.{Minimized}
+
+-- The answer says what the definition's reduction says. The places of an event that doesn't set are left free, and so are the
+-- words behind the last event.
+pub record Shows (f : List ℕ) (r : Minimized) (d : checker.Minimized) : Type 0 where
+  pub accepted : r .refused ≡ 0
+  pub invariant : r .invariant ≡ place-of (d .invariant) (texts-in f)
+  pub originals : r .originals ≡ d .original-events
+  pub attempts : r .attempts ≡ d .attempts
+  pub minimal : r .minimal ≡ d .deletion-minimal
+  pub events : r .events ≡ length (d .events)
+  pub words : (e : Event) (k : ℕ) → k < length (d .events) → EventWords (texts-in f) (r .words) k (getD (d .events) k e)
+  pub written : r .written ≡ length (reduced-file f d)
+  pub check : check.Shows f (r .check) (d .check)
+
+unfoldable pub no-reduction : (number : ℕ) → Minimized
+no-reduction n = record { refused = n; invariant = 0; originals = 0; attempts = 0; minimal = false; events = 0; words = replicate 400 0; written = 0; check = no-check n }
+
+abbrev pub Says : (file : List ℕ) → Minimized → Answer checker.Minimized → Type 0
+Says f r (answer d) = Shows f r d
+Says f r (refused n) = r ≡ no-reduction n
+
+-- the records of the last check
+abbrev pub last-trace : checker.Minimized → List Trace
+last-trace d = d .check .simulation .trace
+
+-- the output afterwards: the reduced file, then the bytes that came; refusals leave all as it came
+unfoldable pub output-after : (file : List ℕ) → Answer checker.Minimized → (output : List ℕ) → List ℕ
+output-after f (answer d) o = reduced-file f d ++ drop (length (reduced-file f d)) o
+output-after f (refused n) o = o
+
+-- the entry `minimize`: its answer, each word of the areas afterwards, and each byte of the output
+pub record Minimizes (f : List ℕ) (r : Minimized) (before after : Lent) (o o' : List ℕ) : Type 0 where
+  pub says : Says f r (minimize (entries entry-words before) (length o) f)
+  pub memory : after ≡ lent-after (words-in f) last-trace (minimize (entries entry-words before) (length o) f) before
+  pub output : o' ≡ output-after f (minimize (entries entry-words before) (length o) f) o
