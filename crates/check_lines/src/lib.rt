@@ -120,6 +120,23 @@ fn print_answer(
     }
 }
 
+// The status and all that follows it; a refusal's number only.
+pub fn print_result(
+    out: &mut [u8],
+    n: usize,
+    form: Form,
+    file: &[u8],
+    a: &[u32],
+    c: CheckResult,
+) -> usize {
+    let status = c.status;
+    let m = put_status(out, n, status);
+    if let Status::Refused(_) = status {
+        return m;
+    }
+    print_answer(out, m, form, file, a, c)
+}
+
 // `check` with these lent areas.
 fn print_lent(
     out: &mut [u8],
@@ -131,12 +148,7 @@ fn print_lent(
     r: &mut [u32],
 ) -> usize {
     let c = checker_entry::check(file, q, a, r);
-    let status = c.status;
-    let m = put_status(out, n, status);
-    if let Status::Refused(_) = status {
-        return m;
-    }
-    print_answer(out, m, form, file, a, c)
+    print_result(out, n, form, file, a, c)
 }
 
 // The lines of `showcheck`: its areas have at most 64 KiB each, 3,276 entries of the queue, 1,260 records, 585 runs.
