@@ -1,8 +1,8 @@
 -- The laws that the proofs of the rounds cite.
-use mathlib.Core.Path.{_≡_, refl, sym, ap, _∙_}
+use mathlib.Core.Path.{_≡_, sym, ap, _∙_}
 use mathlib.Core.Bool.{Bool, true, false, not}
 use mathlib.Core.List.{List}
-use Prim.Native.Nat.{ℕ, zero, suc, _+_, _-_, _^_, _≤_, _<_}
+use Prim.Native.Nat.{ℕ, suc, _+_, _-_, _^_, _≤_, _<_}
 use native.Mathlib.Omega.{arith}
 use lib.Bits.{bitAnd, bitOr}
 use lib.Dec.{eqb}
@@ -69,7 +69,8 @@ module _ (writes needs : List ℕ) (n : ℕ) where
       let m : n - k ≡ 0 = omega arith in
       rw m
 
-  pub closed-is : (x : ℕ) → closedC writes needs n x ≡ roundsC writes needs n (n - 0) (record { entities = x; automations = 0 })
+  pub closed-is : (x : ℕ) → closedC writes needs n x ≡ roundsC writes needs n (n - 0)
+      (record { entities = x; automations = 0 })
   unfolding closedC
   closed-is x =
       let m : n - 0 ≡ n = omega arith in

@@ -1,5 +1,5 @@
-// What the cone is closed over: the declared entities that invariants name, and those that an automation reads or toggles, as
-// sets of their numbers in the file.
+// What the cone is closed over: the declared entities that invariants name, and those that an automation reads or
+// toggles, as sets of their numbers in the file.
 use lint_walk::Walk;
 use model_parts::Section;
 ghost use mathlib.Core.Path.{_≡_};

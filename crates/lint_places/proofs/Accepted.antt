@@ -25,12 +25,12 @@ use Rattle.lint_places.proofs.Tiers.{Looked, looked-at, nowhere, look}
 
 -- ---- verdicts
 
-and-first : {A : Type 0} (v : Verdict) (x : Answer A) (b : A) → (v and x) ≡ answer b → v ≡ accept
+pub and-first : {A : Type 0} (v : Verdict) (x : Answer A) (b : A) → (v and x) ≡ answer b → v ≡ accept
 unfolding _and_
 and-first (answer tt) x b e = refl
 and-first (refused n) x b e = absurd (refused-answer e)
 
-each-verdict : {A : Type 0} (g : A → Verdict) (P : A → Type 0) → ((a : A) → g a ≡ accept → P a) → (l : List A) → each-accepted g l ≡ accept → Each P l
+pub each-verdict : {A : Type 0} (g : A → Verdict) (P : A → Type 0) → ((a : A) → g a ≡ accept → P a) → (l : List A) → each-accepted g l ≡ accept → Each P l
 unfolding each-accepted
 each-verdict g P h [] e = tt
 each-verdict g P h (a ∷ l) e = (h a (and-first (g a) (each-accepted g l) tt e), each-verdict g P h l (and-inv (g a) (each-accepted g l) tt e))
@@ -64,7 +64,7 @@ module _ (es : List Entity) where
   abbrev pub FineA : Action → Type 0
   FineA a = Fine (a .effect)
 
-  value-fine : (x v : Text) → check-value es x v ≡ accept → Declared es x
+  pub value-fine : (x v : Text) → check-value es x v ≡ accept → Declared es x
   unfolding check-value
   value-fine x v e = cases (look es x)
     where
@@ -72,7 +72,7 @@ module _ (es : List Entity) where
       cases (looked-at i b n f) = (i, (b, n))
       cases (nowhere n f) = absurd (refused-answer (rw (f, check-value) at e))
 
-  predicate-fine : (p : Predicate) → check-predicate es p ≡ accept → FineP p
+  pub predicate-fine : (p : Predicate) → check-predicate es p ≡ accept → FineP p
   unfolding check-predicate
   predicate-fine (state x v) e = value-fine x v e
   predicate-fine (Predicate.unknown r) e = tt

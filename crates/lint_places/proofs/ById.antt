@@ -143,7 +143,7 @@ unfolding keep
 keep-every p [] h = refl
 keep-every p (x ∷ l) h = rw (h 0 (omega arith)) (ap (λ (y : List Text). x ∷ y) (keep-every p l (λ j b. h (suc j) (omega arith))))
 
-flat-each : {A B C : Type 0} (f : B → List C) (g : A → B) (l : List A) → flat f (each g l) ≡ flat (λ a. f (g a)) l
+pub flat-each : {A B C : Type 0} (f : B → List C) (g : A → B) (l : List A) → flat f (each g l) ≡ flat (λ a. f (g a)) l
 unfolding flat each
 flat-each f g [] = refl
 flat-each f g (x ∷ l) = ap (λ (y : List _). f (g x) ++ y) (flat-each f g l)
@@ -156,7 +156,7 @@ flat-same f g (x ∷ l) h = ap (λ (y : List _). y ++ flat f l) (h 0 (omega arit
 -- ---- reads and writes
 
 module _ {s : List ℕ} {d : Names} {rs : Section} {ts : List Text} {m : Model} (st : Stage s d rs ts m) where
-  ids-apart : (i j : ℕ) → i < length (m .rules) → j < length (m .rules) → eqT (getD (m .rules) i no-rule .id) (getD (m .rules) j no-rule .id) ≡ eqb i j
+  pub ids-apart : (i j : ℕ) → i < length (m .rules) → j < length (m .rules) → eqT (getD (m .rules) i no-rule .id) (getD (m .rules) j no-rule .id) ≡ eqb i j
   ids-apart i j h k =
       let n = each-long (λ r. r .id) (m .rules) in
       ap (λ (t : Text). eqT t (getD (m .rules) j no-rule .id)) (sym (each-at (λ r. r .id) [] no-rule (m .rules) i h))
@@ -167,7 +167,7 @@ module _ {s : List ℕ} {d : Names} {rs : Section} {ts : List Text} {m : Model} 
   touched f i h = found-by-id f (m .rules) ids-apart i h
 
   -- the set of a list of declared names
-  set-is : (x : ℕ) → x < 2 ^ 32 → (n : ℕ) → n ≤ length (es st) → members x ≡ keep (holds x) (places n 0) → set-of (each (λ t. place-of t (names st)) (each (nameAt (es st)) (members x))) ≡ x
+  pub set-is : (x : ℕ) → x < 2 ^ 32 → (n : ℕ) → n ≤ length (es st) → members x ≡ keep (holds x) (places n 0) → set-of (each (λ t. place-of t (names st)) (each (nameAt (es st)) (members x))) ≡ x
   unfolding nameAt
   set-is x h n k e =
       let l = each-long (λ e. e .name) (es st) in

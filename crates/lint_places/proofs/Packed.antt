@@ -167,7 +167,7 @@ module _ (es : List Entity) where
 unfoldable pub packed : (names readers : List ℕ) → Undeclared
 packed l k = record { count = length l; names = padded 64 l; readers = padded 64 k }
 
-set-padded : (l : List ℕ) (x : ℕ) → length l < 64 → set (padded 64 l) (length l) x ≡ padded 64 (l ++ x ∷ [])
+pub set-padded : (l : List ℕ) (x : ℕ) → length l < 64 → set (padded 64 l) (length l) x ≡ padded 64 (l ++ x ∷ [])
 unfolding padded
 set-padded l x h =
     let n = 64 - (length l + 1) in
@@ -212,13 +212,13 @@ each-const f i [] = refl
 each-const f i (x ∷ l) = ap (λ (y : List ℕ). i ∷ y) (each-const f i l)
 
 module _ {s : List ℕ} {d : Names} {rs : Section} {ts : List Text} {m : Model} (st : Stage s d rs ts m) (ascends : Rising ts) (once : Once ts) (few : length (notes-of m) ≤ 64) where
-  abbrev strangers : Automation → List Text
+  abbrev pub strangers : Automation → List Text
   strangers r = undeclared (names st) (reads-of r)
 
-  abbrev P : Automation → List ℕ
+  abbrev pub P : Automation → List ℕ
   P r = each (λ t. place-of t ts) (undeclared (names st) (reads-of r))
 
-  abbrev Q : Automation → List ℕ
+  abbrev pub Q : Automation → List ℕ
   Q r = each (λ t. place-of (r .id) (ids st)) (undeclared (names st) (reads-of r))
 
   rule-packed : (i : ℕ) → i < length (m .rules) → (r : Automation) → r ≡ getD (m .rules) i no-rule → (l k : List ℕ) → length k ≡ length l → length l + length (P r) ≤ 64 →
@@ -249,12 +249,12 @@ module _ {s : List ℕ} {d : Names} {rs : Section} {ts : List Text} {m : Model} 
       ∙ ap (λ (y : List ℕ). packed y ((k ++ Q r) ++ flat Q rest)) (append-assoc l (P r) (flat P rest))
       ∙ ap (packed (l ++ (P r ++ flat P rest))) (append-assoc k (Q r) (flat Q rest))
 
-  flat-long : (l : List Automation) → length (flat P l) ≡ length (flat strangers l)
+  pub flat-long : (l : List Automation) → length (flat P l) ≡ length (flat strangers l)
   unfolding flat
   flat-long [] = refl
   flat-long (r ∷ l) = omega (arith, length-append (P r) (flat P l), length-append (strangers r) (flat strangers l), each-long (λ t. place-of t ts) (strangers r), flat-long l)
 
-  few-strangers : length (flat P (m .rules)) ≤ 64
+  pub few-strangers : length (flat P (m .rules)) ≤ 64
   unfolding notes-of
   few-strangers = omega (arith, flat-long (m .rules), rules-few (es st) (m .rules) (st .lawful .rules), length-append (flat of-invariant (m .scenario .invariants)) (flat of-rule (m .rules)), few)
 

@@ -72,15 +72,15 @@ nth P d (x ∷ l) f (suc j) h = nth P d l (f .1) j (omega arith)
 
 -- ---- the sets are below 2 ^ 32
 
-Bounded : Adds → Type 0
+unfoldable pub Bounded : Adds → Type 0
 Bounded f = (x : ℕ) → x < 2 ^ 32 → f x < 2 ^ 32
 
 module _ (s : List ℕ) (e : Section) (few : e .count ≤ 32) where
-  if-bounded : (b : Bool) (x y : ℕ) → x < 2 ^ 32 → y < 2 ^ 32 → (if b then x else y) < 2 ^ 32
+  pub if-bounded : (b : Bool) (x y : ℕ) → x < 2 ^ 32 → y < 2 ^ 32 → (if b then x else y) < 2 ^ 32
   if-bounded true x y h k = h
   if-bounded false x y h k = k
 
-  entity-bounded : (x : ℕ) → Bounded (addE s e x)
+  pub entity-bounded : (x : ℕ) → Bounded (addE s e x)
   unfolding Bounded addE
   entity-bounded x set h = cases (case (ltb (number-of e x s) (e .count)))
     where
@@ -88,7 +88,7 @@ module _ (s : List ℕ) (e : Section) (few : e .count ≤ 32) where
       cases (is-true b) = let c = ltb-true (number-of e x s) (e .count) b in rw b (or-lt 32 set (2 ^ number-of e x s) h (pow-lt {j = 32} (omega arith)))
       cases (is-false b) = rw b h
 
-  over-bounded : (f : ℕ → Adds) → ((p : ℕ) → Bounded (f p)) → (l : List ℕ) (n k : ℕ) → Bounded (over f l n k)
+  pub over-bounded : (f : ℕ → Adds) → ((p : ℕ) → Bounded (f p)) → (l : List ℕ) (n k : ℕ) → Bounded (over f l n k)
   unfolding Bounded over
   over-bounded f h l zero k x b = b
   over-bounded f h l (suc n) k x b = over-bounded f h l n (k + 1) (f (getD l k 0) x) (h (getD l k 0) x b)
@@ -98,11 +98,11 @@ module _ (s : List ℕ) (e : Section) (few : e .count ≤ 32) where
   along-bounded f end h zero p x b = b
   along-bounded f end h (suc n) p x b = along-bounded f end h n (end p) (f p x) (h p x b)
 
-  predicate-bounded : (p : ℕ) → Bounded (addP s e p)
+  pub predicate-bounded : (p : ℕ) → Bounded (addP s e p)
   unfolding Bounded addP
   predicate-bounded p x b = if-bounded (eqb (byteZ s p) 0) _ _ (entity-bounded (placeZ s (past s p 1)) x b) b
 
-  predicates-bounded : (p : ℕ) → Bounded (predicatesS s e p)
+  pub predicates-bounded : (p : ℕ) → Bounded (predicatesS s e p)
   unfolding predicatesS
   predicates-bounded p = along-bounded _ _ predicate-bounded _ _
 

@@ -57,7 +57,7 @@ keep-append p (x ∷ l) m = cases (p x) (keep-append p l m)
     cases false ih = ih
 
 -- kept by place, or by text
-keep-texts : (f : ℕ → Bool) (g : Text → Bool) (all l : List Text) (k : ℕ) → ((t : ℕ) → t < length l → getD all (k + t) [] ≡ getD l t []) → ((t : ℕ) → t < length l → f (k + t) ≡ g (getD l t [])) →
+pub keep-texts : (f : ℕ → Bool) (g : Text → Bool) (all l : List Text) (k : ℕ) → ((t : ℕ) → t < length l → getD all (k + t) [] ≡ getD l t []) → ((t : ℕ) → t < length l → f (k + t) ≡ g (getD l t [])) →
     each (λ i. getD all i []) (keep f (places (length l) k)) ≡ keep g l
 unfolding keep places each
 keep-texts f g all [] k h e = refl
@@ -91,24 +91,24 @@ module _ {s : List ℕ} {d : Names} {rs : Section} {ts : List Text} {m : Model} 
   T x = getD ts x []
 
   -- the text is no entity's name
-  abbrev Strange : Text → Type 0
+  abbrev pub Strange : Text → Type 0
   Strange x = memT x (names st) ≡ false
 
-  fine-not : (x y : Text) → Strange x → Declared (es st) y → eqT x y ≡ false
+  pub fine-not : (x y : Text) → Strange x → Declared (es st) y → eqT x y ≡ false
   unfolding nameAt
   fine-not x y h f =
       let b = f .1 .0 in
       eq-sym x y ∙ ap (λ (t : Text). eqT t x) (sym (f .1 .1)) ∙ not-at (names st) x h (f .0) (omega (arith, each-long (λ e. e .name) (es st)))
 
-  one-not : (x y : Text) → Strange x → Declared (es st) y → memT x (y ∷ []) ≡ false
+  pub one-not : (x y : Text) → Strange x → Declared (es st) y → memT x (y ∷ []) ≡ false
   one-not x y h f = mem-cons x y [] ∙ ap (λ (b : Bool). b || memT x []) (fine-not x y h f) ∙ mem-none x
 
-  predicate-not : (x : Text) → Strange x → (p : Predicate) → FineP (es st) p → memT x (predicate-reads p) ≡ false
+  pub predicate-not : (x : Text) → Strange x → (p : Predicate) → FineP (es st) p → memT x (predicate-reads p) ≡ false
   unfolding predicate-reads
   predicate-not x h (state y v) f = one-not x y h f
   predicate-not x h (Predicate.unknown r) f = mem-none x
 
-  flat-not : {A : Type 0} (x : Text) (g : A → List Text) (P : A → Type 0) → ((a : A) → P a → memT x (g a) ≡ false) → (l : List A) → Each P l → memT x (flat g l) ≡ false
+  pub flat-not : {A : Type 0} (x : Text) (g : A → List Text) (P : A → Type 0) → ((a : A) → P a → memT x (g a) ≡ false) → (l : List A) → Each P l → memT x (flat g l) ≡ false
   unfolding flat
   flat-not x g P h [] f = mem-none x
   flat-not x g P h (a ∷ l) f = mem-append x (g a) (flat g l) ∙ rw (h a (f .0), flat-not x g P h l (f .1))
@@ -179,7 +179,7 @@ module _ {s : List ℕ} {d : Names} {rs : Section} {ts : List Text} {m : Model} 
     legal = legal-at st i h
 
     -- what is read and undeclared is what actions read
-    reads-acts : (x : Text) → Strange x → memT x (reads-of r) ≡ any (λ a. memT x (effect-reads (a .effect))) acts
+    pub reads-acts : (x : Text) → Strange x → memT x (reads-of r) ≡ any (λ a. memT x (effect-reads (a .effect))) acts
     unfolding reads-of memT
     reads-acts x n =
         let l₁ = each (λ t. t .entity) (keep (λ t. absent (t .note)) (r .triggers)) in
@@ -203,10 +203,10 @@ module _ {s : List ℕ} {d : Names} {rs : Section} {ts : List Text} {m : Model} 
         ∙ sym (reads-acts (T t) n)
 
     -- undeclared, and read
-    abbrev alien : Text → Bool
+    abbrev pub alien : Text → Bool
     alien x = not (memT x (names st)) && memT x (reads-of r)
 
-    strange-is : (t : ℕ) → t < length ts → strangeZ s (d .entities) w t ≡ alien (T t)
+    pub strange-is : (t : ℕ) → t < length ts → strangeZ s (d .entities) w t ≡ alien (T t)
     unfolding strangeZ
     strange-is t b = ap (λ (c : Bool). if awaitsZ s w t then c else false) (number-is t b) ∙ cases (case (memT (T t) (names st)))
       where
@@ -248,7 +248,7 @@ module _ {s : List ℕ} {d : Names} {rs : Section} {ts : List Text} {m : Model} 
         cases (is-true b) ih = one-text x n p a y (fine .0) b
         cases (is-false b) ih = ih (rw b at e)
 
-    alien-text : (x : Text) → (alien x && memT x ts) ≡ alien x
+    pub alien-text : (x : Text) → (alien x && memT x ts) ≡ alien x
     alien-text x = cases (case (memT x (names st))) (case (memT x (reads-of r)))
       where
         cases : Case (memT x (names st)) → Case (memT x (reads-of r)) → (alien x && memT x ts) ≡ alien x

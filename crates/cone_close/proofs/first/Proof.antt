@@ -1,6 +1,6 @@
 use borrow.Author.Needs.{needs}
 use mathlib.Core.Path.{_≡_, sym, _∙_}
-use Prim.Native.Nat.{_-_, _≤_}
+use Prim.Native.Nat.{_-_}
 use Rattle.cone_close.specs.Rounds.{firstC}
 use Rattle.cone_close.proofs.Laws as laws
 use Rattle.cone_close.proofs.first.Statement.{statement}
@@ -25,7 +25,8 @@ adds-requires c κs = search needs
 
 -- src/lib.rt:33:13
 returns : tie.Need-returns Inv-loop μ-loop
-returns c = sym (c .before .before .before .loop .inv ∙ laws.first-here _ _ _ _ (c .before .before .loop-test .taken) (c .before .adds .ensures) (c .if1 .taken))
+returns c = sym (c .before .before .before .loop .inv
+    ∙ laws.first-here _ _ _ _ (c .before .before .loop-test .taken) (c .before .adds .ensures) (c .if1 .taken))
 
 -- src/lib.rt:35:9
 add-i : tie.Need-add-i Inv-loop μ-loop
@@ -37,7 +38,8 @@ loop-less c = search needs
 
 -- src/lib.rt:31:5
 loop-again : tie.Need-loop-again Inv-loop μ-loop
-loop-again c = c .before .before .before .loop .inv ∙ laws.first-later _ _ _ _ (c .before .before .loop-test .taken) (c .before .adds .ensures) (c .if1 .left)
+loop-again c = c .before .before .before .loop .inv
+    ∙ laws.first-later _ _ _ _ (c .before .before .loop-test .taken) (c .before .adds .ensures) (c .if1 .left)
 
 -- src/lib.rt:26:1
 returns-2 : tie.Need-returns-2 Inv-loop μ-loop

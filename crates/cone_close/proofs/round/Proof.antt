@@ -25,7 +25,8 @@ with-requires c κs = search needs
 
 -- src/lib.rt:47:9
 returns : tie.Need-returns
-returns c = laws.round-yes _ _ _ _ (c .before .before .before .first .ensures) (c .before .before .if1 .taken) (c .with .ensures)
+returns c = laws.round-yes _ _ _ _ (c .before .before .before .first .ensures) (c .before .before .if1 .taken)
+    (c .with .ensures)
 
 -- src/lib.rt:41:1
 returns-2 : tie.Need-returns-2

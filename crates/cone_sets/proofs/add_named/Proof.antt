@@ -27,7 +27,8 @@ add-predicates-requires c κs = search needs
 
 -- src/lib.rt:20:9
 returns : tie.Need-returns
-returns c = c .add-predicates .ensures ∙ laws.named-0 _ _ _ _ (c .before .before .before .byte-at .ensures) (c .before .before .past .ensures) (c .before .if1 .taken)
+returns c = c .add-predicates .ensures ∙ laws.named-0 _ _ _ _ (c .before .before .before .byte-at .ensures)
+    (c .before .before .past .ensures) (c .before .if1 .taken)
 
 -- src/lib.rt:23:66
 place-at-requires : tie.Need-place-at-requires
@@ -47,7 +48,11 @@ add-predicates-requires-2 c κs = search needs
 
 -- src/lib.rt:24:9
 returns-2 : tie.Need-returns-2
-returns-2 c = c .add-predicates2 .ensures ∙ laws.named-1 _ _ _ _ (c .before .before .before .before .before .before .before .byte-at .ensures) (c .before .before .before .before .before .before .past .ensures) (c .before .before .before .before .before .if1 .left) (c .before .before .before .before .if2 .taken) (c .before .before .before .place-at .ensures) (c .before .before .add-entity .ensures) (c .before .past2 .ensures)
+returns-2 c = c .add-predicates2 .ensures
+    ∙ laws.named-1 _ _ _ _ (c .before .before .before .before .before .before .before .byte-at .ensures)
+    (c .before .before .before .before .before .before .past .ensures)
+    (c .before .before .before .before .before .if1 .left) (c .before .before .before .before .if2 .taken)
+    (c .before .before .before .place-at .ensures) (c .before .before .add-entity .ensures) (c .before .past2 .ensures)
 
 -- src/lib.rt:27:59
 place-at-requires-2 : tie.Need-place-at-requires-2
@@ -59,7 +64,10 @@ add-entity-requires-2 c κs = search needs
 
 -- src/lib.rt:27:9
 returns-3 : tie.Need-returns-3
-returns-3 c = c .add-entity2 .ensures ∙ laws.named-2 _ _ _ _ (c .before .before .before .before .before .before .byte-at .ensures) (c .before .before .before .before .before .past .ensures) (c .before .before .before .before .if1 .left) (c .before .before .before .if2 .left) (c .before .before .if3 .taken) (c .before .place-at2 .ensures)
+returns-3 c = c .add-entity2 .ensures
+    ∙ laws.named-2 _ _ _ _ (c .before .before .before .before .before .before .byte-at .ensures)
+    (c .before .before .before .before .before .past .ensures) (c .before .before .before .before .if1 .left)
+    (c .before .before .before .if2 .left) (c .before .before .if3 .taken) (c .before .place-at2 .ensures)
 
 -- src/lib.rt:29:9
 add-predicate-requires : tie.Need-add-predicate-requires
@@ -75,7 +83,11 @@ add-predicate-requires-2 c κs = search needs
 
 -- src/lib.rt:13:1
 returns-4 : tie.Need-returns-4
-returns-4 c = c .add-predicate2 .ensures ∙ laws.named-else _ _ _ _ (c .before .before .before .before .before .before .before .byte-at .ensures) (c .before .before .before .before .before .before .past .ensures) (c .before .before .before .before .before .if1 .left) (c .before .before .before .before .if2 .left) (c .before .before .before .if3 .left) (c .before .before .add-predicate .ensures) (c .before .predicate-end .ensures)
+returns-4 c = c .add-predicate2 .ensures
+    ∙ laws.named-else _ _ _ _ (c .before .before .before .before .before .before .before .byte-at .ensures)
+    (c .before .before .before .before .before .before .past .ensures)
+    (c .before .before .before .before .before .if1 .left) (c .before .before .before .before .if2 .left)
+    (c .before .before .before .if3 .left) (c .before .before .add-predicate .ensures) (c .before .predicate-end .ensures)
 
 pub add-named-spec : {M : Type 1} → statement M
 add-named-spec =

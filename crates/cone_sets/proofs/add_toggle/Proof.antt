@@ -28,7 +28,8 @@ add-entity-requires c κs = search needs
 
 -- src/lib.rt:57:9
 returns : tie.Need-returns
-returns c = c .add-entity .ensures ∙ laws.toggle-yes _ _ _ _ (c .before .before .before .before .kind-at .ensures) (c .before .before .before .if1 .taken) (c .before .before .past .ensures) (c .before .place-at .ensures)
+returns c = c .add-entity .ensures ∙ laws.toggle-yes _ _ _ _ (c .before .before .before .before .kind-at .ensures)
+    (c .before .before .before .if1 .taken) (c .before .before .past .ensures) (c .before .place-at .ensures)
 
 -- src/lib.rt:51:1
 returns-2 : tie.Need-returns-2

@@ -12,7 +12,8 @@ use Rattle.cone_sets.proofs.named.Lts as lts
 use Rattle.cone_sets.proofs.add_named.Reads as add-named-reads
 
 abbrev Inv-loop : tie.InvT-loop
-Inv-loop s entities invariants count set₀ k₀ set k = namedS s entities invariants ≡ over (addI s entities) (invariants .starts) (count - k) k set
+Inv-loop s entities invariants count set₀ k₀ set k =
+    namedS s entities invariants ≡ over (addI s entities) (invariants .starts) (count - k) k set
 
 abbrev μ-loop : tie.MeasureT-loop
 μ-loop s entities invariants count set₀ k₀ set k = count - k
@@ -47,7 +48,8 @@ loop-less c = search needs
 
 -- src/lib.rt:41:5
 loop-again : tie.Need-loop-again Inv-loop μ-loop
-loop-again c = c .before .before .before .loop .inv ∙ touches.over-more _ _ _ _ _ (c .before .before .loop-test .taken) (c .add-named .ensures)
+loop-again c = c .before .before .before .loop .inv
+    ∙ touches.over-more _ _ _ _ _ (c .before .before .loop-test .taken) (c .add-named .ensures)
 
 -- src/lib.rt:34:1
 returns : tie.Need-returns Inv-loop μ-loop

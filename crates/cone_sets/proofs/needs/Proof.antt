@@ -48,7 +48,8 @@ loop-less c = search needs
 
 -- src/lib.rt:70:5
 loop-again : tie.Need-loop-again Inv-loop μ-loop
-loop-again c = c .before .before .before .loop .inv ∙ touches.over-more _ _ _ _ _ (c .before .before .loop-test .taken) (c .add-toggle .ensures)
+loop-again c = c .before .before .before .loop .inv
+    ∙ touches.over-more _ _ _ _ _ (c .before .before .loop-test .taken) (c .add-toggle .ensures)
 
 -- src/lib.rt:63:1
 returns : tie.Need-returns Inv-loop μ-loop

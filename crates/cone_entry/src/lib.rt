@@ -1,0 +1,97 @@
+// The entry `cone`: the entities and the automations of a model file on which its invariants depend.
+use cone_close::ConeSets;
+use cone_names::ConeNames;
+use model_index::Index;
+use model_index::Status;
+use model_parts::Section;
+ghost use mathlib.Core.Path.{_≡_};
+ghost use Prim.Native.Nat.{_≤_, _<_, _+_};
+ghost use lib.ListN.{length};
+ghost use Rattle.cone_entry.specs.Answers.{no-cone, Answers};
+ghost use Rattle.cone_entry.specs.Parts.{Touches, Bounds, Tells};
+
+// `refused` is 0 or the refusal's number; then the rest is 0. `entities` is the set of declared entities by their numbers
+// in the file, `automations` that of automations. The first `undeclared` of `names` are the places of names that no entity
+// has, ascending.
+pub struct ConeResult {
+    pub refused: u32,
+    pub entities: u32,
+    pub automations: u32,
+    pub undeclared: usize,
+    pub names: [u32; 64],
+}
+
+fn refused(number: u32) -> ConeResult
+    ensures { λ r. ⌜ r ≡ no-cone number ⌝ }
+{
+    ConeResult {
+        refused: number,
+        entities: 0,
+        automations: 0,
+        undeclared: 0,
+        names: [0u32; 64],
+    }
+}
+
+// What each automation writes, and what it reads or toggles.
+pub struct Touched {
+    pub writes: [u32; 32],
+    pub needs: [u32; 32],
+}
+
+fn rule_sets(s: &[u8], entities: Section, rules: Section) -> Touched
+    requires { ⌜ (entities .count ≤ 32) × (rules .count ≤ 32) ⌝ }
+    ensures { λ r. ⌜ Touches (now (s .entry)) entities rules r ⌝ }
+{
+    let count = rules.count as usize;
+    let mut writes = [0u32; 32];
+    let mut needs = [0u32; 32];
+    let mut i: usize = 0;
+    while i < count {
+        let at = rules.starts[i];
+        let w = lint_walk::rule_walk(s, at);
+        writes[i] = lint_touches::writes(s, entities, w);
+        needs[i] = cone_sets::needs(s, entities, at, w);
+        i += 1;
+    }
+    Touched { writes, needs }
+}
+
+// The cone of an accepted model.
+fn coned(s: &[u8], index: Index) -> ConeResult
+    requires { ⌜ Bounds index ⌝ }
+    ensures { λ r. ⌜ Tells (now (s .entry)) index r ⌝ }
+{
+    let entities = index.entities;
+    let invariants = index.invariants;
+    let rules = index.rules;
+    let texts = index.texts;
+    let start = cone_sets::named(s, entities, invariants);
+    let t = rule_sets(s, entities, rules);
+    let count = rules.count as usize;
+    let writes = t.writes;
+    let needs = t.needs;
+    let c = cone_close::close(writes, needs, start, count);
+    let u = lint_names::undeclared_names(s, entities, rules, texts.count);
+    let n = cone_names::names_in(u, c.automations, texts.count);
+    let names = n.list;
+    ConeResult {
+        refused: 0,
+        entities: c.entities,
+        automations: c.automations,
+        undeclared: n.count,
+        names,
+    }
+}
+
+// The cone of a model file.
+pub fn cone(file: &[u8]) -> ConeResult
+    ensures { λ r. ⌜ Answers (now (file .entry)) r ⌝ }
+{
+    let x = model_validate::accept(file);
+    let status = x.status;
+    match status {
+        Status::Refused(number) => refused(number),
+        Status::Read => coned(file, x.index),
+    }
+}

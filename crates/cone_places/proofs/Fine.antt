@@ -1,0 +1,90 @@
+-- The entities that the invariants of an accepted model name are declared.
+use mathlib.Core.Path.{_≡_, _∙_, subst}
+use mathlib.Core.Bool.{false}
+use mathlib.Core.List.{List, [], _∷_}
+use Prim.Native.Nat.{ℕ}
+use Rattle.texts.specs.Lists.{flat}
+use Rattle.texts.specs.Texts.{Text, memT}
+use Rattle.model.specs.Answer.{answer, accept}
+use Rattle.model.specs.Model.{Entity, Invariant, never, guard, transition, response, id-of, Model}
+use Rattle.model.specs.File.{decode}
+use Rattle.model.specs.Validate.{
+  check-predicate,
+  check-conditions,
+  check-invariant,
+  check-invariants,
+  check-rules,
+  validate,
+  accepted,
+}
+use Rattle.engine.proofs.Lists.{Each}
+use Rattle.engine.proofs.Distinct.{answer-eq, bind-inv, and-inv}
+use Rattle.lint.specs.Touches.{predicate-reads}
+use Rattle.lint_touches.proofs.Rising.{mem-cons, mem-append}
+use Rattle.lint_tests.specs.declared.Names.{Names}
+use Rattle.model_parts.specs.declared.Section.{Section}
+use Rattle.lint_places.proofs.Accepted.{and-first, each-verdict, Declared, FineP, value-fine, predicate-fine}
+use Rattle.lint_places.proofs.Stage.{Stage}
+use Rattle.lint_places.proofs.Rules.{es}
+use Rattle.lint_places.proofs.Strangers.{Strange, fine-not, one-not, predicate-not, flat-not}
+use Rattle.cone.specs.Cone.{names}
+
+module _ (ds : List Entity) where
+  abbrev pub FineI : Invariant → Type 0
+  FineI (never i ps) = Each (FineP ds) ps
+  FineI (guard i x v ps) = Each (FineP ds) ps × Declared ds x
+  FineI (transition i x f t) = Declared ds x
+  FineI (response i p q n) = FineP ds p × FineP ds q
+
+  conditions-fine : (ps : List _) → check-conditions ds ps ≡ accept → Each (FineP ds) ps
+  unfolding check-conditions
+  conditions-fine ps e = each-verdict (check-predicate ds) (FineP ds) (predicate-fine ds) ps (and-inv _ _ tt e)
+
+  invariant-fine : (i : Invariant) → check-invariant ds i ≡ accept → FineI i
+  unfolding check-invariant
+  invariant-fine (never i ps) e = conditions-fine ps e
+  invariant-fine (guard i x v ps) e = (conditions-fine ps (and-first _ _ tt e), value-fine ds x v (and-inv _ _ tt e))
+  invariant-fine (transition i x f t) e = value-fine ds x f (and-first _ _ tt e)
+  invariant-fine (response i p q n) e =
+      (predicate-fine ds p (and-first _ _ tt e), predicate-fine ds q (and-first _ _ tt (and-inv _ _ tt e)))
+
+  invariants-fine : (ids : List Text) (l : List Invariant) → check-invariants ds ids l ≡ accept → Each FineI l
+  unfolding check-invariants
+  invariants-fine ids [] e = tt
+  invariants-fine ids (i ∷ l) e =
+      let f = and-inv _ _ tt e in
+      (invariant-fine i (and-first _ _ tt f), invariants-fine (id-of i ∷ ids) l (and-inv _ _ tt f))
+
+valid-fine : (m n : Model) → validate m ≡ answer n
+    → (m ≡ n) × Each (FineI (m .scenario .entities)) (m .scenario .invariants)
+unfolding validate
+valid-fine m n e =
+    let e₈ = and-inv _ _ n (and-inv _ _ n
+    (and-inv _ _ n (and-inv _ _ n (and-inv _ _ n (and-inv _ _ n (and-inv _ _ n e)))))) in
+    let b = bind-inv (check-rules (m .scenario .entities) [] (m .rules) 0) (λ k. answer m) n (and-inv _ _ n e₈) in
+    (answer-eq (b .1 .1), invariants-fine (m .scenario .entities) [] (m .scenario .invariants) (and-first _ _ n e₈))
+
+pub accepted-invariants : (file : List ℕ) (m : Model) → accepted file ≡ answer m
+    → Each (FineI (m .scenario .entities)) (m .scenario .invariants)
+unfolding accepted
+accepted-invariants file m e =
+    let b = bind-inv (decode file) validate m e in
+    let v = valid-fine (b .0) m (b .1 .1) in
+    subst (λ (x : Model). Each (FineI (x .scenario .entities)) (x .scenario .invariants)) (v .0) (v .1)
+
+-- so no undeclared name is among those that invariants name
+module _ {s : List ℕ} {d : Names} {rs : Section} {ts : List Text} {m : Model} (st : Stage s d rs ts m) (x : Text)
+    (h : Strange st x) where
+  invariant-not : (i : Invariant) → FineI (es st) i → memT x (names i) ≡ false
+  unfolding names
+  invariant-not (never i ps) f = flat-not st x predicate-reads (FineP (es st)) (predicate-not st x h) ps f
+  invariant-not (guard i y v ps) f =
+      mem-cons x y (flat predicate-reads ps)
+      ∙ rw (fine-not st x y h (f .1)) (flat-not st x predicate-reads (FineP (es st)) (predicate-not st x h) ps (f .0))
+  invariant-not (transition i y u t) f = one-not st x y h f
+  invariant-not (response i p q n) f =
+      mem-append x (predicate-reads p) (predicate-reads q)
+      ∙ rw (predicate-not st x h p (f .0)) (predicate-not st x h q (f .1))
+
+  pub start-not : (l : List Invariant) → Each (FineI (es st)) l → memT x (flat names l) ≡ false
+  start-not l f = flat-not st x names (FineI (es st)) invariant-not l f
