@@ -383,47 +383,48 @@ module _ (areas areas′ : Areas) (m m′ : Model) (cells cells′ : List Cell)
       → SameVerification v v′
   unfolding verified
   verified-same v v′ e e′ =
-      let b : (o : Search) × ((searched areas m cells ≡ answer o) × (answer (verification-of o) ≡ answer v)) =
-      bind-inv (searched areas m cells) (λ o. answer (verification-of o)) v e in
-      let b′ : (o : Search) × ((searched areas′ m′ cells′ ≡ answer o) × (answer (verification-of o) ≡ answer v′)) =
-      bind-inv (searched areas′ m′ cells′) (λ o. answer (verification-of o)) v′ e′ in
+      let b : (o : Search) × ((searched areas m cells ≡ answer o) × (answer (verification-of m o) ≡ answer v)) =
+      bind-inv (searched areas m cells) (λ o. answer (verification-of m o)) v e in
+      let b′ : (o : Search) × ((searched areas′ m′ cells′ ≡ answer o) × (answer (verification-of m′ o) ≡ answer v′)) =
+      bind-inv (searched areas′ m′ cells′) (λ o. answer (verification-of m′ o)) v′ e′ in
       rw (← (answer-eq (b .1 .1)), ← (answer-eq (b′ .1 .1))) (go (b .0) (b′ .0) (b .1 .0) (b′ .1 .0))
     where
-      open-is : (o : Search) → witness-incomplete (verification-of o) ≡ left-open (o .witness)
-      open-is o = unfold witness-incomplete verification-of in (by (o .witness))
+      open-is : (k : Model) (o : Search) → witness-incomplete (verification-of k o) ≡ left-open (o .witness)
+      open-is k o = unfold witness-incomplete verification-of in (by (o .witness))
         where
           by : (w : Option Witness) → elim w [ none ↦ [] | some w ↦ w .check .incomplete ] ≡ left-open w
           by none = unfold left-open in refl
           by (some w) = unfold left-open in refl
 
-      events-is : (o : Search) → witness-events (verification-of o) ≡ events-of (o .witness)
-      events-is o = unfold witness-events verification-of in (by (o .witness))
+      events-is : (k : Model) (o : Search) → witness-events (verification-of k o) ≡ events-of (o .witness)
+      events-is k o = unfold witness-events verification-of in (by (o .witness))
         where
           by : (w : Option Witness) → elim w [ none ↦ none | some w ↦ some (w .events) ] ≡ events-of w
           by none = unfold events-of in refl
           by (some w) = unfold events-of in refl
 
-      clean : (o : Search) → (verification-of o) .reasons ≡ [] → witness-incomplete (verification-of o) ≡ [] → Clean o
-      clean o r w = record {
+      clean : (k : Model) (o : Search) → (verification-of k o) .reasons ≡ [] → witness-incomplete (verification-of k o) ≡ []
+          → Clean o
+      clean k o r w = record {
         no-reason = nil-sorted (o .reasons) (unfold verification-of in r);
         whole =
-            λ q. sym (open-is o) ∙ w;
+            λ q. sym (open-is k o) ∙ w;
       }
 
-      status-is : (o : Search) → (verification-of o) .reasons ≡ [] → (verification-of o) .status ≡ found-of (o .witness) []
-      status-is o r = unfold verification-of in (ap (found-of (o .witness)) (unfold verification-of in r))
+      status-is : (k : Model) (o : Search) → (verification-of k o) .reasons ≡ [] → (verification-of k o) .status ≡ found-of (o .witness) []
+      status-is k o r = unfold verification-of in (ap (found-of (o .witness)) (unfold verification-of in r))
 
-      cases-is : (o : Search) → (verification-of o) .cases ≡ o .cases
-      cases-is o = unfold verification-of in refl
+      cases-is : (k : Model) (o : Search) → (verification-of k o) .cases ≡ o .cases
+      cases-is k o = unfold verification-of in refl
 
       go : (o o′ : Search) → searched areas m cells ≡ answer o → searched areas′ m′ cells′ ≡ answer o′
-          → (verification-of o) .reasons ≡ [] → (verification-of o′) .reasons ≡ []
-          → witness-incomplete (verification-of o) ≡ [] → witness-incomplete (verification-of o′) ≡ []
-          → SameVerification (verification-of o) (verification-of o′)
+          → (verification-of m o) .reasons ≡ [] → (verification-of m′ o′) .reasons ≡ []
+          → witness-incomplete (verification-of m o) ≡ [] → witness-incomplete (verification-of m′ o′) ≡ []
+          → SameVerification (verification-of m o) (verification-of m′ o′)
       go o o′ p p′ r r′ w w′ =
-          let t : Twin o o′ = searched-agree o o′ p p′ (clean o r w) (clean o′ r′ w′) in
+          let t : Twin o o′ = searched-agree o o′ p p′ (clean m o r w) (clean m′ o′ r′ w′) in
           record {
-            status = status-is o r ∙ found-same (o .witness) (o′ .witness) (t .same-events) ∙ sym (status-is o′ r′);
-            cases = cases-is o ∙ t .same-cases ∙ sym (cases-is o′);
-            events = events-is o ∙ t .same-events ∙ sym (events-is o′);
+            status = status-is m o r ∙ found-same (o .witness) (o′ .witness) (t .same-events) ∙ sym (status-is m′ o′ r′);
+            cases = cases-is m o ∙ t .same-cases ∙ sym (cases-is m′ o′);
+            events = events-is m o ∙ t .same-events ∙ sym (events-is m′ o′);
           }
