@@ -31,7 +31,7 @@ pub fn cone(s: &Scenario, rules: &[Automation]) -> std::result::Result<Cone, Str
     }
 }
 
-fn named_in(invariant: &Invariant, out: &mut BTreeSet<String>) {
+pub fn named_in(invariant: &Invariant, out: &mut BTreeSet<String>) {
     let mut predicates: Vec<&Predicate> = vec![];
     match invariant {
         Invariant::Never { conditions, .. } => predicates.extend(conditions),

@@ -8,6 +8,7 @@ mod faults;
 mod generate;
 mod limits;
 mod models;
+mod pairs;
 mod random;
 mod sample;
 mod selftest;
@@ -49,6 +50,8 @@ const USAGE: &str = "usage:
   oracle sample ENTRY DIR                  writes DIR/ENTRY.batch and DIR/ENTRY.expected
   oracle compare [--keep DIR] PROGRAM ENTRY N [SEED] [--file] [--areas | --holds N,..]
   oracle histogram ENTRY SEED COUNT        counts the first lines of the answers
+  oracle pairs SEED COUNT [CLAUSE [DIR]]   tries the claim about what lies outside a cone on COUNT pairs of models,
+                                           with a clause of the cone left out; DIR gets the first pair that differs
   oracle selftest COUNT                    tests the oracle itself
 ENTRY: validate unsupported simulate check fullcheck verify minimize lint cone";
 
@@ -104,6 +107,16 @@ fn main() {
         ["histogram", entry, seed, count] => {
             let count = number(count);
             put(selftest::histogram(known(entry), number(seed), count));
+        }
+        ["pairs", seed, count, ref rest @ ..] => {
+            let left_out = rest.first().copied().unwrap_or("");
+            if !(left_out.is_empty() || pairs::CLAUSES.contains(&left_out)) {
+                usage();
+            }
+            let folder = rest.get(1).copied();
+            if !pairs::pairs(number(seed), number(count), left_out, folder) {
+                std::process::exit(1);
+            }
         }
         ["selftest", count] => selftest::selftest(number(count)),
         _ => usage(),
