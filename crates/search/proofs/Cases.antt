@@ -56,18 +56,18 @@ module _ {f : List ℕ} {p : Plan} {q a u : ℕ} (x : Setting f p q a u) where
   abbrev spent-text : Text
   spent-text = text "search budget exhausted"
 
-  abbrev table : Tabled f (p .ground .table) (x .indexed .ts) m
+  abbrev pub table : Tabled f (p .ground .table) (x .indexed .ts) m
   table = tb f (p .index) m (x .is-accepted) (x .indexed) (x .bytes) (p .ground) (x .grounds)
 
   pub spent-is : render f (alone 387) ≡ spent-text
   unfolding render body alone words textAt
   spent-is = rw (no-text f (p .ground .table) (x .indexed .ts) m table) refl
 
-  pool-few : length (search-pool m) ≤ 400
+  pub pool-few : length (search-pool m) ≤ 400
   unfolding search-pool
   pool-few = omega (arith, few-in-pool f (p .index) m (x .is-accepted) (x .indexed) (x .bytes) (p .ground) (x .grounds))
 
-  widen : (l : List Text) → Among (check-pool m) l → Among (search-pool m) l
+  pub widen : (l : List Text) → Among (check-pool m) l → Among (search-pool m) l
   unfolding search-pool
   widen l h = among-to l (check-pool m) (search-pool m) (λ t e. mem-right t (spent-text ∷ []) (check-pool m) e) h
 
@@ -158,7 +158,7 @@ module _ {f : List ℕ} {p : Plan} {q a u : ℕ} (x : Setting f p q a u) where
 
   -- ---- the events of a check
 
-  events-at : (vs : List Event) {placed : Placed} → PlacedAs (x .indexed .ts) m vs placed → (j : ℕ) → j < length vs →
+  pub events-at : (vs : List Event) {placed : Placed} → PlacedAs (x .indexed .ts) m vs placed → (j : ℕ) → j < length vs →
       EventAt f (p .ground .table) (x .indexed .ts) m table (placed .words) j (getD vs j none-such)
   events-at vs {placed} ps j h =
       let c = ps .chosen j h in

@@ -1,0 +1,140 @@
+-- What a search of an accepted model goes by, and where it starts.
+use Prim.Native.Nat.{ℕ, _+_, _≤_, _<_}
+use mathlib.Core.Path.{_≡_, refl, sym, ap, subst, _∙_}
+use mathlib.Core.Bool.{false}
+use mathlib.Core.List.{List, [], _∷_}
+use mathlib.Core.Option.{none}
+use native.Mathlib.Omega.{arith}
+use lib.ListN.{length, getD, length-append}
+use Rattle.texts.specs.Lists.{flat}
+use Rattle.texts.specs.Texts.{Text, sortedT}
+use Rattle.reasons.specs.Lists.{listed, insertAll, Holds}
+use Rattle.reasons.proofs.Sorting.{one-by-one}
+use Rattle.model.specs.Answer.{answer}
+use Rattle.model.specs.Model.{Limits, Model}
+use Rattle.model.specs.File.{got, u32, limits}
+use Rattle.model.specs.Validate.{accepted}
+use Rattle.model_walk.proofs.Found.{bound, given, u32-wide}
+use Rattle.model_index.specs.declared.Index.{Index}
+use Rattle.model_index.specs.Indexed.{Indexed}
+use Rattle.engine.specs.Reasons.{unsupported-wait}
+use Rattle.engine.specs.Simulate as engine
+use Rattle.engine.specs.Unsupported.{unsupported}
+use Rattle.engine_reads.specs.Reads.{four, cap}
+use Rattle.engine_places.specs.Meaning.{rule-pool, pool-of}
+use Rattle.engine_places.proofs.Accepted.{accepted-lawful, accepted-small}
+use Rattle.engine_places.proofs.Numbers.{four-is, cap-is, most-is}
+use Rattle.engine_entry.specs.declared.Ground.{Ground}
+use Rattle.engine_entry.specs.Answers.{Grounds}
+use Rattle.engine_entry.proofs.Core.{tb, notes-held}
+use Rattle.checker.specs.Verify as verify
+use Rattle.checker_entry.proofs.Pool.{notes-among}
+use Rattle.search_inputs.specs.Inputs.{AlphabetOf, GapsOf}
+use Rattle.search_inputs.proofs.Lawful.{Searchable, accepted-searchable}
+use Rattle.search_inputs.proofs.Means.{alphabet-is, gaps-are}
+use Rattle.search.specs.declared.Plan.{Plan}
+use Rattle.search.specs.declared.Search.{Search}
+use Rattle.search.specs.Parts.{limitV, Plans, Fitted, Begins}
+use Rattle.search.specs.Meaning.{cells-of, Setting, Held}
+use Rattle.search.proofs.Cases.{widen}
+use Rattle.search.proofs.Sorted.{sorted-again}
+
+-- ---- the limits
+
+module _ (f : List ℕ) (i : Index) (m : Model) (acc : accepted f ≡ answer m) (o : Indexed f i m) where
+  pub record LimitsAre : Type 0 where
+    pub horizon : limitV f i 0 ≡ m .scenario .limits .horizon
+    pub steps : limitV f i 4 ≡ m .scenario .limits .max-steps
+    pub depth : limitV f i 8 ≡ m .scenario .limits .search-depth
+    pub cases : limitV f i 12 ≡ m .scenario .limits .max-cases
+
+  pub limits-are : LimitsAre
+  unfolding limits limitV
+  limits-are =
+      let h = bound u32 _ (o .limits-at .1) in
+      let n = bound u32 _ (h .rest) in
+      let d = bound u32 _ (n .rest) in
+      let c = bound u32 _ (d .rest) in
+      let z = given _ _ _ (c .rest) in
+      let wh = u32-wide f (i .limits) (h .first) in
+      let wn = u32-wide f (h .next) (n .first) in
+      let wd = u32-wide f (n .next) (d .first) in
+      let p : cap (i .limits) ≡ i .limits = cap-is (i .limits) (omega (arith, accepted-small f m acc .0, wh .inside)) in
+      let a₀ : cap (i .limits) + 0 ≡ i .limits = omega (arith, p) in
+      let a₁ : cap (i .limits) + 4 ≡ h .next = omega (arith, p, wh .ends) in
+      let a₂ : cap (i .limits) + 8 ≡ n .next = omega (arith, p, wh .ends, wn .ends) in
+      let a₃ : cap (i .limits) + 12 ≡ d .next = omega (arith, p, wh .ends, wn .ends, wd .ends) in
+      record {
+        horizon = ap (four f) a₀ ∙ four-is f (i .limits) (h .first) ∙ ap (λ (l : Limits). l .horizon) (z .0);
+        steps = ap (four f) a₁ ∙ four-is f (h .next) (n .first) ∙ ap (λ (l : Limits). l .max-steps) (z .0);
+        depth = ap (four f) a₂ ∙ four-is f (n .next) (d .first) ∙ ap (λ (l : Limits). l .search-depth) (z .0);
+        cases = ap (four f) a₃ ∙ four-is f (d .next) (c .first) ∙ ap (λ (l : Limits). l .max-cases) (z .0);
+      }
+
+  -- ---- the plan
+
+  module _ (bytes : (k : ℕ) → getD f k 0 < 256) (p : Plan) (h : Plans f i p) where
+    pub few : Searchable m
+    few = accepted-searchable f m acc
+
+    -- the index stands in the plan
+    stand-in : Indexed f (p .index) m
+    stand-in = subst (λ (j : Index). Indexed f j m) (sym (h .index)) o
+
+    abbrev pub setting : (q a u : ℕ) → (e : p .index ≡ i) → Setting f p q a u
+    setting q a u e =
+        let al = subst (λ (j : Index). AlphabetOf f j (p .alphabet)) (sym e) (h .alphabet) in
+        let ga = subst (λ (j : Index). GapsOf f j (p .gaps)) (sym e) (h .gaps) in
+        let ix = subst (λ (j : Index). Indexed f j m) (sym e) o in
+        record {
+          m = m;
+          is-accepted = acc;
+          indexed = ix;
+          bytes = bytes;
+          grounds = subst (λ (j : Index). Grounds f j (p .ground)) (sym e) (h .ground);
+          inputs = h .alphabet .count ∙ most-is (i .alphabet .count) 12 (omega (arith, o .alphabet .counts, few .few-inputs)) ∙ o .alphabet .counts;
+          words = alphabet-is f (p .index) m acc ix (p .alphabet) al;
+          gaps = h .gaps .count ∙ most-is (i .gaps .count) 4 (omega (arith, o .gaps .counts, few .few-gaps)) ∙ o .gaps .counts;
+          seconds = gaps-are f (p .index) m acc ix (p .gaps) ga;
+          few-inputs = few .few-inputs;
+          few-gaps = few .few-gaps;
+          short = few .short;
+          horizon = h .horizon ∙ limits-are .horizon;
+          day-long = accepted-lawful f m acc .day-long;
+          cases = h .cases .same (omega (arith, limits-are .cases, few .cases)) ∙ limits-are .cases;
+        }
+
+    pub fitted : {n : ℕ} → n ≡ 4000 → Fitted p n
+    fitted e = record {
+      reasons = h .ground .room;
+      inputs = omega (arith, h .alphabet .count, most-is (i .alphabet .count) 12 (omega (arith, o .alphabet .counts, few .few-inputs)), o .alphabet .counts, few .few-inputs);
+      gaps = omega (arith, h .gaps .count, most-is (i .gaps .count) 4 (omega (arith, o .gaps .counts, few .few-gaps)), o .gaps .counts, few .few-gaps);
+      cases = h .cases .most;
+      area = e;
+    }
+
+-- ---- the start
+
+abbrev pub start-of : Model → verify.Search
+start-of m = record { cases = 0; total-steps = 0; reasons = unsupported (m .rules); witness = none; shortest = false; stopped = false }
+
+module _ {f : List ℕ} {p : Plan} {q a u : ℕ} (x : Setting f p q a u) where
+  few-notes : p .ground .count ≤ 300
+  unfolding pool-of
+  few-notes =
+      omega (arith, notes-held f (p .index) (x .m) (x .is-accepted) (x .indexed) (x .bytes) (p .ground) (x .grounds) .many, tb f (p .index) (x .m) (x .is-accepted) (x .indexed) (x .bytes) (p .ground) (x .grounds) .few-reasons, length-append (unsupported (x .m .rules)) (unsupported-wait ∷ flat rule-pool (x .m .rules)))
+
+  pub start-held : {o : Search} {w : List ℕ} → Begins f (p .ground) o w → Held x (start-of (x .m)) o w
+  start-held {o} {w} b = record {
+    fine = b .refused;
+    cases = b .cases;
+    steps = b .steps;
+    reasons =
+        subst (λ (l : List Text). Holds f l (o .reasons) w)
+        (ap (λ (l : List Text). insertAll l []) (notes-held f (p .index) (x .m) (x .is-accepted) (x .indexed) (x .bytes) (p .ground) (x .grounds) .texts) ∙ one-by-one (unsupported (x .m .rules)))
+        (b .reasons few-notes);
+    within = widen x (unsupported (x .m .rules)) (notes-among (x .m) (cells-of (x .m)) (record { trace = []; final-state = []; unknown = []; incomplete = []; steps = 0; horizon = 0 }));
+    shortest = b .shortest;
+    stopped = b .stopped;
+    witness = b .found;
+  }

@@ -1,0 +1,18 @@
+use Rattle.search_entry.proofs.Laws as laws
+use borrow.Author.Needs.{needs}
+use Rattle.search_entry.proofs.no_witness.Statement.{statement}
+use Rattle.search_entry.proofs.no_witness.Tie as tie
+use Rattle.search_entry.proofs.no_witness.Reads as reads
+use Rattle.search_entry.proofs.no_witness.Lts as lts
+use Rattle.checker_entry.proofs.refused.Reads as refused-reads
+
+-- src/lib.rt:84:9
+refused-requires : tie.Need-refused-requires
+refused-requires c κs = search needs
+
+-- src/lib.rt:81:1
+returns : tie.Need-returns
+returns c = laws.without-is (c .refused .ensures)
+
+pub no-witness-spec : {M : Type 1} → statement M
+no-witness-spec = tie.close (tie.spec refused-requires returns)
