@@ -1,4 +1,4 @@
-// Numbers as arguments of a program.
+// The arguments of a program: numbers of entries, and the name of a file.
 ghost use mathlib.Core.Path.{_≡_};
 ghost use Prim.Native.Nat.{_≤_};
 ghost use lib.ListN.{length};
@@ -44,4 +44,41 @@ pub fn entries(i: usize, most: usize) -> usize
         return most;
     }
     number(&text[..n], most)
+}
+
+// The same if there are three arguments or more.
+pub fn area_entries(i: usize, most: usize) -> usize
+    requires { ⌜ most ≤ 1000000 ⌝ }
+    ensures { λ r. ⌜ r ≤ most ⌝ }
+{
+    if os::arg_count() < 4 {
+        return most;
+    }
+    entries(i, most)
+}
+
+// Writes the first bytes to the file that argument i names.
+fn save(i: usize, bytes: &[u8], count: usize) {
+    if bytes.len() < count {
+        return;
+    }
+    let mut name = io::buffer();
+    let n = os::arg(i, &mut name);
+    let fd = os::open_overwrite(&name[..n]);
+    if fd < 0 {
+        return;
+    }
+    io::write_all(fd, &bytes[0..count]);
+    libc::close(fd);
+}
+
+// Writes the first bytes to the file that the only argument names, or the one behind three numbers.
+pub fn save_named(bytes: &[u8], count: usize) {
+    let given = os::arg_count();
+    if given == 2 {
+        save(1, bytes, count);
+    }
+    if given == 5 {
+        save(4, bytes, count);
+    }
 }

@@ -1,10 +1,14 @@
 // The answers of `verify` and `minimize`, printed line by line through a lent area of bytes.
-// No contract can say what is printed; the lines' order is the order of the calls here.
+// No contract can say what is printed; the order of the lines is the order of the calls here.
 use checker_lines::Form;
 use reduce_entry::Minimized;
 ghost use mathlib.Core.Path.{_≡_};
 ghost use Prim.Native.Nat.{_+_, _*_, _≤_};
 ghost use lib.ListN.{length};
+ghost use Rattle.engine_lines.specs.Lines.{number-line};
+ghost use Rattle.show.specs.Lines.{quoted};
+ghost use Rattle.show.specs.Writing.{Written};
+ghost use Rattle.search_lines.specs.Lines.{input-text, event-line, text-at, input-of, event-of, answer-line, invariant-line};
 
 // No line is longer.
 const LINE: usize = 4096;
@@ -18,13 +22,17 @@ pub struct Printed {
 // ---- parts of lines
 
 // The text at a place, quoted.
-fn put_place(out: &mut [u8], n: usize, file: &[u8], place: u32) -> usize {
+fn put_place(out: &mut [u8], n: usize, file: &[u8], place: u32) -> usize
+    ensures { λ m. ⌜ Written (quoted (text-at (now (file .entry)) place)) (now (out .entry)) n (now (out .exit)) m ⌝ }
+{
     let at = texts::text_start(file, 6, place);
     show::put_quoted_text(out, n, file, at)
 }
 
 // An input: kind 0 sets an entity to a value, 1 restarts, 2 reloads.
-fn put_input(out: &mut [u8], n: usize, file: &[u8], kind: u32, entity: u32, value: u32) -> usize {
+fn put_input(out: &mut [u8], n: usize, file: &[u8], kind: u32, entity: u32, value: u32) -> usize
+    ensures { λ m. ⌜ Written (input-text (input-of (now (file .entry)) kind entity value)) (now (out .entry)) n (now (out .exit)) m ⌝ }
+{
     if kind == 1 {
         return show::put(out, n, b"restart");
     }
@@ -38,7 +46,9 @@ fn put_input(out: &mut [u8], n: usize, file: &[u8], kind: u32, entity: u32, valu
 }
 
 // A word and a number.
-fn put_number_line(out: &mut [u8], n: usize, word: &[u8], number: u64) -> usize {
+fn put_number_line(out: &mut [u8], n: usize, word: &[u8], number: u64) -> usize
+    ensures { λ m. ⌜ Written (number-line (now (word .entry)) number) (now (out .entry)) n (now (out .exit)) m ⌝ }
+{
     let a = show::put(out, n, word);
     let b = show::put_byte(out, a, 32);
     let c = show::put_number(out, b, number);
@@ -46,7 +56,9 @@ fn put_number_line(out: &mut [u8], n: usize, word: &[u8], number: u64) -> usize 
 }
 
 // A word and `yes` or `no`.
-fn put_answer_line(out: &mut [u8], n: usize, word: &[u8], so: bool) -> usize {
+fn put_answer_line(out: &mut [u8], n: usize, word: &[u8], so: bool) -> usize
+    ensures { λ m. ⌜ Written (answer-line (now (word .entry)) so) (now (out .entry)) n (now (out .exit)) m ⌝ }
+{
     let a = show::put(out, n, word);
     if so {
         return show::put(out, a, b" yes\n");
@@ -64,7 +76,9 @@ fn put_event(
     kind: u32,
     entity: u32,
     value: u32,
-) -> usize {
+) -> usize
+    ensures { λ m. ⌜ Written (event-line (event-of (now (file .entry)) second kind entity value)) (now (out .entry)) n (now (out .exit)) m ⌝ }
+{
     let a = show::put(out, n, b"event ");
     let b = show::put_number(out, a, second as u64);
     let c = show::put_byte(out, b, 32);
@@ -109,7 +123,9 @@ fn print_events(out: &mut [u8], n: usize, file: &[u8], events: &[u32], count: us
 
 // ---- minimize
 
-fn put_invariant(out: &mut [u8], n: usize, file: &[u8], place: u32) -> usize {
+fn put_invariant(out: &mut [u8], n: usize, file: &[u8], place: u32) -> usize
+    ensures { λ m. ⌜ Written (invariant-line (text-at (now (file .entry)) place)) (now (out .entry)) n (now (out .exit)) m ⌝ }
+{
     let a = show::put(out, n, b"invariant ");
     let b = put_place(out, a, file, place);
     show::put_byte(out, b, 10)
