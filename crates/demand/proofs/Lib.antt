@@ -2,5 +2,7 @@
 pub mod Places
 -- a violation's numbers
 pub mod Numbers
--- the theorem
+-- the theorem of what check returns
 pub mod Returned
+-- the theorem of what verify returns
+pub mod Found

@@ -1,13 +1,14 @@
--- Demand 3 of what `check` returns. An answer names texts by their places in its own file, so two answers are compared by the
+-- Demand 3 of what `check` and `verify` return. An answer names texts by their places in its own file, so two answers are compared by the
 -- texts at those places.
 use Prim.Native.Nat.{ℕ, _+_, _*_, _≤_, _<_}
 use mathlib.Core.Path.{_≡_}
 use mathlib.Core.Bool.{false}
 use mathlib.Core.List.{List, []}
-use lib.ListN.{getD}
+use lib.ListN.{length, getD}
 use Rattle.texts.specs.Texts.{Text}
+use Rattle.areas.specs.Areas.{area}
 use Rattle.model.specs.Answer.{answer}
-use Rattle.model.specs.Model.{Model}
+use Rattle.model.specs.Model.{Event, Model}
 use Rattle.model.specs.Validate.{accepted}
 use Rattle.reasons.specs.Lists.{listed}
 use Rattle.engine.specs.Memory.{Lent, entries}
@@ -16,7 +17,11 @@ use Rattle.checker.specs.Check.{Check, check}
 use Rattle.checker_entry.specs.declared.CheckResult.{CheckResult}
 use Rattle.checker_entry.specs.declared.Status.the-variants as status
 use Rattle.checker_entry.specs.Answers.{Checks}
-use Rattle.cone.specs.Alike.{Alike}
+use Rattle.search_inputs.specs.Inputs.{event-words}
+use Rattle.search_entry.specs.declared.Found.the-variants as found
+use Rattle.search_entry.specs.declared.Verification.{Verification}
+use Rattle.search_entry.specs.Answers.{Verifies}
+use Rattle.cone.specs.Alike.{Alike, SameSearch}
 use Rattle.cone.specs.Demand.{SameCheck}
 
 -- the j-th of the eight numbers of an answer's k-th violation (docs/FORMAT.md)
@@ -63,3 +68,32 @@ CheckReturned =
     (f f′ : List ℕ) (m m′ : Model) → accepted f ≡ answer m → accepted f′ ≡ answer m′ → Alike m m′
     → (r r′ : CheckResult) (before after before′ after′ : Lent) → Checks f r before after → Checks f′ r′ before′ after′
     → Complete r → Complete r′ → SameReturned m m′ f f′ before before′ r r′
+
+-- ---- what `verify` returns
+
+-- the answer's witness has these events, each by its four words (docs/FORMAT.md); none if there is no witness
+pub record Witness (f : List ℕ) (r : Verification) (vs : List Event) : Type 0 where
+  pub count : r .events ≡ length vs
+  pub words : r .words ≡ area (event-words (texts-in f)) 20 vs
+
+pub record SameFound (f f′ : List ℕ) (r r′ : Verification) : Type 0 where
+  pub status : r .status ≡ r′ .status
+  pub cases : r .cases ≡ r′ .cases
+  -- the same events, each answer with the places of its own file
+  pub events : List Event
+  pub witness : Witness f r events
+  pub witness′ : Witness f′ r′ events
+
+-- the answer isn't refused, lists no reason, and its witness's check, if there is one, has no incomplete reason
+pub record Clear (r : Verification) : Type 0 where
+  pub answered : (n : ℕ) → r .status ≡ found.Refused n → ⊥
+  pub reasons : r .reasons ≡ 0
+  pub complete : r .check .incomplete ≡ 0
+
+-- Two whole files with the same search settings, each with any lent areas and output: whatever `verify` returns.
+abbrev pub VerifyReturned : Type 0
+VerifyReturned =
+    (f f′ : List ℕ) (m m′ : Model) → accepted f ≡ answer m → accepted f′ ≡ answer m′ → Alike m m′ → SameSearch m m′
+    → (r r′ : Verification) (before after before′ after′ : Lent) (o o₁ o′ o₁′ : List ℕ)
+    → Verifies f r before after o o₁ → Verifies f′ r′ before′ after′ o′ o₁′
+    → Clear r → Clear r′ → SameFound f f′ r r′
