@@ -11,6 +11,8 @@ enum Entry {
     Simulate,
     Fullcheck,
     Lint,
+    Verify,
+    Minimize,
 }
 
 // What stands next in a batch: a model of so many bytes, the end, or no whole model.
@@ -43,6 +45,35 @@ fn read_model(fd: i32, file: &mut [u8]) -> Next
     Next::Model(size)
 }
 
+// The lines of `verify` and of `minimize`; their files aren't kept.
+fn print_verify(out: &mut [u8], n: usize, file: &[u8]) -> usize {
+    let mut output = [0u8; 32814];
+    let p = verify_lines::print_verify(
+        out,
+        n,
+        file,
+        check_lines::QUEUE,
+        check_lines::RECORDS,
+        check_lines::RUNS,
+        &mut output,
+    );
+    p.next
+}
+
+fn print_minimize(out: &mut [u8], n: usize, file: &[u8]) -> usize {
+    let mut output = [0u8; 32814];
+    let p = search_lines::print_minimize(
+        out,
+        n,
+        file,
+        check_lines::QUEUE,
+        check_lines::RECORDS,
+        check_lines::RUNS,
+        &mut output,
+    );
+    p.next
+}
+
 // The lines of an entry's answer, behind the first n bytes of `out`; what doesn't fit there is printed before.
 fn print_lines(entry: Entry, out: &mut [u8], n: usize, file: &[u8]) -> usize {
     match entry {
@@ -71,6 +102,8 @@ fn print_lines(entry: Entry, out: &mut [u8], n: usize, file: &[u8]) -> usize {
             report_lines::FINDINGS,
             report_lines::INTERACTIONS,
         ),
+        Entry::Verify => print_verify(out, n, file),
+        Entry::Minimize => print_minimize(out, n, file),
     }
 }
 
@@ -136,4 +169,6 @@ fn main() {
     replay(b"simulate.batch", b"entry simulate\n", Entry::Simulate);
     replay(b"fullcheck.batch", b"entry fullcheck\n", Entry::Fullcheck);
     replay(b"lint.batch", b"entry lint\n", Entry::Lint);
+    replay(b"verify.batch", b"entry verify\n", Entry::Verify);
+    replay(b"minimize.batch", b"entry minimize\n", Entry::Minimize);
 }

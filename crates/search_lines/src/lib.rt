@@ -1,4 +1,4 @@
-// The answers of `verify` and `minimize`, printed line by line through a lent area of bytes.
+// The answer of `minimize`, and what the lines of `verify` share with it, printed line by line through a lent area of bytes.
 // No contract can say what is printed; the order of the lines is the order of the calls here.
 use checker_lines::Form;
 use reduce_entry::Minimized;
@@ -30,7 +30,7 @@ fn put_place(out: &mut [u8], n: usize, file: &[u8], place: u32) -> usize
 }
 
 // An input: kind 0 sets an entity to a value, 1 restarts, 2 reloads.
-fn put_input(out: &mut [u8], n: usize, file: &[u8], kind: u32, entity: u32, value: u32) -> usize
+pub fn put_input(out: &mut [u8], n: usize, file: &[u8], kind: u32, entity: u32, value: u32) -> usize
     ensures { λ m. ⌜ Written (input-text (input-of (now (file .entry)) kind entity value)) (now (out .entry)) n (now (out .exit)) m ⌝ }
 {
     if kind == 1 {
@@ -46,7 +46,7 @@ fn put_input(out: &mut [u8], n: usize, file: &[u8], kind: u32, entity: u32, valu
 }
 
 // A word and a number.
-fn put_number_line(out: &mut [u8], n: usize, word: &[u8], number: u64) -> usize
+pub fn put_number_line(out: &mut [u8], n: usize, word: &[u8], number: u64) -> usize
     ensures { λ m. ⌜ Written (number-line (now (word .entry)) number) (now (out .entry)) n (now (out .exit)) m ⌝ }
 {
     let a = show::put(out, n, word);
@@ -56,7 +56,7 @@ fn put_number_line(out: &mut [u8], n: usize, word: &[u8], number: u64) -> usize
 }
 
 // A word and `yes` or `no`.
-fn put_answer_line(out: &mut [u8], n: usize, word: &[u8], so: bool) -> usize
+pub fn put_answer_line(out: &mut [u8], n: usize, word: &[u8], so: bool) -> usize
     ensures { λ m. ⌜ Written (answer-line (now (word .entry)) so) (now (out .entry)) n (now (out .exit)) m ⌝ }
 {
     let a = show::put(out, n, word);
@@ -100,7 +100,7 @@ fn print_event(out: &mut [u8], n: usize, file: &[u8], events: &[u32], k: usize) 
 }
 
 // n, or the most if it is more.
-fn at_most(n: usize, most: usize) -> usize
+pub fn at_most(n: usize, most: usize) -> usize
     ensures { λ r. ⌜ r ≤ most ⌝ }
 {
     if most < n {
@@ -110,7 +110,7 @@ fn at_most(n: usize, most: usize) -> usize
 }
 
 // The first `count` events, or as many as there is room for.
-fn print_events(out: &mut [u8], n: usize, file: &[u8], events: &[u32], count: usize) -> usize {
+pub fn print_events(out: &mut [u8], n: usize, file: &[u8], events: &[u32], count: usize) -> usize {
     let many = at_most(count, events.len() / 4);
     let mut m = n;
     let mut k: usize = 0;
@@ -141,7 +141,7 @@ fn print_numbers(out: &mut [u8], n: usize, file: &[u8], r: Minimized) -> usize {
 }
 
 // The new file's length, and what the lines of its check are headed by.
-fn print_file(out: &mut [u8], n: usize, written: usize, word: &[u8]) -> usize {
+pub fn print_file(out: &mut [u8], n: usize, written: usize, word: &[u8]) -> usize {
     let m = show::room(out, n, LINE);
     let a = put_number_line(out, m, b"file", written as u64);
     show::put(out, a, word)
@@ -156,7 +156,7 @@ fn print_reduced(out: &mut [u8], n: usize, file: &[u8], a: &[u32], r: Minimized)
     check_lines::print_result(out, k, Form::Full, file, a, check)
 }
 
-fn print_refused(out: &mut [u8], n: usize, number: u32) -> Printed
+pub fn print_refused(out: &mut [u8], n: usize, number: u32) -> Printed
     ensures { λ p. ⌜ p .written ≡ 0 ⌝ }
 {
     let m = show::room(out, n, LINE);
