@@ -1,11 +1,12 @@
 -- Demand 3 is about something: two files that differ in their texts, entities, automations and events outside the cone meet
--- all premises of its part on checks and of its part on searches. Both checks tell a violation, both searches a witness.
+-- all premises of its part on checks and of its part on searches. In both checks an invariant of each kind fails; both searches
+-- tell a witness.
 use Prim.Native.Nat.{ℕ}
 use mathlib.Core.Bool.{Bool, true, false, not, _&&_, false≢true}
 use mathlib.Core.List.{List, [], _∷_}
 use mathlib.Core.Path.{_≡_, refl, sym, ap, _∙_}
 use lib.ListN.{length}
-use Rattle.texts.specs.Lists.{is-empty, absent, all}
+use Rattle.texts.specs.Lists.{is-empty, absent, all, each}
 use Rattle.texts.specs.Texts.{Text}
 use Rattle.model.specs.Answer.{Answer, answer, refused}
 use Rattle.model.specs.Model.{Entity, Automation, Input, Event, Invariant, Model}
@@ -14,6 +15,7 @@ use Rattle.engine.specs.Records.{Areas}
 use Rattle.engine.proofs.Lists.{and-l, and-r}
 use Rattle.engine.proofs.Distinct.{answer-eq}
 use Rattle.checker.specs.Check.{Check, check, all-check}
+use Rattle.checker.specs.Judge.{Failure, prohibited-state, guard-violated, forbidden-transition, deadline-missed}
 use Rattle.checker.specs.Verify.{Verification, verify, all-verify}
 use Rattle.cone.specs.Cone.{cone-of, all-cone}
 use Rattle.cone.specs.Alike.{Alike, SameSearch, input-in, cone-declarations, cone-automations, cone-events, all-alike}
@@ -139,6 +141,25 @@ violated c = is-empty (c .simulation .incomplete) && not (is-empty (c .violation
 unfoldable witnessed : Verification → Bool
 witnessed v = is-empty (v .reasons) && (not (absent (v .witness)) && is-empty (witness-incomplete v))
 
+-- why the invariants fail, one after the other
+unfoldable pub failures : Check → List Failure
+failures c = each (λ v. v .failure) (c .violations)
+
+abbrev pub each-kind : List Failure
+each-kind = prohibited-state ∷ guard-violated ∷ forbidden-transition ∷ deadline-missed 7 ∷ []
+
+first-failures : answered failures (check plenty first) ≡ answer each-kind
+unfolding all-check all-files answered plenty failures
+first-failures = refl
+
+second-failures : answered failures (check plenty second) ≡ answer each-kind
+unfolding all-check all-files answered plenty failures
+second-failures = refl
+
+told-by : {A B : Type 0} (g : A → B) (x : Answer A) (a : A) {b : B} → x ≡ answer a → answered g x ≡ answer b → g a ≡ b
+unfolding answered
+told-by g x a p e = answer-eq (sym (ap (answered g) p) ∙ e)
+
 accepted-first : is-answer (λ m. true) (accepted first) ≡ true
 unfolding all-checks all-files is-answer
 accepted-first = refl
@@ -180,7 +201,8 @@ pub record Met (file file′ : List ℕ) : Type 0 where
   pub checks′ : check plenty file′ ≡ answer c′
   pub complete : c .simulation .incomplete ≡ []
   pub complete′ : c′ .simulation .incomplete ≡ []
-  pub fails : is-empty (c .violations) ≡ false
+  pub fails : failures c ≡ each-kind
+  pub fails′ : failures c′ ≡ each-kind
   pub v : Verification
   pub v′ : Verification
   pub verifies : verify plenty 1000 file ≡ answer v
@@ -199,11 +221,6 @@ complete-of : (c : Check) → violated c ≡ true → c .simulation .incomplete 
 unfolding violated
 complete-of c e = empty-is (c .simulation .incomplete)
     (and-l (is-empty (c .simulation .incomplete)) (not (is-empty (c .violations))) e)
-
-fails-of : (c : Check) → violated c ≡ true → is-empty (c .violations) ≡ false
-unfolding violated
-fails-of c e = not-true (is-empty (c .violations))
-    (and-r (is-empty (c .simulation .incomplete)) (not (is-empty (c .violations))) e)
 
 module _ (v : Verification) (e : witnessed v ≡ true) where
   no-reason-of : v .reasons ≡ []
@@ -244,7 +261,8 @@ met =
       checks′ = c′ .1 .0;
       complete = complete-of (c .0) (c .1 .1);
       complete′ = complete-of (c′ .0) (c′ .1 .1);
-      fails = fails-of (c .0) (c .1 .1);
+      fails = told-by failures (check plenty first) (c .0) (c .1 .0) first-failures;
+      fails′ = told-by failures (check plenty second) (c′ .0) (c′ .1 .0) second-failures;
       v = v .0;
       v′ = v′ .0;
       verifies = v .1 .0;
