@@ -33,10 +33,8 @@ use Rattle.checker_entry.specs.declared.CheckResult.{CheckResult}
 use Rattle.checker_entry.specs.declared.Status.{Status}
 use Rattle.checker_entry.specs.Answers.{status-as, no-check}
 use Rattle.checker_entry.specs.Answers as said
-use Rattle.checker_entry.specs.Parts.{Checked}
-use Rattle.checker_entry.proofs.Laws.{checked-sized}
-use Rattle.checker_entry.proofs.Pool.{check-pool, few-in-pool, in-pool}
-use Rattle.checker_entry.proofs.Promise.{Promise, answers, refuses, promise}
+use Rattle.checker_entry.proofs.Pool.{check-pool, few-in-pool}
+use Rattle.checker_case.specs.Case.{Tells, answers, refuses, Cased}
 use Rattle.search_inputs.specs.declared.Placed.{Placed}
 use Rattle.search_inputs.proofs.Means.{Fine, asc, fine-here, input-accepted, event-at-here}
 use Rattle.search.specs.declared.Plan.{Plan}
@@ -216,21 +214,21 @@ module _ (vs : List Event) (b : Check) (s : verify.Search) where
   unfolding after-case
   after-other e = rw e
 
-module _ {f : List ℕ} {p : Plan} {q q' a a' u u' : List ℕ} {placed : Placed} {c : CheckResult}
-    (ch : Checked f (p .index) (p .ground) (placed .words) (placed .count) c q q' a a' u u')
-    (x : Setting f p (length q) (length a) (length u)) (vs : List Event) (ps : PlacedAs (x .indexed .ts) (x .m) vs placed)
+module _ {f : List ℕ} {p : Plan} {q a u : ℕ} {placed : Placed} {c : CheckResult}
+    (ch : Cased f (p .index) (p .ground) (placed .words) (placed .count) c q a u)
+    (x : Setting f p q a u) (vs : List Event) (ps : PlacedAs (x .indexed .ts) (x .m) vs placed)
     (s : verify.Search) {o : Search} {w : List ℕ} (h : Held x s o w) (lc : o .cases < p .cases) (ls : o .steps < 200000) where
   abbrev plain : Answer Check
-  plain = checked (sizes (length q) (length a) (length u)) (x .m) (cells-of (x .m)) vs
+  plain = checked (sizes q a u) (x .m) (cells-of (x .m)) vs
 
   abbrev here : Answer verify.Search
-  here = try-case (sizes (length q) (length a) (length u)) (x .m) (cells-of (x .m)) vs s
+  here = try-case (sizes q a u) (x .m) (cells-of (x .m)) vs s
 
   abbrev Promised : Type 0
-  Promised = Promise f (p .index) (x .m) (x .is-accepted) (x .indexed) (x .bytes) (p .ground) (x .grounds) (placed .words) none-such vs (events-at x vs ps) (ps .count) ch
+  Promised = Tells f (x .m) c plain
 
   promised : Promised
-  promised = promise f (p .index) (x .m) (x .is-accepted) (x .indexed) (x .bytes) (p .ground) (x .grounds) (placed .words) none-such vs (events-at x vs ps) (ps .count) ch
+  promised = ch .does (x .m) (x .is-accepted) (x .indexed) (x .bytes) (x .grounds) none-such vs (events-at x vs ps) (ps .count)
 
   answer-so : (b : Check) → plain ≡ answer b → here ≡ answer (after-case vs b s)
   unfolding _>>=_
@@ -251,15 +249,15 @@ module _ {f : List ℕ} {p : Plan} {q q' a a' u u' : List ℕ} {placed : Placed}
       n ≡ s .total-steps + b .simulation .steps
   steps-of b e k g =
       let z : c .simulation .steps ≡ b .simulation .steps = k .simulation .steps in
-      let l = few-steps f (x .m) (x .is-accepted) (sizes (length q) (length a) (length u)) (cells-of (x .m)) vs b e in
+      let l = few-steps f (x .m) (x .is-accepted) (sizes q a u) (cells-of (x .m)) vs b e in
       omega (arith, g (omega (arith, z, l)), z, h .steps)
 
   pub refused-held : {n : ℕ} {r : Search} → n ≡ refusalV (c .status) → (n ≡ 0 → ⊥) → r ≡ refusedS o n → Outcome x here r w
   refused-held {n} {r} e z g = by promised
     where
       by : Promised → Outcome x here r w
-      by (answers b y k l) = absurd (z (e ∙ refusal-of b k))
-      by (refuses j lo hi y k l) =
+      by (answers b y k ku ki) = absurd (z (e ∙ refusal-of b k))
+      by (refuses j lo hi y k) =
           subst (λ (t : Answer verify.Search). Outcome x t r w) (sym (refuse-so j y))
           (record { number = ap (λ (t : Search). t .refused) g ∙ e ∙ refusal-so j k; low = lo; high = hi; stopped = ap (λ (t : Search). t .stopped) g })
 
@@ -268,7 +266,7 @@ module _ {f : List ℕ} {p : Plan} {q q' a a' u u' : List ℕ} {placed : Placed}
   found-held {n} {v} {r} e z d t five g = by promised
     where
       by : Promised → Outcome x here r w
-      by (answers b y k l) =
+      by (answers b y k ku ki) =
           let violated : is-violation (b .status) ≡ true = sym (violates-as (b .status)) ∙ sym (ap violatesV (k .status-is)) ∙ sym d ∙ t in
           subst (λ (t : Answer verify.Search). Outcome x t r w) (sym (answer-so b y ∙ ap answer (after-violation vs b s violated)))
           (record {
@@ -286,19 +284,18 @@ module _ {f : List ℕ} {p : Plan} {q q' a a' u u' : List ℕ} {placed : Placed}
               checks = y;
             };
           })
-      by (refuses j lo hi y k l) = absurd (omega (arith, e, z, refusal-so j k, lo))
+      by (refuses j lo hi y k) = absurd (omega (arith, e, z, refusal-so j k, lo))
 
   pub other-held : {n : ℕ} {v : Bool} {count : ℕ} {r : Search} {w' : List ℕ} → n ≡ refusalV (c .status) → n ≡ 0 → v ≡ violatesV (c .status) → v ≡ false →
       Gathers f (o .reasons) c w count w' → Other o count (c .simulation .steps) r → Outcome x here r w'
   other-held {n} {v} {count} {r} {w'} e z d t told g = by promised
     where
       by : Promised → Outcome x here r w'
-      by (answers b y k l) =
+      by (answers b y k ku ki) =
           let fine-so : is-violation (b .status) ≡ false = sym (violates-as (b .status)) ∙ sym (ap violatesV (k .status-is)) ∙ sym d ∙ t in
-          let sized = checked-sized ch in
-          let inside = in-pool f (p .index) (x .m) (x .is-accepted) (x .indexed) (x .bytes) (p .ground) (x .grounds) (placed .words) none-such vs (events-at x vs ps) (ps .count) ch b y in
-          let au = widen x (b .unknown) (inside .unknown) in
-          let ai = widen x (b .incomplete) (inside .incomplete) in
+          let sized = ch .sized in
+          let au = widen x (b .unknown) ku in
+          let ai = widen x (b .incomplete) ki in
           let first : insertAll (listed f (c .unknown) (c .unknowns)) (listed f (o .reasons) w) ≡ sortedT (b .unknown ++ s .reasons) = ap (λ (t : List Text). insertAll t (listed f (o .reasons) w)) (k .unknown .texts) ∙ ap (insertAll (b .unknown)) (h .reasons .texts) ∙ Rattle.reasons.proofs.Sorting.merged (b .unknown) (s .reasons) in
           let few : length (insertAll (listed f (c .unknown) (c .unknowns)) (listed f (o .reasons) w)) ≤ 400 = omega (arith, ap length first, sorted-few (search-pool (x .m)) (b .unknown ++ s .reasons) (among-both (search-pool (x .m)) (b .unknown) (s .reasons) au (h .within)), pool-few x) in
           let all : Holds f (insertAll (listed f (c .incomplete) (c .incompletes)) (insertAll (listed f (c .unknown) (c .unknowns)) (listed f (o .reasons) w))) count w' = told (few-reasons x s o w h) (sized .few-unknown) (sized .few-incomplete) few in
@@ -314,4 +311,4 @@ module _ {f : List ℕ} {p : Plan} {q q' a a' u u' : List ℕ} {placed : Placed}
             stopped = g .stopped;
             witness = witness-stays x (s .witness) o r (g .found) (g .witness) (h .witness);
           })
-      by (refuses j lo hi y k l) = absurd (omega (arith, e, z, refusal-so j k, lo))
+      by (refuses j lo hi y k) = absurd (omega (arith, e, z, refusal-so j k, lo))

@@ -223,7 +223,7 @@ fn try_case(
     let ground = p.ground;
     let events = placed.words;
     let n = placed.count;
-    let c = checker_entry::check_events(file, index, ground, &events, n, queue, records, runs);
+    let c = checker_case::check_case(file, index, ground, &events, n, queue, records, runs);
     let status = c.status;
     let simulation = c.simulation;
     let number = refusal(status);

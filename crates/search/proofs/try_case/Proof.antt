@@ -1,12 +1,11 @@
 use native.Mathlib.Omega.{arith}
 use Rattle.search.proofs.Cases as cases
-use Rattle.checker_entry.proofs.Laws as entry
 use borrow.Author.Needs.{needs}
 use Rattle.search.proofs.try_case.Statement.{statement}
 use Rattle.search.proofs.try_case.Tie as tie
 use Rattle.search.proofs.try_case.Reads as reads
 use Rattle.search.proofs.try_case.Lts as lts
-use Rattle.checker_entry.proofs.check_events.Reads as check-events-reads
+use Rattle.checker_case.proofs.check_case.Reads as check-case-reads
 use Rattle.search.proofs.found_case.Reads as found-case-reads
 use Rattle.search.proofs.gather.Reads as gather-reads
 use Rattle.search.proofs.other_case.Reads as other-case-reads
@@ -40,12 +39,12 @@ returns-2 : tie.Need-returns-2
 returns-2 c = record { does = λ x vs ps s h. cases.spent-held x vs s h (cases.test-steps x vs s h (c .before .before .before .before .if2 .taken)) (c .before .before .spent2 .ensures) }
 
 -- src/lib.rt:226:62
-slice-aggregate-check-events : tie.Need-slice-aggregate-check-events
-slice-aggregate-check-events c = search needs
+slice-aggregate-check-case : tie.Need-slice-aggregate-check-case
+slice-aggregate-check-case c = search needs
 
 -- src/lib.rt:226:9
-check-events-requires : tie.Need-check-events-requires
-check-events-requires c κs = search needs
+check-case-requires : tie.Need-check-case-requires
+check-case-requires c κs = search needs
 
 -- src/lib.rt:229:9
 refusal-requires : tie.Need-refusal-requires
@@ -69,7 +68,7 @@ same-length-5 c = search needs
 
 -- src/lib.rt:231:9
 returns-3 : tie.Need-returns-3
-returns-3 c = record { does = λ x vs ps s h. cases.refused-held (c .before .before .before .before .before .before .before .before .before .before .check-events .ensures) x vs ps s h (c .before .before .before .before .before .before .before .before .before .before .before .before .before .before .before .before .before .before .before .before .if1 .left) (c .before .before .before .before .before .before .before .before .before .before .before .before .before .before .before .before .before .before .if2 .left) (c .before .before .refusal .ensures) (c .before .if3 .taken) (c .refused-case .ensures) }
+returns-3 c = record { does = λ x vs ps s h. cases.refused-held (c .before .before .before .before .before .before .before .before .before .before .check-case .ensures) x vs ps s h (c .before .before .before .before .before .before .before .before .before .before .before .before .before .before .before .before .before .before .before .before .if1 .left) (c .before .before .before .before .before .before .before .before .before .before .before .before .before .before .before .before .before .before .if2 .left) (c .before .before .refusal .ensures) (c .before .if3 .taken) (c .refused-case .ensures) }
 
 -- src/lib.rt:233:8
 violates-requires : tie.Need-violates-requires
@@ -93,11 +92,11 @@ same-length-8 c = search needs
 
 -- src/lib.rt:234:9
 returns-4 : tie.Need-returns-4
-returns-4 c = record { does = λ x vs ps s h. cases.found-held (c .before .before .before .before .before .before .before .before .before .before .before .before .check-events .ensures) x vs ps s h (c .before .before .before .before .before .before .before .before .before .before .before .before .before .before .before .before .before .before .before .before .before .before .if1 .left) (c .before .before .before .before .before .before .before .before .before .before .before .before .before .before .before .before .before .before .before .before .if2 .left) (c .before .before .before .before .refusal .ensures) (c .before .before .before .if3 .left) (c .before .before .violates .ensures) (c .before .if4 .taken) (omega (arith, c .before .before .before .before .before .before .before .before .before .before .before .before .before .before .before .before .before .before .before .before .before .before .before .before .before .before .before .before .before .before .pre .events)) (c .found-case .ensures) }
+returns-4 c = record { does = λ x vs ps s h. cases.found-held (c .before .before .before .before .before .before .before .before .before .before .before .before .check-case .ensures) x vs ps s h (c .before .before .before .before .before .before .before .before .before .before .before .before .before .before .before .before .before .before .before .before .before .before .if1 .left) (c .before .before .before .before .before .before .before .before .before .before .before .before .before .before .before .before .before .before .before .before .if2 .left) (c .before .before .before .before .refusal .ensures) (c .before .before .before .if3 .left) (c .before .before .violates .ensures) (c .before .if4 .taken) (omega (arith, c .before .before .before .before .before .before .before .before .before .before .before .before .before .before .before .before .before .before .before .before .before .before .before .before .before .before .before .before .before .before .pre .events)) (c .found-case .ensures) }
 
 -- src/lib.rt:236:9
 gather-requires : tie.Need-gather-requires
-gather-requires c κs = (c .before .before .before .before .before .before .before .before .before .before .before .before .before .before .before .before .before .before .before .before .before .before .before .before .before .before .before .before .before .before .pre .fitted .area, (entry.checked-sized (c .before .before .before .before .before .before .before .before .before .before .before .before .check-events .ensures) .unknowns, entry.checked-sized (c .before .before .before .before .before .before .before .before .before .before .before .before .check-events .ensures) .incompletes))
+gather-requires c κs = (c .before .before .before .before .before .before .before .before .before .before .before .before .before .before .before .before .before .before .before .before .before .before .before .before .before .before .before .before .before .before .pre .fitted .area, ((c .before .before .before .before .before .before .before .before .before .before .before .before .check-case .ensures .sized) .unknowns, (c .before .before .before .before .before .before .before .before .before .before .before .before .check-case .ensures .sized) .incompletes))
 
 -- src/lib.rt:237:5
 other-case-requires : tie.Need-other-case-requires
@@ -121,7 +120,7 @@ same-length-12 c = search needs
 
 -- src/lib.rt:203:1
 returns-5 : tie.Need-returns-5
-returns-5 c = record { does = λ x vs ps s h. cases.other-held (c .before .before .before .before .before .before .before .before .before .before .before .before .before .before .before .before .check-events .ensures) x vs ps s h (c .before .before .before .before .before .before .before .before .before .before .before .before .before .before .before .before .before .before .before .before .before .before .before .before .before .before .if1 .left) (c .before .before .before .before .before .before .before .before .before .before .before .before .before .before .before .before .before .before .before .before .before .before .before .before .if2 .left) (c .before .before .before .before .before .before .before .before .refusal .ensures) (c .before .before .before .before .before .before .before .if3 .left) (c .before .before .before .before .before .before .violates .ensures) (c .before .before .before .before .before .if4 .left) (c .before .before .before .gather .ensures) (c .other-case .ensures) }
+returns-5 c = record { does = λ x vs ps s h. cases.other-held (c .before .before .before .before .before .before .before .before .before .before .before .before .before .before .before .before .check-case .ensures) x vs ps s h (c .before .before .before .before .before .before .before .before .before .before .before .before .before .before .before .before .before .before .before .before .before .before .before .before .before .before .if1 .left) (c .before .before .before .before .before .before .before .before .before .before .before .before .before .before .before .before .before .before .before .before .before .before .before .before .if2 .left) (c .before .before .before .before .before .before .before .before .refusal .ensures) (c .before .before .before .before .before .before .before .if3 .left) (c .before .before .before .before .before .before .violates .ensures) (c .before .before .before .before .before .if4 .left) (c .before .before .before .gather .ensures) (c .other-case .ensures) }
 
 pub try-case-spec : {M : Type 1} → statement M
 try-case-spec =
@@ -133,8 +132,8 @@ try-case-spec =
     spent-requires-2
     same-length-2
     returns-2
-    slice-aggregate-check-events
-    check-events-requires
+    slice-aggregate-check-case
+    check-case-requires
     refusal-requires
     refused-case-requires
     same-length-3

@@ -1,0 +1,52 @@
+-- What the check of a case promises: what the definition's check says, whichever part of the areas it was made in.
+use Prim.Native.Nat.{ℕ, _/_, _≤_, _<_}
+use mathlib.Core.Path.{_≡_}
+use mathlib.Core.Bool.{Bool, true, false}
+use mathlib.Core.List.{List}
+use lib.ListN.{length, getD}
+use Rattle.model.specs.Answer.{Answer, answer, refused}
+use Rattle.model.specs.Model.{Event, Model}
+use Rattle.model.specs.Validate.{accepted}
+use Rattle.model_index.specs.declared.Index.{Index}
+use Rattle.model_index.specs.Indexed.{Indexed}
+use Rattle.engine.specs.Cells.{initial-cells}
+use Rattle.engine.specs.Records.{Areas}
+use Rattle.engine_places.proofs.Pigeons.{Among}
+use Rattle.engine_places.proofs.Simulated.{EventAt}
+use Rattle.engine_entry.specs.declared.Ground.{Ground}
+use Rattle.engine_entry.specs.Answers.{Grounds}
+use Rattle.engine_entry.proofs.Core.{tb}
+use Rattle.checker.specs.Check.{Check, checked}
+use Rattle.checker_entry.specs.declared.Status.{Status}
+use Rattle.checker_entry.specs.declared.Status.the-variants as status
+use Rattle.checker_entry.specs.declared.CheckResult.{CheckResult}
+use Rattle.checker_entry.specs.Answers.{Shows, no-check}
+use Rattle.checker_entry.proofs.Laws.{Sized}
+use Rattle.checker_entry.proofs.Pool.{check-pool}
+
+abbrev pub refusedV : Status → Bool
+refusedV (status.Refused n) = true
+refusedV status.Unknown = false
+refusedV status.Violation = false
+refusedV status.Incomplete = false
+refusedV status.NoViolationInTrace = false
+
+pub record Part (n most r : ℕ) : Type 0 where
+  pub inside : r ≤ n
+
+abbrev pub sizes : (queue records runs : ℕ) → Areas
+sizes q a u = record { queue = q / 5; records = a / 13; runs = u / 28 }
+
+-- the check's answer x, told by the result r
+module _ (f : List ℕ) (m : Model) (r : CheckResult) (x : Answer Check) where
+  pub data Tells : Type 0 where
+    answers : (c : Check) → x ≡ answer c → Shows f r c → Among (check-pool m) (c .unknown) → Among (check-pool m) (c .incomplete) → Tells
+    refuses : (n : ℕ) → 41 ≤ n → n ≤ 43 → x ≡ refused n → r ≡ no-check n → Tells
+
+-- with areas of q, a and u words
+pub record Cased (f : List ℕ) (i : Index) (g : Ground) (v : List ℕ) (n : ℕ) (r : CheckResult) (q a u : ℕ) : Type 0 where
+  pub sized : Sized r
+  pub does : (m : Model) (acc : accepted f ≡ answer m) (o : Indexed f i m) (bytes : (k : ℕ) → getD f k 0 < 256) (gr : Grounds f i g)
+      (d : Event) (vs : List Event)
+      → ((j : ℕ) → j < length vs → EventAt f (g .table) (o .ts) m (tb f i m acc o bytes g gr) v j (getD vs j d)) → n ≡ length vs
+      → Tells f m r (checked (sizes q a u) m (initial-cells (m .scenario .entities)) vs)
