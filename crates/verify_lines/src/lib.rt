@@ -7,12 +7,16 @@ use search_entry::Verification;
 use search_lines::Printed;
 ghost use Prim.Native.Nat.{_+_, _*_, _≤_};
 ghost use lib.ListN.{length};
+ghost use Rattle.show.specs.Writing.{Written};
+ghost use Rattle.verify_lines.specs.Lines.{first-line, bound, bounds-line};
 
 // No line is longer.
 const LINE: usize = 4096;
 
 // The status, or the refusal.
-fn put_found(out: &mut [u8], n: usize, status: Found) -> usize {
+fn put_found(out: &mut [u8], n: usize, status: Found) -> usize
+    ensures { λ m. ⌜ Written (first-line status) (now (out .entry)) n (now (out .exit)) m ⌝ }
+{
     match status {
         Found::Refused(number) => show::put_refused(out, n, number),
         Found::NoCounterexampleWithinBounds => {
@@ -24,12 +28,16 @@ fn put_found(out: &mut [u8], n: usize, status: Found) -> usize {
 }
 
 // A word and a number within a line.
-fn put_bound(out: &mut [u8], n: usize, word: &[u8], number: u32) -> usize {
+fn put_bound(out: &mut [u8], n: usize, word: &[u8], number: u32) -> usize
+    ensures { λ m. ⌜ Written (bound (now (word .entry)) number) (now (out .entry)) n (now (out .exit)) m ⌝ }
+{
     let a = show::put(out, n, word);
     show::put_number(out, a, number as u64)
 }
 
-fn put_bounds(out: &mut [u8], n: usize, depth: u32, horizon: u32, cases: u32, steps: u32) -> usize {
+fn put_bounds(out: &mut [u8], n: usize, depth: u32, horizon: u32, cases: u32, steps: u32) -> usize
+    ensures { λ m. ⌜ Written (bounds-line depth horizon cases steps) (now (out .entry)) n (now (out .exit)) m ⌝ }
+{
     let a = put_bound(out, n, b"bounds depth ", depth);
     let b = put_bound(out, a, b" horizon ", horizon);
     let c = put_bound(out, b, b" max_cases ", cases);
