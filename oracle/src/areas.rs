@@ -18,15 +18,24 @@ pub fn of(entry: &str) -> Option<std::ops::Range<usize>> {
 /// The lines under areas of the given numbers of entries, in the order queue,
 /// records, runs, or findings, interactions.
 pub fn show_areas(entry: &str, bytes: &[u8], entries: &[usize]) -> String {
+    show_areas_and_file(entry, bytes, entries).0
+}
+
+/// The same with the witness or reduced file, if there is one.
+pub fn show_areas_and_file(
+    entry: &str,
+    bytes: &[u8],
+    entries: &[usize],
+) -> (String, Option<Vec<u8>>) {
     let places = of(entry).expect("this entry point has no areas");
     assert_eq!(entries.len(), places.len(), "as many numbers as the entry point has areas");
     let mut holds = [usize::MAX; 5];
     holds[places].copy_from_slice(entries);
     areas::set(holds);
     match catch_unwind(AssertUnwindSafe(|| show::show(entry, bytes))) {
-        Ok(answer) => answer.lines,
+        Ok(answer) => (answer.lines, answer.file),
         Err(reason) => match reason.downcast::<areas::Full>() {
-            Ok(full) => format!("refused {}\n", full.0),
+            Ok(full) => (format!("refused {}\n", full.0), None),
             Err(reason) => resume_unwind(reason),
         },
     }

@@ -5,7 +5,7 @@ use crate::plain::show::show;
 use crate::random::Random;
 use std::collections::BTreeMap;
 use std::io::{Read, Write};
-use std::path::Path;
+use std::path::{Path, PathBuf};
 use std::process::{Child, Command, Stdio};
 use std::sync::{Arc, Mutex};
 use std::time::{Duration, Instant};
@@ -15,13 +15,10 @@ const LONGEST_RUN: Duration = Duration::from_secs(60);
 const DIFFERENCES_PRINTED: usize = 5;
 const DIFFERENCES_KEPT: usize = 20;
 
+/// A program and what is compared of it.
 pub struct Comparison<'a> {
     pub program: &'a str,
     pub entry: &'a str,
-    pub count: u64,
-    pub seed: u64,
-    /// The folder in which files with differing answers are kept.
-    pub keep: &'a str,
     /// Also compare the witness or reduced file.
     pub file: bool,
     /// Pass random numbers of entries for the areas as arguments.
@@ -30,69 +27,107 @@ pub struct Comparison<'a> {
     pub holds: Option<Vec<usize>>,
 }
 
+/// What came of some comparisons.
+#[derive(Default)]
+pub struct Tally {
+    pub compared: usize,
+    pub differed: usize,
+    /// By the classes of `generate::CLASSES`.
+    pub classes: [usize; generate::CLASSES.len()],
+    pub counts: Counts,
+}
+
 /// The program that runs now, so that it can be ended if it takes too long.
 type Running = Arc<Mutex<Option<(Instant, Child)>>>;
 
-/// Gives true if nothing differed.
-pub fn compare(c: &Comparison) -> bool {
-    std::fs::create_dir_all(c.keep).expect("the folder for differences");
-    let running: Running = Arc::new(Mutex::new(None));
-    watch(running.clone());
-    let written = Path::new(c.keep).join(format!("written.{}", std::process::id()));
-    let mut counts = Counts::default();
-    let mut differed = 0;
-    for index in 0..c.count {
-        let bytes = generate::file(c.entry, c.seed, index);
+/// Runs programs and keeps the models with differing answers.
+pub struct Comparer {
+    running: Running,
+    /// The folder in which they are kept.
+    keep: String,
+    /// The file that a program is to write.
+    written: PathBuf,
+}
+
+impl Comparer {
+    pub fn new(keep: &str) -> Self {
+        std::fs::create_dir_all(keep).expect("the folder for differences");
+        let running: Running = Arc::new(Mutex::new(None));
+        watch(running.clone());
+        let written = Path::new(keep).join(format!("written.{}", std::process::id()));
+        Comparer { running, keep: keep.into(), written }
+    }
+
+    /// Compares the program's answer to one model.
+    pub fn compare(&self, c: &Comparison, seed: u64, index: u64, tally: &mut Tally) {
+        let (bytes, class) = generate::classed_file(c.entry, seed, index);
         let mut arguments = vec![];
-        let mut expected_file = None;
-        let expected = if c.areas {
-            let random = &mut Random::for_file(c.seed ^ 1, c.entry, index);
-            let entries = areas::random_entries(c.entry, &bytes, random);
+        let (expected, expected_file) = if c.areas {
+            let random = &mut Random::for_file(seed ^ 1, c.entry, index);
+            let mut entries = areas::random_entries(c.entry, &bytes, random);
+            for (number, most) in entries.iter_mut().zip(c.holds.iter().flatten()) {
+                *number = (*number).min(*most);
+            }
             arguments.extend(entries.iter().map(|n| n.to_string()));
-            areas::show_areas(c.entry, &bytes, &entries)
+            areas::show_areas_and_file(c.entry, &bytes, &entries)
         } else if let Some(holds) = &c.holds {
-            areas::show_areas(c.entry, &bytes, holds)
+            areas::show_areas_and_file(c.entry, &bytes, holds)
         } else {
             let answer = show(c.entry, &bytes);
-            expected_file = answer.file;
-            answer.lines
+            (answer.lines, answer.file)
         };
         if c.file {
-            arguments.push(written.to_str().expect("a plain path").to_string());
-            let _ = std::fs::remove_file(&written);
+            arguments.push(self.written.to_str().expect("a plain path").to_string());
+            let _ = std::fs::remove_file(&self.written);
         }
-        let printed = run(c.program, &arguments, &bytes, &running);
-        counts.add(&expected);
-        let same_file = !c.file || std::fs::read(&written).ok() == expected_file;
+        let printed = run(c.program, &arguments, &bytes, &self.running);
+        tally.compared += 1;
+        tally.classes[class] += 1;
+        tally.counts.add(&expected);
+        let same_file = !c.file || std::fs::read(&self.written).ok() == expected_file;
         if printed == expected.as_bytes() && same_file {
-            continue;
+            return;
         }
-        differed += 1;
-        if differed <= DIFFERENCES_KEPT {
-            let name = format!("{}/{}-{}-{index}", c.keep, c.entry, c.seed);
-            let put = |ending: &str, content: &[u8]| {
-                std::fs::write(format!("{name}.{ending}"), content).expect("keeping a file");
-            };
-            put("bin", &bytes);
-            put("expected", expected.as_bytes());
-            put("printed", &printed);
-            if let (true, Some(file)) = (c.file, &expected_file) {
-                put("expected-file", file);
-                put("written-file", &std::fs::read(&written).unwrap_or_default());
-            }
-            if differed <= DIFFERENCES_PRINTED {
-                println!("differs: {name}.bin {}", arguments.join(" "));
-                print_first_difference(&expected, &String::from_utf8_lossy(&printed));
-                if !same_file {
-                    println!("  the written file differs");
-                }
+        tally.differed += 1;
+        if tally.differed > DIFFERENCES_KEPT {
+            return;
+        }
+        let name = format!("{}/{}-{seed}-{index}", self.keep, c.entry);
+        let put = |ending: &str, content: &[u8]| {
+            std::fs::write(format!("{name}.{ending}"), content).expect("keeping a file");
+        };
+        put("bin", &bytes);
+        put("arguments", arguments.join(" ").as_bytes());
+        put("expected", expected.as_bytes());
+        put("printed", &printed);
+        if let (true, Some(file)) = (c.file, &expected_file) {
+            put("expected-file", file);
+            put("written-file", &std::fs::read(&self.written).unwrap_or_default());
+        }
+        if tally.differed <= DIFFERENCES_PRINTED {
+            println!("differs: {name}.bin {}", arguments.join(" "));
+            print_first_difference(&expected, &String::from_utf8_lossy(&printed));
+            if !same_file {
+                println!("  the written file differs");
             }
         }
     }
-    let _ = std::fs::remove_file(&written);
-    print!("{}", counts.lines());
-    println!("{} seed {}: {} compared, {differed} differed", c.entry, c.seed, c.count);
-    differed == 0
+}
+
+impl Drop for Comparer {
+    fn drop(&mut self) {
+        let _ = std::fs::remove_file(&self.written);
+    }
+}
+
+/// The first models of a seed.
+pub fn compare(c: &Comparison, count: u64, seed: u64, keep: &str) -> Tally {
+    let comparer = Comparer::new(keep);
+    let mut tally = Tally::default();
+    for index in 0..count {
+        comparer.compare(c, seed, index, &mut tally);
+    }
+    tally
 }
 
 /// How many answers begin with which line.
@@ -108,6 +143,11 @@ impl Counts {
     /// One line for each class; refusals in the order of their numbers.
     pub fn lines(&self) -> String {
         self.0.iter().map(|((_, class), count)| format!("{count:8} {class}\n")).collect()
+    }
+    /// The same in one line.
+    pub fn line(&self) -> String {
+        let parts: Vec<_> = self.0.iter().map(|((_, class), n)| format!("{n} {class}")).collect();
+        parts.join(", ")
     }
 }
 

@@ -8,8 +8,16 @@ use crate::plain::format::{LONGEST_FILE, Model, encode};
 use crate::plain::reference::*;
 use crate::random::Random;
 
+/// The classes of files.
+pub const CLASSES: [&str; 5] = ["valid", "at limits", "invalid", "damaged", "large"];
+
 /// File number `index` of a seed, for an entry point.
 pub fn file(entry: &str, seed: u64, index: u64) -> Vec<u8> {
+    classed_file(entry, seed, index).0
+}
+
+/// The same with the place of its class in `CLASSES`.
+pub fn classed_file(entry: &str, seed: u64, index: u64) -> (Vec<u8>, usize) {
     let random = &mut Random::for_file(seed, entry, index);
     // Out of 1000 files: invalid, damaged, near a limit, many records.
     let (invalid, damages, limits, storms) = match entry {
@@ -22,17 +30,17 @@ pub fn file(entry: &str, seed: u64, index: u64) -> Vec<u8> {
     };
     let class = random.below(1000);
     if class < invalid {
-        invalid_file(entry, random)
+        (invalid_file(entry, random), 2)
     } else if class < invalid + damages {
-        damaged_file(entry, random)
+        (damaged_file(entry, random), 3)
     } else if class < invalid + damages + limits {
-        limit_file(entry, random)
+        (limit_file(entry, random), 1)
     } else if class < invalid + damages + limits + storms {
         let mut found = large_simulation(entry, random);
         if random.percent(40) {
             meet_steps(&mut found, random);
         }
-        encode(&found)
+        (encode(&found), 4)
     } else {
         let mut found = valid(entry, random);
         match entry {
@@ -43,7 +51,7 @@ pub fn file(entry: &str, seed: u64, index: u64) -> Vec<u8> {
             "verify" if random.percent(10) => meet_cases(&mut found, random),
             _ => {}
         }
-        encode(&found)
+        (encode(&found), 0)
     }
 }
 

@@ -1,6 +1,7 @@
 //! The oracle: the unchanged reference behind our model files. See README.md.
 mod areas;
 mod compare;
+mod compare_all;
 mod damage;
 mod describe;
 mod edit;
@@ -49,6 +50,8 @@ const USAGE: &str = "usage:
   oracle full-file [LENGTH]                a valid model file of LENGTH bytes (32768)
   oracle sample ENTRY DIR                  writes DIR/ENTRY.batch and DIR/ENTRY.expected
   oracle compare [--keep DIR] PROGRAM ENTRY N [SEED] [--file] [--areas | --holds N,..]
+  oracle compare-all [--keep DIR] --programs DIR MINUTES [SEED]
+                                           compares all programs for so many minutes
   oracle histogram ENTRY SEED COUNT        counts the first lines of the answers
   oracle pairs SEED COUNT [CLAUSE [DIR]]   tries the claim about what lies outside a cone on COUNT pairs of models,
                                            with a clause of the cone left out; DIR gets the first pair that differs
@@ -104,6 +107,7 @@ fn main() {
             put(format!("{entry}: {} models\n", models.len()));
         }
         ["compare", ref rest @ ..] => compare_command(rest),
+        ["compare-all", ref rest @ ..] => compare_all_command(rest),
         ["histogram", entry, seed, count] => {
             let count = number(count);
             put(selftest::histogram(known(entry), number(seed), count));
@@ -146,8 +150,38 @@ fn compare_command(words: &[&str]) {
         _ => usage(),
     };
     let (entry, count) = (known(entry), number(count));
-    let comparison = compare::Comparison { program, entry, count, seed, keep, file, areas, holds };
-    if !compare::compare(&comparison) {
+    let comparison = compare::Comparison { program, entry, file, areas, holds };
+    let tally = compare::compare(&comparison, count, seed, keep);
+    put(tally.counts.lines());
+    let compare::Tally { compared, differed, .. } = tally;
+    put(format!("{entry} seed {seed}: {compared} compared, {differed} differed\n"));
+    if differed != 0 {
+        std::process::exit(1);
+    }
+}
+
+fn compare_all_command(words: &[&str]) {
+    let (mut keep, mut programs) = ("differences", None);
+    let mut plain = vec![];
+    let mut words = words.iter();
+    while let Some(word) = words.next() {
+        match *word {
+            "--keep" => keep = words.next().unwrap_or_else(|| usage()),
+            "--programs" => programs = words.next().copied(),
+            word => plain.push(word),
+        }
+    }
+    let (minutes, seed) = match plain[..] {
+        [minutes] => (minutes, compare_all::fresh_seed()),
+        [minutes, seed] => (minutes, number(seed)),
+        _ => usage(),
+    };
+    let minutes: f64 = minutes.parse().unwrap_or_else(|_| usage());
+    if !(0.0..1e6).contains(&minutes) {
+        usage();
+    }
+    let programs = programs.unwrap_or_else(|| usage());
+    if !compare_all::compare_all(programs, minutes * 60.0, seed, keep) {
         std::process::exit(1);
     }
 }
