@@ -18,7 +18,8 @@ use Rattle.model_index.specs.declared.Index.{Index}
 use Rattle.model_index.specs.Indexed.{Indexed}
 use Rattle.engine.specs.Cells.{initial-cells}
 use Rattle.engine.proofs.Lists.{Each}
-use Rattle.engine_reads.specs.Reads.{two, four, cap}
+use Rattle.engine_reads.specs.Reads.{two, four, cap, atMost}
+use Rattle.engine_reads.proofs.Laws.{most-yes}
 use Rattle.engine_state.specs.declared.Cells.{Cells}
 use Rattle.engine_places.specs.Meaning.{cells-of, Tabled}
 use Rattle.engine_places.proofs.Accepted.{accepted-lawful}
@@ -29,7 +30,7 @@ use Rattle.engine_places.proofs.Outcome.{InputWords, event-at, start-cells}
 use Rattle.engine_places.proofs.Simulated.{EventAt}
 use Rattle.engine_places.proofs.Truth.{Valued}
 use Rattle.engine_table.proofs.Tabled.{times-wide}
-use Rattle.engine_begin.specs.Begin.{event-part, event-word, EventsOf, initial-at, value-word, CellsOf}
+use Rattle.engine_begin.specs.Begin.{event-part, event-from, EventsOf, initial-at, value-from, CellsOf}
 
 -- ---- parts of the file
 
@@ -90,7 +91,7 @@ module _ (f x : List ℕ) (i : Index) (m : Model) (acc : accepted f ≡ answer m
   module _ (c : Cells) (s : CellsOf f i c) where
     value-at : (d : Entity) (e : ℕ) → e < length es →
         (getD (c .values) e 0 < length ts) × (getD es e d .initial ≡ getD ts (getD (c .values) e 0) [])
-    unfolding value-word
+    unfolding value-from
     value-at d e h =
         let p = getD (i .entities .starts) e 0 in
         let r = o .entities .stand d e (omega (arith, tb .few-entities)) h in
@@ -183,12 +184,16 @@ module _ (f x : List ℕ) (i : Index) (m : Model) (acc : accepted f ≡ answer m
     unfolding p few
     read = let r = o .events .stand d k (omega (arith, h, few)) h in event-read p v (r .0) (r .1)
 
+    many : atMost (i .events .count) 100 ≡ length events
+    unfolding few
+    many = sym (most-yes (i .events .count) 100 (omega (arith, few, o .events .counts))) ∙ o .events .counts
+
     word-at : (j : ℕ) → j < 4 → getD l (k * 4 + j) 0 ≡ event-part f p j
-    unfolding event-word p few
+    unfolding event-from p few
     word-at j g =
         let a : (k * 4 + j) / 4 ≡ k = omega arith in
         let b : (k * 4 + j) % 4 ≡ j = omega arith in
-        s .words (k * 4 + j) (omega (arith, h, few))
+        s .words (k * 4 + j) (omega (arith, h, many))
         ∙ rw (a, b, near p (read .inside))
 
     -- the event's second and its input, as words

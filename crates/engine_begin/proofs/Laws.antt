@@ -7,9 +7,8 @@ use native.Mathlib.Decide.{decLt}
 use lib.ListN.{length, getD, set}
 use lib.Seq.{getD-set-same, getD-set-other}
 use borrow.Author.Tests.{lt-ltb, le-ltb, ne-eqb}
-use Rattle.model_index.specs.declared.Index.{Index}
 use Rattle.engine_reads.specs.Reads.{two, four, cap}
-use Rattle.engine_begin.specs.Begin.{event-part, event-word, initial-at, value-word}
+use Rattle.engine_begin.specs.Begin.{event-part, event-from, initial-at, value-from}
 
 module _ (s : List ℕ) (p j : ℕ) where
   pub part-0 : j ≡ 0 → event-part s p j ≡ four s p
@@ -28,22 +27,22 @@ module _ (s : List ℕ) (p j : ℕ) where
   unfolding event-part
   part-else a b c = rw (ne-eqb _ _ a, ne-eqb _ _ b, ne-eqb _ _ c)
 
-pub word-is : (s : List ℕ) (i : Index) (k : ℕ) {p r : ℕ} → p ≡ cap (getD (i .events .starts) (k / 4) 0) → r ≡ event-part s p (k % 4) → r ≡ event-word s i k
-unfolding event-word
-word-is s i k e f = f ∙ ap (λ (p : ℕ). event-part s p (k % 4)) e
+pub word-is : (s l : List ℕ) (k : ℕ) {p r : ℕ} → p ≡ cap (getD l (k / 4) 0) → r ≡ event-part s p (k % 4) → r ≡ event-from s l k
+unfolding event-from
+word-is s l k e f = f ∙ ap (λ (p : ℕ). event-part s p (k % 4)) e
 
 pub initial-is : (s : List ℕ) (p : ℕ) {many r : ℕ} → many ≡ two s (p + 2) → r ≡ two s (p + 4 + 2 * many) → r ≡ initial-at s p
 unfolding initial-at
 initial-is s p e f = f ∙ ap (λ (n : ℕ). two s (p + 4 + 2 * n)) e
 
-module _ (s : List ℕ) (i : Index) (e : ℕ) where
-  pub value-in : {p r : ℕ} → e < i .entities .count → p ≡ cap (getD (i .entities .starts) e 0) → r ≡ initial-at s p → r ≡ value-word s i e
-  unfolding value-word
-  value-in h a b = b ∙ ap (initial-at s) a ∙ sym (rw (lt-ltb e (i .entities .count) h))
+module _ (s l : List ℕ) (n e : ℕ) where
+  pub value-in : {p r : ℕ} → e < n → p ≡ cap (getD l e 0) → r ≡ initial-at s p → r ≡ value-from s l n e
+  unfolding value-from
+  value-in h a b = b ∙ ap (initial-at s) a ∙ sym (rw (lt-ltb e n h))
 
-  pub value-out : i .entities .count ≤ e → 0 ≡ value-word s i e
-  unfolding value-word
-  value-out h = rw (le-ltb e (i .entities .count) h)
+  pub value-out : n ≤ e → 0 ≡ value-from s l n e
+  unfolding value-from
+  value-out h = rw (le-ltb e n h)
 
 -- the words so far, and one more, as a function of the index says
 pub one-more : (f : ℕ → ℕ) (x : List ℕ) (k v : ℕ) → ((j : ℕ) → j < k → getD x j 0 ≡ f j) → k < length x → v ≡ f k → (j : ℕ) → j < k + 1 → getD (set x k v) j 0 ≡ f j

@@ -5,7 +5,7 @@ use mathlib.Core.List.{List}
 use lib.Dec.{ltb, eqb}
 use lib.ListN.{length, getD, replicate}
 use Rattle.texts.specs.Lists.{if_then_else_}
-use Rattle.engine_reads.specs.Reads.{two, four, cap}
+use Rattle.engine_reads.specs.Reads.{two, four, cap, atMost}
 use Rattle.model_index.specs.declared.Index.{Index}
 use Rattle.engine_state.specs.declared.Cells.{Cells}
 
@@ -17,22 +17,23 @@ event-part s p j =
     if eqb j 1 then getD s (p + 4) 0 else
     if eqb j 2 then two s (p + 5) else two s (p + 7)
 
-unfoldable pub event-word : List ℕ → Index → (k : ℕ) → ℕ
-event-word s i k = event-part s (cap (getD (i .events .starts) (k / 4) 0)) (k % 4)
+-- the k-th word of the events at these positions
+unfoldable pub event-from : List ℕ → (starts : List ℕ) → (k : ℕ) → ℕ
+event-from s l k = event-part s (cap (getD l (k / 4) 0)) (k % 4)
 
 pub record EventsOf (s : List ℕ) (i : Index) (l : List ℕ) : Type 0 where
   pub long : length l ≡ 400
-  pub words : (k : ℕ) → k < 400 → getD l k 0 ≡ event-word s i k
+  pub words : (k : ℕ) → k < atMost (i .events .count) 100 * 4 → getD l k 0 ≡ event-from s (i .events .starts) k
 
 -- ---- the initial value of the entity at p stands behind its domain
 
 unfoldable pub initial-at : List ℕ → (p : ℕ) → ℕ
 initial-at s p = two s (p + 4 + 2 * two s (p + 2))
 
-unfoldable pub value-word : List ℕ → Index → (e : ℕ) → ℕ
-value-word s i e = if ltb e (i .entities .count) then initial-at s (cap (getD (i .entities .starts) e 0)) else 0
+unfoldable pub value-from : List ℕ → (starts : List ℕ) → (count e : ℕ) → ℕ
+value-from s l n e = if ltb e n then initial-at s (cap (getD l e 0)) else 0
 
 pub record CellsOf (s : List ℕ) (i : Index) (c : Cells) : Type 0 where
-  pub values : (e : ℕ) → e < 32 → getD (c .values) e 0 ≡ value-word s i e
+  pub values : (e : ℕ) → e < 32 → getD (c .values) e 0 ≡ value-from s (i .entities .starts) (i .entities .count) e
   pub values-long : length (c .values) ≡ 32
   pub versions : c .versions ≡ replicate 32 0

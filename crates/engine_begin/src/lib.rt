@@ -3,7 +3,7 @@ use engine_state::Cells;
 use model_index::Index;
 ghost use mathlib.Core.Path.{_≡_};
 ghost use Prim.Native.Nat.{_≤_, _<_};
-ghost use Rattle.engine_begin.specs.Begin.{event-part, event-word, EventsOf, initial-at, value-word, CellsOf};
+ghost use Rattle.engine_begin.specs.Begin.{event-part, event-from, EventsOf, initial-at, value-from, CellsOf};
 
 // Events of four words: a second, a kind, an entity and a value.
 pub struct Events {
@@ -27,22 +27,26 @@ fn event_part(s: &[u8], p: usize, j: usize) -> u32
     engine_reads::two_at(s, p + 7)
 }
 
-fn event_word(s: &[u8], index: Index, k: usize) -> u32
+// The k-th word of the events that stand at these positions.
+fn event_word(s: &[u8], starts: &[usize; 100], k: usize) -> u32
     requires { ⌜ k < 400 ⌝ }
-    ensures { λ r. ⌜ r ≡ event-word (now (s .entry)) index k ⌝ }
+    ensures { λ r. ⌜ r ≡ event-from (now (s .entry)) (now (starts .entry)) k ⌝ }
 {
-    let events = index.events;
-    let p = engine_reads::capped(events.starts[k / 4]) as usize;
+    let p = engine_reads::capped(starts[k / 4]) as usize;
     event_part(s, p, k % 4)
 }
 
+// The words of the index's events, then zeros.
 pub fn events_of(s: &[u8], index: Index) -> Events
     ensures { λ r. ⌜ EventsOf (now (s .entry)) index (r .words) ⌝ }
 {
+    let events = index.events;
+    let starts = events.starts;
+    let n = engine_reads::at_most(events.count, 100);
     let mut words = [0u32; 400];
     let mut k: usize = 0;
-    while k < 400 {
-        words[k] = event_word(s, index, k);
+    while k < n * 4 {
+        words[k] = event_word(s, &starts, k);
         k += 1;
     }
     Events { words }
@@ -57,14 +61,13 @@ fn initial_at(s: &[u8], p: usize) -> u32
     engine_reads::two_at(s, p + 4 + 2 * many)
 }
 
-fn value_word(s: &[u8], index: Index, e: usize) -> u32
+// The e-th of so many entities that stand at these positions.
+fn value_word(s: &[u8], starts: &[usize; 100], count: u32, e: usize) -> u32
     requires { ⌜ e < 32 ⌝ }
-    ensures { λ r. ⌜ r ≡ value-word (now (s .entry)) index e ⌝ }
+    ensures { λ r. ⌜ r ≡ value-from (now (s .entry)) (now (starts .entry)) count e ⌝ }
 {
-    let entities = index.entities;
-    let count = entities.count as usize;
-    if e < count {
-        let p = engine_reads::capped(entities.starts[e]) as usize;
+    if e < count as usize {
+        let p = engine_reads::capped(starts[e]) as usize;
         return initial_at(s, p);
     }
     0
@@ -73,10 +76,13 @@ fn value_word(s: &[u8], index: Index, e: usize) -> u32
 pub fn cells_of(s: &[u8], index: Index) -> Cells
     ensures { λ r. ⌜ CellsOf (now (s .entry)) index r ⌝ }
 {
+    let entities = index.entities;
+    let starts = entities.starts;
+    let count = entities.count;
     let mut values = [0u32; 32];
     let mut e: usize = 0;
     while e < 32 {
-        values[e] = value_word(s, index, e);
+        values[e] = value_word(s, &starts, count, e);
         e += 1;
     }
     Cells {

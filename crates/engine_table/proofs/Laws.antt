@@ -5,8 +5,10 @@ use Prim.Native.Nat.{ℕ, _+_, _-_, _*_, _/_, _%_, _≤_, _<_}
 use native.Mathlib.Omega.{arith}
 use native.Mathlib.Decide.{decLt}
 use lib.ListN.{length, getD, set}
+use lib.Dec.{ltb}
 use lib.Seq.{getD-set-same, getD-set-other}
 use borrow.Author.Tests.{lt-ltb, le-ltb, ne-eqb}
+use Rattle.texts.specs.Lists.{if_then_else_}
 use Rattle.texts.specs.Texts.{text}
 use Rattle.model_walk.specs.declared.Walked.{Walked}
 use Rattle.model_walk.specs.declared.Walked.the-variants as walked
@@ -15,7 +17,7 @@ use Rattle.model_walk.specs.Walk.{piecesW, actionsW}
 use Rattle.model_order.specs.Order.{place-from}
 use Rattle.model_index.specs.declared.Index.{Index}
 use Rattle.engine_reads.specs.Reads.{two, four, cap}
-use Rattle.engine_table.specs.Table.{end-of, stale-at, conditions-at, actions-at, source-at, rule-word, count-word, fixed-word, head-word, name-word, stale-word, table-word}
+use Rattle.engine_table.specs.Table.{end-of, stale-at, conditions-at, actions-at, source-at, rule-word, count-word, fixed-word, head-word, part-word, table-word, Headed}
 
 pub end-to : {w : Walked} (at : ℕ) {p n : ℕ} → w ≡ walked.To p n → p ≡ end-of w at
 unfolding end-of
@@ -145,29 +147,49 @@ module _ (s : List ℕ) (i : Index) (k : ℕ) where
   unfolding table-word
   table-head h = rw (lt-ltb k 16 h)
 
-  pub table-name : 16 ≤ k → k < 48 → {p : ℕ} → p ≡ cap (getD (i .entities .starts) (k - 16) 0) → table-word s i k ≡ two s p
-  unfolding table-word name-word
-  table-name a h e = rw (le-ltb k 16 a, lt-ltb k 48 h) (ap (two s) (sym e))
-
-  pub table-stale : 16 ≤ k → 48 ≤ k → k < 80 → {p : ℕ} → p ≡ cap (getD (i .entities .starts) (k - 48) 0) → table-word s i k ≡ stale-at s p
-  unfolding table-word stale-word
-  table-stale a b h e = rw (le-ltb k 16 a, le-ltb k 48 b, lt-ltb k 80 h) (ap (stale-at s) (sym e))
-
-  pub table-rule : 16 ≤ k → 48 ≤ k → 80 ≤ k → k < 336 → {p : ℕ} → p ≡ cap (getD (i .rules .starts) ((k - 80) / 8) 0) → table-word s i k ≡ rule-word (i .texts .count) s p ((k - 80) % 8)
+  pub table-part : 16 ≤ k → table-word s i k ≡ part-word (i .texts .count) s (i .entities .starts) (i .rules .starts) k
   unfolding table-word
-  table-rule a b c h e = rw (le-ltb k 16 a, le-ltb k 48 b, le-ltb k 80 c, lt-ltb k 336 h) (ap (λ (q : ℕ). rule-word (i .texts .count) s q ((k - 80) % 8)) (sym e))
+  table-part h = rw (le-ltb k 16 h)
 
-  pub table-rest : 16 ≤ k → 48 ≤ k → 80 ≤ k → 336 ≤ k → table-word s i k ≡ 0
-  unfolding table-word
-  table-rest a b c h = rw (le-ltb k 16 a, le-ltb k 48 b, le-ltb k 80 c, le-ltb k 336 h)
+module _ (ts : ℕ) (s names rules : List ℕ) (k : ℕ) where
+  pub part-name : k < 48 → {p : ℕ} → p ≡ cap (getD names (k - 16) 0) → part-word ts s names rules k ≡ two s p
+  unfolding part-word
+  part-name h e = rw (lt-ltb k 48 h) (ap (two s) (sym e))
 
--- the words so far, and one more
-module _ (s : List ℕ) (i : Index) (x : List ℕ) (k v : ℕ) where
-  pub one-more : ((j : ℕ) → j < k → getD x j 0 ≡ table-word s i j) → k < length x → v ≡ table-word s i k → (j : ℕ) → j < k + 1 → getD (set x k v) j 0 ≡ table-word s i j
-  one-more f h e j g = elim (decLt j k) [
-    | yes o ↦ getD-set-other x k j v 0 (λ q. absurd (omega arith)) ∙ f j o
-    | no o ↦ let z : j ≡ k = omega arith in ap (λ (y : ℕ). getD (set x k v) y 0) z ∙ getD-set-same x k v 0 h ∙ e ∙ ap (table-word s i) (sym z)
-  ]
+  pub part-stale : 48 ≤ k → k < 80 → {p : ℕ} → p ≡ cap (getD names (k - 48) 0) → part-word ts s names rules k ≡ stale-at s p
+  unfolding part-word
+  part-stale b h e = rw (le-ltb k 48 b, lt-ltb k 80 h) (ap (stale-at s) (sym e))
+
+  pub part-rule : 48 ≤ k → 80 ≤ k → {p : ℕ} → p ≡ cap (getD rules ((k - 80) / 8) 0) → part-word ts s names rules k ≡ rule-word ts s p ((k - 80) % 8)
+  unfolding part-word
+  part-rule b c e = rw (le-ltb k 48 b, le-ltb k 80 c) (ap (λ (q : ℕ). rule-word ts s q ((k - 80) % 8)) (sym e))
+
+-- ---- a table whose first words are those of x
+
+unfoldable pub so-far : (ts : ℕ) → (s names rules x : List ℕ) → (j : ℕ) → ℕ
+so-far ts s names rules x j = if ltb j 16 then getD x j 0 else part-word ts s names rules j
+
+module _ (ts : ℕ) (s names rules x : List ℕ) (j : ℕ) where
+  pub so-low : j < 16 → getD x j 0 ≡ so-far ts s names rules x j
+  unfolding so-far
+  so-low h = sym (rw (lt-ltb j 16 h))
+
+  pub so-high : 16 ≤ j → part-word ts s names rules j ≡ so-far ts s names rules x j
+  unfolding so-far
+  so-high h = sym (rw (le-ltb j 16 h))
+
+pub so-table : (s : List ℕ) (i : Index) (x : List ℕ) → Headed s i x → (k : ℕ) → so-far (i .texts .count) s (i .entities .starts) (i .rules .starts) x k ≡ table-word s i k
+so-table s i x h k = elim (decLt k 16) [
+  | yes g ↦ sym (so-low (i .texts .count) s (i .entities .starts) (i .rules .starts) x k g) ∙ h .words k g ∙ sym (table-head s i k g)
+  | no g ↦ sym (so-high (i .texts .count) s (i .entities .starts) (i .rules .starts) x k (omega arith)) ∙ sym (table-part s i k (omega arith))
+]
+
+-- the words so far, and one more, as a function of the index says
+pub one-more : (f : ℕ → ℕ) (x : List ℕ) (k v : ℕ) → ((j : ℕ) → j < k → getD x j 0 ≡ f j) → k < length x → v ≡ f k → (j : ℕ) → j < k + 1 → getD (set x k v) j 0 ≡ f j
+one-more f x k v g h e j o = elim (decLt j k) [
+  | yes l ↦ getD-set-other x k j v 0 (λ q. absurd (omega arith)) ∙ g j l
+  | no l ↦ let z : j ≡ k = omega arith in ap (λ (y : ℕ). getD (set x k v) y 0) z ∙ getD-set-same x k v 0 h ∙ e ∙ ap f (sym z)
+]
 
 pub limit-is : (s : List ℕ) (at k : ℕ) {p r : ℕ} → p ≡ cap at → r ≡ four s (p + k) → r ≡ four s (cap at + k)
 limit-is s at k e f = f ∙ ap (λ (p : ℕ). four s (p + k)) e

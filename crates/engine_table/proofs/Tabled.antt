@@ -28,7 +28,8 @@ use Rattle.model_order.specs.Order.{place-from, Fixed}
 use Rattle.model_order.proofs.Places.{fixed-at, fixed-texts}
 use Rattle.model_index.specs.declared.Index.{Index}
 use Rattle.model_index.specs.Indexed.{Indexed}
-use Rattle.engine_reads.specs.Reads.{two, four, cap, name, stale, word}
+use Rattle.engine_reads.specs.Reads.{two, four, cap, atMost, name, stale, word}
+use Rattle.engine_reads.proofs.Laws.{most-yes}
 use Rattle.engine_places.specs.Meaning.{stale-of, mode-number, Tabled}
 use Rattle.engine_places.proofs.Accepted.{accepted-lawful, accepted-small}
 use Rattle.engine_places.proofs.Tables.{NameWord, RuleWords, Words, tabled}
@@ -248,6 +249,9 @@ module _ (s : List ℕ) (i : Index) (x : List ℕ) (m : Model) (t : TableOf s i 
   texts-count : i .texts .count ≡ length ts
   texts-count = o .each-text .counts
 
+  rules-count : atMost (i .rules .count) 32 ≡ length (m .rules)
+  rules-count = sym (most-yes (i .rules .count) 32 (omega (arith, few .1, o .rules .counts))) ∙ o .rules .counts
+
   head-is : (k : ℕ) → k < 16 → getD x k 0 ≡ head-word s i k
   head-is k h = t .words k (omega arith) ∙ laws.table-head s i k h
 
@@ -289,7 +293,8 @@ module _ (s : List ℕ) (i : Index) (x : List ℕ) (m : Model) (t : TableOf s i 
     name-at =
         let z : 16 + e - 16 ≡ e = omega arith in
         t .words (16 + e) (omega (arith, few .0))
-        ∙ laws.table-name s i (16 + e) (omega arith) (omega (arith, few .0)) {p = cap p} (ap (λ (k : ℕ). cap (getD (i .entities .starts) k 0)) (sym z))
+        ∙ laws.table-part s i (16 + e) (omega arith)
+        ∙ laws.part-name (i .texts .count) s (i .entities .starts) (i .rules .starts) (16 + e) (omega (arith, few .0)) {p = cap p} (ap (λ (k : ℕ). cap (getD (i .entities .starts) k 0)) (sym z))
         ∙ place-word s size ts p (parts .name)
 
     stale-at-e : stale x e ≡ stale-at s p
@@ -297,7 +302,8 @@ module _ (s : List ℕ) (i : Index) (x : List ℕ) (m : Model) (t : TableOf s i 
     stale-at-e =
         let z : 48 + e - 48 ≡ e = omega arith in
         t .words (48 + e) (omega (arith, few .0))
-        ∙ laws.table-stale s i (48 + e) (omega arith) (omega arith) (omega (arith, few .0)) {p = cap p} (ap (λ (k : ℕ). cap (getD (i .entities .starts) k 0)) (sym z))
+        ∙ laws.table-part s i (48 + e) (omega arith)
+        ∙ laws.part-stale (i .texts .count) s (i .entities .starts) (i .rules .starts) (48 + e) (omega arith) (omega (arith, few .0)) {p = cap p} (ap (λ (k : ℕ). cap (getD (i .entities .starts) k 0)) (sym z))
         ∙ ap (stale-at s) (cap-is p (omega (arith, near-p)))
 
     stale-here : (getD es e d) .stale-after ≡ stale-of (stale x e)
@@ -337,8 +343,9 @@ module _ (s : List ℕ) (i : Index) (x : List ℕ) (m : Model) (t : TableOf s i 
     word-here n g =
         let a : (80 + k * 8 + n - 80) / 8 ≡ k = omega arith in
         let b : (80 + k * 8 + n - 80) % 8 ≡ n = omega arith in
-        t .words (80 + k * 8 + n) (omega (arith, few .1))
-        ∙ laws.table-rule s i (80 + k * 8 + n) (omega arith) (omega arith) (omega arith) (omega (arith, few .1)) {p = at} (sym (ap (λ (j : ℕ). cap (getD (i .rules .starts) j 0)) a ∙ cap-is at (omega (arith, near-at))))
+        t .words (80 + k * 8 + n) (omega (arith, h, g, rules-count))
+        ∙ laws.table-part s i (80 + k * 8 + n) (omega arith)
+        ∙ laws.part-rule (i .texts .count) s (i .entities .starts) (i .rules .starts) (80 + k * 8 + n) (omega arith) (omega arith) {p = at} (sym (ap (λ (j : ℕ). cap (getD (i .rules .starts) j 0)) a ∙ cap-is at (omega (arith, near-at))))
         ∙ ap (λ (c : ℕ). rule-word c s at ((80 + k * 8 + n - 80) % 8)) texts-count
         ∙ ap (rule-word (length ts) s at) b
 

@@ -3,7 +3,7 @@ use Prim.Native.Nat.{ℕ, _+_, _-_, _*_, _/_, _%_, _<_}
 use mathlib.Core.Path.{_≡_}
 use mathlib.Core.List.{List}
 use lib.Dec.{ltb, eqb}
-use lib.ListN.{getD}
+use lib.ListN.{length, getD}
 use Rattle.texts.specs.Lists.{if_then_else_}
 use Rattle.texts.specs.Texts.{text}
 use Rattle.model_walk.specs.declared.Walked.{Walked}
@@ -12,7 +12,7 @@ use Rattle.model_walk.specs.declared.Piece.the-variants as piece
 use Rattle.model_walk.specs.Walk.{piecesW, actionsW}
 use Rattle.model_order.specs.Order.{place-from}
 use Rattle.model_index.specs.declared.Index.{Index}
-use Rattle.engine_reads.specs.Reads.{two, four, cap}
+use Rattle.engine_reads.specs.Reads.{two, four, cap, atMost}
 
 -- where a walk ended; a file that was read has all its parts
 unfoldable pub end-of : Walked → (at : ℕ) → ℕ
@@ -73,19 +73,21 @@ head-word s i k =
     if eqb k 3 then four s (cap (i .limits) + 4) else
     if ltb k 8 then fixed-word s i k else count-word i k
 
-unfoldable pub name-word : List ℕ → Index → (e : ℕ) → ℕ
-name-word s i e = two s (cap (getD (i .entities .starts) e 0))
-
-unfoldable pub stale-word : List ℕ → Index → (e : ℕ) → ℕ
-stale-word s i e = stale-at s (cap (getD (i .entities .starts) e 0))
+-- entities' names, then when their values are stale, then eight words for each automation
+unfoldable pub part-word : (texts : ℕ) → List ℕ → (names rules : List ℕ) → (k : ℕ) → ℕ
+part-word ts s names rules k =
+    if ltb k 48 then two s (cap (getD names (k - 16) 0)) else
+    if ltb k 80 then stale-at s (cap (getD names (k - 48) 0)) else
+    rule-word ts s (cap (getD rules ((k - 80) / 8) 0)) ((k - 80) % 8)
 
 unfoldable pub table-word : List ℕ → Index → (k : ℕ) → ℕ
 table-word s i k =
-    if ltb k 16 then head-word s i k else
-    if ltb k 48 then name-word s i (k - 16) else
-    if ltb k 80 then stale-word s i (k - 48) else
-    if ltb k 336 then rule-word (i .texts .count) s (cap (getD (i .rules .starts) ((k - 80) / 8) 0)) ((k - 80) % 8) else 0
+    if ltb k 16 then head-word s i k else part-word (i .texts .count) s (i .entities .starts) (i .rules .starts) k
 
--- the table of the index
+pub record Headed (s : List ℕ) (i : Index) (x : List ℕ) : Type 0 where
+  pub long : length x ≡ 436
+  pub words : (k : ℕ) → k < 16 → getD x k 0 ≡ head-word s i k
+
+-- the table of the index, up to the last automation
 pub record TableOf (s : List ℕ) (i : Index) (x : List ℕ) : Type 0 where
-  pub words : (k : ℕ) → k < 436 → getD x k 0 ≡ table-word s i k
+  pub words : (k : ℕ) → k < 80 + atMost (i .rules .count) 32 * 8 → getD x k 0 ≡ table-word s i k

@@ -6,7 +6,7 @@ ghost use mathlib.Core.Path.{_≡_};
 ghost use Prim.Native.Nat.{_+_, _*_, _≤_, _<_};
 ghost use lib.ListN.{length, getD};
 ghost use Rattle.engine_reads.specs.Reads.{four, cap};
-ghost use Rattle.engine_table.specs.Table.{end-of, stale-at, conditions-at, actions-at, source-at, rule-word, count-word, fixed-word, head-word, name-word, stale-word, table-word, TableOf};
+ghost use Rattle.engine_table.specs.Table.{end-of, stale-at, conditions-at, actions-at, source-at, rule-word, count-word, fixed-word, head-word, part-word, Headed, TableOf};
 
 pub struct Table {
     pub words: [u32; 436],
@@ -166,39 +166,52 @@ fn fixed_word(s: &[u8], index: Index, k: usize) -> u32
     model_order::place_of(s, b"unavailable", count)
 }
 
-fn table_word(s: &[u8], index: Index, k: usize) -> u32
-    ensures { λ r. ⌜ r ≡ table-word (now (s .entry)) index k ⌝ }
+// The words of entities and automations that stand at these positions.
+fn part_word(s: &[u8], texts: u32, names: &[usize; 100], rules: &[usize; 100], k: usize) -> u32
+    requires { ⌜ (16 ≤ k) × (k < 336) ⌝ }
+    ensures { λ r. ⌜ r ≡ part-word texts (now (s .entry)) (now (names .entry)) (now (rules .entry)) k ⌝ }
 {
-    if k < 16 {
-        return head_word(s, index, k);
-    }
     if k < 48 {
-        let entities = index.entities;
-        let p = engine_reads::capped(entities.starts[k - 16]) as usize;
+        let p = engine_reads::capped(names[k - 16]) as usize;
         return engine_reads::two_at(s, p);
     }
     if k < 80 {
-        let entities = index.entities;
-        let q = engine_reads::capped(entities.starts[k - 48]) as usize;
+        let q = engine_reads::capped(names[k - 48]) as usize;
         return stale_at(s, q);
     }
-    if k < 336 {
-        let rules = index.rules;
-        let texts = index.texts;
-        let t = engine_reads::capped(rules.starts[(k - 80) / 8]) as usize;
-        return rule_word(s, texts.count, t, (k - 80) % 8);
-    }
-    0
+    let t = engine_reads::capped(rules[(k - 80) / 8]) as usize;
+    rule_word(s, texts, t, (k - 80) % 8)
 }
 
-// The table of a file and its index.
-pub fn table_of(s: &[u8], index: Index) -> Table
-    ensures { λ r. ⌜ TableOf (now (s .entry)) index (r .words) ⌝ }
+// A table with its first 16 words.
+fn headed(s: &[u8], index: Index) -> Table
+    ensures { λ r. ⌜ Headed (now (s .entry)) index (r .words) ⌝ }
 {
     let mut words = [0u32; 436];
     let mut k: usize = 0;
-    while k < 436 {
-        words[k] = table_word(s, index, k);
+    while k < 16 {
+        words[k] = head_word(s, index, k);
+        k += 1;
+    }
+    Table { words }
+}
+
+// The table of a file and its index, up to the last automation; then zeros.
+pub fn table_of(s: &[u8], index: Index) -> Table
+    ensures { λ r. ⌜ TableOf (now (s .entry)) index (r .words) ⌝ }
+{
+    let entities = index.entities;
+    let names = entities.starts;
+    let automations = index.rules;
+    let rules = automations.starts;
+    let texts = index.texts;
+    let count = texts.count;
+    let n = engine_reads::at_most(automations.count, 32);
+    let t = headed(s, index);
+    let mut words = t.words;
+    let mut k: usize = 16;
+    while k < 80 + n * 8 {
+        words[k] = part_word(s, count, &names, &rules, k);
         k += 1;
     }
     Table { words }
