@@ -1,6 +1,6 @@
 -- A case's check in a part of the areas is its check in all of them, unless it is refused.
-use Prim.Native.Nat.{ℕ, _/_, _≤_, _<_}
-use mathlib.Core.Path.{_≡_, refl, sym, ap, _∙_, subst}
+use Prim.Native.Nat.{ℕ, _≤_, _<_}
+use mathlib.Core.Path.{_≡_, refl, sym, ap, _∙_}
 use mathlib.Core.Bool.{Bool, true, false}
 use mathlib.Core.List.{List}
 use native.Mathlib.Omega.{arith}
@@ -16,17 +16,15 @@ use Rattle.engine.specs.Records.{Areas}
 use Rattle.engine.specs.Simulate.{Simulation, simulated}
 use Rattle.engine_areas.specs.Larger.{Larger}
 use Rattle.engine_areas.proofs.Larger.{same-in-larger}
-use Rattle.engine_places.proofs.Simulated.{EventAt}
+use Rattle.engine_places.specs.Events.{EventAt}
 use Rattle.engine_entry.specs.declared.Ground.{Ground}
 use Rattle.engine_entry.specs.Answers.{Grounds}
 use Rattle.engine_entry.proofs.Core.{tb}
 use Rattle.checker.specs.Check.{Check, judged, checked}
-use Rattle.checker.specs.Check as check
 use Rattle.checker_entry.specs.declared.CheckResult.{CheckResult}
-use Rattle.checker_entry.specs.declared.Status.{Status}
-use Rattle.checker_entry.specs.Answers.{status-as, no-check}
+use Rattle.checker_entry.specs.Answers.{no-check}
 use Rattle.checker_entry.specs.Parts.{Checked}
-use Rattle.checker_entry.proofs.Laws.{Sized, checked-sized}
+use Rattle.checker_entry.proofs.Laws.{checked-sized}
 use Rattle.checker_entry.proofs.Pool.{in-pool}
 use Rattle.checker_entry.proofs.Promise as promised
 use Rattle.checker_case.specs.Case.{refusedV, sizes, Tells, answers, refuses, Cased}
@@ -42,12 +40,6 @@ checked-larger a b l m cells vs c e = by (simulated a m cells vs) refl e
         (simulated b m cells vs >>= λ s. answer (judged (m .scenario .invariants) cells s)) ≡ answer c
     by (answer s) z h = rw (same-in-larger a b l m cells vs s z) h
     by (refused n) z h = let y : _≡_ {A = ℕ} 0 1 = cc in absurd (omega arith)
-
-refused-none : (y : check.Status) → refusedV (status-as y) ≡ false
-refused-none check.Status.unknown = refl
-refused-none check.Status.violation = refl
-refused-none check.Status.incomplete = refl
-refused-none check.no-violation-in-trace = refl
 
 refused-so : (n : ℕ) → refusedV (no-check n .status) ≡ true
 unfolding no-check

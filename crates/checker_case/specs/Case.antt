@@ -1,5 +1,5 @@
 -- What the check of a case promises: what the definition's check says, whichever part of the areas it was made in.
-use Prim.Native.Nat.{ℕ, _/_, _≤_, _<_}
+use Prim.Native.Nat.{ℕ, _≤_, _<_}
 use mathlib.Core.Path.{_≡_}
 use mathlib.Core.Bool.{Bool, true, false}
 use mathlib.Core.List.{List}
@@ -10,9 +10,8 @@ use Rattle.model.specs.Validate.{accepted}
 use Rattle.model_index.specs.declared.Index.{Index}
 use Rattle.model_index.specs.Indexed.{Indexed}
 use Rattle.engine.specs.Cells.{initial-cells}
-use Rattle.engine.specs.Records.{Areas}
-use Rattle.engine_places.proofs.Pigeons.{Among}
-use Rattle.engine_places.proofs.Simulated.{EventAt}
+pub use Rattle.engine.specs.Words.{sizes}
+use Rattle.engine_places.specs.Events.{Among, EventAt}
 use Rattle.engine_entry.specs.declared.Ground.{Ground}
 use Rattle.engine_entry.specs.Answers.{Grounds}
 use Rattle.engine_entry.proofs.Core.{tb}
@@ -21,8 +20,8 @@ use Rattle.checker_entry.specs.declared.Status.{Status}
 use Rattle.checker_entry.specs.declared.Status.the-variants as status
 use Rattle.checker_entry.specs.declared.CheckResult.{CheckResult}
 use Rattle.checker_entry.specs.Answers.{Shows, no-check}
-use Rattle.checker_entry.proofs.Laws.{Sized}
-use Rattle.checker_entry.proofs.Pool.{check-pool}
+use Rattle.checker_entry.specs.Parts.{Sized}
+use Rattle.checker_entry.specs.Pool.{check-pool}
 
 abbrev pub refusedV : Status → Bool
 refusedV (status.Refused n) = true
@@ -33,9 +32,6 @@ refusedV status.NoViolationInTrace = false
 
 pub record Part (n most r : ℕ) : Type 0 where
   pub inside : r ≤ n
-
-abbrev pub sizes : (queue records runs : ℕ) → Areas
-sizes q a u = record { queue = q / 5; records = a / 13; runs = u / 28 }
 
 -- the check's answer x, told by the result r
 module _ (f : List ℕ) (m : Model) (r : CheckResult) (x : Answer Check) where

@@ -1,6 +1,6 @@
 -- The entry, put together from its parts.
-use Prim.Native.Nat.{ℕ, _/_, _≤_, _<_}
-use mathlib.Core.Path.{_≡_, refl, sym, ap, subst, _∙_}
+use Prim.Native.Nat.{ℕ, _/_, _<_}
+use mathlib.Core.Path.{_≡_, sym, ap, subst, _∙_}
 use mathlib.Core.List.{List}
 use mathlib.Core.Logic.{inl, inr}
 use native.Mathlib.Omega.{arith}
@@ -22,7 +22,7 @@ use Rattle.engine.specs.Words.{words-in, entry-words}
 use Rattle.engine.proofs.Memory.{refusals}
 use Rattle.engine_reads.specs.Reads.{atMost}
 use Rattle.engine_places.specs.Meaning.{Tabled}
-use Rattle.engine_places.proofs.Simulated.{EventAt}
+use Rattle.engine_places.specs.Events.{EventAt}
 use Rattle.engine_begin.specs.Begin.{EventsOf}
 use Rattle.engine_begin.proofs.Begins.{event-here}
 use Rattle.engine_entry.specs.declared.Ground.{Ground}

@@ -1,14 +1,13 @@
 -- What is gathered from the invariants is the definition's verdict: violations word for word, reasons as sorted texts.
 use Prim.Native.Nat.{ℕ, zero, suc, _+_, _-_, _≤_, _<_}
-use mathlib.Core.Path.{_≡_, refl, sym, ap, subst, _∙_}
+use mathlib.Core.Path.{_≡_, refl, sym, ap, _∙_}
 use mathlib.Core.List.{List, [], _∷_, _++_, append-nil, append-assoc}
-use mathlib.Core.Option.{Option, none, some}
 use native.Mathlib.Omega.{arith}
-use lib.ListN.{length, getD, take, replicate, length-append}
-use lib.Seq.{take-suc, take-all}
-use Rattle.texts.specs.Lists.{if_then_else_, each, flat}
+use lib.ListN.{length, getD, take, length-append}
+use lib.Seq.{take-suc}
+use Rattle.texts.specs.Lists.{each, flat}
 use Rattle.texts.specs.Texts.{Text, sortedT}
-use Rattle.areas.specs.Areas.{words, area}
+use Rattle.areas.specs.Areas.{words}
 use Rattle.areas.proofs.Laws as areas
 use Rattle.records.specs.declared.Record.{Record}
 use Rattle.records.specs.declared.Where.{Where}
@@ -19,10 +18,7 @@ use Rattle.model.specs.Model.{Invariant, id-of, Model}
 use Rattle.model.specs.File.{invariant}
 use Rattle.model.specs.Rewrite.{place-of}
 use Rattle.model_parts.specs.Stand.{Reads}
-use Rattle.engine.specs.Cells.{Cell}
-use Rattle.engine.specs.Records.{Trace}
 use Rattle.engine.specs.Words.{source-words}
-use Rattle.engine.proofs.Lists.{Each}
 use Rattle.engine_reads.specs.Reads.{two, cap}
 use Rattle.engine_state.specs.declared.Cells.{Cells}
 use Rattle.engine_places.specs.Meaning.{where-of, cells-of, record-of, Tabled}
@@ -36,12 +32,12 @@ use Rattle.checker_judge.specs.declared.Failure.the-variants.{NoFailure, Prohib
 use Rattle.checker_judge.specs.declared.Reading.{Reading as Read}
 use Rattle.checker_judge.specs.Judging.{failedJ, judgeJ}
 use Rattle.checker_reasons.specs.Told.{renderings, unknownI, incompleteI}
-use Rattle.checker_places.specs.Meaning.{failure-of, memory-of, failing-of, reading-of}
+use Rattle.checker_places.specs.Meaning.{memory-of, failing-of, reading-of}
 use Rattle.checker_places.proofs.Record.{Parts, of-never, of-guard, of-transition, of-response, parts}
 use Rattle.checker_places.proofs.Judge.{Traced, judge-is}
 use Rattle.checker_places.proofs.Reasons.{unknown-is, incomplete-is}
-use Rattle.checker_verdict.specs.Verdict.{failure-number, failure-deadline, sourceV, Broken, brokenV, violatedV, Gathered, oneV, firstV}
-use Rattle.checker_entry.specs.Answers.{failure-words, violation-words}
+use Rattle.checker_verdict.specs.Verdict.{sourceV, brokenV, violatedV, Gathered, oneV, firstV}
+use Rattle.checker_entry.specs.Answers.{violation-words}
 
 -- ---- lists
 

@@ -1,5 +1,5 @@
 -- Laws for the functions of the entry.
-use Prim.Native.Nat.{ℕ, _+_, _*_, _≤_, _<_, _/_}
+use Prim.Native.Nat.{ℕ, _+_, _*_, _≤_}
 use mathlib.Core.Path.{_≡_, refl, sym, ap, subst, _∙_}
 use mathlib.Core.Bool.{Bool, true, false}
 use mathlib.Core.List.{List, [], _∷_, map}
@@ -9,28 +9,26 @@ use lib.Dec.{eqb}
 use borrow.Author.Tests.{eq-eqb, ne-eqb, eqb-true, eqb-false}
 use Rattle.texts.specs.Texts.{Text, insertT}
 use Rattle.areas.proofs.Laws as areas
-use Rattle.records.specs.Records.{recorded}
-use Rattle.records.specs.declared.Record.{Record}
 use Rattle.reasons.specs.Lists.{reasons, listed, insertAll, Holds}
 use Rattle.reasons.specs.Reasons.{render}
 use Rattle.reasons.specs.declared.Reason.{Reason}
 use Rattle.reasons.proofs.Listing as listing
 use Rattle.model_index.specs.declared.Index.{Index}
 use Rattle.model_walk.proofs.Found.{Case, is-true, is-false, case}
-use Rattle.engine_reads.specs.Reads.{atMost, alone}
+use Rattle.engine_reads.specs.Reads.{alone}
 use Rattle.engine_state.specs.declared.Cells.{Cells}
 use Rattle.engine_entry.specs.declared.Ground.{Ground}
 use Rattle.engine_entry.specs.declared.Simulation.{Simulation}
 use Rattle.engine_entry.specs.Answers.{no-simulation}
 use Rattle.engine_entry.specs.Parts.{Few, Ran}
 use Rattle.checker_verdict.specs.declared.Counts.{Counts}
-use Rattle.checker_verdict.specs.Verdict.{brokenV, Gathered, firstV, Keeps, GathersAll}
+use Rattle.checker_verdict.specs.Verdict.{brokenV, GathersAll}
 use Rattle.checker_verdict.proofs.Laws.{all-many}
 use Rattle.checker_entry.specs.declared.Status.{Status}
 use Rattle.checker_entry.specs.declared.Status.the-variants as status
 use Rattle.checker_entry.specs.declared.CheckResult.{CheckResult}
 use Rattle.checker_entry.specs.Answers.{no-check}
-use Rattle.checker_entry.specs.Parts.{Fits, statusV, stoppedR, leftR, Starts, Ends, startV, counts, Verdict, Checked}
+use Rattle.checker_entry.specs.Parts.{Sized, Fits, statusV, stoppedR, leftR, Starts, Ends, startV, Verdict, Checked}
 
 -- ---- the status
 
@@ -97,12 +95,6 @@ module _ (f : List ℕ) (n : ℕ) (w : List ℕ) where
     holds = rw e (rw (← a) h);
   }
 
-pub fits-most : (n len : ℕ) → len / 13 < n → Fits n len (len / 13)
-fits-most n len h = record { most = omega arith; same = λ k. absurd (omega arith) }
-
-pub fits-all : (n len : ℕ) → n ≤ len / 13 → Fits n len n
-fits-all n len h = record { most = omega arith; same = λ k. refl }
-
 -- ---- the verdict
 
 module _ (f : List ℕ) (m : ℕ) (b a : List ℕ) where
@@ -141,13 +133,6 @@ module _ {f x : List ℕ} {i : Index} {c : Cells} {a : List ℕ} (s : Simulation
   }
 
 -- ---- a check with given events
-
--- how long the answer's arrays are, and how many reasons it has at most
-pub record Sized (r : CheckResult) : Type 0 where
-  pub unknowns : length (r .unknowns) ≡ 2000
-  pub incompletes : length (r .incompletes) ≡ 200
-  pub few-unknown : r .unknown ≤ 400
-  pub few-incomplete : r .incomplete ≤ 40
 
 no-check-sized : (n : ℕ) → Sized (no-check n)
 unfolding no-check

@@ -1,15 +1,15 @@
 -- The reasons that a check may give are among a list that the model fixes, of at most 399 texts. Whoever gathers the reasons
 -- of many checks needs no more room than that.
-use Prim.Native.Nat.{ℕ, zero, suc, _+_, _*_, _/_, _≤_, _<_}
-use mathlib.Core.Path.{_≡_, refl, sym, ap, subst, _∙_}
-use mathlib.Core.Bool.{Bool, true, false, _||_}
+use Prim.Native.Nat.{ℕ, _+_, _*_, _≤_, _<_}
+use mathlib.Core.Path.{_≡_, sym, subst, _∙_}
+use mathlib.Core.Bool.{Bool, true, false}
 use mathlib.Core.List.{List, [], _∷_, _++_}
 use native.Mathlib.Omega.{arith}
 use lib.Dec.{eqb}
 use lib.ListN.{length, getD, length-append}
 use Rattle.texts.specs.Lists.{if_then_else_, any, flat}
 use Rattle.texts.specs.Texts.{Text, text, eqT, ltT, memT, insertT, sortedT}
-use Rattle.model.specs.Answer.{Answer, answer, refused}
+use Rattle.model.specs.Answer.{answer, refused}
 use Rattle.model.specs.Model.{Event, Invariant, never, guard, transition, response, id-of, Model}
 use Rattle.model.specs.Validate.{accepted}
 use Rattle.model_index.specs.declared.Index.{Index}
@@ -18,10 +18,10 @@ use Rattle.engine.specs.Cells.{Cell}
 use Rattle.engine.specs.Reasons.{space-spent, steps-spent, runs-left}
 use Rattle.engine.specs.Simulate as engine
 use Rattle.engine.proofs.Lists.{eqT-same}
-use Rattle.engine_places.specs.Meaning.{pool-of, Tabled}
-use Rattle.engine_places.proofs.Pigeons.{Among}
-use Rattle.engine_places.proofs.Pool.{mem-left, mem-right, among-to, among-self}
-use Rattle.engine_places.proofs.Simulated.{EventAt, static-among}
+use Rattle.engine_places.specs.Meaning.{pool-of}
+use Rattle.engine_places.specs.Events.{Among, EventAt}
+use Rattle.engine_places.proofs.Pool.{mem-left, mem-right, among-to}
+use Rattle.engine_places.proofs.Simulated.{static-among}
 use Rattle.engine_entry.specs.declared.Ground.{Ground}
 use Rattle.engine_entry.specs.Answers.{Grounds, incomplete-of}
 use Rattle.engine_entry.proofs.Core.{tb}
@@ -31,26 +31,11 @@ use Rattle.checker.specs.Check.{judged}
 use Rattle.checker.specs.Check as check
 use Rattle.checker.specs.Judge.{Memory, reason-if, read-all, unknown-reasons, incomplete-reasons}
 use Rattle.checker_entry.specs.declared.CheckResult.{CheckResult}
+use Rattle.checker_entry.specs.Pool.{invariant-pool, check-pool}
 use Rattle.checker_entry.specs.Parts.{Checked}
 use Rattle.checker_entry.proofs.Promise as promised
 
 -- ---- the list
-
--- what reading the records for an invariant may tell
-unfoldable pub invariant-pool : Invariant → List Text
-invariant-pool (never id ps) =
-    (id ++ text ": unknown state predicate") ∷ (id ++ text ": response deadline beyond horizon") ∷ []
-invariant-pool (guard id x v ps) =
-    (id ++ text ": unknown action guard") ∷ (id ++ text ": response deadline beyond horizon") ∷ []
-invariant-pool (transition id x from to) = (id ++ text ": response deadline beyond horizon") ∷ []
-invariant-pool (response id p q n) =
-    (id ++ text ": unknown response at deadline")
-    ∷ (id ++ text ": unknown temporal predicate")
-    ∷ (id ++ text ": response deadline beyond horizon")
-    ∷ []
-
-unfoldable pub check-pool : Model → List Text
-check-pool m = pool-of m ++ (space-spent ∷ steps-spent ∷ runs-left ∷ flat invariant-pool (m .scenario .invariants))
 
 three-each : (l : List Invariant) → length (flat invariant-pool l) ≤ 3 * length l
 unfolding flat invariant-pool
@@ -65,11 +50,11 @@ three-each (i ∷ l) = omega (arith, length-append (invariant-pool i) (flat inva
 
 -- ---- lists of texts among others
 
-among-both : (p l k : List Text) → Among p l → Among p k → Among p (l ++ k)
+pub among-both : (p l k : List Text) → Among p l → Among p k → Among p (l ++ k)
 among-both p [] k a b = b
 among-both p (t ∷ l) k a b = (a .0, among-both p l k (a .1) b)
 
-mem-first : (t : Text) (l : List Text) → memT t (t ∷ l) ≡ true
+pub mem-first : (t : Text) (l : List Text) → memT t (t ∷ l) ≡ true
 unfolding memT any
 mem-first t l = rw (eqT-same t)
 

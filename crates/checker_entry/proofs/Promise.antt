@@ -17,7 +17,7 @@ use Rattle.areas.proofs.Laws.{area-length}
 use Rattle.records.specs.Records.{recordWords, recorded}
 use Rattle.records.specs.declared.Record.{Record}
 use Rattle.records.proofs.Laws.{sized}
-use Rattle.reasons.specs.Lists.{listed, insertAll, Holds}
+use Rattle.reasons.specs.Lists.{insertAll, Holds}
 use Rattle.reasons.specs.Reasons.{render, body, words}
 use Rattle.reasons.proofs.Sorting.{merged, one-by-one, either-way}
 use Rattle.model.specs.Answer.{Answer, answer, refused, _>>=_}
@@ -32,7 +32,7 @@ use Rattle.engine.specs.Reasons.{space-spent, steps-spent, runs-left}
 use Rattle.engine.specs.Records.{Areas}
 use Rattle.engine.specs.Simulate as engine
 use Rattle.engine.specs.Simulate.{simulated}
-use Rattle.engine.specs.Words.{texts-in, words-in}
+use Rattle.engine.specs.Words.{words-in}
 use Rattle.engine.proofs.Closed.{records-fit}
 use Rattle.engine.proofs.Lists.{Each}
 use Rattle.engine_reads.specs.Reads.{atMost, alone}
@@ -42,7 +42,7 @@ use Rattle.engine_places.proofs.Lists.{each-imp}
 use Rattle.engine_places.proofs.Numbers.{most-is}
 use Rattle.engine_places.proofs.Pool.{no-text}
 use Rattle.engine_places.proofs.Relation.{Worded}
-use Rattle.engine_places.proofs.Simulated.{EventAt}
+use Rattle.engine_places.specs.Events.{EventAt}
 use Rattle.engine_places.proofs.Truth.{Valued}
 use Rattle.engine_begin.proofs.Begins.{start-valued, start-cells-are}
 use Rattle.engine_entry.specs.declared.Ground.{Ground}
@@ -61,7 +61,7 @@ use Rattle.checker_entry.specs.declared.Status.the-variants as status
 use Rattle.checker_entry.specs.declared.CheckResult.{CheckResult}
 use Rattle.checker_entry.specs.Answers.{status-as, violation-words, no-check}
 use Rattle.checker_entry.specs.Answers as said
-use Rattle.checker_entry.specs.Parts.{statusV, stoppedR, leftR, startV, counts, Verdict, Checked}
+use Rattle.checker_entry.specs.Parts.{statusV, stoppedR, leftR, startV, counts, Checked}
 use Rattle.checker_entry.proofs.Judged.{Agreed, agreed}
 
 module _ (f x : List ℕ) (ts : List Text) (m : Model) (tb : Tabled f x ts m) where

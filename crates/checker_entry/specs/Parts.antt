@@ -85,6 +85,13 @@ pub record Checked (f : List ℕ) (i : Index) (g : Ground) (events : List ℕ) (
   pub done : simulation .refused ≡ 0 → Verdict f (g .table) i (g .cells) a' simulation r
   pub full : (simulation .refused ≡ 0 → ⊥) → r ≡ no-check (simulation .refused)
 
+-- how long the answer's arrays are, and how many reasons it has at most
+pub record Sized (r : CheckResult) : Type 0 where
+  pub unknowns : length (r .unknowns) ≡ 2000
+  pub incompletes : length (r .incompletes) ≡ 200
+  pub few-unknown : r .unknown ≤ 400
+  pub few-incomplete : r .incomplete ≤ 40
+
 -- the check of the model whose index this is
 abbrev pub RunsAs : (f : List ℕ) → Index → CheckResult → (before after : Lent) → Type 0
 RunsAs f i r before after = (m : Model) → accepted f ≡ answer m → Indexed f i m → Checks f r before after

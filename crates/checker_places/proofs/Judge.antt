@@ -13,7 +13,6 @@ use Rattle.model.specs.Model.{Invariant, Model}
 use Rattle.model.specs.File.{got, invariant, kinds, u8}
 use Rattle.model_walk.proofs.Found.{Case, is-true, is-false, case, bound, u8-wide}
 use Rattle.model_parts.specs.Stand.{Reads}
-use Rattle.records.specs.Records.{recorded}
 use Rattle.records.specs.declared.Change.{Change}
 use Rattle.records.specs.declared.Change.the-variants.{NoChange, Write}
 use Rattle.records.specs.declared.Record.{Record}
@@ -28,7 +27,7 @@ use Rattle.engine_places.proofs.Relation.{Celled}
 use Rattle.engine_places.proofs.Writes.{stored-is}
 use Rattle.checker.specs.Judge.{after, read, reading, read-all}
 use Rattle.checker.specs.Judge as judge
-use Rattle.checker_judge.specs.Judging.{failedJ, nothingJ, putJ, afterJ, readJ, turnedJ, turnJ, readingJ, judgeJ, Judges}
+use Rattle.checker_judge.specs.Judging.{failedJ, nothingJ, putJ, afterJ, readJ, turnedJ, turnJ, readingJ, judgeJ}
 use Rattle.checker_judge.specs.declared.Failure.{Failure}
 use Rattle.checker_judge.specs.declared.Failure.the-variants.{NoFailure, ProhibitedState, GuardViolated, ForbiddenTransition, DeadlineMissed}
 use Rattle.checker_judge.specs.declared.Memory.{Memory}
@@ -140,10 +139,3 @@ module _ (f x : List ℕ) (ts : List Text) (mo : Model) (tb : Tabled f x ts mo) 
       let w = u8-wide f at (b .first) in
       rw (cap-is at (omega (arith, tb .size)))
       (reading-is at i q e l h 0 c nothingJ ns (cells-of x ts (c .values) ns) (record { is = refl; valued = ok; long = long }))
-
-  -- what `judge` answers
-  pub judged-is : (at : ℕ) (i : Invariant) → Reads (invariant ts) f at i → (c : Cells) (ns : List ℕ) →
-      Valued f x ts mo tb (c .values) → length ns ≡ 32 → (l : List Record) → Traced ts l → (a : List ℕ) (n : ℕ) (r : Reading) →
-      Judges f x at c a n r → length l ≡ n → a ≡ recorded (length a) l →
-      reading-of r ≡ read-all i (cells-of x ts (c .values) ns) (each (record-of x ts) l)
-  judged-is at i s c ns ok long l h a n r j many e = ap reading-of (j .is l many e) ∙ judge-is at i s c ns ok long l h

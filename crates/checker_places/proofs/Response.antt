@@ -13,7 +13,7 @@ use Rattle.engine_truth.specs.declared.Truth.the-variants.{Yes, No, Unknown}
 use Rattle.engine_places.specs.Meaning.{truth-of}
 use Rattle.checker.specs.Judge.{fails-if, overdue, missed, waits-after, missed-at-end, beyond, or-else}
 use Rattle.checker.specs.Judge as judge
-use Rattle.checker_judge.specs.Judging.{yesJ, noJ, unknownJ, failsJ, failedJ, or-elseJ, unsureJ, overdueJ, missedJ, keptJ, startedJ, begunJ, waitsJ, at-endJ, beyondJ, failureJ, memoryJ, respondedJ}
+use Rattle.checker_judge.specs.Judging.{yesJ, noJ, unknownJ, failsJ, failedJ, or-elseJ, overdueJ, missedJ, keptJ, startedJ, begunJ, waitsJ, at-endJ, beyondJ, failureJ, memoryJ, respondedJ}
 use Rattle.checker_judge.specs.declared.Failure.{Failure}
 use Rattle.checker_judge.specs.declared.Failure.the-variants.{NoFailure, ProhibitedState, GuardViolated, ForbiddenTransition, DeadlineMissed}
 use Rattle.checker_judge.specs.declared.Wait.{Wait}
@@ -54,10 +54,6 @@ or-else-is ProhibitedState b = refl
 or-else-is GuardViolated b = refl
 or-else-is ForbiddenTransition b = refl
 or-else-is (DeadlineMissed d) b = refl
-
-pub unsure-is : (b : Bool) (m : Memory) → memory-of (unsureJ b m) ≡ judge.unsure b (memory-of m)
-unfolding unsureJ memory-of
-unsure-is b m = refl
 
 -- ---- deadlines
 

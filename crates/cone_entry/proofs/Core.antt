@@ -1,6 +1,6 @@
 -- The cone of an accepted model by the code is the definition's.
 use mathlib.Core.Path.{_≡_, refl, sym, ap, _∙_, subst}
-use mathlib.Core.List.{List, []}
+use mathlib.Core.List.{List}
 use Prim.Native.Nat.{ℕ, zero, suc, _+_, _-_, _<_, _≤_}
 use native.Mathlib.Omega.{arith}
 use native.Mathlib.Nat.{zero-add}
@@ -9,10 +9,8 @@ use Rattle.texts.specs.Lists.{keep, each}
 use Rattle.texts.specs.Texts.{Text, memT, sortedT}
 use Rattle.model.specs.Answer.{Answer, answer, refused, _>>=_}
 use Rattle.model.specs.Model.{Model}
-use Rattle.model.specs.File.{Got, got, broken}
 use Rattle.model.specs.Rewrite.{place-of}
 use Rattle.model.specs.Validate.{accepted}
-use Rattle.model_order.proofs.Places.{same-place, texts-ascend}
 use Rattle.model_index.specs.declared.Index.{Index}
 use Rattle.model_index.specs.declared.File.{File}
 use Rattle.model_index.specs.declared.Status.the-variants as status
@@ -20,15 +18,14 @@ use Rattle.model_index.specs.Indexed.{Indexed}
 use Rattle.model_index.specs.Indexed.{Says as ReadSays}
 use Rattle.model_validate.proofs.Agrees.{accept-read, accept-refused}
 use Rattle.engine.specs.Words.{texts-in}
+use Rattle.engine.proofs.Validated.{accepted-few}
 use Rattle.lint.specs.Reach.{places}
-use Rattle.lint.specs.Words.{ids-set, names-in, ids-in}
-use Rattle.lint_touches.proofs.Rising.{Rising, rising-ascending}
+use Rattle.lint.specs.Words.{ids-set, names-in}
 use Rattle.lint_names.specs.Strange.{undeclaredU}
 use Rattle.lint_entry.specs.Order.{fillL}
 use Rattle.lint_places.specs.Ground.{namesOf}
 use Rattle.lint_places.specs.Numbers.{padded, declared-set, undeclared}
-use Rattle.lint_places.proofs.Sets.{Once}
-use Rattle.lint_places.proofs.Accepted.{accepted-few}
+use Rattle.lint_places.proofs.Columns.{names-are, ids-are, bounds, texts-are, ascends, texts-once}
 use Rattle.lint_places.proofs.Stage.{Stage}
 use Rattle.lint_places.proofs.Staged.{staged}
 use Rattle.lint_places.proofs.Rules.{names, ids}
@@ -74,34 +71,6 @@ module _ (s : List ℕ) (i : Index) (m : Model) (acc : accepted s ≡ answer m) 
   st : Stage s (namesOf s i) (i .rules) (o .ts) m
   st = staged s i m acc o
 
-  names-are : names-in s ≡ each (λ e. e .name) (m .scenario .entities)
-  unfolding names-in
-  names-are = ap (λ (a : Answer Model). elim a
-      [ answer m ↦ each (λ e. e .name) (m .scenario .entities) | refused n ↦ [] ]) acc
-
-  ids-are : ids-in s ≡ each (λ r. r .id) (m .rules)
-  unfolding ids-in
-  ids-are = ap (λ (a : Answer Model). elim a [ answer m ↦ each (λ r. r .id) (m .rules) | refused n ↦ [] ]) acc
-
-  texts-are : texts-in s ≡ o .ts
-  unfolding texts-in
-  texts-are = ap (λ (g : Got (List Text)). elim g [ got ts q ↦ ts | broken ↦ [] ]) (o .all-texts .1)
-
-  -- the index's counts
-  pub bounds : Bounds i
-  bounds = record {
-    entities = omega (arith, o .entities .counts, st .lawful .few-entities);
-    invariants = omega (arith, o .invariants .counts, st .lawful .few-invariants);
-    rules = omega (arith, o .rules .counts, st .lawful .few-rules);
-  }
-
-  ascends : Rising (o .ts)
-  ascends = rising-ascending (o .ts) (texts-ascend s (o .all-texts .1))
-
-  texts-once : Once (o .ts)
-  unfolding Once
-  texts-once = same-place (o .ts) (texts-ascend s (o .all-texts .1))
-
   -- what the definition closes, and the code
   abbrev closed : definition.Cone
   closed = shut st (accepted-invariants s m acc)
@@ -113,8 +82,8 @@ module _ (s : List ℕ) (i : Index) (m : Model) (acc : accepted s ≡ answer m) 
       (closedC (writesL s (i .entities) (i .rules)) (needsL s (i .entities) (i .rules)) n
       (namedS s (i .entities) (i .invariants)))) (sym (o .rules .counts))
       (kept st (accepted-invariants s m acc) (writesL s (i .entities) (i .rules)) (needsL s (i .entities) (i .rules))
-      (λ k b. filled-at _ (i .rules .count) (bounds .rules) k (omega (arith, o .rules .counts)))
-      (λ k b. filled-at _ (i .rules .count) (bounds .rules) k (omega (arith, o .rules .counts))))
+      (λ k b. filled-at _ (i .rules .count) (bounds s m acc i o .rules) k (omega (arith, o .rules .counts)))
+      (λ k b. filled-at _ (i .rules .count) (bounds s m acc i o .rules) k (omega (arith, o .rules .counts))))
 
   cone-is : definition.cone s ≡ answer (definition.cone-of m)
   unfolding definition.cone _>>=_
@@ -124,22 +93,22 @@ module _ (s : List ℕ) (i : Index) (m : Model) (acc : accepted s ≡ answer m) 
   unfolding namesE stray-places definition.cone-of shut namesOf
   strays =
       ap (λ (k : ℕ). namesN (undeclaredU s (i .entities) (i .rules) k) (setsE s i .automations) k) (o .each-text .counts)
-      ∙ strays-are st ascends texts-once (accepted-few s m acc .1) (closed .entities) (closed .automations) (setsE s i) held
+      ∙ strays-are st (ascends s i m o) (texts-once s i m o) (accepted-few s m acc .1) (closed .entities) (closed .automations) (setsE s i) held
       ∙ ap (λ (t : List Text). packedN
-      (each (λ x. place-of x t) (undeclared (names st) (sortedT (closed .entities))))) (sym texts-are)
+      (each (λ x. place-of x t) (undeclared (names st) (sortedT (closed .entities))))) (sym (texts-are s i m o))
       ∙ ap (λ (t : List Text). packedN
-      (each (λ x. place-of x (texts-in s)) (undeclared t (sortedT (closed .entities))))) (sym names-are)
+      (each (λ x. place-of x (texts-in s)) (undeclared t (sortedT (closed .entities))))) (sym (names-are s m acc))
 
   shows : (r : ConeResult) → Tells s i r → Shows s r (definition.cone-of m)
   unfolding definition.cone-of shut packedN
   shows r t = record {
     accepted = t .accepted;
     entities = t .entities ∙ sym (entities-are st (closed .entities) (closed .automations) (setsE s i) held)
-        ∙ ap (λ (n : List Text). declared-set n (sortedT (closed .entities))) (sym names-are);
+        ∙ ap (λ (n : List Text). declared-set n (sortedT (closed .entities))) (sym (names-are s m acc));
     automations = t .automations ∙ sym (automations-are st (closed .entities) (closed .automations) (setsE s i) held)
-        ∙ ap (λ (n : List Text). ids-set n (ids st) (keep (λ id. memT id (closed .automations)) (ids st))) (sym names-are)
+        ∙ ap (λ (n : List Text). ids-set n (ids st) (keep (λ id. memT id (closed .automations)) (ids st))) (sym (names-are s m acc))
         ∙ ap (λ (n : List Text). ids-set (names-in s) n (keep (λ id. memT id (closed .automations)) (ids st)))
-        (sym ids-are);
+        (sym (ids-are s m acc));
     undeclared = t .undeclared ∙ ap (λ (n : ConeNames). n .count) strays;
     names = t .names ∙ ap (λ (n : ConeNames). n .list) strays;
   }
@@ -156,7 +125,7 @@ turned-down s k e r t = subst (Says s r) (sym (ap (λ (a : Answer Model). a >>= 
 -- ---- as the code has it
 
 pub accepted-bounds : (s : List ℕ) (x : File) → ReadSays s x (accepted s) → x .status ≡ status.Read → Bounds (x .index)
-accepted-bounds s x f e = let r = accept-read s x f e in bounds s (x .index) (r .0) (r .1 .0) (r .1 .1)
+accepted-bounds s x f e = let r = accept-read s x f e in bounds s (r .0) (r .1 .0) (x .index) (r .1 .1)
 
 pub accepted-answers : (s : List ℕ) (x : File) → ReadSays s x (accepted s) → x .status ≡ status.Read → {r : ConeResult}
     → Tells s (x .index) r → Answers s r

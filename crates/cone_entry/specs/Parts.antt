@@ -1,5 +1,5 @@
 -- What the parts of the entry promise.
-use Prim.Native.Nat.{ℕ, _≤_}
+use Prim.Native.Nat.{ℕ}
 use mathlib.Core.Path.{_≡_}
 use mathlib.Core.List.{List}
 use lib.ListN.{getD, replicate}
@@ -9,6 +9,7 @@ use Rattle.lint_walk.specs.Walks.{walkW}
 use Rattle.lint_touches.specs.Sets.{writesS}
 use Rattle.lint_names.specs.Strange.{undeclaredU}
 use Rattle.lint_entry.specs.Order.{fillL}
+pub use Rattle.lint_places.specs.Ground.{Bounds}
 use Rattle.cone_sets.specs.Sets.{namedS, needsS}
 use Rattle.cone_close.specs.declared.ConeSets.{ConeSets}
 use Rattle.cone_close.specs.Rounds.{closedC}
@@ -39,12 +40,6 @@ setsE s i =
 
 unfoldable pub namesE : List ℕ → Index → ConeNames
 namesE s i = namesN (undeclaredU s (i .entities) (i .rules) (i .texts .count)) (setsE s i .automations) (i .texts .count)
-
--- the index of a model that isn't too large
-pub record Bounds (i : Index) : Type 0 where
-  pub entities : i .entities .count ≤ 32
-  pub invariants : i .invariants .count ≤ 32
-  pub rules : i .rules .count ≤ 32
 
 pub record Tells (s : List ℕ) (i : Index) (r : ConeResult) : Type 0 where
   pub accepted : r .refused ≡ 0

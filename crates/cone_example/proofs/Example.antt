@@ -22,6 +22,7 @@ use Rattle.cone.specs.Alike.{Alike, SameSearch, input-in, cone-declarations, co
 use Rattle.cone.specs.Demand.{witness-incomplete, SameCheck, SameVerification, all-demand}
 use Rattle.independence.proofs.Demand.{demand3}
 use Rattle.cone_example.specs.Files.{first, second, all-files}
+use borrow.Author.Tests.{not-true}
 
 -- room for every entry
 unfoldable pub plenty : Areas
@@ -212,10 +213,6 @@ pub record Met (file file′ : List ℕ) : Type 0 where
   pub whole : witness-incomplete v ≡ []
   pub whole′ : witness-incomplete v′ ≡ []
   pub finds : absent (v .witness) ≡ false
-
-not-true : (b : Bool) → not b ≡ true → b ≡ false
-not-true true e = sym e
-not-true false e = refl
 
 complete-of : (c : Check) → violated c ≡ true → c .simulation .incomplete ≡ []
 unfolding violated

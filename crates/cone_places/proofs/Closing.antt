@@ -3,7 +3,7 @@
 -- are those of the set, the automations that are in those of the other, and an undeclared name is in exactly if an
 -- automation that is in reads it.
 use mathlib.Core.Path.{_≡_, refl, sym, ap, _∙_, subst}
-use mathlib.Core.Bool.{Bool, true, false, not, _||_, _&&_}
+use mathlib.Core.Bool.{Bool, true, false, not, _||_, _&&_, or-assoc}
 use mathlib.Core.List.{List, [], _∷_, _++_}
 use mathlib.Core.Option.{none, some}
 use Prim.Native.Nat.{ℕ, zero, suc, _+_, _^_, _<_, _≤_}
@@ -13,11 +13,10 @@ use lib.Bits.{bitAnd, bitOr, or-lt}
 use lib.Pow.{pow-lt}
 use lib.Dec.{eqb}
 use lib.ListN.{length, getD}
-use borrow.Author.Tests.{lt-ltb, le-ltb, eq-eqb, ne-eqb, eqb-true, eqb-false}
+use borrow.Author.Tests.{lt-ltb, le-ltb, eq-eqb, ne-eqb}
 use Rattle.texts.specs.Lists.{if_then_else_, any, keep, each, flat}
 use Rattle.texts.specs.Texts.{Text, memT, sortedT}
 use Rattle.model.specs.Model.{Effect, toggle, delay, condition, choose, wait, Automation, Model}
-use Rattle.model_walk.proofs.Found.{Case, is-true, is-false, case}
 use Rattle.model_parts.specs.declared.Section.{Section}
 use Rattle.lint.specs.Reach.{places}
 use Rattle.lint.specs.Touches.{Action, toggles, reads-of, toggles-of}
@@ -55,6 +54,7 @@ use Rattle.cone_close.specs.declared.ConeSets.{ConeSets}
 use Rattle.cone_close.specs.Rounds.{addsC, firstC, takenC, roundC, roundsC}
 use Rattle.cone_places.proofs.Named.{needs-hold, needs-inside}
 use Rattle.cone_places.proofs.Picking.{pickN, pick-is, lifted, Picks, no-pick, a-pick, picks, meets}
+use Rattle.model_check.proofs.Agrees.{eqb-sym}
 
 -- ---- lists
 
@@ -87,10 +87,6 @@ any-places f g zero i h = refl
 any-places f g (suc n) i h =
     ap (λ (b : Bool). b || any f (places n (i + 1))) (h i (omega arith) (omega arith))
     ∙ ap (λ (b : Bool). g i || b) (any-places f g n (i + 1) (λ j a b. h j (omega arith) (omega arith)))
-
-or-assoc : (a b c : Bool) → ((a || b) || c) ≡ (a || (b || c))
-or-assoc true b c = refl
-or-assoc false b c = refl
 
 or-false : (b : Bool) → (b || false) ≡ b
 or-false true = refl
@@ -219,13 +215,6 @@ module _ {s : List ℕ} {d : Names} {rs : Section} {ts : List Text} {m : Model} 
   unfolding Inside
   inside-or x y f g j u v = holds-or x y j ∙ rw (f j u v) (g j u v)
 
-  eqb-comm : (a b : ℕ) → eqb a b ≡ eqb b a
-  eqb-comm a b = cases (case (eqb a b))
-    where
-      cases : Case (eqb a b) → eqb a b ≡ eqb b a
-      cases (is-true h) = h ∙ sym (eq-eqb b a (sym (eqb-true a b h)))
-      cases (is-false h) = h ∙ sym (ne-eqb b a (λ z. eqb-false a b h (sym z)))
-
   module _ (writes needed : List ℕ) (w-is : (k : ℕ) → k < n → getD writes k 0 ≡ W k)
       (n-is : (k : ℕ) → k < n → getD needed k 0 ≡ N k) where
     -- the k-th automation comes in
@@ -247,7 +236,7 @@ module _ {s : List ℕ} {d : Names} {rs : Section} {ts : List Text} {m : Model} 
           taken = λ i u. holds-with (c .automations) k i
               ∙ ap (λ (x : Bool). x || eqb k i) (h .taken i u)
               ∙ or-comm (memT (R i .id) ins) (eqb k i)
-              ∙ ap (λ (x : Bool). x || memT (R i .id) ins) (eqb-comm k i ∙ sym (ids-apart st i k u b))
+              ∙ ap (λ (x : Bool). x || memT (R i .id) ins) (eqb-sym k i ∙ sym (ids-apart st i k u b))
               ∙ sym (mem-cons (R i .id) (R k .id) ins);
           strange = λ t z. mem-append t l (needs (R k))
               ∙ ap (λ (x : Bool). x || memT t (needs (R k))) (h .strange t z)

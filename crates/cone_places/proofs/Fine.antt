@@ -1,5 +1,5 @@
 -- The entities that the invariants of an accepted model name are declared.
-use mathlib.Core.Path.{_≡_, _∙_, subst}
+use mathlib.Core.Path.{_≡_, _∙_}
 use mathlib.Core.Bool.{false}
 use mathlib.Core.List.{List, [], _∷_}
 use Prim.Native.Nat.{ℕ}
@@ -7,23 +7,14 @@ use Rattle.texts.specs.Lists.{flat}
 use Rattle.texts.specs.Texts.{Text, memT}
 use Rattle.model.specs.Answer.{answer, accept}
 use Rattle.model.specs.Model.{Entity, Invariant, never, guard, transition, response, id-of, Model}
-use Rattle.model.specs.File.{decode}
-use Rattle.model.specs.Validate.{
-  check-predicate,
-  check-conditions,
-  check-invariant,
-  check-invariants,
-  check-rules,
-  validate,
-  accepted,
-}
+use Rattle.model.specs.Validate.{check-predicate, check-conditions, check-invariant, check-invariants, accepted}
 use Rattle.engine.proofs.Lists.{Each}
-use Rattle.engine.proofs.Distinct.{answer-eq, bind-inv, and-inv}
+use Rattle.engine.proofs.Validated.{and-first, and-inv, accepted-passed}
 use Rattle.lint.specs.Touches.{predicate-reads}
 use Rattle.lint_touches.proofs.Rising.{mem-cons, mem-append}
 use Rattle.lint_tests.specs.declared.Names.{Names}
 use Rattle.model_parts.specs.declared.Section.{Section}
-use Rattle.lint_places.proofs.Accepted.{and-first, each-verdict, Declared, FineP, value-fine, predicate-fine}
+use Rattle.lint_places.proofs.Accepted.{each-verdict, Declared, FineP, value-fine, predicate-fine}
 use Rattle.lint_places.proofs.Stage.{Stage}
 use Rattle.lint_places.proofs.Rules.{es}
 use Rattle.lint_places.proofs.Strangers.{Strange, fine-not, one-not, predicate-not, flat-not}
@@ -55,22 +46,10 @@ module _ (ds : List Entity) where
       let f = and-inv _ _ tt e in
       (invariant-fine i (and-first _ _ tt f), invariants-fine (id-of i ∷ ids) l (and-inv _ _ tt f))
 
-valid-fine : (m n : Model) → validate m ≡ answer n
-    → (m ≡ n) × Each (FineI (m .scenario .entities)) (m .scenario .invariants)
-unfolding validate
-valid-fine m n e =
-    let e₈ = and-inv _ _ n (and-inv _ _ n
-    (and-inv _ _ n (and-inv _ _ n (and-inv _ _ n (and-inv _ _ n (and-inv _ _ n e)))))) in
-    let b = bind-inv (check-rules (m .scenario .entities) [] (m .rules) 0) (λ k. answer m) n (and-inv _ _ n e₈) in
-    (answer-eq (b .1 .1), invariants-fine (m .scenario .entities) [] (m .scenario .invariants) (and-first _ _ n e₈))
-
 pub accepted-invariants : (file : List ℕ) (m : Model) → accepted file ≡ answer m
     → Each (FineI (m .scenario .entities)) (m .scenario .invariants)
-unfolding accepted
 accepted-invariants file m e =
-    let b = bind-inv (decode file) validate m e in
-    let v = valid-fine (b .0) m (b .1 .1) in
-    subst (λ (x : Model). Each (FineI (x .scenario .entities)) (x .scenario .invariants)) (v .0) (v .1)
+    invariants-fine (m .scenario .entities) [] (m .scenario .invariants) (accepted-passed file m e .invariants)
 
 -- so no undeclared name is among those that invariants name
 module _ {s : List ℕ} {d : Names} {rs : Section} {ts : List Text} {m : Model} (st : Stage s d rs ts m) (x : Text)

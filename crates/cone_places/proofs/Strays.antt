@@ -1,7 +1,7 @@
 -- The undeclared names of the answer: the places that the code lists are those of the undeclared names in the definition's
 -- cone, ascending, at most 64.
 use mathlib.Core.Path.{_≡_, refl, sym, ap, _∙_}
-use mathlib.Core.Bool.{Bool, true, false, not, _||_, _&&_}
+use mathlib.Core.Bool.{Bool, true, false, not, _||_, _&&_, or-assoc}
 use mathlib.Core.List.{List, [], _∷_, _++_, append-nil, append-assoc}
 use Prim.Native.Nat.{ℕ, zero, suc, _+_, _-_, _<_, _≤_}
 use native.Mathlib.Omega.{arith}
@@ -27,7 +27,7 @@ use Rattle.lint_walk.specs.Walks.{walkW}
 use Rattle.lint_names.specs.declared.Undeclared.{Undeclared}
 use Rattle.lint_names.specs.Strange.{strangeZ, undeclaredU}
 use Rattle.lint_places.specs.Numbers.{padded, undeclared}
-use Rattle.lint_places.proofs.Lists.{rising-keep, mem-keep, sorted-fewer}
+use Rattle.lint_places.proofs.Lists.{rising-keep, mem-keep}
 use Rattle.lint_places.proofs.Sets.{Once, places-at}
 use Rattle.lint_places.proofs.Stage.{Stage, each-long, rule-of, rule-start, id-number}
 use Rattle.lint_places.proofs.Rules.{names, ids}
@@ -48,6 +48,7 @@ use Rattle.cone_names.specs.declared.ConeNames.{ConeNames}
 use Rattle.cone_names.specs.Wanted.{withN, no-names, readN, someN, wantedN, nameN, fromN, namesN}
 use Rattle.cone_places.proofs.Closing.{any-each, any-places, some-of, Kept}
 use Rattle.cone_places.proofs.Start.{each-self}
+use Rattle.engine.proofs.Lists.{sorted-many}
 
 -- ---- the list of names
 
@@ -142,10 +143,6 @@ any-zip g A B (p ∷ ps) (q ∷ qs) k e f h =
     ∙ ap (λ (b : Bool). g p q || b) (any-zip g A B ps qs (k + 1) (omega arith)
     (λ j b. let w : k + 1 + j ≡ k + suc j = omega arith in ap (λ (i : ℕ). getD A i 0) w ∙ f (suc j) (omega arith))
     (λ j b. let w : k + 1 + j ≡ k + suc j = omega arith in ap (λ (i : ℕ). getD B i 0) w ∙ h (suc j) (omega arith)))
-
-or-assoc : (a b c : Bool) → ((a || b) || c) ≡ (a || (b || c))
-or-assoc true b c = refl
-or-assoc false b c = refl
 
 any2-append : (g : ℕ → ℕ → Bool) (ps qs ps′ qs′ : List ℕ) → length qs ≡ length ps
     → any2 g (ps ++ ps′) (qs ++ qs′) ≡ (any2 g ps qs || any2 g ps′ qs′)
@@ -435,7 +432,7 @@ module _ {s : List ℕ} {d : Names} {rs : Section} {ts : List Text} {m : Model} 
         ap length found-are,
         each-long (λ t. place-of t ts) (keep und (sortedT l)),
         ap length listed,
-        sorted-fewer taken,
+        sorted-many taken,
         flat-fewer (holds a) (λ i. undeclared (names st) (reads-of (R i))) n 0,
         ap length (flat-each (λ r. undeclared (names st) (reads-of r)) R (places n 0)),
         ap (λ (x : List Automation). length (flat (λ r. undeclared (names st) (reads-of r)) x)) numbered,

@@ -1,28 +1,24 @@
 -- Demand 3 of what `verify` returns: from the theorem over the definitions' answers, by the contract of `verify`.
-use Prim.Native.Nat.{ℕ, zero, suc, _≤_}
+use Prim.Native.Nat.{ℕ}
 use mathlib.Core.Path.{_≡_, refl, sym, ap, _∙_, subst}
 use mathlib.Core.List.{List, [], _∷_}
 use mathlib.Core.Option.{Option, none, some}
 use native.Mathlib.Omega.{arith}
-use lib.ListN.{length, replicate}
+use lib.ListN.{length}
 use Rattle.texts.specs.Texts.{Text}
-use Rattle.areas.specs.Areas.{area}
 use Rattle.areas.proofs.Laws.{area-none}
 use Rattle.model.specs.Answer.{Answer, answer, refused}
-use Rattle.model.specs.Model.{Event, Model}
+use Rattle.model.specs.Model.{Event}
 use Rattle.engine.specs.Memory.{Lent, entries}
 use Rattle.engine.specs.Words.{texts-in, entry-words}
 use Rattle.engine.proofs.Lists.{some-eq, none-some}
 use Rattle.checker.specs.Verify as verify
-use Rattle.checker_entry.specs.Answers.{no-check}
 use Rattle.search_inputs.specs.Inputs.{event-words}
 use Rattle.search_entry.specs.declared.Verification.{Verification}
-use Rattle.search_entry.specs.declared.Found.{Found}
-use Rattle.search_entry.specs.declared.Found.the-variants as found
-use Rattle.search_entry.specs.Answers.{found-as, Witnesses, WitnessSays, Shows, no-verification, Says, Verifies}
-use Rattle.cone.specs.Demand.{witness-events, witness-incomplete, SameVerification}
+use Rattle.search_entry.specs.Answers.{found-as, WitnessSays, Shows, no-verification, Says, Verifies}
+use Rattle.cone.specs.Demand.{witness-events, witness-incomplete}
 use Rattle.independence.proofs.Demand.{demand3}
-use Rattle.demand.specs.Returned.{Witness, SameFound, Clear, VerifyReturned}
+use Rattle.demand.specs.Returned.{Witness, Clear, VerifyReturned}
 
 -- ---- one answer
 

@@ -1,27 +1,27 @@
 -- A text of the file stands at its place. The identifiers of an accepted model's invariants are texts of the file.
-use Prim.Native.Nat.{ℕ, zero, suc, _+_, _≤_, _<_}
-use mathlib.Core.Path.{_≡_, refl, sym, ap, _∙_, subst}
-use mathlib.Core.Bool.{Bool, true, false}
+use Prim.Native.Nat.{ℕ, zero, suc, _+_, _<_}
+use mathlib.Core.Path.{_≡_, sym, ap, _∙_, subst}
+use mathlib.Core.Bool.{true, false}
 use mathlib.Core.List.{List, [], _∷_}
 use native.Mathlib.Omega.{arith}
 use lib.ListN.{length, getD}
 use Rattle.texts.specs.Lists.{if_then_else_}
 use Rattle.texts.specs.Texts.{Text, eqT}
-use Rattle.model.specs.Answer.{Answer, answer, refused, _>>=_}
-use Rattle.model.specs.Model.{Predicate, Invariant, never, guard, transition, response, id-of, Model}
-use Rattle.model.specs.File.{got, Reader, give, refuse, u8, u32, counted, place, predicate, invariant, decode}
+use Rattle.model.specs.Answer.{answer, refused}
+use Rattle.model.specs.Model.{Invariant, id-of, Model}
+use Rattle.model.specs.File.{got, refuse, u32, counted, place, predicate, invariant, invariant-kinds}
 use Rattle.model.specs.File.{_>>=_ as _>>=ᵣ_}
 use Rattle.model.specs.Rewrite.{place-of}
-use Rattle.model.specs.Validate.{accepted, validate}
-use Rattle.model_walk.proofs.Found.{bound, given, Kind, kind-found, Place, place-found}
+use Rattle.model.specs.Validate.{accepted}
+use Rattle.model_walk.proofs.Found.{bound, given, Kind, kind-found, place-found}
 use Rattle.model_walk.proofs.Found as found
-use Rattle.model_index.specs.declared.Index.{Index}
 use Rattle.model_index.specs.Index.{readW}
 use Rattle.model_index.specs.Indexed.{Indexed, Says}
 use Rattle.model_index.proofs.Whole.{whole}
 use Rattle.engine.specs.Words.{texts-in}
 use Rattle.engine.proofs.Lists.{Case, is-true, is-false, case, eqT-eq, eqT-same}
-use Rattle.engine_places.proofs.Accepted.{accepted-lawful, accepted-decoded}
+use Rattle.engine.proofs.Validated.{accepted-decoded}
+use Rattle.engine_places.proofs.Accepted.{accepted-lawful}
 
 -- the text is one of the list
 pub record In (t : Text) (ts : List Text) : Type 0 where
@@ -56,22 +56,14 @@ module _ (ts : List Text) (s : List ℕ) where
   in-place : (p : ℕ) {t : Text} {q : ℕ} → place ts s p ≡ got t q → In t ts
   in-place p e = let x = place-found ts e in record { at = x .at; inside = x .is-in; is = x .is-text }
 
-  invariant-kinds : List (Reader Invariant)
-  invariant-kinds =
-      (place ts >>=ᵣ λ i. counted (predicate ts) >>=ᵣ λ ps. give (never i ps))
-      ∷ (place ts >>=ᵣ λ i. place ts >>=ᵣ λ x. place ts >>=ᵣ λ v. counted (predicate ts) >>=ᵣ λ ps. give (guard i x v ps))
-      ∷ (place ts >>=ᵣ λ i. place ts >>=ᵣ λ x. place ts >>=ᵣ λ f. place ts >>=ᵣ λ t. give (transition i x f t))
-      ∷ (place ts >>=ᵣ λ i. predicate ts >>=ᵣ λ p. predicate ts >>=ᵣ λ q. u32 >>=ᵣ λ n. give (response i p q n))
-      ∷ []
-
   pub id-in : (p : ℕ) (a : Invariant) (q : ℕ) → invariant ts s p ≡ got a q → In (id-of a) ts
-  unfolding invariant invariant-kinds id-of
+  unfolding invariant id-of
   id-in p a q e = by (k .kind) (k .holds)
     where
-      k : Kind invariant-kinds s p a q
-      k = kind-found invariant-kinds e
+      k : Kind (invariant-kinds ts) s p a q
+      k = kind-found (invariant-kinds ts) e
 
-      by : (i : ℕ) → getD invariant-kinds i refuse s (k .next) ≡ got a q → In (id-of a) ts
+      by : (i : ℕ) → getD (invariant-kinds ts) i refuse s (k .next) ≡ got a q → In (id-of a) ts
       by zero h =
           let i = bound (place ts) _ h in
           let l = bound (counted (predicate ts)) _ (i .rest) in

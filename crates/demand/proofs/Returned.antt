@@ -1,20 +1,16 @@
 -- Demand 3 of what `check` returns: from the theorem over the definitions' answers, by the contract of `check`.
-use Prim.Native.Nat.{ℕ, zero, suc, _+_, _*_, _≤_, _<_}
+use Prim.Native.Nat.{ℕ, suc, _+_, _*_, _<_}
 use mathlib.Core.Path.{_≡_, refl, sym, ap, _∙_, subst}
-use mathlib.Core.Bool.{Bool, false}
 use mathlib.Core.List.{List, [], _∷_, _++_}
 use mathlib.Core.Option.{Option, none, some}
 use native.Mathlib.Omega.{arith}
 use lib.ListN.{length, getD}
 use Rattle.texts.specs.Lists.{each, flat}
 use Rattle.texts.specs.Texts.{Text}
-use Rattle.areas.specs.Areas.{area}
 use Rattle.areas.proofs.Laws as areas
 use Rattle.model.specs.Answer.{Answer, answer, refused}
-use Rattle.model.specs.Model.{Invariant, never, id-of, Model}
-use Rattle.model.specs.Validate.{accepted}
+use Rattle.model.specs.Model.{Invariant, id-of}
 use Rattle.engine.specs.Memory.{Lent, entries}
-use Rattle.engine.specs.Records.{Areas}
 use Rattle.engine.specs.Words.{texts-in, entry-words}
 use Rattle.engine.proofs.Lists.{Each}
 use Rattle.engine_places.proofs.Lists.{each-length, each-getD, each-at}
@@ -22,12 +18,10 @@ use Rattle.engine_entry.specs.Answers.{incomplete-of}
 use Rattle.checker.specs.Check.{Violation, violation-of, Check, check}
 use Rattle.checker.specs.Judge.{Failing, prohibited-state}
 use Rattle.checker_entry.specs.declared.CheckResult.{CheckResult}
-use Rattle.checker_entry.specs.declared.Status.the-variants as status
 use Rattle.checker_entry.specs.Answers.{violation-words, Shows, no-check, Says, Checks}
-use Rattle.cone.specs.Alike.{Alike}
-use Rattle.cone.specs.Demand.{Told, told, violation-told, reading-for, SameCheck}
+use Rattle.cone.specs.Demand.{Told, told, violation-told, reading-for}
 use Rattle.independence.proofs.Demand.{demand3}
-use Rattle.demand.specs.Returned.{number-at, invariant-at, SameViolation, Returns, SameReturned, Complete, CheckReturned}
+use Rattle.demand.specs.Returned.{number-at, invariant-at, SameViolation, Complete, CheckReturned}
 use Rattle.demand.proofs.Places.{In, at-place, invariant-in}
 use Rattle.demand.proofs.Numbers as numbers
 

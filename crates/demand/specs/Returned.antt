@@ -1,6 +1,6 @@
 -- Demand 3 of what `check` and `verify` return. An answer names texts by their places in its own file, so two answers are compared by the
 -- texts at those places.
-use Prim.Native.Nat.{ℕ, _+_, _*_, _≤_, _<_}
+use Prim.Native.Nat.{ℕ, _+_, _*_, _<_}
 use mathlib.Core.Path.{_≡_}
 use mathlib.Core.Bool.{false}
 use mathlib.Core.List.{List, []}

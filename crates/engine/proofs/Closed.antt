@@ -1,4 +1,5 @@
--- What every primitive change of the engine keeps, a whole simulation keeps: one law for facts that hold throughout.
+-- What every primitive change of the engine keeps, each of its steps and a whole simulation keep: one law for facts that
+-- hold throughout.
 -- With it: if no area overflowed, the records fit the record area.
 use Prim.Native.Nat.{ℕ, suc, _+_, _≤_, zero}
 use mathlib.Core.Path.{_≡_, refl, ap, subst, sym}
@@ -119,17 +120,17 @@ pub record Closed (P : Engine → Type 0) : Type 0 where
   pub on-queue : (l : List Item) (e : Engine) → P e → P (with-queue l e)
 
 module _ (P : Engine → Type 0) (c : Closed P) where
-  c-adds : (l : List Item) (e : Engine) → P e → P (adds l e)
+  pub c-adds : (l : List Item) (e : Engine) → P e → P (adds l e)
   unfolding adds through
   c-adds [] e p = p
   c-adds (i ∷ l) e p = c-adds l (add i e) (c .on-add i e p)
 
-  c-store : (r : Run) (e : Engine) → P e → P (store r e)
+  pub c-store : (r : Run) (e : Engine) → P e → P (store r e)
   unfolding store
   c-store r e p = c .on-runs _ e p
 
   module _ (now : ℕ) where
-    c-log : (k : Kind) (id : Option Text) (s : Option Source) (d : Option Change) (e : Engine) → P e
+    pub c-log : (k : Kind) (id : Option Text) (s : Option Source) (d : Option Change) (e : Engine) → P e
         → P (log now k id s d e)
     unfolding log
     c-log k id s d e p = c .on-append _ e p
@@ -145,11 +146,11 @@ module _ (P : Engine → Type 0) (c : Closed P) where
     c-some f h none e p = p
     c-some f h (some a) e p = h a e p
 
-    c-release : (id : Text) (e : Engine) → P e → P (release now id e)
+    pub c-release : (id : Text) (e : Engine) → P e → P (release now id e)
     unfolding release let-go
     c-release id e p = c-some (let-go now) (λ r e p. c .on-add _ _ (c-store _ e p)) (find (in-line id) (e .runs)) e p
 
-    c-finish : (r : Run) (e : Engine) → P e → P (finish now r e)
+    pub c-finish : (r : Run) (e : Engine) → P e → P (finish now r e)
     unfolding finish log-rule
     c-finish r e p = c-release _ _ (c-log _ _ _ _ _ (c .on-runs _ e p))
 
@@ -157,7 +158,7 @@ module _ (P : Engine → Type 0) (c : Closed P) where
     unfolding wake
     c-wake x from to e p = c-adds _ _ (c .on-runs _ e p)
 
-    c-begin : (r : Automation) (later : Bool) (e : Engine) → P e → P (begin now r later e)
+    pub c-begin : (r : Automation) (later : Bool) (e : Engine) → P e → P (begin now r later e)
     unfolding begin log-rule
     c-begin r later e p = c-adds _ _ (c-log _ _ _ _ _ (c .on-run _ e p))
 
@@ -169,7 +170,7 @@ module _ (P : Engine → Type 0) (c : Closed P) where
     c-carry stop-and-start r e p = c-begin r false _ (c-log _ _ _ _ _ (c .on-runs _ e p))
     c-carry wait-in-line r e p = c-begin r true e p
 
-    c-admit : (v : Truth) (r : Automation) (e : Engine) → P e → P (admit now v r e)
+    pub c-admit : (v : Truth) (r : Automation) (e : Engine) → P e → P (admit now v r e)
     unfolding admit
     c-admit Yes r e p = go (r .notes)
       where
@@ -184,14 +185,14 @@ module _ (P : Engine → Type 0) (c : Closed P) where
     c-admit No r e p = p
     c-admit Unknown r e p = c .on-uncertain _ e p
 
-    c-offers : (x from to : Text) (l : List Automation) (e : Engine) → P e → P (through (offer now x from to) l e)
+    pub c-offers : (x from to : Text) (l : List Automation) (e : Engine) → P e → P (through (offer now x from to) l e)
     unfolding through offer
     c-offers x from to [] e p = p
     c-offers x from to (r ∷ l) e p =
         c-offers x from to l _ (if-prop P (any (matches x from to) (r .triggers))
         (λ _. c-admit _ r _ (c-log _ _ _ _ e p)) (λ _. p))
 
-    c-tested : (v : Truth) (r : Run) (e : Engine) → P e → P (tested now v r e)
+    pub c-tested : (v : Truth) (r : Run) (e : Engine) → P e → P (tested now v r e)
     unfolding tested
     c-tested Yes r e p = c .on-add _ e p
     c-tested No r e p = c-finish r e p
@@ -334,12 +335,12 @@ record Held (areas : Areas) (e : Engine) : Type 0 where
   fit : e .overflow ≡ none → length (e .trace) ≤ areas .records
 
 -- a note stays
-sticky : (n used size : ℕ) (o : Option ℕ) → noted n used size o ≡ none → o ≡ none
+pub sticky : (n used size : ℕ) (o : Option ℕ) → noted n used size o ≡ none → o ≡ none
 unfolding noted
 sticky n used size none e = refl
 sticky n used size (some m) e = e
 
-had-room : (n used size : ℕ) (o : Option ℕ) → noted n used size o ≡ none → used + 1 ≤ size
+pub had-room : (n used size : ℕ) (o : Option ℕ) → noted n used size o ≡ none → used + 1 ≤ size
 unfolding noted
 had-room n used size none e = go (case (leb size used))
   where

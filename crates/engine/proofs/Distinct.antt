@@ -1,55 +1,24 @@
 -- An accepted file's automations have distinct identifiers, and a simulation of it keeps to the modes from its start
 -- to its end: the invariant of Modes for each automation of the file.
 use Prim.Native.Nat.{ℕ}
-use mathlib.Core.Path.{_≡_, refl, sym, ap, _∙_, subst}
-use mathlib.Core.Bool.{Bool, true, false, _||_, true≢false, false≢true}
+use mathlib.Core.Path.{_≡_, sym, ap, _∙_, subst}
+use mathlib.Core.Bool.{false, _||_, true≢false}
 use mathlib.Core.List.{List, [], _∷_, List·Memᴰ, List·Memᴰ·head, List·Memᴰ·tail}
 use Rattle.texts.specs.Lists.{any}
 use Rattle.texts.specs.Texts.{Text, eqT, memT}
-use Rattle.model.specs.Answer.{Answer, answer, refused, Verdict, _>>=_, _and_, _when_}
+use Rattle.model.specs.Answer.{answer}
 use Rattle.model.specs.Model.{Entity, Automation, Event, Model}
-use Rattle.model.specs.File.{decode}
-use Rattle.model.specs.Validate.{bad-length, check-rule, check-rules, validate, accepted}
+use Rattle.model.specs.Validate.{bad-length, check-rule, check-rules, accepted}
 use Rattle.engine.specs.Cells.{Cell}
 use Rattle.engine.specs.Records.{Areas}
 use Rattle.engine.specs.Unsupported.{unsupported}
 use Rattle.engine.specs.Engine.{begun, loop}
 use Rattle.engine.specs.Simulate.{ended}
 use Rattle.engine.proofs.Lists.{eqT-same, or-no, Each, each-weak}
+use Rattle.engine.proofs.Validated.{accepted-passed}
+pub use Rattle.engine.proofs.Validated.{answer-eq, refused-answer, bind-inv, and-inv, when-inv, or-no′}
 use Rattle.engine.proofs.Keeps.{known-in, Only, Within, closed-keeps}
 use Rattle.engine.proofs.Modes.{at-start, loop-reaches, reached-keeps}
-
--- ---- answers
-
-pub answer-eq : {A : Type 0} {a b : A} → answer a ≡ answer b → a ≡ b
-answer-eq e = cc
-
-pub refused-answer : {A : Type 0} {n : ℕ} {a : A} → refused n ≡ answer a → ⊥
-refused-answer {A} e = false≢true (ap is-answer e)
-  where
-    is-answer : Answer A → Bool
-    is-answer (answer a) = true
-    is-answer (refused n) = false
-
-pub bind-inv : {A B : Type 0} (x : Answer A) (f : A → Answer B) (b : B) → (x >>= f) ≡ answer b
-    → (a : A) × ((x ≡ answer a) × (f a ≡ answer b))
-unfolding _>>=_
-bind-inv (answer a) f b e = (a, (refl, e))
-bind-inv (refused n) f b e = absurd (refused-answer e)
-
-pub and-inv : {A : Type 0} (v : Verdict) (x : Answer A) (b : A) → (v and x) ≡ answer b → x ≡ answer b
-unfolding _and_
-and-inv (answer u) x b e = e
-and-inv (refused n) x b e = absurd (refused-answer e)
-
-pub when-inv : {A : Type 0} (n : ℕ) (t : Bool) (x : Answer A) (b : A) → ((n when t) and x) ≡ answer b → t ≡ false
-unfolding _and_ _when_
-when-inv n true x b e = absurd (refused-answer e)
-when-inv n false x b e = refl
-
-pub or-no′ : (a b : Bool) → a || b ≡ false → b ≡ false
-or-no′ true b h = absurd (true≢false h)
-or-no′ false b h = h
 
 -- ---- identifiers
 
@@ -70,25 +39,10 @@ rules-fresh es ids (r ∷ rs) n k e =
       rules-fresh es (r .id ∷ ids) rs (b .0) k (b .1 .1),
     )
 
-validate-fresh : (m m′ : Model) → validate m ≡ answer m′ → (m ≡ m′) × Fresh [] (m .rules)
-unfolding validate
-validate-fresh m m′ e =
-    go (and-inv _ _ m′ (and-inv _ _ m′ (and-inv _ _ m′
-    (and-inv _ _ m′ (and-inv _ _ m′ (and-inv _ _ m′ (and-inv _ _ m′ (and-inv _ _ m′ e))))))))
-  where
-    go : (check-rules (m .scenario .entities) [] (m .rules) 0 >>= λ n. answer m) ≡ answer m′
-        → (m ≡ m′) × Fresh [] (m .rules)
-    go q =
-        let b : (k : ℕ) × ((check-rules (m .scenario .entities) [] (m .rules) 0 ≡ answer k) × (answer m ≡ answer m′)) =
-        bind-inv (check-rules (m .scenario .entities) [] (m .rules) 0) (λ n. answer m) m′ q in
-        (answer-eq (b .1 .1), rules-fresh (m .scenario .entities) [] (m .rules) 0 (b .0) (b .1 .0))
-
 pub accepted-fresh : (file : List ℕ) (m : Model) → accepted file ≡ answer m → Fresh [] (m .rules)
-unfolding accepted
 accepted-fresh file m e =
-    let b : (a : Model) × ((decode file ≡ answer a) × (validate a ≡ answer m)) = bind-inv (decode file) validate m e in
-    let v : (b .0 ≡ m) × Fresh [] (b .0 .rules) = validate-fresh (b .0) m (b .1 .1) in
-    subst (λ (x : Model). Fresh [] (x .rules)) (v .0) (v .1)
+    let p = accepted-passed file m e in
+    rules-fresh (m .scenario .entities) [] (m .rules) 0 (p .actions) (p .rules)
 
 -- those after the identifiers have none of them
 fresh-each : (ids : List Text) (l : List Automation) → Fresh ids l → Each (λ r. memT (r .id) ids ≡ false) l

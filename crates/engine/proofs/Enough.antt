@@ -1,19 +1,18 @@
 -- Areas of the sizes in specs/Bounds are enough: an accepted model's simulation is never refused with 41, 42 or 43.
 -- One item of work puts in at most 544 items and 96 records, an accepted model has at most 512 runs at once.
 use Prim.Native.Nat.{ℕ, zero, suc, _+_, _*_, _≤_}
-use mathlib.Core.Path.{_≡_, refl, ap, _∙_, subst}
+use mathlib.Core.Path.{_≡_, refl, ap, _∙_}
 use mathlib.Core.Bool.{Bool, true, false, _||_, true≢false, false≢true}
 use mathlib.Core.List.{List, [], _∷_, List·Memᴰ, List·Memᴰ·head, List·Memᴰ·tail}
 use mathlib.Core.Option.{Option, none, some}
 use native.Mathlib.Omega.{arith}
 use lib.Dec.{leb, ltb, eqb}
 use lib.ListN.{length, length-append}
-use Rattle.texts.specs.Lists.{_▸_, any, tally, each, flat, through, is-empty}
+use Rattle.texts.specs.Lists.{_▸_, any, tally, each, flat, through}
 use Rattle.texts.specs.Texts.{Text, eqT}
 use Rattle.model.specs.Answer.{answer, _>>=_}
 use Rattle.model.specs.Model.{Mode, single, queued, parallel, Entity, done, Automation, Input, reload, Event, Model}
-use Rattle.model.specs.File.{decode}
-use Rattle.model.specs.Validate.{bad-size, bad-bounds, check-rule, check-rules, validate, accepted}
+use Rattle.model.specs.Validate.{bad-bounds, check-rule, check-rules, accepted}
 use Rattle.engine.specs.Bounds.{Enough}
 use Rattle.engine.specs.Cells.{Cell, initial-cells}
 use Rattle.engine.specs.Modes.{most}
@@ -59,16 +58,8 @@ use Rattle.engine.proofs.Lists.{
 use Rattle.engine.proofs.Runs.{Fit}
 use Rattle.engine.proofs.Keeps.{Kept, Only, Knows, known-in, k-wake, k-offer, process-keeps, begun-keeps}
 use Rattle.engine.proofs.Modes.{all-known}
-use Rattle.engine.proofs.Distinct.{
-  bind-inv,
-  and-inv,
-  when-inv,
-  or-no′,
-  answer-eq,
-  Fresh,
-  only-one,
-  accepted-fresh,
-}
+use Rattle.engine.proofs.Validated.{accepted-passed, few-parts}
+use Rattle.engine.proofs.Distinct.{bind-inv, and-inv, when-inv, or-no′, Fresh, only-one, accepted-fresh}
 use Rattle.engine.proofs.Bounds
 
 -- ---- an accepted model's sizes
@@ -111,40 +102,16 @@ record Sizes (m : Model) : Type 0 where
   events : length (m .scenario .events) ≤ 100
   few : Each Small (m .rules)
 
-validate-sizes : (m m′ : Model) → validate m ≡ answer m′ → (m ≡ m′) × Sizes m
-unfolding validate
-validate-sizes m m′ e =
-    let e₁ = and-inv _ _ m′ e in
-    go (when-inv 2 (bad-size m) _ m′ e₁) (and-inv _ _ m′
-    (and-inv _ _ m′ (and-inv _ _ m′ (and-inv _ _ m′ (and-inv _ _ m′ (and-inv _ _ m′ (and-inv _ _ m′ e₁)))))))
-  where
-    go : bad-size m ≡ false → (check-rules (m .scenario .entities) [] (m .rules) 0 >>= λ n. answer m) ≡ answer m′
-        → (m ≡ m′) × Sizes m
-    go s q =
-        let b : (k : ℕ) × ((check-rules (m .scenario .entities) [] (m .rules) 0 ≡ answer k) × (answer m ≡ answer m′)) =
-        bind-inv (check-rules (m .scenario .entities) [] (m .rules) 0) (λ n. answer m) m′ q in
-        let E = is-empty (m .scenario .entities) in
-        let N = ltb 32 (length (m .scenario .entities)) in
-        let R = ltb 32 (length (m .rules)) in
-        let X = ltb 100 (length (m .scenario .events)) in
-        let s₁ : ((E || N) || R) || X ≡ false = or-no (((E || N) || R) || X)
-        (ltb 32 (length (m .scenario .invariants))) (unfold bad-size in s) in
-        let s₂ : (E || N) || R ≡ false = or-no ((E || N) || R) X s₁ in (
-          answer-eq (b .1 .1),
-          record {
-            entities = ltb-no 32 (length (m .scenario .entities)) (or-no′ E N (or-no (E || N) R s₂));
-            rules = ltb-no 32 (length (m .rules)) (or-no′ (E || N) R s₂);
-            events = ltb-no 100 (length (m .scenario .events)) (or-no′ ((E || N) || R) X s₁);
-            few = rules-small (m .scenario .entities) [] (m .rules) 0 (b .0) (b .1 .0);
-          },
-        )
-
 accepted-sizes : (file : List ℕ) (m : Model) → accepted file ≡ answer m → Sizes m
-unfolding accepted
 accepted-sizes file m e =
-    let b : (a : Model) × ((decode file ≡ answer a) × (validate a ≡ answer m)) = bind-inv (decode file) validate m e in
-    let v : (b .0 ≡ m) × Sizes (b .0) = validate-sizes (b .0) m (b .1 .1) in
-    subst Sizes (v .0) (v .1)
+    let p = accepted-passed file m e in
+    let f = few-parts m (p .size) in
+    record {
+      entities = f .entities;
+      rules = f .rules;
+      events = f .events;
+      few = rules-small (m .scenario .entities) [] (m .rules) 0 (p .actions) (p .rules);
+    }
 
 -- ---- all runs together
 

@@ -3,6 +3,8 @@ pub mod Kleene
 -- laws on lists; on the engine's runs
 pub mod Lists
 pub mod Runs
+-- what an accepted file has passed
+pub mod Validated
 -- the modes: the invariant, the page's statements, accepted files, and that no queued run is left behind
 pub mod Keeps
 pub mod Modes

@@ -1,14 +1,16 @@
 -- Laws on tests and on lists: how many pass a test, and what holds of each, after the list is filtered or changed.
 -- Every change that the engine makes to its runs is one of `keep`, `each` and an element put at the end.
-use Prim.Native.Nat.{ℕ, _+_, _≤_}
+use Prim.Native.Nat.{ℕ, suc, _+_, _≤_}
 use mathlib.Core.Path.{_≡_, refl, sym, ap, subst}
 use mathlib.Core.Bool.{Bool, true, false, not, _&&_, _||_, true≢false, false≢true}
 use mathlib.Core.List.{List, [], _∷_, _++_}
 use mathlib.Core.Option.{Option, none, some}
 use native.Mathlib.Omega.{arith}
+use lib.ListN.{length}
 use lib.Dec.{eqb, leb, T, leb→le, le→leb, eqb→eq, eqb-refl, nleb→lt}
 use Rattle.texts.specs.Lists.{if_then_else_, keep, find, tally, each}
-use Rattle.texts.specs.Texts.{Text, eqT}
+use Rattle.texts.specs.Texts.{Text, eqT, ltT, insertT, sortedT}
+pub use Rattle.engine.specs.Each.{Each}
 
 -- ---- tests
 
@@ -179,10 +181,6 @@ module _ {A : Type 0} where
 
   -- ---- what holds of each
 
-  abbrev pub Each : (A → Type 0) → List A → Type 0
-  Each P [] = Unit {0}
-  Each P (x ∷ l) = P x × Each P l
-
   pub each-keep : (P : A → Type 0) (p : A → Bool) (l : List A) → Each P l → Each P (keep p l)
   unfolding keep
   each-keep P p [] h = tt
@@ -248,3 +246,26 @@ module _ {A B : Type 0} where
   unfolding tally each
   tally-each p f [] = refl
   tally-each p f (x ∷ l) = ap (λ (n : ℕ). one (p (f x)) + n) (tally-each p f l)
+
+-- what holds of each of two lists
+pub each-split : {A : Type 0} (P : A → Type 0) (l m : List A) → Each P (l ++ m) → Each P l × Each P m
+each-split P [] m h = (tt, h)
+each-split P (x ∷ l) m h = let r = each-split P l m (h .1) in ((h .0, r .0), r .1)
+
+-- ---- sorted texts
+
+insert-many : (t : Text) (l : List Text) → length (insertT t l) ≤ length l + 1
+unfolding insertT
+insert-many t [] = omega arith
+insert-many t (y ∷ l) = by (eqT t y) (ltT t y) (insert-many t l)
+  where
+    by : (a b : Bool) → length (insertT t l) ≤ length l + 1
+        → length (if a then y ∷ l else if b then t ∷ y ∷ l else y ∷ insertT t l) ≤ suc (length l) + 1
+    by true b h = omega arith
+    by false true h = omega arith
+    by false false h = omega arith
+
+pub sorted-many : (l : List Text) → length (sortedT l) ≤ length l
+unfolding sortedT
+sorted-many [] = omega arith
+sorted-many (t ∷ l) = omega (arith, insert-many t (sortedT l), sorted-many l)

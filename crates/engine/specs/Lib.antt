@@ -1,3 +1,4 @@
+pub mod Each
 pub mod Cells
 pub mod Kleene
 pub mod Truth

@@ -49,8 +49,3 @@ module _ (enc : Trace → List ℕ) {A : Type 0} (shown : A → List Trace) wher
 -- after `simulate`
 unfoldable pub simulate-lent : (enc : Trace → List ℕ) → (words : Areas) → (file : List ℕ) → Lent → Lent
 simulate-lent enc words file l = lent-after enc (λ (s : Simulation). s .trace) (simulate (entries words l) file) l
-
--- opens the file, for proofs by computation
-unfoldable pub all-memory : Unit {0}
-unfolding entries zeros all-zeros begins lent-after simulate-lent
-all-memory = tt

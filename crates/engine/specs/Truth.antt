@@ -1,5 +1,5 @@
 -- engine.rs: the truth of predicates, and what a trigger matches.
-use mathlib.Core.Bool.{Bool, true, false, _&&_, not}
+use mathlib.Core.Bool.{Bool, _&&_, not}
 use mathlib.Core.List.{List, [], _∷_}
 use mathlib.Core.Option.{none, some}
 use Rattle.texts.specs.Lists.{if_then_else_, absent, absent-or}

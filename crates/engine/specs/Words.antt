@@ -1,11 +1,11 @@
 -- What stands in the record area, word for word (docs/FORMAT.md): texts as places among the file's texts, automations as numbers.
-use Prim.Native.Nat.{ℕ}
+use Prim.Native.Nat.{ℕ, _/_}
 use mathlib.Core.List.{List, [], _∷_, _++_}
 use mathlib.Core.Option.{Option, none, some}
 use Rattle.texts.specs.Lists.{if_then_else_, each}
 use Rattle.texts.specs.Texts.{Text}
-use Rattle.model.specs.Answer.{Answer, answer, refused}
-use Rattle.model.specs.Model.{Source, Model}
+use Rattle.model.specs.Answer.{answer, refused}
+use Rattle.model.specs.Model.{Source}
 use Rattle.model.specs.File.{got, broken, texts}
 use Rattle.model.specs.Rewrite.{place-of}
 use Rattle.model.specs.Validate.{accepted}
@@ -91,6 +91,10 @@ words-in file t = elim (accepted file) [ answer m ↦ trace-words (texts-in file
 -- how many words an entry of each area has
 abbrev pub entry-words : Areas
 entry-words = record { queue = 5; records = 13; runs = 28 }
+
+-- how many entries areas of so many words hold
+abbrev pub sizes : (queue records runs : ℕ) → Areas
+sizes q a u = record { queue = q / 5; records = a / 13; runs = u / 28 }
 
 -- the lent areas after `simulate`
 unfoldable pub simulate-memory : (file : List ℕ) → Lent → Lent

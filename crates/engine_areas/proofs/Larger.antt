@@ -1,16 +1,16 @@
 -- A simulation that isn't refused is the same in larger areas. Each change of the engine does the same in both, unless an area
 -- overflows; and a note of an overflow stays.
 use Prim.Native.Nat.{ℕ, zero, suc, _+_, _≤_}
-use mathlib.Core.Path.{_≡_, refl, sym, ap, _∙_}
+use mathlib.Core.Path.{_≡_, refl, ap, _∙_}
 use mathlib.Core.Bool.{Bool, true, false, not, _&&_, _||_}
 use mathlib.Core.List.{List, [], _∷_, _++_}
 use mathlib.Core.Option.{Option, none, some}
 use native.Mathlib.Omega.{arith}
-use lib.Dec.{eqb, leb}
+use lib.Dec.{eqb}
 use lib.ListN.{length}
 use Rattle.texts.specs.Lists.{if_then_else_, _▸_, absent, any, keep, find, tally, each, flat, through}
 use Rattle.texts.specs.Texts.{Text, text, eqT}
-use Rattle.model.specs.Answer.{Answer, answer, refused}
+use Rattle.model.specs.Answer.{answer}
 use Rattle.model.specs.Validate.{undecided}
 use Rattle.model.specs.Model.{Source, Trigger, Effect, toggle, delay, condition, choose, wait, Actions, done, act, Automation, Input, reload, Event, Model}
 use Rattle.engine.specs.Cells.{Cell, cell-of, value-of, put}
@@ -22,26 +22,13 @@ use Rattle.engine.specs.Modes.{Decision, already-running, max-reached, start, s
 use Rattle.engine.specs.Records.{Key, Waiting, Run, Work, Item, Kind, Change, Trace, Areas, Engine}
 use Rattle.engine.specs.Changes.{if-some, noted, with-cells, add, append, with-runs, add-run, uncertain, adds, with-queue}
 use Rattle.engine.specs.Engine.{is-run, of-rule, other-run, of-other-rule, in-line, in-place, store, left, new-run, awaits, woken, toggled, select, next-step, log, log-rule, log-action, expiry, expiry-of, change-of, update, let-go, release, finish, wake, begin, carry-out, admit, offer, trigger, go-on-after, write, flip, tested, chosen, begin-wait, perform, go-on, step, resume, wait-over, end-wait, time-out, expire, go-stale, drop-runs, process, pop, Next, stop, exhausted, take, next-of, Ended, loop, event-item, begun, left-over, last-record, closed}
-use Rattle.engine.specs.Simulate.{Simulation, ended, outcome, unless-full, simulated}
-use Rattle.engine.proofs.Lists.{Case, is-true, is-false, case, leb-no, lt-leb, none-some}
+use Rattle.engine.specs.Simulate.{ended, outcome, unless-full, simulated}
+use Rattle.engine.proofs.Lists.{lt-leb}
+use Rattle.engine.proofs.Closed.{sticky, had-room}
 use Rattle.engine.proofs.Distinct.{answer-eq, refused-answer}
 use Rattle.engine_areas.specs.Larger.{Larger, SameInLarger}
 
 -- ---- notes
-
-sticky : (n used size : ℕ) (o : Option ℕ) → noted n used size o ≡ none → o ≡ none
-unfolding noted
-sticky n used size none e = refl
-sticky n used size (some m) e = e
-
-had-room : (n used size : ℕ) (o : Option ℕ) → noted n used size o ≡ none → used + 1 ≤ size
-unfolding noted
-had-room n used size none e = go (case (leb size used))
-  where
-    go : Case (leb size used) → used + 1 ≤ size
-    go (is-true a) = absurd (none-some (sym (rw a at e)))
-    go (is-false a) = leb-no size used a
-had-room n used size (some m) e = absurd (none-some (sym e))
 
 fresh : (n used size : ℕ) → used + 1 ≤ size → noted n used size none ≡ none
 unfolding noted

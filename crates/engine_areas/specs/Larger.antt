@@ -1,5 +1,5 @@
 -- Areas that hold at least as many entries. What isn't refused in areas is the same in larger ones.
-use Prim.Native.Nat.{ℕ, _≤_}
+use Prim.Native.Nat.{_≤_}
 use mathlib.Core.Path.{_≡_}
 use mathlib.Core.List.{List}
 use Rattle.model.specs.Answer.{answer}

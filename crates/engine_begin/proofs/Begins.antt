@@ -1,7 +1,6 @@
 -- What a simulation begins with is the model's: the values that its entities start with, and its events.
 use mathlib.Core.Path.{_≡_, refl, sym, ap, _∙_, subst}
 use mathlib.Core.List.{List, [], _∷_}
-use mathlib.Core.Bool.{true}
 use Prim.Native.Nat.{ℕ, zero, suc, _+_, _*_, _/_, _%_, _≤_, _<_}
 use native.Mathlib.Omega.{arith}
 use lib.ListN.{length, getD, replicate}
@@ -9,25 +8,25 @@ use borrow.Author.Tests.{lt-ltb}
 use Rattle.texts.specs.Lists.{each}
 use Rattle.texts.specs.Texts.{Text}
 use Rattle.model.specs.Answer.{answer, accept}
-use Rattle.model.specs.Model.{Entity, Event, Input, reload, Model}
-use Rattle.model.specs.File.{got, Reader, _>>=_, give, refuse, u32, place, entity, input, event}
+use Rattle.model.specs.Model.{Entity, Event, Input, Model}
+use Rattle.model.specs.File.{got, refuse, u32, place, entity, input, event, input-kinds}
+use Rattle.model.specs.Events.{InputWords}
 use Rattle.model.specs.Validate.{check-input, accepted}
 use Rattle.model_walk.proofs.Found as found
 use Rattle.model_walk.proofs.Found.{bound, given, u8-wide, u16-wide, u32-wide, kind-found, place-found, entity-found}
 use Rattle.model_index.specs.declared.Index.{Index}
 use Rattle.model_index.specs.Indexed.{Indexed}
 use Rattle.engine.specs.Cells.{initial-cells}
-use Rattle.engine.proofs.Lists.{Each}
+use Rattle.engine.proofs.Lists.{Each, each-split}
 use Rattle.engine_reads.specs.Reads.{two, four, cap, atMost}
 use Rattle.engine_reads.proofs.Laws.{most-yes}
 use Rattle.engine_state.specs.declared.Cells.{Cells}
 use Rattle.engine_places.specs.Meaning.{cells-of, Tabled}
 use Rattle.engine_places.proofs.Accepted.{accepted-lawful}
-use Rattle.engine_places.proofs.Checked.{each-split}
 use Rattle.engine_places.proofs.Lists as lists
 use Rattle.engine_places.proofs.Numbers.{byte-is, two-is, four-is, cap-is}
-use Rattle.engine_places.proofs.Outcome.{InputWords, event-at, start-cells}
-use Rattle.engine_places.proofs.Simulated.{EventAt}
+use Rattle.engine_places.proofs.Outcome.{event-at, start-cells}
+use Rattle.engine_places.specs.Events.{EventAt}
 use Rattle.engine_places.proofs.Truth.{Valued}
 use Rattle.engine_table.proofs.Tabled.{times-wide}
 use Rattle.engine_begin.specs.Begin.{event-part, event-from, EventsOf, initial-at, value-from, CellsOf}
@@ -57,6 +56,40 @@ module _ (f : List ℕ) (ts : List Text) where
         value-is = g .initial .is-text ∙ ap (λ (k : ℕ). getD ts k []) (sym w);
         inside = omega (arith, a .inside);
       }
+
+  pub input-inside : (p : ℕ) (v : Input) (q : ℕ) → input ts f p ≡ got v q → p ≤ length f
+  unfolding input
+  input-inside p v q h = let z = u8-wide f p (kind-found (input-kinds ts) h .is-kind) in omega (arith, z .inside)
+
+  -- an input's words are those of its bytes
+  pub input-read : (p : ℕ) (v : Input) (q : ℕ) → input ts f p ≡ got v q →
+      InputWords ts (getD f p 0) (two f (p + 1)) (two f (p + 3)) v
+  unfolding input
+  input-read p v q h = cases (k .kind) (byte-is f p (k .is-kind)) (k .holds)
+    where
+      k : found.Kind (input-kinds ts) f p v q
+      k = kind-found (input-kinds ts) h
+
+      cases : (n : ℕ) → getD f p 0 ≡ n → getD (input-kinds ts) n refuse f (k .next) ≡ got v q →
+          InputWords ts (getD f p 0) (two f (p + 1)) (two f (p + 3)) v
+      cases zero e y =
+          let a = bound (place ts) _ y in
+          let b = bound (place ts) _ (a .rest) in
+          let g = given _ _ _ (b .rest) in
+          let u = place-found ts (a .first) in
+          let w = place-found ts (b .first) in
+          let z = u8-wide f p (k .is-kind) in
+          let o = u16-wide f (k .next) (u .is-place) in
+          let eu : two f (p + 1) ≡ u .at = ap (two f) (sym (z .ends)) ∙ two-is f (k .next) (u .is-place) in
+          let at : p + 3 ≡ a .next = omega (arith, z .ends, o .ends) in
+          let ew : two f (p + 3) ≡ w .at = ap (two f) at ∙ two-is f (a .next) (w .is-place) in
+          subst (InputWords ts (getD f p 0) (two f (p + 1)) (two f (p + 3))) (g .0)
+          (e, ((subst (λ (n : ℕ). n < length ts) (sym eu) (u .is-in), u .is-text ∙ ap (λ (n : ℕ). getD ts n []) (sym eu)), (subst (λ (n : ℕ). n < length ts) (sym ew) (w .is-in), w .is-text ∙ ap (λ (n : ℕ). getD ts n []) (sym ew))))
+      cases (suc zero) e y =
+          subst (InputWords ts (getD f p 0) (two f (p + 1)) (two f (p + 3))) (given _ _ _ y .0) e
+      cases (suc (suc zero)) e y =
+          subst (InputWords ts (getD f p 0) (two f (p + 1)) (two f (p + 3))) (given _ _ _ y .0) e
+      cases (suc (suc (suc n))) e y = absurd (found.refused f (k .next) y)
 
 -- ---- of an accepted file
 
@@ -117,41 +150,9 @@ module _ (f x : List ℕ) (i : Index) (m : Model) (acc : accepted f ≡ answer m
 
   -- ---- the events
 
-  input-kinds : List (Reader Input)
-  input-kinds = (place ts >>= λ e. place ts >>= λ v. give (Input.set e v)) ∷ give Input.restart ∷ give reload ∷ []
-
-  input-read : (p : ℕ) (v : Input) (q : ℕ) → input ts f p ≡ got v q →
-      InputWords f x ts m tb (getD f p 0) (two f (p + 1)) (two f (p + 3)) v
-  unfolding input input-kinds
-  input-read p v q h = cases (k .kind) (byte-is f p (k .is-kind)) (k .holds)
-    where
-      k : found.Kind input-kinds f p v q
-      k = kind-found input-kinds h
-
-      cases : (n : ℕ) → getD f p 0 ≡ n → getD input-kinds n refuse f (k .next) ≡ got v q →
-          InputWords f x ts m tb (getD f p 0) (two f (p + 1)) (two f (p + 3)) v
-      cases zero e y =
-          let a = bound (place ts) _ y in
-          let b = bound (place ts) _ (a .rest) in
-          let g = given _ _ _ (b .rest) in
-          let u = place-found ts (a .first) in
-          let w = place-found ts (b .first) in
-          let z = u8-wide f p (k .is-kind) in
-          let o = u16-wide f (k .next) (u .is-place) in
-          let eu : two f (p + 1) ≡ u .at = ap (two f) (sym (z .ends)) ∙ two-is f (k .next) (u .is-place) in
-          let at : p + 3 ≡ a .next = omega (arith, z .ends, o .ends) in
-          let ew : two f (p + 3) ≡ w .at = ap (two f) at ∙ two-is f (a .next) (w .is-place) in
-          subst (InputWords f x ts m tb (getD f p 0) (two f (p + 1)) (two f (p + 3))) (g .0)
-          (e, ((subst (λ (n : ℕ). n < length ts) (sym eu) (u .is-in), u .is-text ∙ ap (λ (n : ℕ). getD ts n []) (sym eu)), (subst (λ (n : ℕ). n < length ts) (sym ew) (w .is-in), w .is-text ∙ ap (λ (n : ℕ). getD ts n []) (sym ew))))
-      cases (suc zero) e y =
-          subst (InputWords f x ts m tb (getD f p 0) (two f (p + 1)) (two f (p + 3))) (given _ _ _ y .0) e
-      cases (suc (suc zero)) e y =
-          subst (InputWords f x ts m tb (getD f p 0) (two f (p + 1)) (two f (p + 3))) (given _ _ _ y .0) e
-      cases (suc (suc (suc n))) e y = absurd (found.refused f (k .next) y)
-
   record EventRead (p : ℕ) (v : Event) : Type 0 where
     second : four f p ≡ v .at
-    words : InputWords f x ts m tb (getD f (p + 4) 0) (two f (p + 5)) (two f (p + 7)) (v .input)
+    words : InputWords ts (getD f (p + 4) 0) (two f (p + 5)) (two f (p + 7)) (v .input)
     inside : p ≤ length f
 
   event-read : (p : ℕ) (v : Event) (q : ℕ) → event ts f p ≡ got v q → EventRead p v
@@ -163,10 +164,10 @@ module _ (f x : List ℕ) (i : Index) (m : Model) (acc : accepted f ≡ answer m
       let w = u32-wide f p (a .first) in
       let five : p + 4 + 1 ≡ p + 5 = omega arith in
       let seven : p + 4 + 3 ≡ p + 7 = omega arith in
-      let r : InputWords f x ts m tb (getD f (p + 4) 0) (two f (p + 4 + 1)) (two f (p + 4 + 3)) (b .value) = input-read (p + 4) (b .value) (b .next) (ap (input ts f) (sym (w .ends)) ∙ b .first) in
+      let r : InputWords ts (getD f (p + 4) 0) (two f (p + 4 + 1)) (two f (p + 4 + 3)) (b .value) = input-read f ts (p + 4) (b .value) (b .next) (ap (input ts f) (sym (w .ends)) ∙ b .first) in
       subst (EventRead p) (g .0) (record {
         second = four-is f p (a .first);
-        words = subst (λ (n : ℕ). InputWords f x ts m tb (getD f (p + 4) 0) (two f (p + 5)) (two f n) (b .value)) seven (subst (λ (n : ℕ). InputWords f x ts m tb (getD f (p + 4) 0) (two f n) (two f (p + 4 + 3)) (b .value)) five r);
+        words = subst (λ (n : ℕ). InputWords ts (getD f (p + 4) 0) (two f (p + 5)) (two f n) (b .value)) seven (subst (λ (n : ℕ). InputWords ts (getD f (p + 4) 0) (two f n) (two f (p + 4 + 3)) (b .value)) five r);
         inside = omega (arith, w .inside);
       })
 
@@ -198,7 +199,7 @@ module _ (f x : List ℕ) (i : Index) (m : Model) (acc : accepted f ≡ answer m
 
     -- the event's second and its input, as words
     pub words-here : (getD l (k * 4) 0 ≡ v .at)
-        × InputWords f x ts m tb (getD l (k * 4 + 1) 0) (getD l (k * 4 + 2) 0) (getD l (k * 4 + 3) 0) (v .input)
+        × InputWords ts (getD l (k * 4 + 1) 0) (getD l (k * 4 + 2) 0) (getD l (k * 4 + 3) 0) (v .input)
     unfolding event-part
     words-here = (
       ap (λ (n : ℕ). getD l n 0) zero-more ∙ word-at 0 (omega arith) ∙ read .second,

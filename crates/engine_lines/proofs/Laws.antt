@@ -23,7 +23,6 @@ use Rattle.engine.specs.Truth.{truth-name}
 use Rattle.engine.specs.Records.{detail}
 use Rattle.engine_reads.specs.Reads.{word}
 use Rattle.engine_places.specs.Meaning.{verdict-of, id-at, kind-of, rule-of, where-of, change-of, record-of}
-use Rattle.engine_places.proofs.Loop.{reasons-of}
 use Rattle.show.specs.declared.Source.the-variants.{At}
 use Rattle.show.specs.Lines.{newline, quoted, dash, source}
 use Rattle.engine_lines.specs.Lines.{number-line, text-line, sim-incomplete-line, halted, incomplete-of, incomplete-lines, final-line, quoted-if, placed-if, changed, record-line}
@@ -49,11 +48,6 @@ unfolding final-line
 final-is ts p e v h = rw h
 
 -- ---- why a simulation is incomplete
-
--- the definition's reasons
-pub halted-is : (w : ℕ) → halted w ≡ reasons-of w
-unfolding halted reasons-of
-halted-is w = refl
 
 module _ (w : ℕ) where
   pub none-spent : w ≡ 0 → [] ≡ incomplete-lines (halted w)

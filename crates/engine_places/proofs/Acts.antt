@@ -27,7 +27,6 @@ use Rattle.runs.specs.declared.Source.{Source as ASource}
 use Rattle.runs.specs.declared.Phase.the-variants as phase
 use Rattle.reasons.specs.declared.Reason.{Reason}
 use Rattle.reasons.specs.Reasons.{render}
-use Rattle.engine.specs.Kleene as kleene
 use Rattle.engine.specs.Truth.{evaluate}
 use Rattle.engine.specs.Cells.{Cell, value-of}
 use Rattle.engine.specs.Records.{Run, Work, Kind, Waiting, Engine}
@@ -35,6 +34,7 @@ use Rattle.engine.specs.Words.{truth-number, kind-number, detail-number}
 use Rattle.engine.specs.Changes.{add, uncertain}
 use Rattle.engine.specs.Reasons.{toggle-of-unknown, unknown-action-condition, unknown-choose-condition, unsupported-wait}
 use Rattle.engine.specs.Engine.{store, left, waits, toggled, _then_, next-step, log-action, go-on-after, write, flip, tested, chosen, begin-wait, perform, finish, select}
+use Rattle.engine.proofs.Closed.{c-log, c-finish, c-tested}
 use Rattle.model_walk.proofs.Found.{Case, is-true, is-false, case}
 use Rattle.engine_reads.specs.Reads.{two, four, name, entityOf, aboutRule, alone, noteReason}
 use Rattle.engine_truth.specs.Truths.{numberT, undecidedT, evaluateT, selectT}
@@ -42,7 +42,6 @@ use Rattle.engine_truth.specs.Actions.{put-places}
 use Rattle.engine_truth.specs.declared.Truth.{Truth}
 use Rattle.engine_truth.specs.declared.Truth.the-variants.{Yes, No, Unknown}
 use Rattle.engine_truth.specs.declared.Effect.{Effect as AEffect}
-use Rattle.engine_truth.specs.declared.Effect.the-variants as effects
 use Rattle.engine_state.specs.declared.Told.{Told}
 use Rattle.engine_state.specs.Machine.{Machine, later}
 use Rattle.engine_state.specs.Changes.{logM, uncertainM, log-actionM, next-stepM}
@@ -50,19 +49,19 @@ use Rattle.engine_steps.specs.Runs.{no-run, put-runM, nowM, phaseR, finishM}
 use Rattle.engine_actions.specs.Acts as acts
 use Rattle.engine_actions.specs.Acts.{setting, writtenM, setM, toggledM, doubtM, flip-fromM, flip-atM, flipM, delayM, unclearM, testedM, condition-asM, conditionM, take-listM, chosenM, chooseM, waitingM, begin-waitM, give-upM, performM}
 use Rattle.engine_places.specs.Meaning.{truth-of, verdict-of, found-trigger, id-at, key-of, kind-of, work-of, item-of, run-of, wait-of, source-of, cells-of, pool-of, Column, Tabled}
+use Rattle.engine_places.specs.Events.{Declared}
 use Rattle.engine_places.proofs.Numbers.{later-is, most-is}
 use Rattle.engine_places.proofs.Truth.{Valued, undecided-is, fixed-is, evaluate-is, matches-is, Lists, Taken, takes, unclear, select-is}
 use Rattle.engine_places.proofs.Checked.{Pass, PassE, PassB, Known, pass-choose, pass-delay, pass-wait, pass-set, pass-toggle, pass-unknown}
 use Rattle.engine_places.proofs.Effects.{Acts, sets, toggles, delays, conditions, chooses, waits as waits-at, unknowns, deeper}
 use Rattle.engine_places.proofs.Stack.{Pushed, pushed}
 use Rattle.engine_places.proofs.Full.{s-next, s-log-action, s-finish, s-tested}
-use Rattle.engine_places.proofs.Overflow.{overflow-stays, c-log, c-finish, c-tested}
-use Rattle.engine_places.proofs.Relation.{Declared, GoodRun, Live, Sim, live, follow, weaker, add-is, uncertain-is}
+use Rattle.engine_places.proofs.Overflow.{overflow-stays}
+use Rattle.engine_places.proofs.Relation.{GoodRun, Live, Sim, live, follow, weaker, add-is, uncertain-is}
 use Rattle.engine_places.proofs.Words.{text-place, Tells}
 use Rattle.engine_places.proofs.Pool.{pool-is, wait-in, note-is, wait-reason, toggle-reason, choose-reason, action-reason}
 use Rattle.engine_places.proofs.Writes.{Over, log-action-is, next-is, now-is, entity-found, value-is, update-is}
 use Rattle.engine_places.proofs.Runs.{Keyed, store-is, finish-is}
-use Rattle.engine_places.proofs.Lists as lists
 
 -- ---- what stays
 

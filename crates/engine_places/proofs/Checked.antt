@@ -1,7 +1,7 @@
 -- What the check of a list of actions says of its parts: depths, seconds, and entities that are declared.
 -- `Pass es d a`: the list a was accepted at depth d.
 use mathlib.Core.Path.{_≡_, refl}
-use mathlib.Core.List.{List, [], _∷_, _++_}
+use mathlib.Core.List.{List, _++_}
 use mathlib.Core.Bool.{Bool, true}
 use mathlib.Core.Option.{Option, none, some}
 use Prim.Native.Nat.{ℕ, _+_, _≤_}
@@ -10,22 +10,11 @@ use borrow.Author.Tests.{ltb-false}
 use Rattle.texts.specs.Lists.{find, flat}
 use Rattle.texts.specs.Texts.{Text, text, memT}
 use Rattle.model.specs.Notes.{of-predicate, of-effect, of-actions, of-branches}
-use Rattle.model.specs.Answer.{Answer, answer, refused, Verdict, accept, _and_}
+use Rattle.model.specs.Answer.{answer, accept}
 use Rattle.model.specs.Model.{Source, Entity, Trigger, Effect, toggle, delay, choose, wait, Actions, done, act, Branches, no-branch, branch, named}
 use Rattle.model.specs.Validate.{counting, check-value, check-effect, check-actions, check-branches}
-use Rattle.engine.proofs.Lists.{Each}
-use Rattle.engine.proofs.Distinct.{bind-inv, and-inv, when-inv, refused-answer}
-
--- the first of two verdicts
-pub and-first : {A : Type 0} (v : Verdict) (x : Answer A) (b : A) → (v and x) ≡ answer b → v ≡ accept
-unfolding _and_
-and-first (answer tt) x b e = refl
-and-first (refused n) x b e = absurd (refused-answer e)
-
--- what holds of each of two lists
-pub each-split : {A : Type 0} (P : A → Type 0) (l m : List A) → Each P (l ++ m) → Each P l × Each P m
-each-split P [] m h = (tt, h)
-each-split P (x ∷ l) m h = let r = each-split P l m (h .1) in ((h .0, r .0), r .1)
+use Rattle.engine.proofs.Lists.{Each, each-split}
+use Rattle.engine.proofs.Validated.{and-first, bind-inv, and-inv, when-inv, refused-answer}
 
 module _ (es : List Entity) (pool : List Text) where
   -- the text is among the possible reasons

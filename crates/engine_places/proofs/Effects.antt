@@ -10,11 +10,10 @@ use lib.Dec.{eqb}
 use Rattle.texts.specs.Lists.{if_then_else_}
 use Rattle.texts.specs.Texts.{Text}
 use Rattle.model.specs.Model.{Source, Predicate, Trigger, Effect, toggle, delay, condition, choose, wait, Actions, act, Branches, Model}
-use Rattle.model.specs.File.{got, Reader, _>>=_, give, refuse, u8, u16, u32, kinds, counted, flag, source, place, predicate, trigger, branches, effect, actions-of, actions}
+use Rattle.model.specs.File.{got, Reader, give, refuse, u8, u16, u32, kinds, counted, flag, source, place, predicate, trigger, branches, effect, actions-of, actions, effect-kinds}
 use Rattle.model.specs.Notes.{of-effect}
 use Rattle.model_walk.specs.Walk.{seen, capped, by, actionsW, choiceW, simpleW}
 use Rattle.model_walk.specs.declared.Walked.{Walked}
-use Rattle.model_walk.specs.declared.Walked.the-variants as walked
 use Rattle.model_walk.proofs.Laws.{bind-got}
 use Rattle.model_walk.proofs.Sees.{marks, sees-actions, sees-effect, sees-flag}
 use Rattle.model_walk.proofs.Found.{bound, given, u8-wide, u16-wide, u32-wide, kind-wide, Kind, kind-found, place-found}
@@ -49,26 +48,15 @@ module _ (ts : List Text) (f : List ℕ) where
         ∙ bind-got (branches ts s n) _ (branches-more n (a .next) (o .value) (o .next) (o .first))
         ∙ o .rest
 
-    effect-kinds : Reader Actions → List (Reader Effect)
-    effect-kinds inner =
-        (place ts >>= λ x. place ts >>= λ v. give (Effect.set x v))
-        ∷ (place ts >>= λ x. give (toggle x))
-        ∷ (u32 >>= λ n. give (delay n))
-        ∷ (predicate ts >>= λ p. give (condition p))
-        ∷ (u16 >>= λ n. branches ts inner n >>= λ bs. inner >>= λ a. give (choose bs a))
-        ∷ (trigger ts >>= λ t. u32 >>= λ n. flag >>= λ c. give (wait t n c))
-        ∷ (place ts >>= λ r. give (Effect.unknown r))
-        ∷ []
-
     effect-more : Finds (effect ts r) (effect ts s)
-    unfolding effect effect-kinds kinds
+    unfolding effect kinds
     effect-more p b q e = bind-got u8 _ (k .is-kind) ∙ cases (k .kind) (k .holds)
       where
-        k : Kind (effect-kinds r) f p b q
-        k = kind-found (effect-kinds r) e
+        k : Kind (effect-kinds ts r) f p b q
+        k = kind-found (effect-kinds ts r) e
 
-        cases : (i : ℕ) → getD (effect-kinds r) i refuse f (k .next) ≡ got b q →
-            getD (effect-kinds s) i refuse f (k .next) ≡ got b q
+        cases : (i : ℕ) → getD (effect-kinds ts r) i refuse f (k .next) ≡ got b q →
+            getD (effect-kinds ts s) i refuse f (k .next) ≡ got b q
         cases zero g = g
         cases (suc zero) g = g
         cases (suc (suc zero)) g = g
@@ -141,17 +129,6 @@ module _ (f x : List ℕ) (ts : List Text) (mo : Model) (tb : Tabled f x ts mo) 
   abbrev inner : Reader Actions
   inner = actions ts 17
 
-  abbrev rs : List (Reader Effect)
-  rs =
-      (place ts >>= λ x. place ts >>= λ v. give (Effect.set x v))
-      ∷ (place ts >>= λ x. give (toggle x))
-      ∷ (u32 >>= λ n. give (delay n))
-      ∷ (predicate ts >>= λ p. give (condition p))
-      ∷ (u16 >>= λ n. branches ts inner n >>= λ bs. inner >>= λ a. give (choose bs a))
-      ∷ (trigger ts >>= λ t. u32 >>= λ n. flag >>= λ c. give (wait t n c))
-      ∷ (place ts >>= λ r. give (Effect.unknown r))
-      ∷ []
-
   -- where a choice ends
   choice-end : (p o : ℕ) (g : Effect) (q : ℕ) → u8 f p ≡ got 4 o → effect ts inner f p ≡ got g q → q ≤ length f →
       endT (choiceW (getD x 9 0) (actionsW (getD x 9 0) 17) f o 0) o ≡ q
@@ -168,7 +145,7 @@ module _ (f x : List ℕ) (ts : List Text) (mo : Model) (tb : Tabled f x ts mo) 
       at-kind h = rw (k, by) at h
 
   effected : (p o k : ℕ) (g : Effect) (q : ℕ) → u8 f p ≡ got k o → effect ts inner f p ≡ got g q →
-      getD rs k refuse f o ≡ got g q → Effected k o g q
+      getD (effect-kinds ts inner) k refuse f o ≡ got g q → Effected k o g q
   unfolding effectA afterA
   effected p o zero g q k e h =
       let a = bound (place ts) _ h in
@@ -269,7 +246,7 @@ module _ (f x : List ℕ) (ts : List Text) (mo : Model) (tb : Tabled f x ts mo) 
       let r = bound (actions-of ts inner n) _ (g .rest) in
       let z = given _ _ _ (r .rest) in
       let s = source-is f p (c .first) in
-      let k = kind-found rs (g .first) in
+      let k = kind-found (effect-kinds ts inner) (g .first) in
       let w = u8-wide f (c .next) (k .is-kind) in
       let y : c .next ≡ p + 8 = s .ends in
       let b : getD f (p + 8) 0 ≡ k .kind = ap (λ (i : ℕ). getD f i 0) (sym y) ∙ byte-is f (c .next) (k .is-kind) in

@@ -29,9 +29,10 @@ use Rattle.engine_loop.specs.declared.Next.{Next as ANext}
 use Rattle.engine_loop.specs.declared.Next.the-variants as nexts
 use Rattle.engine_loop.specs.Loop.{next-afterM, nextM, why-nextM, whyM, turn-withM, turnM, Halt, halt, loopM}
 use Rattle.engine_places.specs.Meaning.{item-of, record-of, Tabled}
+use Rattle.engine_places.specs.Events.{GoodWork}
 use Rattle.engine_places.proofs.Full.{Stuck}
 use Rattle.engine_places.proofs.Overflow.{overflow-stays}
-use Rattle.engine_places.proofs.Relation.{GoodWork, Live, Sim, live, dead, weaker}
+use Rattle.engine_places.proofs.Relation.{Live, Sim, live, dead, weaker}
 use Rattle.engine_places.proofs.Writes.{Over}
 use Rattle.engine_places.proofs.Works.{process-is}
 use Rattle.engine_places.proofs.Lists as lists

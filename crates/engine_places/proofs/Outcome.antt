@@ -12,8 +12,8 @@ use Rattle.texts.specs.Lists.{if_then_else_, each}
 use Rattle.texts.specs.Texts.{Text}
 use Rattle.model.specs.Answer.{Answer, answer, refused, accept}
 use Rattle.model.specs.Model.{Entity, Event, Input, reload, Model}
+use Rattle.model.specs.Events.{InputWords}
 use Rattle.model.specs.Validate.{check-value, check-input}
-use Rattle.queue.specs.declared.Work.the-variants as queue
 use Rattle.engine.specs.Cells.{Cell, initial-cells}
 use Rattle.engine.specs.Records.{Work, Run, Areas}
 use Rattle.engine.specs.Reasons.{runs-left}
@@ -24,13 +24,14 @@ use Rattle.engine_reads.specs.Reads.{name, entities}
 use Rattle.engine_state.specs.Machine.{Machine}
 use Rattle.engine_loop.specs.Loop.{eventW, begunM, Halt, loopM, closedM}
 use Rattle.engine_places.specs.Meaning.{work-of, record-of, cell-at, cells-from, cells-of, run-of, pool-of, Column, Tabled}
+use Rattle.engine_places.specs.Events.{Among, GoodWork, EventAt}
 use Rattle.engine_places.proofs.Truth.{Valued, entities-are}
 use Rattle.engine_places.proofs.Checked.{known-value}
-use Rattle.engine_places.proofs.Pigeons.{Among, at-most}
-use Rattle.engine_places.proofs.Relation.{Worded, GoodWork, Live}
+use Rattle.engine_places.proofs.Pigeons.{at-most}
+use Rattle.engine_places.proofs.Relation.{Worded, Live}
 use Rattle.engine_places.proofs.Acts.{declared}
 use Rattle.engine_places.proofs.Loop.{reasons-of}
-use Rattle.engine_places.proofs.Simulated.{EventAt, Beginning, Result, ends, full, ended-is, runs-none, runs-some}
+use Rattle.engine_places.proofs.Simulated.{Beginning, Result, ends, full, ended-is, runs-none, runs-some}
 use Rattle.engine_places.proofs.Lists as lists
 
 module _ (f x : List ℕ) (ts : List Text) (mo : Model) (tb : Tabled f x ts mo) where
@@ -125,14 +126,7 @@ module _ (f x : List ℕ) (ts : List Text) (mo : Model) (tb : Tabled f x ts mo) 
       (λ d e h. let q : e ≡ 0 + e = omega arith in v d e h ∙ ap (λ (j : ℕ). getD ts (getD vs j 0) []) q) n
       ∙ ap (λ (j : ℕ). cells-from x ts vs ns j 0) (sym (entities-are f x ts mo tb))
 
-  -- an event's words: kind 0 sets the entity at a place to the value at a place, 1 restarts, 2 reloads
-  abbrev pub InputWords : (kind e v : ℕ) → Input → Type 0
-  InputWords k e v (Input.set a b) =
-      (k ≡ 0) × (((e < length ts) × (a ≡ getD ts e [])) × ((v < length ts) × (b ≡ getD ts v [])))
-  InputWords k e v Input.restart = k ≡ 1
-  InputWords k e v reload = k ≡ 2
-
-  event-good : (k e v : ℕ) (i : Input) → check-input (mo .scenario .entities) i ≡ accept → InputWords k e v i →
+  event-good : (k e v : ℕ) (i : Input) → check-input (mo .scenario .entities) i ≡ accept → InputWords ts k e v i →
       (work-of x ts (eventW k e v) ≡ Work.external i) × GoodWork f x ts mo tb (eventW k e v)
   unfolding eventW work-of check-input
   event-good k e v (Input.set a b) c w =
@@ -145,6 +139,6 @@ module _ (f x : List ℕ) (ts : List Text) (mo : Model) (tb : Tabled f x ts mo) 
 
   pub event-at : (l : List ℕ) (i : ℕ) (v : Event) → check-input (mo .scenario .entities) (v .input) ≡ accept →
       getD l (i * 4) 0 ≡ v .at →
-      InputWords (getD l (i * 4 + 1) 0) (getD l (i * 4 + 2) 0) (getD l (i * 4 + 3) 0) (v .input) →
+      InputWords ts (getD l (i * 4 + 1) 0) (getD l (i * 4 + 2) 0) (getD l (i * 4 + 3) 0) (v .input) →
       EventAt f x ts mo tb l i v
   event-at l i v c s w = let g = event-good (getD l (i * 4 + 1) 0) (getD l (i * 4 + 2) 0) (getD l (i * 4 + 3) 0) (v .input) c w in record { second = s; work = g .0; good = g .1 }

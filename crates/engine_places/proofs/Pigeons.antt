@@ -10,14 +10,12 @@ use Rattle.texts.specs.Lists.{if_then_else_, any, keep}
 use Rattle.texts.specs.Texts.{Text, eqT, memT}
 use Rattle.engine.proofs.Lists.{Case, is-true, is-false, case, Each, or-no, eqT-eq, eqT-same}
 use Rattle.engine.proofs.Distinct.{or-no′}
+pub use Rattle.engine_places.specs.Events.{Among}
 
 -- a text isn't among those after it
 abbrev pub Differ : List Text → Type 0
 Differ [] = Unit {0}
 Differ (t ∷ l) = (memT t l ≡ false) × Differ l
-
-abbrev pub Among : List Text → List Text → Type 0
-Among pool = Each (λ (t : Text). memT t pool ≡ true)
 
 -- the list without a text
 abbrev without : Text → List Text → List Text

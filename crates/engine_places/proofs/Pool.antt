@@ -19,9 +19,9 @@ use Rattle.engine.specs.Unsupported.{unsupported}
 use Rattle.engine.proofs.Lists.{eqT-same}
 use Rattle.engine_reads.specs.Reads.{textPosition, word, aboutRule, alone, noteReason}
 use Rattle.engine_places.specs.Meaning.{id-at, rule-pool, pool-of, Tabled}
+use Rattle.engine_places.specs.Events.{Among}
 use Rattle.engine_places.proofs.Numbers.{cap-is}
 use Rattle.engine_places.proofs.Relation.{no-rule, id-in}
-use Rattle.engine_places.proofs.Pigeons.{Among}
 
 or-true : (a b : Bool) → b ≡ true → (a || b) ≡ true
 or-true true b h = refl

@@ -17,7 +17,6 @@ use Rattle.model.specs.Model.{Trigger, single, done, Automation, Model}
 use Rattle.model.specs.File.{got, trigger}
 use Rattle.queue.specs.declared.Item.{Item as QItem}
 use Rattle.queue.specs.declared.Work.{Work as QWork}
-use Rattle.queue.specs.declared.Work.the-variants as queue
 use Rattle.records.specs.declared.Rule.{Rule}
 use Rattle.records.specs.declared.Where.{Where}
 use Rattle.records.specs.declared.Change.{Change as AChange}
@@ -39,18 +38,19 @@ use Rattle.engine.specs.Engine.{is-run, of-rule, other-run, of-other-rule, in-l
 use Rattle.engine.proofs.Lists.{Each, tally-end, eqT-same}
 use Rattle.engine.proofs.Runs.{InOrder, Later, order-keep, order-each, order-end, kept-key, once}
 use Rattle.model_walk.proofs.Found.{Case, is-true, is-false, case}
-use Rattle.engine_reads.specs.Reads.{name, word}
+use Rattle.engine_reads.specs.Reads.{word}
 use Rattle.engine_state.specs.declared.Cells.{Cells}
 use Rattle.engine_state.specs.declared.Told.{Told}
 use Rattle.engine_state.specs.Machine.{Machine, more, put-full, put-counts, put-cells, put-queue, put-records, put-runs, put-reasons}
 use Rattle.engine_state.specs.Changes.{item, entry, addM, logM, add-runM, uncertainM}
 use Rattle.engine_steps.specs.Runs.{no-run}
 use Rattle.engine_places.specs.Meaning.{id-at, key-of, cells-of, item-of, Placed, record-of, run-of, pool-of, Tabled}
+use Rattle.engine_places.specs.Events.{Among, GoodWork}
 use Rattle.engine_places.proofs.Numbers.{more-is}
 use Rattle.engine_places.proofs.Truth.{Valued}
 use Rattle.engine_places.proofs.Stack.{Places}
 use Rattle.engine_places.proofs.Full.{Stuck}
-use Rattle.engine_places.proofs.Pigeons.{Differ, Among, at-most, differ-end}
+use Rattle.engine_places.proofs.Pigeons.{Differ, at-most, differ-end}
 use Rattle.engine_places.proofs.Lists as lists
 
 -- the laws of the primitive changes, by cases
@@ -113,22 +113,9 @@ module _ (f x : List ℕ) (ts : List Text) (mo : Model) (tb : Tabled f x ts mo) 
 
   -- ---- the parts
 
-  -- the entity with this name is declared
-  abbrev pub Declared : ℕ → Type 0
-  Declared e = (j : ℕ) × ((j < entities) × (name x j ≡ e))
-
-  abbrev pub GoodWork : QWork → Type 0
-  GoodWork (queue.Set e v) = Declared e × ((e < length ts) × (v < length ts))
-  GoodWork queue.Restart = Unit {0}
-  GoodWork queue.Reload = Unit {0}
-  GoodWork (queue.Changed e v u) = (e < length ts) × ((v < length ts) × (u < length ts))
-  GoodWork (queue.Resume a n) = a < rules
-  GoodWork (queue.Timeout a n) = a < rules
-  GoodWork (queue.Stale e n) = e < length ts
-
   pub record Queued (l : List QItem) (q : List Item) : Type 0 where
     pub is : q ≡ each (item-of x ts) l
-    pub good : Each (λ (i : QItem). GoodWork (i .work)) l
+    pub good : Each (λ (i : QItem). GoodWork f x ts mo tb (i .work)) l
 
   pub record Recorded (l : List Record) (tr : List Trace) : Type 0 where
     pub is : tr ≡ each (record-of x ts) l
@@ -206,7 +193,7 @@ module _ (f x : List ℕ) (ts : List Text) (mo : Model) (tb : Tabled f x ts mo) 
 
   -- ---- an item more
 
-  pub add-is : {now s : ℕ} {m : Machine} {e : Engine} → Live now s m e → (t : ℕ) (w : QWork) → GoodWork w →
+  pub add-is : {now s : ℕ} {m : Machine} {e : Engine} → Live now s m e → (t : ℕ) (w : QWork) → GoodWork f x ts mo tb w →
       Sim now s (addM t w m) (add (item-of x ts (item t w)) e)
   unfolding add
   add-is {now} {s} {m} {e} l t w g = cases (case (ltb (length (m .queue)) (m .queueSize)))
@@ -222,7 +209,7 @@ module _ (f x : List ℕ) (ts : List Text) (mo : Model) (tb : Tabled f x ts mo) 
             soon = l .soon;
             free = l .free;
             calm = noted-room 41 (length (e .queue)) (e .areas .queue) (e .overflow) (l .calm) (omega (arith, ltb-true (length (m .queue)) (m .queueSize) b, used, l .sizes .queue));
-            queue = record { is = ap (λ (q : List Item). q ++ item-of x ts (item t w) ∷ []) (l .queue .is) ∙ sym (lists.each-one (item-of x ts) (m .queue) (item t w)); good = lists.each-more (λ (i : QItem). GoodWork (i .work)) (m .queue) (item t w) (l .queue .good) g };
+            queue = record { is = ap (λ (q : List Item). q ++ item-of x ts (item t w) ∷ []) (l .queue .is) ∙ sym (lists.each-one (item-of x ts) (m .queue) (item t w)); good = lists.each-more (λ (i : QItem). GoodWork f x ts mo tb (i .work)) (m .queue) (item t w) (l .queue .good) g };
             records = l .records;
             runs = l .runs;
             cells = l .cells;

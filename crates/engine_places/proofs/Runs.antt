@@ -25,6 +25,7 @@ use Rattle.engine.specs.Changes.{if-some, add, add-run, adds}
 use Rattle.engine.specs.Modes.{decide}
 use Rattle.engine.specs.Modes as modes
 use Rattle.engine.specs.Engine.{in-line, of-rule, store, new-run, _then_, next-step, log-rule, let-go, release, finish, begin, carry-out}
+use Rattle.engine.proofs.Closed.{c-log, c-release, c-begin}
 use Rattle.engine_reads.specs.Reads.{word}
 use Rattle.engine_state.specs.Machine.{Machine, more}
 use Rattle.engine_state.specs.Changes.{log-ruleM}
@@ -37,7 +38,7 @@ use Rattle.engine_places.proofs.Numbers.{more-is}
 use Rattle.engine_places.proofs.Checked.{Pass}
 use Rattle.engine_places.proofs.Stack.{Places, pushed}
 use Rattle.engine_places.proofs.Full.{s-log-rule, s-release, s-next, s-begin-now}
-use Rattle.engine_places.proofs.Overflow.{overflow-stays, c-log, c-release, c-begin}
+use Rattle.engine_places.proofs.Overflow.{overflow-stays}
 use Rattle.engine_places.proofs.Relation.{GoodRun, Made, NewRun, Live, Sim, live, follow, weaker, runs-are, add-run-is, stored, removed, dropped, count-is, line-test, no-rule}
 use Rattle.engine_places.proofs.Words.{Tells}
 use Rattle.engine_places.proofs.Pool.{pool-is}

@@ -18,7 +18,7 @@ use Rattle.reasons.proofs.Sorting.{in-front, already, further, alone}
 use Rattle.model.specs.Model.{Event, Automation, Model}
 use Rattle.queue.specs.declared.Work.{Work as QWork}
 use Rattle.engine.specs.Cells.{Cell}
-use Rattle.engine.specs.Records.{Work, Item, Kind, Run, Areas, Engine}
+use Rattle.engine.specs.Records.{Item, Kind, Run, Areas, Engine}
 use Rattle.engine.specs.Words.{kind-number, detail-number}
 use Rattle.engine.specs.Changes.{add, append, adds}
 use Rattle.engine.specs.Unsupported.{unsupported, rule-reasons}
@@ -26,24 +26,27 @@ use Rattle.engine.specs.Reasons.{space-spent, steps-spent, runs-left}
 use Rattle.engine.specs.Engine.{log, expiry, event-item, begun, Ended, left-over, last-record, closed}
 use Rattle.engine.specs.Simulate.{ended}
 use Rattle.engine.proofs.Lists.{Each}
-use Rattle.engine.proofs.Closed.{end-closed}
+use Rattle.engine.proofs.Closed.{end-closed, c-adds}
 use Rattle.model_walk.proofs.Found.{Case, is-true, is-false, case}
 use Rattle.engine_reads.specs.Reads.{stale, entities}
 use Rattle.engine_state.specs.Machine.{Machine, put-now}
 use Rattle.engine_state.specs.Changes.{addM, logM, log-plainM}
 use Rattle.engine_steps.specs.Writes.{expiryM}
 use Rattle.engine_loop.specs.Loop.{eventW, add-eventM, add-eventsM, expiriesM, add-expiriesM, begunM, Halt, halt, loopM, horizonM, closedM}
-use Rattle.engine_places.specs.Meaning.{kind-of, work-of, item-of, cell-at, cells-from, cells-of, run-of, pool-of, Tabled}
+use Rattle.engine_places.specs.Meaning.{kind-of, item-of, cell-at, cells-from, cells-of, run-of, pool-of, Tabled}
+use Rattle.engine_places.specs.Events.{Among}
+pub use Rattle.engine_places.specs.Events.{EventAt}
 use Rattle.engine_places.proofs.Truth.{Valued, entities-are}
 use Rattle.engine_places.proofs.Full.{Stuck, s-add, s-expiry, s-log-plain}
-use Rattle.engine_places.proofs.Overflow.{overflow-stays, c-adds}
-use Rattle.engine_places.proofs.Pigeons.{Differ, Among}
+use Rattle.engine_places.proofs.Overflow.{overflow-stays}
+use Rattle.engine_places.proofs.Pigeons.{Differ}
 use Rattle.engine_places.proofs.Pool.{mem-left, among-to, among-self}
-use Rattle.engine_places.proofs.Relation.{GoodWork, Live, Sim, live, dead, follow, add-is}
+use Rattle.engine_places.proofs.Relation.{Live, Sim, live, dead, follow, add-is}
 use Rattle.engine_places.proofs.Words.{Tells}
 use Rattle.engine_places.proofs.Writes.{Over, log-plain-is, expiry-is}
 use Rattle.engine_places.proofs.Loop.{reasons-of, Ends, lives, stuck, loop-is}
 use Rattle.engine_places.proofs.Lists as lists
+use Rattle.engine_places.proofs.Triggers.{adds-end}
 
 -- ---- the static reasons: no doubles, for they are sorted
 
@@ -111,12 +114,6 @@ module _ (f x : List ℕ) (ts : List Text) (mo : Model) (tb : Tabled f x ts mo) 
   abbrev most : ℕ
   most = 320000
 
-  -- the event that stands at the i-th four words
-  pub record EventAt (l : List ℕ) (i : ℕ) (v : Event) : Type 0 where
-    pub second : getD l (i * 4) 0 ≡ v .at
-    pub work : work-of x ts (eventW (getD l (i * 4 + 1) 0) (getD l (i * 4 + 2) 0) (getD l (i * 4 + 3) 0)) ≡ Work.external (v .input)
-    pub good : GoodWork f x ts mo tb (eventW (getD l (i * 4 + 1) 0) (getD l (i * 4 + 2) 0) (getD l (i * 4 + 3) 0))
-
   -- the machine before a simulation with these areas and cells
   pub record Beginning (m : Machine) (areas : Areas) (cells : List Cell) : Type 0 where
     pub now : m .now ≡ 0
@@ -164,11 +161,6 @@ module _ (f x : List ℕ) (ts : List Text) (mo : Model) (tb : Tabled f x ts mo) 
   unfolding kind-of kind-number detail-number
   last = record { is = refl; number = refl; detail = refl }
 
-  adds-end : (l : List Item) (i : Item) (e : Engine) → adds (l ++ i ∷ []) e ≡ add i (adds l e)
-  unfolding adds through
-  adds-end [] i e = refl
-  adds-end (j ∷ l) i e = adds-end l i (add j e)
-
   adds-both : (l k : List Item) (e : Engine) → adds (l ++ k) e ≡ adds k (adds l e)
   unfolding adds through
   adds-both [] k e = refl
@@ -176,7 +168,7 @@ module _ (f x : List ℕ) (ts : List Text) (mo : Model) (tb : Tabled f x ts mo) 
 
   -- ---- the events
 
-  event-is : {m : Machine} {e : Engine} → L 0 most m e → (l : List ℕ) (i : ℕ) (v : Event) → EventAt l i v →
+  event-is : {m : Machine} {e : Engine} → L 0 most m e → (l : List ℕ) (i : ℕ) (v : Event) → EventAt f x ts mo tb l i v →
       S 0 most (add-eventM l i m) (add (event-item v) e)
   unfolding add-eventM event-item item-of
   event-is {m} {e} l k i v a =
@@ -187,7 +179,7 @@ module _ (f x : List ℕ) (ts : List Text) (mo : Model) (tb : Tabled f x ts mo) 
   unfolding add-eventM
   add-event-stuck l i n m z p = s-add n z _ _ m p
 
-  events-are : (l : List ℕ) (d : Event) (vs : List Event) → ((i : ℕ) → i < length vs → EventAt l i (getD vs i d)) →
+  events-are : (l : List ℕ) (d : Event) (vs : List Event) → ((i : ℕ) → i < length vs → EventAt f x ts mo tb l i (getD vs i d)) →
       (n : ℕ) → n ≤ length vs → {m : Machine} {e : Engine} → S 0 most m e →
       S 0 most (add-eventsM l n m) (adds (each event-item (take n vs)) e)
   unfolding add-eventsM each adds through
@@ -290,7 +282,7 @@ module _ (f x : List ℕ) (ts : List Text) (mo : Model) (tb : Tabled f x ts mo) 
       let b = add-same (getD l (n * 4) 0) (eventW (getD l (n * 4 + 1) 0) (getD l (n * 4 + 2) 0) (getD l (n * 4 + 3) 0)) (add-eventsM l n m) in
       record { values = b .values ∙ a .values; versions = b .versions ∙ a .versions }
 
-  module _ (m : Machine) (areas : Areas) (cells : List Cell) (b : Beginning m areas cells) (l : List ℕ) (d : Event) (vs : List Event) (evs : (i : ℕ) → i < length vs → EventAt l i (getD vs i d)) where
+  module _ (m : Machine) (areas : Areas) (cells : List Cell) (b : Beginning m areas cells) (l : List ℕ) (d : Event) (vs : List Event) (evs : (i : ℕ) → i < length vs → EventAt f x ts mo tb l i (getD vs i d)) where
     first-record : S 0 most (log-plainM 0 m) (log 0 Kind.initial none none none (empty areas cells))
     first-record =
         log-plain-is f x ts mo tb (start-is m areas cells b) 0 Kind.initial initial
@@ -430,7 +422,7 @@ module _ (f x : List ℕ) (ts : List Text) (mo : Model) (tb : Tabled f x ts mo) 
 
   -- ---- a whole simulation: from its beginning, with the events vs given as words
   pub ended-is : (m : Machine) (areas : Areas) (cells : List Cell) → Beginning m areas cells →
-      (l : List ℕ) (d : Event) (vs : List Event) → ((i : ℕ) → i < length vs → EventAt l i (getD vs i d)) →
+      (l : List ℕ) (d : Event) (vs : List Event) → ((i : ℕ) → i < length vs → EventAt f x ts mo tb l i (getD vs i d)) →
       Result (closedM x (loopM f x (getD x 3 0) (begunM x l (length vs) m))) (ended areas mo cells vs)
       (mo .scenario .limits .max-steps)
   unfolding ended

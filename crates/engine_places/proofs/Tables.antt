@@ -28,7 +28,8 @@ use Rattle.engine.proofs.Distinct.{answer-eq, refused-answer, when-inv, Fresh, 
 use Rattle.engine_reads.specs.Reads.{name, stale, word}
 use Rattle.engine_places.specs.Meaning.{stale-of, mode-number, pool-of, Row, Column, Tabled}
 use Rattle.engine_places.proofs.Numbers.{two-is, two-small}
-use Rattle.engine_places.proofs.Accepted.{CheckedAt, Lawful, accepted-lawful, accepted-decoded, accepted-small}
+use Rattle.engine.proofs.Validated.{accepted-decoded}
+use Rattle.engine_places.proofs.Accepted.{CheckedAt, Lawful, accepted-lawful, accepted-small}
 use Rattle.engine_places.proofs.Relation.{no-rule}
 use Rattle.engine_places.proofs.Lists as lists
 

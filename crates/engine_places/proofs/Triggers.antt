@@ -27,6 +27,7 @@ use Rattle.engine.specs.Reasons.{unknown-trigger-condition}
 use Rattle.engine.specs.Engine.{waits, awaits, woken, next-step, log, wake, admit, offer}
 use Rattle.engine.specs.Engine as engine
 use Rattle.engine.proofs.Lists.{keep-append}
+use Rattle.engine.proofs.Closed.{c-admit, c-offers}
 use Rattle.model_walk.proofs.Found.{Case, is-true, is-false, case, counted-found}
 use Rattle.model_parts.proofs.Stands.{more}
 use Rattle.engine_reads.specs.Reads.{two, word, aboutRule}
@@ -43,7 +44,7 @@ use Rattle.engine_places.specs.Meaning.{truth-of, verdict-of, found-trig
 use Rattle.engine_places.proofs.Numbers.{two-is, most-is, source-is}
 use Rattle.engine_places.proofs.Truth.{Moved, matches-is, any-is, all-is}
 use Rattle.engine_places.proofs.Full.{s-admit, s-offer, s-wake-one}
-use Rattle.engine_places.proofs.Overflow.{overflow-stays, c-admit, c-offers}
+use Rattle.engine_places.proofs.Overflow.{overflow-stays}
 use Rattle.engine_places.proofs.Relation.{GoodRun, GoodPhase, Running, Live, Sim, live, dead, follow, weaker, runs-are, placed, uncertain-is, no-rule}
 use Rattle.engine_places.proofs.Words.{Tells}
 use Rattle.engine_places.proofs.Pool.{pool-is, trigger-reason}
@@ -53,7 +54,7 @@ use Rattle.engine_places.proofs.Lists as lists
 
 -- ---- the queue and the runs don't meet
 
-adds-end : (l : List Item) (i : Item) (e : Engine) → adds (l ++ i ∷ []) e ≡ add i (adds l e)
+pub adds-end : (l : List Item) (i : Item) (e : Engine) → adds (l ++ i ∷ []) e ≡ add i (adds l e)
 unfolding adds through
 adds-end [] i e = refl
 adds-end (j ∷ l) i e = adds-end l i (add j e)

@@ -19,7 +19,6 @@ use Rattle.model.specs.Validate.{undecided}
 use Rattle.model.specs.Notes.{of-actions}
 use Rattle.model_walk.specs.Walk.{seen, capped, actionsW}
 use Rattle.model_walk.specs.declared.Walked.{Walked}
-use Rattle.model_walk.specs.declared.Walked.the-variants as walked
 use Rattle.model_walk.proofs.Sees.{marks, sees-actions}
 use Rattle.model_walk.proofs.Found.{Case, is-true, is-false, case, bound, given, u8-wide, u16-wide, source-wide, counted-found, Kind, kind-found, place-found, Value?, trigger-found}
 use Rattle.model_walk.proofs.Found as found
@@ -67,13 +66,6 @@ unfolding _and₃_
 and-yes kleene.Yes = refl
 and-yes kleene.No = refl
 and-yes kleene.Unknown = refl
-
-pub same-number : (a b : ℕ) → eqb a b ≡ eqb b a
-same-number a b = cases (case (eqb a b))
-  where
-    cases : Case (eqb a b) → eqb a b ≡ eqb b a
-    cases (is-true h) = h ∙ sym (eq-eqb b a (sym (eqb-true a b h)))
-    cases (is-false h) = h ∙ sym (ne-eqb b a (λ e. eqb-false a b h (sym e)))
 
 module _ (f x : List ℕ) (ts : List Text) (mo : Model) (tb : Tabled f x ts mo) where
   -- the text at a place

@@ -2,8 +2,8 @@
 -- Texts stand as their places, automations as their numbers: both differ, so a text is found where it stands.
 use mathlib.Core.Path.{_≡_, refl, ap, _∙_}
 use mathlib.Core.List.{List, [], _∷_}
-use mathlib.Core.Bool.{true, false}
-use Prim.Native.Nat.{ℕ, zero, suc, _<_}
+use mathlib.Core.Bool.{false}
+use Prim.Native.Nat.{ℕ, _<_}
 use native.Mathlib.Omega.{arith}
 use lib.ListN.{length, getD}
 use borrow.Author.Tests.{ne-eqb}
@@ -21,6 +21,7 @@ use Rattle.records.specs.declared.Change.the-variants.{NoChange, Write}
 use Rattle.records.specs.declared.Record.{Record}
 use Rattle.engine.specs.Records.{Kind}
 use Rattle.model.specs.Rewrite.{place-of}
+use Rattle.model.proofs.Places.{place-first}
 use Rattle.engine.specs.Words.{kind-number, detail-number, automation-words, source-words, change-words, trace-words}
 use Rattle.engine.proofs.Lists.{Each, eqT-same}
 use Rattle.engine_state.specs.Changes.{entry, saying}
@@ -48,15 +49,6 @@ record-area x ts mo n l h =
     (lists.each-imp (Worded x ts mo) _ (λ r w. w .words) l h)
 
 -- ---- places
-
--- the first text that equals t
-place-first : (t : Text) (l : List Text) (k : ℕ) → k < length l → eqT t (getD l k []) ≡ true →
-    ((j : ℕ) → j < k → eqT t (getD l j []) ≡ false) → place-of t l ≡ k
-unfolding place-of
-place-first t [] k h a b = absurd (omega arith)
-place-first t (u ∷ l) zero h a b = rw a
-place-first t (u ∷ l) (suc k) h a b =
-    rw (b 0 (omega arith)) (omega (arith, place-first t l k (omega arith) a (λ j o. b (suc j) (omega arith))))
 
 module _ (f x : List ℕ) (ts : List Text) (mo : Model) (tb : Tabled f x ts mo) where
   abbrev ids : List Text

@@ -29,6 +29,7 @@ use Rattle.engine.specs.Records.{Run, Work, Kind, Waiting, Engine}
 use Rattle.engine.specs.Words.{kind-number, detail-number}
 use Rattle.engine.specs.Changes.{if-some, with-cells, add, adds}
 use Rattle.engine.specs.Engine.{is-run, store, left, waits, next-step, at-once, log, log-action, finish, change-of, go-on, step, resume, wait-over, end-wait, time-out, expire, go-stale, drop-runs, process}
+use Rattle.engine.proofs.Closed.{c-finish, c-store, c-adds}
 use Rattle.model_walk.proofs.Found.{Case, is-true, is-false, case}
 use Rattle.engine_reads.specs.Reads.{name, entityOf}
 use Rattle.engine_truth.specs.Actions.{put-places, topA, actionA}
@@ -40,11 +41,12 @@ use Rattle.engine_steps.specs.Runs.{no-run, put-runM, nowM, phaseR, finishM}
 use Rattle.engine_actions.specs.Acts.{setting, actM, act-nextM, go-on-runM, go-onM, going-phase, goingR, resume-runM, resume-atM, resumeM}
 use Rattle.engine_actions.specs.Works.{over-onM, over-endM, wait-overM, time-phaseM, time-runM, time-atM, time-outM, expire-toM, expireM, stale-atM, go-staleM, drop-allM, externalM, processM}
 use Rattle.engine_places.specs.Meaning.{key-of, kind-of, work-of, run-of, wait-of, waiting-of, source-of, actions-at, cell-at, cells-of, Tabled}
+use Rattle.engine_places.specs.Events.{GoodWork}
 use Rattle.engine_places.proofs.Truth.{Sought, here, nowhere, cell-is, name-in, fixed-is, Moved}
 use Rattle.engine_places.proofs.Stack.{Stepped, stepped}
 use Rattle.engine_places.proofs.Full.{s-next, s-finish, s-changed}
-use Rattle.engine_places.proofs.Overflow.{overflow-stays, c-finish, c-store, c-adds}
-use Rattle.engine_places.proofs.Relation.{GoodWork, GoodRun, Celled, Live, Sim, live, follow, weaker, runs-are, cells-are, run-test}
+use Rattle.engine_places.proofs.Overflow.{overflow-stays}
+use Rattle.engine_places.proofs.Relation.{GoodRun, Celled, Live, Sim, live, follow, weaker, runs-are, cells-are, run-test}
 use Rattle.engine_places.proofs.Words.{Tells}
 use Rattle.engine_places.proofs.Writes.{Over, log-plain-is, log-action-is, log-write-is, now-is, changed-is, stored-is, update-is}
 use Rattle.engine_places.proofs.Runs.{run-good, run-is, store-is, finish-is}

@@ -24,6 +24,7 @@ use Rattle.engine.specs.Records.{Work, Kind, Change, Engine}
 use Rattle.engine.specs.Changes.{with-cells, add, adds}
 use Rattle.engine.specs.Engine.{at-once, next-step, log, log-rule, log-action, expiry, expiry-of, change-of, update}
 use Rattle.engine.proofs.Lists.{none-some}
+use Rattle.engine.proofs.Closed.{c-adds, c-log}
 use Rattle.model_walk.proofs.Found.{Case, is-true, is-false, case}
 use Rattle.engine_reads.specs.Reads.{name, stale, entities, entityOf}
 use Rattle.engine_state.specs.declared.Move.{Move}
@@ -31,12 +32,11 @@ use Rattle.engine_state.specs.declared.Setting.{Setting}
 use Rattle.engine_state.specs.Machine.{Machine, later, more, put-cells, raisedC, storedC}
 use Rattle.engine_state.specs.Changes.{saying, addM, logM, log-ruleM, log-actionM, log-plainM, log-writeM, next-stepM}
 use Rattle.engine_steps.specs.Writes.{cells, move, expiryM, changedM, writeM, update-atM, updateM}
-use Rattle.engine_places.specs.Meaning as meaning
 use Rattle.engine_places.specs.Meaning.{id-at, key-of, work-of, item-of, record-of, rule-of, where-of, source-of, stale-of, cell-at, cells-from, cells-of, run-of, Tabled}
 use Rattle.engine_places.proofs.Numbers.{later-is, more-is}
 use Rattle.engine_places.proofs.Truth.{Sought, here, nowhere, cell-is, cell-named, name-in, put-is, entities-are, Moved}
 use Rattle.engine_places.proofs.Full.{s-changed, s-log-write}
-use Rattle.engine_places.proofs.Overflow.{overflow-stays, c-adds, c-log}
+use Rattle.engine_places.proofs.Overflow.{overflow-stays}
 use Rattle.engine_places.proofs.Relation.{Celled, Low, Live, Sim, live, follow, add-is, log-is, cells-are}
 use Rattle.engine_places.proofs.Words.{Tells, GoodRule, worded}
 

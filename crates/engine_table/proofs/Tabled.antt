@@ -8,7 +8,6 @@ use native.Mathlib.Omega.{arith}
 use native.Mathlib.Nat.{mul-suc}
 use lib.ListN.{length, getD}
 use lib.Dec.{eqb}
-use borrow.Author.Tests.{le-ltb}
 use Rattle.texts.specs.Lists.{if_then_else_}
 use Rattle.texts.specs.Texts.{Text, text, memT}
 use Rattle.model.specs.Answer.{answer, refused}
@@ -20,7 +19,6 @@ use Rattle.model_walk.proofs.Found.{bound, given, Wide, u8-wide, u16-wide, u32-
 use Rattle.model_walk.proofs.Laws.{u8-in, u16-in, u32-in}
 use Rattle.model_walk.proofs.Sees.{sees-conditions, sees-actions, sees-mode}
 use Rattle.model_walk.specs.Walk.{seen, capped, pieceW, piecesW, actionsW}
-use Rattle.model_walk.specs.declared.Walked.the-variants as walked
 use Rattle.model_walk.specs.declared.Piece.the-variants as piece
 use Rattle.model_parts.specs.Stand.{Reads}
 use Rattle.model_parts.proofs.Stands.{more}
@@ -33,6 +31,7 @@ use Rattle.engine_reads.proofs.Laws.{most-yes}
 use Rattle.engine_places.specs.Meaning.{stale-of, mode-number, Tabled}
 use Rattle.engine_places.proofs.Accepted.{accepted-lawful, accepted-small}
 use Rattle.engine_places.proofs.Tables.{NameWord, RuleWords, Words, tabled}
+use Rattle.engine_places.proofs.Numbers.{cap-is}
 use Rattle.engine_table.specs.Table.{end-of, stale-at, conditions-at, actions-at, source-at, rule-word, count-word, fixed-word, head-word, TableOf}
 use Rattle.engine_table.proofs.Laws as laws
 
@@ -53,10 +52,6 @@ four-read s p {v} {q} e =
 byte-read : (s : List ℕ) (p : ℕ) {v q : ℕ} → u8 s p ≡ got v q → getD s p 0 ≡ v
 byte-read s p {v} {q} e = let w = u8-wide s p e in let g = u8-in s p (omega (arith, w .inside)) in (cc)
 
-cap-is : (p : ℕ) → p ≤ 4294967295 → cap p ≡ p
-unfolding cap
-cap-is p h = rw (le-ltb 4294967295 p h)
-
 -- a reader that finds something reads inside the file
 near : (s : List ℕ) (p q w : ℕ) → length s ≤ 32768 → Wide w s p q → p ≤ 4294967295
 near s p q w h v = omega (arith, v .inside)
@@ -66,11 +61,6 @@ near s p q w h v = omega (arith, v .inside)
 none-read : {A : Type 0} (r : Reader A) (s : List ℕ) (p : ℕ) {l : List A} {q : ℕ} → times zero r s p ≡ got l q → p ≡ q
 unfolding times give
 none-read r s p e = (cc)
-
-times-length : {A : Type 0} (r : Reader A) (s : List ℕ) (i p : ℕ) {l : List A} {q : ℕ} → times i r s p ≡ got l q → length l ≡ i
-unfolding times give
-times-length r s zero p {l} e = let z : l ≡ [] = cc in ap length z
-times-length r s (suc i) p e = let m = more r s i p e in ap length (m .both) ∙ ap suc (times-length r s i (m .after) (m .are-others))
 
 module _ {A : Type 0} (r : Reader A) (w : ℕ) (s : List ℕ) (h : (p : ℕ) (a : A) (q : ℕ) → r s p ≡ got a q → Wide w s p q) where
   pub times-wide : (i p : ℕ) (l : List A) (q : ℕ) → p ≤ length s → times i r s p ≡ got l q → Wide (w * i) s p q

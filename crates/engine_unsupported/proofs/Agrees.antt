@@ -11,8 +11,8 @@ use borrow.Author.Tests.{lt-ltb, le-ltb, ne-eqb}
 use Rattle.texts.specs.Lists.{if_then_else_, listed, each, flat}
 use Rattle.texts.specs.Texts.{Text, text, decimal}
 use Rattle.texts.specs.Places.{textAt, startFrom}
-use Rattle.model.specs.Model.{Source, Predicate, state, Trigger, Effect, toggle, delay, condition, choose, wait, Actions, Branches, Automation, Model}
-use Rattle.model.specs.File.{_>>=_ as _>>=ᵣ_}
+use Rattle.model.specs.Model.{Source, Predicate, state, Trigger, Effect, Actions, Branches, Automation, Model}
+use Rattle.model.specs.File.{_>>=_ as _>>=ᵣ_, effect-kinds}
 use Rattle.model.specs.File.{got, Reader, give, refuse, u8, u16, u32, times, counted, flag, source, place, predicate, trigger, branches, effect, actions-of, actions}
 use Rattle.model.specs.Notes.{of-predicate, of-trigger, of-invariant, of-rule, notes-of}
 use Rattle.model_walk.specs.Walk.{found}
@@ -321,26 +321,15 @@ module _ (f : List ℕ) (ts : List Text) (size : length f ≤ 32768) (few : leng
         ∙ after-same q (add-both (ps ++ as′) (branch-reasons (r .value)) l)
         ∙ ap (λ (y : Branches). after q (addAll (branch-reasons y) l)) (z .0)
 
-    effect-kinds : List (Reader Effect)
-    effect-kinds =
-        (place ts >>=ᵣ λ x. place ts >>=ᵣ λ v. give (Effect.set x v))
-        ∷ (place ts >>=ᵣ λ x. give (toggle x))
-        ∷ (u32 >>=ᵣ λ n. give (delay n))
-        ∷ (predicate ts >>=ᵣ λ p. give (condition p))
-        ∷ (u16 >>=ᵣ λ n. branches ts inner n >>=ᵣ λ bs. inner >>=ᵣ λ a. give (choose bs a))
-        ∷ (trigger ts >>=ᵣ λ t. u32 >>=ᵣ λ n. flag >>=ᵣ λ c. give (wait t n c))
-        ∷ (place ts >>=ᵣ λ r. give (Effect.unknown r))
-        ∷ []
-
     action-agrees : (p : ℕ) (l : List Text) {s : Source} {e : Effect} {o q : ℕ} → source f p ≡ got s o →
         effect ts inner f o ≡ got e q → actionL lst f p l ≡ after q (addAll (effect-reasons e s) l)
-    unfolding effect effect-kinds effect-reasons addAll
+    unfolding effect effect-reasons addAll
     action-agrees p l {s} {e} {o} {q} a b =
         laws.action-is f p l lst (h (k .kind)) (sym (head-found p a (k .is-kind)))
         ∙ cases (k .kind) (k .holds)
       where
-        k : Kind effect-kinds f o e q
-        k = kind-found effect-kinds b
+        k : Kind (effect-kinds ts inner) f o e q
+        k = kind-found (effect-kinds ts inner) b
 
         w : ℕ
         w = k .next
@@ -355,7 +344,7 @@ module _ (f : List ℕ) (ts : List Text) (size : length f ≤ 32768) (few : leng
             effectL lst (h n) f w l ≡ after q l
         four n a b c d e v = laws.effect-simple f w l (h n) lst a ∙ laws.simple-else f w l (h n) b c d e ∙ skips f w l 4 v
 
-        cases : (n : ℕ) → getD effect-kinds n refuse f w ≡ got e q →
+        cases : (n : ℕ) → getD (effect-kinds ts inner) n refuse f w ≡ got e q →
             effectL lst (h n) f w l ≡ after q (addAll (effect-reasons e s) l)
         cases zero g =
             let x = bound (place ts) _ g in

@@ -218,15 +218,6 @@ module _ {A : Type 0} where
   any-not p (x ∷ l) h = and-i (not (p x)) (all (λ y. not (p y)) l) (ap not (or-no (p x) (any p l) h))
       (any-not p l (or-no′ (p x) (any p l) h))
 
-  pub not-any : (p : A → Bool) (l : List A) → ((x : A) → p x ≡ true → ⊥) → any p l ≡ false
-  unfolding any
-  not-any p [] h = refl
-  not-any p (x ∷ l) h = go (case (p x)) (not-any p l h)
-    where
-      go : Case (p x) → any p l ≡ false → p x || any p l ≡ false
-      go (is-true a) e = absurd (h x a)
-      go (is-false a) e = rw a e
-
   -- of each element of the list
   pub any-none : (p q : A → Bool) (l : List A) → Every q l → ((x : A) → q x ≡ true → p x ≡ false) → any p l ≡ false
   unfolding any
@@ -294,12 +285,6 @@ module _ {A B : Type 0} where
   any-each p f [] = refl
   any-each p f (x ∷ l) = ap (λ (b : Bool). p (f x) || b) (any-each p f l)
 
-  pub flat-append : (f : A → List B) (l m : List A) → flat f (l ++ m) ≡ flat f l ++ flat f m
-  unfolding flat
-  flat-append f [] m = refl
-  flat-append f (x ∷ l) m = ap {B = List B} (λ t. f x ++ t) (flat-append f l m)
-      ∙ sym (append-assoc (f x) (flat f l) (flat f m))
-
   -- each list without what lies outside: those of what lies inside
   pub keep-flat : (f : A → List B) (p : A → Bool) (q : B → Bool) → ((x : A) → p x ≡ true → keep q (f x) ≡ f x)
       → ((x : A) → p x ≡ false → keep q (f x) ≡ [])
@@ -348,11 +333,6 @@ module _ {A : Type 0} where
   pub every-yes : (l : List A) → Every (λ x. true) l
   every-yes [] = tt
   every-yes (x ∷ l) = (refl, every-yes l)
-
-  pub keep-none : (p g : A → Bool) → ((x : A) → g x ≡ true → p x ≡ false) → (l : List A) → Every g l → keep p l ≡ []
-  unfolding keep
-  keep-none p g h [] k = refl
-  keep-none p g h (x ∷ l) k = rw (h x (k .0)) (keep-none p g h l (k .1))
 
   -- a filter under which another's elements are those of a third
   pub keep-same : (p q : A → Bool) (l : List A) → Every (λ x. true) l → ((x : A) → p x ≡ q x) → keep p l ≡ keep q l

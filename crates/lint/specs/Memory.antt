@@ -1,14 +1,13 @@
 -- What the two areas hold after `lint`: word for word, and after refusals too.
-use Prim.Native.Nat.{ℕ, _/_}
+use Prim.Native.Nat.{ℕ}
 use mathlib.Core.Path.{_≡_}
-use mathlib.Core.Bool.{Bool, _||_}
+use mathlib.Core.Bool.{_||_}
 use mathlib.Core.List.{List, [], _∷_}
 use lib.Dec.{eqb}
 use lib.ListN.{length, replicate}
 use Rattle.areas.specs.Areas.{area}
 use Rattle.texts.specs.Lists.{if_then_else_}
 use Rattle.model.specs.Answer.{Answer, answer, refused}
-use Rattle.lint.specs.Findings.{Finding}
 use Rattle.lint.specs.Lint.{Lint}
 use Rattle.lint.specs.Words.{interaction-words, Worded, names-in, ids-in}
 

@@ -1,10 +1,10 @@
 -- The lint of an accepted model by the code is the definition's: its answer, and each word of the areas.
 use mathlib.Core.Path.{_≡_, refl, sym, ap, _∙_, subst}
-use mathlib.Core.Bool.{Bool, true, false, _||_}
+use mathlib.Core.Bool.{false, _||_}
 use mathlib.Core.List.{List, [], _∷_, _++_}
-use mathlib.Core.Logic.{_⊎_, inl, inr, ⊎-elim}
+use mathlib.Core.Logic.{_⊎_, inl, inr}
 use mathlib.Core.Option.{Option, none, some}
-use Prim.Native.Nat.{ℕ, zero, suc, _+_, _-_, _/_, _^_, _≤_, _<_}
+use Prim.Native.Nat.{ℕ, _+_, _-_, _/_, _^_, _≤_, _<_}
 use native.Mathlib.Omega.{arith}
 use lib.Dec.{eqb}
 use lib.ListN.{length, getD, take, replicate, length-replicate}
@@ -12,10 +12,10 @@ use borrow.Author.Tests.{ne-eqb}
 use Rattle.texts.specs.Lists.{if_then_else_, each, flat}
 use Rattle.texts.specs.Texts.{Text}
 use Rattle.model.specs.Answer.{Answer, answer, refused, _>>=_}
-use Rattle.model.specs.Model.{Entity, Automation, Model}
-use Rattle.model.specs.File.{Got, got, broken, texts}
+use Rattle.model.specs.Model.{Automation, Model}
+use Rattle.model.specs.File.{texts}
 use Rattle.model.specs.Validate.{accepted}
-use Rattle.model_order.proofs.Places.{same-place, texts-ascend, text-at}
+use Rattle.model_order.proofs.Places.{text-at}
 use Rattle.model_index.specs.declared.Index.{Index}
 use Rattle.model_index.specs.declared.File.{File}
 use Rattle.model_index.specs.declared.Status.the-variants as status
@@ -27,6 +27,7 @@ use Rattle.areas.specs.Areas.{area}
 use Rattle.areas.proofs.Laws as areas
 use Rattle.engine.proofs.Lists.{Each}
 use Rattle.engine.specs.Words.{texts-in}
+use Rattle.engine.proofs.Validated.{accepted-few}
 use Rattle.lint.specs.Findings.{Entry, at-place, cycles, entries, rule-entries}
 use Rattle.lint.specs.Lint as definition
 use Rattle.lint.specs.Lint.{finding-in, interaction-in, overflow, by-id}
@@ -35,7 +36,6 @@ use Rattle.lint.specs.Words.{ids-set, Worded, names-in, ids-in}
 use Rattle.lint.specs.Memory.{Lent, lent, zeros, Both, Holds, Leaves}
 use Rattle.lint_reach.specs.declared.Components.{Components}
 use Rattle.lint_reach.specs.Sets.{members}
-use Rattle.lint_touches.proofs.Rising.{rising-ascending}
 use Rattle.lint_board.specs.Board.{Item, Board, board, pushes}
 use Rattle.lint_board.specs.Filled.{exactly, findings-of, interactions-of, over}
 use Rattle.lint_board.proofs.Holds.{Shaped, Holding, Ends, all-in, no-place, ends}
@@ -48,9 +48,8 @@ use Rattle.lint_names.specs.Strange.{undeclaredU}
 use Rattle.lint_notes.specs.Notes.{AllNotes}
 use Rattle.lint_places.specs.Ground.{namesOf}
 use Rattle.lint_places.specs.Numbers.{padded, stranger-places, stranger-readers}
-use Rattle.lint_places.proofs.Sets.{Once}
+use Rattle.lint_places.proofs.Columns.{names-are, ids-are, bounds, texts-are, ascends, texts-once}
 use Rattle.lint_places.proofs.Agree.{agree-append, agree-numbers, agree-shaped, agree-over, agree-findings, agree-interactions}
-use Rattle.lint_places.proofs.Accepted.{accepted-few}
 use Rattle.lint_places.proofs.Stage.{Stage, no-rule, each-long, nth}
 use Rattle.lint_places.proofs.Staged.{staged}
 use Rattle.lint_places.proofs.Rules.{names, ids, Agrees, rule-agrees}
@@ -81,37 +80,6 @@ module _ (s : List ℕ) (i : Index) (m : Model) (acc : accepted s ≡ answer m) 
 
   st : Stage s (namesOf s i) (i .rules) (o .ts) m
   st = staged s i m acc o
-
-  names-are : names-in s ≡ each (λ e. e .name) (m .scenario .entities)
-  unfolding names-in
-  names-are = ap (λ (a : Answer Model). elim a [ answer m ↦ each (λ e. e .name) (m .scenario .entities) | refused n ↦ [] ]) acc
-
-  ids-are : ids-in s ≡ each (λ r. r .id) (m .rules)
-  unfolding ids-in
-  ids-are = ap (λ (a : Answer Model). elim a [ answer m ↦ each (λ r. r .id) (m .rules) | refused n ↦ [] ]) acc
-
-  texts-are : texts-in s ≡ o .ts
-  unfolding texts-in
-  texts-are = ap (λ (g : Got (List Text)). elim g [ got ts q ↦ ts | broken ↦ [] ]) (o .all-texts .1)
-
-  -- the index's counts
-  pub bounds : Bounds i
-  bounds = record {
-    entities = omega (arith, o .entities .counts, st .lawful .few-entities);
-    invariants = omega (arith, o .invariants .counts, st .lawful .few-invariants);
-    rules = omega (arith, o .rules .counts, st .lawful .few-rules);
-  }
-
-  entities-same : namesOf s i .entities ≡ i .entities
-  unfolding namesOf
-  entities-same = refl
-
-  ascends : Rattle.lint_touches.proofs.Rising.Rising (o .ts)
-  ascends = rising-ascending (o .ts) (texts-ascend s (o .all-texts .1))
-
-  texts-once : Once (o .ts)
-  unfolding Once
-  texts-once = same-place (o .ts) (texts-ascend s (o .all-texts .1))
 
   few-texts : length (o .ts) ≤ 65535
   few-texts = omega (arith, texts-few s (o .ts) (o .all-texts .0) (o .all-texts .1), accepted-few s m acc .0)
@@ -199,8 +167,8 @@ module _ (s : List ℕ) (i : Index) (m : Model) (acc : accepted s ≡ answer m) 
         held = record {
           words = findings-of items;
           are-words =
-              subst (λ (n : List Text). Both (Worded s n (ids-in s)) (flat finding-in found) (findings-of items)) (sym names-are)
-              (subst (λ (n : List Text). Both (Worded s (names st) n) (flat finding-in found) (findings-of items)) (sym ids-are) (agree-findings s (names st) (ids st) agrees));
+              subst (λ (n : List Text). Both (Worded s n (ids-in s)) (flat finding-in found) (findings-of items)) (sym (names-are s m acc))
+              (subst (λ (n : List Text). Both (Worded s (names st) n) (flat finding-in found) (findings-of items)) (sym (ids-are s m acc)) (agree-findings s (names st) (ids st) agrees));
           findings =
               h .findings
               ∙ ap (λ (n : ℕ). area (exactly 14) n (findings-of items)) (long .findings ∙ length-replicate (length F) 0)
@@ -210,15 +178,15 @@ module _ (s : List ℕ) (i : Index) (m : Model) (acc : accepted s ≡ answer m) 
               ∙ ap (λ (n : ℕ). area (exactly 3) n (interactions-of items)) (long .interactions ∙ length-replicate (length I) 0)
               ∙ ap (area (exactly 3) (length I)) (agree-interactions s (names st) (ids st) agrees)
               ∙ between-area (names st) (ids st) (flat interaction-in found) (length I)
-              ∙ ap (λ (n : List Text). area (Rattle.lint.specs.Words.interaction-words n (ids st)) (length I) (flat interaction-in found)) (sym names-are)
-              ∙ ap (λ (n : List Text). area (Rattle.lint.specs.Words.interaction-words (names-in s) n) (length I) (flat interaction-in found)) (sym ids-are);
+              ∙ ap (λ (n : List Text). area (Rattle.lint.specs.Words.interaction-words n (ids st)) (length I) (flat interaction-in found)) (sym (names-are s m acc))
+              ∙ ap (λ (n : List Text). area (Rattle.lint.specs.Words.interaction-words (names-in s) n) (length I) (flat interaction-in found)) (sym (ids-are s m acc));
         }
 
         abbrev sets : List ℕ
         sets = take (l .found .count) (l .found .sets)
 
         few-sets : l .found .count ≤ 32
-        few-sets = omega (arith, li .components .few, bounds .rules)
+        few-sets = omega (arith, li .components .few, bounds s m acc i o .rules)
 
         component-sets : each (ids-set (names st) (ids st)) (each (each (λ r. r .id)) (cycles (m .rules))) ≡ sets
         component-sets =
@@ -242,11 +210,11 @@ module _ (s : List ℕ) (i : Index) (m : Model) (acc : accepted s ≡ answer m) 
         unfolding namesOf
         undeclared-is =
             ap (undeclaredU s (i .entities) (i .rules)) (o .each-text .counts)
-            ∙ undeclared-packed st ascends texts-once (accepted-few s m acc .1)
+            ∙ undeclared-packed st (ascends s i m o) (texts-once s i m o) (accepted-few s m acc .1)
             ∙ sym (
-            ap (λ (t : List Text). packed (stranger-places t (names-in s) (ids-in s) (by-id reads-of (m .rules))) (stranger-readers (names-in s) (ids-in s) (by-id reads-of (m .rules)))) texts-are
-            ∙ ap (λ (t : List Text). packed (stranger-places ts t (ids-in s) (by-id reads-of (m .rules))) (stranger-readers t (ids-in s) (by-id reads-of (m .rules)))) names-are
-            ∙ ap (λ (t : List Text). packed (stranger-places ts (names st) t (by-id reads-of (m .rules))) (stranger-readers (names st) t (by-id reads-of (m .rules)))) ids-are
+            ap (λ (t : List Text). packed (stranger-places t (names-in s) (ids-in s) (by-id reads-of (m .rules))) (stranger-readers (names-in s) (ids-in s) (by-id reads-of (m .rules)))) (texts-are s i m o)
+            ∙ ap (λ (t : List Text). packed (stranger-places ts t (ids-in s) (by-id reads-of (m .rules))) (stranger-readers t (ids-in s) (by-id reads-of (m .rules)))) (names-are s m acc)
+            ∙ ap (λ (t : List Text). packed (stranger-places ts (names st) t (by-id reads-of (m .rules))) (stranger-readers (names st) t (by-id reads-of (m .rules)))) (ids-are s m acc)
             ∙ ap (λ (x : List ℕ). packed x (stranger-readers (names st) (ids st) (by-id reads-of (m .rules)))) (places-row st)
             ∙ ap (packed _) (readers-row st))
 
@@ -261,20 +229,20 @@ module _ (s : List ℕ) (i : Index) (m : Model) (acc : accepted s ≡ answer m) 
               t .cycles
               ∙ fill-padded (λ k. getD (l .found .sets) k 0) (l .found .count) few-sets
               ∙ ap (padded 32) (first-taken (l .found .sets) (l .found .count) (omega (arith, few-sets, li .components .long)) ∙ sym component-sets)
-              ∙ ap (λ (n : List Text). padded 32 (each (ids-set n (ids st)) (each (each (λ r. r .id)) (cycles (m .rules))))) (sym names-are)
-              ∙ ap (λ (n : List Text). padded 32 (each (ids-set (names-in s) n) (each (each (λ r. r .id)) (cycles (m .rules))))) (sym ids-are);
+              ∙ ap (λ (n : List Text). padded 32 (each (ids-set n (ids st)) (each (each (λ r. r .id)) (cycles (m .rules))))) (sym (names-are s m acc))
+              ∙ ap (λ (n : List Text). padded 32 (each (ids-set (names-in s) n) (each (each (λ r. r .id)) (cycles (m .rules))))) (sym (ids-are s m acc));
           reads =
               t .reads
-              ∙ fill-padded _ (i .rules .count) (bounds .rules)
+              ∙ fill-padded _ (i .rules .count) (bounds s m acc i o .rules)
               ∙ ap (padded 32) (sym (reads-row st))
-              ∙ ap (λ (n : List Text). padded 32 (each (λ id. Rattle.lint_places.specs.Numbers.declared-set n (Rattle.lint_places.specs.Numbers.entities-of (by-id reads-of (m .rules)) id)) (ids st))) (sym names-are)
-              ∙ ap (λ (n : List Text). padded 32 (each (λ id. Rattle.lint_places.specs.Numbers.declared-set (names-in s) (Rattle.lint_places.specs.Numbers.entities-of (by-id reads-of (m .rules)) id)) n)) (sym ids-are);
+              ∙ ap (λ (n : List Text). padded 32 (each (λ id. Rattle.lint_places.specs.Numbers.declared-set n (Rattle.lint_places.specs.Numbers.entities-of (by-id reads-of (m .rules)) id)) (ids st))) (sym (names-are s m acc))
+              ∙ ap (λ (n : List Text). padded 32 (each (λ id. Rattle.lint_places.specs.Numbers.declared-set (names-in s) (Rattle.lint_places.specs.Numbers.entities-of (by-id reads-of (m .rules)) id)) n)) (sym (ids-are s m acc));
           writes =
               t .writes
-              ∙ fill-padded _ (i .rules .count) (bounds .rules)
+              ∙ fill-padded _ (i .rules .count) (bounds s m acc i o .rules)
               ∙ ap (padded 32) (sym (writes-row st))
-              ∙ ap (λ (n : List Text). padded 32 (each (λ id. Rattle.lint_places.specs.Numbers.declared-set n (Rattle.lint_places.specs.Numbers.entities-of (by-id writes-of (m .rules)) id)) (ids st))) (sym names-are)
-              ∙ ap (λ (n : List Text). padded 32 (each (λ id. Rattle.lint_places.specs.Numbers.declared-set (names-in s) (Rattle.lint_places.specs.Numbers.entities-of (by-id writes-of (m .rules)) id)) n)) (sym ids-are);
+              ∙ ap (λ (n : List Text). padded 32 (each (λ id. Rattle.lint_places.specs.Numbers.declared-set n (Rattle.lint_places.specs.Numbers.entities-of (by-id writes-of (m .rules)) id)) (ids st))) (sym (names-are s m acc))
+              ∙ ap (λ (n : List Text). padded 32 (each (λ id. Rattle.lint_places.specs.Numbers.declared-set (names-in s) (Rattle.lint_places.specs.Numbers.entities-of (by-id writes-of (m .rules)) id)) n)) (sym (ids-are s m acc));
           undeclared = t .undeclared ∙ ap (λ (u : Undeclared). u .count) undeclared-is;
           names = t .names ∙ ap (λ (u : Undeclared). u .names) undeclared-is;
           readers = t .readers ∙ ap (λ (u : Undeclared). u .readers) undeclared-is;
@@ -356,7 +324,7 @@ module _ (s : List ℕ) (i : Index) (F I : List ℕ) (l : Linted) (f k : List �
       (ap (λ (v : List ℕ). lent v y) (w .0 ∙ ap (λ (n : ℕ). replicate n 0) a) ∙ ap (lent (replicate (length F) 0)) (w .1 ∙ ap (λ (n : ℕ). replicate n 0) b))
 
 pub accepted-bounds : (s : List ℕ) (x : File) → ReadSays s x (accepted s) → x .status ≡ status.Read → Bounds (x .index)
-accepted-bounds s x f e = let r = accept-read s x f e in bounds s (x .index) (r .0) (r .1 .0) (r .1 .1)
+accepted-bounds s x f e = let r = accept-read s x f e in bounds s (r .0) (r .1 .0) (x .index) (r .1 .1)
 
 pub accepted-answers : (s : List ℕ) (x : File) → ReadSays s x (accepted s) → x .status ≡ status.Read → {r : Report} {F I : List ℕ} {a : Lent} → AnswersAs s (x .index) r (lent F I) a → Answers s r (lent F I) a
 accepted-answers s x f e h = let r = accept-read s x f e in h (r .0) (r .1 .0) (r .1 .1)

@@ -3,30 +3,27 @@ use mathlib.Core.Path.{_≡_, refl, sym, ap, _∙_}
 use mathlib.Core.Bool.{Bool, true, false}
 use mathlib.Core.List.{List, [], _∷_, _++_}
 use mathlib.Core.Logic.{_⊎_, inl, inr}
-use mathlib.Core.Option.{Option, none, some}
-use Prim.Native.Nat.{ℕ, zero, suc, _+_, _*_, _-_, _/_, _≤_, _<_}
+use mathlib.Core.Option.{some}
+use Prim.Native.Nat.{ℕ, zero, suc, _+_, _*_, _-_, _/_, _≤_}
 use native.Mathlib.Omega.{arith}
-use native.Mathlib.Decide.{decLt}
 use lib.Dec.{eqb, ltb}
-use lib.ListN.{length, take, drop, replicate, length-append, length-drop}
-use lib.Seq.{take-at, length-take-le}
-use borrow.Author.Tests.{lt-ltb, le-ltb}
-use Rattle.texts.specs.Lists.{if_then_else_, each, flat}
+use lib.ListN.{length, take, drop, length-append, length-drop}
+use lib.Seq.{length-take-le}
+use Rattle.texts.specs.Lists.{if_then_else_, each}
 use Rattle.texts.specs.Texts.{Text}
-use Rattle.model.specs.File.{got, Reader, u16, times, counted, one-text, texts}
+use Rattle.model.specs.File.{got, times, counted, one-text, texts}
 use Rattle.model_walk.proofs.Found.{Case, is-true, is-false, case, bound, given, required, u16-wide, counted-found}
 use Rattle.model_parts.proofs.Stands.{more}
 use Rattle.model_order.proofs.Laws.{fits-is}
 use Rattle.model_order.proofs.Places.{told}
 use Rattle.areas.specs.Areas.{words, area, written}
-use Rattle.engine.proofs.Lists.{Each}
 use Rattle.lint.specs.Findings.{Interaction, Entry}
 use Rattle.lint.specs.Lint.{overflow}
 use Rattle.lint.specs.Words.{interaction-words}
 use Rattle.lint.specs.Memory.{Both, neither, both}
 use Rattle.lint_board.specs.Board.{Item, finding, interaction, Board, board, more-findings, more-interactions, refused, push, pushes}
 use Rattle.lint_board.specs.Filled.{exactly, findings-of}
-use Rattle.lint_board.proofs.Holds.{Shaped, shaped-none, shaped-finding, shaped-interaction}
+use Rattle.lint_board.proofs.Holds.{Shaped, shaped-none, shaped-finding, shaped-interaction, exact}
 
 -- ---- lengths
 
@@ -77,10 +74,6 @@ pushes-long (shaped-interaction {w} {l} e s) b =
     record { findings = y .findings ∙ x .findings; interactions = y .interactions ∙ x .interactions }
 
 -- ---- words of the right number
-
-exact : (n : ℕ) (w : List ℕ) → length w ≡ n → exactly n w ≡ w
-unfolding exactly
-exact n w e = take-at w (replicate n 0) n e
 
 found-words : {l : List Item} → Shaped l → words (exactly 14) (findings-of l) ≡ words (λ w. w) (findings-of l)
 unfolding words findings-of

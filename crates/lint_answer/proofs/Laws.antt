@@ -1,5 +1,5 @@
 -- The laws that the proofs of the entry's parts cite.
-use mathlib.Core.Path.{_≡_, refl, sym, ap, _∙_, subst}
+use mathlib.Core.Path.{_≡_, refl, ap, _∙_, subst}
 use mathlib.Core.List.{List}
 use Prim.Native.Nat.{ℕ, _-_, _≤_}
 use native.Mathlib.Omega.{arith}
@@ -21,7 +21,6 @@ use Rattle.lint_entry.specs.Order.{fillL, Lints}
 use Rattle.lint_entry.specs.declared.Linted.{Linted}
 use Rattle.lint_notes.specs.Notes.{AllNotes}
 use Rattle.lint_places.specs.Ground.{namesOf}
-use Rattle.lint_answer.specs.declared.Report.{Report}
 use Rattle.lint_answer.specs.Parts.{firstL, readSets, writeSets, Bounds, Inserts, Tells}
 
 pub first-is : (l : List ℕ) (n : ℕ) → firstL l n ≡ fillL (λ i. getD l i 0) (n - 0) 0 (replicate 32 0)

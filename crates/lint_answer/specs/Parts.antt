@@ -1,5 +1,5 @@
 -- What the parts of the entry promise.
-use Prim.Native.Nat.{ℕ, _≤_}
+use Prim.Native.Nat.{ℕ}
 use mathlib.Core.Path.{_≡_}
 use mathlib.Core.List.{List}
 use lib.ListN.{length, getD, replicate}
@@ -14,13 +14,13 @@ use Rattle.lint_board.specs.declared.Out.{Out}
 use Rattle.lint_reach.specs.declared.Components.{Components}
 use Rattle.lint_walk.specs.Walks.{walkW}
 use Rattle.lint_touches.specs.Sets.{readsS, writesS}
-use Rattle.lint_names.specs.declared.Undeclared.{Undeclared}
 use Rattle.lint_names.specs.Strange.{undeclaredU}
 use Rattle.lint_board.specs.Board.{Board, board}
 use Rattle.lint_entry.specs.Order.{fillL, Lints}
 use Rattle.lint_entry.specs.declared.Linted.{Linted}
 use Rattle.lint_notes.specs.Notes.{AllNotes}
 use Rattle.lint_places.specs.Ground.{namesOf}
+pub use Rattle.lint_places.specs.Ground.{Bounds}
 use Rattle.lint_answer.specs.declared.Report.{Report}
 use Rattle.lint_answer.specs.Answers.{Answers}
 
@@ -33,12 +33,6 @@ readSets s e rules = fillL (λ i. readsS s e (getD (rules .starts) i 0) (walkW s
 
 unfoldable pub writeSets : List ℕ → (entities rules : Section) → List ℕ
 writeSets s e rules = fillL (λ i. writesS s e (walkW s (getD (rules .starts) i 0))) (rules .count) 0 (replicate 32 0)
-
--- the index of a model that isn't too large
-pub record Bounds (i : Index) : Type 0 where
-  pub entities : i .entities .count ≤ 32
-  pub invariants : i .invariants .count ≤ 32
-  pub rules : i .rules .count ≤ 32
 
 -- the entries of the model are inserted into areas of zeros, as long as F and I
 pub record Inserts (s : List ℕ) (i : Index) (F I : List ℕ) (r : Linted) (e : Board) : Type 0 where

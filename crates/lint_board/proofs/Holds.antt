@@ -16,7 +16,7 @@ use Rattle.lint_board.specs.Board.{Item, finding, interaction, Board, bo
 use Rattle.lint_board.specs.Filled.{exactly, findings-of, interactions-of, over}
 
 -- words of the right number are kept
-exact : (n : ℕ) (w : List ℕ) → length w ≡ n → exactly n w ≡ w
+pub exact : (n : ℕ) (w : List ℕ) → length w ≡ n → exactly n w ≡ w
 unfolding exactly
 exact n w e = take-at w (replicate n 0) n e
 

@@ -1,34 +1,26 @@
 -- What an accepted file gives to lint: few parts, identifiers that differ, and entities that are declared wherever an
 -- accepted part names one; a trigger with a note isn't checked.
-use mathlib.Core.Path.{_≡_, refl, sym, ap, _∙_, subst}
-use mathlib.Core.Bool.{Bool, true, false, _||_}
+use mathlib.Core.Path.{_≡_, sym, ap, _∙_}
+use mathlib.Core.Bool.{Bool, true, false}
 use mathlib.Core.List.{List, [], _∷_, _++_}
-use mathlib.Core.Option.{Option, none, some}
-use Prim.Native.Nat.{ℕ, zero, suc, _+_, _≤_, _<_}
+use mathlib.Core.Option.{none}
+use Prim.Native.Nat.{ℕ, _+_, _≤_, _<_}
 use native.Mathlib.Omega.{arith}
-use lib.Dec.{ltb, eqb}
-use lib.ListN.{length, getD, length-append}
+use lib.ListN.{length, length-append}
 use borrow.Author.Tests.{ltb-false}
-use Rattle.texts.specs.Lists.{if_then_else_, absent, is-empty, find, listed, each}
-use Rattle.texts.specs.Texts.{Text, text, eqT, memT}
-use Rattle.model.specs.Answer.{Answer, answer, refused, Verdict, accept, _and_, _when_, _>>=_, each-accepted}
-use Rattle.model.specs.Model.{Source, Predicate, state, Trigger, Effect, toggle, delay, condition, choose, wait, Actions, done, act, Branches, no-branch, branch, Automation, Entity, Model, named}
-use Rattle.model.specs.Notes.{notes-of}
-use Rattle.model.specs.File.{Got, got, broken, model, decoded, decode}
-use Rattle.model.specs.Validate.{bad-size, undecided, counting, check-value, check-predicate, check-trigger, check-effect, check-actions, check-branches, check-rule, check-rules, validate, accepted}
-use Rattle.engine.proofs.Lists.{Case, is-true, is-false, case, Each, or-no}
-use Rattle.engine.proofs.Distinct.{answer-eq, refused-answer, bind-inv, and-inv, when-inv, or-no′}
+use Rattle.texts.specs.Lists.{if_then_else_, absent, find, listed}
+use Rattle.texts.specs.Texts.{Text, text}
+use Rattle.model.specs.Answer.{answer, refused, Verdict, accept, _and_, _when_, each-accepted}
+use Rattle.model.specs.Model.{Predicate, state, Trigger, Effect, toggle, delay, condition, choose, wait, Actions, done, act, Branches, no-branch, branch, Automation, Entity, Model, named}
+use Rattle.model.specs.Validate.{counting, check-value, check-predicate, check-trigger, check-effect, check-actions, check-branches, check-rule, check-rules, accepted}
+use Rattle.engine.proofs.Lists.{Each}
+use Rattle.engine.proofs.Validated.{answer-eq, refused-answer, bind-inv, and-first, and-inv, when-inv, accepted-passed, few-parts}
 use Rattle.lint.specs.Touches.{Action, within, walk, within-branches, conditions-of}
 use Rattle.lint.specs.Touches as touches
 use Rattle.lint_touches.specs.Names.{nameAt}
 use Rattle.lint_places.proofs.Tiers.{Looked, looked-at, nowhere, look}
 
 -- ---- verdicts
-
-pub and-first : {A : Type 0} (v : Verdict) (x : Answer A) (b : A) → (v and x) ≡ answer b → v ≡ accept
-unfolding _and_
-and-first (answer tt) x b e = refl
-and-first (refused n) x b e = absurd (refused-answer e)
 
 pub each-verdict : {A : Type 0} (g : A → Verdict) (P : A → Type 0) → ((a : A) → g a ≡ accept → P a) → (l : List A) → each-accepted g l ≡ accept → Each P l
 unfolding each-accepted
@@ -177,60 +169,13 @@ pub record Lawful (m : Model) : Type 0 where
   pub few-invariants : length (m .scenario .invariants) ≤ 32
   pub rules : Each (Legal (m .scenario .entities)) (m .rules)
 
-sizes : (a b c d e : Bool) → (a || b || c || d || e) ≡ false → (b ≡ false) × ((c ≡ false) × (e ≡ false))
-sizes a b c d e h =
-    let i = or-no (a || b || c) d (or-no (a || b || c || d) e h) in
-    (or-no′ a b (or-no (a || b) c i), (or-no′ (a || b) c i, or-no′ (a || b || c || d) e h))
-
-valid-lawful : (m n : Model) → validate m ≡ answer n → (m ≡ n) × Lawful m
-unfolding validate bad-size
-valid-lawful m n e =
-    let e₂ = and-inv _ _ n e in
-    let e₈ = and-inv _ _ n (and-inv _ _ n (and-inv _ _ n (and-inv _ _ n (and-inv _ _ n (and-inv _ _ n e₂))))) in
-    let b = bind-inv (check-rules (m .scenario .entities) [] (m .rules) 0) (λ k. answer m) n (and-inv _ _ n e₈) in
-    let sc = m .scenario in
-    let z = sizes (is-empty (sc .entities)) (ltb 32 (length (sc .entities))) (ltb 32 (length (m .rules))) (ltb 100 (length (sc .events))) (ltb 32 (length (sc .invariants))) (when-inv _ _ _ n e₂) in (
-      answer-eq (b .1 .1),
-      record {
-        few-entities = ltb-false 32 (length (sc .entities)) (z .0);
-        few-rules = ltb-false 32 (length (m .rules)) (z .1 .0);
-        few-invariants = ltb-false 32 (length (sc .invariants)) (z .1 .1);
-        rules = rules-legal (sc .entities) [] (m .rules) 0 (b .0) (omega arith) (b .1 .0);
-      },
-    )
-
 pub accepted-lawful : (file : List ℕ) (m : Model) → accepted file ≡ answer m → Lawful m
-unfolding accepted
 accepted-lawful file m e =
-    let b = bind-inv (decode file) validate m e in
-    let v = valid-lawful (b .0) m (b .1 .1) in
-    subst Lawful (v .0) (v .1)
-
--- a file that was decoded has at most 64 notes, and at most 32,768 bytes
-decoded-few : (s : List ℕ) (m : Model) → decode s ≡ answer m → (length s ≤ 32768) × (length (notes-of m) ≤ 64)
-unfolding decode decoded
-decoded-few s m e = by (case (ltb 32768 (length s)))
-  where
-    notes : (n : Model) → Case (ltb 64 (length (notes-of n))) → (next : ℕ) → decoded (got n next) (length s) ≡ answer m → length (notes-of m) ≤ 64
-    notes n (is-true b) next e = absurd (refused-answer (rw b at e))
-    notes n (is-false b) next e = rest (case (ltb next (length s))) (rw b at e)
-      where
-        rest : Case (ltb next (length s)) → (if ltb next (length s) then refused 31 else answer n) ≡ answer m → length (notes-of m) ≤ 64
-        rest (is-true c) e = absurd (refused-answer (rw c at e))
-        rest (is-false c) e =
-            let q : answer n ≡ answer m = rw c at e in
-            subst (λ (y : Model). length (notes-of y) ≤ 64) (answer-eq q) (ltb-false 64 (length (notes-of n)) b)
-
-    found : (g : Got Model) → decoded g (length s) ≡ answer m → length (notes-of m) ≤ 64
-    found (got n next) e = notes n (case (ltb 64 (length (notes-of n)))) next e
-    found broken e = absurd (refused-answer e)
-
-    by : Case (ltb 32768 (length s)) → (length s ≤ 32768) × (length (notes-of m) ≤ 64)
-    by (is-true b) = absurd (refused-answer (rw b at e))
-    by (is-false b) = (ltb-false 32768 (length s) b, found (model s 0) (rw b at e))
-
-pub accepted-few : (file : List ℕ) (m : Model) → accepted file ≡ answer m → (length file ≤ 32768) × (length (notes-of m) ≤ 64)
-unfolding accepted
-accepted-few file m e =
-    let b = bind-inv (decode file) validate m e in
-    decoded-few file m (b .1 .0 ∙ ap answer (valid-lawful (b .0) m (b .1 .1) .0))
+    let p = accepted-passed file m e in
+    let few = few-parts m (p .size) in
+    record {
+      few-entities = few .entities;
+      few-rules = few .rules;
+      few-invariants = few .invariants;
+      rules = rules-legal (m .scenario .entities) [] (m .rules) 0 (p .actions) (omega arith) (p .rules);
+    }

@@ -1,14 +1,13 @@
 -- What each automation reads and writes, found by its identifier, and numbers in a row.
-use mathlib.Core.Path.{_≡_, refl, sym, ap, _∙_, subst}
-use mathlib.Core.Bool.{Bool, true, false, _||_, _&&_, not}
+use mathlib.Core.Path.{_≡_, refl, sym, ap, _∙_}
+use mathlib.Core.Bool.{Bool, true, false}
 use mathlib.Core.List.{List, [], _∷_, _++_, append-nil, append-assoc}
 use mathlib.Core.Option.{Option, none, some}
 use Prim.Native.Nat.{ℕ, zero, suc, _+_, _-_, _^_, _≤_, _<_}
 use native.Mathlib.Omega.{arith}
-use native.Mathlib.Numerals.{add-one}
 use lib.Dec.{eqb}
 use lib.ListN.{length, getD, set, take, replicate, length-append}
-use lib.Seq.{set-append-seam, getD-take, length-take-le, ext-getD}
+use lib.Seq.{set-append-seam}
 use borrow.Author.Tests.{ne-eqb}
 use Rattle.texts.specs.Lists.{if_then_else_, keep, find, each, flat}
 use Rattle.texts.specs.Texts.{Text, eqT, ltT, memT}
@@ -31,10 +30,10 @@ use Rattle.lint_tests.specs.declared.Names.{Names}
 use Rattle.lint_entry.specs.Order.{fillL}
 use Rattle.lint_places.specs.Numbers.{padded, entities-of, declared-set, undeclared, stranger-places, stranger-readers}
 use Rattle.lint_places.proofs.Lists.{mem-at}
-use Rattle.lint_places.proofs.Sets.{Once, once-at, eqb-suc, set-members, places-at}
+use Rattle.lint_places.proofs.Sets.{once-at, eqb-suc, set-members, places-at}
 use Rattle.lint_places.proofs.Stage.{Stage, no-rule, each-at, each-long, writes-small, reads-small, rule-start, rule-of, rule-at, walked-at}
 use Rattle.lint_places.proofs.Strangers.{places-below}
-use Rattle.lint_places.proofs.Cycled.{each-each}
+use Rattle.lint_places.proofs.Cycled.{each-each, places-long}
 use Rattle.lint_places.proofs.Rules.{es, names, ids, names-once, reads-listed, writes-listed}
 
 -- ---- by identifier
@@ -96,11 +95,6 @@ filled g (suc n) k r l e =
     ap (fillL g n (k + 1)) y
     ∙ filled g n (k + 1) r (l ++ g k ∷ []) (length-append l (g k ∷ []) ∙ ap (λ (m : ℕ). m + 1) e)
     ∙ ap (λ (m : List ℕ). m ++ replicate r 0) (append-assoc l (g k ∷ []) (each g (places n (k + 1))))
-
-places-long : (n k : ℕ) → length (places n k) ≡ n
-unfolding places
-places-long zero k = refl
-places-long (suc n) k = ap suc (places-long n (k + 1))
 
 pub fill-padded : (g : ℕ → ℕ) (n : ℕ) → n ≤ 32 → fillL g n 0 (replicate 32 0) ≡ padded 32 (each g (places n 0))
 unfolding padded

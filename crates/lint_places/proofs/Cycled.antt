@@ -1,6 +1,6 @@
 -- The items of the components stand for the definition's cycles.
 use mathlib.Core.Path.{_≡_, refl, sym, ap, _∙_, subst}
-use mathlib.Core.Bool.{Bool, true, false, _||_, _&&_, not}
+use mathlib.Core.Bool.{Bool, true, false, _||_, _&&_, not, or-assoc}
 use mathlib.Core.List.{List, [], _∷_, _++_, append-nil}
 use mathlib.Core.Option.{Option, none, some}
 use Prim.Native.Nat.{ℕ, zero, suc, _+_, _-_, _^_, _≤_, _<_}
@@ -15,7 +15,7 @@ use borrow.Author.Tests.{lt-ltb, le-ltb}
 use Rattle.texts.specs.Lists.{if_then_else_, any, listed, keep, each, flat, through}
 use Rattle.texts.specs.Texts.{Text, memT}
 use Rattle.texts.proofs.Ordering.{not-both}
-use Rattle.model.specs.Model.{Source, Entity, Automation, Model}
+use Rattle.model.specs.Model.{Automation, Model}
 use Rattle.model_walk.proofs.Found.{Case, is-true, is-false, case}
 use Rattle.model_parts.specs.declared.Section.{Section}
 use Rattle.engine.proofs.Lists.{Each}
@@ -24,7 +24,7 @@ use Rattle.lint.specs.Reach.{Square, places, square, by-way-of, closure, compon
 use Rattle.lint.specs.Reach as reach
 use Rattle.lint.specs.Touches.{Action, Write, write, written-by, writes-of}
 use Rattle.lint.specs.Touches as touches
-use Rattle.lint.specs.Findings.{trigger-cycle, Finding, Entry, rank-name, sets-off, highest, cycle-entry, leads-to, at-place, cycles}
+use Rattle.lint.specs.Findings.{trigger-cycle, Entry, rank-name, sets-off, highest, cycle-entry, leads-to, at-place, cycles}
 use Rattle.lint.specs.Findings as findings
 use Rattle.lint.specs.Words.{set-of, code-number, certainty-number, tier-number, source-words, sources-of, entity-number, ids-set, finding-words, plain}
 use Rattle.lint.specs.Memory.{neither, both}
@@ -33,17 +33,16 @@ use Rattle.lint_reach.specs.declared.Components.{Components}
 use Rattle.lint_reach.specs.Sets.{holds, members}
 use Rattle.lint_reach.specs.Steps.{cell}
 use Rattle.lint_reach.proofs.Bits.{holds-or, holds-none, keep-none, keep-append, places-more}
-use Rattle.lint_walk.specs.declared.Walk.{Walk}
 use Rattle.lint_walk.specs.Raw.{placeZ, past, kindZ}
 use Rattle.lint_walk.specs.Walks.{walkW}
 use Rattle.lint_walk.proofs.Found.{ActionAt}
-use Rattle.lint_walk.proofs.Goes.{ActionsAt, no-action, action, Walked}
+use Rattle.lint_walk.proofs.Goes.{ActionsAt, no-action, action}
 use Rattle.lint_touches.specs.Names.{nameAt}
 use Rattle.lint_touches.specs.Sets.{writesS}
 use Rattle.lint_touches.proofs.Rising.{mem-none, mem-append}
 use Rattle.lint_tests.specs.declared.Names.{Names}
-use Rattle.lint_tests.specs.Tests.{anyL, leadsZ, highestZ}
-use Rattle.lint_tests.proofs.Agrees.{leads-agrees}
+use Rattle.lint_tests.specs.Tests.{anyL, leadsZ}
+use Rattle.lint_tests.proofs.Agrees.{leads-agrees, or-is}
 use Rattle.lint_board.specs.Board.{Item}
 use Rattle.lint_findings.specs.Entries.{itemsN, valueZ}
 use Rattle.lint_entry.specs.Order.{actionLeadsZ, leadsToZ, edgesZ, cycleWritesFrom, cycleWritesZ, cycleZ, cyclesItems}
@@ -53,21 +52,13 @@ use Rattle.lint_places.proofs.Agree.{Stands, as-finding, agree-numbers}
 use Rattle.lint_places.proofs.Tiers.{highest-word}
 use Rattle.lint_places.proofs.Accepted.{FineA}
 use Rattle.lint_places.proofs.Stage.{Stage, no-rule, each-at, each-long, nth, rule-start, rule-of, rule-at, legal-at, walked-at}
-use Rattle.lint_places.proofs.Rules.{es, names, ids, Agrees, Valued, WriteAt, Writes, writes, others, write-at, writes-held}
+use Rattle.lint_places.proofs.Rules.{es, names, ids, Agrees, Writes, writes, others, write-at, writes-held}
 
 -- ---- lists
 
 or-no : (b : Bool) → (b || false) ≡ b
 or-no true = refl
 or-no false = refl
-
-or-assoc : (a b c : Bool) → ((a || b) || c) ≡ (a || (b || c))
-or-assoc true b c = refl
-or-assoc false b c = refl
-
-or-is : (a b : Bool) → (elim a [ true ↦ true | false ↦ b ]) ≡ (a || b)
-or-is true b = refl
-or-is false b = refl
 
 any-append : {A : Type 0} (p : A → Bool) (l m : List A) → any p (l ++ m) ≡ (any p l || any p m)
 unfolding any
@@ -137,7 +128,7 @@ components-below : (sq : Square) → Each (Each (λ (j : ℕ). j < length sq)) (
 unfolding components
 components-below sq = from-below sq [] (places (length sq) 0)
 
-places-long : (n k : ℕ) → length (places n k) ≡ n
+pub places-long : (n k : ℕ) → length (places n k) ≡ n
 unfolding places
 places-long zero k = refl
 places-long (suc n) k = ap suc (places-long n (k + 1))

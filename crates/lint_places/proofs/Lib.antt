@@ -12,3 +12,4 @@ pub mod Noted
 pub mod Strangers
 pub mod Packed
 pub mod ById
+pub mod Columns

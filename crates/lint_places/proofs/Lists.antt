@@ -7,7 +7,7 @@ use Prim.Native.Nat.{ℕ, zero, suc, _+_, _≤_, _<_}
 use native.Mathlib.Omega.{arith}
 use lib.ListN.{length, getD, length-append}
 use Rattle.texts.specs.Lists.{if_then_else_, is-empty, keep, each, flat}
-use Rattle.texts.specs.Texts.{Text, eqT, ltT, memT, insertT, sortedT}
+use Rattle.texts.specs.Texts.{Text, eqT, memT, sortedT}
 use Rattle.texts.proofs.Ordering.{not-both, eq-is, eq-refl, eq-sym}
 use Rattle.model_walk.proofs.Found.{Case, is-true, is-false, case}
 use Rattle.lint_touches.proofs.Rising.{Above, over-none, over-one, Rising, rise-none, rise, mem-cons, mem-none, rising-sorted, mem-sorted, unique}
@@ -50,11 +50,6 @@ each-empty f (x ∷ l) = refl
 pub either : (a b : Bool) → (a || b) ≡ true → (a ≡ true) ⊎ (b ≡ true)
 either true b h = inl refl
 either false b h = inr h
-
-pub each-append : {A B : Type 0} (f : A → B) (l m : List A) → each f (l ++ m) ≡ each f l ++ each f m
-unfolding each
-each-append f [] m = refl
-each-append f (x ∷ l) m = ap (λ (y : List _). f x ∷ y) (each-append f l m)
 
 -- ---- ascending lists
 
@@ -130,21 +125,6 @@ found-at (x ∷ l) t h = cases (case (eqT t x)) (λ k. found-at l t k)
     cases : Case (eqT t x) → (memT t l ≡ true → (j : ℕ) × ((j < length l) × (getD l j [] ≡ t))) → (j : ℕ) × ((j < suc (length l)) × (getD (x ∷ l) j [] ≡ t))
     cases (is-true e) ih = (0, (omega arith, sym (eq-is t x e)))
     cases (is-false e) ih = let r = ih (sym (mem-cons t x l ∙ rw e) ∙ h) in let b = r .1 .0 in (suc (r .0), (omega arith, r .1 .1))
-
-insert-fewer : (t : Text) (l : List Text) → length (insertT t l) ≤ length l + 1
-unfolding insertT
-insert-fewer t [] = omega arith
-insert-fewer t (y ∷ l) = by (eqT t y) (ltT t y) (insert-fewer t l)
-  where
-    by : (a b : Bool) → length (insertT t l) ≤ length l + 1 → length (if a then y ∷ l else if b then t ∷ y ∷ l else y ∷ insertT t l) ≤ suc (length l) + 1
-    by true b h = omega arith
-    by false true h = omega arith
-    by false false h = omega arith
-
-pub sorted-fewer : (l : List Text) → length (sortedT l) ≤ length l
-unfolding sortedT
-sorted-fewer [] = omega arith
-sorted-fewer (t ∷ l) = omega (arith, insert-fewer t (sortedT l), sorted-fewer l)
 
 -- one list is no longer than all of them
 pub flat-longer : {A B : Type 0} (f : A → List B) (d : A) (l : List A) (j : ℕ) → j < length l → length (f (getD l j d)) ≤ length (flat f l)

@@ -1,37 +1,34 @@
 -- The findings of the notes stand for the definition's unsupported findings.
 use mathlib.Core.Path.{_≡_, refl, sym, ap, _∙_, subst}
-use mathlib.Core.Bool.{Bool, true, false}
 use mathlib.Core.List.{List, [], _∷_, _++_, map}
 use Prim.Native.Nat.{ℕ, zero, suc, _+_, _*_, _^_, _≤_, _<_}
 use native.Mathlib.Omega.{arith}
 use lib.Bits.{bitOr}
-use lib.Dec.{ltb}
 use lib.ListN.{length, getD, drop, length-append}
 use lib.Seq.{getD-drop, drop-drop}
 use borrow.Author.Tests.{le-ltb}
-use Rattle.texts.specs.Lists.{if_then_else_, each, flat}
+use Rattle.texts.specs.Lists.{each, flat}
 use Rattle.texts.specs.Places.{textAt, startFrom}
-use Rattle.texts.specs.Texts.{Text, text, eqT, sortedT}
+use Rattle.texts.specs.Texts.{Text, text, eqT}
 use Rattle.model.specs.Model.{Automation, Model}
 use Rattle.model.specs.Notes.{of-rule, of-invariant, notes-of}
-use Rattle.model.specs.File.{got, Reader, u16, counted, place, trigger, predicate, actions-of, actions}
+use Rattle.model.specs.File.{got, u16, counted, place, trigger, predicate, actions-of, actions}
 use Rattle.model_walk.proofs.Found.{bound, u16-wide, source-wide, counted-found, place-found}
 use Rattle.model_walk.proofs.Laws.{bind-got}
 use Rattle.model_parts.specs.declared.Section.{Section}
-use Rattle.reasons.specs.declared.Reason.{Reason}
 use Rattle.reasons.specs.Reasons.{render}
 use Rattle.reasons.specs.Lists.{words-of, reason-of, reasons, listed}
 use Rattle.engine.specs.Unsupported.{unsupported, rule-reasons}
+use Rattle.engine.proofs.Lists.{sorted-many}
 use Rattle.model.specs.Rewrite.{place-of}
 use Rattle.engine_reads.specs.Reads.{cap, word}
-use Rattle.engine_unsupported.specs.Listing.{ruleL}
 use Rattle.engine_unsupported.specs.Rows.{RuleAt as Row}
 use Rattle.engine_unsupported.proofs.Adding.{many-rules}
 use Rattle.engine_unsupported.proofs.Agrees.{alone-agrees}
-use Rattle.lint.specs.Findings.{unsupported-note, Finding, Entry, unsupported-entry, unsupported-entries}
+use Rattle.lint.specs.Findings.{unsupported-note, Finding, unsupported-entry, unsupported-entries}
 use Rattle.lint.specs.Words.{set-of, code-number, certainty-number, tier-number, source-words, sources-of, entity-number, ids-set, finding-words, noted}
 use Rattle.lint.specs.Memory.{neither, both}
-use Rattle.lint_walk.specs.Raw.{placeZ, numberZ, past, triggersZ, conditionsZ, actionsZ}
+use Rattle.lint_walk.specs.Raw.{numberZ, past, triggersZ, conditionsZ, actionsZ}
 use Rattle.lint_walk.specs.Walks.{walkW, listEnd}
 use Rattle.lint_walk.proofs.Found.{past-is, place-got, RuleAt}
 use Rattle.lint_walk.proofs.Goes.{list-ends}
@@ -40,8 +37,8 @@ use Rattle.lint_board.specs.Board.{Item, Board, pushes}
 use Rattle.lint_board.proofs.Laws.{pushes-append}
 use Rattle.lint_findings.specs.Entries.{itemsN}
 use Rattle.lint_notes.specs.Notes.{noteZ, noteItems, RowOf, RuleNotes, AllNotes, no-notes, more-notes}
-use Rattle.lint_places.proofs.Lists.{sorted-fewer, flat-longer}
-use Rattle.lint_places.proofs.Agree.{Stands, as-finding, agree-append}
+use Rattle.lint_places.proofs.Lists.{flat-longer}
+use Rattle.lint_places.proofs.Agree.{as-finding, agree-append}
 use Rattle.lint_places.proofs.Stage.{Stage, no-rule, rule-start, rule-of, rule-at, walked-at, id-number}
 use Rattle.lint_places.proofs.Rules.{names, ids, Agrees}
 
@@ -113,7 +110,7 @@ module _ {s : List ℕ} {d : Names} {rs : Section} {ts : List Text} {m : Model} 
 
     few-reasons : length (unsupported (r ∷ [])) ≤ 64
     unfolding unsupported flat
-    few-reasons = omega (arith, sorted-fewer (rule-reasons r ++ []), many-rules (r ∷ []), length-append (of-rule r) [], few-own)
+    few-reasons = omega (arith, sorted-many (rule-reasons r ++ []), many-rules (r ∷ []), length-append (of-rule r) [], few-own)
 
     abbrev own-set : ℕ
     own-set = bitOr 0 (2 ^ i)

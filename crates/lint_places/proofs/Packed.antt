@@ -1,11 +1,10 @@
 -- The undeclared names of all automations fit into the answer's 64 places, which hold them and then zeros.
-use mathlib.Core.Path.{_≡_, refl, sym, ap, _∙_, subst}
+use mathlib.Core.Path.{_≡_, refl, sym, ap, _∙_}
 use mathlib.Core.Bool.{Bool, true, false, _&&_, not}
 use mathlib.Core.List.{List, [], _∷_, _++_, append-nil, append-assoc}
 use mathlib.Core.Option.{Option, none, some}
 use Prim.Native.Nat.{ℕ, zero, suc, _+_, _-_, _≤_, _<_}
 use native.Mathlib.Omega.{arith}
-use native.Mathlib.Nat.{zero-add}
 use lib.ListN.{length, getD, set, replicate, length-append}
 use lib.Seq.{set-append-seam}
 use borrow.Author.Tests.{lt-ltb}
@@ -13,9 +12,8 @@ use Rattle.texts.specs.Lists.{if_then_else_, absent, keep, listed, each, flat}
 use Rattle.texts.specs.Texts.{Text, memT, sortedT}
 use Rattle.model.specs.Model.{Predicate, state, Trigger, Effect, toggle, delay, condition, choose, wait, Actions, done, act, Branches, no-branch, branch, Entity, Automation, Model}
 use Rattle.model.specs.Notes.{of-predicate, of-trigger, of-effect, of-actions, of-branches, of-invariant, of-rule, notes-of}
-use Rattle.model_walk.proofs.Found.{Case, is-true, is-false, case}
 use Rattle.model_parts.specs.declared.Section.{Section}
-use Rattle.engine.proofs.Lists.{Each}
+use Rattle.engine.proofs.Lists.{Each, each-split, sorted-many}
 use Rattle.model.specs.Rewrite.{place-of}
 use Rattle.lint.specs.Reach.{places}
 use Rattle.lint.specs.Touches.{Action, within, walk, within-branches, conditions-of, predicate-reads, effect-reads, reads-of}
@@ -27,16 +25,12 @@ use Rattle.lint_tests.specs.declared.Names.{Names}
 use Rattle.lint_names.specs.declared.Undeclared.{Undeclared}
 use Rattle.lint_names.specs.Strange.{withU, strangeZ, nameU, namesU, ruleU, rulesU, undeclaredU}
 use Rattle.lint_places.specs.Numbers.{padded, undeclared}
-use Rattle.lint_places.proofs.Lists.{flat-append, rising-keep, mem-keep, mem-at, sorted-fewer}
+use Rattle.lint_places.proofs.Lists.{flat-append, rising-keep, mem-keep, mem-at}
 use Rattle.lint_places.proofs.Sets.{Once}
 use Rattle.lint_places.proofs.Accepted.{Declared, FineP, FineT, Fine, FineA, Legal}
-use Rattle.lint_places.proofs.Stage.{Stage, no-rule, each-long, nth, id-number}
+use Rattle.lint_places.proofs.Stage.{Stage, no-rule, each-long, id-number}
 use Rattle.lint_places.proofs.Strangers.{keep-append, found-places, strange-places}
 use Rattle.lint_places.proofs.Rules.{es, names, ids}
-
-each-split : {A : Type 0} (P : A → Type 0) (l m : List A) → Each P (l ++ m) → Each P l × Each P m
-each-split P [] m h = (tt, h)
-each-split P (x ∷ l) m h = let r = each-split P l m (h .1) in ((h .0, r .0), r .1)
 
 -- ---- no more than notes
 
@@ -146,7 +140,7 @@ module _ (es : List Entity) where
       omega (
         arith,
         ap length sorted,
-        sorted-fewer (keep und (l₁ ++ l₂ ++ l₃)),
+        sorted-many (keep und (l₁ ++ l₂ ++ l₃)),
         ap length (keep-append und (l₁ ++ l₂) l₃ ∙ ap (λ (y : List Text). y ++ keep und l₃) (keep-append und l₁ l₂)),
         length-append (keep und l₁ ++ keep und l₂) (keep und l₃),
         length-append (keep und l₁) (keep und l₂),

@@ -3,31 +3,30 @@ use mathlib.Core.Path.{_≡_, refl, sym, ap, _∙_, subst}
 use mathlib.Core.Bool.{Bool, true, false}
 use mathlib.Core.List.{List, [], _∷_, _++_, append-nil}
 use mathlib.Core.Option.{Option, none, some}
-use Prim.Native.Nat.{ℕ, zero, suc, _+_, _-_, _^_, _≤_, _<_}
+use Prim.Native.Nat.{ℕ, zero, suc, _+_, _-_, _^_, _<_}
 use native.Mathlib.Omega.{arith}
-use native.Mathlib.Nat.{add-zero}
 use lib.Bits.{bitOr}
 use lib.Dec.{eqb, ltb, leb}
 use lib.ListN.{length, getD}
-use borrow.Author.Tests.{lt-ltb, le-ltb, eq-eqb, lt-leb, eqb-true, eqb-false, ne-eqb}
+use borrow.Author.Tests.{lt-ltb, le-ltb, lt-leb, eqb-true}
 use Rattle.texts.specs.Lists.{if_then_else_, listed, each, flat, through}
 use Rattle.texts.specs.Texts.{Text, text, eqT}
 use Rattle.texts.proofs.Ordering.{eq-is, eq-sym}
-use Rattle.model.specs.Model.{Source, Tier, Entity, Automation, Model}
+use Rattle.model.specs.Model.{Tier, Automation, Model}
 use Rattle.model_walk.proofs.Found.{Case, is-true, is-false, case}
 use Rattle.model_parts.specs.declared.Section.{Section}
 use Rattle.model_check.specs.Checks.{number-of}
+use Rattle.model_check.proofs.Agrees.{eqb-sym}
 use Rattle.model.specs.Rewrite.{place-of}
 use Rattle.lint.specs.Touches.{Action, Write, write, written-by}
 use Rattle.lint.specs.Touches as touches
-use Rattle.lint.specs.Findings.{opposing-writes, Finding, Entry, rank, spelled, is-star, opposed, tier-of, opposing, pair-entries, opposing-entries}
+use Rattle.lint.specs.Findings.{opposing-writes, Finding, Entry, spelled, is-star, opposed, tier-of, opposing, pair-entries, opposing-entries}
 use Rattle.lint.specs.Words.{set-of, code-number, certainty-number, tier-number, source-words, sources-of, entity-number, ids-set, finding-words, plain}
 use Rattle.lint.specs.Memory.{neither}
 use Rattle.lint_walk.specs.declared.Walk.{Walk}
-use Rattle.lint_walk.specs.Raw.{placeZ, numberZ, past, kindZ}
+use Rattle.lint_walk.specs.Raw.{placeZ, past, kindZ}
 use Rattle.lint_walk.specs.Walks.{walkW}
 use Rattle.lint_walk.proofs.Found.{ActionAt}
-use Rattle.lint_touches.specs.Names.{nameAt}
 use Rattle.lint_tests.specs.declared.Names.{Names}
 use Rattle.lint_tests.specs.Tests.{tierZ, opposedZ}
 use Rattle.lint_tests.proofs.More.{opposed-agrees}
@@ -35,23 +34,16 @@ use Rattle.lint_board.specs.Board.{Item, onlyIf}
 use Rattle.lint_findings.specs.Entries.{itemsN, valueZ, spelledZ, pairZ, opposeItems, rowItems, pairItems}
 use Rattle.lint_entry.specs.Order.{pairAt, laterItems, opposingItems}
 use Rattle.lint_places.proofs.Lists.{flat-flat}
-use Rattle.lint_places.proofs.Agree.{Stands, as-finding, Agree, agree-append, agree-if, agree-numbers}
+use Rattle.lint_places.proofs.Agree.{as-finding, agree-append, agree-if, agree-numbers}
 use Rattle.lint_places.proofs.Tiers.{entity-at, no-entity, tier-at, spelled-word}
 use Rattle.lint_places.proofs.Accepted.{FineA}
-use Rattle.lint_places.proofs.Stage.{Stage, no-rule, rule-start, rule-of, legal-at, walked-at, id-number, agree-actions}
+use Rattle.lint_places.proofs.Stage.{Stage, no-rule, legal-at, walked-at, id-number, agree-actions}
 use Rattle.lint_places.proofs.Rules.{es, names, ids, Agrees, name-number, declared-number, Valued, WriteAt, Writes, writes, others, write-at}
 
 items-none : (f : ℕ → List Item) → ((k : ℕ) → f k ≡ []) → (n k : ℕ) → itemsN f n k ≡ []
 unfolding itemsN
 items-none f h zero k = refl
 items-none f h (suc n) k = rw (h k) (items-none f h n (k + 1))
-
-eqb-sym : (a b : ℕ) → eqb a b ≡ eqb b a
-eqb-sym a b = go (eqb a b) refl
-  where
-    go : (c : Bool) → eqb a b ≡ c → eqb a b ≡ eqb b a
-    go true h = h ∙ sym (eq-eqb b a (sym (eqb-true a b h)))
-    go false h = h ∙ sym (ne-eqb b a (λ e. eqb-false a b h (sym e)))
 
 module _ {s : List ℕ} {d : Names} {rs : Section} {ts : List Text} {m : Model} (st : Stage s d rs ts m) where
   abbrev e : Section

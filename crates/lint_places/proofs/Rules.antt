@@ -2,20 +2,20 @@
 use mathlib.Core.Path.{_≡_, refl, sym, ap, _∙_, subst}
 use mathlib.Core.Bool.{Bool, true, false, _||_, _&&_, not}
 use mathlib.Core.List.{List, [], _∷_, _++_, append-nil}
-use mathlib.Core.Logic.{_⊎_, inl, inr, ⊎-elim}
+use mathlib.Core.Logic.{_⊎_, ⊎-elim}
 use mathlib.Core.Option.{Option, none, some}
 use Prim.Native.Nat.{ℕ, zero, suc, _+_, _^_, _≤_, _<_}
 use native.Mathlib.Omega.{arith}
 use native.Mathlib.Decide.{decLt}
 use lib.Bits.{bitOr}
 use lib.Count.{ones}
-use lib.Dec.{eqb, ltb, leb}
+use lib.Dec.{eqb, ltb}
 use lib.ListN.{length, getD}
 use borrow.Author.Tests.{lt-ltb, le-ltb, eq-eqb, ne-eqb, lt-leb}
 use Rattle.texts.specs.Lists.{if_then_else_, present-and, listed, is-empty, any, all, keep, each, flat}
-use Rattle.texts.specs.Texts.{Text, text, eqT, memT, sortedT}
-use Rattle.texts.proofs.Ordering.{not-both, eq-is, is-eq, eq-refl}
-use Rattle.model.specs.Model.{Source, Entity, Predicate, Effect, toggle, delay, condition, choose, wait, Branches, Automation, Invariant, Model}
+use Rattle.texts.specs.Texts.{Text, text, eqT, memT}
+use Rattle.texts.proofs.Ordering.{not-both, eq-is, eq-refl}
+use Rattle.model.specs.Model.{Source, Entity, Effect, toggle, delay, condition, choose, wait, Branches, Automation, Model}
 use Rattle.model.specs.File.{got, counted, predicate, branches, actions}
 use Rattle.model_walk.proofs.Found.{Case, is-true, is-false, case, bound, given, u16-wide}
 use Rattle.model_parts.specs.declared.Section.{Section}
@@ -25,20 +25,20 @@ use Rattle.model.specs.Rewrite.{place-of}
 use Rattle.lint.specs.Reach.{places}
 use Rattle.lint.specs.Touches.{Action, conditions-of, branch-conditions, is-delay, Write, write, written-by, reads-of, writes-of}
 use Rattle.lint.specs.Touches as touches
-use Rattle.lint.specs.Findings.{Problem, unreachable-conditions, trigger-condition-mismatch, delayed-write, unreachable-branch, high-fanout, freshness-assumption, missing-safety-guard, Finding, Interaction, Entry, rank, rank-name, contradictory, mismatched, is-star, values-of, guards, sets-off, tier-of, highest, about, about-if, expires, unguarded, branch-entries, write-entries, rule-entries}
-use Rattle.lint.specs.Words.{set-of, code-number, certainty-number, source-words, sources-of, entity-number, ids-set, finding-words, interaction-words, Reasoned, plain, Worded}
-use Rattle.lint.specs.Memory.{Both, neither, both}
+use Rattle.lint.specs.Findings.{Problem, unreachable-conditions, trigger-condition-mismatch, delayed-write, unreachable-branch, high-fanout, freshness-assumption, missing-safety-guard, Finding, Entry, rank, rank-name, contradictory, mismatched, is-star, values-of, guards, sets-off, tier-of, highest, about, about-if, expires, unguarded, branch-entries, write-entries, rule-entries}
+use Rattle.lint.specs.Words.{set-of, code-number, certainty-number, source-words, sources-of, entity-number, ids-set, finding-words, interaction-words, plain}
+use Rattle.lint.specs.Memory.{neither}
 use Rattle.lint_reach.specs.Sets.{holds, members}
 use Rattle.lint_reach.proofs.Bits.{ones-members}
 use Rattle.lint_walk.specs.declared.Walk.{Walk}
-use Rattle.lint_walk.specs.Raw.{placeZ, numberZ, past, predicatesEnd, kindZ, conditionsZ, actionsZ}
+use Rattle.lint_walk.specs.Raw.{placeZ, past, predicatesEnd, kindZ, conditionsZ, actionsZ}
 use Rattle.lint_walk.specs.Walks.{walkW, listEnd}
 use Rattle.lint_walk.proofs.Found.{past-is, place-got, SourceAt, predicates-end, EffectAt, set-at, toggle-at, delay-at, condition-at, choose-at, wait-at, unknown-at, ActionAt, RuleAt}
 use Rattle.lint_walk.proofs.Goes.{Walked, list-ends}
 use Rattle.lint_touches.specs.Names.{nameAt}
 use Rattle.lint_touches.specs.Sets.{readsS, writesS}
-use Rattle.lint_touches.proofs.Agrees.{Grounds, name-once, number-at, Inside, reads-hold, reads-inside, writes-hold, Declares, members-below, names-are, writes-are}
-use Rattle.lint_touches.proofs.Rising.{Above, over-none, over-one, Rising, rise-none, rise, mem-cons, mem-none, mem-append, rising-sorted, mem-sorted, unique}
+use Rattle.lint_touches.proofs.Agrees.{name-once, number-at, reads-hold, reads-inside, writes-hold, Declares, members-below, names-are, writes-are, each-append}
+use Rattle.lint_touches.proofs.Rising.{mem-cons, mem-none, mem-append, rising-sorted}
 use Rattle.lint_tests.specs.declared.Names.{Names}
 use Rattle.lint_tests.specs.Tests.{contradictoryZ, mismatchedZ, delaysZ, guardedZ, unguardedZ, leadsZ, tierZ, staleZ}
 use Rattle.lint_tests.proofs.Agrees.{contradictory-agrees, mismatched-agrees, Value, leads-agrees}
@@ -47,12 +47,12 @@ use Rattle.lint_board.specs.Board.{Item, onlyIf}
 use Rattle.lint_findings.specs.declared.About.{About}
 use Rattle.lint_findings.specs.Entries.{itemsN, itemsP, aboutZ, actionZ, delayedZ, ownItems, branchItems, branchesAt, branchesItems, fanoutItems, staleHereZ, freshItems, valueZ, riskyZ, interactItems, writeItems, writesItems, firstItems, ruleItems}
 use Rattle.lint_entry.specs.Order.{aboutAt, ruleAt}
-use Rattle.lint_places.proofs.Lists.{flat-append, flat-flat, each-keep, flat-keep, each-empty, either, each-append, rising-keep, sorted-rising, mem-keep, mem-at, not-at, found-at}
+use Rattle.lint_places.proofs.Lists.{flat-flat, each-keep, flat-keep, each-empty, either, rising-keep, sorted-rising, mem-keep, mem-at, not-at, found-at}
 use Rattle.lint_places.proofs.Sets.{Once, set-empty, place-at}
 use Rattle.lint_places.proofs.Agree.{Stands, as-finding, as-interaction, Agree, agree-append, agree-if, agree-numbers}
 use Rattle.lint_places.proofs.Tiers.{entity-at, no-entity, tier-at, expires-at, expires-none, highest-word}
-use Rattle.lint_places.proofs.Accepted.{Declared, FineA, Legal}
-use Rattle.lint_places.proofs.Stage.{Stage, no-rule, each-at, each-long, writes-small, rule-start, rule-of, rule-at, legal-at, walked-at, id-number, agree-actions}
+use Rattle.lint_places.proofs.Accepted.{Declared, FineA}
+use Rattle.lint_places.proofs.Stage.{Stage, no-rule, each-long, writes-small, rule-start, rule-of, rule-at, legal-at, walked-at, id-number, agree-actions}
 
 -- the entities that an action writes are declared
 written-fine : (es : List Entity) (a : Action) → FineA es a → (t : Text) → memT t (each (λ w. w .entity) (listed (write (a .source) (a .effect)))) ≡ true → Declared es t

@@ -1,14 +1,14 @@
 -- A set is that of its members; the numbers of texts in a list where each stands once.
 use mathlib.Core.Path.{_≡_, refl, sym, ap, _∙_}
-use mathlib.Core.Bool.{Bool, true, false, _||_}
+use mathlib.Core.Bool.{Bool, true, false}
 use mathlib.Core.List.{List, [], _∷_}
-use Prim.Native.Nat.{ℕ, zero, suc, _+_, _*_, _/_, _%_, _^_, _<_, _≤_}
+use Prim.Native.Nat.{ℕ, zero, suc, _+_, _*_, _/_, _%_, _^_, _<_}
 use native.Mathlib.Omega.{arith}
 use native.Mathlib.Nat.{mod-eq-of-lt, one-mul}
-use lib.Pow.{mod-pow-add, pow-pos, pow-lt}
+use lib.Pow.{mod-pow-add, pow-pos}
 use native.Mathlib.Nat.{mod-lt}
-use lib.Bits.{bitOr, or-shifted-r, or-lt}
-use lib.Dec.{eqb, ltb}
+use lib.Bits.{bitOr, or-shifted-r}
+use lib.Dec.{eqb}
 use lib.ListN.{length, getD}
 use borrow.Author.Tests.{eqb-true, eqb-false, eq-eqb, ne-eqb}
 use Rattle.texts.specs.Lists.{if_then_else_, is-empty, keep, each, through}

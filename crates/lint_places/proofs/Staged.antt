@@ -1,13 +1,13 @@
 -- An accepted file and its index are what lint goes by.
 use mathlib.Core.Path.{_≡_, refl, sym, ap, _∙_, subst}
-use mathlib.Core.Bool.{Bool, true, false, _||_, _&&_}
+use mathlib.Core.Bool.{Bool, true, false, _&&_}
 use mathlib.Core.List.{List, [], _∷_}
 use Prim.Native.Nat.{ℕ, zero, suc, _+_, _<_}
 use native.Mathlib.Omega.{arith}
 use lib.Dec.{eqb}
 use lib.ListN.{length, getD}
 use borrow.Author.Tests.{eq-eqb, ne-eqb}
-use Rattle.texts.specs.Lists.{if_then_else_, each}
+use Rattle.texts.specs.Lists.{each}
 use Rattle.texts.specs.Places.{textAt, startFrom}
 use Rattle.texts.specs.Texts.{Text, text, eqT, memT}
 use Rattle.texts.proofs.Ordering.{not-both, eq-is, eq-refl, eq-sym}

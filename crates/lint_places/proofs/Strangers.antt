@@ -1,27 +1,26 @@
 -- The places that the code finds are those of the undeclared names that the definition reads; there are at most 64.
-use mathlib.Core.Path.{_≡_, refl, sym, ap, _∙_, subst}
+use mathlib.Core.Path.{_≡_, refl, sym, ap, _∙_}
 use mathlib.Core.Bool.{Bool, true, false, _||_, _&&_, not}
-use mathlib.Core.List.{List, [], _∷_, _++_, append-nil}
+use mathlib.Core.List.{List, [], _∷_, _++_}
 use mathlib.Core.Option.{Option, none, some}
-use Prim.Native.Nat.{ℕ, zero, suc, _+_, _≤_, _<_}
+use Prim.Native.Nat.{ℕ, zero, suc, _+_, _<_}
 use native.Mathlib.Omega.{arith}
-use native.Mathlib.Nat.{add-zero, zero-add}
+use native.Mathlib.Nat.{zero-add}
 use lib.Dec.{eqb, leb}
-use lib.ListN.{length, getD, length-append}
+use lib.ListN.{length, getD}
 use lib.Seq.{getD-take}
 use borrow.Author.Tests.{le-leb, lt-leb}
-use Rattle.texts.specs.Lists.{if_then_else_, absent, any, keep, listed, each, flat}
-use Rattle.texts.specs.Texts.{Text, eqT, memT, sortedT}
+use Rattle.texts.specs.Lists.{if_then_else_, absent, any, keep, each, flat}
+use Rattle.texts.specs.Texts.{Text, eqT, memT}
 use Rattle.texts.proofs.Ordering.{not-both, eq-is, eq-sym}
-use Rattle.model.specs.Model.{Predicate, state, Trigger, Effect, toggle, delay, condition, choose, wait, Actions, done, act, Branches, no-branch, branch, Entity, Automation, Model}
-use Rattle.model.specs.Notes.{of-predicate, of-trigger, of-effect, of-actions, of-branches, of-rule}
+use Rattle.model.specs.Model.{Predicate, state, Trigger, Effect, toggle, delay, condition, choose, wait, Automation, Model}
 use Rattle.model_walk.proofs.Found.{Case, is-true, is-false, case}
 use Rattle.model_parts.specs.declared.Section.{Section}
 use Rattle.model_check.specs.Checks.{number-of}
 use Rattle.engine.proofs.Lists.{Each}
 use Rattle.model.specs.Rewrite.{place-of}
 use Rattle.lint.specs.Reach.{places}
-use Rattle.lint.specs.Touches.{Action, within, walk, within-branches, conditions-of, predicate-reads, effect-reads, reads-of}
+use Rattle.lint.specs.Touches.{Action, conditions-of, predicate-reads, effect-reads, reads-of}
 use Rattle.lint.specs.Touches as touches
 use Rattle.lint_walk.specs.declared.Walk.{Walk}
 use Rattle.lint_walk.specs.Raw.{placeZ, past, kindZ}
@@ -34,10 +33,10 @@ use Rattle.lint_touches.proofs.Rising.{Rising, mem-cons, mem-none, mem-append, 
 use Rattle.lint_tests.specs.declared.Names.{Names}
 use Rattle.lint_names.specs.Strange.{awaitZ, awaitsZ, strangeZ}
 use Rattle.lint_places.specs.Numbers.{undeclared}
-use Rattle.lint_places.proofs.Lists.{flat-append, rising-keep, mem-keep, mem-at, not-at, found-at, sorted-fewer}
+use Rattle.lint_places.proofs.Lists.{rising-keep, mem-keep, mem-at, not-at, found-at}
 use Rattle.lint_places.proofs.Sets.{Once, places-at}
 use Rattle.lint_places.proofs.Accepted.{Declared, FineP, FineT, Fine, FineA, Legal}
-use Rattle.lint_places.proofs.Stage.{Stage, no-rule, each-long, rule-start, rule-of, legal-at, walked-at}
+use Rattle.lint_places.proofs.Stage.{Stage, no-rule, each-long, legal-at, walked-at}
 use Rattle.lint_places.proofs.Rules.{es, names}
 use Rattle.lint_places.proofs.Cycled.{any-flat, any-over}
 

@@ -1,20 +1,19 @@
 -- The highest tier of a set of entities is that of the definition's list of names.
 use mathlib.Core.Path.{_≡_, refl, sym, ap, _∙_, subst}
-use mathlib.Core.Bool.{Bool, true, false, _||_, _&&_, not}
+use mathlib.Core.Bool.{Bool, true, false, _||_, not, or-assoc}
 use mathlib.Core.List.{List, [], _∷_, _++_}
 use mathlib.Core.Logic.{_⊎_, inl, inr, ⊎-elim}
 use mathlib.Core.Option.{Option, none, some}
 use Prim.Native.Nat.{ℕ, zero, suc, _+_, _≤_, _<_}
 use native.Mathlib.Omega.{arith}
 use native.Mathlib.Decide.{decLt}
-use lib.Dec.{eqb, ltb}
+use lib.Dec.{eqb}
 use lib.ListN.{length, getD}
-use borrow.Author.Tests.{lt-ltb, le-ltb, eq-eqb, ne-eqb, eqb-true}
+use borrow.Author.Tests.{lt-ltb, le-ltb, eq-eqb, eqb-true}
 use Rattle.texts.specs.Lists.{if_then_else_, absent, listed, present-and, find, each, flat, through}
-use Rattle.texts.specs.Texts.{Text, text, eqT, memT}
-use Rattle.texts.proofs.Ordering.{lt-or-ge, not-both, eq-is, is-eq, eq-sym}
+use Rattle.texts.specs.Texts.{Text, eqT, memT}
+use Rattle.texts.proofs.Ordering.{not-both, eq-is, is-eq, eq-sym}
 use Rattle.model.specs.Model.{Tier, observational, comfort, property, access-safety, Entity, Scenario, named}
-use Rattle.model.specs.File.{entity}
 use Rattle.model_walk.proofs.Found.{Case, is-true, is-false, case}
 use Rattle.model_parts.specs.declared.Section.{Section}
 use Rattle.model.specs.Rewrite.{place-of}
@@ -27,6 +26,7 @@ use Rattle.lint_touches.proofs.Rising.{mem-cons, mem-none}
 use Rattle.lint_tests.specs.Tests.{tierZ, staleZ, greaterZ, highestFrom, highestZ}
 use Rattle.lint_tests.proofs.More.{entity-agrees}
 use Rattle.lint_findings.specs.Entries.{spelledZ}
+use Rattle.lint_places.proofs.Lists.{either}
 
 -- ---- the greatest of some numbers
 
@@ -56,17 +56,9 @@ or-right : (a b : Bool) → b ≡ true → (a || b) ≡ true
 or-right true b h = refl
 or-right false b h = h
 
-either : (a b : Bool) → (a || b) ≡ true → (a ≡ true) ⊎ (b ≡ true)
-either true b h = inl refl
-either false b h = inr h
-
 or-no : (b : Bool) → (b || false) ≡ b
 or-no true = refl
 or-no false = refl
-
-or-assoc : (a b c : Bool) → ((a || b) || c) ≡ (a || (b || c))
-or-assoc true b c = refl
-or-assoc false b c = refl
 
 -- one number more
 top-more : (n : ℕ) (R : ℕ → ℕ) (h : ℕ → Bool) (i M : ℕ) → i < n → Top n R h M → Top n R (λ k. h k || eqb i k) (greater M (R i))

@@ -1,5 +1,5 @@
 -- What lint's tests need of a file, from its index.
-use Prim.Native.Nat.{ℕ}
+use Prim.Native.Nat.{ℕ, _≤_}
 use mathlib.Core.List.{List}
 use Rattle.texts.specs.Texts.{text}
 use Rattle.model_order.specs.Order.{place-from}
@@ -14,3 +14,9 @@ namesOf s i = record {
   off = place-from (i .texts .count) 0 (text "off") s 6;
   star = place-from (i .texts .count) 0 (text "*") s 6;
 }
+
+-- the index of a model that isn't too large
+pub record Bounds (i : Index) : Type 0 where
+  pub entities : i .entities .count ≤ 32
+  pub invariants : i .invariants .count ≤ 32
+  pub rules : i .rules .count ≤ 32

@@ -7,7 +7,6 @@ use Prim.Native.Nat.{ℕ, zero, suc, _+_, _≤_, _<_}
 use native.Mathlib.Nat.{add-zero}
 use native.Mathlib.Omega.{arith}
 use lib.ListN.{length, getD, set, length-set, List·getD-eq-default}
-use lib.ListN.{replicate, getD-replicate}
 use lib.Dec.{eqb, ltb}
 use lib.Seq.{getD-set-same, getD-set-other}
 use borrow.Author.Tests.{eqb-true, eqb-false, ltb-true, ltb-false}
@@ -201,10 +200,3 @@ module _ (e : Square) (s : Full e) where
   pub closed-complete : (a b : ℕ) → Reaches e a b → cell (closed e) a b ≡ true
   closed-complete a b (edge u) = whole .keeps a b u
   closed-complete a b (joined {k = k} p q) = whole .joins k a b (bound-col (closed e) (whole .full) a k (closed-complete a k p)) (closed-complete a k p) (closed-complete k b q)
-
--- a square of no is full
-pub blank : Full (replicate 32 (replicate 32 false))
-blank = record {
-  rows = refl;
-  cells = λ i h. ap length (getD-replicate 32 i (replicate 32 false) [] h);
-}

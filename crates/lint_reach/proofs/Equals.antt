@@ -1,7 +1,7 @@
 -- The definition's `closure` is reach by one or more steps too, so that it has the cells of the array that the code closes;
 -- and the sets of places are the definition's components.
 use mathlib.Core.Path.{_≡_, refl, sym, ap, _∙_}
-use mathlib.Core.Bool.{Bool, true, false, _||_, _&&_, not}
+use mathlib.Core.Bool.{Bool, true, false, _||_, _&&_, not, or-assoc}
 use mathlib.Core.Logic.{_⊎_, inl, inr, ⊎-elim}
 use mathlib.Core.List.{List, [], _∷_, _++_}
 use Prim.Native.Nat.{ℕ, zero, suc, _+_, _-_, _≤_, _<_}
@@ -27,11 +27,6 @@ unfolding lint.cell
 cell-is sq i j = refl
 
 -- ---- a square of places
-
-places-length : (n i : ℕ) → length (places n i) ≡ n
-unfolding places
-places-length zero i = refl
-places-length (suc n) i = ap suc (places-length n (i + 1))
 
 module _ {A : Type 0} (f : ℕ → A) (d : A) where
   each-place : (n i k : ℕ) → k < n → getD (each f (places n i)) k d ≡ f (i + k)
@@ -70,10 +65,6 @@ any-append : {A : Type 0} (f : A → Bool) (l m : List A) → any f (l ++ m) ≡
 unfolding any
 any-append f [] m = refl
 any-append f (x ∷ l) m = ap (λ (b : Bool). f x || b) (any-append f l m) ∙ sym (or-assoc (f x) (any f l) (any f m))
-  where
-    or-assoc : (a b c : Bool) → ((a || b) || c) ≡ (a || (b || c))
-    or-assoc true b c = refl
-    or-assoc false b c = refl
 
 -- a place below the first isn't there
 any-below : (f : ℕ → Bool) (n i j : ℕ) → j < i → any (eqb j) (keep f (places n i)) ≡ false

@@ -15,7 +15,6 @@ use Rattle.model_walk.proofs.Found.{given, u16-wide, Counted, counted-found, Va
 use Rattle.model_walk.proofs.Found as found
 use Rattle.model_parts.proofs.Stands.{more}
 use Rattle.lint.specs.Touches.{Write}
-use Rattle.lint.specs.Touches as touches
 use Rattle.lint.specs.Findings.{clash, contradictory, mismatched, is-star, sets-off}
 use Rattle.lint_walk.specs.Raw.{placeZ, past, predicateEnd, triggersZ, conditionsZ, actionsZ}
 use Rattle.lint_walk.proofs.Found.{past-is, place-got, PredicateAt, state-at, note-at, predicate-found, predicate-ends, TriggerAt, trigger-at, RuleAt}
@@ -26,7 +25,7 @@ if-and : (a b : Bool) → (if a then b else false) ≡ (a && b)
 if-and true b = refl
 if-and false b = refl
 
-or-is : (a b : Bool) → (elim a [ true ↦ true | false ↦ b ]) ≡ (a || b)
+pub or-is : (a b : Bool) → (elim a [ true ↦ true | false ↦ b ]) ≡ (a || b)
 or-is true b = refl
 or-is false b = refl
 

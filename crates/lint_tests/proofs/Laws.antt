@@ -83,9 +83,6 @@ pub not-false : (b : Bool) → not b ≡ false → b ≡ true
 not-false true h = refl
 not-false false h = sym h
 
-not-eq : (a b : ℕ) → (a ≡ b → ⊥) → not (eqb a b) ≡ true
-not-eq a b h = ap not (ne-eqb a b h)
-
 module _ (s : List ℕ) where
   module _ (x v p : ℕ) {b : ℕ} (d : b ≡ byteZ s p) where
     pub clash-note : (b ≡ 0 → ⊥) → clashZ s x v p ≡ false

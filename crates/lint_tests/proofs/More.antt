@@ -27,10 +27,7 @@ use Rattle.lint_walk.proofs.Found.{past-is, byte-got, place-got, number-got, Ef
 use Rattle.lint_walk.proofs.Goes.{ActionsAt, no-action, action, Walked}
 use Rattle.lint_tests.specs.Tests.{anyL, delaysZ, guardZ, guardedZ, tierZ, staleZ, opposedZ}
 use Rattle.lint_tests.proofs.Laws as laws
-
-or-is : (a b : Bool) → (elim a [ true ↦ true | false ↦ b ]) ≡ (a || b)
-or-is true b = refl
-or-is false b = refl
+use Rattle.lint_tests.proofs.Agrees.{or-is}
 
 -- ---- opposing writes
 

@@ -1,7 +1,7 @@
 -- The sets hold the entities that the definition's lists name.
 use mathlib.Core.Path.{_≡_, refl, sym, ap, _∙_, subst}
-use mathlib.Core.Bool.{Bool, true, false, _||_, _&&_}
-use mathlib.Core.List.{List, [], _∷_, _++_, append-nil, append-assoc}
+use mathlib.Core.Bool.{Bool, true, false, _||_, _&&_, or-assoc}
+use mathlib.Core.List.{List, [], _∷_, _++_, append-nil}
 use mathlib.Core.Option.{Option, none, some}
 use Prim.Native.Nat.{ℕ, zero, suc, _+_, _-_, _<_, _≤_}
 use native.Mathlib.Omega.{arith}
@@ -50,10 +50,6 @@ or-false : (b : Bool) → (b || false) ≡ b
 or-false true = refl
 or-false false = refl
 
-or-assoc : (a b c : Bool) → ((a || b) || c) ≡ (a || (b || c))
-or-assoc true b c = refl
-or-assoc false b c = refl
-
 no-entity : Entity
 no-entity = record { name = []; domain = []; initial = []; tier = observational; stale-after = none }
 
@@ -68,15 +64,10 @@ unfolding each
 each-many f [] = refl
 each-many f (x ∷ l) = ap suc (each-many f l)
 
-each-append : {A B : Type 0} (f : A → B) (l m : List A) → each f (l ++ m) ≡ each f l ++ each f m
+pub each-append : {A B : Type 0} (f : A → B) (l m : List A) → each f (l ++ m) ≡ each f l ++ each f m
 unfolding each
 each-append f [] m = refl
 each-append f (x ∷ l) m = ap (λ (y : List _). f x ∷ y) (each-append f l m)
-
-flat-append : {A B : Type 0} (f : A → List B) (l m : List A) → flat f (l ++ m) ≡ flat f l ++ flat f m
-unfolding flat
-flat-append f [] m = refl
-flat-append f (x ∷ l) m = ap (λ (y : List _). f x ++ y) (flat-append f l m) ∙ sym (append-assoc (f x) (flat f l) (flat f m))
 
 -- ---- the number of a name
 

@@ -1,6 +1,6 @@
 -- Lists of texts that ascend strictly: `sortedT` makes one, and two with the same members are equal.
 use mathlib.Core.Path.{_≡_, refl, sym, ap, _∙_}
-use mathlib.Core.Bool.{Bool, true, false, _||_, _&&_}
+use mathlib.Core.Bool.{Bool, true, false, _||_, _&&_, or-assoc}
 use mathlib.Core.List.{List, [], _∷_, _++_}
 use Prim.Native.Nat.{ℕ, zero, suc, _+_, _<_}
 use native.Mathlib.Omega.{arith}
@@ -41,10 +41,6 @@ pub mem-append : (t : Text) (l m : List Text) → memT t (l ++ m) ≡ (memT t l 
 unfolding memT any
 mem-append t [] m = refl
 mem-append t (x ∷ l) m = ap (λ (b : Bool). eqT t x || b) (mem-append t l m) ∙ sym (or-assoc (eqT t x) (memT t l) (memT t m))
-  where
-    or-assoc : (a b c : Bool) → ((a || b) || c) ≡ (a || (b || c))
-    or-assoc true b c = refl
-    or-assoc false b c = refl
 
 pub above-not : {t : Text} {l : List Text} → Above t l → memT t l ≡ false
 above-not {t} over-none = mem-none t

@@ -8,7 +8,7 @@ use native.Mathlib.Nat.{mul-suc}
 use lib.ListN.{length, getD}
 use Rattle.texts.specs.Texts.{Text}
 use Rattle.model.specs.Model.{Source, Predicate, state, Trigger, Effect, toggle, delay, condition, choose, wait, Actions, Branches, Automation}
-use Rattle.model.specs.File.{got, Reader, _>>=_, give, refuse, u8, u16, u32, times, counted, flag, source, mode, place, predicate, trigger, branches, effect, actions, automation}
+use Rattle.model.specs.File.{got, Reader, _>>=_, give, refuse, u8, u16, u32, times, counted, flag, source, mode, place, predicate, trigger, branches, effect, actions, automation, effect-kinds}
 use Rattle.model_walk.proofs.Found.{bound, given, Wide, wide-sum, u8-wide, u16-wide, u32-wide, source-wide, kind-wide, counted-found, Kind, kind-found, place-found, Value?, trigger-found}
 use Rattle.model_walk.proofs.Found as found
 use Rattle.model_walk.proofs.Sees.{sees-flag, sees-mode}
@@ -174,23 +174,12 @@ module _ (ts : List Text) (s : List ℕ) where
     wait-at : (t : Trigger) (m : ℕ) (c : Bool) (r : ℕ) → kindZ s p ≡ 5 → TriggerAt (past s p 9) t r → simpleEnd s 5 (past s p 9) ≡ q → EffectAt left p q (wait t m c)
     unknown-at : (n : ℕ) → kindZ s p ≡ 6 → placeZ s (past s p 9) ≡ n → n < length ts → simpleEnd s 6 (past s p 9) ≡ q → EffectAt left p q (Effect.unknown (getD ts n []))
 
-  effect-kinds : Reader Actions → List (Reader Effect)
-  effect-kinds inner =
-      (place ts >>= λ x. place ts >>= λ v. give (Effect.set x v))
-      ∷ (place ts >>= λ x. give (toggle x))
-      ∷ (u32 >>= λ n. give (delay n))
-      ∷ (predicate ts >>= λ p. give (condition p))
-      ∷ (u16 >>= λ n. branches ts inner n >>= λ bs. inner >>= λ a. give (choose bs a))
-      ∷ (trigger ts >>= λ t. u32 >>= λ n. flag >>= λ c. give (wait t n c))
-      ∷ (place ts >>= λ r. give (Effect.unknown r))
-      ∷ []
-
   pub effect-found : (left : ℕ) {p o : ℕ} {f : Effect} {q : ℕ} → Wide 8 s p o → effect ts (actions ts left) s o ≡ got f q → EffectAt left p q f
-  unfolding effect effect-kinds
+  unfolding effect
   effect-found left {p} {o} {f} {q} w e = cases (k .kind) (k .is-kind) (k .holds)
     where
-      k : Kind (effect-kinds (actions ts left)) s o f q
-      k = kind-found (effect-kinds (actions ts left)) e
+      k : Kind (effect-kinds ts (actions ts left)) s o f q
+      k = kind-found (effect-kinds ts (actions ts left)) e
 
       n : ℕ
       n = k .next
@@ -207,7 +196,7 @@ module _ (ts : List Text) (s : List ℕ) where
       same : {a b : Effect} → a ≡ b → EffectAt left p q a → EffectAt left p q b
       same z y = subst (λ (g : Effect). EffectAt left p q g) z y
 
-      cases : (i : ℕ) → u8 s o ≡ got i n → getD (effect-kinds (actions ts left)) i refuse s n ≡ got f q → EffectAt left p q f
+      cases : (i : ℕ) → u8 s o ≡ got i n → getD (effect-kinds ts (actions ts left)) i refuse s n ≡ got f q → EffectAt left p q f
       cases zero d h =
           let x = bound (place ts) _ h in
           let v = bound (place ts) _ (x .rest) in

@@ -11,7 +11,7 @@ use borrow.Author.Tests.{lt-ltb, le-ltb}
 use Rattle.texts.specs.Lists.{if_then_else_, flat, each}
 use Rattle.texts.specs.Texts.{Text}
 use Rattle.model.specs.Answer.{answer, refused}
-use Rattle.model.specs.Model.{Model, Entity, Event, Input, Invariant, Automation, Limits}
+use Rattle.model.specs.Model.{Model, Entity, Event, Input, Invariant}
 use Rattle.model.specs.Notes.{of-invariant, of-rule, notes-of}
 use Rattle.model.specs.File.{
   Got,
@@ -43,9 +43,9 @@ use Rattle.model.specs.File.{
   ascending,
   has-fixed,
   require,
+  made,
 }
 use Rattle.model_walk.specs.declared.Walked.{Walked}
-use Rattle.model_walk.specs.declared.Walked.the-variants as walked
 use Rattle.model_walk.specs.Walk.{capped, seen, Walk, placeW, bytesW}
 use Rattle.model_walk.proofs.Laws.{bind-got, bind-broken, u32-in, u32-out}
 use Rattle.model_walk.proofs.Sees.{Sees, bind, last, quiet, marks, sees-counted, sees-place, sees-u32, bytes-sum}
@@ -145,7 +145,7 @@ module _ {A : Type 0} (r : Reader A) (t : A → Bool) (s : List ℕ) (p : ℕ) w
       cases (got x o) d = tested x o d (t x) refl (sym (bind-got r (λ x. require (t x) x) d) ∙ e)
       cases broken d = let z : _≡_ {A = ℕ} 0 1 = cc (bind-broken r (λ x. require (t x) x) d) in absurd (omega arith)
 
-and-true : (a b : Bool) → (a && b) ≡ true → a ≡ true
+pub and-true : (a b : Bool) → (a && b) ≡ true → a ≡ true
 and-true true b h = refl
 and-true false b h = h
 
@@ -226,22 +226,6 @@ body-with c s v x at e = subst (λ (d : ℕ). bodyW s v x at ≡ (
     on-section (sectionW (partW d part.Rule) s p₆ n₆) λ rules p₇ n₇.
     closed s p₇ n₇ (record { version = v; texts = x; title = at; entities = entities; events = events; invariants = invariants; alphabet = alphabet; gaps = gaps; limits = p₅; rules = rules })
     )) e refl
-
--- the model of its parts
-abbrev made : Head → List Event → List Invariant → List Input → List ℕ → Limits → List Automation → Model
-made h evs is al gs ls rs = record {
-  scenario = record {
-    version = h .version;
-    title = h .title;
-    entities = h .entities;
-    events = evs;
-    invariants = is;
-    alphabet = al;
-    gaps = gs;
-    limits = ls;
-  };
-  rules = rs;
-}
 
 -- what follows the head
 after : Head → Reader Model

@@ -1,23 +1,24 @@
 -- The bytes of events that stand as words are those of the definition, and so is the file with them.
 use mathlib.Core.Path.{_≡_, refl, sym, ap, _∙_, subst}
 use mathlib.Core.List.{List, [], _∷_, _++_, append-assoc, append-nil}
-use mathlib.Core.Bool.{true, false, _&&_, Bool}
+use mathlib.Core.Bool.{true}
 use Prim.Native.Nat.{ℕ, zero, suc, _+_, _*_, _-_, _≤_, _<_}
 use native.Mathlib.Omega.{arith}
 use lib.ListN.{length, getD, take, drop, length-append, length-drop}
 use lib.Seq.{take-suc, take-all}
 use borrow.Author.Tests.{eq-eqb, ne-eqb}
 use Rattle.texts.specs.Lists.{flat}
-use Rattle.texts.specs.Texts.{Text, eqT}
+use Rattle.texts.specs.Texts.{Text}
 use Rattle.model.specs.Answer.{answer}
 use Rattle.model.specs.Model.{Model, Entity, Event, Input, reload}
 use Rattle.model.specs.File.{got, Reader, times, counted, one-text, texts, place, entity, entities, event, events, head, ascending, decode}
+use Rattle.model.specs.Events.{InputWords, EventWords}
 use Rattle.model.specs.Rewrite.{bytes2, bytes4, place-of, input-bytes, event-bytes, events-bytes, rewritten}
+use Rattle.model.proofs.Places.{place-first}
 use Rattle.model_walk.specs.declared.Walked.the-variants as walked
 use Rattle.model_walk.specs.Walk.{capped, seen, Walk, placeW}
 use Rattle.model_walk.proofs.Found.{bound, given, required, counted-found}
 use Rattle.model_walk.proofs.Sees.{Sees, quiet, sees-counted, sees-place}
-use Rattle.model_parts.specs.declared.Part.the-variants as part
 use Rattle.model_parts.specs.Parts.{partW, sectionW, textW, entityW, eventW}
 use Rattle.model_parts.specs.Stand.{Reads}
 use Rattle.model_parts.proofs.Sees.{sees-text, sees-entity, sees-event}
@@ -25,6 +26,7 @@ use Rattle.model_parts.proofs.Stands.{section-ends, section-counts}
 use Rattle.model_order.proofs.Places.{same-place}
 use Rattle.model_index.specs.declared.Index.{Index}
 use Rattle.model_index.specs.Indexed.{Indexed}
+use Rattle.model_index.proofs.Whole.{and-true}
 use Rattle.model_rewrite.specs.declared.Span.{Span}
 use Rattle.model_rewrite.specs.Span.{behind, bodyW, spanW}
 use Rattle.model_rewrite.specs.Written.{event-start, two-places, event-of, event-at, first-events, section-bytes, file-with, Wrote}
@@ -33,15 +35,6 @@ use Rattle.model_rewrite.proofs.Opened.{Opened, opened, Headed, headed}
 
 -- ---- places of texts
 
--- the first text that equals t
-place-first : (t : Text) (l : List Text) (k : ℕ) → k < length l → eqT t (getD l k []) ≡ true →
-    ((j : ℕ) → j < k → eqT t (getD l j []) ≡ false) → place-of t l ≡ k
-unfolding place-of
-place-first t [] k h a b = absurd (omega arith)
-place-first t (u ∷ l) zero h a b = rw a
-place-first t (u ∷ l) (suc k) h a b =
-    rw (b 0 (omega arith)) (omega (arith, place-first t l k (omega arith) a (λ j o. b (suc j) (omega arith))))
-
 -- texts ascend, so a text's place is where it stands
 pub place-is : (ts : List Text) → ascending ts ≡ true → (k : ℕ) → k < length ts → place-of (getD ts k []) ts ≡ k
 place-is ts a k h =
@@ -49,17 +42,6 @@ place-is ts a k h =
     (λ j o. same-place ts a k j h (omega arith) ∙ ne-eqb k j (λ e. absurd (omega arith)))
 
 -- ---- events
-
--- an input's words: kind 0 sets the entity at a place to the value at a place, 1 restarts, 2 reloads
-abbrev pub InputWords : List Text → (kind e v : ℕ) → Input → Type 0
-InputWords ts k e v (Input.set a b) = (k ≡ 0) × (((e < length ts) × (a ≡ getD ts e [])) × ((v < length ts) × (b ≡ getD ts v [])))
-InputWords ts k e v Input.restart = k ≡ 1
-InputWords ts k e v reload = k ≡ 2
-
--- the four words of the k-th event
-pub record EventWords (ts : List Text) (l : List ℕ) (k : ℕ) (v : Event) : Type 0 where
-  pub second : getD l (k * 4) 0 ≡ v .at
-  pub input : InputWords ts (getD l (k * 4 + 1) 0) (getD l (k * 4 + 2) 0) (getD l (k * 4 + 3) 0) (v .input)
 
 module _ (ts : List Text) (asc : ascending ts ≡ true) where
   input-agrees : (s k e v : ℕ) (i : Input) → InputWords ts k e v i → event-of s k e v ≡ bytes4 s ++ input-bytes ts i
@@ -112,10 +94,6 @@ module _ {A : Type 0} (r : Reader A) (k : Walk) (e : Sees quiet r k) (s : List �
 
   section-count : sectionW k s p 0 .count ≡ length l
   section-count = let x = counted-found r h in section-counts k s p 0 (x .is-count) ∙ sym (times-length r s (x .count) (x .start) l q (x .are-values))
-
-and-true : (a b : Bool) → (a && b) ≡ true → a ≡ true
-and-true true b h = refl
-and-true false b h = h
 
 -- the texts, and that they ascend
 pub texts-found : (s : List ℕ) (p : ℕ) {ts : List Text} {q : ℕ} → texts s p ≡ got ts q → (counted one-text s p ≡ got ts q) × (ascending ts ≡ true)

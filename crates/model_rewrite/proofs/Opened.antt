@@ -9,25 +9,9 @@ use borrow.Author.Tests.{ltb-false}
 use Rattle.texts.specs.Lists.{if_then_else_}
 use Rattle.model.specs.Answer.{answer, refused}
 use Rattle.model.specs.Notes.{notes-of}
-use Rattle.model.specs.Model.{Model, Event, Input, Invariant, Automation, Limits}
-use Rattle.model.specs.File.{Got, got, broken, Reader, _>>=_, give, u32, counted, limits, texts, place, input, invariant, automation, Head, head, events, entities, model, decoded, decode}
+use Rattle.model.specs.Model.{Model, Event}
+use Rattle.model.specs.File.{Got, got, broken, Reader, _>>=_, give, u32, counted, limits, texts, place, input, invariant, automation, Head, head, events, entities, model, decoded, decode, made}
 use Rattle.model_walk.proofs.Found.{Case, is-true, is-false, case, bound, given, u32-wide}
-
--- the model of its parts
-abbrev made : Head → List Event → List Invariant → List Input → List ℕ → Limits → List Automation → Model
-made h evs is al gs ls rs = record {
-  scenario = record {
-    version = h .version;
-    title = h .title;
-    entities = h .entities;
-    events = evs;
-    invariants = is;
-    alphabet = al;
-    gaps = gs;
-    limits = ls;
-  };
-  rules = rs;
-}
 
 -- what follows the events
 unfoldable pub after : Head → List Event → Reader Model

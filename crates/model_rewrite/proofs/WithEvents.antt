@@ -13,7 +13,8 @@ use Rattle.texts.specs.Texts.{Text}
 use Rattle.model.specs.Answer.{Answer, answer}
 use Rattle.model.specs.Notes.{notes-of}
 use Rattle.model.specs.Model.{Model, Event, Input, reload}
-use Rattle.model.specs.File.{got, Reader, _>>=_, give, refuse, require, u8, u16, u32, times, counted, kinds, one-text, texts, place, limits, input, event, events, Head, head, ascending, model, decoded, decode}
+use Rattle.model.specs.File.{got, Reader, _>>=_, give, refuse, require, u8, u16, u32, times, counted, kinds, one-text, texts, place, limits, input, event, events, Head, head, ascending, model, decoded, decode, input-kinds}
+use Rattle.model.specs.Events.{Some, no-more, skip, keep, InputWords, EventWords}
 use Rattle.model.specs.Rewrite.{bytes2, bytes4, place-of, input-bytes, event-bytes, events-bytes, rewritten}
 use Rattle.model_walk.proofs.Found.{bound, given, refused, required, kind-found, counted-found, place-found, u8-wide, u16-wide, u32-wide}
 use Rattle.model_parts.specs.Stand.{Reads}
@@ -38,7 +39,7 @@ use Rattle.model_rewrite.proofs.Spelled.{
   local-automation,
 }
 use Rattle.model_rewrite.proofs.Opened.{Opened, opened, after, model-is}
-use Rattle.model_rewrite.proofs.Agrees.{InputWords, EventWords, place-is, times-length, texts-found, parted, head-ascends, first-part, start-inside, end-inside, rewritten-is, same-texts}
+use Rattle.model_rewrite.proofs.Agrees.{place-is, times-length, texts-found, parted, head-ascends, first-part, start-inside, end-inside, rewritten-is, same-texts}
 
 -- the model with other events
 abbrev pub with-events : List Event → Model → Model
@@ -267,22 +268,6 @@ too-long f vs h = rw (lt-ltb 32768 (length (rewritten f vs)) h)
 
 -- ---- how long it is
 
--- some of a list's elements, in their order
-pub data Some {A : Type 0} : List A → List A → Type 0 where
-  no-more : Some [] []
-  skip : {x : A} {l m : List A} → Some l m → Some l (x ∷ m)
-  keep : {x : A} {l m : List A} → Some l m → Some (x ∷ l) (x ∷ m)
-
-pub some-all : {A : Type 0} (l : List A) → Some l l
-some-all [] = no-more
-some-all (x ∷ l) = keep (some-all l)
-
-pub some-some : {A : Type 0} {l m n : List A} → Some l m → Some m n → Some l n
-some-some a (skip b) = skip (some-some a b)
-some-some (skip a) (keep b) = skip (some-some a b)
-some-some (keep a) (keep b) = keep (some-some a b)
-some-some a no-more = a
-
 module _ (ts : List Text) where
   event-size : (v : Event) → length (event-bytes ts v) ≤ 9
   unfolding event-bytes input-bytes bytes4 bytes2
@@ -313,16 +298,13 @@ module _ (ts : List Text) where
 
   -- a reader of events takes as many bytes as are written
 
-  input-kinds : List (Reader Input)
-  input-kinds = (place ts >>= λ e. place ts >>= λ v. give (Input.set e v)) ∷ give Input.restart ∷ give reload ∷ []
-
   input-read : (s : List ℕ) (p : ℕ) (v : Input) (q : ℕ) → input ts s p ≡ got v q → q ≡ p + length (input-bytes ts v)
-  unfolding input input-kinds input-bytes bytes2
+  unfolding input input-bytes bytes2
   input-read s p v q h =
-      let k = kind-found input-kinds h in
+      let k = kind-found (input-kinds ts) h in
       cases (k .kind) (k .next) (u8-wide s p (k .is-kind) .ends) (k .holds)
     where
-      cases : (n o : ℕ) → o ≡ p + 1 → getD input-kinds n refuse s o ≡ got v q → q ≡ p + length (input-bytes ts v)
+      cases : (n o : ℕ) → o ≡ p + 1 → getD (input-kinds ts) n refuse s o ≡ got v q → q ≡ p + length (input-bytes ts v)
       cases zero o w y =
           let a = bound (place ts) _ y in
           let b = bound (place ts) _ (a .rest) in

@@ -76,7 +76,8 @@ module _ (c : CheckResult) (t : ℕ) where
   unfolding violatesV
   not-so e z = rw (← e, z)
 
-  pub is-so : {b : Bool} → b ≡ is-violation (c .status) → b ≡ true → {n : ℕ} → n ≡ fewV (c .violations) → {r : Bool} → r ≡ among (c .violated) n t →
+  pub is-so : {b : Bool} → b ≡ is-violation (c .status) → b ≡ true → {n : ℕ} → n ≡ fewV (c .violations) → {r : Bool}
+      → r ≡ among (c .violated) n t →
       r ≡ violatesV c t
   unfolding violatesV
   is-so e z n h = h ∙ rw (← e, z, n)

@@ -15,7 +15,7 @@ use Rattle.model_index.specs.Indexed.{Indexed}
 use Rattle.engine.specs.Cells.{Cell, initial-cells}
 use Rattle.engine.specs.Records.{Areas}
 use Rattle.engine_places.specs.Meaning.{Tabled}
-use Rattle.engine_places.proofs.Simulated.{EventAt}
+use Rattle.engine_places.specs.Events.{EventAt}
 use Rattle.engine_begin.specs.declared.Events.{Events}
 use Rattle.engine_entry.specs.declared.Ground.{Ground}
 use Rattle.engine_entry.specs.Answers.{Grounds, no-simulation}
@@ -30,7 +30,25 @@ use Rattle.checker_entry.specs.Parts.{Checked}
 use Rattle.checker_entry.proofs.Promise.{Promise, answers, refuses, promise}
 use Rattle.reduce.specs.declared.Reduced.{Reduced}
 use Rattle.reduce.specs.Events.{Left}
-use Rattle.reduce.specs.Parts.{Without, violatesV, Stops, refusal, spent, passed, GoesOn, sizes, from, Goes, going, Ends, done, Open, Attempted, Begun, Reduces}
+use Rattle.reduce.specs.Parts.{
+  Without,
+  violatesV,
+  Stops,
+  refusal,
+  spent,
+  passed,
+  GoesOn,
+  sizes,
+  from,
+  Goes,
+  going,
+  Ends,
+  done,
+  Open,
+  Attempted,
+  Begun,
+  Reduces,
+}
 use Rattle.reduce.specs.Parts as parts
 use Rattle.reduce.proofs.Words.{left-without, left-at}
 use Rattle.reduce.proofs.Violations.{checked-fair, violates-is}
@@ -51,7 +69,8 @@ module _ (areas : Areas) (m : Model) (cells : List Cell) (target : Text) (vs : L
   passed-is (suc left) h = rw (le-ltb i (length vs) h, reduce)
 
   module _ (left : ℕ) (h : i < length vs) where
-    turn-refused : (n : ℕ) → checked areas m cells (remove i vs) ≡ refused n → reduce areas m cells target (suc left) made i vs ≡ refused n
+    turn-refused : (n : ℕ) → checked areas m cells (remove i vs) ≡ refused n
+        → reduce areas m cells target (suc left) made i vs ≡ refused n
     unfolding reduce _>>=_
     turn-refused n e = rw (lt-ltb i (length vs) h, reduce) (rw e)
 
@@ -81,12 +100,16 @@ refused-number n c e = ap (λ (y : CheckResult). y .simulation .refused) e
 none-such : Event
 none-such = record { at = 0; input = Input.restart }
 
-module _ {f : List ℕ} {i : Index} {g : Ground} (target : ℕ) (r : Reduced) (open-so : Open g r) (bytes : (k : ℕ) → getD f k 0 < 256) {w : List ℕ} (without : Without (r .words) (r .count) (r .reached) w) {c : CheckResult} {q q' a a' u u' : List ℕ} (ch : Checked f i g w (r .count - 1) c q q' a a' u u') where
+module _ {f : List ℕ} {i : Index} {g : Ground} (target : ℕ) (r : Reduced) (open-so : Open g r)
+    (bytes : (k : ℕ) → getD f k 0 < 256) {w : List ℕ}
+    (without : Without (r .words) (r .count) (r .reached) w) {c : CheckResult} {q q' a a' u u' : List ℕ}
+    (ch : Checked f i g w (r .count - 1) c q q' a a' u u') where
   abbrev areas : Areas
   areas = sizes (length q) (length a) (length u)
 
   -- the definition's turn that this attempt is
-  module _ (m : Model) (acc : accepted f ≡ answer m) (o : Indexed f i m) (gr : Grounds f i g) (inside : target < length (o .ts)) (vs : List Event) (left : Left m (o .ts) (r .words) (r .count) vs) where
+  module _ (m : Model) (acc : accepted f ≡ answer m) (o : Indexed f i m) (gr : Grounds f i g)
+      (inside : target < length (o .ts)) (vs : List Event) (left : Left m (o .ts) (r .words) (r .count) vs) where
     abbrev x : List ℕ
     x = g .table
 
@@ -106,7 +129,8 @@ module _ {f : List ℕ} {i : Index} {g : Ground} (target : ℕ) (r : Reduced) (o
     here = omega (arith, left .many, open-so .inside)
 
     left-rest : Left m (o .ts) w (r .count - 1) rest
-    left-rest = left-without (o .ts) m (r .words) (r .count) (r .reached) (open-so .inside) (open-so .few) (open-so .long) w without vs left
+    left-rest = left-without (o .ts) m (r .words) (r .count) (r .reached) (open-so .inside) (open-so .few)
+        (open-so .long) w without vs left
 
     evs : (j : ℕ) → j < length rest → EventAt f x (o .ts) m t w j (getD rest j none-such)
     evs j h = left-at f x i m acc o t w (r .count - 1) rest left-rest none-such j h
@@ -127,7 +151,8 @@ module _ {f : List ℕ} {i : Index} {g : Ground} (target : ℕ) (r : Reduced) (o
     begins : before ≡ reduce areas m cells name (suc (200 - (r .attempts + 1))) (r .attempts) (r .reached) vs
     begins = ap (λ (n : ℕ). reduce areas m cells name n (r .attempts) (r .reached) vs) one-less
 
-    goes-full : (c .simulation .refused ≡ 0 → ⊥) → (e : Reduced) → e .refused ≡ c .simulation .refused → Goes areas m (o .ts) target e before
+    goes-full : (c .simulation .refused ≡ 0 → ⊥) → (e : Reduced) → e .refused ≡ c .simulation .refused
+        → Goes areas m (o .ts) target e before
     goes-full z e s = by promised
       where
         by : Promised → Goes areas m (o .ts) target e before
@@ -135,35 +160,62 @@ module _ {f : List ℕ} {i : Index} {g : Ground} (target : ℕ) (r : Reduced) (o
         by (refuses n lo hi y is b) =
             let no : e .refused ≡ n = s ∙ refused-number n c is in
             parts.Goes.full (omega (arith, no)) (omega (arith, no))
-            (begins ∙ turn-refused areas m cells name vs (r .attempts) (r .reached) (200 - (r .attempts + 1)) here n y ∙ ap refused (sym no))
+            (begins ∙ turn-refused areas m cells name vs (r .attempts) (r .reached) (200 - (r .attempts + 1)) here n y
+            ∙ ap refused (sym no))
 
     module _ (z : c .simulation .refused ≡ 0) (b : Bool) (is-b : b ≡ violatesV c target) where
-      verdict : (k : Check) → checked areas m cells rest ≡ answer k → Rattle.checker_entry.specs.Answers.Shows f c k → violates name k ≡ b
-      verdict k y shows = sym (is-b ∙ violates-is f x i m acc o t (texts-here f i m acc o bytes g gr) c k shows (checked-fair f x i m acc o t areas rest k y) target inside)
+      verdict : (k : Check) → checked areas m cells rest ≡ answer k → Rattle.checker_entry.specs.Answers.Shows f c k
+          → violates name k ≡ b
+      verdict k y shows = sym (is-b ∙ violates-is f x i m acc o t (texts-here f i m acc o bytes g gr) c k shows
+          (checked-fair f x i m acc o t areas rest k y) target inside)
 
-      goes-kept : b ≡ true → Goes areas m (o .ts) target (record { refused = 0; count = r .count - 1; words = w; attempts = r .attempts + 1; reached = 0 }) before
+      goes-kept : b ≡ true → Goes areas m (o .ts) target
+          (record { refused = 0; count = r .count - 1; words = w; attempts = r .attempts + 1; reached = 0 }) before
       goes-kept e = by promised
         where
-          by : Promised → Goes areas m (o .ts) target (record { refused = 0; count = r .count - 1; words = w; attempts = r .attempts + 1; reached = 0 }) before
+          by : Promised → Goes areas m (o .ts) target
+              (record { refused = 0; count = r .count - 1; words = w; attempts = r .attempts + 1; reached = 0 }) before
           by (answers k y shows d) =
               going refl rest left-rest
-              (begins ∙ turn-kept areas m cells name vs (r .attempts) (r .reached) (200 - (r .attempts + 1)) here k y (verdict k y shows ∙ e))
+              (begins ∙ turn-kept areas m cells name vs (r .attempts) (r .reached) (200 - (r .attempts + 1)) here k y
+              (verdict k y shows ∙ e))
           by (refuses n lo hi y is d) = absurd (omega (arith, refused-number n c is))
 
-      goes-passed : b ≡ false → Goes areas m (o .ts) target (record { refused = 0; count = r .count; words = r .words; attempts = r .attempts + 1; reached = r .reached + 1 }) before
+      goes-passed : b ≡ false → Goes areas m (o .ts) target
+          (record {
+            refused = 0;
+            count = r .count;
+            words = r .words;
+            attempts = r .attempts + 1;
+            reached = r .reached + 1;
+          }) before
       goes-passed e = by promised
         where
-          by : Promised → Goes areas m (o .ts) target (record { refused = 0; count = r .count; words = r .words; attempts = r .attempts + 1; reached = r .reached + 1 }) before
+          by : Promised → Goes areas m (o .ts) target
+              (record {
+                refused = 0;
+                count = r .count;
+                words = r .words;
+                attempts = r .attempts + 1;
+                reached = r .reached + 1;
+              }) before
           by (answers k y shows d) =
               going refl vs left
-              (begins ∙ turn-passed areas m cells name vs (r .attempts) (r .reached) (200 - (r .attempts + 1)) here k y (verdict k y shows ∙ e))
+              (begins ∙ turn-passed areas m cells name vs (r .attempts) (r .reached) (200 - (r .attempts + 1)) here k y
+              (verdict k y shows ∙ e))
           by (refuses n lo hi y is d) = absurd (omega (arith, refused-number n c is))
 
   abbrev After : Reduced → Type 0
   After e = Attempted f i g target r e (length q) (length a) (length u)
 
   pub attempt-full : (c .simulation .refused ≡ 0 → ⊥) →
-      After (record { refused = c .simulation .refused; count = r .count; words = r .words; attempts = r .attempts + 1; reached = r .reached })
+      After (record {
+        refused = c .simulation .refused;
+        count = r .count;
+        words = r .words;
+        attempts = r .attempts + 1;
+        reached = r .reached;
+      })
   attempt-full z = record {
     attempts = refl;
     few = omega arith;
@@ -181,7 +233,13 @@ module _ {f : List ℕ} {i : Index} {g : Ground} (target : ℕ) (r : Reduced) (o
   }
 
   pub attempt-passed : c .simulation .refused ≡ 0 → {b : Bool} → b ≡ violatesV c target → b ≡ false →
-      After (record { refused = 0; count = r .count; words = r .words; attempts = r .attempts + 1; reached = r .reached + 1 })
+      After (record {
+        refused = 0;
+        count = r .count;
+        words = r .words;
+        attempts = r .attempts + 1;
+        reached = r .reached + 1;
+      })
   attempt-passed z {b} is-b e = record {
     attempts = refl;
     few = omega arith;
@@ -191,7 +249,8 @@ module _ {f : List ℕ} {i : Index} {g : Ground} (target : ℕ) (r : Reduced) (o
 
 -- ---- the loop, begun with the first n events in the words s, and areas q, a and u
 
-pub record Looped (f : List ℕ) (i : Index) (g : Ground) (target : ℕ) (s : List ℕ) (n : ℕ) (r : Reduced) (more : Bool) (q q' a a' u u' : List ℕ) : Type 0 where
+pub record Looped (f : List ℕ) (i : Index) (g : Ground) (target : ℕ) (s : List ℕ) (n : ℕ) (r : Reduced) (more : Bool)
+    (q q' a a' u u' : List ℕ) : Type 0 where
   pub goes : GoesOn r more
   pub attempts : r .attempts ≤ 200
   pub few : r .count ≤ 100
@@ -200,31 +259,44 @@ pub record Looped (f : List ℕ) (i : Index) (g : Ground) (target : ℕ) (s : Li
   pub queue : length q' ≡ length q
   pub records : length a' ≡ length a
   pub runs : length u' ≡ length u
-  pub does : (m : Model) → accepted f ≡ answer m → (o : Indexed f i m) → Grounds f i g → target < length (o .ts) → (vs : List Event) →
+  pub does : (m : Model) → accepted f ≡ answer m → (o : Indexed f i m) → Grounds f i g → target < length (o .ts)
+      → (vs : List Event) →
       Left m (o .ts) s n vs →
-      Goes (sizes (length q) (length a) (length u)) m (o .ts) target r (from (sizes (length q) (length a) (length u)) m (o .ts) target 0 0 vs)
+      Goes (sizes (length q) (length a) (length u)) m (o .ts) target r
+      (from (sizes (length q) (length a) (length u)) m (o .ts) target 0 0 vs)
 
 next-goes : (areas : Areas) (m : Model) (ts : List Text) (target : ℕ) (r r' : Reduced) (vs : List Event) → r .refused ≡ 0 →
     Goes areas m ts target r (from areas m ts target 0 0 vs) →
-    ((ws : List Event) → Left m ts (r .words) (r .count) ws → Goes areas m ts target r' (from areas m ts target (r .attempts) (r .reached) ws)) →
+    ((ws : List Event) → Left m ts (r .words) (r .count) ws
+    → Goes areas m ts target r' (from areas m ts target (r .attempts) (r .reached) ws)) →
     Goes areas m ts target r' (from areas m ts target 0 0 vs)
 next-goes areas m ts target r r' vs z (parts.Goes.full lo hi y) k = absurd (omega (arith, z))
 next-goes areas m ts target r r' vs z (going d ws left y) k = subst (Goes areas m ts target r') (sym y) (k ws left)
 
-ends : (areas : Areas) (m : Model) (ts : List Text) (target : ℕ) (r : Reduced) (x : Answer minimize.Reduced) → r .attempts ≤ 200 → Stops r →
+ends : (areas : Areas) (m : Model) (ts : List Text) (target : ℕ) (r : Reduced) (x : Answer minimize.Reduced)
+    → r .attempts ≤ 200 → Stops r →
     Goes areas m ts target r x → Ends areas m ts target r x
 ends areas m ts target r x h s (parts.Goes.full lo hi y) = parts.Ends.full lo hi y
 ends areas m ts target r x h (refusal z) (going d vs left y) = absurd (z d)
 ends areas m ts target r x h (spent k) (going d vs left y) =
     let cells = initial-cells (m .scenario .entities) in
     let o : 200 - r .attempts ≡ 0 = omega arith in
-    done d vs left (y ∙ ap (λ (j : ℕ). reduce areas m cells (getD ts target []) j (r .attempts) (r .reached) vs) o ∙ spent-is areas m cells (getD ts target []) vs (r .attempts) (r .reached))
+    done d vs left (y ∙ ap (λ (j : ℕ). reduce areas m cells (getD ts target []) j (r .attempts) (r .reached) vs) o
+    ∙ spent-is areas m cells (getD ts target []) vs (r .attempts) (r .reached))
 ends areas m ts target r x h (passed k p) (going d vs left y) =
-    done d vs left (y ∙ passed-is areas m (initial-cells (m .scenario .entities)) (getD ts target []) vs (r .attempts) (r .reached) (200 - r .attempts) (omega (arith, left .many)))
+    done d vs left (y ∙ passed-is areas m (initial-cells (m .scenario .entities)) (getD ts target []) vs (r .attempts)
+    (r .reached) (200 - r .attempts) (omega (arith, left .many)))
 
 module _ {f : List ℕ} {i : Index} {g : Ground} {target : ℕ} {n : ℕ} {q a u : List ℕ} where
-  pub loop-start : {e : Events} → Begun g e n → {b : Bool} → GoesOn (record { refused = 0; count = n; words = e .words; attempts = 0; reached = 0 }) b →
-      Looped f i g target (e .words) n (record { refused = 0; count = n; words = e .words; attempts = 0; reached = 0 }) b q q a a u u
+  pub loop-start : {e : Events} → Begun g e n → {b : Bool}
+      → GoesOn (record { refused = 0; count = n; words = e .words; attempts = 0; reached = 0 }) b →
+      Looped f i g target (e .words) n (record {
+        refused = 0;
+        count = n;
+        words = e .words;
+        attempts = 0;
+        reached = 0;
+      }) b q q a a u u
   loop-start y k = record {
     goes = k;
     attempts = omega arith;
@@ -243,7 +315,8 @@ module _ {f : List ℕ} {i : Index} {g : Ground} {target : ℕ} {n : ℕ} {q a u
         let k = l .goes .more z in
         record { inside = k .inside; few = l .few; attempts = k .attempts; long = l .long; reasons = l .reasons }
 
-    pub loop-step : b ≡ true → {r' : Reduced} {b' : Bool} → Attempted f i g target r r' (length q') (length a') (length u') → GoesOn r' b' →
+    pub loop-step : b ≡ true → {r' : Reduced} {b' : Bool}
+        → Attempted f i g target r r' (length q') (length a') (length u') → GoesOn r' b' →
         {q'' a'' u'' : List ℕ} → length q'' ≡ length q' → length a'' ≡ length a' → length u'' ≡ length u' →
         Looped f i g target s n r' b' q q'' a a'' u u''
     loop-step z {r'} {b'} k t eq ea eu =
@@ -259,14 +332,18 @@ module _ {f : List ℕ} {i : Index} {g : Ground} {target : ℕ} {n : ℕ} {q a u
           records = ea ∙ l .records;
           runs = eu ∙ l .runs;
           does = λ m acc o gr inside vs left.
-              next-goes (sizes (length q) (length a) (length u)) m (o .ts) target r r' vs (y .accepted) (l .does m acc o gr inside vs left) (λ ws left-ws. k' .does m acc o gr inside ws left-ws);
+              next-goes (sizes (length q) (length a) (length u)) m (o .ts) target r r' vs (y .accepted)
+              (l .does m acc o gr inside vs left) (λ ws left-ws. k' .does m acc o gr inside ws left-ws);
         }
 
-  pub loop-end : {e : Events} {r : Reduced} {b : Bool} {q' a' u' : List ℕ} → Looped f i g target (e .words) n r b q q' a a' u u' → b ≡ false →
+  pub loop-end : {e : Events} {r : Reduced} {b : Bool} {q' a' u' : List ℕ}
+      → Looped f i g target (e .words) n r b q q' a a' u u' → b ≡ false →
       Reduces f i g target e n r (length q) (length a) (length u)
   loop-end {e} {r} l z = record {
     few = l .few;
     long = l .long;
     does = λ m acc o gr inside vs left.
-        ends (sizes (length q) (length a) (length u)) m (o .ts) target r (from (sizes (length q) (length a) (length u)) m (o .ts) target 0 0 vs) (l .attempts) (l .goes .stop z) (l .does m acc o gr inside vs left);
+        ends (sizes (length q) (length a) (length u)) m (o .ts) target r
+        (from (sizes (length q) (length a) (length u)) m (o .ts) target 0 0 vs) (l .attempts) (l .goes .stop z)
+        (l .does m acc o gr inside vs left);
   }

@@ -32,7 +32,15 @@ use Rattle.engine_places.proofs.Lists.{each-getD}
 use Rattle.engine_places.proofs.Words.{text-place}
 use Rattle.checker.specs.Check.{Violation, Status, status-of, violation-of, judged, checked, Check}
 use Rattle.checker.specs.Check as check
-use Rattle.checker.specs.Judge.{read-all, Failure, Failing, prohibited-state, guard-violated, forbidden-transition, deadline-missed}
+use Rattle.checker.specs.Judge.{
+  read-all,
+  Failure,
+  Failing,
+  prohibited-state,
+  guard-violated,
+  forbidden-transition,
+  deadline-missed,
+}
 use Rattle.checker.specs.Minimize.{violates}
 use Rattle.checker_entry.specs.declared.CheckResult.{CheckResult}
 use Rattle.checker_entry.specs.Answers.{status-as, failure-words, violation-words, Shows}
@@ -74,7 +82,12 @@ source-sized (some s) = refl
 sized : (ts : List Text) (v : Violation) → length (violation-words ts v) ≡ 8
 unfolding violation-words
 sized ts v =
-    omega (arith, length-append (failure-words (v .failure)) (source-words (v .source)), failure-sized (v .failure), source-sized (v .source))
+    omega (
+      arith,
+      length-append (failure-words (v .failure)) (source-words (v .source)),
+      failure-sized (v .failure),
+      source-sized (v .source),
+    )
 
 first-number : (ts : List Text) (v : Violation) → getD (violation-words ts v) 0 0 ≡ place-of (v .invariant) ts
 unfolding violation-words
@@ -104,8 +117,10 @@ module _ (ts : List Text) (g : Invariant → Option Failing) where
   flat-in [] h = tt
   flat-in (i ∷ is) h = by (g i) (flat-in is (h .1))
     where
-      by : (y : Option Failing) → Each (λ (v : Violation). In ts (v .invariant)) (flat (λ (i : Invariant). violation-of i (g i)) is) →
-          Each (λ (v : Violation). In ts (v .invariant)) (violation-of i y ++ flat (λ (i : Invariant). violation-of i (g i)) is)
+      by : (y : Option Failing) → Each (λ (v : Violation). In ts (v .invariant))
+          (flat (λ (i : Invariant). violation-of i (g i)) is) →
+          Each (λ (v : Violation). In ts (v .invariant))
+          (violation-of i y ++ flat (λ (i : Invariant). violation-of i (g i)) is)
       by none r = r
       by (some y) r = (h .0, r)
 
@@ -127,7 +142,8 @@ status-some (v ∷ vs) [] ws e = omega arith
 status-some [] [] (w ∷ ws) e = let z : _≡_ {A = ℕ} 0 1 = cc in omega arith
 status-some [] [] [] e = let z : _≡_ {A = ℕ} 0 1 = cc in omega arith
 
-module _ (f x : List ℕ) (i : Index) (m : Model) (acc : accepted f ≡ answer m) (o : Indexed f i m) (tb : Tabled f x (o .ts) m) where
+module _ (f x : List ℕ) (i : Index) (m : Model) (acc : accepted f ≡ answer m) (o : Indexed f i m)
+    (tb : Tabled f x (o .ts) m) where
   abbrev ts : List Text
   ts = o .ts
 
@@ -148,7 +164,8 @@ module _ (f x : List ℕ) (i : Index) (m : Model) (acc : accepted f ≡ answer m
 
       at : (k : ℕ) → k < length is → In ts (id-of (getD is k d))
       at k h =
-          let n = named f x ts m tb (getD (i .invariants .starts) k 0) (getD is k d) (o .invariants .stand d k (omega (arith, h, few)) h) in
+          let n = named f x ts m tb (getD (i .invariants .starts) k 0) (getD is k d)
+          (o .invariants .stand d k (omega (arith, h, few)) h) in
           (_, (n .place-in, n .is))
 
   -- what every check of the model has
@@ -162,7 +179,8 @@ module _ (f x : List ℕ) (i : Index) (m : Model) (acc : accepted f ≡ answer m
   judged-fair sim = record {
     identified = flat-in ts (λ (y : Invariant). read-all y cells (sim .trace) .failing) is identifiers;
     few-violations = omega (arith, flat-few ts (λ (y : Invariant). read-all y cells (sim .trace) .failing) is, few);
-    some-violation = status-some (judged is cells sim .violations) (judged is cells sim .unknown) (judged is cells sim .incomplete);
+    some-violation = status-some (judged is cells sim .violations) (judged is cells sim .unknown)
+        (judged is cells sim .incomplete);
   }
 
   pub checked-fair : (areas : Areas) (vs : List Event) (c : Check) → checked areas m cells vs ≡ answer c → Fair c
@@ -175,19 +193,24 @@ module _ (f x : List ℕ) (i : Index) (m : Model) (acc : accepted f ≡ answer m
 
   -- ---- places compare as texts do
 
-  place-same : (t : Text) → In ts t → (target : ℕ) → target < length ts → eqb (place-of t ts) target ≡ eqT t (getD ts target [])
+  place-same : (t : Text) → In ts t → (target : ℕ) → target < length ts
+      → eqb (place-of t ts) target ≡ eqT t (getD ts target [])
   place-same t (k, (h, e)) target l =
       let p : place-of t ts ≡ k = ap (λ (u : Text). place-of u ts) e ∙ text-place f x ts m tb k h in
       ap (λ (j : ℕ). eqb j target) p ∙ sym (ap (λ (u : Text). eqT u (getD ts target [])) e ∙ tb .same k target h l)
 
-  among-is : (vs : List Violation) → Each (λ (v : Violation). In ts (v .invariant)) vs → (target : ℕ) → target < length ts → (k : ℕ) → k ≤ length vs →
-      among (area (violation-words ts) 256 vs) k target ≡ any (λ (v : Violation). eqT (v .invariant) (getD ts target [])) (take k vs)
+  among-is : (vs : List Violation) → Each (λ (v : Violation). In ts (v .invariant)) vs → (target : ℕ)
+      → target < length ts → (k : ℕ) → k ≤ length vs →
+      among (area (violation-words ts) 256 vs) k target
+      ≡ any (λ (v : Violation). eqT (v .invariant) (getD ts target [])) (take k vs)
   unfolding among any
   among-is vs h target l zero g = refl
   among-is vs h target l (suc k) g =
       let p : Violation → Bool = λ (v : Violation). eqT (v .invariant) (getD ts target []) in
       let y = getD vs k none-such in
-      let e : eqb (getD (area (violation-words ts) 256 vs) (k * 8) 0) target ≡ p y = ap (λ (j : ℕ). eqb j target) (number-at ts vs k g) ∙ place-same (y .invariant) (each-getD (λ (v : Violation). In ts (v .invariant)) vs k none-such g h) target l in
+      let e : eqb (getD (area (violation-words ts) 256 vs) (k * 8) 0) target
+      ≡ p y = ap (λ (j : ℕ). eqb j target) (number-at ts vs k g)
+      ∙ place-same (y .invariant) (each-getD (λ (v : Violation). In ts (v .invariant)) vs k none-such g h) target l in
       rw (among-is vs h target l k (omega arith), e, take-suc vs k none-such g) (sym (any-end p (take k vs) y))
 
   status-same : (s : Status) → is-violation (status-as s) ≡ check.is-violation s
@@ -205,7 +228,15 @@ module _ (f x : List ℕ) (i : Index) (m : Model) (acc : accepted f ≡ answer m
     unfolding violatesV violates fewV
     violates-is target l =
         let n = length (c .violations) in
-        rw (shows .status-is, status-same (c .status), violated-here, shows .violations, le-ltb 32 n (fair .few-violations), among-is (c .violations) (fair .identified) target l n (omega arith), take-all n (c .violations) (omega arith))
+        rw (
+          shows .status-is,
+          status-same (c .status),
+          violated-here,
+          shows .violations,
+          le-ltb 32 n (fair .few-violations),
+          among-is (c .violations) (fair .identified) target l n (omega arith),
+          take-all n (c .violations) (omega arith),
+        )
 
     -- the code and the definition tell a violation
     pub violation-is : is-violation (r .status) ≡ check.is-violation (c .status)
@@ -221,8 +252,10 @@ module _ (f x : List ℕ) (i : Index) (m : Model) (acc : accepted f ≡ answer m
     target-is h =
         let t = getD (c .violations) 0 none-such .invariant in
         let k = each-getD (λ (v : Violation). In ts (v .invariant)) (c .violations) 0 none-such h (fair .identified) in
-        let n : getD (r .violated) 0 0 ≡ place-of t ts = ap (λ (l : List ℕ). getD l 0 0) violated-here ∙ number-at ts (c .violations) 0 h in
-        let e : getD (r .violated) 0 0 ≡ k .0 = n ∙ ap (λ (u : Text). place-of u ts) (k .1 .1) ∙ text-place f x ts m tb (k .0) (k .1 .0) in
+        let n : getD (r .violated) 0 0 ≡ place-of t ts = ap (λ (l : List ℕ). getD l 0 0) violated-here
+        ∙ number-at ts (c .violations) 0 h in
+        let e : getD (r .violated) 0 0 ≡ k .0 = n ∙ ap (λ (u : Text). place-of u ts) (k .1 .1)
+        ∙ text-place f x ts m tb (k .0) (k .1 .0) in
         record {
           inside = subst (λ (j : ℕ). j < length ts) (sym e) (k .1 .0);
           is-text = k .1 .1 ∙ ap (λ (j : ℕ). getD ts j []) (sym e);

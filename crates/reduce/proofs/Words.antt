@@ -9,20 +9,20 @@ use lib.Seq.{length-take-le, getD-append-add, getD-take, getD-drop}
 use Rattle.texts.specs.Texts.{Text}
 use Rattle.areas.specs.Areas.{closed}
 use Rattle.model.specs.Answer.{answer, accept}
-use Rattle.model.specs.Model.{Event, Input, reload, Model}
+use Rattle.model.specs.Model.{Event, Model}
+use Rattle.model.specs.Events.{Some, no-more, skip, keep, EventWords}
 use Rattle.model.specs.Validate.{check-input, accepted}
 use Rattle.model_index.specs.declared.Index.{Index}
 use Rattle.model_index.specs.Indexed.{Indexed}
 use Rattle.engine.proofs.Lists.{Each}
 use Rattle.engine_places.specs.Meaning.{Tabled}
 use Rattle.engine_places.proofs.Lists.{each-getD}
-use Rattle.engine_places.proofs.Outcome as outcome
 use Rattle.engine_places.proofs.Outcome.{event-at}
-use Rattle.engine_places.proofs.Simulated.{EventAt}
+use Rattle.engine_places.specs.Events.{EventAt}
 use Rattle.engine_begin.specs.Begin.{EventsOf}
 use Rattle.engine_begin.proofs.Begins.{events-accepted, words-here}
 use Rattle.checker.specs.Minimize.{remove}
-use Rattle.reduce.specs.Events.{Some, no-more, skip, keep, InputWords, EventWords, Left}
+use Rattle.reduce.specs.Events.{Left}
 use Rattle.reduce.specs.Parts.{Without}
 
 -- ---- lists without an element
@@ -83,7 +83,8 @@ module _ (w : List ℕ) (at size end : ℕ) where
   out-behind p h k o =
       let n = end - (at + size) in
       let z : p ≡ length (take at w) + (p - at) = omega (arith, length-take-le at w (omega arith)) in
-      let l : length (take n (drop (at + size) w)) ≡ n = length-take-le n (drop (at + size) w) (omega (arith, length-drop (at + size) w)) in
+      let l : length (take n (drop (at + size) w))
+      ≡ n = length-take-le n (drop (at + size) w) (omega (arith, length-drop (at + size) w)) in
       let e : at + size + (p - at) ≡ p + size = omega arith in
       ap (λ (i : ℕ). getD (closed w at size end) i 0) z
       ∙ getD-append-add (take at w) _ (p - at) 0
@@ -104,7 +105,8 @@ module _ (ts : List Text) where
         input = rw (h 1 (omega arith), h 2 (omega arith), h 3 (omega arith)) (w .input);
       }
 
-  module _ (m : Model) (w : List ℕ) (n i : ℕ) (h : i < n) (few : n ≤ 100) (long : length w ≡ 400) (r : List ℕ) (is : Without w n i r) where
+  module _ (m : Model) (w : List ℕ) (n i : ℕ) (h : i < n) (few : n ≤ 100) (long : length w ≡ 400) (r : List ℕ)
+      (is : Without w n i r) where
     word-before : (k p : ℕ) → k < i → p < 4 → getD r (k * 4 + p) 0 ≡ getD w (k * 4 + p) 0
     word-before k p a b =
         ap (λ (l : List ℕ). getD l (k * 4 + p) 0) (is .is)
@@ -127,23 +129,16 @@ module _ (ts : List Text) where
             | yes a ↦ subst (EventWords ts r k) (sym (remove-before i vs k d a))
                 (words-same w r k k (getD vs k d) (λ p b. word-before k p a b) (o .held d k (omega (arith, size))))
             | no a ↦ subst (EventWords ts r k) (sym (remove-behind i vs k d (omega arith)))
-                (words-same w r (suc k) k (getD vs (suc k) d) (λ p b. word-behind k p (omega arith) (omega (arith, size, o .many)) b) (o .held d (suc k) (omega (arith, size))))
+                (words-same w r (suc k) k (getD vs (suc k) d)
+                (λ p b. word-behind k p (omega arith) (omega (arith, size, o .many)) b)
+                (o .held d (suc k) (omega (arith, size))))
           ];
         }
 
 -- ---- of an accepted model
 
-module _ (f x : List ℕ) (i : Index) (m : Model) (acc : accepted f ≡ answer m) (o : Indexed f i m) (tb : Tabled f x (o .ts) m) where
-  input-at : (k e v : ℕ) (y : Input) → InputWords (o .ts) k e v y → outcome.InputWords f x (o .ts) m tb k e v y
-  input-at k e v (Input.set a b) w = w
-  input-at k e v Input.restart w = w
-  input-at k e v reload w = w
-
-  input-here : (k e v : ℕ) (y : Input) → outcome.InputWords f x (o .ts) m tb k e v y → InputWords (o .ts) k e v y
-  input-here k e v (Input.set a b) w = w
-  input-here k e v Input.restart w = w
-  input-here k e v reload w = w
-
+module _ (f x : List ℕ) (i : Index) (m : Model) (acc : accepted f ≡ answer m) (o : Indexed f i m)
+    (tb : Tabled f x (o .ts) m) where
   -- as the simulator reads them
   pub left-at : (w : List ℕ) (n : ℕ) (vs : List Event) → Left m (o .ts) w n vs → (d : Event) (k : ℕ) → k < length vs →
       EventAt f x (o .ts) m tb w k (getD vs k d)
@@ -152,16 +147,18 @@ module _ (f x : List ℕ) (i : Index) (m : Model) (acc : accepted f ≡ answer m
       let y = getD vs k d in
       event-at f x (o .ts) m tb w k y
       (each-getD (λ (v : Event). check-input (m .scenario .entities) (v .input) ≡ accept) vs k d h
-      (some-each (λ (v : Event). check-input (m .scenario .entities) (v .input) ≡ accept) (l .some) (events-accepted f m acc)))
+      (some-each (λ (v : Event). check-input (m .scenario .entities) (v .input) ≡ accept) (l .some)
+      (events-accepted f m acc)))
       (e .second)
-      (input-at (getD w (k * 4 + 1) 0) (getD w (k * 4 + 2) 0) (getD w (k * 4 + 3) 0) (y .input) (e .input))
+      (e .input)
 
   -- the model's own events
-  pub own-left : (w : List ℕ) → EventsOf f i w → (n : ℕ) → n ≡ length (m .scenario .events) → Left m (o .ts) w n (m .scenario .events)
+  pub own-left : (w : List ℕ) → EventsOf f i w → (n : ℕ) → n ≡ length (m .scenario .events)
+      → Left m (o .ts) w n (m .scenario .events)
   own-left w ev n many = record {
     many = many;
     some = some-all (m .scenario .events);
     held = λ d k h.
         let e = words-here f x i m acc o tb w ev d k h in
-        record { second = e .0; input = input-here (getD w (k * 4 + 1) 0) (getD w (k * 4 + 2) 0) (getD w (k * 4 + 3) 0) (getD (m .scenario .events) k d .input) (e .1) };
+        record { second = e .0; input = e .1 };
   }

@@ -1,5 +1,5 @@
 -- What the parts of the reduction promise, by the definition of crate `checker`.
-use Prim.Native.Nat.{ℕ, zero, suc, _+_, _-_, _*_, _/_, _≤_, _<_}
+use Prim.Native.Nat.{ℕ, zero, suc, _+_, _-_, _*_, _≤_, _<_}
 use mathlib.Core.Path.{_≡_}
 use mathlib.Core.Bool.{Bool, true, false, _&&_, _||_}
 use mathlib.Core.List.{List, []}
@@ -14,6 +14,7 @@ use Rattle.model.specs.Validate.{accepted}
 use Rattle.model_index.specs.declared.Index.{Index}
 use Rattle.model_index.specs.Indexed.{Indexed}
 use Rattle.engine.specs.Cells.{initial-cells}
+pub use Rattle.engine.specs.Words.{sizes}
 use Rattle.engine.specs.Records.{Areas}
 use Rattle.engine_begin.specs.declared.Events.{Events}
 use Rattle.engine_entry.specs.declared.Ground.{Ground}
@@ -71,10 +72,6 @@ pub record GoesOn (r : Reduced) (b : Bool) : Type 0 where
 
 -- ---- by the definition
 
--- how many entries areas of so many words hold
-abbrev pub sizes : (queue records runs : ℕ) → Areas
-sizes q a u = record { queue = q / 5; records = a / 13; runs = u / 28 }
-
 module _ (areas : Areas) (m : Model) (ts : List Text) (target : ℕ) where
   -- the definition's reduction from the place i on, so many attempts made
   abbrev pub from : (made i : ℕ) → List Event → Answer minimize.Reduced
@@ -83,7 +80,8 @@ module _ (areas : Areas) (m : Model) (ts : List Text) (target : ℕ) where
   -- r is on the way to the definition's answer, or says why there is none
   pub data Goes (r : Reduced) (a : Answer minimize.Reduced) : Type 0 where
     full : 41 ≤ r .refused → r .refused ≤ 43 → a ≡ refused (r .refused) → Goes r a
-    going : r .refused ≡ 0 → (vs : List Event) → Left m ts (r .words) (r .count) vs → a ≡ from (r .attempts) (r .reached) vs →
+    going : r .refused ≡ 0 → (vs : List Event) → Left m ts (r .words) (r .count) vs
+        → a ≡ from (r .attempts) (r .reached) vs →
         Goes r a
 
   -- r says what the definition answers
@@ -105,7 +103,8 @@ pub record Attempted (f : List ℕ) (i : Index) (g : Ground) (target : ℕ) (r e
   pub attempts : e .attempts ≡ r .attempts + 1
   pub few : e .count ≤ r .count
   pub long : length (e .words) ≡ 400
-  pub does : (m : Model) → accepted f ≡ answer m → (o : Indexed f i m) → Grounds f i g → target < length (o .ts) → (vs : List Event) →
+  pub does : (m : Model) → accepted f ≡ answer m → (o : Indexed f i m) → Grounds f i g → target < length (o .ts)
+      → (vs : List Event) →
       Left m (o .ts) (r .words) (r .count) vs →
       Goes (sizes q a u) m (o .ts) target e (from (sizes q a u) m (o .ts) target (r .attempts) (r .reached) vs)
 
@@ -116,8 +115,10 @@ pub record Begun (g : Ground) (e : Events) (n : ℕ) : Type 0 where
   pub reasons : length (g .reasons) ≡ 1500
 
 -- after it
-pub record Reduces (f : List ℕ) (i : Index) (g : Ground) (target : ℕ) (e : Events) (n : ℕ) (r : Reduced) (q a u : ℕ) : Type 0 where
+pub record Reduces (f : List ℕ) (i : Index) (g : Ground) (target : ℕ) (e : Events) (n : ℕ) (r : Reduced)
+    (q a u : ℕ) : Type 0 where
   pub few : r .count ≤ 100
   pub long : length (r .words) ≡ 400
-  pub does : (m : Model) → accepted f ≡ answer m → (o : Indexed f i m) → Grounds f i g → target < length (o .ts) → (vs : List Event) →
+  pub does : (m : Model) → accepted f ≡ answer m → (o : Indexed f i m) → Grounds f i g → target < length (o .ts)
+      → (vs : List Event) →
       Left m (o .ts) (e .words) n vs → Ends (sizes q a u) m (o .ts) target r (from (sizes q a u) m (o .ts) target 0 0 vs)

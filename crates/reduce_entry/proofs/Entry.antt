@@ -58,24 +58,30 @@ module _ (f : List ℕ) (i : Index) (m : Model) (acc : accepted f ≡ answer m) 
   unfolding minimize short-of-room _>>=_ _and_ _when_
   long-law areas n h = rw (acc, le-ltb n (length f + 45) h)
 
-  own : (ix : Indexed f i m) → ((k : ℕ) → getD f k 0 < 256) → (g : Ground) → Grounds f i g → {e : Events} → EventsOf f i (e .words) →
+  own : (ix : Indexed f i m) → ((k : ℕ) → getD f k 0 < 256) → (g : Ground) → Grounds f i g → {e : Events}
+      → EventsOf f i (e .words) →
       {n : ℕ} → n ≡ atMost (getD (g .table) 8 0) 100 → Left m (ix .ts) (e .words) n (m .scenario .events)
   own ix bytes g gr {e = e} ev many =
-      own-left f (g .table) i m acc ix (tb f i m acc ix bytes g gr) (e .words) ev _ (many ∙ events-count f i m acc ix bytes g gr)
+      own-left f (g .table) i m acc ix (tb f i m acc ix bytes g gr) (e .words) ev _
+      (many ∙ events-count f i m acc ix bytes g gr)
 
 -- the output is too short
-pub run-short : (f : List ℕ) (i : Index) {r : Minimized} → r ≡ no-reduction 44 → (before : Lent) (o : List ℕ) → length o < length f + 45 →
+pub run-short : (f : List ℕ) (i : Index) {r : Minimized} → r ≡ no-reduction 44 → (before : Lent) (o : List ℕ)
+    → length o < length f + 45 →
     RunsAs f i r before before o o
 unfolding output-after
 run-short f i {r} is before o h m acc ix =
     let law = short-law f i m acc (entries entry-words before) (length o) h in
     record {
       says = subst (Says f r) (sym law) is;
-      memory = sym (ap (λ (x : Answer checker.Minimized). after f x before) law ∙ refusals (words-in f) last-trace before .above 44 (omega arith));
+      memory = sym (ap (λ (x : Answer checker.Minimized). after f x before) law
+          ∙ refusals (words-in f) last-trace before .above 44 (omega arith));
       output = sym (ap (λ (x : Answer checker.Minimized). output-after f x o) law);
     }
 
-module _ {f : List ℕ} {i : Index} (bytes : (k : ℕ) → getD f k 0 < 256) {g : Ground} (gr : Grounds f i g) {e : Events} (ev : EventsOf f i (e .words)) {n : ℕ} (many : n ≡ atMost (getD (g .table) 8 0) 100) {o : List ℕ} (long : length f + 45 ≤ length o) where
+module _ {f : List ℕ} {i : Index} (bytes : (k : ℕ) → getD f k 0 < 256) {g : Ground} (gr : Grounds f i g) {e : Events}
+    (ev : EventsOf f i (e .words)) {n : ℕ} (many : n ≡ atMost (getD (g .table) 8 0) 100) {o : List ℕ}
+    (long : length f + 45 ≤ length o) where
   -- what the first check asks for
   pub given : Accepted f i → Given f i g e n o
   given a =
@@ -83,7 +89,11 @@ module _ {f : List ℕ} {i : Index} (bytes : (k : ℕ) → getD f k 0 < 256) {g 
       record {
         model = a;
         ground = gr;
-        begun = record { few = omega (arith, left .many, accepted-lawful f (a .m) (a .is-model) .few-events); long = ev .long; reasons = gr .room };
+        begun = record {
+          few = omega (arith, left .many, accepted-lawful f (a .m) (a .is-model) .few-events);
+          long = ev .long;
+          reasons = gr .room;
+        };
         left = left;
         room = omega (arith, long);
       }
@@ -91,16 +101,21 @@ module _ {f : List ℕ} {i : Index} (bytes : (k : ℕ) → getD f k 0 < 256) {g 
   pub run-is : {r : Minimized} {q q' a a' u u' o' : List ℕ} → ReducesAll f i g e n r q q' a a' u u' o o' →
       RunsAs f i r (lent q a u) (lent q' a' u') o o'
   unfolding entries all-zeros zeros lent-after output-after
-  run-is {r} {q} {q'} {a} {a'} {u} {u'} {o'} red m acc ix = by (red m acc ix gr (m .scenario .events) (own f i m acc ix bytes g gr {e = e} ev many))
+  run-is {r} {q} {q'} {a} {a'} {u} {u'} {o'} red m acc ix = by
+      (red m acc ix gr (m .scenario .events) (own f i m acc ix bytes g gr {e = e} ev many))
     where
-      law : minimize (sizes (length q) (length a) (length u)) (length o) f ≡ minimized (sizes (length q) (length a) (length u)) m (initial-cells (m .scenario .entities)) (m .scenario .events)
+      law : minimize (sizes (length q) (length a) (length u)) (length o) f
+          ≡ minimized (sizes (length q) (length a) (length u)) m (initial-cells (m .scenario .entities))
+          (m .scenario .events)
       law = long-law f i m acc (sizes (length q) (length a) (length u)) (length o) long
 
       cleared : (k : ℕ) → ((k ≡ 21) ⊎ ((41 ≤ k) × (k ≤ 43))) → after f (refused k) (lent q a u) ≡ all-zeros (lent q a u)
-      cleared k (inl h) = ap (λ (j : ℕ). after f (refused j) (lent q a u)) h ∙ refusals (words-in f) last-trace (lent q a u) .at-21
+      cleared k (inl h) = ap (λ (j : ℕ). after f (refused j) (lent q a u)) h
+          ∙ refusals (words-in f) last-trace (lent q a u) .at-21
       cleared k (inr h) = refusals (words-in f) last-trace (lent q a u) .areas k (h .0) (h .1)
 
-      by : Outcome f (minimized (sizes (length q) (length a) (length u)) m (initial-cells (m .scenario .entities)) (m .scenario .events)) r (length q) (length a) (length u) q' a' u' o o' →
+      by : Outcome f (minimized (sizes (length q) (length a) (length u)) m (initial-cells (m .scenario .entities))
+          (m .scenario .events)) r (length q) (length a) (length u) q' a' u' o o' →
           Minimizes f r (lent q a u) (lent q' a' u') o o'
       by (answers d y s eq ea eu w) = record {
         says = subst (Says f r) (sym (law ∙ y)) s;
@@ -109,7 +124,8 @@ module _ {f : List ℕ} {i : Index} (bytes : (k : ℕ) → getD f k 0 < 256) {g 
       }
       by (refuses k h y is eq ea eu w) = record {
         says = subst (Says f r) (sym (law ∙ y)) is;
-        memory = rw (eq, ea, eu) (sym (ap (λ (x : Answer checker.Minimized). after f x (lent q a u)) (law ∙ y) ∙ cleared k h));
+        memory = rw (eq, ea, eu) (sym (ap (λ (x : Answer checker.Minimized). after f x (lent q a u)) (law ∙ y)
+            ∙ cleared k h));
         output = w ∙ sym (ap (λ (x : Answer checker.Minimized). output-after f x o) (law ∙ y));
       }
 
@@ -119,12 +135,14 @@ module _ (f : List ℕ) (x : File) (says : indexed.Says f x (accepted f)) where
   pub model-of : x .status ≡ status.Read → Accepted f (x .index)
   model-of e = let a = accept-read f x says e in record { m = a .0; is-model = a .1 .0; index = a .1 .1 }
 
-  pub minimize-read : x .status ≡ status.Read → {r : Minimized} {before after : Lent} {o o' : List ℕ} → RunsAs f (x .index) r before after o o' →
+  pub minimize-read : x .status ≡ status.Read → {r : Minimized} {before after : Lent} {o o' : List ℕ}
+      → RunsAs f (x .index) r before after o o' →
       Minimizes f r before after o o'
   minimize-read e h = let a = accept-read f x says e in h (a .0) (a .1 .0) (a .1 .1)
 
   -- memory and output are as they came
-  pub minimize-refused : {n : ℕ} → x .status ≡ status.Refused n → {r : Minimized} → r ≡ no-reduction n → (before : Lent) (o : List ℕ) →
+  pub minimize-refused : {n : ℕ} → x .status ≡ status.Refused n → {r : Minimized} → r ≡ no-reduction n
+      → (before : Lent) (o : List ℕ) →
       Minimizes f r before before o o
   unfolding output-after
   minimize-refused {n} e {r} is before o =
@@ -132,7 +150,8 @@ module _ (f : List ℕ) (x : File) (says : indexed.Says f x (accepted f)) where
       let y = law acc (entries entry-words before) (length o) in
       record {
         says = subst (Says f r) (sym y) is;
-        memory = sym (ap (λ (x : Answer checker.Minimized). after f x before) y ∙ kept (subst (Refuses Refusal) acc (refusal-numbers f)));
+        memory = sym (ap (λ (x : Answer checker.Minimized). after f x before) y
+            ∙ kept (subst (Refuses Refusal) acc (refusal-numbers f)));
         output = sym (ap (λ (x : Answer checker.Minimized). output-after f x o) y);
       }
     where

@@ -1,57 +1,41 @@
 -- The file with some of a model's events: the rewriter's bytes are the definition's, and there is room for them.
-use Prim.Native.Nat.{ℕ, _+_, _*_, _≤_, _<_}
+use Prim.Native.Nat.{ℕ, _*_, _≤_}
 use mathlib.Core.Path.{_≡_, refl, ap, _∙_}
 use mathlib.Core.List.{List}
 use native.Mathlib.Omega.{arith}
-use lib.ListN.{length, getD}
-use Rattle.texts.specs.Texts.{Text}
+use lib.ListN.{length}
 use Rattle.model.specs.Answer.{answer}
 use Rattle.model.specs.File.{decode}
-use Rattle.model.specs.Model.{Event, Input, reload, Model}
+use Rattle.model.specs.Model.{Event, Input, Model}
 use Rattle.model.specs.Rewrite.{rewritten}
 use Rattle.model.specs.Validate.{accepted}
 use Rattle.model_index.specs.declared.Index.{Index}
 use Rattle.model_index.specs.Indexed.{Indexed}
 use Rattle.model_rewrite.specs.Span.{spanW}
 use Rattle.model_rewrite.specs.Written.{file-with}
-use Rattle.model_rewrite.proofs.Agrees as agrees
 use Rattle.model_rewrite.proofs.Agrees.{file-agrees, asked}
 use Rattle.model_rewrite.proofs.Opened.{opened}
-use Rattle.model_rewrite.proofs.WithEvents as rewriter
 use Rattle.model_rewrite.proofs.WithEvents.{some-events}
-use Rattle.engine_places.proofs.Accepted.{accepted-decoded}
-use Rattle.reduce.specs.Events.{Some, no-more, skip, keep, InputWords, Left}
+use Rattle.engine.proofs.Validated.{accepted-decoded}
+use Rattle.reduce.specs.Events.{Left}
 use Rattle.reduce_entry.specs.Parts.{Room}
 
 none-such : Event
 none-such = record { at = 0; input = Input.restart }
 
-some-so : {A : Type 0} {l m : List A} → Some l m → rewriter.Some l m
-some-so no-more = rewriter.no-more
-some-so (skip a) = rewriter.skip (some-so a)
-some-so (keep a) = rewriter.keep (some-so a)
-
-input-so : (ts : List Text) (k e v : ℕ) (i : Input) → InputWords ts k e v i → agrees.InputWords ts k e v i
-input-so ts k e v (Input.set a b) w = w
-input-so ts k e v Input.restart w = w
-input-so ts k e v reload w = w
-
 pub small-file : (f : List ℕ) (m : Model) → accepted f ≡ answer m → length f ≤ 32768
 small-file f m acc = opened f m (accepted-decoded f m acc) .small
 
-module _ (f : List ℕ) (i : Index) (m : Model) (acc : accepted f ≡ answer m) (x : Indexed f i m) (w : List ℕ) (n : ℕ) (vs : List Event) (left : Left m (x .ts) w n vs) where
+module _ (f : List ℕ) (i : Index) (m : Model) (acc : accepted f ≡ answer m) (x : Indexed f i m) (w : List ℕ) (n : ℕ)
+    (vs : List Event) (left : Left m (x .ts) w n vs) where
   dec : decode f ≡ answer m
   dec = accepted-decoded f m acc
 
-  held : (k : ℕ) → k < length vs → agrees.EventWords (x .ts) w k (getD vs k none-such)
-  held k h =
-      let e = left .held none-such k h in
-      record { second = e .second; input = input-so (x .ts) (getD w (k * 4 + 1) 0) (getD w (k * 4 + 2) 0) (getD w (k * 4 + 3) 0) (getD vs k none-such .input) (e .input) }
-
   pub file-is : file-with f (spanW f) w n ≡ rewritten f vs
-  file-is = ap (file-with f (spanW f) w) (left .many) ∙ file-agrees f m i dec x w none-such vs held
+  file-is = ap (file-with f (spanW f) w) (left .many) ∙ file-agrees f m i dec x w none-such vs (left .held none-such)
 
   pub file-fits : (o : List ℕ) → n * 4 ≤ length w → length f ≤ length o → Room f w n o
   file-fits o h r =
-      let a = asked f m i dec x w none-such vs held {s = spanW f} {n = n} refl (left .many) o h (omega (arith, some-events f m dec vs (some-so (left .some)))) in
+      let a = asked f m i dec x w none-such vs (left .held none-such) {s = spanW f} {n = n} refl (left .many) o h
+      (omega (arith, some-events f m dec vs (left .some))) in
       record { ordered = a .0; inside = a .1 .0; words = a .1 .1 .0; fits = a .1 .1 .1 }

@@ -19,7 +19,17 @@ use Rattle.reduce_entry.specs.Answers.{no-reduction}
 use Rattle.reduce_entry.specs.Parts.{Placed, Room, Finished}
 
 pub refused-is : (n : ℕ) {c : CheckResult} → c ≡ no-check n →
-    record { refused = n; invariant = 0; originals = 0; attempts = 0; minimal = false; events = 0; words = replicate 400 0; written = 0; check = c } ≡ no-reduction n
+    record {
+      refused = n;
+      invariant = 0;
+      originals = 0;
+      attempts = 0;
+      minimal = false;
+      events = 0;
+      words = replicate 400 0;
+      written = 0;
+      check = c;
+    } ≡ no-reduction n
 unfolding no-reduction
 refused-is n e = rw e
 
@@ -27,17 +37,36 @@ refused-is n e = rw e
 
 -- what the rewriter asks for
 pub asked-here : {f l o : List ℕ} {n : ℕ} → Room f l n o → {s : Span} → s ≡ spanW f →
-    (s .start ≤ s .end) × ((s .end ≤ length f) × ((Prim.Native.Nat._*_ n 4 ≤ length l) × (length (file-with f s l n) ≤ length o)))
+    (s .start ≤ s .end) × ((s .end ≤ length f)
+    × ((Prim.Native.Nat._*_ n 4 ≤ length l) × (length (file-with f s l n) ≤ length o)))
 asked-here r e = rw e (r .ordered, (r .inside, (r .words, r .fits)))
 
-module _ {f : List ℕ} {i : Index} {g : Ground} {target n : ℕ} {x : Reduced} {c : CheckResult} {q q' a a' u u' : List ℕ} (ch : Checked f i g (x .words) (x .count) c q q' a a' u u') where
-  pub last-full : {r : Minimized} → (c .simulation .refused ≡ 0 → ⊥) → r ≡ no-reduction (c .simulation .refused) → (o : List ℕ) →
+module _ {f : List ℕ} {i : Index} {g : Ground} {target n : ℕ} {x : Reduced} {c : CheckResult} {q q' a a' u u' : List ℕ}
+    (ch : Checked f i g (x .words) (x .count) c q q' a a' u u') where
+  pub last-full : {r : Minimized} → (c .simulation .refused ≡ 0 → ⊥) → r ≡ no-reduction (c .simulation .refused)
+      → (o : List ℕ) →
       Finished f i g target n x r q q' a a' u u' o o
-  last-full z e o = record { check = c; checks = ch; done = λ y. absurd (z y); full = λ y. record { answer-is = e; output = refl } }
+  last-full z e o = record {
+    check = c;
+    checks = ch;
+    done = λ y. absurd (z y);
+    full = λ y. record { answer-is = e; output = refl };
+  }
 
-  pub last-done : c .simulation .refused ≡ 0 → {s : Span} → s ≡ spanW f → {size : ℕ} {o o' : List ℕ} → Wrote (file-with f s (x .words) (x .count)) size o o' →
+  pub last-done : c .simulation .refused ≡ 0 → {s : Span} → s ≡ spanW f → {size : ℕ} {o o' : List ℕ}
+      → Wrote (file-with f s (x .words) (x .count)) size o o' →
       {p : ℕ} → Placed target p →
-      Finished f i g target n x (record { refused = 0; invariant = p; originals = n; attempts = x .attempts; minimal = eqb (x .reached) (x .count); events = x .count; words = x .words; written = size; check = c }) q q' a a' u u' o o'
+      Finished f i g target n x (record {
+        refused = 0;
+        invariant = p;
+        originals = n;
+        attempts = x .attempts;
+        minimal = eqb (x .reached) (x .count);
+        events = x .count;
+        words = x .words;
+        written = size;
+        check = c;
+      }) q q' a a' u u' o o'
   last-done z e {size} {o} {o'} w h = record {
     check = c;
     checks = ch;

@@ -21,7 +21,7 @@ use Rattle.engine.specs.Cells.{Cell, initial-cells}
 use Rattle.engine.specs.Records.{Areas}
 use Rattle.engine.specs.Words.{texts-in, words-in}
 use Rattle.engine_places.specs.Meaning.{Tabled}
-use Rattle.engine_places.proofs.Simulated.{EventAt}
+use Rattle.engine_places.specs.Events.{EventAt}
 use Rattle.engine_places.proofs.Words.{text-place}
 use Rattle.engine_begin.specs.declared.Events.{Events}
 use Rattle.engine_entry.specs.declared.Ground.{Ground}
@@ -38,7 +38,8 @@ use Rattle.checker_entry.specs.Parts.{Checked}
 use Rattle.checker_entry.proofs.Promise as promised
 use Rattle.checker_entry.proofs.Promise.{Promise, promise}
 use Rattle.reduce.specs.declared.Reduced.{Reduced}
-use Rattle.reduce.specs.Events.{EventWords, Left}
+use Rattle.model.specs.Events.{EventWords}
+use Rattle.reduce.specs.Events.{Left}
 use Rattle.reduce.specs.Parts.{is-violation, sizes, from, Ends, Reduces}
 use Rattle.reduce.specs.Parts as parts
 use Rattle.reduce.proofs.Reduction.{refused-number}
@@ -46,7 +47,20 @@ use Rattle.reduce.proofs.Violations.{none-such, Fair, checked-fair, violation-i
 use Rattle.reduce.proofs.Words.{left-at}
 use Rattle.reduce_entry.specs.declared.Minimized.{Minimized}
 use Rattle.reduce_entry.specs.Answers.{Shows, no-reduction}
-use Rattle.reduce_entry.specs.Parts.{Cleared, Ready, Repeats, Finished, Outcome, answers, refuses, reduced-to, Given, Aimed, ReducesTo, ReducesAll}
+use Rattle.reduce_entry.specs.Parts.{
+  Cleared,
+  Ready,
+  Repeats,
+  Finished,
+  Outcome,
+  answers,
+  refuses,
+  reduced-to,
+  Given,
+  Aimed,
+  ReducesTo,
+  ReducesAll,
+}
 use Rattle.reduce_entry.proofs.File.{file-is, file-fits}
 
 no-event : Event
@@ -72,12 +86,14 @@ module _ (areas : Areas) (m : Model) (target : Text) (vs : List Event) where
   unfolding reduced-to _>>=_
   not-reduced n e = rw e
 
-  not-checked : (n : ℕ) (r : checker.Reduced) → reduce areas m cells target 200 0 0 vs ≡ answer r → checked areas m cells (r .events) ≡ refused n →
+  not-checked : (n : ℕ) (r : checker.Reduced) → reduce areas m cells target 200 0 0 vs ≡ answer r
+      → checked areas m cells (r .events) ≡ refused n →
       reduced-to areas m target vs ≡ refused n
   unfolding reduced-to _>>=_
   not-checked n r e z = rw (e, z)
 
-  reduced-so : (r : checker.Reduced) (c : Check) → reduce areas m cells target 200 0 0 vs ≡ answer r → checked areas m cells (r .events) ≡ answer c →
+  reduced-so : (r : checker.Reduced) (c : Check) → reduce areas m cells target 200 0 0 vs ≡ answer r
+      → checked areas m cells (r .events) ≡ answer c →
       reduced-to areas m target vs ≡ answer (told r c)
   unfolding reduced-to _>>=_
   reduced-so r c e z = rw (e, z)
@@ -86,11 +102,13 @@ module _ (areas : Areas) (m : Model) (target : Text) (vs : List Event) where
   unfolding minimized _>>=_
   not-first n e = rw e
 
-  no-target : (c : Check) (n : ℕ) → checked areas m cells vs ≡ answer c → target-of c ≡ refused n → minimized areas m cells vs ≡ refused n
+  no-target : (c : Check) (n : ℕ) → checked areas m cells vs ≡ answer c → target-of c ≡ refused n
+      → minimized areas m cells vs ≡ refused n
   unfolding minimized _>>=_
   no-target c n e z = rw (e, z)
 
-  to-target : (c : Check) → checked areas m cells vs ≡ answer c → target-of c ≡ answer target → minimized areas m cells vs ≡ reduced-to areas m target vs
+  to-target : (c : Check) → checked areas m cells vs ≡ answer c → target-of c ≡ answer target
+      → minimized areas m cells vs ≡ reduced-to areas m target vs
   unfolding minimized reduced-to _>>=_
   to-target c e z = rw (e, z)
 
@@ -98,7 +116,8 @@ no-violation : (c : Check) → check.is-violation (c .status) ≡ false → targ
 unfolding target-of _and_ _when_
 no-violation c e = rw e
 
-first-of : (c : Check) → check.is-violation (c .status) ≡ true → 1 ≤ length (c .violations) → target-of c ≡ answer (getD (c .violations) 0 none-such .invariant)
+first-of : (c : Check) → check.is-violation (c .status) ≡ true → 1 ≤ length (c .violations)
+    → target-of c ≡ answer (getD (c .violations) 0 none-such .invariant)
 unfolding target-of _and_ _when_
 first-of c e h = rw (e, target-of) (by (c .violations) h)
   where
@@ -112,13 +131,15 @@ first-of c e h = rw (e, target-of) (by (c .violations) h)
 abbrev Long : (q r a b u v : List ℕ) → Type 0
 Long q r a b u v = (length r ≡ length q) × ((length b ≡ length a) × (length v ≡ length u))
 
-same-sizes : (q r a b u v : List ℕ) → Long q r a b u v → sizes (length r) (length b) (length v) ≡ sizes (length q) (length a) (length u)
+same-sizes : (q r a b u v : List ℕ) → Long q r a b u v
+    → sizes (length r) (length b) (length v) ≡ sizes (length q) (length a) (length u)
 same-sizes q r a b u v (eq, (ea, eu)) = rw (eq, ea, eu)
 
 -- ---- the reduction, with the last check
 
 -- what the last check asks for
-pub ready : {f : List ℕ} {i : Index} {g : Ground} {target : ℕ} {e : Events} {n : ℕ} {x : Reduced} {q a u : ℕ} → Reduces f i g target e n x q a u →
+pub ready : {f : List ℕ} {i : Index} {g : Ground} {target : ℕ} {e : Events} {n : ℕ} {x : Reduced} {q a u : ℕ}
+    → Reduces f i g target e n x q a u →
     {o : List ℕ} → Aimed f i g target e n o → x .refused ≡ 0 → Ready f g x o
 ready {f} {i} {g} {target} {e} {n} {x} {q} {a} {u} red {o} am z =
     by (red .does m acc ix (am .given .ground) (am .target-in) (m .scenario .events) (am .given .left))
@@ -132,7 +153,8 @@ ready {f} {i} {g} {target} {e} {n} {x} {q} {a} {u} red {o} am z =
     ix : Indexed f i m
     ix = am .given .model .index
 
-    by : Ends (sizes q a u) m (ix .ts) target x (from (sizes q a u) m (ix .ts) target 0 0 (m .scenario .events)) → Ready f g x o
+    by : Ends (sizes q a u) m (ix .ts) target x (from (sizes q a u) m (ix .ts) target 0 0 (m .scenario .events))
+        → Ready f g x o
     by (parts.Ends.full lo hi y) = absurd (omega (arith, z))
     by (parts.done d vs left y) = record {
       room = file-fits f i m acc ix (x .words) (x .count) vs left o (omega (arith, red .few, red .long)) (am .given .room);
@@ -140,20 +162,29 @@ ready {f} {i} {g} {target} {e} {n} {x} {q} {a} {u} red {o} am z =
       reasons = am .given .begun .reasons;
     }
 
-module _ {f : List ℕ} {i : Index} {g : Ground} {target : ℕ} {e : Events} {n : ℕ} {x : Reduced} (q a u : List ℕ) (red : Reduces f i g target e n x (length q) (length a) (length u)) where
+module _ {f : List ℕ} {i : Index} {g : Ground} {target : ℕ} {e : Events} {n : ℕ} {x : Reduced} (q a u : List ℕ)
+    (red : Reduces f i g target e n x (length q) (length a) (length u)) where
   -- a check of a candidate was refused
-  pub reduction-full : (x .refused ≡ 0 → ⊥) → {r : Minimized} → r ≡ no-reduction (x .refused) → {q₁ q' a₁ a' u₁ u' : List ℕ} → Cleared q₁ q' a₁ a' u₁ u' →
-      length q₁ ≡ length q → length a₁ ≡ length a → length u₁ ≡ length u → (o : List ℕ) → ReducesTo f i g target e n r q q' a a' u u' o o
-  reduction-full z {r} is {q₁} {q'} {a₁} {a'} {u₁} {u'} cl eq ea eu o m acc ix gr inside vs left = by (red .does m acc ix gr inside vs left)
+  pub reduction-full : (x .refused ≡ 0 → ⊥) → {r : Minimized} → r ≡ no-reduction (x .refused)
+      → {q₁ q' a₁ a' u₁ u' : List ℕ} → Cleared q₁ q' a₁ a' u₁ u' →
+      length q₁ ≡ length q → length a₁ ≡ length a → length u₁ ≡ length u → (o : List ℕ)
+      → ReducesTo f i g target e n r q q' a a' u u' o o
+  reduction-full z {r} is {q₁} {q'} {a₁} {a'} {u₁} {u'} cl eq ea eu o m acc ix gr inside vs left = by
+      (red .does m acc ix gr inside vs left)
     where
-      by : Ends (sizes (length q) (length a) (length u)) m (ix .ts) target x (from (sizes (length q) (length a) (length u)) m (ix .ts) target 0 0 vs) →
-          Outcome f (reduced-to (sizes (length q) (length a) (length u)) m (getD (ix .ts) target []) vs) r (length q) (length a) (length u) q' a' u' o o
+      by : Ends (sizes (length q) (length a) (length u)) m (ix .ts) target x
+          (from (sizes (length q) (length a) (length u)) m (ix .ts) target 0 0 vs) →
+          Outcome f (reduced-to (sizes (length q) (length a) (length u)) m (getD (ix .ts) target []) vs) r (length q)
+          (length a) (length u) q' a' u' o o
       by (parts.Ends.full lo hi y) =
-          refuses (x .refused) (inr (lo, hi)) (not-reduced (sizes (length q) (length a) (length u)) m (getD (ix .ts) target []) vs (x .refused) y) is
-          (cl .queue ∙ ap (λ (k : ℕ). replicate k 0) eq) (cl .records ∙ ap (λ (k : ℕ). replicate k 0) ea) (cl .runs ∙ ap (λ (k : ℕ). replicate k 0) eu) refl
+          refuses (x .refused) (inr (lo, hi))
+          (not-reduced (sizes (length q) (length a) (length u)) m (getD (ix .ts) target []) vs (x .refused) y) is
+          (cl .queue ∙ ap (λ (k : ℕ). replicate k 0) eq) (cl .records ∙ ap (λ (k : ℕ). replicate k 0) ea)
+          (cl .runs ∙ ap (λ (k : ℕ). replicate k 0) eu) refl
       by (parts.done d ws l y) = absurd (z d)
 
-  module _ (bytes : (k : ℕ) → getD f k 0 < 256) (z : x .refused ≡ 0) {r : Minimized} {q₁ q' a₁ a' u₁ u' o o' : List ℕ} (fin : Finished f i g target n x r q₁ q' a₁ a' u₁ u' o o') (long : Long q q₁ a a₁ u u₁) where
+  module _ (bytes : (k : ℕ) → getD f k 0 < 256) (z : x .refused ≡ 0) {r : Minimized} {q₁ q' a₁ a' u₁ u' o o' : List ℕ}
+      (fin : Finished f i g target n x r q₁ q' a₁ a' u₁ u' o o') (long : Long q q₁ a a₁ u u₁) where
     abbrev areas : Areas
     areas = sizes (length q) (length a) (length u)
 
@@ -163,7 +194,8 @@ module _ {f : List ℕ} {i : Index} {g : Ground} {target : ℕ} {e : Events} {n 
     runs-is : u' ≡ replicate (length u) 0
     runs-is = fin .checks .ran .does .runs ∙ ap (λ (k : ℕ). replicate k 0) (long .1 .1)
 
-    module _ (m : Model) (acc : accepted f ≡ answer m) (ix : Indexed f i m) (gr : Grounds f i g) (inside : target < length (ix .ts)) (vs : List Event) (left : Left m (ix .ts) (e .words) n vs) where
+    module _ (m : Model) (acc : accepted f ≡ answer m) (ix : Indexed f i m) (gr : Grounds f i g)
+        (inside : target < length (ix .ts)) (vs : List Event) (left : Left m (ix .ts) (e .words) n vs) where
       abbrev t : Tabled f (g .table) (ix .ts) m
       t = tb f i m acc ix bytes g gr
 
@@ -173,7 +205,9 @@ module _ {f : List ℕ} {i : Index} {g : Ground} {target : ℕ} {e : Events} {n 
       here : texts-in f ≡ ix .ts
       here = texts-here f i m acc ix bytes g gr
 
-      module _ (ws : List Event) (kept : Left m (ix .ts) (x .words) (x .count) ws) (y : reduce areas m (initial-cells (m .scenario .entities)) name 200 0 0 vs ≡ answer (record { events = ws; attempts = x .attempts; reached = x .reached })) where
+      module _ (ws : List Event) (kept : Left m (ix .ts) (x .words) (x .count) ws)
+          (y : reduce areas m (initial-cells (m .scenario .entities)) name 200 0 0 vs
+          ≡ answer (record { events = ws; attempts = x .attempts; reached = x .reached })) where
         evs : (j : ℕ) → j < length ws → EventAt f (g .table) (ix .ts) m t (x .words) j (getD ws j no-event)
         evs j h = left-at f (g .table) i m acc ix t (x .words) (x .count) ws kept no-event j h
 
@@ -197,18 +231,22 @@ module _ {f : List ℕ} {i : Index} {g : Ground} {target : ℕ} {e : Events} {n 
           attempts = p .attempts;
           minimal = p .minimal ∙ ap (eqb (x .reached)) (kept .many);
           events = p .events ∙ kept .many;
-          words = λ d k h. subst (λ (l : List ℕ). EventWords (texts-in f) l k (getD ws k d)) (sym (p .words)) (subst (λ (ts : List Text). EventWords ts (x .words) k (getD ws k d)) (sym here) (kept .held d k h));
+          words = λ d k h. subst (λ (l : List ℕ). EventWords (texts-in f) l k (getD ws k d)) (sym (p .words))
+              (subst (λ (ts : List Text). EventWords ts (x .words) k (getD ws k d)) (sym here) (kept .held d k h));
           written = p .wrote .is-size ∙ ap length bytes-are;
           check = subst (λ (y : CheckResult). shown.Shows f y c) (sym (p .check)) s;
         }
 
-        wrote : (c : Check) → Repeats f target n x (fin .check) r o o' → o' ≡ reduced-file f (final c) ++ drop (length (reduced-file f (final c))) o
+        wrote : (c : Check) → Repeats f target n x (fin .check) r o o'
+            → o' ≡ reduced-file f (final c) ++ drop (length (reduced-file f (final c))) o
         unfolding reduced-file
         wrote c p = p .wrote .is-out ∙ ap (λ (b : List ℕ). b ++ drop (length b) o) bytes-are
 
-        checked-here : {b : Answer Check} → checked (sizes (length q₁) (length a₁) (length u₁)) m (initial-cells (m .scenario .entities)) ws ≡ b →
+        checked-here : {b : Answer Check} → checked (sizes (length q₁) (length a₁) (length u₁)) m
+            (initial-cells (m .scenario .entities)) ws ≡ b →
             checked areas m (initial-cells (m .scenario .entities)) ws ≡ b
-        checked-here k = ap (λ (s : Areas). checked s m (initial-cells (m .scenario .entities)) ws) (sym (same-sizes q q₁ a a₁ u u₁ long)) ∙ k
+        checked-here k = ap (λ (s : Areas). checked s m (initial-cells (m .scenario .entities)) ws)
+            (sym (same-sizes q q₁ a a₁ u u₁ long)) ∙ k
 
         finished : Outcome f (reduced-to areas m name vs) r (length q) (length a) (length u) q' a' u' o o'
         finished = by (promise f i m acc ix bytes g gr (x .words) no-event ws evs (kept .many) (fin .checks))
@@ -222,7 +260,8 @@ module _ {f : List ℕ} {i : Index} {g : Ground} {target : ℕ} {e : Events} {n 
             by (promised.refuses j lo hi k is d) =
                 let no = refused-number j (fin .check) is in
                 let p = fin .full (λ s. absurd (omega (arith, no, s))) in
-                refuses j (inr (lo, hi)) (not-checked areas m name vs j _ y (checked-here k)) (p .answer-is ∙ ap no-reduction no) queue-is
+                refuses j (inr (lo, hi)) (not-checked areas m name vs j _ y (checked-here k))
+                (p .answer-is ∙ ap no-reduction no) queue-is
                 (d ∙ ap (λ (j : ℕ). replicate j 0) (long .1 .0)) runs-is (p .output)
 
     pub reduction-done : ReducesTo f i g target e n r q q' a a' u u' o o'
@@ -235,11 +274,14 @@ module _ {f : List ℕ} {i : Index} {g : Ground} {target : ℕ} {e : Events} {n 
 
 -- ---- the first check
 
-module _ {f : List ℕ} {i : Index} {g : Ground} {e : Events} {n : ℕ} (bytes : (k : ℕ) → getD f k 0 < 256) {c : CheckResult} {q q₁ a a₁ u u₁ : List ℕ} (ch : Checked f i g (e .words) n c q q₁ a a₁ u u₁) where
+module _ {f : List ℕ} {i : Index} {g : Ground} {e : Events} {n : ℕ}
+    (bytes : (k : ℕ) → getD f k 0 < 256) {c : CheckResult} {q q₁ a a₁ u u₁ : List ℕ}
+    (ch : Checked f i g (e .words) n c q q₁ a a₁ u u₁) where
   abbrev first-sizes : Areas
   first-sizes = sizes (length q) (length a) (length u)
 
-  module _ (m : Model) (acc : accepted f ≡ answer m) (ix : Indexed f i m) (gr : Grounds f i g) (vs : List Event) (left : Left m (ix .ts) (e .words) n vs) where
+  module _ (m : Model) (acc : accepted f ≡ answer m) (ix : Indexed f i m) (gr : Grounds f i g) (vs : List Event)
+      (left : Left m (ix .ts) (e .words) n vs) where
     abbrev first-table : Tabled f (g .table) (ix .ts) m
     first-table = tb f i m acc ix bytes g gr
 
@@ -252,38 +294,52 @@ module _ {f : List ℕ} {i : Index} {g : Ground} {e : Events} {n : ℕ} (bytes :
     first : First
     first = promise f i m acc ix bytes g gr (e .words) no-event vs first-evs (left .many) ch
 
-    fair : (d : Check) → checked first-sizes m (initial-cells (m .scenario .entities)) vs ≡ answer d → Fair f (g .table) i m acc ix first-table d
+    fair : (d : Check) → checked first-sizes m (initial-cells (m .scenario .entities)) vs ≡ answer d
+        → Fair f (g .table) i m acc ix first-table d
     fair d y = checked-fair f (g .table) i m acc ix first-table first-sizes vs d y
 
-    violation-here : (d : Check) → checked first-sizes m (initial-cells (m .scenario .entities)) vs ≡ answer d → shown.Shows f c d →
+    violation-here : (d : Check) → checked first-sizes m (initial-cells (m .scenario .entities)) vs ≡ answer d
+        → shown.Shows f c d →
         is-violation (c .status) ≡ check.is-violation (d .status)
-    violation-here d y s = violation-is f (g .table) i m acc ix first-table (texts-here f i m acc ix bytes g gr) c d s (fair d y)
+    violation-here d y s = violation-is f (g .table) i m acc ix first-table (texts-here f i m acc ix bytes g gr) c d s
+        (fair d y)
 
-    target-here : (d : Check) (y : checked first-sizes m (initial-cells (m .scenario .entities)) vs ≡ answer d) (s : shown.Shows f c d) →
+    target-here : (d : Check) (y : checked first-sizes m (initial-cells (m .scenario .entities)) vs ≡ answer d)
+        (s : shown.Shows f c d) →
         check.is-violation (d .status) ≡ true →
-        Target f (g .table) i m acc ix first-table (texts-here f i m acc ix bytes g gr) c d s (fair d y) (getD (d .violations) 0 none-such .invariant)
+        Target f (g .table) i m acc ix first-table (texts-here f i m acc ix bytes g gr) c d s (fair d y)
+        (getD (d .violations) 0 none-such .invariant)
     target-here d y s z =
-        target-is f (g .table) i m acc ix first-table (texts-here f i m acc ix bytes g gr) c d s (fair d y) (fair d y .some-violation z)
+        target-is f (g .table) i m acc ix first-table (texts-here f i m acc ix bytes g gr) c d s (fair d y)
+        (fair d y .some-violation z)
 
-  pub first-full : (c .simulation .refused ≡ 0 → ⊥) → {r : Minimized} → r ≡ no-reduction (c .simulation .refused) → (o : List ℕ) →
+  pub first-full : (c .simulation .refused ≡ 0 → ⊥) → {r : Minimized} → r ≡ no-reduction (c .simulation .refused)
+      → (o : List ℕ) →
       ReducesAll f i g e n r q q₁ a a₁ u u₁ o o
   first-full z {r} is o m acc ix gr vs left = by (first m acc ix gr vs left)
     where
-      by : First m acc ix gr vs left → Outcome f (minimized first-sizes m (initial-cells (m .scenario .entities)) vs) r (length q) (length a) (length u) q₁ a₁ u₁ o o
+      by : First m acc ix gr vs left → Outcome f (minimized first-sizes m (initial-cells (m .scenario .entities)) vs) r
+          (length q) (length a) (length u) q₁ a₁ u₁ o o
       by (promised.answers d k s w) = absurd (z (s .simulation .accepted))
       by (promised.refuses j lo hi k none w) =
-          refuses j (inr (lo, hi)) (not-first first-sizes m [] vs j k) (is ∙ ap no-reduction (refused-number j c none)) (ch .ran .does .queue) w (ch .ran .does .runs) refl
+          refuses j (inr (lo, hi)) (not-first first-sizes m [] vs j k) (is ∙ ap no-reduction (refused-number j c none))
+          (ch .ran .does .queue) w (ch .ran .does .runs) refl
 
   module _ (z : c .simulation .refused ≡ 0) {b : Bool} (is-b : b ≡ is-violation (c .status)) where
     -- it isn't a violation
     pub first-other : b ≡ false → {r : Minimized} → r ≡ no-reduction 21 → {q' a' u' : List ℕ} → Cleared q₁ q' a₁ a' u₁ u' →
-        length q₁ ≡ length q → length a₁ ≡ length a → length u₁ ≡ length u → (o : List ℕ) → ReducesAll f i g e n r q q' a a' u u' o o
+        length q₁ ≡ length q → length a₁ ≡ length a → length u₁ ≡ length u → (o : List ℕ)
+        → ReducesAll f i g e n r q q' a a' u u' o o
     first-other f' {r} is {q'} {a'} {u'} cl eq ea eu o m acc ix gr vs left = by (first m acc ix gr vs left)
       where
-        by : First m acc ix gr vs left → Outcome f (minimized first-sizes m (initial-cells (m .scenario .entities)) vs) r (length q) (length a) (length u) q' a' u' o o
+        by : First m acc ix gr vs left → Outcome f
+            (minimized first-sizes m (initial-cells (m .scenario .entities)) vs) r (length q) (length a)
+            (length u) q' a' u' o o
         by (promised.answers d k s w) =
-            refuses 21 (inl refl) (no-target first-sizes m [] vs d 21 k (no-violation d (sym (violation-here m acc ix gr vs left d k s) ∙ sym is-b ∙ f'))) is
-            (cl .queue ∙ ap (λ (j : ℕ). replicate j 0) eq) (cl .records ∙ ap (λ (j : ℕ). replicate j 0) ea) (cl .runs ∙ ap (λ (j : ℕ). replicate j 0) eu) refl
+            refuses 21 (inl refl) (no-target first-sizes m [] vs d 21 k
+            (no-violation d (sym (violation-here m acc ix gr vs left d k s) ∙ sym is-b ∙ f'))) is
+            (cl .queue ∙ ap (λ (j : ℕ). replicate j 0) eq) (cl .records ∙ ap (λ (j : ℕ). replicate j 0) ea)
+            (cl .runs ∙ ap (λ (j : ℕ). replicate j 0) eu) refl
         by (promised.refuses j lo hi k none w) = absurd (omega (arith, refused-number j c none))
 
     module _ (so : b ≡ true) where
@@ -309,17 +365,24 @@ module _ {f : List ℕ} {i : Index} {g : Ground} {e : Events} {n : ℕ} (bytes :
               record { given = gi; target-in = target-here m acc ix gr (m .scenario .events) (gi .left) d k s v .inside }
           by (promised.refuses j lo hi k none w) = absurd (omega (arith, refused-number j c none))
 
-      pub first-so : {r : Minimized} {q' a' u' o o' : List ℕ} → ReducesTo f i g (getD (c .violated) 0 0) e n r q₁ q' a₁ a' u₁ u' o o' →
+      pub first-so : {r : Minimized} {q' a' u' o o' : List ℕ}
+          → ReducesTo f i g (getD (c .violated) 0 0) e n r q₁ q' a₁ a' u₁ u' o o' →
           length q₁ ≡ length q → length a₁ ≡ length a → length u₁ ≡ length u → ReducesAll f i g e n r q q' a a' u u' o o'
       first-so {r} {q'} {a'} {u'} {o} {o'} red eq ea eu m acc ix gr vs left = by (first m acc ix gr vs left)
         where
-          by : First m acc ix gr vs left → Outcome f (minimized first-sizes m (initial-cells (m .scenario .entities)) vs) r (length q) (length a) (length u) q' a' u' o o'
+          by : First m acc ix gr vs left → Outcome f
+              (minimized first-sizes m (initial-cells (m .scenario .entities)) vs) r (length q) (length a)
+              (length u) q' a' u' o o'
           by (promised.answers d k s w) =
               let v = sym (violation-here m acc ix gr vs left d k s) ∙ sym is-b ∙ so in
               let t = target-here m acc ix gr vs left d k s v in
               let name = getD (d .violations) 0 none-such .invariant in
-              let law : minimized first-sizes m (initial-cells (m .scenario .entities)) vs ≡ reduced-to first-sizes m name vs = to-target first-sizes m name vs d k (first-of d v (fair m acc ix gr vs left d k .some-violation v)) in
+              let law : minimized first-sizes m (initial-cells (m .scenario .entities)) vs
+              ≡ reduced-to first-sizes m name vs = to-target first-sizes m name vs d k
+              (first-of d v (fair m acc ix gr vs left d k .some-violation v)) in
               let y = red m acc ix gr (t .inside) vs left in
-              let y' : Outcome f (reduced-to first-sizes m (getD (ix .ts) (getD (c .violated) 0 0) []) vs) r (length q) (length a) (length u) q' a' u' o o' = rw (eq, ea, eu) at y in
-              subst (λ (l : Answer checker.Minimized). Outcome f l r (length q) (length a) (length u) q' a' u' o o') (ap (λ (l : Text). reduced-to first-sizes m l vs) (sym (t .is-text)) ∙ sym law) y'
+              let y' : Outcome f (reduced-to first-sizes m (getD (ix .ts) (getD (c .violated) 0 0) []) vs) r (length q)
+              (length a) (length u) q' a' u' o o' = rw (eq, ea, eu) at y in
+              subst (λ (l : Answer checker.Minimized). Outcome f l r (length q) (length a) (length u) q' a' u' o o')
+              (ap (λ (l : Text). reduced-to first-sizes m l vs) (sym (t .is-text)) ∙ sym law) y'
           by (promised.refuses j lo hi k none w) = absurd (omega (arith, refused-number j c none))

@@ -1,5 +1,5 @@
--- What `minimize` answers, by the definitions of crate `checker`: each number of the answer, each word of the lent areas, and
--- each byte of the output.
+-- What `minimize` answers, by the definitions of crate `checker`: each number of the answer, each word of the lent areas,
+-- and each byte of the output.
 use Prim.Native.Nat.{ℕ, _<_}
 use mathlib.Core.Path.{_≡_}
 use mathlib.Core.Bool.{false}
@@ -15,11 +15,11 @@ use Rattle.checker.specs.Minimize.{minimize, reduced-file}
 use Rattle.checker.specs.Minimize as checker
 use Rattle.checker_entry.specs.Answers.{no-check}
 use Rattle.checker_entry.specs.Answers as check
-use Rattle.reduce.specs.Events.{EventWords}
+use Rattle.model.specs.Events.{EventWords}
 use Rattle.reduce_entry.specs.declared.Minimized.{Minimized}
 
--- The answer says what the definition's reduction says. The places of an event that doesn't set are left free, and so are the
--- words behind the last event.
+-- The answer says what the definition's reduction says. The places of an event that doesn't set are left free, and so are
+-- the words behind the last event.
 pub record Shows (f : List ℕ) (r : Minimized) (d : checker.Minimized) : Type 0 where
   pub accepted : r .refused ≡ 0
   pub invariant : r .invariant ≡ place-of (d .invariant) (texts-in f)
@@ -32,7 +32,17 @@ pub record Shows (f : List ℕ) (r : Minimized) (d : checker.Minimized) : Type 0
   pub check : check.Shows f (r .check) (d .check)
 
 unfoldable pub no-reduction : (number : ℕ) → Minimized
-no-reduction n = record { refused = n; invariant = 0; originals = 0; attempts = 0; minimal = false; events = 0; words = replicate 400 0; written = 0; check = no-check n }
+no-reduction n = record {
+  refused = n;
+  invariant = 0;
+  originals = 0;
+  attempts = 0;
+  minimal = false;
+  events = 0;
+  words = replicate 400 0;
+  written = 0;
+  check = no-check n;
+}
 
 abbrev pub Says : (file : List ℕ) → Minimized → Answer checker.Minimized → Type 0
 Says f r (answer d) = Shows f r d

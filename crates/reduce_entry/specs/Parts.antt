@@ -72,7 +72,8 @@ pub record Refused (number : ℕ) (r : Minimized) (o o' : List ℕ) : Type 0 whe
   pub answer-is : r ≡ no-reduction number
   pub output : o' ≡ o
 
-pub record Finished (f : List ℕ) (i : Index) (g : Ground) (target n : ℕ) (x : Reduced) (r : Minimized) (q q' a a' u u' o o' : List ℕ) : Type 0 where
+pub record Finished (f : List ℕ) (i : Index) (g : Ground) (target n : ℕ) (x : Reduced) (r : Minimized)
+    (q q' a a' u u' o o' : List ℕ) : Type 0 where
   pub check : CheckResult
   pub checks : Checked f i g (x .words) (x .count) check q q' a a' u u'
   pub done : check .simulation .refused ≡ 0 → Repeats f target n x check r o o'
@@ -81,10 +82,14 @@ pub record Finished (f : List ℕ) (i : Index) (g : Ground) (target n : ℕ) (x 
 -- ---- by the definition
 
 -- the definition's answer x is told, and so are the areas, of so many words, and the output
-pub data Outcome (f : List ℕ) (x : Answer checker.Minimized) (r : Minimized) (nq na nu : ℕ) (q' a' u' o o' : List ℕ) : Type 0 where
-  answers : (d : checker.Minimized) → x ≡ answer d → Shows f r d → q' ≡ replicate nq 0 → a' ≡ area (words-in f) na (last-trace d) →
-      u' ≡ replicate nu 0 → o' ≡ reduced-file f d ++ drop (length (reduced-file f d)) o → Outcome f x r nq na nu q' a' u' o o'
-  refuses : (n : ℕ) → ((n ≡ 21) ⊎ ((41 ≤ n) × (n ≤ 43))) → x ≡ refused n → r ≡ no-reduction n → q' ≡ replicate nq 0 → a' ≡ replicate na 0 →
+pub data Outcome (f : List ℕ) (x : Answer checker.Minimized) (r : Minimized) (nq na nu : ℕ)
+    (q' a' u' o o' : List ℕ) : Type 0 where
+  answers : (d : checker.Minimized) → x ≡ answer d → Shows f r d → q' ≡ replicate nq 0
+      → a' ≡ area (words-in f) na (last-trace d) →
+      u' ≡ replicate nu 0 → o' ≡ reduced-file f d ++ drop (length (reduced-file f d)) o
+      → Outcome f x r nq na nu q' a' u' o o'
+  refuses : (n : ℕ) → ((n ≡ 21) ⊎ ((41 ≤ n) × (n ≤ 43))) → x ≡ refused n → r ≡ no-reduction n → q' ≡ replicate nq 0
+      → a' ≡ replicate na 0 →
       u' ≡ replicate nu 0 → o' ≡ o → Outcome f x r nq na nu q' a' u' o o'
 
 -- the definition's reduction to a target, with the last check
@@ -119,15 +124,21 @@ pub record Aimed (f : List ℕ) (i : Index) (g : Ground) (target : ℕ) (e : Eve
   pub given : Given f i g e n o
   pub target-in : target < length (given .model .index .ts)
 
-abbrev pub ReducesTo : (f : List ℕ) (i : Index) (g : Ground) (target : ℕ) (e : Events) (n : ℕ) (r : Minimized) (q q' a a' u u' o o' : List ℕ) → Type 0
-ReducesTo f i g target e n r q q' a a' u u' o o' = (m : Model) → accepted f ≡ answer m → (x : Indexed f i m) → Grounds f i g → target < length (x .ts) → (vs : List Event) →
+abbrev pub ReducesTo : (f : List ℕ) (i : Index) (g : Ground) (target : ℕ) (e : Events) (n : ℕ) (r : Minimized)
+    (q q' a a' u u' o o' : List ℕ) → Type 0
+ReducesTo f i g target e n r q q' a a' u u' o o' = (m : Model) → accepted f ≡ answer m → (x : Indexed f i m)
+    → Grounds f i g → target < length (x .ts) → (vs : List Event) →
     Left m (x .ts) (e .words) n vs →
-    Outcome f (reduced-to (sizes (length q) (length a) (length u)) m (getD (x .ts) target []) vs) r (length q) (length a) (length u) q' a' u' o o'
+    Outcome f (reduced-to (sizes (length q) (length a) (length u)) m (getD (x .ts) target []) vs) r (length q)
+    (length a) (length u) q' a' u' o o'
 
-abbrev pub ReducesAll : (f : List ℕ) (i : Index) (g : Ground) (e : Events) (n : ℕ) (r : Minimized) (q q' a a' u u' o o' : List ℕ) → Type 0
-ReducesAll f i g e n r q q' a a' u u' o o' = (m : Model) → accepted f ≡ answer m → (x : Indexed f i m) → Grounds f i g → (vs : List Event) →
+abbrev pub ReducesAll : (f : List ℕ) (i : Index) (g : Ground) (e : Events) (n : ℕ) (r : Minimized)
+    (q q' a a' u u' o o' : List ℕ) → Type 0
+ReducesAll f i g e n r q q' a a' u u' o o' = (m : Model) → accepted f ≡ answer m → (x : Indexed f i m) → Grounds f i g
+    → (vs : List Event) →
     Left m (x .ts) (e .words) n vs →
-    Outcome f (minimized (sizes (length q) (length a) (length u)) m (initial-cells (m .scenario .entities)) vs) r (length q) (length a) (length u) q' a' u' o o'
+    Outcome f (minimized (sizes (length q) (length a) (length u)) m (initial-cells (m .scenario .entities)) vs) r
+    (length q) (length a) (length u) q' a' u' o o'
 
 -- the reduction of the model whose index this is
 abbrev pub RunsAs : (f : List ℕ) → Index → Minimized → (before after : Lent) → (o o' : List ℕ) → Type 0

@@ -1,11 +1,11 @@
 -- A check takes at most as many steps as the model allows.
 use Prim.Native.Nat.{ℕ, zero, suc, _+_, _≤_}
-use mathlib.Core.Path.{_≡_, refl, sym, ap, subst, _∙_}
+use mathlib.Core.Path.{_≡_, subst}
 use mathlib.Core.List.{List, [], _∷_}
 use mathlib.Core.Option.{Option, none, some}
 use native.Mathlib.Omega.{arith}
 use Rattle.texts.specs.Lists.{_▸_}
-use Rattle.model.specs.Answer.{Answer, answer, refused, _>>=_}
+use Rattle.model.specs.Answer.{Answer, answer, refused}
 use Rattle.model.specs.Model.{Automation, Event, Model}
 use Rattle.model.specs.Validate.{accepted}
 use Rattle.engine.specs.Cells.{Cell}
@@ -38,11 +38,12 @@ module _ (rules : List Automation) (horizon : ℕ) where
       by (take i l) = omega arith
   loop-steps (suc left) n e = by (next-of horizon e (pop (e .queue))) (loop-steps left (n + 1))
     where
-      by : (x : Next) → ((d : Engine) → Few (n + 1 + left) (loop rules horizon left (n + 1) d)) → Few (n + suc left) (elim x [
-        | stop ↦ record { engine = e; steps = n; incomplete = [] }
-        | exhausted ↦ record { engine = e; steps = n; incomplete = space-spent ∷ [] }
-        | take i l ↦ loop rules horizon left (n + 1) (e ▸ with-queue l ▸ process (i .at) rules (i .work))
-      ])
+      by : (x : Next) → ((d : Engine) → Few (n + 1 + left) (loop rules horizon left (n + 1) d))
+          → Few (n + suc left) (elim x [
+            | stop ↦ record { engine = e; steps = n; incomplete = [] }
+            | exhausted ↦ record { engine = e; steps = n; incomplete = space-spent ∷ [] }
+            | take i l ↦ loop rules horizon left (n + 1) (e ▸ with-queue l ▸ process (i .at) rules (i .work))
+          ])
       by stop h = omega arith
       by exhausted h = omega arith
       by (take i l) h = omega (arith, h (e ▸ with-queue l ▸ process (i .at) rules (i .work)))
@@ -51,14 +52,19 @@ ended-steps : (areas : Areas) (m : Model) (cells : List Cell) (events : List Eve
     Few (m .scenario .limits .max-steps) (ended areas m cells events)
 unfolding ended closed
 ended-steps areas m cells events =
-    omega (arith, loop-steps (m .rules) (m .scenario .limits .horizon) (m .scenario .limits .max-steps) 0 (begun areas cells (unsupported (m .rules)) events))
+    omega (
+      arith,
+      loop-steps (m .rules) (m .scenario .limits .horizon) (m .scenario .limits .max-steps) 0
+          (begun areas cells (unsupported (m .rules)) events),
+    )
 
 simulated-steps : (areas : Areas) (m : Model) (cells : List Cell) (events : List Event) (s : engine.Simulation) →
     simulated areas m cells events ≡ answer s → s .steps ≤ m .scenario .limits .max-steps
 unfolding simulated
 simulated-steps areas m cells events s e = by (ended areas m cells events .engine .overflow) e
   where
-    by : (o : Option ℕ) → unless-full o (outcome m (ended areas m cells events)) ≡ answer s → s .steps ≤ m .scenario .limits .max-steps
+    by : (o : Option ℕ) → unless-full o (outcome m (ended areas m cells events)) ≡ answer s
+        → s .steps ≤ m .scenario .limits .max-steps
     by none p =
         let q : answer (outcome m (ended areas m cells events)) ≡ answer s = unfold unless-full in p in
         subst (λ (x : engine.Simulation). x .steps ≤ m .scenario .limits .max-steps) (answer-eq q)
@@ -67,7 +73,8 @@ simulated-steps areas m cells events s e = by (ended areas m cells events .engin
         let q : _≡_ {A = Answer engine.Simulation} (refused n) (answer s) = unfold unless-full in p in
         absurd (refused-answer q)
 
-pub few-steps : (f : List ℕ) (m : Model) → accepted f ≡ answer m → (areas : Areas) (cells : List Cell) (events : List Event) (c : Check) →
+pub few-steps : (f : List ℕ) (m : Model) → accepted f ≡ answer m
+    → (areas : Areas) (cells : List Cell) (events : List Event) (c : Check) →
     checked areas m cells events ≡ answer c → c .simulation .steps ≤ 10000
 unfolding checked judged
 few-steps f m acc areas cells events c e =

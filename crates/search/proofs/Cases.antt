@@ -1,29 +1,25 @@
 -- A case of the code's search is the definition's.
-use Prim.Native.Nat.{ℕ, _+_, _/_, _≤_, _<_}
+use Prim.Native.Nat.{ℕ, _+_, _≤_, _<_}
 use mathlib.Core.Path.{_≡_, refl, sym, ap, subst, _∙_}
 use mathlib.Core.Bool.{Bool, true, false, _||_}
-use mathlib.Core.List.{List, [], _∷_, _++_, append-nil, append-assoc}
+use mathlib.Core.List.{List, [], _∷_, _++_}
 use mathlib.Core.Option.{Option, none, some}
 use native.Mathlib.Omega.{arith}
-use lib.Dec.{leb, eqb}
+use lib.Dec.{leb}
 use lib.ListN.{length, getD}
 use borrow.Author.Tests.{le-leb, lt-leb}
-use Rattle.texts.specs.Lists.{if_then_else_, is-empty, any}
+use Rattle.texts.specs.Lists.{is-empty}
 use Rattle.texts.specs.Places.{textAt}
-use Rattle.texts.specs.Texts.{Text, text, memT, insertT, sortedT}
-use Rattle.areas.specs.Areas.{area}
+use Rattle.texts.specs.Texts.{Text, text, insertT, sortedT}
 use Rattle.reasons.specs.Lists.{listed, insertAll, Holds}
 use Rattle.reasons.specs.Reasons.{render, body, words}
 use Rattle.model.specs.Answer.{Answer, answer, refused, _>>=_, accept}
 use Rattle.model.specs.Model.{Input, Event, Model}
-use Rattle.model.specs.Validate.{check-input, accepted}
-use Rattle.engine.specs.Records.{Areas}
-use Rattle.engine.proofs.Lists.{eqT-same}
+use Rattle.model.specs.Validate.{check-input}
 use Rattle.engine_reads.specs.Reads.{alone}
 use Rattle.engine_places.specs.Meaning.{Tabled}
-use Rattle.engine_places.proofs.Pigeons.{Among}
+use Rattle.engine_places.specs.Events.{Among, EventAt}
 use Rattle.engine_places.proofs.Pool.{no-text, mem-right, among-to}
-use Rattle.engine_places.proofs.Simulated.{EventAt}
 use Rattle.engine_entry.proofs.Core.{tb}
 use Rattle.checker.specs.Check.{Check, is-violation, checked}
 use Rattle.checker.specs.Check as check
@@ -33,16 +29,16 @@ use Rattle.checker_entry.specs.declared.CheckResult.{CheckResult}
 use Rattle.checker_entry.specs.declared.Status.{Status}
 use Rattle.checker_entry.specs.Answers.{status-as, no-check}
 use Rattle.checker_entry.specs.Answers as said
-use Rattle.checker_entry.proofs.Pool.{check-pool, few-in-pool}
+use Rattle.checker_entry.specs.Pool.{check-pool}
+use Rattle.checker_entry.proofs.Pool.{few-in-pool, among-both, mem-first}
 use Rattle.checker_case.specs.Case.{Tells, answers, refuses, Cased}
 use Rattle.search_inputs.specs.declared.Placed.{Placed}
 use Rattle.search_inputs.proofs.Means.{Fine, asc, fine-here, input-accepted, event-at-here}
 use Rattle.search.specs.declared.Plan.{Plan}
 use Rattle.search.specs.declared.Search.{Search}
 use Rattle.search.specs.Parts.{refusalV, violatesV, refusedS, Spends, Found, Other, Gathers}
-use Rattle.search.specs.Meaning.{none-such, cells-of, sizes, search-pool, Setting, Chosen, PlacedAs, Witnessed, WitnessIs, Held, Refused, Outcome}
-use Rattle.search.specs.Contracts.{Tries}
-use Rattle.search.proofs.Sorted.{sorted-few, sorted-again, sorted-both, sorted-one, sorted-none, among-both}
+use Rattle.search.specs.Meaning.{none-such, cells-of, sizes, search-pool, Setting, PlacedAs, WitnessIs, Held, Outcome}
+use Rattle.search.proofs.Sorted.{sorted-few, sorted-again, sorted-both, sorted-one, sorted-none}
 use Rattle.search.proofs.Budget.{few-steps}
 
 -- ---- the model behind a plan
@@ -69,10 +65,6 @@ module _ {f : List ℕ} {p : Plan} {q a u : ℕ} (x : Setting f p q a u) where
   unfolding search-pool
   widen l h = among-to l (check-pool m) (search-pool m) (λ t e. mem-right t (spent-text ∷ []) (check-pool m) e) h
 
-  mem-first : (t : Text) (l : List Text) → memT t (t ∷ l) ≡ true
-  unfolding memT any
-  mem-first t l = rw (eqT-same t)
-
   spent-among : Among (search-pool m) (spent-text ∷ [])
   unfolding search-pool
   spent-among = (mem-first spent-text (check-pool m), tt)
@@ -81,7 +73,8 @@ module _ {f : List ℕ} {p : Plan} {q a u : ℕ} (x : Setting f p q a u) where
   few-reasons s o w h = omega (arith, h .reasons .many, sorted-few (search-pool m) (s .reasons) (h .within), pool-few)
 
   -- a witness stays
-  witness-stays : (y : Option verify.Witness) (o r : Search) → r .found ≡ o .found → r .witness ≡ o .witness → WitnessIs x y o → WitnessIs x y r
+  witness-stays : (y : Option verify.Witness) (o r : Search) → r .found ≡ o .found → r .witness ≡ o .witness
+      → WitnessIs x y o → WitnessIs x y r
   witness-stays none o r e g h = e ∙ h
   witness-stays (some w) o r e g h = record {
     found = e ∙ h .found;
@@ -103,14 +96,18 @@ module _ {f : List ℕ} {p : Plan} {q a u : ℕ} (x : Setting f p q a u) where
     test-cases g = rw (le-leb (m .scenario .limits .max-cases) (s .cases) (omega (arith, g, x .cases, h .cases)))
 
     pub test-steps : 200000 ≤ o .steps → spent-test ≡ true
-    test-steps g = rw (le-leb 200000 (s .total-steps) (omega (arith, g, h .steps))) (by (leb (m .scenario .limits .max-cases) (s .cases)))
+    test-steps g = rw (le-leb 200000 (s .total-steps) (omega (arith, g, h .steps)))
+        (by (leb (m .scenario .limits .max-cases) (s .cases)))
       where
         by : (b : Bool) → (b || true) ≡ true
         by true = refl
         by false = refl
 
     test-none : o .cases < p .cases → o .steps < 200000 → spent-test ≡ false
-    test-none g k = rw (lt-leb (m .scenario .limits .max-cases) (s .cases) (omega (arith, g, x .cases, h .cases)), lt-leb 200000 (s .total-steps) (omega (arith, k, h .steps)))
+    test-none g k = rw (
+      lt-leb (m .scenario .limits .max-cases) (s .cases) (omega (arith, g, x .cases, h .cases)),
+      lt-leb 200000 (s .total-steps) (omega (arith, k, h .steps)),
+    )
 
     spent-law : spent-test ≡ true → tried ≡ answer (out-of-budget s)
     unfolding try-case
@@ -118,7 +115,11 @@ module _ {f : List ℕ} {p : Plan} {q a u : ℕ} (x : Setting f p q a u) where
       where
         by : (b : Bool) → b ≡ true →
             _≡_ {A = Answer verify.Search}
-            (elim b [ true ↦ answer (out-of-budget s) | false ↦ checked (sizes q a u) m (cells-of m) vs >>= λ c. answer (after-case vs c s) ])
+            (elim b [
+              | true ↦ answer (out-of-budget s)
+              | false ↦ checked (sizes q a u) m (cells-of m) vs >>= λ c. answer
+                  (after-case vs c s)
+            ])
             (answer (out-of-budget s))
         by b e = rw e
 
@@ -128,7 +129,11 @@ module _ {f : List ℕ} {p : Plan} {q a u : ℕ} (x : Setting f p q a u) where
       where
         by : (b : Bool) → b ≡ false →
             _≡_ {A = Answer verify.Search}
-            (elim b [ true ↦ answer (out-of-budget s) | false ↦ checked (sizes q a u) m (cells-of m) vs >>= λ c. answer (after-case vs c s) ])
+            (elim b [
+              | true ↦ answer (out-of-budget s)
+              | false ↦ checked (sizes q a u) m (cells-of m) vs >>= λ c. answer
+                  (after-case vs c s)
+            ])
             (checked (sizes q a u) m (cells-of m) vs >>= λ c. answer (after-case vs c s))
         by b e = rw e
 
@@ -139,7 +144,8 @@ module _ {f : List ℕ} {p : Plan} {q a u : ℕ} (x : Setting f p q a u) where
         told : Holds f (sortedT (s .reasons ++ spent-text ∷ [])) (r .reasons) w'
         told =
             subst (λ (l : List Text). Holds f l (r .reasons) w')
-            (ap (λ (l : List Text). insertT (render f (alone 387)) l) (h .reasons .texts) ∙ ap (λ (t : Text). insertT t (sortedT (s .reasons))) spent-is ∙ sorted-one (s .reasons) spent-text)
+            (ap (λ (l : List Text). insertT (render f (alone 387)) l) (h .reasons .texts)
+            ∙ ap (λ (t : Text). insertT t (sortedT (s .reasons))) spent-is ∙ sorted-one (s .reasons) spent-text)
             (k .reasons (few-reasons s o w h))
 
         held : Held x (out-of-budget s) r w'
@@ -160,9 +166,12 @@ module _ {f : List ℕ} {p : Plan} {q a u : ℕ} (x : Setting f p q a u) where
       EventAt f (p .ground .table) (x .indexed .ts) m table (placed .words) j (getD vs j none-such)
   events-at vs {placed} ps j h =
       let c = ps .chosen j h in
-      event-at-here f (p .index) m (x .is-accepted) (x .indexed) (placed .words) none-such vs (ps .words) j h (p .ground .table) table
-      (subst (Fine f (x .indexed .ts) (asc f (p .index) m (x .is-accepted) (x .indexed))) (sym (c .is)) (fine-here f (p .index) m (x .is-accepted) (x .indexed) Input.restart (c .place) (c .inside)))
-      (subst (λ (i : Input). check-input (m .scenario .entities) i ≡ accept) (sym (c .is)) (input-accepted f (p .index) m (x .is-accepted) (x .indexed) Input.restart (c .place) (c .inside)))
+      event-at-here f (p .index) m (x .is-accepted) (x .indexed) (placed .words) none-such vs (ps .words) j h
+      (p .ground .table) table
+      (subst (Fine f (x .indexed .ts) (asc f (p .index) m (x .is-accepted) (x .indexed))) (sym (c .is))
+      (fine-here f (p .index) m (x .is-accepted) (x .indexed) Input.restart (c .place) (c .inside)))
+      (subst (λ (i : Input). check-input (m .scenario .entities) i ≡ accept) (sym (c .is))
+      (input-accepted f (p .index) m (x .is-accepted) (x .indexed) Input.restart (c .place) (c .inside)))
 
 -- ---- the status of a check
 
@@ -217,7 +226,8 @@ module _ (vs : List Event) (b : Check) (s : verify.Search) where
 module _ {f : List ℕ} {p : Plan} {q a u : ℕ} {placed : Placed} {c : CheckResult}
     (ch : Cased f (p .index) (p .ground) (placed .words) (placed .count) c q a u)
     (x : Setting f p q a u) (vs : List Event) (ps : PlacedAs (x .indexed .ts) (x .m) vs placed)
-    (s : verify.Search) {o : Search} {w : List ℕ} (h : Held x s o w) (lc : o .cases < p .cases) (ls : o .steps < 200000) where
+    (s : verify.Search) {o : Search} {w : List ℕ} (h : Held x s o w) (lc : o .cases < p .cases)
+    (ls : o .steps < 200000) where
   abbrev plain : Answer Check
   plain = checked (sizes q a u) (x .m) (cells-of (x .m)) vs
 
@@ -228,7 +238,8 @@ module _ {f : List ℕ} {p : Plan} {q a u : ℕ} {placed : Placed} {c : CheckRes
   Promised = Tells f (x .m) c plain
 
   promised : Promised
-  promised = ch .does (x .m) (x .is-accepted) (x .indexed) (x .bytes) (x .grounds) none-such vs (events-at x vs ps) (ps .count)
+  promised = ch .does (x .m) (x .is-accepted) (x .indexed) (x .bytes) (x .grounds) none-such vs (events-at x vs ps)
+      (ps .count)
 
   answer-so : (b : Check) → plain ≡ answer b → here ≡ answer (after-case vs b s)
   unfolding _>>=_
@@ -245,7 +256,8 @@ module _ {f : List ℕ} {p : Plan} {q a u : ℕ} {placed : Placed} {c : CheckRes
   refusal-so n e = ap (λ (y : CheckResult). refusalV (y .status)) e ∙ refusal-no-check n
 
   -- the steps of a check
-  steps-of : (b : Check) → plain ≡ answer b → said.Shows f c b → {n : ℕ} → (c .simulation .steps ≤ 10000 → n ≡ o .steps + c .simulation .steps) →
+  steps-of : (b : Check) → plain ≡ answer b → said.Shows f c b → {n : ℕ}
+      → (c .simulation .steps ≤ 10000 → n ≡ o .steps + c .simulation .steps) →
       n ≡ s .total-steps + b .simulation .steps
   steps-of b e k g =
       let z : c .simulation .steps ≡ b .simulation .steps = k .simulation .steps in
@@ -259,16 +271,25 @@ module _ {f : List ℕ} {p : Plan} {q a u : ℕ} {placed : Placed} {c : CheckRes
       by (answers b y k ku ki) = absurd (z (e ∙ refusal-of b k))
       by (refuses j lo hi y k) =
           subst (λ (t : Answer verify.Search). Outcome x t r w) (sym (refuse-so j y))
-          (record { number = ap (λ (t : Search). t .refused) g ∙ e ∙ refusal-so j k; low = lo; high = hi; stopped = ap (λ (t : Search). t .stopped) g })
+          (record {
+            number = ap (λ (t : Search). t .refused) g ∙ e
+                ∙ refusal-so j k;
+            low = lo;
+            high = hi;
+            stopped = ap (λ (t : Search). t .stopped) g;
+          })
 
-  pub found-held : {n : ℕ} {v : Bool} {r : Search} → n ≡ refusalV (c .status) → n ≡ 0 → v ≡ violatesV (c .status) → v ≡ true →
+  pub found-held : {n : ℕ} {v : Bool} {r : Search} → n ≡ refusalV (c .status) → n ≡ 0 → v ≡ violatesV (c .status)
+      → v ≡ true →
       placed .count ≤ 5 → Found o placed (c .simulation .steps) r → Outcome x here r w
   found-held {n} {v} {r} e z d t five g = by promised
     where
       by : Promised → Outcome x here r w
       by (answers b y k ku ki) =
-          let violated : is-violation (b .status) ≡ true = sym (violates-as (b .status)) ∙ sym (ap violatesV (k .status-is)) ∙ sym d ∙ t in
-          subst (λ (t : Answer verify.Search). Outcome x t r w) (sym (answer-so b y ∙ ap answer (after-violation vs b s violated)))
+          let violated : is-violation (b .status) ≡ true = sym (violates-as (b .status))
+          ∙ sym (ap violatesV (k .status-is)) ∙ sym d ∙ t in
+          subst (λ (t : Answer verify.Search). Outcome x t r w)
+          (sym (answer-so b y ∙ ap answer (after-violation vs b s violated)))
           (record {
             fine = g .refused ∙ h .fine;
             cases = g .cases ∙ ap (λ (t : ℕ). t + 1) (h .cases);
@@ -286,27 +307,54 @@ module _ {f : List ℕ} {p : Plan} {q a u : ℕ} {placed : Placed} {c : CheckRes
           })
       by (refuses j lo hi y k) = absurd (omega (arith, e, z, refusal-so j k, lo))
 
-  pub other-held : {n : ℕ} {v : Bool} {count : ℕ} {r : Search} {w' : List ℕ} → n ≡ refusalV (c .status) → n ≡ 0 → v ≡ violatesV (c .status) → v ≡ false →
+  pub other-held : {n : ℕ} {v : Bool} {count : ℕ} {r : Search} {w' : List ℕ} → n ≡ refusalV (c .status) → n ≡ 0
+      → v ≡ violatesV (c .status) → v ≡ false →
       Gathers f (o .reasons) c w count w' → Other o count (c .simulation .steps) r → Outcome x here r w'
   other-held {n} {v} {count} {r} {w'} e z d t told g = by promised
     where
       by : Promised → Outcome x here r w'
       by (answers b y k ku ki) =
-          let fine-so : is-violation (b .status) ≡ false = sym (violates-as (b .status)) ∙ sym (ap violatesV (k .status-is)) ∙ sym d ∙ t in
+          let fine-so : is-violation (b .status) ≡ false = sym (violates-as (b .status))
+          ∙ sym (ap violatesV (k .status-is)) ∙ sym d ∙ t in
           let sized = ch .sized in
           let au = widen x (b .unknown) ku in
           let ai = widen x (b .incomplete) ki in
-          let first : insertAll (listed f (c .unknown) (c .unknowns)) (listed f (o .reasons) w) ≡ sortedT (b .unknown ++ s .reasons) = ap (λ (t : List Text). insertAll t (listed f (o .reasons) w)) (k .unknown .texts) ∙ ap (insertAll (b .unknown)) (h .reasons .texts) ∙ Rattle.reasons.proofs.Sorting.merged (b .unknown) (s .reasons) in
-          let few : length (insertAll (listed f (c .unknown) (c .unknowns)) (listed f (o .reasons) w)) ≤ 400 = omega (arith, ap length first, sorted-few (search-pool (x .m)) (b .unknown ++ s .reasons) (among-both (search-pool (x .m)) (b .unknown) (s .reasons) au (h .within)), pool-few x) in
-          let all : Holds f (insertAll (listed f (c .incomplete) (c .incompletes)) (insertAll (listed f (c .unknown) (c .unknowns)) (listed f (o .reasons) w))) count w' = told (few-reasons x s o w h) (sized .few-unknown) (sized .few-incomplete) few in
-          let same : insertAll (listed f (c .incomplete) (c .incompletes)) (insertAll (listed f (c .unknown) (c .unknowns)) (listed f (o .reasons) w)) ≡ sortedT (s .reasons ++ b .unknown ++ b .incomplete) = ap (λ (t : List Text). insertAll t (insertAll (listed f (c .unknown) (c .unknowns)) (listed f (o .reasons) w))) (k .incomplete .texts) ∙ ap (λ (t : List Text). insertAll (b .incomplete) (insertAll t (listed f (o .reasons) w))) (k .unknown .texts) ∙ ap (λ (t : List Text). insertAll (b .incomplete) (insertAll (b .unknown) t)) (h .reasons .texts) ∙ sorted-both (s .reasons) (b .unknown) (b .incomplete) in
-          subst (λ (t : Answer verify.Search). Outcome x t r w') (sym (answer-so b y ∙ ap answer (after-other vs b s fine-so)))
+          let first : insertAll (listed f (c .unknown) (c .unknowns)) (listed f (o .reasons) w)
+          ≡ sortedT (b .unknown ++ s .reasons) = ap (λ (t : List Text). insertAll t (listed f (o .reasons) w))
+          (k .unknown .texts) ∙ ap (insertAll (b .unknown)) (h .reasons .texts)
+          ∙ Rattle.reasons.proofs.Sorting.merged (b .unknown) (s .reasons) in
+          let few : length (insertAll (listed f (c .unknown) (c .unknowns)) (listed f (o .reasons) w)) ≤ 400 = omega (
+            arith,
+            ap length first,
+            sorted-few (search-pool (x .m)) (b .unknown ++ s .reasons)
+                (among-both (search-pool (x .m)) (b .unknown) (s .reasons) au (h .within)),
+            pool-few x,
+          ) in
+          let all : Holds f (insertAll (listed f (c .incomplete) (c .incompletes))
+          (insertAll (listed f (c .unknown) (c .unknowns)) (listed f (o .reasons) w))) count w' = told
+          (few-reasons x s o w h) (sized .few-unknown) (sized .few-incomplete) few in
+          let same : insertAll (listed f (c .incomplete) (c .incompletes))
+          (insertAll (listed f (c .unknown) (c .unknowns)) (listed f (o .reasons) w))
+          ≡ sortedT (s .reasons ++ b .unknown ++ b .incomplete) = ap
+          (λ (t : List Text). insertAll t (insertAll (listed f (c .unknown) (c .unknowns)) (listed f (o .reasons) w)))
+          (k .incomplete .texts) ∙ ap (λ (t : List Text). insertAll (b .incomplete)
+          (insertAll t (listed f (o .reasons) w))) (k .unknown .texts)
+          ∙ ap (λ (t : List Text). insertAll (b .incomplete) (insertAll (b .unknown) t)) (h .reasons .texts)
+          ∙ sorted-both (s .reasons) (b .unknown) (b .incomplete) in
+          subst (λ (t : Answer verify.Search). Outcome x t r w')
+          (sym (answer-so b y ∙ ap answer (after-other vs b s fine-so)))
           (record {
             fine = g .refused ∙ h .fine;
             cases = g .cases ∙ ap (λ (t : ℕ). t + 1) (h .cases);
             steps = steps-of b y k (g .steps);
-            reasons = subst (λ (t : List Text). Holds f t (r .reasons) w') (same ∙ sym (sorted-again (s .reasons ++ b .unknown ++ b .incomplete))) (subst (λ (t : ℕ). Holds f (insertAll (listed f (c .incomplete) (c .incompletes)) (insertAll (listed f (c .unknown) (c .unknowns)) (listed f (o .reasons) w))) t w') (sym (g .reasons)) all);
-            within = Rattle.checker_entry.proofs.Pool.sorted-among (search-pool (x .m)) (s .reasons ++ b .unknown ++ b .incomplete) (among-both (search-pool (x .m)) (s .reasons ++ b .unknown) (b .incomplete) (among-both (search-pool (x .m)) (s .reasons) (b .unknown) (h .within) au) ai);
+            reasons = subst (λ (t : List Text). Holds f t (r .reasons) w')
+                (same ∙ sym (sorted-again (s .reasons ++ b .unknown ++ b .incomplete)))
+                (subst (λ (t : ℕ). Holds f (insertAll (listed f (c .incomplete) (c .incompletes))
+                (insertAll (listed f (c .unknown) (c .unknowns)) (listed f (o .reasons) w))) t w') (sym (g .reasons)) all);
+            within = Rattle.checker_entry.proofs.Pool.sorted-among (search-pool (x .m))
+                (s .reasons ++ b .unknown ++ b .incomplete)
+                (among-both (search-pool (x .m)) (s .reasons ++ b .unknown) (b .incomplete)
+                (among-both (search-pool (x .m)) (s .reasons) (b .unknown) (h .within) au) ai);
             shortest = g .shortest ∙ h .shortest;
             stopped = g .stopped;
             witness = witness-stays x (s .witness) o r (g .found) (g .witness) (h .witness);

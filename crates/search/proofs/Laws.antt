@@ -1,7 +1,7 @@
 -- The laws that the proofs of this crate's functions cite, of what the code does.
 use Prim.Native.Nat.{ℕ, _+_, _*_, _/_, _%_, _≤_, _<_}
-use mathlib.Core.Path.{_≡_, refl, sym, ap, subst, _∙_}
-use mathlib.Core.List.{List, [], _∷_}
+use mathlib.Core.Path.{_≡_, ap, subst, _∙_}
+use mathlib.Core.List.{List, []}
 use native.Mathlib.Omega.{arith}
 use native.Mathlib.Nat.{mul-zero, mul-le-mul, mod-lt, div-lt-iff-lt-mul}
 use lib.ListN.{length, getD}
@@ -18,7 +18,6 @@ use Rattle.checker_entry.specs.declared.CheckResult.{CheckResult}
 use Rattle.search_inputs.specs.declared.Placed.{Placed}
 use Rattle.search_inputs.specs.Inputs.{lastV, Placing}
 use Rattle.search.specs.declared.Plan.{Plan}
-use Rattle.search.specs.declared.Search.{Search}
 use Rattle.search.specs.Parts.{AtMost, limitV, Fitted, Gathers, nextAt, Nexts}
 
 pub limit-is : (f : List ℕ) (i : Index) (k : ℕ) {p r : ℕ} → p ≡ cap (i .limits) → r ≡ four f (p + k) → r ≡ limitV f i k
@@ -30,29 +29,45 @@ limit-is f i k e h = h ∙ ap (λ (p : ℕ). four f (p + k)) e
 -- room for m reasons more
 pub merge-room : (f b : List ℕ) (m : ℕ) (a : List ℕ) (n : ℕ) → m * 5 ≤ length b → m + n ≤ 800 → length a ≡ 4000 →
     (m * 5 ≤ length b) × (length (insertAll (listed f m b) (listed f n a)) * 5 ≤ length a)
-merge-room f b m a n h o l =
-    (h, omega (arith, o, l, all-many (listed f m b) (listed f n a), listing.length-listed f m b, listing.length-listed f n a))
+merge-room f b m a n h o l = (
+  h,
+  omega (
+    arith,
+    o,
+    l,
+    all-many (listed f m b) (listed f n a),
+    listing.length-listed f m b,
+    listing.length-listed f n a,
+  ),
+)
 
 pub spent-reasons : (f w : List ℕ) {w' : List ℕ} {k n r : ℕ} {y : Reason} → AtMost k 400 n → y ≡ alone 387 →
-    Holds f (insertT (render f y) (listed f n w)) r w' → k ≤ 400 → Holds f (insertT (render f (alone 387)) (listed f k w)) r w'
+    Holds f (insertT (render f y) (listed f n w)) r w' → k ≤ 400
+    → Holds f (insertT (render f (alone 387)) (listed f k w)) r w'
 spent-reasons f w {w'} {k} {n} {r} a e h o =
     subst (λ (j : ℕ). Holds f (insertT (render f (alone 387)) (listed f j w)) r w') (a .same o)
     (subst (λ (z : Reason). Holds f (insertT (render f z) (listed f n w)) r w') e h)
 
-pub gathers-is : (f w : List ℕ) (n : ℕ) (c : CheckResult) {k many first j more r : ℕ} {w₁ w₂ : List ℕ} → AtMost n 400 k → AtMost (c .unknown) 400 many →
-    Holds f (insertAll (listed f many (c .unknowns)) (listed f k w)) first w₁ → AtMost first 400 j → AtMost (c .incomplete) 40 more →
+pub gathers-is : (f w : List ℕ) (n : ℕ) (c : CheckResult) {k many first j more r : ℕ} {w₁ w₂ : List ℕ} → AtMost n 400 k
+    → AtMost (c .unknown) 400 many →
+    Holds f (insertAll (listed f many (c .unknowns)) (listed f k w)) first w₁ → AtMost first 400 j
+    → AtMost (c .incomplete) 40 more →
     Holds f (insertAll (listed f more (c .incompletes)) (listed f j w₁)) r w₂ → Gathers f n c w r w₂
 gathers-is f w n c {k} {many} {first} {j} {more} {r} {w₁} {w₂} ak am h aj ao g on om oo few =
-    let h₁ : Holds f (insertAll (listed f (c .unknown) (c .unknowns)) (listed f n w)) first w₁ = subst (λ (i : ℕ). Holds f (insertAll (listed f i (c .unknowns)) (listed f n w)) first w₁) (am .same om) (subst (λ (i : ℕ). Holds f (insertAll (listed f many (c .unknowns)) (listed f i w)) first w₁) (ak .same on) h) in
+    let h₁ : Holds f (insertAll (listed f (c .unknown) (c .unknowns)) (listed f n w)) first w₁ = subst
+    (λ (i : ℕ). Holds f (insertAll (listed f i (c .unknowns)) (listed f n w)) first w₁) (am .same om)
+    (subst (λ (i : ℕ). Holds f (insertAll (listed f many (c .unknowns)) (listed f i w)) first w₁) (ak .same on) h) in
     let fj : j ≡ first = aj .same (omega (arith, h₁ .many, few)) in
     subst (λ (l : List Text). Holds f (insertAll (listed f (c .incomplete) (c .incompletes)) l) r w₂) (h₁ .texts)
     (subst (λ (i : ℕ). Holds f (insertAll (listed f i (c .incompletes)) (listed f first w₁)) r w₂) (ao .same oo)
     (subst (λ (i : ℕ). Holds f (insertAll (listed f more (c .incompletes)) (listed f i w₁)) r w₂) fj g))
 
 pub begins-reasons : (f w : List ℕ) {w' : List ℕ} (g : Ground) {n r : ℕ} → AtMost (g .count) 300 n →
-    Holds f (insertAll (listed f n (g .reasons)) (listed f 0 w)) r w' → g .count ≤ 300 → Holds f (insertAll (listed f (g .count) (g .reasons)) []) r w'
+    Holds f (insertAll (listed f n (g .reasons)) (listed f 0 w)) r w' → g .count ≤ 300
+    → Holds f (insertAll (listed f (g .count) (g .reasons)) []) r w'
 unfolding reasons
-begins-reasons f w {w'} g {n} {r} a h o = subst (λ (j : ℕ). Holds f (insertAll (listed f j (g .reasons)) []) r w') (a .same o) h
+begins-reasons f w {w'} g {n} {r} a h o = subst (λ (j : ℕ). Holds f (insertAll (listed f j (g .reasons)) []) r w')
+    (a .same o) h
 
 -- ---- pairs of a gap and an input
 
@@ -71,10 +86,12 @@ module _ (k g i : ℕ) (h : k < g * i) where
   input-below = mod-lt k some-inputs
 
 pub next-is : (p : Plan) (placed : Placed) (k : ℕ) {last at : ℕ} {r : Placed} → last ≡ lastV placed →
-    at ≡ cap (last + getD (p .gaps .seconds) (k / p .alphabet .count) 0) → Placing placed at (p .alphabet) (k % p .alphabet .count) r → Nexts p placed k r
+    at ≡ cap (last + getD (p .gaps .seconds) (k / p .alphabet .count) 0)
+    → Placing placed at (p .alphabet) (k % p .alphabet .count) r → Nexts p placed k r
 unfolding nextAt
 next-is p placed k {last} {at} {r} e a h =
-    subst (λ (y : ℕ). Placing placed y (p .alphabet) (k % p .alphabet .count) r) (a ∙ ap (λ (y : ℕ). cap (y + getD (p .gaps .seconds) (k / p .alphabet .count) 0)) e) h
+    subst (λ (y : ℕ). Placing placed y (p .alphabet) (k % p .alphabet .count) r)
+    (a ∙ ap (λ (y : ℕ). cap (y + getD (p .gaps .seconds) (k / p .alphabet .count) 0)) e) h
 
 -- at most 4 gaps and 12 inputs
 pub few-pairs : (g i : ℕ) → g ≤ 4 → i ≤ 12 → g * i ≤ 48

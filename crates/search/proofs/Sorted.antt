@@ -1,7 +1,7 @@
 -- Reasons sorted without doubles: how many there are, and that sorting them again changes nothing.
-use Prim.Native.Nat.{ℕ, suc, _+_, _≤_}
-use mathlib.Core.Path.{_≡_, refl, sym, ap, subst, _∙_}
-use mathlib.Core.Bool.{Bool, true, false, _||_}
+use Prim.Native.Nat.{ℕ, _+_, _≤_}
+use mathlib.Core.Path.{_≡_, refl, sym, ap, _∙_}
+use mathlib.Core.Bool.{true, false}
 use mathlib.Core.List.{List, [], _∷_, _++_, append-nil, append-assoc}
 use native.Mathlib.Omega.{arith}
 use lib.Dec.{eqb}
@@ -11,11 +11,24 @@ use Rattle.texts.specs.Lists.{is-empty, any}
 use Rattle.texts.specs.Texts.{Text, eqT, memT, insertT, sortedT}
 use Rattle.reasons.specs.Lists.{insertAll}
 use Rattle.reasons.proofs.Bound as bound
-use Rattle.reasons.proofs.Bound.{here, there, Distinct, more, Rising, stop, step, Ascending, empty, from, ascending-insert, ascending-distinct}
+use Rattle.reasons.proofs.Bound.{
+  here,
+  there,
+  Distinct,
+  more,
+  Rising,
+  step,
+  Ascending,
+  empty,
+  from,
+  ascending-insert,
+  ascending-distinct,
+}
 use Rattle.reasons.proofs.Listing as listing
 use Rattle.reasons.proofs.Sorting.{in-front, alone, merged, either-way, anywhere}
 use Rattle.engine.proofs.Lists.{Case, is-true, is-false, case, eqT-eq}
-use Rattle.engine_places.proofs.Pigeons.{Differ, Among, at-most}
+use Rattle.engine_places.specs.Events.{Among}
+use Rattle.engine_places.proofs.Pigeons.{Differ, at-most}
 use Rattle.checker_entry.proofs.Pool.{sorted-among}
 
 mem-in : (x : Text) (l : List Text) → memT x l ≡ true → bound.Among x l
@@ -42,7 +55,8 @@ sorted-ascends (t ∷ l) = ascending-insert t (sorted-ascends l)
 
 -- no more than the pool has
 pub sorted-few : (pool l : List Text) → Among pool l → length (sortedT l) ≤ length pool
-sorted-few pool l a = at-most (sortedT l) pool (differs (sortedT l) (ascending-distinct (sorted-ascends l))) (sorted-among pool l a)
+sorted-few pool l a = at-most (sortedT l) pool (differs (sortedT l) (ascending-distinct (sorted-ascends l)))
+    (sorted-among pool l a)
 
 rising-again : {x : Text} (l : List Text) → Rising x l → sortedT l ≡ l
 unfolding sortedT
@@ -82,7 +96,8 @@ sorted-both l a b =
         by = merged (a ++ l) b ∙ either-way (a ++ l) b ∙ ap sortedT (sym (append-assoc b a l)) ∙ front
           where
             front : sortedT ((b ++ a) ++ l) ≡ sortedT ((a ++ b) ++ l)
-            front = either-way (b ++ a) l ∙ sym (merged l (b ++ a)) ∙ ap (insertAll l) (either-way b a) ∙ merged l (a ++ b) ∙ either-way l (a ++ b)
+            front = either-way (b ++ a) l ∙ sym (merged l (b ++ a)) ∙ ap (insertAll l) (either-way b a)
+                ∙ merged l (a ++ b) ∙ either-way l (a ++ b)
 
 -- one text behind the others
 pub sorted-one : (l : List Text) (t : Text) → insertT t (sortedT l) ≡ sortedT (l ++ t ∷ [])
@@ -97,7 +112,3 @@ sorted-none (t ∷ l) {n} e = ne-eqb n 0 (λ z. absurd (omega (arith, z, e, some
     some : (k : List Text) → 1 ≤ length (insertT t k)
     some [] = omega (arith, ap length (alone t))
     some (y ∷ k) = omega (arith, listing.length-insert t (y ∷ k))
-
-pub among-both : (p l k : List Text) → Among p l → Among p k → Among p (l ++ k)
-among-both p [] k a b = b
-among-both p (t ∷ l) k a b = (a .0, among-both p l k (a .1) b)

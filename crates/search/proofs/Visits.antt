@@ -1,12 +1,12 @@
 -- Visits of the code's search are the definition's: the events placed, the walk over the pairs, the depths.
-use Prim.Native.Nat.{ℕ, zero, suc, _+_, _-_, _*_, _/_, _%_, _≤_, _<_}
+use Prim.Native.Nat.{ℕ, suc, _+_, _-_, _*_, _/_, _%_, _≤_, _<_}
 use mathlib.Core.Path.{_≡_, refl, sym, ap, subst, _∙_}
-use mathlib.Core.Bool.{Bool, true, false}
+use mathlib.Core.Bool.{true, false}
 use mathlib.Core.List.{List, [], _∷_, _++_}
 use native.Mathlib.Omega.{arith}
 use native.Mathlib.Decide.{decLt}
 use native.Mathlib.Numerals.{add-one}
-use lib.Dec.{ltb, eqb}
+use lib.Dec.{ltb}
 use lib.ListN.{length, getD, replicate, length-append, List·getD-append}
 use lib.Seq.{getD-append-add}
 use borrow.Author.Tests.{lt-ltb, le-ltb, ne-eqb}
@@ -20,16 +20,29 @@ use Rattle.engine_reads.specs.Reads.{cap}
 use Rattle.engine_places.proofs.Numbers.{cap-is}
 use Rattle.checker.specs.Verify as verify
 use Rattle.checker.specs.Verify.{last-at, unless-stopped}
-use Rattle.search_inputs.specs.declared.Alphabet.{Alphabet}
 use Rattle.search_inputs.specs.declared.Placed.{Placed}
-use Rattle.search_inputs.specs.Inputs.{input-words, event-words, gap-words, lastV, placing, Placing}
+use Rattle.search_inputs.specs.Inputs.{input-words, event-words, gap-words, lastV, placing}
 use Rattle.search_inputs.proofs.Means.{input-size, event-size, gap-size}
 use Rattle.search.specs.declared.Plan.{Plan}
 use Rattle.search.specs.declared.Search.{Search}
 use Rattle.search.specs.Parts.{nextAt, Nexts}
-use Rattle.search.specs.Meaning.{none-such, cells-of, sizes, Setting, Chosen, PlacedAs, Held, Refused, Outcome, walked, guarded, next-event, step}
+use Rattle.search.specs.Meaning.{
+  none-such,
+  cells-of,
+  sizes,
+  Setting,
+  Chosen,
+  PlacedAs,
+  Held,
+  Refused,
+  Outcome,
+  walked,
+  guarded,
+  next-event,
+  step,
+}
 use Rattle.search.specs.Contracts.{Tries, Visits, Walks, Depths, Deepens}
-use Rattle.search.proofs.Laws.{some-inputs, gap-below, input-below}
+use Rattle.search.proofs.Laws.{gap-below, input-below}
 use Rattle.search.proofs.Walk.{walk-same, guarded-late, guarded-stopped, guarded-in, visit-walk, deepen-walk}
 
 -- ---- the events placed
@@ -47,7 +60,11 @@ three-words ts Input.restart = refl
 three-words ts reload = refl
 
 pub none-placed : (ts : List Text) (m : Model) → PlacedAs ts m [] (record { count = 0; words = replicate 20 0 })
-none-placed ts m = record { count = refl; words = sym (areas.area-none (event-words ts) 20); chosen = λ j h. absurd (omega arith) }
+none-placed ts m = record {
+  count = refl;
+  words = sym (areas.area-none (event-words ts) 20);
+  chosen = λ j h. absurd (omega arith);
+}
 
 module _ {f : List ℕ} {p : Plan} {q a u : ℕ} (x : Setting f p q a u) where
   abbrev m : Model
@@ -74,7 +91,8 @@ module _ {f : List ℕ} {p : Plan} {q a u : ℕ} (x : Setting f p q a u) where
       ∙ areas.word-is (event-words ts) 4 (event-size ts) 20 (v ∷ vs) (length vs) 0 none-such (omega arith) (omega arith)
       ∙ sym (last-nth v vs none-such))
 
-  module _ (vs : List Event) (placed : Placed) (ps : PlacedAs ts m vs placed) (room : placed .count < 5) (k : ℕ) (h : k < p .gaps .count * p .alphabet .count) (soon : lastV placed ≤ p .horizon) where
+  module _ (vs : List Event) (placed : Placed) (ps : PlacedAs ts m vs placed) (room : placed .count < 5) (k : ℕ)
+      (h : k < p .gaps .count * p .alphabet .count) (soon : lastV placed ≤ p .horizon) where
     pairs : k < length gs * length is
     pairs = subst (λ (n : ℕ). k < n * length is) (x .gaps) (subst (λ (n : ℕ). k < p .gaps .count * n) (x .inputs) h)
 
@@ -96,28 +114,36 @@ module _ {f : List ℕ} {p : Plan} {q a u : ℕ} (x : Setting f p q a u) where
     unfolding nextAt next-event
     second-is =
         let e = last-is vs placed ps in
-        let l : lastV placed + getD gs (k / length is) 0 ≤ 4294967295 = omega (arith, soon, x .horizon, x .day-long, x .short (k / length is) at-gap) in
+        let l : lastV placed + getD gs (k / length is) 0 ≤ 4294967295 = omega
+        (arith, soon, x .horizon, x .day-long, x .short (k / length is) at-gap) in
         ap (λ (n : ℕ). cap (lastV placed + getD (p .gaps .seconds) (k / n) 0)) (x .inputs)
         ∙ ap (λ (n : ℕ). cap (lastV placed + n)) gap-is
         ∙ cap-is (lastV placed + getD gs (k / length is) 0) l
         ∙ ap (λ (n : ℕ). n + getD gs (k / length is) 0) e
 
-    input-word-is : (j i : ℕ) → j < length is → i < 3 → getD (p .alphabet .words) (j * 3 + i) 0 ≡ getD (input-words ts (getD is j Input.restart)) i 0
+    input-word-is : (j i : ℕ) → j < length is → i < 3
+        → getD (p .alphabet .words) (j * 3 + i) 0 ≡ getD (input-words ts (getD is j Input.restart)) i 0
     input-word-is j i g o =
         ap (λ (l : List ℕ). getD l (j * 3 + i) 0) (x .words)
         ∙ areas.word-is (input-words ts) 3 (input-size ts) 36 is j i Input.restart g o
 
-    placing-is : placing (nextAt p placed k) (p .alphabet) (k % p .alphabet .count) ≡ event-words ts (next-event (sizes q a u) m vs k)
+    placing-is : placing (nextAt p placed k) (p .alphabet) (k % p .alphabet .count)
+        ≡ event-words ts (next-event (sizes q a u) m vs k)
     unfolding placing event-words next-event
     placing-is =
         let j = k % length is in
         let z : j * 3 ≡ j * 3 + 0 = omega arith in
-        let w : (i : ℕ) → i < 3 → getD (p .alphabet .words) (j * 3 + i) 0 ≡ getD (input-words ts (getD is j Input.restart)) i 0 = λ i o. input-word-is j i at-input o in
+        let w : (i : ℕ) → i < 3 → getD (p .alphabet .words) (j * 3 + i) 0
+        ≡ getD (input-words ts (getD is j Input.restart)) i 0 = λ i o. input-word-is j i at-input o in
         ap (λ (n : ℕ). placing (nextAt p placed k) (p .alphabet) (k % n)) (x .inputs)
-        ∙ ap (λ (n : ℕ). n ∷ getD (p .alphabet .words) (j * 3) 0 ∷ getD (p .alphabet .words) (j * 3 + 1) 0 ∷ getD (p .alphabet .words) (j * 3 + 2) 0 ∷ []) second-is
-        ∙ ap (λ (n : ℕ). next-event (sizes q a u) m vs k .at ∷ n ∷ getD (p .alphabet .words) (j * 3 + 1) 0 ∷ getD (p .alphabet .words) (j * 3 + 2) 0 ∷ []) (ap (λ (n : ℕ). getD (p .alphabet .words) n 0) z ∙ w 0 (omega arith))
-        ∙ ap (λ (n : ℕ). next-event (sizes q a u) m vs k .at ∷ getD (input-words ts (getD is j Input.restart)) 0 0 ∷ n ∷ getD (p .alphabet .words) (j * 3 + 2) 0 ∷ []) (w 1 (omega arith))
-        ∙ ap (λ (n : ℕ). next-event (sizes q a u) m vs k .at ∷ getD (input-words ts (getD is j Input.restart)) 0 0 ∷ getD (input-words ts (getD is j Input.restart)) 1 0 ∷ n ∷ []) (w 2 (omega arith))
+        ∙ ap (λ (n : ℕ). n ∷ getD (p .alphabet .words) (j * 3) 0 ∷ getD (p .alphabet .words) (j * 3 + 1) 0
+        ∷ getD (p .alphabet .words) (j * 3 + 2) 0 ∷ []) second-is
+        ∙ ap (λ (n : ℕ). next-event (sizes q a u) m vs k .at ∷ n ∷ getD (p .alphabet .words) (j * 3 + 1) 0
+        ∷ getD (p .alphabet .words) (j * 3 + 2) 0 ∷ []) (ap (λ (n : ℕ). getD (p .alphabet .words) n 0) z ∙ w 0 (omega arith))
+        ∙ ap (λ (n : ℕ). next-event (sizes q a u) m vs k .at ∷ getD (input-words ts (getD is j Input.restart)) 0 0 ∷ n
+        ∷ getD (p .alphabet .words) (j * 3 + 2) 0 ∷ []) (w 1 (omega arith))
+        ∙ ap (λ (n : ℕ). next-event (sizes q a u) m vs k .at ∷ getD (input-words ts (getD is j Input.restart)) 0 0
+        ∷ getD (input-words ts (getD is j Input.restart)) 1 0 ∷ n ∷ []) (w 2 (omega arith))
         ∙ ap (λ (l : List ℕ). next-event (sizes q a u) m vs k .at ∷ l) (three-words ts (getD is j Input.restart))
 
     abbrev more : List Event
@@ -126,12 +152,14 @@ module _ {f : List ℕ} {p : Plan} {q a u : ℕ} (x : Setting f p q a u) where
     chosen-next : (j : ℕ) → j < length more → Chosen is (getD more j none-such .input)
     unfolding next-event
     chosen-next j o = elim (decLt j (length vs)) [
-      | yes l ↦ subst (λ (e : Event). Chosen is (e .input)) (sym (List·getD-append vs (next-event (sizes q a u) m vs k ∷ []) none-such j l)) (ps .chosen j l)
+      | yes l ↦ subst (λ (e : Event). Chosen is (e .input))
+          (sym (List·getD-append vs (next-event (sizes q a u) m vs k ∷ []) none-such j l)) (ps .chosen j l)
       | no l ↦
           let n = length-append vs (next-event (sizes q a u) m vs k ∷ []) in
           let e : length vs + 0 ≡ j = omega (arith, o, n, l) in
           subst (λ (i : ℕ). Chosen is (getD more i none-such .input)) e
-          (subst (λ (y : Event). Chosen is (y .input)) (sym (getD-append-add vs (next-event (sizes q a u) m vs k ∷ []) 0 none-such))
+          (subst (λ (y : Event). Chosen is (y .input))
+          (sym (getD-append-add vs (next-event (sizes q a u) m vs k ∷ []) 0 none-such))
           (record { place = k % length is; inside = at-input; is = refl }))
     ]
 
@@ -140,9 +168,11 @@ module _ {f : List ℕ} {p : Plan} {q a u : ℕ} (x : Setting f p q a u) where
       count = g .count ∙ omega (arith, ps .count, length-append vs (next-event (sizes q a u) m vs k ∷ []));
       words =
           g .words
-          ∙ ap (λ (l : List ℕ). written l (placed .count * 4) (placing (nextAt p placed k) (p .alphabet) (k % p .alphabet .count))) (ps .words)
+          ∙ ap (λ (l : List ℕ). written l (placed .count * 4)
+          (placing (nextAt p placed k) (p .alphabet) (k % p .alphabet .count))) (ps .words)
           ∙ ap (λ (l : List ℕ). written (area (event-words ts) 20 vs) (placed .count * 4) l) placing-is
-          ∙ areas.push-is (event-words ts) 4 (event-size ts) 20 vs (next-event (sizes q a u) m vs k) (placed .count) (sym (ps .count)) (omega arith);
+          ∙ areas.push-is (event-words ts) 4 (event-size ts) 20 vs (next-event (sizes q a u) m vs k) (placed .count)
+          (sym (ps .count)) (omega arith);
       chosen = chosen-next;
     }
 
@@ -154,14 +184,17 @@ module _ {f : List ℕ} {p : Plan} {q a u : ℕ} (x : Setting f p q a u) where
 
     pub stopped-does : o .stopped ≡ true → Outcome x visited o w
     stopped-does e =
-        subst (λ (y : Answer verify.Search). Outcome x y o w) (sym (guarded-stopped (sizes q a u) m n vs s (sym (h .stopped) ∙ e))) h
+        subst (λ (y : Answer verify.Search). Outcome x y o w)
+        (sym (guarded-stopped (sizes q a u) m n vs s (sym (h .stopped) ∙ e))) h
 
     going : o .stopped ≡ false → s .stopped ≡ false
     going e = sym (h .stopped) ∙ e
 
-    pub late-does : (placed : Placed) → PlacedAs ts m vs placed → o .stopped ≡ false → p .horizon < lastV placed → Outcome x visited o w
+    pub late-does : (placed : Placed) → PlacedAs ts m vs placed → o .stopped ≡ false → p .horizon < lastV placed
+        → Outcome x visited o w
     late-does placed ps e l =
-        let g : ltb (m .scenario .limits .horizon) (last-at vs) ≡ true = lt-ltb (m .scenario .limits .horizon) (last-at vs) (omega (arith, l, x .horizon, last-is vs placed ps)) in
+        let g : ltb (m .scenario .limits .horizon) (last-at vs)
+        ≡ true = lt-ltb (m .scenario .limits .horizon) (last-at vs) (omega (arith, l, x .horizon, last-is vs placed ps)) in
         subst (λ (y : Answer verify.Search). Outcome x y o w) (sym (guarded-late (sizes q a u) m n vs s g)) h
 
     in-time : (placed : Placed) → PlacedAs ts m vs placed → o .stopped ≡ false → lastV placed ≤ p .horizon →
@@ -169,7 +202,8 @@ module _ {f : List ℕ} {p : Plan} {q a u : ℕ} (x : Setting f p q a u) where
     unfolding unless-stopped
     in-time placed ps e l =
         let z = going e in
-        guarded-in (sizes q a u) m n vs s (le-ltb (m .scenario .limits .horizon) (last-at vs) (omega (arith, l, x .horizon, last-is vs placed ps)))
+        guarded-in (sizes q a u) m n vs s (le-ltb (m .scenario .limits .horizon) (last-at vs)
+        (omega (arith, l, x .horizon, last-is vs placed ps)))
         ∙ rw z
 
 visit-none : (areas : Areas) (m : Model) (vs : List Event) (s : verify.Search) →
@@ -181,23 +215,29 @@ never : {A : Type 0} (o : Search) → o .stopped ≡ false → o .stopped ≡ tr
 never o e g = let z : true ≡ false = sym g ∙ e in let y : _≡_ {A = ℕ} 0 1 = cc in absurd (omega arith)
 
 module _ {f : List ℕ} {p : Plan} where
-  pub stays-so : {n : ℕ} {placed : Placed} {o : Search} {w : List ℕ} {q a u : ℕ} → o .stopped ≡ true → Visits f p n placed o w o w q a u
+  pub stays-so : {n : ℕ} {placed : Placed} {o : Search} {w : List ℕ} {q a u : ℕ} → o .stopped ≡ true
+      → Visits f p n placed o w o w q a u
   stays-so {n} {placed} {o} e = record {
     stays = λ y. (refl, refl);
     does = λ x vs ps s h. stopped-does x n vs s h e;
   }
 
-  pub late-so : {n : ℕ} {placed : Placed} {o : Search} {w : List ℕ} {q a u : ℕ} → o .stopped ≡ false → p .horizon < lastV placed → Visits f p n placed o w o w q a u
+  pub late-so : {n : ℕ} {placed : Placed} {o : Search} {w : List ℕ} {q a u : ℕ} → o .stopped ≡ false
+      → p .horizon < lastV placed → Visits f p n placed o w o w q a u
   late-so {n} {placed} {o} e l = record {
     stays = λ y. (refl, refl);
     does = λ x vs ps s h. late-does x n vs s h placed ps e l;
   }
 
-  pub case-so : {n : ℕ} {placed : Placed} {o : Search} {w : List ℕ} {r : Search} {w' : List ℕ} {q a u : ℕ} → o .stopped ≡ false → lastV placed ≤ p .horizon → n ≡ 0 →
+  pub case-so : {n : ℕ} {placed : Placed} {o : Search} {w : List ℕ} {r : Search} {w' : List ℕ} {q a u : ℕ}
+      → o .stopped ≡ false → lastV placed ≤ p .horizon → n ≡ 0 →
       Tries f p placed o w r w' q a u → Visits f p n placed o w r w' q a u
   case-so {n} {placed} {o} {w} {r} {w'} {q} {a} {u} e l z t = record {
     stays = λ y. never o e y;
-    does = λ x vs ps s h. subst (λ (y : Answer verify.Search). Outcome x y r w') (sym (in-time x n vs s h placed ps e l ∙ ap (λ (i : ℕ). verify.visit (sizes q a u) (x .m) (cells-of (x .m)) i vs s) z ∙ visit-none (sizes q a u) (x .m) vs s)) (t .does x vs ps s h);
+    does = λ x vs ps s h. subst (λ (y : Answer verify.Search). Outcome x y r w')
+        (sym (in-time x n vs s h placed ps e l
+        ∙ ap (λ (i : ℕ). verify.visit (sizes q a u) (x .m) (cells-of (x .m)) i vs s) z
+        ∙ visit-none (sizes q a u) (x .m) vs s)) (t .does x vs ps s h);
   }
 
   -- ---- the walk
@@ -207,7 +247,8 @@ module _ {f : List ℕ} {p : Plan} where
   walk-start = record { does = λ x vs ps s h. h }
 
   module _ {n : ℕ} {placed : Placed} {o : Search} {w : List ℕ} {k : ℕ} {t : Search} {w₁ : List ℕ} {q a u : ℕ} where
-    pub walk-next : k < p .gaps .count * p .alphabet .count → lastV placed ≤ p .horizon → placed .count < 5 → {next : Placed} → Nexts p placed k next →
+    pub walk-next : k < p .gaps .count * p .alphabet .count → lastV placed ≤ p .horizon → placed .count < 5
+        → {next : Placed} → Nexts p placed k next →
         Walks f p n placed o w k t w₁ q a u → {r : Search} {w₂ : List ℕ} {q' a' u' : ℕ} → q' ≡ q → a' ≡ a → u' ≡ u →
         Visits f p n next t w₁ r w₂ q' a' u' → Walks f p n placed o w (k + 1) r w₂ q a u
     unfolding walked step _>>=_
@@ -218,20 +259,27 @@ module _ {f : List ℕ} {p : Plan} where
     }
       where
         v : Visits f p n next t w₁ r w₂ q a u
-        v = subst (λ (i : ℕ). Visits f p n next t w₁ r w₂ i a u) eq (subst (λ (i : ℕ). Visits f p n next t w₁ r w₂ q' i u) ea (subst (λ (i : ℕ). Visits f p n next t w₁ r w₂ q' a' i) eu v₀))
+        v = subst (λ (i : ℕ). Visits f p n next t w₁ r w₂ i a u) eq
+            (subst (λ (i : ℕ). Visits f p n next t w₁ r w₂ q' i u) ea
+            (subst (λ (i : ℕ). Visits f p n next t w₁ r w₂ q' a' i) eu v₀))
 
-        by : (x : Setting f p q a u) (vs : List Event) → PlacedAs (x .indexed .ts) (x .m) vs placed → (y : Answer verify.Search) →
+        by : (x : Setting f p q a u) (vs : List Event) → PlacedAs (x .indexed .ts) (x .m) vs placed
+            → (y : Answer verify.Search) →
             Outcome x y t w₁ → Outcome x (y >>= step (sizes q a u) (x .m) n vs k) r w₂
-        by x vs ps (answer z) held = v .does x (vs ++ next-event (sizes q a u) (x .m) vs k ∷ []) (placed-next x vs placed ps room k less soon next g) z held
+        by x vs ps (answer z) held = v .does x (vs ++ next-event (sizes q a u) (x .m) vs k ∷ [])
+            (placed-next x vs placed ps room k less soon next g) z held
         by x vs ps (refused j) y = subst (Refused x j) (sym (v .stays (y .stopped) .0)) y
 
-    pub walk-end : (l : ℕ) → (l ≡ 0 → ⊥) → n ≡ l - 1 → o .stopped ≡ false → lastV placed ≤ p .horizon → p .gaps .count * p .alphabet .count ≤ k → k ≤ p .gaps .count * p .alphabet .count →
+    pub walk-end : (l : ℕ) → (l ≡ 0 → ⊥) → n ≡ l - 1 → o .stopped ≡ false → lastV placed ≤ p .horizon
+        → p .gaps .count * p .alphabet .count ≤ k → k ≤ p .gaps .count * p .alphabet .count →
         Walks f p n placed o w k t w₁ q a u → Visits f p l placed o w t w₁ q a u
     walk-end l some e open-so soon low high walks = record {
       stays = λ y. never o open-so y;
       does = λ x vs ps s h.
           let more : l ≡ suc n = omega arith in
-          let all : length (x .m .scenario .gaps) * length (x .m .scenario .alphabet) ≡ k = sym (ap (λ (i : ℕ). p .gaps .count * i) (x .inputs) ∙ ap (λ (i : ℕ). i * length (x .m .scenario .alphabet)) (x .gaps)) ∙ omega (arith, low, high) in
+          let all : length (x .m .scenario .gaps) * length (x .m .scenario .alphabet)
+          ≡ k = sym (ap (λ (i : ℕ). p .gaps .count * i) (x .inputs)
+          ∙ ap (λ (i : ℕ). i * length (x .m .scenario .alphabet)) (x .gaps)) ∙ omega (arith, low, high) in
           subst (λ (y : Answer verify.Search). Outcome x y t w₁)
           (sym (in-time x l vs s h placed ps open-so soon
           ∙ ap (λ (i : ℕ). verify.visit (sizes q a u) (x .m) (cells-of (x .m)) i vs s) more
@@ -257,9 +305,12 @@ module _ {f : List ℕ} {p : Plan} where
     }
       where
         v : Visits f p d (record { count = 0; words = replicate 20 0 }) t w₁ r w₂ q a u
-        v = subst (λ (i : ℕ). Visits f p d (record { count = 0; words = replicate 20 0 }) t w₁ r w₂ i a u) eq (subst (λ (i : ℕ). Visits f p d (record { count = 0; words = replicate 20 0 }) t w₁ r w₂ q' i u) ea (subst (λ (i : ℕ). Visits f p d (record { count = 0; words = replicate 20 0 }) t w₁ r w₂ q' a' i) eu v₀))
+        v = subst (λ (i : ℕ). Visits f p d (record { count = 0; words = replicate 20 0 }) t w₁ r w₂ i a u) eq
+            (subst (λ (i : ℕ). Visits f p d (record { count = 0; words = replicate 20 0 }) t w₁ r w₂ q' i u) ea
+            (subst (λ (i : ℕ). Visits f p d (record { count = 0; words = replicate 20 0 }) t w₁ r w₂ q' a' i) eu v₀))
 
-        by : (x : Setting f p q a u) (y : Answer verify.Search) → Outcome x y t w₁ → Outcome x (y >>= guarded (sizes q a u) (x .m) d []) r w₂
+        by : (x : Setting f p q a u) (y : Answer verify.Search) → Outcome x y t w₁
+            → Outcome x (y >>= guarded (sizes q a u) (x .m) d []) r w₂
         by x (answer z) held = v .does x [] (none-placed (x .indexed .ts) (x .m)) z held
         by x (refused j) y = subst (Refused x j) (sym (v .stays (y .stopped) .0)) y
 
@@ -269,7 +320,8 @@ module _ {f : List ℕ} {p : Plan} where
           let e : d ≡ suc depth = omega arith in
           subst (λ (y : Answer verify.Search). Outcome x y t w₁)
           (ap (λ (i : ℕ). walked (λ d. guarded (sizes q a u) (x .m) d []) i s) e
-          ∙ walk-same (λ d. guarded (sizes q a u) (x .m) d []) (λ j. guarded (sizes q a u) (x .m) (0 + j) []) (suc depth) (λ j l y. let z : j ≡ 0 + j = omega arith in ap (λ (i : ℕ). guarded (sizes q a u) (x .m) i [] y) z) s
+          ∙ walk-same (λ d. guarded (sizes q a u) (x .m) d []) (λ j. guarded (sizes q a u) (x .m) (0 + j) [])
+          (suc depth) (λ j l y. let z : j ≡ 0 + j = omega arith in ap (λ (i : ℕ). guarded (sizes q a u) (x .m) i [] y) z) s
           ∙ sym (deepen-walk (sizes q a u) (x .m) (suc depth) 0 s))
           (depths .does x s h);
     }

@@ -1,5 +1,5 @@
 -- The definition's loops over gaps, inputs and depths are walks, one step after another.
-use Prim.Native.Nat.{ℕ, zero, suc, _+_, _*_, _/_, _%_, _≤_, _<_}
+use Prim.Native.Nat.{ℕ, zero, suc, _+_, _*_, _/_, _%_, _<_}
 use mathlib.Core.Path.{_≡_, refl, sym, ap, _∙_}
 use mathlib.Core.Bool.{Bool, true, false}
 use mathlib.Core.List.{List, [], _∷_, _++_}
@@ -12,8 +12,8 @@ use Rattle.model.specs.Answer.{Answer, answer, refused, _>>=_}
 use Rattle.model.specs.Model.{Input, Event, Model}
 use Rattle.engine.specs.Records.{Areas}
 use Rattle.engine.proofs.Lists.{Case, is-true, is-false, case}
-use Rattle.checker.specs.Verify.{Search, last-at, unless-stopped, each-input, each-gap, visit, deepen, Visitor}
-use Rattle.search.specs.Meaning.{none-such, cells-of, walked, guarded, next-event, step}
+use Rattle.checker.specs.Verify.{Search, last-at, unless-stopped, each-input, each-gap, visit, deepen}
+use Rattle.search.specs.Meaning.{cells-of, walked, guarded, next-event, step}
 
 abbrev Steps : Type 0
 Steps = ℕ → Search → Answer Search
@@ -36,7 +36,8 @@ bind-none (answer s) = refl
 bind-none (refused n) = refl
 
 -- the same steps, the same walk
-pub walk-same : (g h : Steps) (k : ℕ) → ((j : ℕ) → j < k → (s : Search) → g j s ≡ h j s) → (s : Search) → walked g k s ≡ walked h k s
+pub walk-same : (g h : Steps) (k : ℕ) → ((j : ℕ) → j < k → (s : Search) → g j s ≡ h j s) → (s : Search)
+    → walked g k s ≡ walked h k s
 unfolding walked
 walk-same g h zero e s = refl
 walk-same g h (suc k) e s =
@@ -83,12 +84,17 @@ module _ (areas : Areas) (m : Model) where
   abbrev horizon : ℕ
   horizon = m .scenario .limits .horizon
 
-  pub guarded-late : (n : ℕ) (vs : List Event) (s : Search) → ltb horizon (last-at vs) ≡ true → guarded areas m n vs s ≡ answer s
+  pub guarded-late : (n : ℕ) (vs : List Event) (s : Search) → ltb horizon (last-at vs) ≡ true
+      → guarded areas m n vs s ≡ answer s
   unfolding guarded
   guarded-late n vs s h = by (s .stopped) h
     where
       by : (b : Bool) → ltb horizon (last-at vs) ≡ true →
-          (elim b [ true ↦ answer s | false ↦ elim (ltb horizon (last-at vs)) [ true ↦ answer s | false ↦ visit areas m (cells-of m) n vs s ] ]) ≡ answer s
+          (elim b [
+            | true ↦ answer s
+            | false ↦ elim
+                (ltb horizon (last-at vs)) [ true ↦ answer s | false ↦ visit areas m (cells-of m) n vs s ]
+          ]) ≡ answer s
       by true h = refl
       by false h = rw h
 
@@ -98,7 +104,11 @@ module _ (areas : Areas) (m : Model) where
     where
       by : (b : Bool) → b ≡ true →
           _≡_ {A = Answer Search}
-          (elim b [ true ↦ answer s | false ↦ elim (ltb horizon (last-at vs)) [ true ↦ answer s | false ↦ visit areas m (cells-of m) n vs s ] ])
+          (elim b [
+            | true ↦ answer s
+            | false ↦ elim
+                (ltb horizon (last-at vs)) [ true ↦ answer s | false ↦ visit areas m (cells-of m) n vs s ]
+          ])
           (answer s)
       by b h = rw h
 
@@ -109,7 +119,11 @@ module _ (areas : Areas) (m : Model) where
     where
       by : (b : Bool) → ltb horizon (last-at vs) ≡ false →
           _≡_ {A = Answer Search}
-          (elim b [ true ↦ answer s | false ↦ elim (ltb horizon (last-at vs)) [ true ↦ answer s | false ↦ visit areas m (cells-of m) n vs s ] ])
+          (elim b [
+            | true ↦ answer s
+            | false ↦ elim
+                (ltb horizon (last-at vs)) [ true ↦ answer s | false ↦ visit areas m (cells-of m) n vs s ]
+          ])
           (elim b [ true ↦ answer s | false ↦ visit areas m (cells-of m) n vs s ])
       by true h = refl
       by false h = rw h
@@ -140,7 +154,8 @@ module _ (areas : Areas) (m : Model) where
         (λ z. in-time is z h)
         ∙ sym (walk-first (go (i ∷ is)) (length is) s)
       where
-        bind-two : (x y : Answer Search) (g h : Search → Answer Search) → x ≡ y → ((s : Search) → g s ≡ h s) → (x >>= g) ≡ (y >>= h)
+        bind-two : (x y : Answer Search) (g h : Search → Answer Search) → x ≡ y → ((s : Search) → g s ≡ h s)
+            → (x >>= g) ≡ (y >>= h)
         bind-two x y g h e f = ap (λ (z : Answer Search). z >>= g) e ∙ bind-same y g h f
 
     inputs-walk : (is : List Input) (s : Search) →
@@ -173,11 +188,15 @@ module _ (areas : Areas) (m : Model) where
     unfolding each-gap walked
     gaps-walk [] s = let e : 0 * length is ≡ 0 = zero-mul (length is) in sym (ap (λ (k : ℕ). walked (paired []) k s) e)
     gaps-walk (g ∷ gs) s =
-        let e : suc (length gs) * length is ≡ length is + length gs * length is = omega (arith, suc-mul (length gs) (length is)) in
-        ap (λ (x : Answer Search). x >>= each-gap (visit areas m (cells-of m) n) vs horizon is gs) (inputs-walk n vs (last-at vs + g) is s)
-        ∙ bind-same (walked (go n vs (last-at vs + g) is) (length is) s) (each-gap (visit areas m (cells-of m) n) vs horizon is gs)
+        let e : suc (length gs) * length is
+        ≡ length is + length gs * length is = omega (arith, suc-mul (length gs) (length is)) in
+        ap (λ (x : Answer Search). x >>= each-gap (visit areas m (cells-of m) n) vs horizon is gs)
+        (inputs-walk n vs (last-at vs + g) is s)
+        ∙ bind-same (walked (go n vs (last-at vs + g) is) (length is) s)
+        (each-gap (visit areas m (cells-of m) n) vs horizon is gs)
         (walked (λ j. paired (g ∷ gs) (length is + j)) (length gs * length is))
-        (λ z. gaps-walk gs z ∙ sym (walk-same (λ j. paired (g ∷ gs) (length is + j)) (paired gs) (length gs * length is) (λ j o y. next-gap g gs j y) z))
+        (λ z. gaps-walk gs z ∙ sym (walk-same (λ j. paired (g ∷ gs) (length is + j)) (paired gs) (length gs * length is)
+        (λ j o y. next-gap g gs j y) z))
         ∙ ap (λ (x : Answer Search). x >>= walked (λ j. paired (g ∷ gs) (length is + j)) (length gs * length is))
         (walk-same (go n vs (last-at vs + g) is) (paired (g ∷ gs)) (length is) (λ j o y. first-gap g gs j o y) s)
         ∙ sym (walk-split (paired (g ∷ gs)) (length is) (length gs * length is) s)
@@ -191,7 +210,8 @@ module _ (areas : Areas) (m : Model) where
   no-inputs n vs (g ∷ gs) s = by (ltb horizon (last-at vs + g)) (no-inputs n vs gs s)
     where
       by : (b : Bool) → each-gap (visit areas m (cells-of m) n) vs horizon [] gs s ≡ answer s →
-          ((elim b [ true ↦ answer s | false ↦ answer s ]) >>= each-gap (visit areas m (cells-of m) n) vs horizon [] gs) ≡ answer s
+          ((elim b [ true ↦ answer s | false ↦ answer s ]) >>= each-gap (visit areas m (cells-of m) n) vs horizon [] gs)
+          ≡ answer s
       by true h = h
       by false h = h
 
@@ -205,7 +225,8 @@ module _ (areas : Areas) (m : Model) where
           each-gap (visit areas m (cells-of m) n) vs horizon (m .scenario .alphabet) (m .scenario .gaps) s
           ≡ walked (step areas m n vs) (length (m .scenario .gaps) * length (m .scenario .alphabet)) s
       by [] e =
-          let z : length (m .scenario .gaps) * length (m .scenario .alphabet) ≡ 0 = ap (λ (l : List Input). length (m .scenario .gaps) * length l) e ∙ omega arith in
+          let z : length (m .scenario .gaps) * length (m .scenario .alphabet)
+          ≡ 0 = ap (λ (l : List Input). length (m .scenario .gaps) * length l) e ∙ omega arith in
           ap (λ (l : List Input). each-gap (visit areas m (cells-of m) n) vs horizon l (m .scenario .gaps) s) e
           ∙ no-inputs n vs (m .scenario .gaps) s
           ∙ sym (ap (λ (k : ℕ). walked (step areas m n vs) k s) z ∙ unfold walked in refl)
@@ -221,5 +242,6 @@ module _ (areas : Areas) (m : Model) where
       ap (λ (x : Answer Search). x >>= deepen areas m (cells-of m) k (d + 1))
       (sym (ap (λ (i : ℕ). guarded areas m i [] s) z ∙ guarded-in d [] s (le-ltb horizon 0 (omega arith))))
       ∙ bind-same (g 0 s) (deepen areas m (cells-of m) k (d + 1)) (walked (λ j. g (suc j)) k)
-      (λ y. deepen-walk k (d + 1) y ∙ walk-same (λ j. guarded areas m (d + 1 + j) []) (λ j. g (suc j)) k (λ j o x. ap (λ (i : ℕ). guarded areas m i [] x) (omega arith)) y)
+      (λ y. deepen-walk k (d + 1) y ∙ walk-same (λ j. guarded areas m (d + 1 + j) []) (λ j. g (suc j)) k
+      (λ j o x. ap (λ (i : ℕ). guarded areas m i [] x) (omega arith)) y)
       ∙ sym (walk-first g k s)

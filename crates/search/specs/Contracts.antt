@@ -12,17 +12,21 @@ use Rattle.search.specs.Meaning.{cells-of, sizes, Setting, PlacedAs, Hel
 
 module _ (f : List ℕ) (p : Plan) where
   pub record Tries (placed : Placed) (o : Search) (w : List ℕ) (r : Search) (w' : List ℕ) (q a u : ℕ) : Type 0 where
-    pub does : (x : Setting f p q a u) (vs : List Event) → PlacedAs (x .indexed .ts) (x .m) vs placed → (s : verify.Search) → Held x s o w →
+    pub does : (x : Setting f p q a u) (vs : List Event) → PlacedAs (x .indexed .ts) (x .m) vs placed
+        → (s : verify.Search) → Held x s o w →
         Outcome x (verify.try-case (sizes q a u) (x .m) (cells-of (x .m)) vs s) r w'
 
   pub record Visits (n : ℕ) (placed : Placed) (o : Search) (w : List ℕ) (r : Search) (w' : List ℕ) (q a u : ℕ) : Type 0 where
     pub stays : o .stopped ≡ true → (r ≡ o) × (w' ≡ w)
-    pub does : (x : Setting f p q a u) (vs : List Event) → PlacedAs (x .indexed .ts) (x .m) vs placed → (s : verify.Search) → Held x s o w →
+    pub does : (x : Setting f p q a u) (vs : List Event) → PlacedAs (x .indexed .ts) (x .m) vs placed
+        → (s : verify.Search) → Held x s o w →
         Outcome x (guarded (sizes q a u) (x .m) n vs s) r w'
 
   -- the visits behind the first k pairs
-  pub record Walks (n : ℕ) (placed : Placed) (o : Search) (w : List ℕ) (k : ℕ) (r : Search) (w' : List ℕ) (q a u : ℕ) : Type 0 where
-    pub does : (x : Setting f p q a u) (vs : List Event) → PlacedAs (x .indexed .ts) (x .m) vs placed → (s : verify.Search) → Held x s o w →
+  pub record Walks (n : ℕ) (placed : Placed) (o : Search) (w : List ℕ) (k : ℕ) (r : Search) (w' : List ℕ)
+      (q a u : ℕ) : Type 0 where
+    pub does : (x : Setting f p q a u) (vs : List Event) → PlacedAs (x .indexed .ts) (x .m) vs placed
+        → (s : verify.Search) → Held x s o w →
         Outcome x (walked (step (sizes q a u) (x .m) n vs) k s) r w'
 
   -- the first k depths

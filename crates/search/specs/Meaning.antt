@@ -1,7 +1,7 @@
 -- The definition's search, held by the code's: the model behind a plan, the events placed, how far a search has come.
 use Prim.Native.Nat.{ℕ, zero, suc, _+_, _/_, _%_, _≤_, _<_}
 use mathlib.Core.Path.{_≡_}
-use mathlib.Core.Bool.{Bool, true, false}
+use mathlib.Core.Bool.{true, false}
 use mathlib.Core.List.{List, [], _∷_, _++_}
 use mathlib.Core.Option.{Option, none, some}
 use lib.Dec.{ltb}
@@ -15,11 +15,12 @@ use Rattle.model.specs.Validate.{accepted}
 use Rattle.model_index.specs.Indexed.{Indexed}
 use Rattle.engine.specs.Cells.{Cell, initial-cells}
 use Rattle.engine.specs.Records.{Areas}
-use Rattle.engine_places.proofs.Pigeons.{Among}
+pub use Rattle.engine.specs.Words.{sizes}
+use Rattle.engine_places.specs.Events.{Among}
 use Rattle.engine_entry.specs.Answers.{Grounds}
 use Rattle.checker.specs.Check.{checked}
 use Rattle.checker.specs.Verify as verify
-use Rattle.checker_entry.proofs.Pool.{check-pool}
+use Rattle.checker_entry.specs.Pool.{check-pool}
 use Rattle.search_inputs.specs.declared.Placed.{Placed}
 use Rattle.search_inputs.specs.Inputs.{input-words, event-words, gap-words}
 use Rattle.search.specs.declared.Plan.{Plan}
@@ -30,10 +31,6 @@ none-such = record { at = 0; input = Input.restart }
 
 abbrev pub cells-of : Model → List Cell
 cells-of m = initial-cells (m .scenario .entities)
-
--- as many entries as areas of so many words hold
-abbrev pub sizes : (queue records runs : ℕ) → Areas
-sizes q a u = record { queue = q / 5; records = a / 13; runs = u / 28 }
 
 -- the reasons that a search may give
 unfoldable pub search-pool : Model → List Text

@@ -1,11 +1,10 @@
 -- What the parts of the search give, as the code does it.
-use Prim.Native.Nat.{ℕ, _+_, _*_, _/_, _%_, _≤_, _<_}
+use Prim.Native.Nat.{ℕ, _+_, _/_, _%_, _≤_}
 use mathlib.Core.Path.{_≡_}
 use mathlib.Core.Bool.{Bool, true, false}
 use mathlib.Core.List.{List, []}
-use lib.Dec.{ltb, eqb}
-use lib.ListN.{length, getD, replicate}
-use Rattle.texts.specs.Lists.{if_then_else_}
+use lib.Dec.{eqb}
+use lib.ListN.{length, getD}
 use Rattle.texts.specs.Texts.{insertT}
 use Rattle.reasons.specs.Lists.{listed, insertAll, Holds}
 use Rattle.reasons.specs.Reasons.{render}
@@ -118,7 +117,8 @@ abbrev pub Gathers : (f : List ℕ) → (n : ℕ) → CheckResult → (w : List 
 Gathers f n c w r w' =
     n ≤ 400 → c .unknown ≤ 400 → c .incomplete ≤ 40 →
     length (insertAll (listed f (c .unknown) (c .unknowns)) (listed f n w)) ≤ 400 →
-    Holds f (insertAll (listed f (c .incomplete) (c .incompletes)) (insertAll (listed f (c .unknown) (c .unknowns)) (listed f n w))) r w'
+    Holds f (insertAll (listed f (c .incomplete) (c .incompletes))
+    (insertAll (listed f (c .unknown) (c .unknowns)) (listed f n w))) r w'
 
 -- ---- the next events
 

@@ -1,15 +1,13 @@
 -- The entry, put together from its parts.
 use Prim.Native.Nat.{ℕ, suc, _+_, _-_, _≤_, _<_}
 use mathlib.Core.Path.{_≡_, refl, sym, ap, subst, _∙_}
-use mathlib.Core.Bool.{Bool, true, false}
+use mathlib.Core.Bool.{true, false}
 use mathlib.Core.List.{List, [], _∷_}
 use mathlib.Core.Logic.{inl, inr}
 use native.Mathlib.Omega.{arith}
-use lib.Dec.{ltb}
-use lib.ListN.{length, getD, replicate}
+use lib.ListN.{length, getD}
 use borrow.Author.Tests.{lt-ltb, le-ltb}
 use Rattle.texts.specs.Lists.{is-empty}
-use Rattle.areas.specs.Areas.{area}
 use Rattle.model.specs.Answer.{Answer, answer, refused, _>>=_, _and_, _when_}
 use Rattle.model.specs.Model.{Invariant, Model}
 use Rattle.model.specs.Validate.{accepted}
@@ -26,7 +24,6 @@ use Rattle.engine.specs.Words.{words-in, entry-words}
 use Rattle.engine.proofs.Memory.{refusals}
 use Rattle.engine_reads.specs.Reads.{atMost}
 use Rattle.engine_places.proofs.Numbers.{most-is}
-use Rattle.engine_entry.specs.Answers.{lent}
 use Rattle.checker.specs.Verify as verify
 use Rattle.checker.specs.Verify.{searched, verified, short-of-room}
 use Rattle.search_inputs.proofs.Lawful.{accepted-searchable}
@@ -37,13 +34,15 @@ use Rattle.search.specs.Meaning.{cells-of, sizes, Setting, Outcome}
 use Rattle.search.specs.Contracts.{Deepens}
 use Rattle.search_entry.specs.declared.Verification.{Verification}
 use Rattle.search_entry.specs.Answers.{no-verification, Says, witness-trace, output-after, Gives, Verifies}
-use Rattle.search_entry.specs.Parts.{Begun, trace-in, Reached, answer-of, Ending, Ends, Accepted, Runs, Admits}
+use Rattle.search_entry.specs.Parts.{Reached, Ending, Ends, Accepted, Runs, Admits}
 use Rattle.search_entry.proofs.Start.{limits-are, setting, fitted, start-of, start-held}
 
 -- ---- the search
 
-module _ {f : List ℕ} {i : Index} (bytes : (k : ℕ) → getD f k 0 < 256) (p : Plan) (pl : Plans f i p) {start : Search} {w₀ : List ℕ} (b : Begins f (p .ground) start w₀)
-    {depth : ℕ} (few : depth ≡ atMost (limitV f i 8) 5) {q a u : ℕ} {o : Search} {w : List ℕ} (d : Deepens f p depth start w₀ o w q a u) where
+module _ {f : List ℕ} {i : Index} (bytes : (k : ℕ) → getD f k 0 < 256) (p : Plan)
+    (pl : Plans f i p) {start : Search} {w₀ : List ℕ} (b : Begins f (p .ground) start w₀)
+    {depth : ℕ} (few : depth ≡ atMost (limitV f i 8) 5) {q a u : ℕ} {o : Search} {w : List ℕ}
+    (d : Deepens f p depth start w₀ o w q a u) where
   module _ (m : Model) (acc : accepted f ≡ answer m) (ix : Indexed f i m) where
     abbrev x : Setting f p q a u
     x = setting f i m acc ix bytes p pl q a u (pl .index)
@@ -53,7 +52,8 @@ module _ {f : List ℕ} {i : Index} (bytes : (k : ℕ) → getD f k 0 < 256) (p 
         let l = limits-are f i m acc ix .depth in
         few ∙ most-is (limitV f i 8) 5 (omega (arith, l, accepted-searchable f m acc .depth)) ∙ l
 
-    searched-is : verify.deepen (sizes q a u) m (cells-of m) (suc depth) 0 (start-of m) ≡ searched (sizes q a u) m (cells-of m)
+    searched-is : verify.deepen (sizes q a u) m (cells-of m) (suc depth) 0 (start-of m)
+        ≡ searched (sizes q a u) m (cells-of m)
     unfolding searched
     searched-is =
         let e : suc depth ≡ m .scenario .limits .search-depth + 1 = omega (arith, depth-is) in
@@ -62,9 +62,12 @@ module _ {f : List ℕ} {i : Index} (bytes : (k : ℕ) → getD f k 0 < 256) (p 
     pub reached : Outcome x (searched (sizes q a u) m (cells-of m)) o w
     reached = subst (λ (y : Answer verify.Search). Outcome x y o w) searched-is (d .does x (start-of m) (start-held x b))
 
-  pub reach : Accepted f i → {n : ℕ} → length f + 45 ≤ n → length w ≡ 4000 → {q' a' u' : ℕ} → q' ≡ q → a' ≡ a → u' ≡ u → Reached f p o w q' a' u' n
+  pub reach : Accepted f i → {n : ℕ} → length f + 45 ≤ n → length w ≡ 4000 → {q' a' u' : ℕ} → q' ≡ q → a' ≡ a → u' ≡ u
+      → Reached f p o w q' a' u' n
   reach y {n} room long {q'} {a'} {u'} eq ea eu =
-      subst (λ (k : ℕ). Reached f p o w k a' u' n) (sym eq) (subst (λ (k : ℕ). Reached f p o w q k u' n) (sym ea) (subst (λ (k : ℕ). Reached f p o w q a k n) (sym eu) (record {
+      subst (λ (k : ℕ). Reached f p o w k a' u' n) (sym eq)
+      (subst (λ (k : ℕ). Reached f p o w q k u' n) (sym ea)
+      (subst (λ (k : ℕ). Reached f p o w q a k n) (sym eu) (record {
         setting = x (y .m) (y .is-accepted) (y .indexed);
         fitted = fitted f i (y .m) (y .is-accepted) (y .indexed) bytes p pl long;
         ending = searched (sizes q a u) (y .m) (cells-of (y .m));
@@ -72,19 +75,23 @@ module _ {f : List ℕ} {i : Index} (bytes : (k : ℕ) → getD f k 0 < 256) (p 
         room = room;
       })))
 
-  pub run-so : {r : Verification} {after : Lent} {out out' : List ℕ} {q' a' u' : ℕ} → q' ≡ q → a' ≡ a → u' ≡ u → Ends f p o w r q' a' u' after out out' → Runs f i r q a u after out out'
+  pub run-so : {r : Verification} {after : Lent} {out out' : List ℕ} {q' a' u' : ℕ} → q' ≡ q → a' ≡ a → u' ≡ u
+      → Ends f p o w r q' a' u' after out out' → Runs f i r q a u after out out'
   unfolding verified
   run-so {r} {after} {out} {out'} {q'} {a'} {u'} eq ea eu en₀ = record {
     does = λ m acc ix. en .does (x m acc ix) (searched (sizes q a u) m (cells-of m)) (reached m acc ix);
   }
     where
       en : Ends f p o w r q a u after out out'
-      en = subst (λ (k : ℕ). Ends f p o w r k a u after out out') eq (subst (λ (k : ℕ). Ends f p o w r q' k u after out out') ea (subst (λ (k : ℕ). Ends f p o w r q' a' k after out out') eu en₀))
+      en = subst (λ (k : ℕ). Ends f p o w r k a u after out out') eq
+          (subst (λ (k : ℕ). Ends f p o w r q' k u after out out') ea
+          (subst (λ (k : ℕ). Ends f p o w r q' a' k after out out') eu en₀))
 
 -- ---- from an ending to the areas
 
 gives : (f : List ℕ) (r : Verification) (v : Answer verify.Verification) (before after : Lent) (o o' : List ℕ) →
-    Ending f r v (length (before .queue)) (length (before .records)) (length (before .runs)) after o o' → Gives f r v before after o o'
+    Ending f r v (length (before .queue)) (length (before .records)) (length (before .runs)) after o o'
+    → Gives f r v before after o o'
 unfolding lent-after zeros all-zeros
 gives f r (answer v) before after o o' e = record {
   says = e .says;
@@ -94,7 +101,11 @@ gives f r (answer v) before after o o' e = record {
 gives f r (refused n) before after o o' e = record {
   says = e .says;
   memory =
-      (λ j. record { queue = e .queue j; records = (e .records ∙ Rattle.areas.proofs.Laws.area-none (words-in f) (length (before .records))) j; runs = e .runs j })
+      (λ j. record {
+        queue = e .queue j;
+        records = (e .records ∙ Rattle.areas.proofs.Laws.area-none (words-in f) (length (before .records))) j;
+        runs = e .runs j;
+      })
       ∙ sym (refusals (words-in f) witness-trace before .areas n (e .number .0) (e .number .1));
   output = e .output;
 }
@@ -125,7 +136,8 @@ module _ (f : List ℕ) (areas : Areas) (n : ℕ) (m : Model) (acc : accepted f 
   unfolding verify.verify _>>=_ _and_ _when_
   law-44 e g = rw acc (rw (e, g))
 
-  law-on : is-empty (m .scenario .invariants) ≡ false → short-of-room n f ≡ false → verify.verify areas n f ≡ verified areas m (cells-of m)
+  law-on : is-empty (m .scenario .invariants) ≡ false → short-of-room n f ≡ false
+      → verify.verify areas n f ≡ verified areas m (cells-of m)
   unfolding verify.verify _>>=_ _and_ _when_
   law-on e g = rw acc (rw (e, g))
 
@@ -133,27 +145,37 @@ module _ {f : List ℕ} {i : Index} {before : Lent} {o : List ℕ} where
   pub admit-20 : {r : Verification} → i .invariants .count ≡ 0 → r ≡ no-verification 20 → Admits f i r before before o o
   admit-20 {r} z e = record {
     does = λ m acc ix.
-        subst (λ (v : Answer verify.Verification). Gives f r v before before o o) (sym (law-20 f (entries entry-words before) (length o) m acc (empty-is (m .scenario .invariants) (omega (arith, z, ix .invariants .counts)))))
+        subst (λ (v : Answer verify.Verification). Gives f r v before before o o)
+        (sym (law-20 f (entries entry-words before) (length o) m acc
+        (empty-is (m .scenario .invariants) (omega (arith, z, ix .invariants .counts)))))
         (early f before o 20 e (refusals (words-in f) witness-trace before .below 20 (omega arith)));
   }
 
-  pub admit-44 : {r : Verification} → (i .invariants .count ≡ 0 → ⊥) → length o < length f + 45 → r ≡ no-verification 44 → Admits f i r before before o o
+  pub admit-44 : {r : Verification} → (i .invariants .count ≡ 0 → ⊥) → length o < length f + 45 → r ≡ no-verification 44
+      → Admits f i r before before o o
   unfolding short-of-room
   admit-44 {r} z l e = record {
     does = λ m acc ix.
         subst (λ (v : Answer verify.Verification). Gives f r v before before o o)
-        (sym (law-44 f (entries entry-words before) (length o) m acc (some-are (m .scenario .invariants) (λ k. z (omega (arith, k, ix .invariants .counts)))) (lt-ltb (length o) (length f + 45) l)))
+        (sym (law-44 f (entries entry-words before) (length o) m acc
+        (some-are (m .scenario .invariants) (λ k. z (omega (arith, k, ix .invariants .counts))))
+        (lt-ltb (length o) (length f + 45) l)))
         (early f before o 44 e (refusals (words-in f) witness-trace before .above 44 (omega arith)));
   }
 
-  pub admit-run : {r : Verification} {after : Lent} {o' : List ℕ} → (i .invariants .count ≡ 0 → ⊥) → length f + 45 ≤ length o →
-      Runs f i r (length (before .queue)) (length (before .records)) (length (before .runs)) after o o' → Admits f i r before after o o'
+  pub admit-run : {r : Verification} {after : Lent} {o' : List ℕ} → (i .invariants .count ≡ 0 → ⊥)
+      → length f + 45 ≤ length o →
+      Runs f i r (length (before .queue)) (length (before .records)) (length (before .runs)) after o o'
+      → Admits f i r before after o o'
   unfolding short-of-room entries
   admit-run {r} {after} {o'} z l h = record {
     does = λ m acc ix.
         subst (λ (v : Answer verify.Verification). Gives f r v before after o o')
-        (sym (law-on f (entries entry-words before) (length o) m acc (some-are (m .scenario .invariants) (λ k. z (omega (arith, k, ix .invariants .counts)))) (le-ltb (length o) (length f + 45) l)))
-        (gives f r (verified (sizes (length (before .queue)) (length (before .records)) (length (before .runs))) m (cells-of m)) before after o o' (h .does m acc ix));
+        (sym (law-on f (entries entry-words before) (length o) m acc
+        (some-are (m .scenario .invariants) (λ k. z (omega (arith, k, ix .invariants .counts))))
+        (le-ltb (length o) (length f + 45) l)))
+        (gives f r (verified (sizes (length (before .queue)) (length (before .records)) (length (before .runs))) m
+        (cells-of m)) before after o o' (h .does m acc ix));
   }
 
 -- ---- the entry
@@ -162,16 +184,19 @@ module _ (f : List ℕ) (x : File) (says : indexed.Says f x (accepted f)) where
   pub accepted-so : x .status ≡ status.Read → Accepted f (x .index)
   accepted-so e = let a = accept-read f x says e in record { m = a .0; is-accepted = a .1 .0; indexed = a .1 .1 }
 
-  pub verify-read : x .status ≡ status.Read → {r : Verification} {before after : Lent} {o o' : List ℕ} → Admits f (x .index) r before after o o' →
+  pub verify-read : x .status ≡ status.Read → {r : Verification} {before after : Lent} {o o' : List ℕ}
+      → Admits f (x .index) r before after o o' →
       Verifies f r before after o o'
   verify-read e h = let a = accept-read f x says e in h .does (a .0) (a .1 .0) (a .1 .1)
 
   -- memory is as it came
-  pub verify-refused : {n : ℕ} → x .status ≡ status.Refused n → {r : Verification} → r ≡ no-verification n → (before : Lent) (o : List ℕ) →
+  pub verify-refused : {n : ℕ} → x .status ≡ status.Refused n → {r : Verification} → r ≡ no-verification n
+      → (before : Lent) (o : List ℕ) →
       Verifies f r before before o o
   verify-refused {n} e {r} is before o =
       let acc = accept-refused f x says e in
-      subst (λ (v : Answer verify.Verification). Gives f r v before before o o) (sym (law acc)) (early f before o n is (kept (subst (Refuses Refusal) acc (refusal-numbers f))))
+      subst (λ (v : Answer verify.Verification). Gives f r v before before o o) (sym (law acc))
+      (early f before o n is (kept (subst (Refuses Refusal) acc (refusal-numbers f))))
     where
       law : accepted f ≡ refused n → verify.verify (entries entry-words before) (length o) f ≡ refused n
       law z = unfold verify.verify _>>=_ in rw z

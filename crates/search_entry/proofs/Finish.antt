@@ -1,42 +1,53 @@
 -- What is made of the end of a search is the definition's answer.
-use Prim.Native.Nat.{ℕ, _+_, _*_, _≤_, _<_}
+use Prim.Native.Nat.{ℕ}
 use mathlib.Core.Path.{_≡_, refl, sym, ap, subst, _∙_}
 use mathlib.Core.Bool.{Bool, true, false}
-use mathlib.Core.List.{List, [], _∷_, _++_}
+use mathlib.Core.List.{List, [], _∷_}
 use mathlib.Core.Option.{Option, none, some}
 use native.Mathlib.Omega.{arith}
-use lib.Dec.{eqb}
-use lib.ListN.{length, getD, drop, replicate}
+use lib.ListN.{length, replicate}
 use borrow.Author.Tests.{ne-eqb}
-use Rattle.texts.specs.Lists.{if_then_else_}
 use Rattle.texts.specs.Texts.{Text, sortedT}
 use Rattle.areas.specs.Areas.{area}
 use Rattle.areas.proofs.Laws as areas
-use Rattle.reasons.specs.Lists.{listed, insertAll, Holds}
+use Rattle.reasons.specs.Lists.{insertAll, Holds}
 use Rattle.reasons.proofs.Sorting.{one-by-one}
 use Rattle.model.specs.Answer.{Answer, answer, refused, _>>=_}
-use Rattle.model.specs.Model.{Input, Event, Model}
-use Rattle.model.specs.Rewrite.{rewritten}
-use Rattle.model_rewrite.specs.Written.{Wrote}
 use Rattle.engine.specs.Memory.{Lent}
 use Rattle.engine.specs.Words.{texts-in, words-in}
 use Rattle.engine_entry.proofs.Promise.{texts-here}
-use Rattle.checker.specs.Check.{Check}
 use Rattle.checker.specs.Verify as verify
 use Rattle.checker.specs.Verify.{found-of, verification-of, witness-file}
-use Rattle.checker_entry.specs.Answers.{no-check}
-use Rattle.search_inputs.specs.declared.Placed.{Placed}
 use Rattle.search_inputs.specs.Inputs.{input-words, event-words}
 use Rattle.search.specs.declared.Plan.{Plan}
 use Rattle.search.specs.declared.Search.{Search}
-use Rattle.search.specs.Meaning.{Setting, PlacedAs, Witnessed, Held, Refused, Outcome}
+use Rattle.search.specs.Meaning.{Setting, Witnessed, Held, Outcome}
 use Rattle.search.proofs.Cases.{few-reasons}
 use Rattle.search.proofs.Sorted.{sorted-again}
-use Rattle.search_entry.specs.declared.Found.the-variants as found
 use Rattle.search_entry.specs.declared.Verification.{Verification}
 use Rattle.search_entry.specs.declared.Witness.{Witness}
-use Rattle.search_entry.specs.Answers.{found-as, NoWitness, Witnesses, WitnessSays, Shows, no-verification, witness-trace, output-after}
-use Rattle.search_entry.specs.Parts.{statusV, Told, without, Writable, Written, Writes, Reached, answer-of, Ending, Ends}
+use Rattle.search_entry.specs.Answers.{
+  found-as,
+  NoWitness,
+  Witnesses,
+  WitnessSays,
+  Shows,
+  no-verification,
+  witness-trace,
+  output-after,
+}
+use Rattle.search_entry.specs.Parts.{
+  statusV,
+  Told,
+  without,
+  Writable,
+  Written,
+  Writes,
+  Reached,
+  answer-of,
+  Ending,
+  Ends,
+}
 use Rattle.search_entry.proofs.Start.{limits-are}
 
 -- ---- the status
@@ -50,14 +61,17 @@ module _ {f : List ℕ} {p : Plan} {q a u : ℕ} (x : Setting f p q a u) where
   texts-are : texts-in f ≡ x .indexed .ts
   texts-are = texts-here f (p .index) (x .m) (x .is-accepted) (x .indexed) (x .bytes) (p .ground) (x .grounds)
 
-  module _ (s : verify.Search) {o : Search} {w : List ℕ} (h : Held x s o w) {y : Witness} {r : Verification} (t : Told f p o w y r) where
+  module _ (s : verify.Search) {o : Search} {w : List ℕ} (h : Held x s o w) {y : Witness} {r : Verification}
+      (t : Told f p o w y r) where
     reasons-are : Holds f (sortedT (s .reasons)) (r .reasons) (r .told)
     reasons-are =
         subst (λ (l : List Text). Holds f l (r .reasons) (r .told))
-        (ap (λ (l : List Text). insertAll l []) (h .reasons .texts) ∙ one-by-one (sortedT (s .reasons)) ∙ sorted-again (s .reasons))
+        (ap (λ (l : List Text). insertAll l []) (h .reasons .texts) ∙ one-by-one (sortedT (s .reasons))
+        ∙ sorted-again (s .reasons))
         (t .reasons (few-reasons x s o w h))
 
-    shows-with : r .status ≡ found-as (found-of (s .witness) (sortedT (s .reasons))) → WitnessSays f r (s .witness) → Shows f r (verification-of (x .m) s)
+    shows-with : r .status ≡ found-as (found-of (s .witness) (sortedT (s .reasons))) → WitnessSays f r (s .witness)
+        → Shows f r (verification-of (x .m) s)
     unfolding verification-of
     shows-with e k =
         let l = limits-are f (p .index) (x .m) (x .is-accepted) (x .indexed) in
@@ -70,7 +84,8 @@ module _ {f : List ℕ} {p : Plan} {q a u : ℕ} (x : Setting f p q a u) where
           most = t .most ∙ l .cases;
           steps = t .steps ∙ l .steps;
           alphabet = t .alphabet ∙ x .inputs;
-          inputs = t .inputs ∙ x .words ∙ ap (λ (ts : List Text). area (input-words ts) 36 (x .m .scenario .alphabet)) (sym texts-are);
+          inputs = t .inputs ∙ x .words ∙ ap (λ (ts : List Text). area (input-words ts) 36 (x .m .scenario .alphabet))
+              (sym texts-are);
           gaps = t .gaps ∙ x .gaps;
           seconds = t .seconds ∙ x .seconds;
           reasons = reasons-are;
@@ -90,14 +105,17 @@ module _ {f : List ℕ} {p : Plan} {q a u : ℕ} (x : Setting f p q a u) where
     }
 
     none-status : o .found ≡ false → r .status ≡ found-as (found-of none (sortedT (s .reasons)))
-    none-status e = t .status-is ∙ ap (λ (b : Bool). statusV b (r .reasons)) e ∙ status-none (sortedT (s .reasons)) (reasons-are .many)
+    none-status e = t .status-is ∙ ap (λ (b : Bool). statusV b (r .reasons)) e
+        ∙ status-none (sortedT (s .reasons)) (reasons-are .many)
 
     -- ---- a witness
 
-    some-says : (v : verify.Witness) {after : Lent} {out out' : List ℕ} → Witnessed x v o → Written f (v .events) (v .check) (o .witness) y q a u after out out' → Witnesses f r v
+    some-says : (v : verify.Witness) {after : Lent} {out out' : List ℕ} → Witnessed x v o
+        → Written f (v .events) (v .check) (o .witness) y q a u after out out' → Witnesses f r v
     some-says v g k = record {
       events = t .events ∙ k .events ∙ g .placed .count;
-      words = t .words ∙ k .words ∙ g .placed .words ∙ ap (λ (ts : List Text). area (event-words ts) 20 (v .events)) (sym texts-are);
+      words = t .words ∙ k .words ∙ g .placed .words
+          ∙ ap (λ (ts : List Text). area (event-words ts) 20 (v .events)) (sym texts-are);
       written = t .written ∙ k .written .is-size;
       check = subst (λ (z : _). Rattle.checker_entry.specs.Answers.Shows f z (v .check)) (sym (t .check)) (k .check);
     }
@@ -110,11 +128,13 @@ module _ {f : List ℕ} {p : Plan} {q a u : ℕ} (x : Setting f p q a u) where
 
 module _ {f : List ℕ} {p : Plan} {o : Search} {w : List ℕ} {q a u : ℕ} {after : Lent} {out : List ℕ} where
   pub end-refused : (o .refused ≡ 0 → ⊥) → {r : Verification} → r ≡ no-verification (o .refused) →
-      after .queue ≡ replicate q 0 → after .records ≡ replicate a 0 → after .runs ≡ replicate u 0 → Ends f p o w r q a u after out out
+      after .queue ≡ replicate q 0 → after .records ≡ replicate a 0 → after .runs ≡ replicate u 0
+      → Ends f p o w r q a u after out out
   unfolding _>>=_ output-after
   end-refused z {r} e eq ea eu = record { does = by }
     where
-      by : (x : Setting f p q a u) (y : Answer verify.Search) → Outcome x y o w → Ending f r (answer-of (x .m) y) q a u after out out
+      by : (x : Setting f p q a u) (y : Answer verify.Search) → Outcome x y o w
+          → Ending f r (answer-of (x .m) y) q a u after out out
       by x (answer s) h = absurd (z (h .fine))
       by x (refused n) h = record {
         says = e ∙ ap no-verification (h .number);
@@ -126,27 +146,33 @@ module _ {f : List ℕ} {p : Plan} {o : Search} {w : List ℕ} {q a u : ℕ} {af
       }
 
   pub end-none : o .refused ≡ 0 → o .found ≡ false → {y : Witness} {r : Verification} → y ≡ without → Told f p o w y r →
-      after .queue ≡ replicate q 0 → after .records ≡ replicate a 0 → after .runs ≡ replicate u 0 → Ends f p o w r q a u after out out
+      after .queue ≡ replicate q 0 → after .records ≡ replicate a 0 → after .runs ≡ replicate u 0
+      → Ends f p o w r q a u after out out
   unfolding _>>=_ output-after witness-trace witness-file verification-of
   end-none z e {y} {r} n t eq ea eu = record { does = by }
     where
       made : (x : Setting f p q a u) (s : verify.Search) (h : Held x s o w) (v : Option verify.Witness) → s .witness ≡ v →
           Rattle.search.specs.Meaning.WitnessIs x v o → Ending f r (answer (verification-of (x .m) s)) q a u after out out
       made x s h none g k = record {
-        says = shows-with x s h t (subst (λ (v : Option verify.Witness). r .status ≡ found-as (found-of v (sortedT (s .reasons)))) (sym g) (none-status x s h t e)) (subst (WitnessSays f r) (sym g) (none-says x s h t n));
+        says = shows-with x s h t (subst (λ (v : Option verify.Witness). r .status
+            ≡ found-as (found-of v (sortedT (s .reasons)))) (sym g) (none-status x s h t e))
+            (subst (WitnessSays f r) (sym g) (none-says x s h t n));
         number = tt;
         queue = eq;
         records = rw g (ea ∙ sym (areas.area-none (words-in f) a));
         runs = eu;
         output = rw g;
       }
-      made x s h (some v) g k = let c : true ≡ false = sym (k .found) ∙ e in let d : _≡_ {A = ℕ} 0 1 = cc in absurd (omega arith)
+      made x s h (some v) g k = let c : true ≡ false = sym (k .found)
+          ∙ e in let d : _≡_ {A = ℕ} 0 1 = cc in absurd (omega arith)
 
-      by : (x : Setting f p q a u) (y : Answer verify.Search) → Outcome x y o w → Ending f r (answer-of (x .m) y) q a u after out out
+      by : (x : Setting f p q a u) (y : Answer verify.Search) → Outcome x y o w
+          → Ending f r (answer-of (x .m) y) q a u after out out
       by x (answer s) h = made x s h (s .witness) refl (h .witness)
       by x (refused j) h = absurd (omega (arith, h .number, h .low, z))
 
-  pub end-some : o .refused ≡ 0 → o .found ≡ true → {y : Witness} {r : Verification} {out' : List ℕ} → Writes f p (o .witness) y q a u after out out' → Told f p o w y r →
+  pub end-some : o .refused ≡ 0 → o .found ≡ true → {y : Witness} {r : Verification} {out' : List ℕ}
+      → Writes f p (o .witness) y q a u after out out' → Told f p o w y r →
       Ends f p o w r q a u after out out'
   unfolding _>>=_ output-after witness-trace witness-file verification-of
   end-some z e {y} {r} {out'} ws t = record { does = by }
@@ -157,7 +183,9 @@ module _ {f : List ℕ} {p : Plan} {o : Search} {w : List ℕ} {q a u : ℕ} {af
       made x s h (some v) g k =
           let i = ws .does x (v .events) (k .placed) (v .check) (k .checks) in
           record {
-            says = shows-with x s h t (subst (λ (v : Option verify.Witness). r .status ≡ found-as (found-of v (sortedT (s .reasons)))) (sym g) (some-status x s h t v e)) (subst (WitnessSays f r) (sym g) (some-says x s h t v k i));
+            says = shows-with x s h t (subst (λ (v : Option verify.Witness). r .status
+                ≡ found-as (found-of v (sortedT (s .reasons)))) (sym g) (some-status x s h t v e))
+                (subst (WitnessSays f r) (sym g) (some-says x s h t v k i));
             number = tt;
             queue = i .queue;
             records = rw g (i .records);
@@ -165,17 +193,26 @@ module _ {f : List ℕ} {p : Plan} {o : Search} {w : List ℕ} {q a u : ℕ} {af
             output = rw g (i .written .is-out);
           }
 
-      by : (x : Setting f p q a u) (y : Answer verify.Search) → Outcome x y o w → Ending f r (answer-of (x .m) y) q a u after out out'
+      by : (x : Setting f p q a u) (y : Answer verify.Search) → Outcome x y o w
+          → Ending f r (answer-of (x .m) y) q a u after out out'
       by x (answer s) h = made x s h (s .witness) refl (h .witness)
       by x (refused j) h = absurd (omega (arith, h .number, h .low, z))
 
 -- a witness's events, and room for its file
-pub writable : {f : List ℕ} {p : Plan} {o : Search} {w : List ℕ} {q a u n : ℕ} → Reached f p o w q a u n → o .refused ≡ 0 → o .found ≡ true → Writable f p (o .witness) q a u n
+pub writable : {f : List ℕ} {p : Plan} {o : Search} {w : List ℕ} {q a u n : ℕ} → Reached f p o w q a u n
+    → o .refused ≡ 0 → o .found ≡ true → Writable f p (o .witness) q a u n
 writable {f} {p} {o} {w} {q} {a} {u} {n} h z e = by (h .ending) (h .outcome)
   where
-    some-of : (v : Option verify.Witness) → Rattle.search.specs.Meaning.WitnessIs (h .setting) v o → Writable f p (o .witness) q a u n
+    some-of : (v : Option verify.Witness) → Rattle.search.specs.Meaning.WitnessIs (h .setting) v o
+        → Writable f p (o .witness) q a u n
     some-of none k = let c : true ≡ false = sym e ∙ k in let d : _≡_ {A = ℕ} 0 1 = cc in absurd (omega arith)
-    some-of (some v) k = record { setting = h .setting; events = v .events; few = k .few; placed-as = k .placed; room = h .room }
+    some-of (some v) k = record {
+      setting = h .setting;
+      events = v .events;
+      few = k .few;
+      placed-as = k .placed;
+      room = h .room;
+    }
 
     by : (y : Answer verify.Search) → Outcome (h .setting) y o w → Writable f p (o .witness) q a u n
     by (answer s) k = some-of (s .witness) (k .witness)

@@ -1,6 +1,6 @@
 -- Laws for the small functions of the entry.
 use Prim.Native.Nat.{ℕ, _*_, _≤_}
-use mathlib.Core.Path.{_≡_, refl, sym, ap, subst, _∙_}
+use mathlib.Core.Path.{_≡_, subst}
 use mathlib.Core.Bool.{Bool, true, false}
 use mathlib.Core.List.{List, []}
 use native.Mathlib.Omega.{arith}
@@ -13,36 +13,16 @@ use Rattle.checker_entry.specs.declared.CheckResult.{CheckResult}
 use Rattle.checker_entry.specs.Answers.{no-check}
 use Rattle.search.specs.Parts.{AtMost}
 use Rattle.search_entry.specs.declared.Found.the-variants as found
-use Rattle.search_entry.specs.declared.Verification.{Verification}
 use Rattle.search_entry.specs.declared.Witness.{Witness}
-use Rattle.search_entry.specs.Answers.{no-verification}
+use Rattle.search_entry.specs.Answers.{unverified, no-verification}
 use Rattle.search_entry.specs.Parts.{statusV, without}
 
-pub refused-is : (n : ℕ) {c : CheckResult} → c ≡ no-check 0 →
-    _≡_ {A = Verification} (record {
-      status = found.Refused n;
-      cases = 0;
-      total = 0;
-      depth = 0;
-      horizon = 0;
-      most = 0;
-      steps = 0;
-      alphabet = 0;
-      inputs = replicate 36 0;
-      gaps = 0;
-      seconds = replicate 4 0;
-      reasons = 0;
-      told = replicate 2000 0;
-      shortest = false;
-      events = 0;
-      words = replicate 20 0;
-      written = 0;
-      check = c;
-    }) (no-verification n)
+pub refused-is : (n : ℕ) {c : CheckResult} → c ≡ no-check 0 → unverified n c ≡ no-verification n
 unfolding no-verification
 refused-is n e = rw e
 
-pub without-is : {c : CheckResult} → c ≡ no-check 0 → _≡_ {A = Witness} (record { events = 0; words = replicate 20 0; written = 0; check = c }) without
+pub without-is : {c : CheckResult} → c ≡ no-check 0 → _≡_ {A = Witness}
+    (record { events = 0; words = replicate 20 0; written = 0; check = c }) without
 unfolding without
 without-is e = rw e
 
@@ -66,7 +46,8 @@ pub told-room : (f b : List ℕ) (m : ℕ) (a : List ℕ) → m ≤ 400 → leng
 unfolding reasons
 told-room f b m a h l k = (omega (arith, h, l), omega (arith, h, k, all-many (listed f m b) [], listing.length-listed f m b))
 
-pub told-reasons : (f b a : List ℕ) {a' : List ℕ} {n m r : ℕ} → AtMost n 400 m → Holds f (insertAll (listed f m b) (listed f 0 a)) r a' →
+pub told-reasons : (f b a : List ℕ) {a' : List ℕ} {n m r : ℕ} → AtMost n 400 m
+    → Holds f (insertAll (listed f m b) (listed f 0 a)) r a' →
     n ≤ 400 → Holds f (insertAll (listed f n b) []) r a'
 unfolding reasons
 told-reasons f b a {a'} {n} {m} {r} k h o = subst (λ (j : ℕ). Holds f (insertAll (listed f j b) []) r a') (k .same o) h

@@ -1,23 +1,22 @@
 -- The witness: its check is the definition's, and its file is the model file with its events.
-use Prim.Native.Nat.{ℕ, _+_, _*_, _/_, _≤_, _<_}
+use Prim.Native.Nat.{ℕ, _*_, _≤_, _<_}
 use mathlib.Core.Path.{_≡_, refl, sym, ap, subst, _∙_}
-use mathlib.Core.List.{List, []}
+use mathlib.Core.List.{List}
 use native.Mathlib.Omega.{arith}
-use lib.ListN.{length, getD, replicate}
+use lib.ListN.{length, getD}
 use Rattle.areas.specs.Areas.{area}
 use Rattle.areas.proofs.Laws as areas
 use Rattle.model.specs.Answer.{Answer, answer, refused}
-use Rattle.model.specs.Model.{Input, Event, Model}
+use Rattle.model.specs.Model.{Input, Event}
 use Rattle.model.specs.File.{decode}
-use Rattle.model.specs.Rewrite.{rewritten}
 use Rattle.model_rewrite.specs.declared.Span.{Span}
 use Rattle.model_rewrite.specs.Span.{spanW}
 use Rattle.model_rewrite.specs.Written.{file-with, Wrote}
-use Rattle.model_rewrite.proofs.Agrees.{EventWords, asked, told}
+use Rattle.model.specs.Events.{EventWords}
+use Rattle.model_rewrite.proofs.Agrees.{asked, told}
 use Rattle.model_rewrite.proofs.WithEvents.{few-events}
-use Rattle.engine.specs.Memory.{Lent}
 use Rattle.engine.specs.Words.{words-in}
-use Rattle.engine_places.proofs.Accepted.{accepted-decoded}
+use Rattle.engine.proofs.Validated.{accepted-decoded}
 use Rattle.engine_entry.specs.Answers.{lent}
 use Rattle.checker.specs.Check.{Check, checked}
 use Rattle.checker_entry.specs.declared.CheckResult.{CheckResult}
@@ -30,7 +29,6 @@ use Rattle.search_inputs.proofs.Means.{Fine, asc, fine-here, event-size, event-
 use Rattle.search.specs.declared.Plan.{Plan}
 use Rattle.search.specs.Meaning.{none-such, cells-of, sizes, Setting, PlacedAs}
 use Rattle.search.proofs.Cases.{events-at}
-use Rattle.search_entry.specs.declared.Witness.{Witness}
 use Rattle.search_entry.specs.Parts.{Writable, Written, Writes}
 
 module _ {f : List ℕ} {p : Plan} {q a u : ℕ} (x : Setting f p q a u) where
@@ -42,7 +40,8 @@ module _ {f : List ℕ} {p : Plan} {q a u : ℕ} (x : Setting f p q a u) where
   words-at vs placed ps j h =
       let c = ps .chosen j h in
       event-words-here f (p .index) (x .m) (x .is-accepted) (x .indexed) (placed .words) none-such vs (ps .words) j h
-      (subst (Fine f (x .indexed .ts) (asc f (p .index) (x .m) (x .is-accepted) (x .indexed))) (sym (c .is)) (fine-here f (p .index) (x .m) (x .is-accepted) (x .indexed) Input.restart (c .place) (c .inside)))
+      (subst (Fine f (x .indexed .ts) (asc f (p .index) (x .m) (x .is-accepted) (x .indexed))) (sym (c .is))
+      (fine-here f (p .index) (x .m) (x .is-accepted) (x .indexed) Input.restart (c .place) (c .inside)))
 
 module _ {f : List ℕ} {p : Plan} {placed : Placed} {q a u o : ℕ} (h : Writable f p placed q a u o) where
   abbrev x : Setting f p q a u
@@ -54,35 +53,46 @@ module _ {f : List ℕ} {p : Plan} {placed : Placed} {q a u o : ℕ} (h : Writab
   pub long : length (placed .words) ≡ 20
   long =
       ap length (h .placed-as .words)
-      ∙ areas.area-length (event-words (x .indexed .ts)) 4 (event-size (x .indexed .ts)) 20 (h .events) (omega (arith, h .few))
+      ∙ areas.area-length (event-words (x .indexed .ts)) 4 (event-size (x .indexed .ts)) 20 (h .events)
+      (omega (arith, h .few))
 
   pub check-asks : (placed .count * 4 ≤ length (placed .words)) × (length (p .ground .reasons) ≡ 1500)
   check-asks = (omega (arith, five, long), x .grounds .room)
 
   pub write-asks : {s : Span} → s ≡ spanW f → (out : List ℕ) → length out ≡ o →
-      (s .start ≤ s .end) × ((s .end ≤ length f) × ((placed .count * 4 ≤ length (placed .words)) × (length (file-with f s (placed .words) (placed .count)) ≤ length out)))
+      (s .start ≤ s .end) × ((s .end ≤ length f)
+      × ((placed .count * 4 ≤ length (placed .words))
+      × (length (file-with f s (placed .words) (placed .count)) ≤ length out)))
   write-asks e out l =
-      asked f (x .m) (p .index) (decoded x) (x .indexed) (placed .words) none-such (h .events) (words-at x (h .events) placed (h .placed-as)) e (h .placed-as .count) out (check-asks .0)
+      asked f (x .m) (p .index) (decoded x) (x .indexed) (placed .words) none-such (h .events)
+      (words-at x (h .events) placed (h .placed-as)) e (h .placed-as .count) out (check-asks .0)
       (omega (arith, few-events f (x .m) (decoded x) (h .events) (h .few), h .room, l))
 
 pub writes-so : {f : List ℕ} {p : Plan} (placed : Placed) {c : CheckResult} {q q' a a' u u' : List ℕ} →
     Checked f (p .index) (p .ground) (placed .words) (placed .count) c q q' a a' u u' → {s : Span} → s ≡ spanW f →
     {n : ℕ} {out out' : List ℕ} → Wrote (file-with f s (placed .words) (placed .count)) n out out' →
-    Writes f p placed (record { events = placed .count; words = placed .words; written = n; check = c }) (length q) (length a) (length u) (lent q' a' u') out out'
+    Writes f p placed (record { events = placed .count; words = placed .words; written = n; check = c }) (length q)
+    (length a) (length u) (lent q' a' u') out out'
 writes-so {f} {p} placed {c} {q} {q'} {a} {a'} {u} {u'} ch {s} e {n} {out} {out'} wr = record {
-  does = λ x vs ps b y. by x vs ps b y (promise f (p .index) (x .m) (x .is-accepted) (x .indexed) (x .bytes) (p .ground) (x .grounds) (placed .words) none-such vs (events-at x vs ps) (ps .count) ch);
+  does = λ x vs ps b y. by x vs ps b y
+      (promise f (p .index) (x .m) (x .is-accepted) (x .indexed) (x .bytes) (p .ground) (x .grounds)
+      (placed .words) none-such vs (events-at x vs ps) (ps .count) ch);
 }
   where
-    by : (x : Setting f p (length q) (length a) (length u)) (vs : List Event) (ps : PlacedAs (x .indexed .ts) (x .m) vs placed) (b : Check) →
+    by : (x : Setting f p (length q) (length a) (length u)) (vs : List Event)
+        (ps : PlacedAs (x .indexed .ts) (x .m) vs placed) (b : Check) →
         checked (sizes (length q) (length a) (length u)) (x .m) (cells-of (x .m)) vs ≡ answer b →
-        Promise f (p .index) (x .m) (x .is-accepted) (x .indexed) (x .bytes) (p .ground) (x .grounds) (placed .words) none-such vs (events-at x vs ps) (ps .count) ch →
-        Written f vs b placed (record { events = placed .count; words = placed .words; written = n; check = c }) (length q) (length a) (length u) (lent q' a' u') out out'
+        Promise f (p .index) (x .m) (x .is-accepted) (x .indexed) (x .bytes) (p .ground) (x .grounds)
+        (placed .words) none-such vs (events-at x vs ps) (ps .count) ch →
+        Written f vs b placed (record { events = placed .count; words = placed .words; written = n; check = c })
+        (length q) (length a) (length u) (lent q' a' u') out out'
     by x vs ps b y (answers d z k l) =
         let same : d ≡ b = (let i : answer d ≡ answer b = sym z ∙ y in cc) in
         record {
           events = refl;
           words = refl;
-          written = told f (x .m) (p .index) (decoded x) (x .indexed) (placed .words) none-such vs (words-at x vs placed ps) e (ps .count) wr;
+          written = told f (x .m) (p .index) (decoded x) (x .indexed) (placed .words) none-such vs
+              (words-at x vs placed ps) e (ps .count) wr;
           check = subst (said.Shows f c) same k;
           queue = ch .ran .does .queue;
           records = subst (λ (i : Check). a' ≡ area (words-in f) (length a) (i .simulation .trace)) same l;

@@ -1,30 +1,28 @@
 -- What a search of an accepted model goes by, and where it starts.
 use Prim.Native.Nat.{ℕ, _+_, _≤_, _<_}
-use mathlib.Core.Path.{_≡_, refl, sym, ap, subst, _∙_}
+use mathlib.Core.Path.{_≡_, sym, ap, subst, _∙_}
 use mathlib.Core.Bool.{false}
 use mathlib.Core.List.{List, [], _∷_}
 use mathlib.Core.Option.{none}
 use native.Mathlib.Omega.{arith}
-use lib.ListN.{length, getD, length-append}
+use lib.ListN.{getD, length-append}
 use Rattle.texts.specs.Lists.{flat}
-use Rattle.texts.specs.Texts.{Text, sortedT}
-use Rattle.reasons.specs.Lists.{listed, insertAll, Holds}
+use Rattle.texts.specs.Texts.{Text}
+use Rattle.reasons.specs.Lists.{insertAll, Holds}
 use Rattle.reasons.proofs.Sorting.{one-by-one}
 use Rattle.model.specs.Answer.{answer}
 use Rattle.model.specs.Model.{Limits, Model}
-use Rattle.model.specs.File.{got, u32, limits}
+use Rattle.model.specs.File.{u32, limits}
 use Rattle.model.specs.Validate.{accepted}
 use Rattle.model_walk.proofs.Found.{bound, given, u32-wide}
 use Rattle.model_index.specs.declared.Index.{Index}
 use Rattle.model_index.specs.Indexed.{Indexed}
 use Rattle.engine.specs.Reasons.{unsupported-wait}
-use Rattle.engine.specs.Simulate as engine
 use Rattle.engine.specs.Unsupported.{unsupported}
 use Rattle.engine_reads.specs.Reads.{four, cap}
 use Rattle.engine_places.specs.Meaning.{rule-pool, pool-of}
 use Rattle.engine_places.proofs.Accepted.{accepted-lawful, accepted-small}
 use Rattle.engine_places.proofs.Numbers.{four-is, cap-is, most-is}
-use Rattle.engine_entry.specs.declared.Ground.{Ground}
 use Rattle.engine_entry.specs.Answers.{Grounds}
 use Rattle.engine_entry.proofs.Core.{tb, notes-held}
 use Rattle.checker.specs.Verify as verify
@@ -37,7 +35,6 @@ use Rattle.search.specs.declared.Search.{Search}
 use Rattle.search.specs.Parts.{limitV, Plans, Fitted, Begins}
 use Rattle.search.specs.Meaning.{cells-of, Setting, Held}
 use Rattle.search.proofs.Cases.{widen}
-use Rattle.search.proofs.Sorted.{sorted-again}
 
 -- ---- the limits
 
@@ -77,10 +74,6 @@ module _ (f : List ℕ) (i : Index) (m : Model) (acc : accepted f ≡ answer m) 
     pub few : Searchable m
     few = accepted-searchable f m acc
 
-    -- the index stands in the plan
-    stand-in : Indexed f (p .index) m
-    stand-in = subst (λ (j : Index). Indexed f j m) (sym (h .index)) o
-
     abbrev pub setting : (q a u : ℕ) → (e : p .index ≡ i) → Setting f p q a u
     setting q a u e =
         let al = subst (λ (j : Index). AlphabetOf f j (p .alphabet)) (sym e) (h .alphabet) in
@@ -92,9 +85,11 @@ module _ (f : List ℕ) (i : Index) (m : Model) (acc : accepted f ≡ answer m) 
           indexed = ix;
           bytes = bytes;
           grounds = subst (λ (j : Index). Grounds f j (p .ground)) (sym e) (h .ground);
-          inputs = h .alphabet .count ∙ most-is (i .alphabet .count) 12 (omega (arith, o .alphabet .counts, few .few-inputs)) ∙ o .alphabet .counts;
+          inputs = h .alphabet .count ∙ most-is (i .alphabet .count) 12
+              (omega (arith, o .alphabet .counts, few .few-inputs)) ∙ o .alphabet .counts;
           words = alphabet-is f (p .index) m acc ix (p .alphabet) al;
-          gaps = h .gaps .count ∙ most-is (i .gaps .count) 4 (omega (arith, o .gaps .counts, few .few-gaps)) ∙ o .gaps .counts;
+          gaps = h .gaps .count ∙ most-is (i .gaps .count) 4 (omega (arith, o .gaps .counts, few .few-gaps))
+              ∙ o .gaps .counts;
           seconds = gaps-are f (p .index) m acc ix (p .gaps) ga;
           few-inputs = few .few-inputs;
           few-gaps = few .few-gaps;
@@ -107,8 +102,20 @@ module _ (f : List ℕ) (i : Index) (m : Model) (acc : accepted f ≡ answer m) 
     pub fitted : {n : ℕ} → n ≡ 4000 → Fitted p n
     fitted e = record {
       reasons = h .ground .room;
-      inputs = omega (arith, h .alphabet .count, most-is (i .alphabet .count) 12 (omega (arith, o .alphabet .counts, few .few-inputs)), o .alphabet .counts, few .few-inputs);
-      gaps = omega (arith, h .gaps .count, most-is (i .gaps .count) 4 (omega (arith, o .gaps .counts, few .few-gaps)), o .gaps .counts, few .few-gaps);
+      inputs = omega (
+        arith,
+        h .alphabet .count,
+        most-is (i .alphabet .count) 12 (omega (arith, o .alphabet .counts, few .few-inputs)),
+        o .alphabet .counts,
+        few .few-inputs,
+      );
+      gaps = omega (
+        arith,
+        h .gaps .count,
+        most-is (i .gaps .count) 4 (omega (arith, o .gaps .counts, few .few-gaps)),
+        o .gaps .counts,
+        few .few-gaps,
+      );
       cases = h .cases .most;
       area = e;
     }
@@ -116,13 +123,28 @@ module _ (f : List ℕ) (i : Index) (m : Model) (acc : accepted f ≡ answer m) 
 -- ---- the start
 
 abbrev pub start-of : Model → verify.Search
-start-of m = record { cases = 0; total-steps = 0; reasons = unsupported (m .rules); witness = none; shortest = false; stopped = false }
+start-of m = record {
+  cases = 0;
+  total-steps = 0;
+  reasons = unsupported (m .rules);
+  witness = none;
+  shortest = false;
+  stopped = false;
+}
 
 module _ {f : List ℕ} {p : Plan} {q a u : ℕ} (x : Setting f p q a u) where
   few-notes : p .ground .count ≤ 300
   unfolding pool-of
   few-notes =
-      omega (arith, notes-held f (p .index) (x .m) (x .is-accepted) (x .indexed) (x .bytes) (p .ground) (x .grounds) .many, tb f (p .index) (x .m) (x .is-accepted) (x .indexed) (x .bytes) (p .ground) (x .grounds) .few-reasons, length-append (unsupported (x .m .rules)) (unsupported-wait ∷ flat rule-pool (x .m .rules)))
+      omega (
+        arith,
+        notes-held f (p .index) (x .m) (x .is-accepted) (x .indexed) (x .bytes) (p .ground)
+            (x .grounds) .many,
+        tb f (p .index) (x .m) (x .is-accepted) (x .indexed) (x .bytes) (p .ground)
+            (x .grounds) .few-reasons,
+        length-append (unsupported (x .m .rules))
+            (unsupported-wait ∷ flat rule-pool (x .m .rules)),
+      )
 
   pub start-held : {o : Search} {w : List ℕ} → Begins f (p .ground) o w → Held x (start-of (x .m)) o w
   start-held {o} {w} b = record {
@@ -131,9 +153,13 @@ module _ {f : List ℕ} {p : Plan} {q a u : ℕ} (x : Setting f p q a u) where
     steps = b .steps;
     reasons =
         subst (λ (l : List Text). Holds f l (o .reasons) w)
-        (ap (λ (l : List Text). insertAll l []) (notes-held f (p .index) (x .m) (x .is-accepted) (x .indexed) (x .bytes) (p .ground) (x .grounds) .texts) ∙ one-by-one (unsupported (x .m .rules)))
+        (ap (λ (l : List Text). insertAll l [])
+        (notes-held f (p .index) (x .m) (x .is-accepted) (x .indexed) (x .bytes) (p .ground) (x .grounds) .texts)
+        ∙ one-by-one (unsupported (x .m .rules)))
         (b .reasons few-notes);
-    within = widen x (unsupported (x .m .rules)) (notes-among (x .m) (cells-of (x .m)) (record { trace = []; final-state = []; unknown = []; incomplete = []; steps = 0; horizon = 0 }));
+    within = widen x (unsupported (x .m .rules))
+        (notes-among (x .m) (cells-of (x .m))
+        (record { trace = []; final-state = []; unknown = []; incomplete = []; steps = 0; horizon = 0 }));
     shortest = b .shortest;
     stopped = b .stopped;
     witness = b .found;

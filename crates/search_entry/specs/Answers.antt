@@ -14,6 +14,7 @@ use Rattle.engine.specs.Memory.{Lent, entries, lent-after}
 use Rattle.engine.specs.Records.{Trace}
 use Rattle.engine.specs.Words.{texts-in, words-in, entry-words}
 use Rattle.checker.specs.Verify as verify
+use Rattle.checker_entry.specs.declared.CheckResult.{CheckResult}
 use Rattle.checker_entry.specs.Answers.{no-check}
 use Rattle.checker_entry.specs.Answers as check
 use Rattle.search_inputs.specs.Inputs.{input-words, event-words, gap-words}
@@ -65,8 +66,9 @@ pub record Shows (f : List ℕ) (r : Verification) (v : verify.Verification) : T
   pub shortest : r .shortest ≡ v .shortest
   pub witness : WitnessSays f r (v .witness)
 
-unfoldable pub no-verification : (number : ℕ) → Verification
-no-verification n = record {
+-- an answer that says no more than its number, with a check beside it
+abbrev pub unverified : (number : ℕ) → CheckResult → Verification
+unverified n c = record {
   status = found.Refused n;
   cases = 0;
   total = 0;
@@ -84,8 +86,11 @@ no-verification n = record {
   events = 0;
   words = replicate 20 0;
   written = 0;
-  check = no-check 0;
+  check = c;
 }
+
+unfoldable pub no-verification : (number : ℕ) → Verification
+no-verification n = unverified n (no-check 0)
 
 abbrev pub Says : (file : List ℕ) → Verification → Answer verify.Verification → Type 0
 Says f r (answer v) = Shows f r v
@@ -102,7 +107,8 @@ unfoldable pub output-after : (file : List ℕ) → Answer verify.Verification �
 output-after f (answer v) o = elim (verify.witness-file f v) [ none ↦ o | some b ↦ b ++ drop (length b) o ]
 output-after f (refused n) o = o
 
-pub record Gives (f : List ℕ) (r : Verification) (v : Answer verify.Verification) (before after : Lent) (o o' : List ℕ) : Type 0 where
+pub record Gives (f : List ℕ) (r : Verification) (v : Answer verify.Verification) (before after : Lent)
+    (o o' : List ℕ) : Type 0 where
   pub says : Says f r v
   pub memory : after ≡ lent-after (words-in f) witness-trace v before
   pub output : o' ≡ output-after f v o

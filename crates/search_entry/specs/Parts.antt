@@ -2,7 +2,7 @@
 use Prim.Native.Nat.{ℕ, _+_, _≤_}
 use mathlib.Core.Path.{_≡_}
 use mathlib.Core.Bool.{Bool}
-use mathlib.Core.List.{List, [], _∷_}
+use mathlib.Core.List.{List, []}
 use lib.Dec.{eqb}
 use lib.ListN.{length, replicate}
 use Rattle.texts.specs.Lists.{if_then_else_}
@@ -69,7 +69,8 @@ pub record Writable (f : List ℕ) (p : Plan) (placed : Placed) (q a u o : ℕ) 
   pub placed-as : PlacedAs (setting .indexed .ts) (setting .m) events placed
   pub room : length f + 45 ≤ o
 
-pub record Written (f : List ℕ) (vs : List Event) (c : Check) (placed : Placed) (r : Witness) (q a u : ℕ) (after : Lent) (o o' : List ℕ) : Type 0 where
+pub record Written (f : List ℕ) (vs : List Event) (c : Check) (placed : Placed) (r : Witness) (q a u : ℕ) (after : Lent)
+    (o o' : List ℕ) : Type 0 where
   pub events : r .events ≡ placed .count
   pub words : r .words ≡ placed .words
   pub written : Wrote (rewritten f vs) (r .written) o o'
@@ -78,7 +79,8 @@ pub record Written (f : List ℕ) (vs : List Event) (c : Check) (placed : Placed
   pub records : after .records ≡ area (words-in f) a (c .simulation .trace)
   pub runs : after .runs ≡ replicate u 0
 
-pub record Writes (f : List ℕ) (p : Plan) (placed : Placed) (r : Witness) (q a u : ℕ) (after : Lent) (o o' : List ℕ) : Type 0 where
+pub record Writes (f : List ℕ) (p : Plan) (placed : Placed) (r : Witness) (q a u : ℕ) (after : Lent)
+    (o o' : List ℕ) : Type 0 where
   pub does : (x : Setting f p q a u) (vs : List Event) → PlacedAs (x .indexed .ts) (x .m) vs placed →
       (c : Check) → checked (sizes q a u) (x .m) (cells-of (x .m)) vs ≡ answer c → Written f vs c placed r q a u after o o'
 
@@ -107,7 +109,8 @@ trace-in (answer v) = witness-trace v
 trace-in (refused n) = []
 
 -- the answer, the areas of q, a and u words, and the output
-pub record Ending (f : List ℕ) (r : Verification) (v : Answer verify.Verification) (q a u : ℕ) (after : Lent) (o o' : List ℕ) : Type 0 where
+pub record Ending (f : List ℕ) (r : Verification) (v : Answer verify.Verification) (q a u : ℕ) (after : Lent)
+    (o o' : List ℕ) : Type 0 where
   pub says : Says f r v
   pub number : Begun v
   pub queue : after .queue ≡ replicate q 0
@@ -115,8 +118,10 @@ pub record Ending (f : List ℕ) (r : Verification) (v : Answer verify.Verificat
   pub runs : after .runs ≡ replicate u 0
   pub output : o' ≡ output-after f v o
 
-pub record Ends (f : List ℕ) (p : Plan) (s : Search) (w : List ℕ) (r : Verification) (q a u : ℕ) (after : Lent) (o o' : List ℕ) : Type 0 where
-  pub does : (x : Setting f p q a u) (y : Answer verify.Search) → Outcome x y s w → Ending f r (answer-of (x .m) y) q a u after o o'
+pub record Ends (f : List ℕ) (p : Plan) (s : Search) (w : List ℕ) (r : Verification) (q a u : ℕ) (after : Lent)
+    (o o' : List ℕ) : Type 0 where
+  pub does : (x : Setting f p q a u) (y : Answer verify.Search) → Outcome x y s w
+      → Ending f r (answer-of (x .m) y) q a u after o o'
 
 -- ---- the accepted model
 
@@ -127,7 +132,8 @@ pub record Accepted (f : List ℕ) (i : Index) : Type 0 where
 
 -- the search of an accepted model
 pub record Runs (f : List ℕ) (i : Index) (r : Verification) (q a u : ℕ) (after : Lent) (o o' : List ℕ) : Type 0 where
-  pub does : (m : Model) → accepted f ≡ answer m → Indexed f i m → Ending f r (verify.verified (sizes q a u) m (cells-of m)) q a u after o o'
+  pub does : (m : Model) → accepted f ≡ answer m → Indexed f i m
+      → Ending f r (verify.verified (sizes q a u) m (cells-of m)) q a u after o o'
 
 pub record Admits (f : List ℕ) (i : Index) (r : Verification) (before after : Lent) (o o' : List ℕ) : Type 0 where
   pub does : (m : Model) → accepted f ≡ answer m → Indexed f i m → Verifies f r before after o o'

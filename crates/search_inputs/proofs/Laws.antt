@@ -1,9 +1,8 @@
 -- The laws that the proofs of this crate's functions cite.
-use mathlib.Core.Path.{_≡_, refl, sym, ap, _∙_}
+use mathlib.Core.Path.{_≡_, sym, ap, _∙_}
 use mathlib.Core.List.{List}
 use Prim.Native.Nat.{ℕ, _+_, _-_, _*_, _/_, _%_, _≤_, _<_}
-use native.Mathlib.Omega.{arith}
-use lib.ListN.{length, getD}
+use lib.ListN.{getD}
 use borrow.Author.Tests.{lt-ltb, le-ltb, eq-eqb, ne-eqb}
 use Rattle.model_index.specs.declared.Index.{Index}
 use Rattle.engine_reads.specs.Reads.{two, four, cap}
@@ -28,7 +27,8 @@ module _ (s : List ℕ) (p j : ℕ) {kind : ℕ} (is-kind : kind ≡ getD s p 0)
   part-value a b c {r} h = h ∙ rw (ne-eqb j 0 a, ← is-kind, eq-eqb kind 0 b, ne-eqb j 1 c)
 
 module _ (s : List ℕ) (i : Index) (k : ℕ) where
-  pub word-in : {p r : ℕ} → k / 3 < i .alphabet .count → p ≡ cap (getD (i .alphabet .starts) (k / 3) 0) → r ≡ input-part s p (k % 3) → r ≡ input-word s i k
+  pub word-in : {p r : ℕ} → k / 3 < i .alphabet .count → p ≡ cap (getD (i .alphabet .starts) (k / 3) 0)
+      → r ≡ input-part s p (k % 3) → r ≡ input-word s i k
   unfolding input-word
   word-in h a b = b ∙ ap (λ (p : ℕ). input-part s p (k % 3)) a ∙ sym (rw (lt-ltb (k / 3) (i .alphabet .count) h))
 

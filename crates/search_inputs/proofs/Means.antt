@@ -1,42 +1,49 @@
 -- The words are the model's: its inputs and gaps, and the events that a search places from them.
-use mathlib.Core.Path.{_≡_, refl, sym, ap, _∙_, subst}
-use mathlib.Core.List.{List, [], _∷_, _++_}
+use mathlib.Core.Path.{_≡_, refl, sym, ap, _∙_}
+use mathlib.Core.List.{List}
 use mathlib.Core.Bool.{true}
 use Prim.Native.Nat.{ℕ, zero, suc, _+_, _*_, _-_, _/_, _%_, _≤_, _<_}
 use native.Mathlib.Omega.{arith}
 use native.Mathlib.Decide.{decLt}
-use lib.ListN.{length, getD, replicate, length-append, length-replicate}
+use lib.ListN.{length, getD, replicate}
 use lib.Seq.{ext-getD}
-use borrow.Author.Tests.{lt-ltb, le-ltb, eq-eqb, ne-eqb}
+use borrow.Author.Tests.{lt-ltb, le-ltb, ne-eqb}
 use Rattle.texts.specs.Lists.{each}
 use Rattle.texts.specs.Texts.{Text}
-use Rattle.areas.specs.Areas.{area, written}
+use Rattle.areas.specs.Areas.{area}
 use Rattle.areas.proofs.Laws as areas
 use Rattle.model.specs.Answer.{answer, accept}
 use Rattle.model.specs.Model.{Event, Input, reload, Model}
-use Rattle.model.specs.File.{got, Reader, _>>=_, give, refuse, u32, place, input, ascending}
+use Rattle.model.specs.File.{got, input, ascending}
 use Rattle.model.specs.Rewrite.{place-of}
+use Rattle.model.specs.Events.{InputWords, EventWords}
 use Rattle.model.specs.Validate.{check-input, accepted}
-use Rattle.model_walk.proofs.Found as found
-use Rattle.model_walk.proofs.Found.{bound, given, u8-wide, u16-wide, u32-wide, kind-found, place-found}
+use Rattle.model_walk.proofs.Found.{u32-wide}
 use Rattle.model_index.specs.declared.Index.{Index}
 use Rattle.model_index.specs.Indexed.{Indexed}
-use Rattle.model_rewrite.proofs.Agrees as rewrite
-use Rattle.model_rewrite.proofs.Agrees.{EventWords, place-is, texts-found}
-use Rattle.engine.proofs.Lists.{Each}
+use Rattle.model_rewrite.proofs.Agrees.{place-is, texts-found}
 use Rattle.engine_reads.specs.Reads.{two, four, cap}
 use Rattle.engine_places.specs.Meaning.{Tabled}
 use Rattle.engine_places.proofs.Accepted.{accepted-lawful}
-use Rattle.engine_places.proofs.Checked.{each-split}
 use Rattle.engine_places.proofs.Lists as lists
-use Rattle.engine_places.proofs.Numbers.{byte-is, two-is, four-is, cap-is}
-use Rattle.engine_places.proofs.Outcome as outcome
+use Rattle.engine_places.proofs.Numbers.{four-is, cap-is}
 use Rattle.engine_places.proofs.Outcome.{event-at}
-use Rattle.engine_places.proofs.Simulated.{EventAt}
+use Rattle.engine_places.specs.Events.{EventAt}
+use Rattle.engine_begin.proofs.Begins.{input-inside, input-read}
 use Rattle.search_inputs.specs.declared.Alphabet.{Alphabet}
 use Rattle.search_inputs.specs.declared.Gaps.{Gaps}
-use Rattle.search_inputs.specs.Inputs.{input-words, event-words, gap-words, input-part, input-word, AlphabetOf, gap-word, GapsOf}
+use Rattle.search_inputs.specs.Inputs.{
+  input-words,
+  event-words,
+  gap-words,
+  input-part,
+  input-word,
+  AlphabetOf,
+  gap-word,
+  GapsOf,
+}
 use Rattle.search_inputs.proofs.Lawful.{Searchable, accepted-searchable}
+use Rattle.engine.proofs.Lists.{each-split}
 
 -- ---- sizes
 
@@ -61,7 +68,8 @@ module _ {A : Type 0} (enc : A → List ℕ) (size : ℕ) (sized : (x : A) → l
   word-behind : (len : ℕ) (l : List A) (k : ℕ) → length l * size ≤ k → getD (area enc len l) k 0 ≡ 0
   unfolding area
   word-behind len l k h =
-      let e : length (Rattle.areas.specs.Areas.words enc l) + (k - length l * size) ≡ k = omega (arith, areas.words-length enc size sized l) in
+      let e : length (Rattle.areas.specs.Areas.words enc l) + (k - length l * size)
+      ≡ k = omega (arith, areas.words-length enc size sized l) in
       ap (λ (n : ℕ). getD (area enc len l) n 0) (sym e)
       ∙ lib.Seq.getD-append-add (Rattle.areas.specs.Areas.words enc l) _ (k - length l * size) 0
       ∙ zeros (len - length (Rattle.areas.specs.Areas.words enc l)) (k - length l * size)
@@ -76,7 +84,7 @@ module _ {A : Type 0} (enc : A → List ℕ) (size : ℕ) (sized : (x : A) → l
 module _ (f : List ℕ) (ts : List Text) (asc : ascending ts ≡ true) where
   -- an input whose texts stand among the file's
   abbrev pub Fine : Input → Type 0
-  Fine v = rewrite.InputWords ts (getD (input-words ts v) 0 0) (getD (input-words ts v) 1 0) (getD (input-words ts v) 2 0) v
+  Fine v = InputWords ts (getD (input-words ts v) 0 0) (getD (input-words ts v) 1 0) (getD (input-words ts v) 2 0) v
 
   record InputAt (p : ℕ) (v : Input) : Type 0 where
     kind : getD f p 0 ≡ getD (input-words ts v) 0 0
@@ -85,57 +93,35 @@ module _ (f : List ℕ) (ts : List Text) (asc : ascending ts ≡ true) where
     fine : Fine v
     inside : p ≤ length f
 
-  input-kinds : List (Reader Input)
-  input-kinds = (place ts >>= λ e. place ts >>= λ v. give (Input.set e v)) ∷ give Input.restart ∷ give reload ∷ []
-
-  input-read : (p : ℕ) (v : Input) (q : ℕ) → input ts f p ≡ got v q → InputAt p v
-  unfolding input input-kinds input-words input-part
-  input-read p v q h = cases (k .kind) (byte-is f p (k .is-kind)) (k .holds)
+  input-at : (p : ℕ) (v : Input) (q : ℕ) → input ts f p ≡ got v q → InputAt p v
+  unfolding input-words input-part
+  input-at p v q h = cases v (input-read f ts p v q h)
     where
-      k : found.Kind input-kinds f p v q
-      k = kind-found input-kinds h
-
-      near : p ≤ length f
-      near = let z = u8-wide f p (k .is-kind) in omega (arith, z .inside)
-
-      plain : (n : ℕ) (w : Input) → getD f p 0 ≡ suc n → getD (input-words ts w) 0 0 ≡ suc n → getD (input-words ts w) 1 0 ≡ 0 → getD (input-words ts w) 2 0 ≡ 0 → Fine w → InputAt p w
+      plain : (n : ℕ) (w : Input) → getD f p 0 ≡ suc n → getD (input-words ts w) 0 0 ≡ suc n
+          → getD (input-words ts w) 1 0 ≡ 0 → getD (input-words ts w) 2 0 ≡ 0 → Fine w → InputAt p w
       plain n w e a b c d = record {
         kind = e ∙ sym a;
         entity = rw (e, ne-eqb (suc n) 0 (λ z. absurd (omega arith))) (sym b);
         value = rw (e, ne-eqb (suc n) 0 (λ z. absurd (omega arith))) (sym c);
         fine = d;
-        inside = near;
+        inside = input-inside f ts p v q h;
       }
 
-      cases : (n : ℕ) → getD f p 0 ≡ n → getD input-kinds n refuse f (k .next) ≡ got v q → InputAt p v
-      cases zero e y =
-          let a = bound (place ts) _ y in
-          let b = bound (place ts) _ (a .rest) in
-          let g = given _ _ _ (b .rest) in
-          let u = place-found ts (a .first) in
-          let w = place-found ts (b .first) in
-          let z = u8-wide f p (k .is-kind) in
-          let o = u16-wide f (k .next) (u .is-place) in
-          let eu : two f (p + 1) ≡ u .at = ap (two f) (sym (z .ends)) ∙ two-is f (k .next) (u .is-place) in
-          let at : p + 3 ≡ a .next = omega (arith, z .ends, o .ends) in
-          let ew : two f (p + 3) ≡ w .at = ap (two f) at ∙ two-is f (a .next) (w .is-place) in
-          let pu : place-of (a .value) ts ≡ u .at = ap (λ (t : Text). place-of t ts) (u .is-text) ∙ place-is ts asc (u .at) (u .is-in) in
-          let pw : place-of (b .value) ts ≡ w .at = ap (λ (t : Text). place-of t ts) (w .is-text) ∙ place-is ts asc (w .at) (w .is-in) in
-          subst (InputAt p) (g .0)
-          (record {
-            kind = e;
-            entity = rw e (eu ∙ sym pu);
-            value = rw e (ew ∙ sym pw);
-            fine = (refl, ((rw pu (u .is-in), rw pu (u .is-text)), (rw pw (w .is-in), rw pw (w .is-text))));
-            inside = near;
-          })
-      cases (suc zero) e y =
-          subst (InputAt p) (given _ _ _ y .0)
-          (plain 0 Input.restart e refl refl refl refl)
-      cases (suc (suc zero)) e y =
-          subst (InputAt p) (given _ _ _ y .0)
-          (plain 1 reload e refl refl refl refl)
-      cases (suc (suc (suc n))) e y = absurd (found.refused f (k .next) y)
+      cases : (w : Input) → InputWords ts (getD f p 0) (two f (p + 1)) (two f (p + 3)) w → InputAt p w
+      cases (Input.set a b) y =
+          let pu : place-of a ts ≡ two f (p + 1) = ap (λ (t : Text). place-of t ts) (y .1 .0 .1)
+          ∙ place-is ts asc (two f (p + 1)) (y .1 .0 .0) in
+          let pw : place-of b ts ≡ two f (p + 3) = ap (λ (t : Text). place-of t ts) (y .1 .1 .1)
+          ∙ place-is ts asc (two f (p + 3)) (y .1 .1 .0) in
+          record {
+            kind = y .0;
+            entity = rw (y .0) (sym pu);
+            value = rw (y .0) (sym pw);
+            fine = (refl, ((rw pu (y .1 .0 .0), rw pu (y .1 .0 .1)), (rw pw (y .1 .1 .0), rw pw (y .1 .1 .1))));
+            inside = input-inside f ts p v q h;
+          }
+      cases Input.restart y = plain 0 Input.restart y refl refl refl refl
+      cases reload y = plain 1 reload y refl refl refl refl
 
 -- ---- of an accepted file
 
@@ -166,7 +152,7 @@ module _ (f : List ℕ) (i : Index) (m : Model) (acc : accepted f ≡ answer m) 
   input-here : (d : Input) (k : ℕ) → k < length is → InputAt f ts asc (getD (i .alphabet .starts) k 0) (getD is k d)
   input-here d k h =
       let r = o .alphabet .stand d k (omega (arith, h, few .few-inputs)) h in
-      input-read f ts asc (getD (i .alphabet .starts) k 0) (getD is k d) (r .0) (r .1)
+      input-at f ts asc (getD (i .alphabet .starts) k 0) (getD is k d) (r .0) (r .1)
 
   pub fine-here : (d : Input) (k : ℕ) → k < length is → Fine f ts asc (getD is k d)
   fine-here d k h = input-here d k h .fine
@@ -198,7 +184,8 @@ module _ (f : List ℕ) (i : Index) (m : Model) (acc : accepted f ≡ answer m) 
         ∙ ap (λ (n : ℕ). getD (area (input-words ts) 36 is) n 0) e)
     | no l ↦
         let c : i .alphabet .count ≤ k / 3 = omega (arith, l, o .alphabet .counts) in
-        rw (le-ltb (k / 3) (i .alphabet .count) c) (sym (word-behind (input-words ts) 3 (input-size ts) 36 is k (omega (arith, l))))
+        rw (le-ltb (k / 3) (i .alphabet .count) c)
+        (sym (word-behind (input-words ts) 3 (input-size ts) 36 is k (omega (arith, l))))
   ]
 
   pub alphabet-is : (r : Alphabet) → AlphabetOf f i r → r .words ≡ area (input-words ts) 36 is
@@ -209,7 +196,8 @@ module _ (f : List ℕ) (i : Index) (m : Model) (acc : accepted f ≡ answer m) 
 
   -- ---- the gaps
 
-  gap-read : (k : ℕ) → k < length gs → (four f (getD (i .gaps .starts) k 0) ≡ getD gs k 0) × (getD (i .gaps .starts) k 0 ≤ length f)
+  gap-read : (k : ℕ) → k < length gs → (four f (getD (i .gaps .starts) k 0) ≡ getD gs k 0)
+      × (getD (i .gaps .starts) k 0 ≤ length f)
   gap-read k h =
       let r = o .gaps .stand 0 k (omega (arith, h, few .few-gaps)) h in
       let w = u32-wide f (getD (i .gaps .starts) k 0) (r .1) in
@@ -239,19 +227,21 @@ module _ (f : List ℕ) (i : Index) (m : Model) (acc : accepted f ≡ answer m) 
 
   -- ---- the events placed
 
-  module _ (l : List ℕ) (d : Event) (vs : List Event) (is-area : l ≡ area (event-words ts) 20 vs) (j : ℕ) (h : j < length vs) where
+  module _ (l : List ℕ) (d : Event) (vs : List Event) (is-area : l ≡ area (event-words ts) 20 vs) (j : ℕ)
+      (h : j < length vs) where
     abbrev v : Event
     v = getD vs j d
 
     word-here : (k : ℕ) → k < 4 → getD l (j * 4 + k) 0 ≡ getD (event-words ts v) k 0
-    word-here k g = ap (λ (y : List ℕ). getD y (j * 4 + k) 0) is-area ∙ areas.word-is (event-words ts) 4 (event-size ts) 20 vs j k d h g
+    word-here k g = ap (λ (y : List ℕ). getD y (j * 4 + k) 0) is-area
+        ∙ areas.word-is (event-words ts) 4 (event-size ts) 20 vs j k d h g
 
     second-here : getD l (j * 4) 0 ≡ v .at
     unfolding event-words
     second-here = let e : j * 4 ≡ j * 4 + 0 = omega arith in ap (λ (n : ℕ). getD l n 0) e ∙ word-here 0 (omega arith)
 
     input-here-so : Fine f ts asc (v .input) →
-        rewrite.InputWords ts (getD l (j * 4 + 1) 0) (getD l (j * 4 + 2) 0) (getD l (j * 4 + 3) 0) (v .input)
+        InputWords ts (getD l (j * 4 + 1) 0) (getD l (j * 4 + 2) 0) (getD l (j * 4 + 3) 0) (v .input)
     unfolding event-words
     input-here-so w = rw (word-here 1 (omega arith), word-here 2 (omega arith), word-here 3 (omega arith)) w
 
@@ -262,10 +252,4 @@ module _ (f : List ℕ) (i : Index) (m : Model) (acc : accepted f ≡ answer m) 
     -- for the simulator
     pub event-at-here : (x : List ℕ) (tb : Tabled f x ts m) → Fine f ts asc (v .input) →
         check-input (m .scenario .entities) (v .input) ≡ accept → EventAt f x ts m tb l j v
-    event-at-here x tb w c = event-at f x ts m tb l j v c second-here (same (v .input) (input-here-so w))
-      where
-        same : (y : Input) → rewrite.InputWords ts (getD l (j * 4 + 1) 0) (getD l (j * 4 + 2) 0) (getD l (j * 4 + 3) 0) y →
-            outcome.InputWords f x ts m tb (getD l (j * 4 + 1) 0) (getD l (j * 4 + 2) 0) (getD l (j * 4 + 3) 0) y
-        same (Input.set a b) z = z
-        same Input.restart z = z
-        same reload z = z
+    event-at-here x tb w c = event-at f x ts m tb l j v c second-here (input-here-so w)

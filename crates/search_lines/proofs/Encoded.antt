@@ -6,7 +6,7 @@ use lib.ListN.{length, getD}
 use Rattle.texts.specs.Places.{textAt, startFrom}
 use Rattle.texts.specs.Texts.{Text}
 use Rattle.model.specs.Model.{Event, Input, reload}
-use Rattle.reduce.specs.Events.{InputWords, EventWords}
+use Rattle.model.specs.Events.{InputWords, EventWords}
 use Rattle.search_lines.specs.Lines.{text-at, input-of, event-of}
 
 -- the texts stand in the file
@@ -25,4 +25,5 @@ module _ (f : List ℕ) (ts : List Text) (stand : (k : ℕ) → k < length ts �
       event-of f (getD l (k * 4) 0) (getD l (k * 4 + 1) 0) (getD l (k * 4 + 2) 0) (getD l (k * 4 + 3) 0) ≡ v
   event-so l k v w =
       ap (λ (s : ℕ). event-of f s (getD l (k * 4 + 1) 0) (getD l (k * 4 + 2) 0) (getD l (k * 4 + 3) 0)) (w .second)
-      ∙ ap (λ (i : Input). record { at = v .at; input = i }) (input-so (getD l (k * 4 + 1) 0) (getD l (k * 4 + 2) 0) (getD l (k * 4 + 3) 0) (v .input) (w .input))
+      ∙ ap (λ (i : Input). record { at = v .at; input = i })
+      (input-so (getD l (k * 4 + 1) 0) (getD l (k * 4 + 2) 0) (getD l (k * 4 + 3) 0) (v .input) (w .input))

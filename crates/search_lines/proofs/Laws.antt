@@ -20,13 +20,21 @@ use Rattle.reduce_entry.specs.declared.Minimized.{Minimized}
 use Rattle.reduce_entry.specs.Answers.{no-reduction, Says, output-after, Minimizes}
 
 -- the new file stands in the output
-pub written-fits : {f : List ℕ} {r : Minimized} {before after : Lent} {o o' : List ℕ} → Minimizes f r before after o o' → length o' ≡ length o →
+pub written-fits : {f : List ℕ} {r : Minimized} {before after : Lent} {o o' : List ℕ} → Minimizes f r before after o o'
+    → length o' ≡ length o →
     r .written ≤ length o
 unfolding output-after no-reduction
-written-fits {f} {r} {before} {after} {o} {o'} x e = by (minimize (entries entry-words before) (length o) f) (x .says) (x .output)
+written-fits {f} {r} {before} {after} {o} {o'} x e = by (minimize (entries entry-words before) (length o) f) (x .says)
+    (x .output)
   where
     by : (y : Answer checker.Minimized) → Says f r y → o' ≡ output-after f y o → r .written ≤ length o
-    by (answer d) s w = omega (arith, e, s .written, ap length w, length-append (reduced-file f d) (drop (length (reduced-file f d)) o))
+    by (answer d) s w = omega (
+      arith,
+      e,
+      s .written,
+      ap length w,
+      length-append (reduced-file f d) (drop (length (reduced-file f d)) o),
+    )
     by (refused n) s w = omega (arith, ap (λ (y : Minimized). y .written) s)
 
 -- ---- the lines

@@ -1,6 +1,6 @@
 -- The first line of an answer of `verify`, and its bounds, with their newlines.
 use Prim.Native.Nat.{ℕ}
-use mathlib.Core.List.{List, _++_}
+use mathlib.Core.List.{_++_}
 use Rattle.texts.specs.Texts.{Text, text, decimal}
 use Rattle.checker.specs.Verify as verify
 use Rattle.search_entry.specs.declared.Found.{Found}

@@ -1,5 +1,4 @@
 use borrow.Author.Needs.{needs}
-use native.Mathlib.Omega.{arith}
 use Rattle.checker_entry.proofs.Entry as entry
 use Rattle.checker_entry.proofs.check.Statement.{statement}
 use Rattle.checker_entry.proofs.check.Tie as tie

@@ -1,4 +1,3 @@
-use borrow.Author.Needs.{needs}
 use mathlib.Core.Path.{refl}
 use Rattle.lint_answer.specs.Answers.{no-lint}
 use Rattle.lint_answer.proofs.refused.Statement.{statement}

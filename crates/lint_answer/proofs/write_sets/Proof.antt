@@ -1,7 +1,7 @@
 use borrow.Author.Needs.{needs}
-use mathlib.Core.Path.{_≡_, refl, sym, _∙_}
+use mathlib.Core.Path.{_≡_, sym, _∙_}
 use Prim.Native.Nat.{_-_}
-use lib.ListN.{getD, replicate}
+use lib.ListN.{getD}
 use Rattle.lint_entry.specs.Order.{fillL}
 use Rattle.lint_entry.proofs.Laws as entry
 use Rattle.lint_walk.proofs.Sizes as sizes

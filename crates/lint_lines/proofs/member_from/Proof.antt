@@ -1,5 +1,5 @@
 use borrow.Author.Needs.{needs}
-use Prim.Native.Nat.{_-_, _≤_, _<_, _+_}
+use Prim.Native.Nat.{_-_, _≤_}
 use Rattle.lint_lines.proofs.member_from.Statement.{statement}
 use Rattle.lint_lines.proofs.member_from.Tie as tie
 use Rattle.lint_lines.proofs.member_from.Reads as reads

@@ -1,7 +1,6 @@
 use borrow.Author.Needs.{needs}
-use mathlib.Core.Path.{_≡_, refl}
+use mathlib.Core.Path.{_≡_}
 use lib.ListN.{length}
-use native.Mathlib.Omega.{arith}
 use Rattle.lint_lines.proofs.put_reads.Statement.{statement}
 use Rattle.lint_lines.proofs.put_reads.Tie as tie
 use Rattle.lint_lines.proofs.put_reads.Reads as reads

@@ -1,8 +1,7 @@
 use borrow.Author.Needs.{needs}
-use Prim.Native.Nat.{_-_, _≤_, _<_, _+_}
-use mathlib.Core.Path.{_≡_, refl}
+use Prim.Native.Nat.{_-_, _≤_}
+use mathlib.Core.Path.{_≡_}
 use lib.ListN.{length}
-use native.Mathlib.Omega.{arith}
 use Rattle.lint_lines.proofs.put_rule_sources.Statement.{statement}
 use Rattle.lint_lines.proofs.put_rule_sources.Tie as tie
 use Rattle.lint_lines.proofs.put_rule_sources.Reads as reads

@@ -1,8 +1,7 @@
 use borrow.Author.Needs.{needs}
-use Prim.Native.Nat.{_-_, _≤_, _<_, _+_}
-use mathlib.Core.Path.{_≡_, refl}
+use Prim.Native.Nat.{_-_}
+use mathlib.Core.Path.{_≡_}
 use lib.ListN.{length}
-use native.Mathlib.Omega.{arith}
 use Rattle.report_lines.proofs.print_interactions.Statement.{statement}
 use Rattle.report_lines.proofs.print_interactions.Tie as tie
 use Rattle.report_lines.proofs.print_interactions.Reads as reads

@@ -1,7 +1,6 @@
 use borrow.Author.Needs.{needs}
-use mathlib.Core.Path.{_≡_, refl}
+use mathlib.Core.Path.{_≡_}
 use lib.ListN.{length}
-use native.Mathlib.Omega.{arith}
 use Rattle.report_lines.proofs.print_touched.Statement.{statement}
 use Rattle.report_lines.proofs.print_touched.Tie as tie
 use Rattle.report_lines.proofs.print_touched.Reads as reads

@@ -1,6 +1,6 @@
 use Rattle.search.proofs.Laws as laws
 use native.Mathlib.Omega.{arith}
-use mathlib.Core.Path.{refl, ap}
+use mathlib.Core.Path.{refl}
 use Rattle.checker_entry.proofs.Laws as entry
 use borrow.Author.Needs.{needs}
 use Rattle.search.proofs.spent.Statement.{statement}

@@ -1,4 +1,3 @@
-use native.Mathlib.Omega.{arith}
 use borrow.Author.Needs.{needs}
 use Rattle.show.proofs.Laws as show
 use Rattle.engine_lines.proofs.Lengths as lengths

@@ -1,0 +1,2 @@
+-- where a text stands among others
+pub mod Places
