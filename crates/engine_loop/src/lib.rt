@@ -62,6 +62,7 @@ fn why_stop(x: &[u32; 436], q: &[u32], st: State, left: u32) -> u32
     }
 }
 
+// An item was taken: the state at its second, and the queue behind its entry.
 fn at_second(st: State, second: u32) -> State
     requires { ⌜ (0 < st .items) × (st .first < 18446744073709551615) ⌝ }
     ensures { λ r. ⌜ r ≡ with-turn second st ⌝ }

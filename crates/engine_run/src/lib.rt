@@ -109,6 +109,7 @@ pub fn simulated(
     areas::clear_all(q);
     areas::clear_all(a);
     areas::clear_all(r);
+    // Free places before the first item and behind it.
     let middle = q.len() / 10;
     let st = start(middle, cells, reasons);
     let e = run_all(f, x, events, count, q, a, r, u, st);
