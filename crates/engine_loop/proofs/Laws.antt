@@ -31,7 +31,7 @@ use Rattle.engine_loop.specs.declared.Ended.{Ended}
 
 -- ---- what comes next
 
-module _ (x q : List ℕ) (st : State) (t : Taken) (ens : queue.Next q (st .items) t) where
+module _ (x q : List ℕ) (st : State) (t : Taken) (ens : queue.Next q (st .first) (st .items) t) where
   after-is : (y : Taken) → t ≡ y → (f a b u : List ℕ) (k : Content) → Held f q a b u st k → next-afterM x y (machine st k) ≡ nextM x (machine st k)
   unfolding nextM
   after-is y e f a b u k held = ap (λ z. next-afterM x z (machine st k)) (sym e ∙ ens .is (k .queue) (sym (held .queue .many)) (held .queue .is))
@@ -115,7 +115,7 @@ pub turn-empty : (f x : List ℕ) {st : State} {q a r u : List ℕ} → st .item
 unfolding turnM turn-withM
 turn-empty f x {st} e d = states.knowing (λ c. turnM f x (machine st c)) d (λ _ q a r u c held. ap (λ t. turn-withM f x t (machine st c)) (nothing-of (c .queue) (sym (held .queue .many) ∙ e)))
 
-module _ (st s : State) (q b : List ℕ) (t : Taken) (took : Took q (st .items) b t) (same : length b ≡ length q) (h : st .items * 5 ≤ length q) (some : 0 < st .items) where
+module _ (st s : State) (q b : List ℕ) (t : Taken) (took : Took q (st .first) (st .items) b t) (same : length b ≡ length q) (h : (st .first + st .items) * 5 ≤ length q) (some : 0 < st .items) where
   pub taken : (i : Item) → t ≡ One i → s ≡ with-turn (i .second) st → Steps (λ c. tookM i (machine st c)) st s (goes q b) kept kept still
   taken i _ e = subst (λ z. Steps (λ c. tookM i (machine st c)) st z (goes q b) kept kept still) (sym e) (record {
     queue = (same, omega (arith, h, same));
@@ -127,7 +127,7 @@ module _ (st s : State) (q b : List ℕ) (t : Taken) (took : Took q (st .items) 
         let l = leftOf secondOf (pop secondOf (c .queue)) in
         record {
           content = states.k-queue l c;
-          held = record { queue = record { room = ap (λ n. n / 5) same ∙ old .room; many = ap (λ n. n - 1) (old .many) ∙ sym (left-length (c .queue) (subst (λ n. 0 < n) (old .many) some)); is = took .left (c .queue) (sym (old .many)) (old .is) ∙ ap (λ n. laid n l) (sym same) }; records = held .records; runs = held .runs; reasons = held .reasons };
+          held = record { queue = record { room = ap (λ n. n / 5) same ∙ old .room; many = ap (λ n. n - 1) (old .many) ∙ sym (left-length (c .queue) (subst (λ n. 0 < n) (old .many) some)); is = took .left some (c .queue) (sym (old .many)) (old .is) ∙ ap (λ n. laid (st .first + 1) n l) (sym same) }; records = held .records; runs = held .runs; reasons = held .reasons };
           is = refl;
         };
   })
@@ -143,7 +143,7 @@ module _ (st s : State) (q b : List ℕ) (t : Taken) (took : Took q (st .items) 
         absurd (not-nothing (c .queue) (subst (λ n. 0 < n) (held .queue .many) some) (sym e ∙ took .is (c .queue) (sym (held .queue .many)) (held .queue .is)));
   }
 
-pub with-taken : {st s : State} {A R : Lent} {q b : List ℕ} {U : Listing} (F : Taken → Machine → Machine) {b' : List ℕ} {t y : Taken} → Took q (st .items) b' t → t ≡ y → Steps (λ c. F y (machine st c)) st s (goes q b) A R U → Steps (λ c. F (takenOf (pop secondOf (c .queue))) (machine st c)) st s (goes q b) A R U
+pub with-taken : {st s : State} {A R : Lent} {q b : List ℕ} {U : Listing} (F : Taken → Machine → Machine) {b' : List ℕ} {t y : Taken} → Took q (st .first) (st .items) b' t → t ≡ y → Steps (λ c. F y (machine st c)) st s (goes q b) A R U → Steps (λ c. F (takenOf (pop secondOf (c .queue))) (machine st c)) st s (goes q b) A R U
 with-taken {st} F took e d = states.knowing (λ c. F (takenOf (pop secondOf (c .queue))) (machine st c)) d (λ f _ a r u c held.
     ap (λ z. F z (machine st c)) (sym e ∙ took .is (c .queue) (sym (held .queue .many)) (held .queue .is)))
 
@@ -223,7 +223,7 @@ pub expiries-all : (x : List ℕ) (e n : ℕ) (m : Machine) → e ≡ n → n �
 unfolding add-expiriesM entities
 expiries-all x e n m h g = ap (λ z. expiriesM x z m) (h ∙ g)
 
-pub timed : (n : ℕ) (st : State) → Does (put-now n) st (record { now = n; items = st .items; records = st .records; active = st .active; reasons = st .reasons; made = st .made; full = st .full; sequences = st .sequences; cells = st .cells }) kept kept kept still
+pub timed : (n : ℕ) (st : State) → Does (put-now n) st (record { now = n; items = st .items; first = st .first; records = st .records; active = st .active; reasons = st .reasons; made = st .made; full = st .full; sequences = st .sequences; cells = st .cells }) kept kept kept still
 timed n st = record { queue = refl; records = refl; runs = refl; reasons = refl; does = λ f q a r u k held. record { content = k; held = record { queue = held .queue; records = held .records; runs = held .runs; reasons = held .reasons }; is = refl } }
 
 module _ (x : List ℕ) (d : Ended) (a : List ℕ) (h : d .state .records * 13 ≤ length a) where

@@ -54,7 +54,7 @@ pub record Why (x : List ℕ) (left : ℕ) (q : List ℕ) (st : State) (r : ℕ)
 -- ---- a turn
 
 abbrev pub with-turn : (second : ℕ) → State → State
-with-turn n st = record { now = n; items = st .items - 1; records = st .records; active = st .active; reasons = st .reasons; made = st .made; full = st .full; sequences = st .sequences; cells = st .cells }
+with-turn n st = record { now = n; items = st .items - 1; first = st .first + 1; records = st .records; active = st .active; reasons = st .reasons; made = st .made; full = st .full; sequences = st .sequences; cells = st .cells }
 
 -- the queue without the item that was taken, at its second
 abbrev pub tookM : Item → Machine → Machine
@@ -92,7 +92,7 @@ pub record Halts (f q a r u : List ℕ) (total : ℕ) (e : Ended) (p : Halt) : T
   pub why : e .why ≡ p .why
 
 pub record Ends (f x : List ℕ) (st : State) (e : Ended) (q q' a a' r r' u u' : List ℕ) : Type 0 where
-  pub queue : Side 5 (goes q q') (st .items) (e .state .items)
+  pub queue : Side 5 (goes q q') (st .first + st .items) (e .state .first + e .state .items)
   pub records : Side 13 (goes a a') (st .records) (e .state .records)
   pub runs : Side 28 (goes r r') (st .active) (e .state .active)
   pub reasons : Side-told (told f u u') (st .reasons) (e .state .reasons)

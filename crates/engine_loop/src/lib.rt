@@ -25,7 +25,7 @@ fn next_of(x: &[u32; 436], q: &[u32], st: State) -> Next
     requires { ⌜ Fits-q st (now q) ⌝ }
     ensures { λ r. ⌜ Seen (nextM (now (x .entry))) (now (q .entry)) st r ⌝ }
 {
-    let t = queue::next(q, st.items);
+    let t = queue::next(q, st.first, st.items);
     let Taken::One(it) = t else {
         return Next::Stop;
     };
@@ -62,13 +62,15 @@ fn why_stop(x: &[u32; 436], q: &[u32], st: State, left: u32) -> u32
     }
 }
 
+// An item was taken: the state at its second, and the queue behind its entry.
 fn at_second(st: State, second: u32) -> State
-    requires { ⌜ 0 < st .items ⌝ }
+    requires { ⌜ (0 < st .items) × (st .first < 18446744073709551615) ⌝ }
     ensures { λ r. ⌜ r ≡ with-turn second st ⌝ }
 {
     let mut s = st;
     s.now = second;
     s.items = s.items - 1;
+    s.first = s.first + 1;
     s
 }
 
@@ -88,7 +90,7 @@ fn turn(
     if st.items == 0 {
         return st;
     }
-    let t = queue::take(q, st.items);
+    let t = queue::take(q, st.first, st.items);
     let Taken::One(it) = t else {
         return st;
     };

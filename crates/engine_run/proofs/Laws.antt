@@ -1,11 +1,12 @@
 -- The parts of a simulation put together.
-use Prim.Native.Nat.{ℕ, _-_, _/_}
+use Prim.Native.Nat.{ℕ, _-_, _*_, _/_, _≤_}
 use mathlib.Core.Path.{_≡_, refl, sym, _∙_, ap, subst}
 use mathlib.Core.Bool.{not}
 use mathlib.Core.List.{List}
 use lib.Dec.{eqb}
 use lib.ListN.{length, getD, replicate, length-replicate}
 use borrow.Author.Tests.{eq-eqb, ne-eqb}
+use native.Mathlib.Omega.{arith}
 use Rattle.texts.specs.Texts.{Text}
 use Rattle.areas.specs.Areas.{area}
 use Rattle.areas.proofs.Laws as areas
@@ -72,13 +73,16 @@ told-is {f} {q} {a} {r} {u} {total} {e} p g z =
 pub zero-length : (n : ℕ) (y : List ℕ) → y ≡ replicate n 0 → length y ≡ n
 zero-length n y e = ap length e ∙ length-replicate n 0
 
-module _ (f : List ℕ) (c : Cells) (so-far : ℕ) (q q₁ a a₁ r r₁ u : List ℕ) (eq : q₁ ≡ replicate (length q) 0) (ea : a₁ ≡ replicate (length a) 0) (er : r₁ ≡ replicate (length r) 0) where
+pub tenth : (n : ℕ) → n / 10 * 5 ≤ n
+tenth n = omega arith
+
+module _ (f : List ℕ) (c : Cells) (so-far : ℕ) (q q₁ a a₁ r r₁ u : List ℕ) (eq : q₁ ≡ replicate (length q) 0) (ea : a₁ ≡ replicate (length a) 0) (er : r₁ ≡ replicate (length r) 0) (first : ℕ) (fits : first * 5 ≤ length q₁) where
   zeros : (x y : List ℕ) → y ≡ replicate (length x) 0 → length y ≡ length x
   zeros x y e = ap length e ∙ length-replicate (length x) 0
 
-  pub held-none : (t : List Text) → Holds f t so-far u → Held f q₁ a₁ r₁ u (start-of c so-far) (nothing-yet (length q / 5) (length a / 13) (length r / 28) t)
+  pub held-none : (t : List Text) → Holds f t so-far u → Held f q₁ a₁ r₁ u (start-of first c so-far) (nothing-yet (length q / 5) (length a / 13) (length r / 28) t)
   held-none t h = record {
-    queue = record { room = ap (λ i. i / 5) (zeros q q₁ eq); many = refl; is = eq ∙ ap (λ i. replicate i 0) (sym (zeros q q₁ eq)) ∙ sym (queue.empty-is (length q₁)) };
+    queue = record { room = ap (λ i. i / 5) (zeros q q₁ eq); many = refl; is = eq ∙ ap (λ i. replicate i 0) (sym (zeros q q₁ eq)) ∙ sym (queue.empty-is first (length q₁) fits) };
     records = record { room = ap (λ i. i / 13) (zeros a a₁ ea); many = refl; is = ea ∙ ap (λ i. replicate i 0) (sym (zeros a a₁ ea)) ∙ sym (areas.area-none recordWords (length a₁)) };
     runs = record { room = ap (λ i. i / 28) (zeros r r₁ er); many = refl; is = er ∙ ap (λ i. replicate i 0) (sym (zeros r r₁ er)) ∙ sym (areas.area-none runWords (length r₁)) };
     reasons = h;
@@ -86,7 +90,7 @@ module _ (f : List ℕ) (c : Cells) (so-far : ℕ) (q q₁ a a₁ r r₁ u : Lis
 
   -- ---- the answer, from where the loop halts
 
-  module _ {x l : List ℕ} {n : ℕ} {st : State} {e : Ended} {q₂ a₂ r₂ u₂ : List ℕ} (is : st ≡ start-of c so-far) (w : Wholly f x l n st e q₁ q₂ a₁ a₂ r₁ r₂ u u₂) where
+  module _ {x l : List ℕ} {n : ℕ} {st : State} {e : Ended} {q₂ a₂ r₂ u₂ : List ℕ} (is : st ≡ start-of first c so-far) (w : Wholly f x l n st e q₁ q₂ a₁ a₂ r₁ r₂ u u₂) where
     halted : (t : List Text) → Holds f t so-far u → Halts f q₂ a₂ r₂ u₂ (getD x 3 0) e (whollyM f x l n (beginning c (length q / 5) (length a / 13) (length r / 28) t))
     halted t h = (subst (λ z. Wholly f x l n z e q₁ q₂ a₁ a₂ r₁ r₂ u u₂) is w) .does (nothing-yet (length q / 5) (length a / 13) (length r / 28) t) (held-none t h)
 

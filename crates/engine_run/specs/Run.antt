@@ -30,8 +30,8 @@ pub record Wholly (f x l : List ℕ) (n : ℕ) (st : State) (e : Ended) (q q' a 
   pub does : (k : Content) → Held f q a r u st k → Halts f q' a' r' u' (getD x 3 0) e (whollyM f x l n (machine st k))
 
 -- the state at the start, and what the areas hold then
-abbrev pub start-of : Cells → (reasons : ℕ) → State
-start-of c n = record { now = 0; items = 0; records = 0; active = 0; reasons = n; made = 0; full = 0; sequences = replicate 32 0; cells = c }
+abbrev pub start-of : (first : ℕ) → Cells → (reasons : ℕ) → State
+start-of i c n = record { now = 0; items = 0; first = i; records = 0; active = 0; reasons = n; made = 0; full = 0; sequences = replicate 32 0; cells = c }
 
 -- areas with room for so many items, records and runs, and reasons so far
 abbrev pub nothing-yet : (items records runs : ℕ) → List Text → Content

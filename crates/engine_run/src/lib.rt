@@ -28,12 +28,14 @@ fn run_all(
     engine_loop::closed(x, a, d)
 }
 
-fn start(cells: Cells, reasons: usize) -> State
-    ensures { λ r. ⌜ r ≡ start-of cells reasons ⌝ }
+// The state at the start; the queue begins at the entry `first`.
+fn start(first: usize, cells: Cells, reasons: usize) -> State
+    ensures { λ r. ⌜ r ≡ start-of first cells reasons ⌝ }
 {
     State {
         now: 0,
         items: 0,
+        first,
         records: 0,
         active: 0,
         reasons,
@@ -107,7 +109,9 @@ pub fn simulated(
     areas::clear_all(q);
     areas::clear_all(a);
     areas::clear_all(r);
-    let st = start(cells, reasons);
+    // Free places before the first item and behind it.
+    let middle = q.len() / 10;
+    let st = start(middle, cells, reasons);
     let e = run_all(f, x, events, count, q, a, r, u, st);
     let s = e.state;
     areas::clear_all(q);

@@ -14,6 +14,7 @@ use Rattle.texts.specs.Texts.{Text, memT}
 use Rattle.areas.specs.Areas.{area}
 use Rattle.queue.specs.Queue.{laid, Inserted}
 use Rattle.queue.specs.declared.Item.{Item}
+use Rattle.queue.specs.declared.Put.{Put}
 use Rattle.queue.specs.declared.Work.{Work}
 use Rattle.records.specs.Records as records
 use Rattle.records.specs.declared.Rule.{Rule}
@@ -29,7 +30,7 @@ use Rattle.reasons.proofs.Entries.{length-reasons}
 use Rattle.engine_state.specs.declared.Cells.{Cells}
 use Rattle.engine_state.specs.declared.State.{State}
 use Rattle.engine_state.specs.declared.Told.{Told}
-use Rattle.engine_state.specs.Machine.{Machine, Content, machine, more, later, put-full, put-counts, put-queue, put-records, put-runs, put-reasons, with-items, with-records, with-reasons, with-full, with-run, with-cells, raisedC}
+use Rattle.engine_state.specs.Machine.{Machine, Content, machine, more, later, put-full, put-counts, put-queue, put-records, put-runs, put-reasons, with-queue, with-records, with-reasons, with-full, with-run, with-cells, raisedC}
 use Rattle.engine_state.specs.Changes.{item, entry, addM, logM, add-runM, uncertainM, set-cells}
 use Rattle.engine_state.specs.Steps.{Queued, Logged, Running, Held, Lent, kept, goes, Listing, still, told, Side, Side-told, first, last, file, first-told, last-told, Steps, Does}
 
@@ -94,16 +95,16 @@ module _ (s : ℕ) (w : Work) (m : Machine) where
   add-full z t = rw (eq-eqb (m .full) 0 z, t)
 
 module _ (st : State) (q : List ℕ) (s : ℕ) (w : Work) where
-  pub stuck : st .items * 5 ≤ length q → (st .full ≡ 0 → ⊥) → Does (addM s w) st st (goes q q) kept kept still
+  pub stuck : (st .first + st .items) * 5 ≤ length q → (st .full ≡ 0 → ⊥) → Does (addM s w) st st (goes q q) kept kept still
   stuck h z = record { queue = (refl, h); records = refl; runs = refl; reasons = refl; does = λ f _ a r u k held. record { content = k; held = held; is = add-stuck s w (machine st k) z } }
 
-  module _ (b : List ℕ) (t : Bool) (ins : Inserted q (st .items) (item s w) b t) (z : st .full ≡ 0) (same : length b ≡ length q) where
-    size-is : (size : ℕ) (l : List Item) → Queued q (st .items) size l → ltb (length l) size ≡ t
+  module _ (b : List ℕ) (p : Put) (ins : Inserted q (st .first) (st .items) (item s w) b p) (z : st .full ≡ 0) (same : length b ≡ length q) where
+    size-is : (size : ℕ) (l : List Item) → Queued q (st .first) (st .items) size l → ltb (length l) size ≡ p .done
     size-is size l h = ap (λ n. ltb n size) (sym (h .many)) ∙ ap (λ n. ltb (st .items) n) (sym (h .room)) ∙ sym (ins .room)
 
-    pub added : t ≡ true → Does (addM s w) st (with-items (st .items + 1) st) (goes q b) kept kept still
+    pub added : p .done ≡ true → Does (addM s w) st (with-queue (p .first) (st .items + 1) st) (goes q b) kept kept still
     added e = record {
-      queue = (same, room-is 5 (st .items) (length q) (length b) (omega arith) same (sym (ins .room) ∙ e));
+      queue = (same, rw same (ins .within e));
       records = refl;
       runs = refl;
       reasons = refl;
@@ -115,10 +116,10 @@ module _ (st : State) (q : List ℕ) (s : ℕ) (w : Work) where
           };
     }
       where
-        more-queued : (size : ℕ) (l : List Item) → Queued q (st .items) size l → Queued b (st .items + 1) size (l ++ item s w ∷ [])
-        more-queued size l h = record { room = ap (λ n. n / 5) same ∙ h .room; many = ap (λ n. n + 1) (h .many) ∙ sym (length-one l (item s w)); is = ins .more e l (sym (h .many)) (h .is) ∙ ap (λ n. laid n (l ++ item s w ∷ [])) (sym same) }
+        more-queued : (size : ℕ) (l : List Item) → Queued q (st .first) (st .items) size l → Queued b (p .first) (st .items + 1) size (l ++ item s w ∷ [])
+        more-queued size l h = record { room = ap (λ n. n / 5) same ∙ h .room; many = ap (λ n. n + 1) (h .many) ∙ sym (length-one l (item s w)); is = ins .more e l (sym (h .many)) (h .is) ∙ ap (λ n. laid (p .first) n (l ++ item s w ∷ [])) (sym same) }
 
-    pub add-refused : st .items * 5 ≤ length q → t ≡ false → Does (addM s w) st (with-full 41 st) (goes q b) kept kept still
+    pub add-refused : (st .first + st .items) * 5 ≤ length q → p .done ≡ false → Does (addM s w) st (with-full 41 st) (goes q b) kept kept still
     add-refused h e = record {
       queue = (same, omega (arith, h, same));
       records = refl;
@@ -132,8 +133,8 @@ module _ (st : State) (q : List ℕ) (s : ℕ) (w : Work) where
           };
     }
       where
-        same-queued : (size : ℕ) (l : List Item) → Queued q (st .items) size l → Queued b (st .items) size l
-        same-queued size l h = record { room = ap (λ n. n / 5) same ∙ h .room; many = h .many; is = ins .same e ∙ h .is ∙ ap (λ n. laid n l) (sym same) }
+        same-queued : (size : ℕ) (l : List Item) → Queued q (st .first) (st .items) size l → Queued b (st .first) (st .items) size l
+        same-queued size l h = record { room = ap (λ n. n / 5) same ∙ h .room; many = h .many; is = ins .same e .0 ∙ h .is ∙ ap (λ n. laid (st .first) n l) (sym same) }
 
 -- ---- a record more
 
@@ -389,7 +390,7 @@ pub follow : {F : Content → Machine} {st mid s : State} {Q Q' Q'' A A' A'' R R
     Steps F st mid Q A R U → Steps (λ k. G (machine mid k)) mid s Q' A' R' U' →
     Joined Q Q' Q'' → Joined A A' A'' → Joined R R' R'' → Joined-told U U' U'' → Steps (λ k. G (F k)) st s Q'' A'' R'' U''
 follow {F} {st} {mid} {s} {Q} {Q'} {Q''} {A} {A'} {A''} {R} {R'} {R''} {U} {U'} {U''} G d e jq ja jr ju = record {
-  queue = side 5 (st .items) (mid .items) (s .items) jq (d .queue) (e .queue);
+  queue = side 5 (st .first + st .items) (mid .first + mid .items) (s .first + s .items) jq (d .queue) (e .queue);
   records = side 13 (st .records) (mid .records) (s .records) ja (d .records) (e .records);
   runs = side 28 (st .active) (mid .active) (s .active) jr (d .runs) (e .runs);
   reasons = side-told (st .reasons) (mid .reasons) (s .reasons) ju (d .reasons) (e .reasons);
@@ -426,13 +427,13 @@ stays-told-is n (same h) x = refl
 
 -- nothing changes
 pub stay : {F : Content → Machine} {st : State} {Q A R : Lent} {U : Listing} → ((k : Content) → machine st k ≡ F k) →
-    Stays 5 (st .items) Q → Stays 13 (st .records) A → Stays 28 (st .active) R → Stays-told (st .reasons) U → Steps F st st Q A R U
+    Stays 5 (st .first + st .items) Q → Stays 13 (st .records) A → Stays 28 (st .active) R → Stays-told (st .reasons) U → Steps F st st Q A R U
 stay {F} {st} e q a r u = record {
-  queue = stays-side 5 (st .items) q;
+  queue = stays-side 5 (st .first + st .items) q;
   records = stays-side 13 (st .records) a;
   runs = stays-side 28 (st .active) r;
   reasons = stays-side-told (st .reasons) u;
-  does = λ f q₀ a₀ r₀ u₀ k held. record { content = k; held = moved st k refl (stays-is 5 (st .items) q q₀) (stays-is 13 (st .records) a a₀) (stays-is 28 (st .active) r r₀) (stays-told-is (st .reasons) u u₀) held; is = e k };
+  does = λ f q₀ a₀ r₀ u₀ k held. record { content = k; held = moved st k refl (stays-is 5 (st .first + st .items) q q₀) (stays-is 13 (st .records) a a₀) (stays-is 28 (st .active) r r₀) (stays-told-is (st .reasons) u u₀) held; is = e k };
 }
 
 -- the same change by another name
@@ -492,13 +493,13 @@ wide-file n same x = refl
 wide-file n (wide h) x = refl
 
 pub widen : {F : Content → Machine} {st s : State} {Q A R Q' A' R' : Lent} {U U' : Listing} → Steps F st s Q A R U →
-    Wide 5 (st .items) Q Q' → Wide 13 (st .records) A A' → Wide 28 (st .active) R R' → Wide-told (st .reasons) U U' → Steps F st s Q' A' R' U'
+    Wide 5 (st .first + st .items) Q Q' → Wide 13 (st .records) A A' → Wide 28 (st .active) R R' → Wide-told (st .reasons) U U' → Steps F st s Q' A' R' U'
 widen {F} {st} {s} {Q} {A} {R} {Q'} {A'} {R'} {U} {U'} d wq wa wr wu = record {
-  queue = wide-side 5 (st .items) (s .items) wq (d .queue);
+  queue = wide-side 5 (st .first + st .items) (s .first + s .items) wq (d .queue);
   records = wide-side 13 (st .records) (s .records) wa (d .records);
   runs = wide-side 28 (st .active) (s .active) wr (d .runs);
   reasons = wide-side-told (st .reasons) (s .reasons) wu (d .reasons);
   does = λ f q a r u k held.
-      let x = d .does (file U' f) (first Q' q) (first A' a) (first R' r) (first-told U' u) k (moved st k (wide-file (st .reasons) wu f) (wide-first 5 (st .items) wq q) (wide-first 13 (st .records) wa a) (wide-first 28 (st .active) wr r) (wide-first-told (st .reasons) wu u) held) in
-      record { content = x .content; held = moved s (x .content) (sym (wide-file (st .reasons) wu f)) (wide-last 5 (st .items) wq q) (wide-last 13 (st .records) wa a) (wide-last 28 (st .active) wr r) (wide-last-told (st .reasons) wu u) (x .held); is = x .is };
+      let x = d .does (file U' f) (first Q' q) (first A' a) (first R' r) (first-told U' u) k (moved st k (wide-file (st .reasons) wu f) (wide-first 5 (st .first + st .items) wq q) (wide-first 13 (st .records) wa a) (wide-first 28 (st .active) wr r) (wide-first-told (st .reasons) wu u) held) in
+      record { content = x .content; held = moved s (x .content) (sym (wide-file (st .reasons) wu f)) (wide-last 5 (st .first + st .items) wq q) (wide-last 13 (st .records) wa a) (wide-last 28 (st .active) wr r) (wide-last-told (st .reasons) wu u) (x .held); is = x .is };
 }

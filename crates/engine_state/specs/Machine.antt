@@ -78,25 +78,25 @@ put-reasons l m = record { now = m .now; full = m .full; made = m .made; sequenc
 -- ---- the state's fields changed
 
 abbrev pub with-active : ℕ → State → State
-with-active n st = record { now = st .now; items = st .items; records = st .records; active = n; reasons = st .reasons; made = st .made; full = st .full; sequences = st .sequences; cells = st .cells }
+with-active n st = record { now = st .now; items = st .items; first = st .first; records = st .records; active = n; reasons = st .reasons; made = st .made; full = st .full; sequences = st .sequences; cells = st .cells }
 
-abbrev pub with-items : ℕ → State → State
-with-items n st = record { now = st .now; items = n; records = st .records; active = st .active; reasons = st .reasons; made = st .made; full = st .full; sequences = st .sequences; cells = st .cells }
+abbrev pub with-queue : (first items : ℕ) → State → State
+with-queue i n st = record { now = st .now; items = n; first = i; records = st .records; active = st .active; reasons = st .reasons; made = st .made; full = st .full; sequences = st .sequences; cells = st .cells }
 
 abbrev pub with-records : ℕ → State → State
-with-records n st = record { now = st .now; items = st .items; records = n; active = st .active; reasons = st .reasons; made = st .made; full = st .full; sequences = st .sequences; cells = st .cells }
+with-records n st = record { now = st .now; items = st .items; first = st .first; records = n; active = st .active; reasons = st .reasons; made = st .made; full = st .full; sequences = st .sequences; cells = st .cells }
 
 abbrev pub with-reasons : ℕ → State → State
-with-reasons n st = record { now = st .now; items = st .items; records = st .records; active = st .active; reasons = n; made = st .made; full = st .full; sequences = st .sequences; cells = st .cells }
+with-reasons n st = record { now = st .now; items = st .items; first = st .first; records = st .records; active = st .active; reasons = n; made = st .made; full = st .full; sequences = st .sequences; cells = st .cells }
 
 abbrev pub with-full : ℕ → State → State
-with-full n st = record { now = st .now; items = st .items; records = st .records; active = st .active; reasons = st .reasons; made = st .made; full = n; sequences = st .sequences; cells = st .cells }
+with-full n st = record { now = st .now; items = st .items; first = st .first; records = st .records; active = st .active; reasons = st .reasons; made = st .made; full = n; sequences = st .sequences; cells = st .cells }
 
 abbrev pub with-cells : Cells → State → State
-with-cells c st = record { now = st .now; items = st .items; records = st .records; active = st .active; reasons = st .reasons; made = st .made; full = st .full; sequences = st .sequences; cells = c }
+with-cells c st = record { now = st .now; items = st .items; first = st .first; records = st .records; active = st .active; reasons = st .reasons; made = st .made; full = st .full; sequences = st .sequences; cells = c }
 
 abbrev pub with-run : (active made : ℕ) (sequences : List ℕ) → State → State
-with-run n i l st = record { now = st .now; items = st .items; records = st .records; active = n; reasons = st .reasons; made = i; full = st .full; sequences = l; cells = st .cells }
+with-run n i l st = record { now = st .now; items = st .items; first = st .first; records = st .records; active = n; reasons = st .reasons; made = i; full = st .full; sequences = l; cells = st .cells }
 
 abbrev pub storedC : Cells → (e value : ℕ) → Cells
 storedC c e v = record { values = set (c .values) e v; versions = c .versions }

@@ -1,5 +1,5 @@
 -- What a function does to the machine that its state and areas stand for.
-use Prim.Native.Nat.{ℕ, _*_, _/_, _≤_}
+use Prim.Native.Nat.{ℕ, _+_, _*_, _/_, _≤_}
 use mathlib.Core.Path.{_≡_}
 use mathlib.Core.List.{List}
 use lib.ListN.{length}
@@ -14,11 +14,11 @@ use Rattle.reasons.specs.Lists.{Holds}
 use Rattle.engine_state.specs.declared.State.{State}
 use Rattle.engine_state.specs.Machine.{Machine, Content, machine}
 
--- an area that holds a list of n entries, with room for `size`
-pub record Queued (q : List ℕ) (n size : ℕ) (l : List Item) : Type 0 where
+-- an area that holds a list of n entries, with room for `size`; the queue's entries start at `first`
+pub record Queued (q : List ℕ) (first n size : ℕ) (l : List Item) : Type 0 where
   pub room : length q / 5 ≡ size
   pub many : n ≡ length l
-  pub is : q ≡ laid (length q) l
+  pub is : q ≡ laid first (length q) l
 
 pub record Logged (a : List ℕ) (n size : ℕ) (l : List Record) : Type 0 where
   pub room : length a / 13 ≡ size
@@ -32,7 +32,7 @@ pub record Running (r : List ℕ) (n size : ℕ) (l : List Run) : Type 0 where
 
 -- the areas of queue, records, runs and reasons hold this, over the file f
 pub record Held (f q a r u : List ℕ) (st : State) (k : Content) : Type 0 where
-  pub queue : Queued q (st .items) (k .queueSize) (k .queue)
+  pub queue : Queued q (st .first) (st .items) (k .queueSize) (k .queue)
   pub records : Logged a (st .records) (k .recordSize) (k .records)
   pub runs : Running r (st .active) (k .runSize) (k .runs)
   pub reasons : Holds f (k .reasons) (st .reasons) u
@@ -53,7 +53,7 @@ pub data Listing : Type 0 where
   still : Listing
   told : (f b c : List ℕ) → Listing
 
--- the number of entries before and after: the same, or it fits
+-- the number of entries before and after: the same, or it fits. The queue counts those ahead of `first` too
 abbrev pub Side : (size : ℕ) → Lent → (m n : ℕ) → Type 0
 Side size kept m n = n ≡ m
 Side size (goes b c) m n = (length c ≡ length b) × (n * size ≤ length c)
@@ -85,7 +85,7 @@ last-told (told f b c) x = c
 
 -- from the state st to s, with the areas of queue, records, runs and reasons: if the areas hold k before, they stand for F k after
 pub record Steps (F : Content → Machine) (st s : State) (Q A R : Lent) (U : Listing) : Type 0 where
-  pub queue : Side 5 Q (st .items) (s .items)
+  pub queue : Side 5 Q (st .first + st .items) (s .first + s .items)
   pub records : Side 13 A (st .records) (s .records)
   pub runs : Side 28 R (st .active) (s .active)
   pub reasons : Side-told U (st .reasons) (s .reasons)
@@ -99,22 +99,22 @@ Does F st s Q A R U = Steps (λ k. F (machine st k)) st s Q A R U
 -- ---- room for what the areas hold
 
 abbrev pub Fits-q : State → List ℕ → Type 0
-Fits-q st q = st .items * 5 ≤ length q
+Fits-q st q = (st .first + st .items) * 5 ≤ length q
 
 abbrev pub Fits-qa : State → (q a : List ℕ) → Type 0
-Fits-qa st q a = (st .items * 5 ≤ length q) × (st .records * 13 ≤ length a)
+Fits-qa st q a = ((st .first + st .items) * 5 ≤ length q) × (st .records * 13 ≤ length a)
 
 abbrev pub Fits-qr : State → (q r : List ℕ) → Type 0
-Fits-qr st q r = (st .items * 5 ≤ length q) × (st .active * 28 ≤ length r)
+Fits-qr st q r = ((st .first + st .items) * 5 ≤ length q) × (st .active * 28 ≤ length r)
 
 abbrev pub Fits-ar : State → (a r : List ℕ) → Type 0
 Fits-ar st a r = (st .records * 13 ≤ length a) × (st .active * 28 ≤ length r)
 
 abbrev pub Fits-qar : State → (q a r : List ℕ) → Type 0
-Fits-qar st q a r = (st .items * 5 ≤ length q) × ((st .records * 13 ≤ length a) × (st .active * 28 ≤ length r))
+Fits-qar st q a r = ((st .first + st .items) * 5 ≤ length q) × ((st .records * 13 ≤ length a) × (st .active * 28 ≤ length r))
 
 abbrev pub Fits-qau : State → (q a u : List ℕ) → Type 0
-Fits-qau st q a u = (st .items * 5 ≤ length q) × ((st .records * 13 ≤ length a) × ((st .reasons * 5 ≤ length u) × (1500 ≤ length u)))
+Fits-qau st q a u = ((st .first + st .items) * 5 ≤ length q) × ((st .records * 13 ≤ length a) × ((st .reasons * 5 ≤ length u) × (1500 ≤ length u)))
 
 abbrev pub Fits : State → (q a r u : List ℕ) → Type 0
-Fits st q a r u = (st .items * 5 ≤ length q) × ((st .records * 13 ≤ length a) × ((st .active * 28 ≤ length r) × ((st .reasons * 5 ≤ length u) × (1500 ≤ length u))))
+Fits st q a r u = ((st .first + st .items) * 5 ≤ length q) × ((st .records * 13 ≤ length a) × ((st .active * 28 ≤ length r) × ((st .reasons * 5 ≤ length u) × (1500 ≤ length u))))

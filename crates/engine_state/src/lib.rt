@@ -21,10 +21,12 @@ pub struct Cells {
     pub versions: [u32; 32],
 }
 
+// The queue has `items` entries from the entry `first` of its area on.
 // `full` is 0, or the number of the first area that had no place for an entry: nothing goes in after that.
 pub struct State {
     pub now: u32,
     pub items: usize,
+    pub first: usize,
     pub records: usize,
     pub active: usize,
     pub reasons: usize,
@@ -119,7 +121,7 @@ pub fn raised(c: Cells, e: usize) -> Cells
 
 // An item more, unless an area is full.
 pub fn add(q: &mut [u32], st: State, second: u32, work: Work) -> State
-    requires { ⌜ st .items * 5 ≤ length (now q) ⌝ }
+    requires { ⌜ (st .first + st .items) * 5 ≤ length (now q) ⌝ }
     ensures { λ r. ⌜ Does (addM second work) st r (goes (now (q .entry)) (now (q .exit))) kept kept still ⌝ }
 {
     let mut s = st;
@@ -127,8 +129,10 @@ pub fn add(q: &mut [u32], st: State, second: u32, work: Work) -> State
         return s;
     }
     let n = s.items;
-    if queue::insert(q, n, Item { second, work }) {
+    let p = queue::insert(q, s.first, n, Item { second, work });
+    if p.done {
         s.items = n + 1;
+        s.first = p.first;
         return s;
     }
     s.full = 41;
@@ -274,7 +278,7 @@ pub fn log_write(a: &mut [u32], st: State, w: Setting, m: Move) -> State
 
 // The run goes on at a second.
 pub fn next_step(q: &mut [u32], st: State, run: Run, second: u32) -> State
-    requires { ⌜ st .items * 5 ≤ length (now q) ⌝ }
+    requires { ⌜ (st .first + st .items) * 5 ≤ length (now q) ⌝ }
     ensures { λ r. ⌜ Does (next-stepM run second) st r (goes (now (q .entry)) (now (q .exit))) kept kept still ⌝ }
 {
     add(

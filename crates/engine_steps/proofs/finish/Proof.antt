@@ -29,7 +29,7 @@ finish-spec =
     (λ c. search needs)
     (λ c κs. search needs)
     (λ c κs. omega (arith, c .before .before .before .before .before .before .before .before .before .before .before .pre, ap (λ s. s .records) (c .before .with-active .ensures)))
-    (λ c κs. (omega (arith, c .before .before .before .before .before .before .before .before .before .before .before .before .before .before .before .before .pre, ap (λ s. s .items) (c .before .before .before .before .before .before .with-active .ensures), c .before .before .before .before .log-rule .ensures .queue), omega (arith, c .before .before .before .before .before .before .before .before .before .before .before .before .before .before .before .before .pre, ap (λ s. s .active) (c .before .before .before .before .before .before .with-active .ensures), c .before .before .before .before .log-rule .ensures .runs)))
+    (λ c κs. (omega (arith, c .before .before .before .before .before .before .before .before .before .before .before .before .before .before .before .before .pre, ap (λ s. s .items) (c .before .before .before .before .before .before .with-active .ensures), ap (λ s. s .first) (c .before .before .before .before .before .before .with-active .ensures), c .before .before .before .before .log-rule .ensures .queue), omega (arith, c .before .before .before .before .before .before .before .before .before .before .before .before .before .before .before .before .pre, ap (λ s. s .active) (c .before .before .before .before .before .before .with-active .ensures), c .before .before .before .before .log-rule .ensures .runs)))
     (λ c. search needs)
     (λ c. search needs)
     (λ c. search needs)
