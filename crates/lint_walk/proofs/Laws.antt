@@ -12,8 +12,9 @@ use Rattle.model_walk.specs.declared.Num.the-variants as num
 use Rattle.model_walk.specs.Walk.{found}
 use Rattle.model_walk.proofs.Laws.{is-got, is-broken}
 use Rattle.lint_walk.specs.declared.Walk.{Walk}
+use Rattle.lint_walk.specs.declared.Cursor.{Cursor}
 use Rattle.lint_walk.specs.Raw.{value-of, byteZ, placeZ, numberZ, past, repeat, predicateEnd, predicatesEnd, simpleEnd, kindZ, triggersZ, conditionsZ, actionsZ}
-use Rattle.lint_walk.specs.Walks.{movedW, notedW, enteredW, simpleW, actionW, branchW, choiceW, listW, fresh, walkW, listEnd}
+use Rattle.lint_walk.specs.Walks.{walkOf, movedC, movedW, notedW, enteredW, simpleW, actionW, branchW, choiceW, listW, fresh, walkW, listEnd}
 
 -- ---- numbers
 
@@ -114,11 +115,16 @@ module _ (s : List ℕ) (p : ℕ) where
 
 -- ---- walks
 
-module _ (w : Walk) where
-  pub moved-is : (p : ℕ) → movedW w p ≡ record { list = w .list; count = w .count; next = p }
-  unfolding movedW
-  moved-is p = refl
+pub moved-is : (c : Cursor) (p : ℕ) → movedC c p ≡ record { count = c .count; next = p }
+unfolding movedC
+moved-is c p = refl
 
+-- with the list that is lent
+pub moved-of : (l : List ℕ) (c : Cursor) (p : ℕ) {r : Cursor} → r ≡ movedC c p → walkOf l r ≡ movedW (walkOf l c) p
+unfolding movedC movedW
+moved-of l c p e = rw e
+
+module _ (w : Walk) where
   pub noted-in : w .count < 512 → notedW w ≡ record { list = set (w .list) (w .count) (w .next); count = w .count + 1; next = w .next }
   unfolding notedW
   noted-in h = rw (lt-ltb (w .count) 512 h)

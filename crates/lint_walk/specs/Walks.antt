@@ -5,7 +5,15 @@ use lib.Dec.{ltb, eqb}
 use lib.ListN.{set, replicate}
 use Rattle.texts.specs.Lists.{if_then_else_}
 use Rattle.lint_walk.specs.declared.Walk.{Walk}
+use Rattle.lint_walk.specs.declared.Cursor.{Cursor}
 use Rattle.lint_walk.specs.Raw.{placeZ, past, repeat, predicatesEnd, simpleEnd, kindZ, actionsZ}
+
+-- the code's walk, whose list is lent
+abbrev pub walkOf : List ℕ → Cursor → Walk
+walkOf l c = record { list = l; count = c .count; next = c .next }
+
+unfoldable pub movedC : Cursor → ℕ → Cursor
+movedC c p = record { count = c .count; next = p }
 
 unfoldable pub movedW : Walk → ℕ → Walk
 movedW w p = record { list = w .list; count = w .count; next = p }

@@ -5,7 +5,7 @@ ghost use mathlib.Core.Path.{_≡_};
 ghost use Prim.Native.Nat.{_+_, _≤_, _<_};
 ghost use lib.ListN.{length};
 ghost use Rattle.lint_walk.specs.Raw.{byteZ, placeZ, numberZ, past, predicateEnd, predicatesEnd, simpleEnd, kindZ, triggersZ, conditionsZ, actionsZ};
-ghost use Rattle.lint_walk.specs.Walks.{movedW, notedW, enteredW, simpleW, listW, choiceW, walkW, listEnd};
+ghost use Rattle.lint_walk.specs.Walks.{walkOf, movedC, notedW, enteredW, simpleW, listW, choiceW, walkW, listEnd};
 
 // ---- numbers
 
@@ -136,59 +136,68 @@ pub struct Walk {
     pub next: usize,
 }
 
-fn moved(w: Walk, next: usize) -> Walk
-    ensures { λ r. ⌜ r ≡ movedW w next ⌝ }
+// How many positions are listed so far, and the position that is next: a walk without its list, which is lent.
+struct Cursor {
+    count: usize,
+    next: usize,
+}
+
+fn moved(c: Cursor, next: usize) -> Cursor
+    ensures { λ r. ⌜ r ≡ movedC c next ⌝ }
 {
-    let mut v = w;
-    v.next = next;
-    v
+    Cursor {
+        count: c.count,
+        next: next,
+    }
 }
 
 // One action more, at the position that is next.
-fn noted(w: Walk) -> Walk
-    ensures { λ r. ⌜ r ≡ notedW w ⌝ }
+fn noted(list: &mut [usize; 512], c: Cursor) -> Cursor
+    ensures { λ r. ⌜ walkOf (now (list .exit)) r ≡ notedW (walkOf (now (list .entry)) c) ⌝ }
 {
-    let count = w.count;
+    let count = c.count;
     if count < 512 {
-        let mut v = w;
-        v.list[count] = w.next;
-        v.count = count + 1;
-        return v;
+        list[count] = c.next;
+        return Cursor {
+            count: count + 1,
+            next: c.next,
+        };
     }
-    w
+    c
 }
 
 // The action that is next is a choice: its branches are next.
-fn entered(s: &[u8], w: Walk) -> Walk
-    ensures { λ r. ⌜ r ≡ enteredW (now (s .entry)) w ⌝ }
+fn entered(s: &[u8], list: &mut [usize; 512], c: Cursor) -> Cursor
+    ensures { λ r. ⌜ walkOf (now (list .exit)) r ≡ enteredW (now (s .entry)) (walkOf (now (list .entry)) c) ⌝ }
 {
-    moved(noted(w), past(s, w.next, 9))
+    moved(noted(list, c), past(s, c.next, 9))
 }
 
 // The action that is next holds no list.
-fn simple_walk(s: &[u8], w: Walk) -> Walk
-    ensures { λ r. ⌜ r ≡ simpleW (now (s .entry)) w ⌝ }
+fn simple_walk(s: &[u8], list: &mut [usize; 512], c: Cursor) -> Cursor
+    ensures { λ r. ⌜ walkOf (now (list .exit)) r ≡ simpleW (now (s .entry)) (walkOf (now (list .entry)) c) ⌝ }
 {
-    let kind = kind_at(s, w.next);
-    let end = simple_end(s, kind, past(s, w.next, 9));
-    moved(noted(w), end)
+    let kind = kind_at(s, c.next);
+    let end = simple_end(s, kind, past(s, c.next, 9));
+    moved(noted(list, c), end)
 }
 
 // A list of actions in which lists stand at most `left` deep, itself counted.
-pub fn list_walk(s: &[u8], left: usize, w: Walk) -> Walk
-    ensures { λ r. ⌜ r ≡ listW left (now (s .entry)) w ⌝ }
+fn list_walk(s: &[u8], left: usize, list: &mut [usize; 512], c: Cursor) -> Cursor
+    ensures { λ r. ⌜ walkOf (now (list .exit)) r ≡ listW left (now (s .entry)) (walkOf (now (list .entry)) c) ⌝ }
 {
     if left == 0 {
-        return w;
+        return c;
     }
-    let mut i = place_at(s, w.next);
-    let mut v = moved(w, past(s, w.next, 2));
+    let mut i = place_at(s, c.next);
+    let mut v = moved(c, past(s, c.next, 2));
     while 0 < i {
         if kind_at(s, v.next) == 4 {
-            v = choice_walk(s, left - 1, entered(s, v));
+            let w = entered(s, list, v);
+            v = choice_walk(s, left - 1, list, w);
             i -= 1;
         } else {
-            v = simple_walk(s, v);
+            v = simple_walk(s, list, v);
             i -= 1;
         }
     }
@@ -196,38 +205,40 @@ pub fn list_walk(s: &[u8], left: usize, w: Walk) -> Walk
 }
 
 // The branches of a choice and its default; its lists stand at most `left` deep.
-fn choice_walk(s: &[u8], left: usize, w: Walk) -> Walk
-    ensures { λ r. ⌜ r ≡ choiceW (now (s .entry)) (listW left (now (s .entry))) w ⌝ }
+fn choice_walk(s: &[u8], left: usize, list: &mut [usize; 512], c: Cursor) -> Cursor
+    ensures { λ r. ⌜ walkOf (now (list .exit)) r ≡ choiceW (now (s .entry)) (listW left (now (s .entry))) (walkOf (now (list .entry)) c) ⌝ }
 {
-    let mut i = place_at(s, w.next);
-    let mut v = moved(w, past(s, w.next, 2));
+    let mut i = place_at(s, c.next);
+    let mut v = moved(c, past(s, c.next, 2));
     while 0 < i {
-        v = list_walk(s, left, moved(v, predicates_end(s, v.next)));
+        v = list_walk(s, left, list, moved(v, predicates_end(s, v.next)));
         i -= 1;
     }
-    list_walk(s, left, v)
+    list_walk(s, left, list, v)
 }
 
 // The actions of the automation at a position; its source is next.
 pub fn rule_walk(s: &[u8], at: usize) -> Walk
     ensures { λ r. ⌜ r ≡ walkW (now (s .entry)) at ⌝ }
 {
-    let start = Walk {
-        list: [0usize; 512],
+    let mut list = [0usize; 512];
+    let start = Cursor {
         count: 0,
         next: actions_at(s, at),
     };
-    list_walk(s, 18, start)
+    let c = list_walk(s, 18, &mut list, start);
+    Walk {
+        list: list,
+        count: c.count,
+        next: c.next,
+    }
 }
 
 // The position behind a list of actions.
 pub fn list_end(s: &[u8], at: usize) -> usize
     ensures { λ r. ⌜ r ≡ listEnd (now (s .entry)) at ⌝ }
 {
-    let start = Walk {
-        list: [0usize; 512],
-        count: 0,
-        next: at,
-    };
-    list_walk(s, 18, start).next
+    let mut list = [0usize; 512];
+    let start = Cursor { count: 0, next: at };
+    list_walk(s, 18, &mut list, start).next
 }

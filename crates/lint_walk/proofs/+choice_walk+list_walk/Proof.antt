@@ -3,7 +3,7 @@ use mathlib.Core.Path.{_≡_, refl, sym, ap, _∙_}
 use Rattle.lint_walk.proofs.Laws as laws
 use Prim.Native.Nat.{_+_, _-_}
 use Rattle.lint_walk.specs.Raw.{repeat}
-use Rattle.lint_walk.specs.Walks.{actionW, branchW, choiceW, listW}
+use Rattle.lint_walk.specs.Walks.{walkOf, actionW, branchW, choiceW, listW}
 use Prim.Native.Nat.{ℕ, _<_}
 use borrow.Fn.Kinds.{In}
 use borrow.Fn.PlainCycle.{Measures, is, falls, and}
@@ -23,38 +23,38 @@ use Rattle.lint_walk.proofs.simple_walk.Reads as simple-walk-reads
 use Rattle.lint_walk.proofs.+choice_walk+list_walk.{statement}
 use Rattle.lint_walk.proofs.+choice_walk+list_walk.Tie.{close}
 
-abbrev μ-choice-walk : Measures 1 choice-walk-kinds.ps ℕ
+abbrev μ-choice-walk : Measures 2 choice-walk-kinds.ps ℕ
 μ-choice-walk κs a = a .1 .0 + a .1 .0 + 1
 
-abbrev μ-list-walk : Measures 1 list-walk-kinds.ps ℕ
+abbrev μ-list-walk : Measures 2 list-walk-kinds.ps ℕ
 μ-list-walk κs a = a .1 .0 + a .1 .0
 
-abbrev choice-walk-at : ℕ → In 1 choice-walk-kinds.ps
+abbrev choice-walk-at : ℕ → In 2 choice-walk-kinds.ps
 choice-walk-at t =
-    and 1 choice-walk-kinds.ps (is 1 choice-walk-kinds.ps μ-choice-walk t) choice-walk.Pre
+    and 2 choice-walk-kinds.ps (is 2 choice-walk-kinds.ps μ-choice-walk t) choice-walk.Pre
 
-abbrev choice-walk-below : ℕ → In 1 choice-walk-kinds.ps
+abbrev choice-walk-below : ℕ → In 2 choice-walk-kinds.ps
 choice-walk-below t =
-    and 1 choice-walk-kinds.ps (falls 1 choice-walk-kinds.ps _<_ μ-choice-walk t) choice-walk.Pre
+    and 2 choice-walk-kinds.ps (falls 2 choice-walk-kinds.ps _<_ μ-choice-walk t) choice-walk.Pre
 
-abbrev list-walk-at : ℕ → In 1 list-walk-kinds.ps
-list-walk-at t = and 1 list-walk-kinds.ps (is 1 list-walk-kinds.ps μ-list-walk t) list-walk.Pre
+abbrev list-walk-at : ℕ → In 2 list-walk-kinds.ps
+list-walk-at t = and 2 list-walk-kinds.ps (is 2 list-walk-kinds.ps μ-list-walk t) list-walk.Pre
 
-abbrev list-walk-below : ℕ → In 1 list-walk-kinds.ps
+abbrev list-walk-below : ℕ → In 2 list-walk-kinds.ps
 list-walk-below t =
-    and 1 list-walk-kinds.ps (falls 1 list-walk-kinds.ps _<_ μ-list-walk t) list-walk.Pre
+    and 2 list-walk-kinds.ps (falls 2 list-walk-kinds.ps _<_ μ-list-walk t) list-walk.Pre
 
 abbrev choice-walk-Inv-loop : choice-walk-lts.InvT-loop
-choice-walk-Inv-loop s left i₀ v₀ i v = repeat i₀ (branchW s (listW left s)) v₀ ≡ repeat i (branchW s (listW left s)) v
+choice-walk-Inv-loop s left list₀ i₀ v₀ list i v = repeat i₀ (branchW s (listW left s)) (walkOf list₀ v₀) ≡ repeat i (branchW s (listW left s)) (walkOf list v)
 
 abbrev choice-walk-μ-loop : choice-walk-lts.MeasureT-loop
-choice-walk-μ-loop s left i₀ v₀ i v = i
+choice-walk-μ-loop s left list₀ i₀ v₀ list i v = i
 
 abbrev list-walk-Inv-loop : list-walk-lts.InvT-loop
-list-walk-Inv-loop s left i₀ v₀ i v = repeat i₀ (actionW s (choiceW s (listW (left - 1) s))) v₀ ≡ repeat i (actionW s (choiceW s (listW (left - 1) s))) v
+list-walk-Inv-loop s left list₀ i₀ v₀ list i v = repeat i₀ (actionW s (choiceW s (listW (left - 1) s))) (walkOf list₀ v₀) ≡ repeat i (actionW s (choiceW s (listW (left - 1) s))) (walkOf list v)
 
 abbrev list-walk-μ-loop : list-walk-lts.MeasureT-loop
-list-walk-μ-loop s left i₀ v₀ i v = i
+list-walk-μ-loop s left list₀ i₀ v₀ list i v = i
 
 pub +choice-walk+list-walk-spec : {M : Type 1} → statement M
 +choice-walk+list-walk-spec = close μ-choice-walk μ-list-walk (λ t. choice-walk-lts.spec (
@@ -82,9 +82,9 @@ pub +choice-walk+list-walk-spec : {M : Type 1} → statement M
     (λ c κs. search needs)
     (λ c. search needs)
     (λ c. search needs)
-    (λ c. c .before .before .before .before .loop .inv ∙ laws.repeat-more _ _ _ (c .before .before .before .loop-test .taken) ∙ ap (repeat _ _) (laws.branch-next _ _ _ (c .before .before .predicates-end .ensures) (c .before .moved2 .ensures) (c .list-walk .ensures)))
+    (λ c. c .before .before .before .before .before .loop .inv ∙ laws.repeat-more _ _ _ (c .before .before .before .before .loop-test .taken) ∙ ap (repeat _ _) (laws.branch-next _ _ _ (c .before .before .predicates-end .ensures) (laws.moved-of _ _ _ (c .before .moved2 .ensures)) (c .list-walk .ensures)))
     (λ c κs. search needs)
-    (λ c. c .list-walk2 .ensures ∙ laws.choice-done _ _ (c .before .before .before .before .before .place-at .ensures) (c .before .before .before .before .past .ensures) (c .before .before .before .moved .ensures) _ (c .before .before .loop .inv ∙ laws.repeat-none _ _ _ (c .before .loop-test .left))))
+    (λ c. c .list-walk2 .ensures ∙ laws.choice-done _ _ (c .before .before .before .before .before .before .place-at .ensures) (c .before .before .before .before .before .past .ensures) (laws.moved-of _ _ _ (c .before .before .before .before .moved .ensures)) _ (c .before .before .before .loop .inv ∙ laws.repeat-none _ _ _ (c .before .before .loop-test .left))))
     λ t. list-walk-lts.spec (
       place-at-reads.Asked,
       place-at-reads.Learnt,
@@ -111,14 +111,14 @@ pub +choice-walk+list-walk-spec : {M : Type 1} → statement M
     (λ c κs. search needs)
     (λ c. refl)
     (λ c κs. search needs)
-    (λ c. search needs)
-    (λ c κs. search needs)
     (λ c κs. search needs)
     (λ c. search needs)
-    (λ c. search needs)
-    (λ c. c .before .before .before .before .before .loop .inv ∙ laws.repeat-more _ _ _ (c .before .before .before .before .loop-test .taken) ∙ ap (repeat _ _) (laws.action-choice _ _ _ (sym (c .before .before .before .kind-at .ensures) ∙ c .before .before .if2 .taken) ∙ ap (choiceW _ (listW _ _)) (sym (c .before .entered .ensures)) ∙ sym (c .choice-walk .ensures)))
     (λ c κs. search needs)
     (λ c. search needs)
     (λ c. search needs)
-    (λ c. c .before .before .before .before .loop .inv ∙ laws.repeat-more _ _ _ (c .before .before .before .loop-test .taken) ∙ ap (repeat _ _) (laws.action-simple _ _ _ (λ e. c .before .if2 .left (c .before .before .kind-at .ensures ∙ e)) ∙ sym (c .simple-walk .ensures)))
-    (λ c. laws.list-done _ _ (c .before .before .before .before .place-at .ensures) (c .before .before .before .past .ensures) (c .before .before .moved .ensures) _ (c .before .before .before .before .before .if1 .left) (c .before .loop .inv ∙ laws.repeat-none _ _ _ (c .loop-test .left)))
+    (λ c. c .before .before .before .before .before .before .before .loop .inv ∙ laws.repeat-more _ _ _ (c .before .before .before .before .before .before .loop-test .taken) ∙ ap (repeat _ _) (laws.action-choice _ _ _ (sym (c .before .before .before .before .before .kind-at .ensures) ∙ c .before .before .before .before .if2 .taken) ∙ ap (choiceW _ (listW _ _)) (sym (c .before .before .entered .ensures)) ∙ sym (c .choice-walk .ensures)))
+    (λ c κs. search needs)
+    (λ c. search needs)
+    (λ c. search needs)
+    (λ c. c .before .before .before .before .before .loop .inv ∙ laws.repeat-more _ _ _ (c .before .before .before .before .loop-test .taken) ∙ ap (repeat _ _) (laws.action-simple _ _ _ (λ e. c .before .before .if2 .left (c .before .before .before .kind-at .ensures ∙ e)) ∙ sym (c .simple-walk .ensures)))
+    (λ c. laws.list-done _ _ (c .before .before .before .before .place-at .ensures) (c .before .before .before .past .ensures) (laws.moved-of _ _ _ (c .before .before .moved .ensures)) _ (c .before .before .before .before .before .if1 .left) (c .before .loop .inv ∙ laws.repeat-none _ _ _ (c .loop-test .left)))

@@ -20,4 +20,4 @@ simple-walk-spec =
     (λ c κs. search needs)
     (λ c κs. search needs)
     (λ c κs. search needs)
-    (λ c. c .moved .ensures ∙ laws.simple-is _ _ _ _ _ _ (c .before .before .before .before .kind-at .ensures) (c .before .before .before .past .ensures) (c .before .before .simple-end .ensures) (c .before .noted .ensures)))
+    (λ c. laws.moved-of _ _ _ (c .moved .ensures) ∙ laws.simple-is _ _ _ _ _ _ (c .before .before .before .before .before .kind-at .ensures) (c .before .before .before .before .past .ensures) (c .before .before .before .simple-end .ensures) (c .before .noted .ensures)))
