@@ -75,6 +75,21 @@ pub fn steps() -> Model {
     model
 }
 
+/// How time grows: eight automations write two entities, `idle` more ones never start, and the steps are limited.
+pub fn grown(steps: usize, entities: usize, idle: usize, invariants: usize) -> Model {
+    let mut model = home(entities, invariants);
+    for k in 0..8 {
+        let actions = vec![toggle(1), toggle(2), toggle(1), toggle(2)];
+        model.rules.push(rule(format!("r{k:02}"), Mode::Single, 1, 0, actions));
+    }
+    for k in 0..idle {
+        model.rules.push(rule(format!("z{k:02}"), Mode::Single, 1, entities - 1, vec![]));
+    }
+    model.scenario.events = turns(0, 100, 10);
+    model.scenario.limits.max_steps = steps;
+    model
+}
+
 /// 10,000 records: events that start 32 automations, of which some are started
 /// a second time by what the first one does; restarts fill up the rest.
 pub fn records(entities: usize, invariants: usize) -> Model {

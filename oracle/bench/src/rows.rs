@@ -62,7 +62,8 @@ fn row(name: &str, entry: &'static str, model: &Model, size: Size) -> Row {
 
 /// A model, its entries and the sizes of areas, in the order of the table.
 type Source = (&'static str, fn() -> Model, &'static [&'static str], &'static [Size]);
-const SOURCES: [Source; 16] = [
+const BOTH: &[&str] = &["simulate", "check"];
+const SOURCES: [Source; 26] = [
     ("example", example, &["validate", "cone"], &[Size::Fit]),
     (
         "example",
@@ -84,6 +85,16 @@ const SOURCES: [Source; 16] = [
     ("reduction-few-steps", || models::reduction(0), &["minimize"], &[Size::Enough, Size::Fit]),
     ("toggles-512", || models::toggles(32, 16), &["lint"], &[Size::Enough]),
     ("mixed", models::mixed, &["lint", "cone"], &[Size::Enough]),
+    ("grow-steps-1500", || models::grown(1500, 8, 0, 4), BOTH, &[Size::Enough]),
+    ("grow-steps-3000", || models::grown(3000, 8, 0, 4), BOTH, &[Size::Enough]),
+    ("grow-steps-6000", || models::grown(6000, 8, 0, 4), BOTH, &[Size::Enough]),
+    ("grow-entities-16", || models::grown(3000, 16, 0, 4), BOTH, &[Size::Enough]),
+    ("grow-entities-32", || models::grown(3000, 32, 0, 4), BOTH, &[Size::Enough]),
+    ("grow-automations-16", || models::grown(3000, 8, 8, 4), BOTH, &[Size::Enough]),
+    ("grow-automations-32", || models::grown(3000, 8, 24, 4), BOTH, &[Size::Enough]),
+    ("grow-invariants-0", || models::grown(3000, 8, 0, 0), BOTH, &[Size::Enough]),
+    ("grow-invariants-16", || models::grown(3000, 8, 0, 16), BOTH, &[Size::Enough]),
+    ("grow-invariants-32", || models::grown(3000, 8, 0, 32), BOTH, &[Size::Enough]),
 ];
 
 /// The rows whose names begin with the prefix.
