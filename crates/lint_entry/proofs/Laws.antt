@@ -10,9 +10,9 @@ use borrow.Author.Tests.{lt-ltb, le-ltb}
 use Rattle.model_parts.specs.declared.Section.{Section}
 use Rattle.lint_walk.specs.declared.Walk.{Walk}
 use Rattle.lint_walk.specs.Raw.{placeZ, numberZ, past, kindZ}
-use Rattle.lint_walk.specs.Walks.{walkW}
+use Rattle.lint_walk.specs.Walks.{walkBy, walkW}
 use Rattle.lint_touches.specs.Sets.{readsS, writesS}
-use Rattle.lint_board.specs.Board.{finding, Board, pushes}
+use Rattle.lint_board.specs.Board.{Item, finding, Board, pushes}
 use Rattle.lint_reach.specs.declared.Components.{Components}
 use Rattle.lint_reach.specs.Sets.{holds}
 use Rattle.lint_reach.specs.Steps.{Square}
@@ -21,7 +21,7 @@ use Rattle.lint_tests.specs.declared.Names.{Names}
 use Rattle.lint_tests.specs.Tests.{anyL, highestZ, leadsZ}
 use Rattle.lint_findings.specs.declared.About.{About}
 use Rattle.lint_findings.specs.Entries.{itemsN, valueZ, ruleItems, pairItems}
-use Rattle.lint_findings.proofs.Laws.{numbers-start}
+use Rattle.lint_findings.proofs.Laws.{numbers-start, pair-by}
 use Rattle.lint_entry.specs.Order.{aboutAt, ruleAt, rulesItems, pairAt, laterItems, opposingItems, actionLeadsZ, leadsToZ, fillL, rowZ, edgesZ, cycleWritesFrom, cycleWritesZ, cycleZ, cyclesItems}
 
 module _ (s : List ℕ) where
@@ -41,9 +41,13 @@ module _ (s : List ℕ) where
   rules-is d rules x = numbers-start (ruleAt s d rules) {n = rules .count} {m = rules .count} x refl
 
   pub pair-is : (d : Names) (rules : Section) (i : ℕ) (v : Walk) (j : ℕ) {w : Walk} {a b : ℕ} (x : Board) {y : Board} →
-      w ≡ walkW s (getD (rules .starts) j 0) → a ≡ bitOr 0 (2 ^ i) → b ≡ bitOr a (2 ^ j) → y ≡ pushes (pairItems s d b v w) x → y ≡ pushes (pairAt s d rules i v j) x
+      w ≡ walkW s (getD (rules .starts) j 0) → a ≡ bitOr 0 (2 ^ i) → b ≡ bitOr a (2 ^ j) → y ≡ pushes (pairItems s d b (walkBy (v .list) (v .count)) (walkBy (w .list) (w .count))) x → y ≡ pushes (pairAt s d rules i v j) x
   unfolding pairAt
-  pair-is d rules i v j x e f g h = rw (← e) (rw (← f) (rw (← g) h))
+  pair-is d rules i v j {w} {a} {b} x e f g h = rw (← e) (rw (← f) (rw (← g) (h ∙ ap (λ (l : List Item). pushes l x) (pair-by s d b v w))))
+
+  pub pair-of : (d : Names) (rules : Section) (i : ℕ) (v : Walk) (j : ℕ) (x : Board) {y : Board} → y ≡ pushes (pairAt s d rules i (walkBy (v .list) (v .count)) j) x → y ≡ pushes (pairAt s d rules i v j) x
+  unfolding pairAt pairItems
+  pair-of d rules i v j x h = h
 
   pub later-is : (d : Names) (rules : Section) (i : ℕ) {v : Walk} (x : Board) → v ≡ walkW s (getD (rules .starts) i 0) → pushes (laterItems s d rules i) x ≡ pushes (itemsN (pairAt s d rules i v) (rules .count - (i + 1)) (i + 1)) x
   unfolding laterItems
@@ -65,6 +69,10 @@ module _ (s : List ℕ) where
   pub leads-is : (star : ℕ) (w : Walk) (p : ℕ) → leadsToZ s star w p ≡ anyL (actionLeadsZ s star p) (w .list) (w .count) 0
   unfolding leadsToZ
   leads-is star w p = refl
+
+  pub leads-by : (star : ℕ) (w : Walk) (p : ℕ) {r : Bool} → r ≡ leadsToZ s star (walkBy (w .list) (w .count)) p → r ≡ leadsToZ s star w p
+  unfolding leadsToZ
+  leads-by star w p h = h
 
   pub row-is : (star : ℕ) (rules : Section) (w : Walk) → rowZ s star rules w ≡ fillL (λ j. leadsToZ s star w (getD (rules .starts) j 0)) (rules .count - 0) 0 (replicate 32 false)
   unfolding rowZ

@@ -11,6 +11,7 @@ ghost use Prim.Native.Nat.{ℕ, _≤_, _<_, _+_, _-_};
 ghost use lib.ListN.{length};
 ghost use Rattle.lint_reach.specs.Cycles.{Cycles};
 ghost use Rattle.lint_board.specs.Board.{board, pushes};
+ghost use Rattle.lint_walk.specs.Walks.{walkBy};
 ghost use Rattle.lint_entry.specs.Order.{Lints, aboutAt, ruleAt, rulesItems, pairAt, laterItems, opposingItems, actionLeadsZ, leadsToZ, rowZ, edgesZ, cycleWritesZ, cycleZ, cyclesItems};
 
 // ---- each automation
@@ -89,23 +90,24 @@ pub fn rules_entries(
 
 // ---- each pair of automations
 
-// The i-th automation's actions against those of the j-th.
+// The i-th automation's actions, the first `count` of `list`, against those of the j-th.
 fn pair_entries(
     s: &[u8],
     names: Names,
     rules: Section,
     i: usize,
-    v: Walk,
+    list: &[usize; 512],
+    count: usize,
     j: usize,
     findings: &mut [u32],
     o: Out,
 ) -> Out
-    requires { ⌜ (names .entities .count ≤ 32) × (i < 32) × (j < 32) × (v .count ≤ 512) × (length (v .list) ≡ 512) ⌝ }
-    ensures { λ r. ⌜ ((k : List ℕ) → board (now (findings .exit)) k r ≡ pushes (pairAt (now (s .entry)) names rules i v j) (board (now (findings .entry)) k o)) ⌝ }
+    requires { ⌜ (names .entities .count ≤ 32) × (i < 32) × (j < 32) × (count ≤ 512) ⌝ }
+    ensures { λ r. ⌜ ((k : List ℕ) → board (now (findings .exit)) k r ≡ pushes (pairAt (now (s .entry)) names rules i (walkBy (now (list .entry)) count) j) (board (now (findings .entry)) k o)) ⌝ }
 {
     let w = lint_walk::rule_walk(s, rules.starts[j]);
     let set = lint_reach::with(lint_reach::with(0, i), j);
-    lint_findings::oppose_pair(s, names, set, v, w, findings, o)
+    lint_findings::oppose_pair(s, names, set, list, count, &w.list, w.count, findings, o)
 }
 
 // The i-th automation against each later one.
@@ -125,7 +127,7 @@ fn later_entries(
     let mut out = o;
     let mut j = i + 1;
     while j < count {
-        out = pair_entries(s, names, rules, i, v, j, findings, out);
+        out = pair_entries(s, names, rules, i, &v.list, v.count, j, findings, out);
         j += 1;
     }
     out
@@ -148,15 +150,14 @@ pub fn opposing_entries(s: &[u8], names: Names, rules: Section, findings: &mut [
 
 // ---- reach
 
-// Whether a write of the walk's automation can set off the one at a position.
-pub fn leads_to(s: &[u8], star: u32, w: Walk, at: usize) -> bool
-    requires { ⌜ (w .count ≤ 512) × (length (w .list) ≡ 512) ⌝ }
-    ensures { λ r. ⌜ r ≡ leadsToZ (now (s .entry)) star w at ⌝ }
+// Whether a write among the first `count` actions of `list` can set off the automation at a position.
+fn leads_to(s: &[u8], star: u32, list: &[usize; 512], count: usize, at: usize) -> bool
+    requires { ⌜ count ≤ 512 ⌝ }
+    ensures { λ r. ⌜ r ≡ leadsToZ (now (s .entry)) star (walkBy (now (list .entry)) count) at ⌝ }
 {
-    let count = w.count;
     let mut k: usize = 0;
     while k < count {
-        if action_leads(s, star, w.list[k], at) {
+        if action_leads(s, star, list[k], at) {
             return true;
         }
         k += 1;
@@ -185,7 +186,7 @@ fn reach_row(s: &[u8], star: u32, rules: Section, w: Walk) -> [bool; 32]
     let mut row = [false; 32];
     let mut j: usize = 0;
     while j < count {
-        row[j] = leads_to(s, star, w, rules.starts[j]);
+        row[j] = leads_to(s, star, &w.list, w.count, rules.starts[j]);
         j += 1;
     }
     row

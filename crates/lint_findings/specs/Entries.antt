@@ -118,6 +118,16 @@ module _ (s : List ℕ) where
       else if leb (d .entities .count) e then []
       else onlyIf (opposedZ (d .star) x (valueZ (d .star) p) (placeZ s (past s q 9)) (valueZ (d .star) q)) (finding (pairZ (d .entities) set e p q))
 
+  -- whether the action at q writes against a write of v to x
+  unfoldable pub opposingZ : (star x v q : ℕ) → Bool
+  opposingZ star x v q = if ltb 1 (kindZ s q) then false else opposedZ star x v (placeZ s (past s q 9)) (valueZ star q)
+
+  -- the finding of two such writes, the first of them to x
+  unfoldable pub foundItems : Section → (set x p q : ℕ) → List Item
+  foundItems es set x p q =
+      let e = number-of es x s in
+      if leb (es .count) e then [] else finding (pairZ es set e p q) ∷ []
+
   unfoldable pub rowItems : Names → (set : ℕ) → Walk → (p : ℕ) → List Item
   rowItems d set w p = itemsN (λ k. opposeItems d set p (getD (w .list) k 0)) (w .count) 0
 

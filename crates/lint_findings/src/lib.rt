@@ -7,8 +7,9 @@ ghost use mathlib.Core.Path.{_≡_};
 ghost use mathlib.Core.List.{List};
 ghost use Prim.Native.Nat.{ℕ, _≤_, _<_, _+_, _-_};
 ghost use lib.ListN.{length};
+ghost use Rattle.lint_walk.specs.Walks.{walkBy};
 ghost use Rattle.lint_board.specs.Board.{board, pushes};
-ghost use Rattle.lint_findings.specs.Entries.{aboutZ, actionZ, delayedZ, ownItems, branchItems, branchesItems, staleHereZ, freshItems, valueZ, riskyZ, interactItems, writeItems, writesItems, firstItems, ruleItems, spelledZ, pairZ, opposeItems, rowItems, pairItems};
+ghost use Rattle.lint_findings.specs.Entries.{aboutZ, actionZ, delayedZ, ownItems, branchItems, branchesItems, staleHereZ, freshItems, valueZ, riskyZ, interactItems, writeItems, writesItems, firstItems, ruleItems, spelledZ, pairZ, opposingZ, foundItems, rowItems, pairItems};
 
 // An automation: its number, the set of it alone, the highest tier that it writes, its source.
 pub struct About {
@@ -367,85 +368,95 @@ fn pair_words(s: &[u8], entities: Section, set: u32, e: usize, at: usize, other:
     ]
 }
 
-// The action at one position against that at another.
+// Whether the action at a position writes against a write of v to the entity x.
+fn opposing(s: &[u8], star: u32, x: u32, v: u32, other: usize) -> bool
+    ensures { λ r. ⌜ r ≡ opposingZ (now (s .entry)) star x v other ⌝ }
+{
+    if 1 < lint_walk::kind_at(s, other) {
+        return false;
+    }
+    let y = lint_walk::place_at(s, lint_walk::past(s, other, 9));
+    if x != y {
+        return false;
+    }
+    lint_tests::opposed(star, x, v, y, value(s, star, other))
+}
+
+// Two writes against each other, at two positions, the first of them to the entity x: a finding if it is declared.
 fn oppose(
     s: &[u8],
-    names: Names,
+    entities: Section,
     set: u32,
+    x: u32,
     at: usize,
     other: usize,
     findings: &mut [u32],
     o: Out,
 ) -> Out
-    requires { ⌜ names .entities .count ≤ 32 ⌝ }
-    ensures { λ r. ⌜ ((i : List ℕ) → board (now (findings .exit)) i r ≡ pushes (opposeItems (now (s .entry)) names set at other) (board (now (findings .entry)) i o)) ⌝ }
+    requires { ⌜ entities .count ≤ 32 ⌝ }
+    ensures { λ r. ⌜ ((i : List ℕ) → board (now (findings .exit)) i r ≡ pushes (foundItems (now (s .entry)) entities set x at other) (board (now (findings .entry)) i o)) ⌝ }
 {
-    if 1 < lint_walk::kind_at(s, at) {
-        return o;
-    }
-    if 1 < lint_walk::kind_at(s, other) {
-        return o;
-    }
-    let x = lint_walk::place_at(s, lint_walk::past(s, at, 9));
-    let y = lint_walk::place_at(s, lint_walk::past(s, other, 9));
-    let v = value(s, names.star, at);
-    let u = value(s, names.star, other);
-    let entities = names.entities;
     let count = entities.count as usize;
     let e = model_check::number_of(s, entities, x);
     if count <= e {
         return o;
     }
-    let words = pair_words(s, entities, set, e, at, other);
-    lint_board::push_if(
-        findings,
-        o,
-        lint_tests::opposed(names.star, x, v, y, u),
-        words,
-    )
+    lint_board::push_finding(findings, o, pair_words(s, entities, set, e, at, other))
 }
 
-// The action at a position against each of another automation.
+// The action at a position against each of another automation, the first `count` of `list`.
 fn oppose_row(
     s: &[u8],
     names: Names,
     set: u32,
     at: usize,
-    w: Walk,
+    list: &[usize; 512],
+    count: usize,
     findings: &mut [u32],
     o: Out,
 ) -> Out
-    requires { ⌜ (names .entities .count ≤ 32) × (w .count ≤ 512) × (length (w .list) ≡ 512) ⌝ }
-    ensures { λ r. ⌜ ((i : List ℕ) → board (now (findings .exit)) i r ≡ pushes (rowItems (now (s .entry)) names set w at) (board (now (findings .entry)) i o)) ⌝ }
+    requires { ⌜ (names .entities .count ≤ 32) × (count ≤ 512) ⌝ }
+    ensures { λ r. ⌜ ((i : List ℕ) → board (now (findings .exit)) i r ≡ pushes (rowItems (now (s .entry)) names set (walkBy (now (list .entry)) count) at) (board (now (findings .entry)) i o)) ⌝ }
 {
-    let count = w.count;
+    if 1 < lint_walk::kind_at(s, at) {
+        return o;
+    }
+    let star = names.star;
+    let x = lint_walk::place_at(s, lint_walk::past(s, at, 9));
+    let v = value(s, star, at);
     let mut out = o;
     let mut k: usize = 0;
     while k < count {
-        out = oppose(s, names, set, at, w.list[k], findings, out);
-        k += 1;
+        let other = list[k];
+        if opposing(s, star, x, v, other) {
+            out = oppose(s, names.entities, set, x, at, other, findings, out);
+            k += 1;
+        } else {
+            k += 1;
+        }
     }
     out
 }
 
-// Each action of one automation against each of another.
+// Each action of one automation against each of another: the first m of one list, the first n of the other.
 pub fn oppose_pair(
     s: &[u8],
     names: Names,
     set: u32,
-    v: Walk,
-    w: Walk,
+    list: &[usize; 512],
+    m: usize,
+    others: &[usize; 512],
+    n: usize,
     findings: &mut [u32],
     o: Out,
 ) -> Out
-    requires { ⌜ (names .entities .count ≤ 32) × (v .count ≤ 512) × (length (v .list) ≡ 512) × (w .count ≤ 512) × (length (w .list) ≡ 512) ⌝ }
-    ensures { λ r. ⌜ ((i : List ℕ) → board (now (findings .exit)) i r ≡ pushes (pairItems (now (s .entry)) names set v w) (board (now (findings .entry)) i o)) ⌝ }
+    requires { ⌜ (names .entities .count ≤ 32) × (m ≤ 512) × (n ≤ 512) ⌝ }
+    ensures { λ r. ⌜ ((i : List ℕ) → board (now (findings .exit)) i r ≡ pushes (pairItems (now (s .entry)) names set (walkBy (now (list .entry)) m) (walkBy (now (others .entry)) n)) (board (now (findings .entry)) i o)) ⌝ }
 {
-    let count = v.count;
     let mut out = o;
     let mut k: usize = 0;
-    while k < count {
-        out = oppose_row(s, names, set, v.list[k], w, findings, out);
+    while k < m {
+        out = oppose_row(s, names, set, list[k], others, n, findings, out);
         k += 1;
     }
     out

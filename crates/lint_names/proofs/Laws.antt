@@ -4,17 +4,17 @@ use mathlib.Core.Bool.{Bool, true, false}
 use mathlib.Core.List.{List}
 use Prim.Native.Nat.{ℕ, suc, _+_, _-_, _≤_, _<_}
 use native.Mathlib.Omega.{arith}
-use lib.Dec.{leb, eqb}
+use lib.Dec.{eqb}
 use lib.ListN.{getD, set}
-use borrow.Author.Tests.{lt-ltb, le-ltb, eq-eqb, ne-eqb}
+use borrow.Author.Tests.{lt-ltb, le-ltb, le-leb, lt-leb, eq-eqb, ne-eqb}
 use Rattle.model_parts.specs.declared.Section.{Section}
 use Rattle.model_check.specs.Checks.{number-of}
 use Rattle.lint_walk.specs.declared.Walk.{Walk}
 use Rattle.lint_walk.specs.Raw.{placeZ, past, kindZ}
-use Rattle.lint_walk.specs.Walks.{walkW}
+use Rattle.lint_walk.specs.Walks.{walkBy, walkW}
 use Rattle.lint_tests.specs.Tests.{anyL}
 use Rattle.lint_names.specs.declared.Undeclared.{Undeclared}
-use Rattle.lint_names.specs.Strange.{withU, none, awaitZ, awaitsZ, strangeZ, nameU, namesU, ruleU, rulesU, undeclaredU}
+use Rattle.lint_names.specs.Strange.{withU, none, awaitZ, awaitsZ, strangeZ, readU, nameU, namesU, ruleU, rulesU, undeclaredU}
 
 module _ (u : Undeclared) (i t : ℕ) where
   pub with-place : u .count < 64 → record { count = u .count + 1; names = set (u .names) (u .count) t; readers = set (u .readers) (u .count) i } ≡ withU u i t
@@ -39,22 +39,23 @@ module _ (s : List ℕ) where
   unfolding awaitsZ
   awaits-is w t = refl
 
-  module _ (e : Section) (w : Walk) (t : ℕ) where
-    pub strange-is : {b : Bool} {n : ℕ} → b ≡ awaitsZ s w t → b ≡ true → n ≡ number-of e t s → leb (e .count) n ≡ strangeZ s e w t
-    unfolding strangeZ
-    strange-is d h f = rw (← d) (rw (h, f))
+  module _ (e : Section) (i t : ℕ) (u : Undeclared) {n : ℕ} (f : n ≡ number-of e t s) where
+    pub read-declared : n < e .count → u ≡ readU s e i t u
+    unfolding readU
+    read-declared h = rw (← f) (rw (lt-leb (e .count) n h))
 
-    pub strange-no : {b : Bool} → b ≡ awaitsZ s w t → b ≡ false → strangeZ s e w t ≡ false
-    unfolding strangeZ
-    strange-no d h = rw (← d) (rw h)
+    pub read-is : {v : Undeclared} → e .count ≤ n → v ≡ withU u i t → v ≡ readU s e i t u
+    unfolding readU
+    read-is h g = rw (← f) (rw (le-leb (e .count) n h) g)
 
-    pub name-yes : (i : ℕ) (u : Undeclared) {b : Bool} {v : Undeclared} → b ≡ strangeZ s e w t → b ≡ true → v ≡ withU u i t → v ≡ nameU s e w i t u
-    unfolding nameU
-    name-yes i u d h f = rw (← d) (rw h f)
+  module _ (e : Section) (w : Walk) (i t : ℕ) (u : Undeclared) {b : Bool} (d : b ≡ awaitsZ s (walkBy (w .list) (w .count)) t) where
+    pub name-yes : {v : Undeclared} → b ≡ true → v ≡ readU s e i t u → v ≡ nameU s e w i t u
+    unfolding nameU strangeZ readU awaitsZ
+    name-yes h f = rw (← d) (rw h f)
 
-    pub name-no : (i : ℕ) (u : Undeclared) {b : Bool} → b ≡ strangeZ s e w t → b ≡ false → u ≡ nameU s e w i t u
-    unfolding nameU
-    name-no i u d h = rw (← d) (rw h)
+    pub name-no : b ≡ false → u ≡ nameU s e w i t u
+    unfolding nameU strangeZ awaitsZ
+    name-no h = rw (← d) (rw h)
 
   module _ (e : Section) (w : Walk) (i n t : ℕ) (u : Undeclared) where
     pub names-more : {v : Undeclared} → t < n → v ≡ nameU s e w i t u → namesU s e w i (n - t) t u ≡ namesU s e w i (n - (t + 1)) (t + 1) v

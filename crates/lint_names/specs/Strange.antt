@@ -30,6 +30,10 @@ module _ (s : List ℕ) where
   unfoldable pub strangeZ : Section → Walk → (place : ℕ) → Bool
   strangeZ e w t = if awaitsZ w t then leb (e .count) (number-of e t s) else false
 
+  -- with a name that is read, if no entity has it
+  unfoldable pub readU : Section → (reader place : ℕ) → Undeclared → Undeclared
+  readU e i t u = if leb (e .count) (number-of e t s) then withU u i t else u
+
   unfoldable pub nameU : Section → Walk → (reader place : ℕ) → Undeclared → Undeclared
   nameU e w i t u = if strangeZ e w t then withU u i t else u
 

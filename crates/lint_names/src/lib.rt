@@ -1,10 +1,10 @@
 // The undeclared names that automations read: the entities of waits whose triggers have notes. A model has at most 64.
-use lint_walk::Walk;
 use model_parts::Section;
 ghost use mathlib.Core.Path.{_≡_};
 ghost use Prim.Native.Nat.{_≤_, _<_, _+_, _-_};
 ghost use lib.ListN.{length};
-ghost use Rattle.lint_names.specs.Strange.{awaitZ, awaitsZ, strangeZ, withU, nameU, namesU, ruleU, undeclaredU};
+ghost use Rattle.lint_walk.specs.Walks.{walkBy};
+ghost use Rattle.lint_names.specs.Strange.{awaitZ, awaitsZ, withU, readU, ruleU, undeclaredU};
 
 // Whether the action at a position waits for the entity that a place names.
 fn awaits_at(s: &[u8], place: u32, at: usize) -> bool
@@ -16,30 +16,17 @@ fn awaits_at(s: &[u8], place: u32, at: usize) -> bool
     lint_walk::place_at(s, lint_walk::past(s, at, 9)) == place
 }
 
-// Whether one of the actions does.
-fn awaits(s: &[u8], w: Walk, place: u32) -> bool
-    requires { ⌜ (w .count ≤ 512) × (length (w .list) ≡ 512) ⌝ }
-    ensures { λ r. ⌜ r ≡ awaitsZ (now (s .entry)) w place ⌝ }
+// Whether one of the first `count` actions of `list` does.
+fn awaits(s: &[u8], list: &[usize; 512], count: usize, place: u32) -> bool
+    requires { ⌜ count ≤ 512 ⌝ }
+    ensures { λ r. ⌜ r ≡ awaitsZ (now (s .entry)) (walkBy (now (list .entry)) count) place ⌝ }
 {
-    let count = w.count;
     let mut k: usize = 0;
     while k < count {
-        if awaits_at(s, place, w.list[k]) {
+        if awaits_at(s, place, list[k]) {
             return true;
         }
         k += 1;
-    }
-    false
-}
-
-// Whether the walk's automation reads the name at a place, and no entity has it.
-fn strange(s: &[u8], entities: Section, w: Walk, place: u32) -> bool
-    requires { ⌜ (entities .count ≤ 32) × (w .count ≤ 512) × (length (w .list) ≡ 512) ⌝ }
-    ensures { λ r. ⌜ r ≡ strangeZ (now (s .entry)) entities w place ⌝ }
-{
-    if awaits(s, w, place) {
-        let count = entities.count as usize;
-        return count <= model_check::number_of(s, entities, place);
     }
     false
 }
@@ -69,22 +56,16 @@ fn with_name(u: Undeclared, reader: u32, place: u32) -> Undeclared
     u
 }
 
-// With the name at a place, if the walk's automation reads it and no entity has it.
-fn with_strange(
-    s: &[u8],
-    entities: Section,
-    w: Walk,
-    i: u32,
-    place: u32,
-    u: Undeclared,
-) -> Undeclared
-    requires { ⌜ (entities .count ≤ 32) × (w .count ≤ 512) × (length (w .list) ≡ 512) ⌝ }
-    ensures { λ r. ⌜ r ≡ nameU (now (s .entry)) entities w i place u ⌝ }
+// With the name at a place, which the i-th automation reads, if no entity has it.
+fn with_strange(s: &[u8], entities: Section, i: u32, place: u32, u: Undeclared) -> Undeclared
+    requires { ⌜ entities .count ≤ 32 ⌝ }
+    ensures { λ r. ⌜ r ≡ readU (now (s .entry)) entities i place u ⌝ }
 {
-    if strange(s, entities, w, place) {
-        return with_name(u, i, place);
+    let count = entities.count as usize;
+    if model_check::number_of(s, entities, place) < count {
+        return u;
     }
-    u
+    with_name(u, i, place)
 }
 
 // With the names that the i-th automation reads, of so many texts.
@@ -103,8 +84,12 @@ fn rule_names(
     let mut v = u;
     let mut place: u32 = 0;
     while place < texts {
-        v = with_strange(s, entities, w, i as u32, place, v);
-        place += 1;
+        if awaits(s, &w.list, w.count, place) {
+            v = with_strange(s, entities, i as u32, place, v);
+            place += 1;
+        } else {
+            place += 1;
+        }
     }
     v
 }

@@ -8,6 +8,10 @@ use Rattle.lint_walk.specs.declared.Walk.{Walk}
 use Rattle.lint_walk.specs.declared.Cursor.{Cursor}
 use Rattle.lint_walk.specs.Raw.{placeZ, past, repeat, predicatesEnd, simpleEnd, kindZ, actionsZ}
 
+-- a walk by its first n actions alone
+abbrev pub walkBy : List ℕ → (n : ℕ) → Walk
+walkBy l n = record { list = l; count = n; next = 0 }
+
 -- the code's walk, whose list is lent
 abbrev pub walkOf : List ℕ → Cursor → Walk
 walkOf l c = record { list = l; count = c .count; next = c .next }

@@ -6,7 +6,6 @@ use lib.ListN.{length}
 use Rattle.lint_board.specs.Board.{board, pushes}
 use Rattle.lint_findings.specs.Entries.{itemsN}
 use Rattle.lint_findings.proofs.Laws as items
-use Rattle.lint_tests.proofs.Laws as tests
 use Rattle.lint_walk.proofs.Sizes as sizes
 use Rattle.lint_entry.proofs.Laws as laws
 use Rattle.lint_entry.specs.Order.{pairAt}
@@ -35,9 +34,9 @@ later-entries-spec =
     (λ c κs. search needs)
     (λ c. search needs)
     (λ c. ((λ k. refl), refl))
-    (λ c κs. (c .before .before .before .before .before .before .before .pre .0, c .before .before .before .before .before .before .before .pre .2, search needs, sizes.sized _ _ (c .before .before .before .rule-walk .ensures) .0, sizes.sized _ _ (c .before .before .before .rule-walk .ensures) .1))
+    (λ c κs. (c .before .before .before .before .before .before .before .before .before .pre .0, c .before .before .before .before .before .before .before .before .before .pre .2, search needs, sizes.sized _ _ (c .before .before .before .before .before .rule-walk .ensures) .0))
     (λ c. search needs)
     (λ c. search needs)
-    (λ c. ((λ k. c .before .before .before .before .before .loop .inv .0 k ∙ items.numbers-more _ _ _ _ (c .before .before .before .before .loop-test .taken) (c .before .before .pair-entries .ensures k)), search needs))
+    (λ c. ((λ k. c .before .before .before .before .before .before .before .loop .inv .0 k ∙ items.numbers-more _ _ _ _ (c .before .before .before .before .before .before .loop-test .taken) (laws.pair-of _ _ _ _ _ _ _ (c .before .before .pair-entries .ensures k))), search needs))
     (λ c. search needs)
     (λ c. λ k. sym (laws.later-is _ _ _ _ _ (c .before .before .rule-walk .ensures) ∙ c .before .loop .inv .0 k ∙ items.numbers-end _ _ _ _ (c .loop-test .left))))

@@ -2,6 +2,7 @@ use borrow.Author.Needs.{needs}
 use mathlib.Core.Path.{_≡_, sym, _∙_}
 use Prim.Native.Nat.{_-_}
 use Rattle.lint_findings.proofs.Laws as items
+use Rattle.lint_walk.specs.Walks.{walkBy}
 use Rattle.lint_tests.specs.Tests.{anyL}
 use Rattle.lint_tests.proofs.Laws as tests
 use Rattle.lint_walk.proofs.Sizes as sizes
@@ -14,10 +15,10 @@ use Rattle.lint_entry.proofs.leads_to.Lts as lts
 use Rattle.lint_entry.proofs.action_leads.Reads as action-leads-reads
 
 abbrev Inv-loop : tie.InvT-loop
-Inv-loop s star at w count k₀ k = leadsToZ s star w at ≡ anyL (actionLeadsZ s star at) (w .list) (count - k) k
+Inv-loop s star list count at k₀ k = leadsToZ s star (walkBy list count) at ≡ anyL (actionLeadsZ s star at) list (count - k) k
 
 abbrev μ-loop : tie.MeasureT-loop
-μ-loop s star at w count k₀ k = count - k
+μ-loop s star list count at k₀ k = count - k
 
 pub leads-to-spec : {M : Type 1} → statement M
 leads-to-spec =
