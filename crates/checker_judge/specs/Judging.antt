@@ -5,7 +5,7 @@ use mathlib.Core.Path.{_≡_}
 use mathlib.Core.Bool.{Bool, true, false, _&&_, _||_}
 use mathlib.Core.List.{List, [], _∷_}
 use lib.Dec.{ltb, leb, eqb}
-use lib.ListN.{length, getD}
+use lib.ListN.{length, getD, set}
 use Rattle.texts.specs.Lists.{if_then_else_}
 use Rattle.records.specs.Records.{recorded}
 use Rattle.records.specs.declared.Where.the-variants.{Nowhere}
@@ -26,7 +26,6 @@ use Rattle.checker_judge.specs.declared.Memory.{Memory}
 use Rattle.checker_judge.specs.declared.Shown.{Shown}
 use Rattle.checker_judge.specs.declared.Seen.{Seen}
 use Rattle.checker_judge.specs.declared.Reading.{Reading}
-use Rattle.checker_judge.specs.declared.Turn.{Turn}
 
 unfoldable pub yesJ : Truth → Bool
 yesJ Yes = true
@@ -72,6 +71,18 @@ putJ x c id v = if ltb (entityOf x id) 32 then storedC c (entityOf x id) v else 
 unfoldable pub afterJ : (x : List ℕ) → Change → Cells → Cells
 afterJ x NoChange c = c
 afterJ x (Write e b v) c = putJ x c e v
+
+-- the same for the values alone: the entity that a change writes, or 32, and the value
+unfoldable pub entityJ : (x : List ℕ) → Change → ℕ
+entityJ x NoChange = 32
+entityJ x (Write e b v) = entityOf x e
+
+unfoldable pub valueJ : Change → ℕ
+valueJ NoChange = 0
+valueJ (Write e b v) = v
+
+unfoldable pub setJ : List ℕ → (e value : ℕ) → List ℕ
+setJ vs e v = if ltb e 32 then set vs e v else vs
 
 -- ---- never, guard, transition
 
@@ -187,6 +198,11 @@ readJ f x at before present r m =
 
 -- ---- all records
 
+-- the cells after a record, and the reading up to it
+pub record Turn : Type 0 where
+  pub cells : Cells
+  pub reading : Reading
+
 abbrev pub turnedJ : (k : ℕ) → Record → Cells → Shown → Turn
 turnedJ k r present s = record {
   cells = present;
@@ -218,8 +234,9 @@ judgeJ f x at c l = readingJ f x (cap at) c nothingJ 0 l
 
 -- ---- over the record area a, whatever records it holds
 
-pub record Turned (f x : List ℕ) (at : ℕ) (c : Cells) (m : Memory) (a : List ℕ) (k : ℕ) (t : Turn) : Type 0 where
-  pub is : (l : List Record) (d : Record) → k < length l → a ≡ recorded (length a) l → t ≡ turnJ f x at c m k (getD l k d)
+-- the record at k, from any cells with the values vs: its reading, and the values after it
+pub record Turned (f x : List ℕ) (at : ℕ) (vs : List ℕ) (m : Memory) (a : List ℕ) (k : ℕ) (r : Reading) (after : List ℕ) : Type 0 where
+  pub is : (c : Cells) (l : List Record) (d : Record) → c .values ≡ vs → k < length l → a ≡ recorded (length a) l → (r ≡ turnJ f x at c m k (getD l k d) .reading) × (after ≡ turnJ f x at c m k (getD l k d) .cells .values)
 
 pub record Judges (f x : List ℕ) (at : ℕ) (c : Cells) (a : List ℕ) (n : ℕ) (r : Reading) : Type 0 where
   pub is : (l : List Record) → length l ≡ n → a ≡ recorded (length a) l → r ≡ judgeJ f x at c l

@@ -18,7 +18,7 @@ ghost use Prim.Native.Nat.{_*_, _+_, _≤_};
 ghost use lib.ListN.{length};
 ghost use Rattle.engine_truth.specs.Truths.{sizeT};
 ghost use Rattle.engine_state.specs.Machine.{later};
-ghost use Rattle.checker_judge.specs.Judging.{yesJ, noJ, unknownJ, failsJ, failedJ, or-elseJ, nothingJ, unsureJ, putJ, afterJ, neverJ, writesJ, aboutJ, guardedJ, guardJ, passesJ, transitionJ, overdueJ, missedJ, keptJ, startedJ, begunJ, waitsJ, at-endJ, beyondJ, failureJ, memoryJ, respondedJ, seenJ, readJ, unfailedJ, Turned, Judges};
+ghost use Rattle.checker_judge.specs.Judging.{yesJ, noJ, unknownJ, failsJ, failedJ, or-elseJ, nothingJ, unsureJ, entityJ, valueJ, setJ, neverJ, writesJ, aboutJ, guardedJ, guardJ, passesJ, transitionJ, overdueJ, missedJ, keptJ, startedJ, begunJ, waitsJ, at-endJ, beyondJ, failureJ, memoryJ, respondedJ, seenJ, readJ, unfailedJ, Turned, Judges};
 
 // Why a record fails an invariant, if it does.
 pub enum Failure {
@@ -58,12 +58,6 @@ pub struct Reading {
     pub second: u32,
     pub source: Where,
     pub memory: Memory,
-}
-
-// The values after a record, and the reading up to it.
-pub struct Turn {
-    pub cells: Cells,
-    pub reading: Reading,
 }
 
 // A response's predicates at a record: `when` and the goal after it, and the goal before it.
@@ -166,33 +160,47 @@ fn unsure(b: bool, m: Memory) -> Memory
 
 // ---- the values after a change
 
-fn put(x: &[u32; 436], c: Cells, id: u32, value: u32) -> Cells
-    ensures { λ r. ⌜ r ≡ putJ (now (x .entry)) c id value ⌝ }
-{
-    let e = engine_reads::entity_of(x, id);
-    if e < 32 {
-        return engine_state::stored(c, e, value);
-    }
-    c
-}
-
-fn after_change(x: &[u32; 436], change: Change, c: Cells) -> Cells
-    ensures { λ r. ⌜ r ≡ afterJ (now (x .entry)) change c ⌝ }
+// The entity that a change writes, or 32.
+fn entity_in(x: &[u32; 436], change: Change) -> usize
+    ensures { λ r. ⌜ r ≡ entityJ (now (x .entry)) change ⌝ }
 {
     match change {
-        Change::NoChange => c,
+        Change::NoChange => 32,
         Change::Write {
             entity,
             before: _,
+            after: _,
+        } => engine_reads::entity_of(x, entity),
+    }
+}
+
+// The value that it writes, or 0.
+fn value_in(change: Change) -> u32
+    ensures { λ r. ⌜ r ≡ valueJ change ⌝ }
+{
+    match change {
+        Change::NoChange => 0,
+        Change::Write {
+            entity: _,
+            before: _,
             after,
-        } => put(x, c, entity, after),
+        } => after,
+    }
+}
+
+// An entity's value changes; with 32, none does.
+fn put(values: &mut [u32; 32], e: usize, value: u32)
+    ensures { λ _. ⌜ now (values .exit) ≡ setJ (now (values .entry)) e value ⌝ }
+{
+    if e < 32 {
+        values[e] = value;
     }
 }
 
 // ---- never, guard, transition
 
-fn read_never(f: &[u8], x: &[u32; 436], at: u32, present: Cells, m: Memory) -> Shown
-    ensures { λ r. ⌜ r ≡ neverJ (now (f .entry)) (now (x .entry)) at (present .values) m ⌝ }
+fn read_never(f: &[u8], x: &[u32; 436], at: u32, present: &[u32; 32], m: Memory) -> Shown
+    ensures { λ r. ⌜ r ≡ neverJ (now (f .entry)) (now (x .entry)) at (now (present .entry)) m ⌝ }
 {
     let judged = evaluate_all(f, x, present, after(at, 3));
     let t = judged.truth;
@@ -238,8 +246,8 @@ fn guarded(t: Truth, m: Memory) -> Shown
 }
 
 // A guard reads the values before the record.
-fn read_guard(f: &[u8], x: &[u32; 436], at: u32, before: Cells, r: Record, m: Memory) -> Shown
-    ensures { λ s. ⌜ s ≡ guardJ (now (f .entry)) (now (x .entry)) at (before .values) r m ⌝ }
+fn read_guard(f: &[u8], x: &[u32; 436], at: u32, before: &[u32; 32], r: Record, m: Memory) -> Shown
+    ensures { λ s. ⌜ s ≡ guardJ (now (f .entry)) (now (x .entry)) at (now (before .entry)) r m ⌝ }
 {
     if is_about(f, at, r) {
         let judged = evaluate_all(f, x, before, after(at, 7));
@@ -424,8 +432,8 @@ fn after_predicate(f: &[u8], at: u32) -> u32
 }
 
 // The goal is read before the record and after it, the cause after it.
-fn seen_at(f: &[u8], x: &[u32; 436], at: u32, before: Cells, present: Cells) -> Seen
-    ensures { λ r. ⌜ r ≡ seenJ (now (f .entry)) (now (x .entry)) at (before .values) (present .values) ⌝ }
+fn seen_at(f: &[u8], x: &[u32; 436], at: u32, before: &[u32; 32], present: &[u32; 32]) -> Seen
+    ensures { λ r. ⌜ r ≡ seenJ (now (f .entry)) (now (x .entry)) at (now (before .entry)) (now (present .entry)) ⌝ }
 {
     let p = after(at, 3);
     let q = after_predicate(f, p);
@@ -448,12 +456,12 @@ fn read(
     f: &[u8],
     x: &[u32; 436],
     at: u32,
-    before: Cells,
-    present: Cells,
+    before: &[u32; 32],
+    present: &[u32; 32],
     r: Record,
     m: Memory,
 ) -> Shown
-    ensures { λ s. ⌜ s ≡ readJ (now (f .entry)) (now (x .entry)) at (before .values) (present .values) r m ⌝ }
+    ensures { λ s. ⌜ s ≡ readJ (now (f .entry)) (now (x .entry)) at (now (before .entry)) (now (present .entry)) r m ⌝ }
 {
     let kind = byte_at(f, at as usize);
     if kind == 0 {
@@ -470,28 +478,37 @@ fn read(
 
 // ---- all records
 
-// The record at k, with the values before it.
-fn next_turn(f: &[u8], x: &[u32; 436], at: u32, c: Cells, m: Memory, a: &[u32], k: usize) -> Turn
-    requires { ⌜ k * 13 + 13 ≤ length (now a) ⌝ }
-    ensures { λ r. ⌜ Turned (now (f .entry)) (now (x .entry)) at c m (now (a .entry)) k r ⌝ }
+// The record at k. Both arrays hold the values before it, and then the values after it.
+fn next_turn(
+    f: &[u8],
+    x: &[u32; 436],
+    at: u32,
+    before: &mut [u32; 32],
+    present: &mut [u32; 32],
+    m: Memory,
+    a: &[u32],
+    k: usize,
+) -> Reading
+    requires { ⌜ (k * 13 + 13 ≤ length (now a)) × (now before ≡ now present) ⌝ }
+    ensures same { λ _. ⌜ now (before .exit) ≡ now (present .exit) ⌝ }
+    ensures turned { λ r. ⌜ Turned (now (f .entry)) (now (x .entry)) at (now (before .entry)) m (now (a .entry)) k r (now (before .exit)) ⌝ }
 {
     let r = records::get_record(a, k);
     let change = r.change;
     let source = r.source;
-    let present = after_change(x, change, c);
-    let s = read(f, x, at, c, present, r, m);
+    let e = entity_in(x, change);
+    let value = value_in(change);
+    put(present, e, value);
+    let s = read(f, x, at, before, present, r, m);
+    put(before, e, value);
     let failure = s.failure;
     let memory = s.memory;
-    let reading = Reading {
+    Reading {
         failure,
         index: k,
         second: r.second,
         source,
         memory,
-    };
-    Turn {
-        cells: present,
-        reading,
     }
 }
 
@@ -526,21 +543,20 @@ pub fn judge(f: &[u8], x: &[u32; 436], at: usize, cells: Cells, a: &[u32], n: us
     ensures { λ r. ⌜ Judges (now (f .entry)) (now (x .entry)) at cells (now (a .entry)) n r ⌝ }
 {
     let p = engine_reads::capped(at);
-    let mut c = cells;
+    let mut before = cells.values;
+    let mut present = cells.values;
     let mut m = nothing_yet();
     let mut k: usize = 0;
     let reading = loop {
         if n <= k {
             break unfailed(m);
         }
-        let t = next_turn(f, x, p, c, m, a, k);
-        let shown = t.reading;
+        let shown = next_turn(f, x, p, &mut before, &mut present, m, a, k);
         let failure = shown.failure;
         if failed(failure) {
             break shown;
         }
         m = shown.memory;
-        c = t.cells;
         k += 1;
     };
     reading

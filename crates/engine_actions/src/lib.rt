@@ -189,7 +189,8 @@ fn condition(
     ensures { λ t. ⌜ Does (conditionM (now (f .entry)) (now (x .entry)) k run s at) st t (goes (now (q .entry)) (now (q .exit))) (goes (now (a .entry)) (now (a .exit))) (goes (now (r .entry)) (now (r .exit))) (told (now (f .entry)) (now (u .entry)) (now (u .exit))) ⌝ }
 {
     let c = st.cells;
-    let t = engine_truth::evaluate(f, x, c, at);
+    let values = c.values;
+    let t = engine_truth::evaluate(f, x, &values, at);
     let detail = engine_truth::number_of(t);
     let s1 = log_action(a, st, 11, detail, s, run);
     tested(f, x, q, a, r, u, s1, k, run, t)
@@ -232,7 +233,8 @@ fn choose(
     ensures { λ t. ⌜ Does (chooseM (now (f .entry)) (now (x .entry)) k run s at) st t (goes (now (q .entry)) (now (q .exit))) (goes (now (a .entry)) (now (a .exit))) (goes (now (r .entry)) (now (r .exit))) (told (now (f .entry)) (now (u .entry)) (now (u .exit))) ⌝ }
 {
     let c = st.cells;
-    let b = engine_truth::select(f, x, c, at);
+    let values = c.values;
+    let b = engine_truth::select(f, x, &values, at);
     match b {
         Branch::Take(list) => take_list(f, q, a, r, st, k, run, s, list),
         Branch::Unclear => unclear(f, x, q, a, r, u, st, k, run, reasons::CHOOSE_CONDITION),

@@ -365,7 +365,8 @@ fn offer(
 {
     if engine_truth::any_matches(f, rule_word(x, i, 3), m) {
         let c = st.cells;
-        let judged = engine_truth::evaluate_all(f, x, c, rule_word(x, i, 4));
+        let values = c.values;
+        let judged = engine_truth::evaluate_all(f, x, &values, rule_word(x, i, 4));
         let t = judged.truth;
         let s1 = log_trigger(f, x, a, st, i, t);
         return admit(f, x, q, a, r, u, s1, i, t);

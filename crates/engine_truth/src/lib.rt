@@ -3,7 +3,6 @@
 use engine_reads::byte_at;
 use engine_reads::four_at;
 use engine_reads::two_at;
-use engine_state::Cells;
 use engine_state::Move;
 use engine_state::after;
 use model_walk::Walked;
@@ -76,15 +75,15 @@ fn against(x: &[u32; 436], present: u32, v: u32) -> Truth
 }
 
 // The predicate at a position.
-pub fn evaluate(f: &[u8], x: &[u32; 436], c: Cells, at: u32) -> Truth
-    ensures { λ r. ⌜ r ≡ evaluateT (now (f .entry)) (now (x .entry)) (c .values) at ⌝ }
+pub fn evaluate(f: &[u8], x: &[u32; 436], values: &[u32; 32], at: u32) -> Truth
+    ensures { λ r. ⌜ r ≡ evaluateT (now (f .entry)) (now (x .entry)) (now (values .entry)) at ⌝ }
 {
     if byte_at(f, at as usize) == 1 {
         return Truth::Unknown;
     }
     let e = engine_reads::entity_of(x, two_at(f, at as usize + 1));
     if e < 32 {
-        let v = c.values[e];
+        let v = values[e];
         return against(x, v, two_at(f, at as usize + 3));
     }
     Truth::Unknown
@@ -100,14 +99,14 @@ fn predicate_size(f: &[u8], at: u32) -> u32
 }
 
 // The predicates in the list at a position.
-pub fn evaluate_all(f: &[u8], x: &[u32; 436], c: Cells, at: u32) -> Judged
-    ensures { λ r. ⌜ r ≡ allT (now (f .entry)) (now (x .entry)) (c .values) at ⌝ }
+pub fn evaluate_all(f: &[u8], x: &[u32; 436], values: &[u32; 32], at: u32) -> Judged
+    ensures { λ r. ⌜ r ≡ allT (now (f .entry)) (now (x .entry)) (now (values .entry)) at ⌝ }
 {
     let mut left = two_at(f, at as usize);
     let mut p = after(at, 2);
     let mut t = Truth::Yes;
     while 0 < left {
-        t = both(t, evaluate(f, x, c, p));
+        t = both(t, evaluate(f, x, values, p));
         p = after(p, predicate_size(f, p));
         left -= 1;
     }
@@ -176,10 +175,10 @@ pub enum Branch {
     Skip(u32),
 }
 
-fn branch_at(f: &[u8], x: &[u32; 436], c: Cells, at: u32) -> Branch
-    ensures { λ r. ⌜ r ≡ branchT (now (f .entry)) (now (x .entry)) (c .values) at ⌝ }
+fn branch_at(f: &[u8], x: &[u32; 436], values: &[u32; 32], at: u32) -> Branch
+    ensures { λ r. ⌜ r ≡ branchT (now (f .entry)) (now (x .entry)) (now (values .entry)) at ⌝ }
 {
-    let judged = evaluate_all(f, x, c, at);
+    let judged = evaluate_all(f, x, values, at);
     let t = judged.truth;
     let next = judged.next;
     match t {
@@ -193,13 +192,13 @@ fn branch_at(f: &[u8], x: &[u32; 436], c: Cells, at: u32) -> Branch
 }
 
 // The list that the choice at a position takes.
-pub fn select(f: &[u8], x: &[u32; 436], c: Cells, at: u32) -> Branch
-    ensures { λ r. ⌜ r ≡ selectT (now (f .entry)) (now (x .entry)) (c .values) at ⌝ }
+pub fn select(f: &[u8], x: &[u32; 436], values: &[u32; 32], at: u32) -> Branch
+    ensures { λ r. ⌜ r ≡ selectT (now (f .entry)) (now (x .entry)) (now (values .entry)) at ⌝ }
 {
     let mut left = two_at(f, at as usize);
     let mut p = after(at, 2);
     while 0 < left {
-        let b = branch_at(f, x, c, p);
+        let b = branch_at(f, x, values, p);
         match b {
             Branch::Take(list) => {
                 return Branch::Take(list);

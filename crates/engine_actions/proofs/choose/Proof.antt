@@ -15,7 +15,7 @@ use Rattle.engine_truth.proofs.select.Reads as select-reads
 
 returns : tie.Need-returns
 unfolding chosenM
-returns c = states.renamed _ (states.widen (c .before .before .before .before .before .before .take-list .ensures) same same same (wide (omega (arith, c .before .before .before .before .before .before .before .before .before .before .before .before .before .before .before .before .before .before .before .before .pre)))) (λ k. laws.choose-is _ _ _ _ _ _ _ _ _ (c .before .before .before .before .before .before .before .before .before .before .before .b .given .1) (c .before .before .before .before .before .before .before .before .before .before .before .before .before .select .ensures))
+returns c = states.renamed _ (states.widen (c .before .before .before .before .before .before .take-list .ensures) same same same (wide (omega (arith, c .before .before .before .before .before .before .before .before .before .before .before .before .before .before .before .before .before .before .before .before .before .before .pre)))) (λ k. laws.choose-is _ _ _ _ _ _ _ _ _ (c .before .before .before .before .before .before .before .before .before .before .before .b .given .1) (c .before .before .before .before .before .before .before .before .before .before .before .before .before .select .ensures))
 
 returns-2 : tie.Need-returns-2
 unfolding chosenM

@@ -13,10 +13,10 @@ use Rattle.engine_truth.proofs.evaluate.Reads as evaluate-reads
 use Rattle.engine_truth.proofs.predicate_size.Reads as predicate-size-reads
 
 abbrev Inv-loop : tie.InvT-loop
-Inv-loop f x c at left₀ p₀ t₀ left p t = allT f x (c .values) at ≡ allFrom f x (c .values) left p t
+Inv-loop f x values at left₀ p₀ t₀ left p t = allT f x values at ≡ allFrom f x values left p t
 
 abbrev μ-loop : tie.MeasureT-loop
-μ-loop f x c at left₀ p₀ t₀ left p t = left
+μ-loop f x values at left₀ p₀ t₀ left p t = left
 
 pub evaluate-all-spec : {M : Type 1} → statement M
 evaluate-all-spec =

@@ -11,10 +11,10 @@ use Rattle.engine_state.proofs.after.Reads as after-reads
 use Rattle.engine_truth.proofs.branch_at.Reads as branch-at-reads
 
 abbrev Inv-loop : tie.InvT-loop
-Inv-loop f x c at left₀ p₀ left p = selectT f x (c .values) at ≡ selectFrom f x (c .values) left p
+Inv-loop f x values at left₀ p₀ left p = selectT f x values at ≡ selectFrom f x values left p
 
 abbrev μ-loop : tie.MeasureT-loop
-μ-loop f x c at left₀ p₀ left p = left
+μ-loop f x values at left₀ p₀ left p = left
 
 pub select-spec : {M : Type 1} → statement M
 select-spec =
