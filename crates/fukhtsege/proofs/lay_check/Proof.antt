@@ -1,5 +1,4 @@
 use borrow.Author.Needs.{needs}
-use mathlib.Core.Path.{_≡_, refl, sym, ap, _∙_}
 use Rattle.fukhtsege.specs.Numbers.{laidCheck}
 use Rattle.fukhtsege.proofs.lay_check.Statement.{statement}
 use Rattle.fukhtsege.proofs.lay_check.Tie as tie
@@ -8,39 +7,6 @@ use Rattle.fukhtsege.proofs.lay_check.Lts as lts
 use Rattle.fukhtsege.proofs.put_numbers.Reads as put-numbers-reads
 use Rattle.fukhtsege.proofs.put_words.Reads as put-words-reads
 
--- src/lib.rt:153:5
-put-numbers-requires : tie.Need-put-numbers-requires
-put-numbers-requires c κs = search needs
-
--- src/lib.rt:154:22
-add-put-numbers : tie.Need-add-put-numbers
-add-put-numbers c = search needs
-
--- src/lib.rt:154:5
-put-numbers-requires-2 : tie.Need-put-numbers-requires-2
-put-numbers-requires-2 c κs = search needs
-
--- src/lib.rt:155:20
-add-put-words : tie.Need-add-put-words
-add-put-words c = search needs
-
--- src/lib.rt:155:5
-put-words-requires : tie.Need-put-words-requires
-put-words-requires c κs = search needs
-
--- src/lib.rt:156:20
-add-put-words-2 : tie.Need-add-put-words-2
-add-put-words-2 c = search needs
-
--- src/lib.rt:156:5
-put-words-requires-2 : tie.Need-put-words-requires-2
-put-words-requires-2 c κs = search needs
-
--- src/lib.rt:142:1
-same-length : tie.Need-same-length
-same-length c = search needs
-
--- src/lib.rt:142:1
 returns : tie.Need-returns
 unfolding laidCheck
 returns c = rw (c .before .before .put-words2 .ensures, c .before .before .before .before .before .before .before .put-words .ensures, c .before .before .before .before .before .before .before .before .before .before .before .before .put-numbers2 .ensures, c .before .before .before .before .before .before .before .before .before .before .before .before .before .before .before .before .before .put-numbers .ensures)
@@ -49,12 +15,12 @@ pub lay-check-spec : {M : Type 1} → statement M
 lay-check-spec =
     tie.close
     (tie.spec
-    put-numbers-requires
-    add-put-numbers
-    put-numbers-requires-2
-    add-put-words
-    put-words-requires
-    add-put-words-2
-    put-words-requires-2
-    same-length
+    (λ c κs. search needs)
+    (λ c. search needs)
+    (λ c κs. search needs)
+    (λ c. search needs)
+    (λ c κs. search needs)
+    (λ c. search needs)
+    (λ c κs. search needs)
+    (λ c. search needs)
     returns)

@@ -1,5 +1,4 @@
 use borrow.Author.Needs.{needs}
-use mathlib.Core.Path.{_≡_, refl, sym, ap, _∙_}
 use Rattle.fukhtsege.specs.Numbers.{laidReduction}
 use Rattle.fukhtsege.proofs.lay_reduction.Statement.{statement}
 use Rattle.fukhtsege.proofs.lay_reduction.Tie as tie
@@ -8,23 +7,10 @@ use Rattle.fukhtsege.proofs.lay_reduction.Lts as lts
 use Rattle.fukhtsege.proofs.put_numbers.Reads as put-numbers-reads
 use Rattle.fukhtsege.proofs.put_words.Reads as put-words-reads
 
--- src/lib.rt:297:5
-put-numbers-requires : tie.Need-put-numbers-requires
-put-numbers-requires c κs = search needs
-
--- src/lib.rt:298:5
-put-words-requires : tie.Need-put-words-requires
-put-words-requires c κs = search needs
-
--- src/lib.rt:293:1
-same-length : tie.Need-same-length
-same-length c = search needs
-
--- src/lib.rt:293:1
 returns : tie.Need-returns
 unfolding laidReduction
 returns c = rw (c .before .before .put-words .ensures, c .before .before .before .before .before .before .before .put-numbers .ensures)
 
 pub lay-reduction-spec : {M : Type 1} → statement M
 lay-reduction-spec =
-    tie.close (tie.spec put-numbers-requires put-words-requires same-length returns)
+    tie.close (tie.spec (λ c κs. search needs) (λ c κs. search needs) (λ c. search needs) returns)

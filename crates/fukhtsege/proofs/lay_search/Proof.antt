@@ -1,5 +1,4 @@
 use borrow.Author.Needs.{needs}
-use mathlib.Core.Path.{_≡_, refl, sym, ap, _∙_}
 use Rattle.fukhtsege.specs.Numbers.{laidSearch}
 use Rattle.fukhtsege.proofs.lay_search.Statement.{statement}
 use Rattle.fukhtsege.proofs.lay_search.Tie as tie
@@ -8,31 +7,6 @@ use Rattle.fukhtsege.proofs.lay_search.Lts as lts
 use Rattle.fukhtsege.proofs.put_numbers.Reads as put-numbers-reads
 use Rattle.fukhtsege.proofs.put_words.Reads as put-words-reads
 
--- src/lib.rt:232:5
-put-numbers-requires : tie.Need-put-numbers-requires
-put-numbers-requires c κs = search needs
-
--- src/lib.rt:233:5
-put-words-requires : tie.Need-put-words-requires
-put-words-requires c κs = search needs
-
--- src/lib.rt:234:5
-put-words-requires-2 : tie.Need-put-words-requires-2
-put-words-requires-2 c κs = search needs
-
--- src/lib.rt:235:5
-put-words-requires-3 : tie.Need-put-words-requires-3
-put-words-requires-3 c κs = search needs
-
--- src/lib.rt:236:5
-put-words-requires-4 : tie.Need-put-words-requires-4
-put-words-requires-4 c κs = search needs
-
--- src/lib.rt:221:1
-same-length : tie.Need-same-length
-same-length c = search needs
-
--- src/lib.rt:221:1
 returns : tie.Need-returns
 unfolding laidSearch
 returns c = rw (c .before .before .put-words4 .ensures, c .before .before .before .before .before .before .before .put-words3 .ensures, c .before .before .before .before .before .before .before .before .before .before .before .before .put-words2 .ensures, c .before .before .before .before .before .before .before .before .before .before .before .before .before .before .before .before .before .put-words .ensures, c .before .before .before .before .before .before .before .before .before .before .before .before .before .before .before .before .before .before .before .before .before .before .put-numbers .ensures)
@@ -41,10 +15,10 @@ pub lay-search-spec : {M : Type 1} → statement M
 lay-search-spec =
     tie.close
     (tie.spec
-    put-numbers-requires
-    put-words-requires
-    put-words-requires-2
-    put-words-requires-3
-    put-words-requires-4
-    same-length
+    (λ c κs. search needs)
+    (λ c κs. search needs)
+    (λ c κs. search needs)
+    (λ c κs. search needs)
+    (λ c κs. search needs)
+    (λ c. search needs)
     returns)
