@@ -14,7 +14,7 @@ use Rattle.model.specs.Answer.{Answer, answer}
 use Rattle.model.specs.Notes.{notes-of}
 use Rattle.model.specs.Model.{Model, Event, Input, reload}
 use Rattle.model.specs.File.{got, Reader, _>>=_, give, refuse, require, u8, u16, u32, times, counted, kinds, one-text, texts, place, limits, input, event, events, Head, head, ascending, model, decoded, decode, input-kinds}
-use Rattle.model.specs.Events.{Some, no-more, skip, keep, InputWords, EventWords}
+use Rattle.model.specs.Events.{Some, no-more, skip, keep}
 use Rattle.model.specs.Rewrite.{bytes2, bytes4, place-of, input-bytes, event-bytes, events-bytes, rewritten}
 use Rattle.model_walk.proofs.Found.{bound, given, refused, required, kind-found, counted-found, place-found, u8-wide, u16-wide, u32-wide}
 use Rattle.model_parts.specs.Stand.{Reads}
@@ -73,18 +73,6 @@ FitsInput ts reload = Unit {0}
 pub record Fits (ts : List Text) (v : Event) : Type 0 where
   pub second : v .at < 4294967296
   pub input : FitsInput ts (v .input)
-
--- events that stand as words of 32 bits
-pub words-fit : (ts : List Text) (l : List ℕ) (k : ℕ) (v : Event) → EventWords ts l k v → getD l (k * 4) 0 < 4294967296 → Fits ts v
-words-fit ts l k v w h = record { second = omega (arith, w .second); input = inputs (v .input) (w .input) }
-  where
-    inputs : (i : Input) → InputWords ts (getD l (k * 4 + 1) 0) (getD l (k * 4 + 2) 0) (getD l (k * 4 + 3) 0) i → FitsInput ts i
-    inputs (Input.set x y) u = (
-      record { at = getD l (k * 4 + 2) 0; inside = u .1 .0 .0; is-text = u .1 .0 .1 },
-      record { at = getD l (k * 4 + 3) 0; inside = u .1 .1 .0; is-text = u .1 .1 .1 },
-    )
-    inputs Input.restart u = tt
-    inputs reload u = tt
 
 -- ---- the bytes of events are read back
 

@@ -130,14 +130,6 @@ room-insert t l k e = ap length e ∙ length-between t l k
 pub room-all : (w m ts : List Text) (x : Text) (i : ℕ) → drop i ts ≡ x ∷ drop (i + 1) ts → w ≡ insertAll (drop i ts) m → length (insertT x m) ≤ length w
 room-all w m ts x i e q = omega (arith, ap length (q ∙ all-on x ts i x e m), length-all (drop (i + 1) ts) (insertT x m))
 
-pub one-more-pushed : (t : Text) (l : List Text) → length (pushT t l) ≤ length l + 1
-unfolding pushT
-one-more-pushed t l = go (memT t l)
-  where
-    go : (b : Bool) → length (if b then l else l ++ (t ∷ [])) ≤ length l + 1
-    go true = omega arith
-    go false = simp length-append (omega arith)
-
 -- ---- renderings
 
 module _ (f : List ℕ) (n : ℕ) (a : List ℕ) where

@@ -10,8 +10,8 @@ use borrow.Author.Tests.{ne-eqb}
 use Rattle.texts.specs.Lists.{is-empty, any}
 use Rattle.texts.specs.Texts.{Text, eqT, memT, insertT, sortedT}
 use Rattle.reasons.specs.Lists.{insertAll}
-use Rattle.reasons.proofs.Bound as bound
-use Rattle.reasons.proofs.Bound.{
+use Rattle.reasons.proofs.Ascending as ascending
+use Rattle.reasons.proofs.Ascending.{
   here,
   there,
   Distinct,
@@ -31,12 +31,12 @@ use Rattle.engine_places.specs.Events.{Among}
 use Rattle.engine_places.proofs.Pigeons.{Differ, at-most}
 use Rattle.checker_entry.proofs.Pool.{sorted-among}
 
-mem-in : (x : Text) (l : List Text) → memT x l ≡ true → bound.Among x l
+mem-in : (x : Text) (l : List Text) → memT x l ≡ true → ascending.Among x l
 unfolding memT any
 mem-in x [] h = let z : _≡_ {A = ℕ} 0 1 = cc in absurd (omega arith)
 mem-in x (y ∷ l) h = by (case (eqT x y)) (mem-in x l)
   where
-    by : Case (eqT x y) → (memT x l ≡ true → bound.Among x l) → bound.Among x (y ∷ l)
+    by : Case (eqT x y) → (memT x l ≡ true → ascending.Among x l) → ascending.Among x (y ∷ l)
     by (is-true e) r = here (eqT-eq x y e)
     by (is-false e) r = there (r (rw e at h))
 
