@@ -15,46 +15,16 @@ Inv-loop writes c count i₀ i = firstC writes c count 0 ≡ firstC writes c (co
 abbrev μ-loop : tie.MeasureT-loop
 μ-loop writes c count i₀ i = count - i
 
--- src/lib.rt:31:5
-loop-holds : tie.Need-loop-holds Inv-loop μ-loop
-loop-holds c = laws.first-start _ _ _
-
--- src/lib.rt:32:12
-adds-requires : tie.Need-adds-requires Inv-loop μ-loop
-adds-requires c κs = search needs
-
--- src/lib.rt:33:13
-returns : tie.Need-returns Inv-loop μ-loop
-returns c = sym (c .before .before .before .loop .inv
-    ∙ laws.first-here _ _ _ _ (c .before .before .loop-test .taken) (c .before .adds .ensures) (c .if1 .taken))
-
--- src/lib.rt:35:9
-add-i : tie.Need-add-i Inv-loop μ-loop
-add-i c = search needs
-
--- src/lib.rt:31:5
-loop-less : tie.Need-loop-less Inv-loop μ-loop
-loop-less c = search needs
-
--- src/lib.rt:31:5
-loop-again : tie.Need-loop-again Inv-loop μ-loop
-loop-again c = c .before .before .before .loop .inv
-    ∙ laws.first-later _ _ _ _ (c .before .before .loop-test .taken) (c .before .adds .ensures) (c .if1 .left)
-
--- src/lib.rt:26:1
-returns-2 : tie.Need-returns-2 Inv-loop μ-loop
-returns-2 c = sym (c .before .loop .inv ∙ laws.first-end _ _ _ _ (c .loop-test .left))
-
 pub first-spec : {M : Type 1} → statement M
 first-spec =
     tie.close
     (tie.spec
     Inv-loop
     μ-loop
-    loop-holds
-    adds-requires
-    returns
-    add-i
-    loop-less
-    loop-again
-    returns-2)
+    (λ c. laws.first-start _ _ _)
+    (λ c κs. search needs)
+    (λ c. sym (c .before .before .before .loop .inv ∙ laws.first-here _ _ _ _ (c .before .before .loop-test .taken) (c .before .adds .ensures) (c .if1 .taken)))
+    (λ c. search needs)
+    (λ c. search needs)
+    (λ c. c .before .before .before .loop .inv ∙ laws.first-later _ _ _ _ (c .before .before .loop-test .taken) (c .before .adds .ensures) (c .if1 .left))
+    (λ c. sym (c .before .loop .inv ∙ laws.first-end _ _ _ _ (c .loop-test .left))))

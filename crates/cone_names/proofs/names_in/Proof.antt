@@ -15,40 +15,15 @@ Inv-loop u automations texts n₀ place₀ n place = namesN u automations texts 
 abbrev μ-loop : tie.MeasureT-loop
 μ-loop u automations texts n₀ place₀ n place = texts - place
 
--- src/lib.rt:81:5
-loop-holds : tie.Need-loop-holds Inv-loop μ-loop
-loop-holds c = laws.names-is _ _ _
-
--- src/lib.rt:82:9
-with-wanted-requires : tie.Need-with-wanted-requires Inv-loop μ-loop
-with-wanted-requires c κs = search needs
-
--- src/lib.rt:83:9
-add-place : tie.Need-add-place Inv-loop μ-loop
-add-place c = search needs
-
--- src/lib.rt:81:5
-loop-less : tie.Need-loop-less Inv-loop μ-loop
-loop-less c = search needs
-
--- src/lib.rt:81:5
-loop-again : tie.Need-loop-again Inv-loop μ-loop
-loop-again c = c .before .before .loop .inv
-    ∙ laws.from-more _ _ _ _ _ (c .before .loop-test .taken) (c .with-wanted .ensures)
-
--- src/lib.rt:73:1
-returns : tie.Need-returns Inv-loop μ-loop
-returns c = sym (c .before .loop .inv ∙ laws.from-end _ _ _ _ _ (c .loop-test .left))
-
 pub names-in-spec : {M : Type 1} → statement M
 names-in-spec =
     tie.close
     (tie.spec
     Inv-loop
     μ-loop
-    loop-holds
-    with-wanted-requires
-    add-place
-    loop-less
-    loop-again
-    returns)
+    (λ c. laws.names-is _ _ _)
+    (λ c κs. search needs)
+    (λ c. search needs)
+    (λ c. search needs)
+    (λ c. c .before .before .loop .inv ∙ laws.from-more _ _ _ _ _ (c .before .loop-test .taken) (c .with-wanted .ensures))
+    (λ c. sym (c .before .loop .inv ∙ laws.from-end _ _ _ _ _ (c .loop-test .left))))

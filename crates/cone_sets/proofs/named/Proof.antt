@@ -18,55 +18,18 @@ Inv-loop s entities invariants count set₀ k₀ set k =
 abbrev μ-loop : tie.MeasureT-loop
 μ-loop s entities invariants count set₀ k₀ set k = count - k
 
--- src/lib.rt:38:17
-cast-count : tie.Need-cast-count Inv-loop μ-loop
-cast-count c = search needs
-
--- src/lib.rt:41:5
-loop-holds : tie.Need-loop-holds Inv-loop μ-loop
-loop-holds c = laws.named-is _ _ _ ∙ touches.over-start _ _ _ refl
-
--- src/lib.rt:42:43
-mul-add-named : tie.Need-mul-add-named Inv-loop μ-loop
-mul-add-named c = search needs
-
--- src/lib.rt:42:43
-element-copy-out-add-named : tie.Need-element-copy-out-add-named Inv-loop μ-loop
-element-copy-out-add-named c = search needs
-
--- src/lib.rt:42:9
-add-named-requires : tie.Need-add-named-requires Inv-loop μ-loop
-add-named-requires c κs = search needs
-
--- src/lib.rt:43:9
-add-k : tie.Need-add-k Inv-loop μ-loop
-add-k c = search needs
-
--- src/lib.rt:41:5
-loop-less : tie.Need-loop-less Inv-loop μ-loop
-loop-less c = search needs
-
--- src/lib.rt:41:5
-loop-again : tie.Need-loop-again Inv-loop μ-loop
-loop-again c = c .before .before .before .loop .inv
-    ∙ touches.over-more _ _ _ _ _ (c .before .before .loop-test .taken) (c .add-named .ensures)
-
--- src/lib.rt:34:1
-returns : tie.Need-returns Inv-loop μ-loop
-returns c = sym (c .before .loop .inv ∙ touches.over-end _ _ _ _ _ (c .loop-test .left))
-
 pub named-spec : {M : Type 1} → statement M
 named-spec =
     tie.close
     (tie.spec
     Inv-loop
     μ-loop
-    cast-count
-    loop-holds
-    mul-add-named
-    element-copy-out-add-named
-    add-named-requires
-    add-k
-    loop-less
-    loop-again
-    returns)
+    (λ c. search needs)
+    (λ c. laws.named-is _ _ _ ∙ touches.over-start _ _ _ refl)
+    (λ c. search needs)
+    (λ c. search needs)
+    (λ c κs. search needs)
+    (λ c. search needs)
+    (λ c. search needs)
+    (λ c. c .before .before .before .loop .inv ∙ touches.over-more _ _ _ _ _ (c .before .before .loop-test .taken) (c .add-named .ensures))
+    (λ c. sym (c .before .loop .inv ∙ touches.over-end _ _ _ _ _ (c .loop-test .left))))

@@ -22,69 +22,21 @@ Inv-loop s entities rules count list₀ i₀ list i = readSets s entities rules 
 abbrev μ-loop : tie.MeasureT-loop
 μ-loop s entities rules count list₀ i₀ list i = count - i
 
--- src/lib.rt:76:17
-cast-count : tie.Need-cast-count Inv-loop μ-loop
-cast-count c = search needs
-
--- src/lib.rt:79:5
-loop-holds : tie.Need-loop-holds Inv-loop μ-loop
-loop-holds c = laws.reads-are _ _ _
-
--- src/lib.rt:80:18
-mul-at : tie.Need-mul-at Inv-loop μ-loop
-mul-at c = search needs
-
--- src/lib.rt:80:18
-element-copy-out-at : tie.Need-element-copy-out-at Inv-loop μ-loop
-element-copy-out-at c = search needs
-
--- src/lib.rt:81:13
-rule-walk-requires : tie.Need-rule-walk-requires Inv-loop μ-loop
-rule-walk-requires c κs = search needs
-
--- src/lib.rt:82:19
-reads-requires : tie.Need-reads-requires Inv-loop μ-loop
-reads-requires c κs = (c .before .before .before .before .before .pre .0, sizes.sized _ _ (c .rule-walk .ensures) .0, sizes.sized _ _ (c .rule-walk .ensures) .1)
-
--- src/lib.rt:82:9
-mul-list : tie.Need-mul-list Inv-loop μ-loop
-mul-list c = search needs
-
--- src/lib.rt:82:9
-array-write-list : tie.Need-array-write-list Inv-loop μ-loop
-array-write-list c = search needs
-
--- src/lib.rt:83:9
-add-i : tie.Need-add-i Inv-loop μ-loop
-add-i c = search needs
-
--- src/lib.rt:79:5
-loop-less : tie.Need-loop-less Inv-loop μ-loop
-loop-less c = search needs
-
--- src/lib.rt:79:5
-loop-again : tie.Need-loop-again Inv-loop μ-loop
-loop-again c = c .before .before .before .before .loop .inv ∙ entry.fill-more _ _ _ _ (c .before .before .before .loop-test .taken) (laws.read-is _ _ _ (c .before .rule-walk .ensures) (c .reads .ensures))
-
--- src/lib.rt:72:1
-returns : tie.Need-returns Inv-loop μ-loop
-returns c = sym (c .before .loop .inv ∙ entry.fill-end _ _ _ _ (c .loop-test .left))
-
 pub read-sets-spec : {M : Type 1} → statement M
 read-sets-spec =
     tie.close
     (tie.spec
     Inv-loop
     μ-loop
-    cast-count
-    loop-holds
-    mul-at
-    element-copy-out-at
-    rule-walk-requires
-    reads-requires
-    mul-list
-    array-write-list
-    add-i
-    loop-less
-    loop-again
-    returns)
+    (λ c. search needs)
+    (λ c. laws.reads-are _ _ _)
+    (λ c. search needs)
+    (λ c. search needs)
+    (λ c κs. search needs)
+    (λ c κs. (c .before .before .before .before .before .pre .0, sizes.sized _ _ (c .rule-walk .ensures) .0, sizes.sized _ _ (c .rule-walk .ensures) .1))
+    (λ c. search needs)
+    (λ c. search needs)
+    (λ c. search needs)
+    (λ c. search needs)
+    (λ c. c .before .before .before .before .loop .inv ∙ entry.fill-more _ _ _ _ (c .before .before .before .loop-test .taken) (laws.read-is _ _ _ (c .before .rule-walk .ensures) (c .reads .ensures)))
+    (λ c. sym (c .before .loop .inv ∙ entry.fill-end _ _ _ _ (c .loop-test .left))))

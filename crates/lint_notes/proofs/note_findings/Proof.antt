@@ -21,49 +21,17 @@ Inv-loop set line column reasons count findings₀ out₀ j₀ findings out j = 
 abbrev μ-loop : tie.MeasureT-loop
 μ-loop set line column reasons count findings₀ out₀ j₀ findings out j = count - j
 
--- src/lib.rt:82:5
-loop-holds : tie.Need-loop-holds Inv-loop μ-loop
-loop-holds c = ((λ k. laws.items-is _ _ _ _ _ _), refl)
-
--- src/lib.rt:83:55
-note-words-requires : tie.Need-note-words-requires Inv-loop μ-loop
-note-words-requires c κs = search needs
-
--- src/lib.rt:83:9
-push-finding-requires : tie.Need-push-finding-requires Inv-loop μ-loop
-push-finding-requires c κs = search needs
-
--- src/lib.rt:84:9
-add-j : tie.Need-add-j Inv-loop μ-loop
-add-j c = search needs
-
--- src/lib.rt:82:5
-loop-less : tie.Need-loop-less Inv-loop μ-loop
-loop-less c = search needs
-
--- src/lib.rt:82:5
-loop-again : tie.Need-loop-again Inv-loop μ-loop
-loop-again c = ((λ k. c .before .before .before .before .before .before .loop .inv .0 k ∙ items.numbers-more _ _ _ _ (c .before .before .before .before .before .loop-test .taken) (laws.one-finding _ (c .before .before .before .note-words .ensures) (c .before .before .push-finding .ensures k))), search needs)
-
--- src/lib.rt:68:1
-same-length : tie.Need-same-length Inv-loop μ-loop
-same-length c = search needs
-
--- src/lib.rt:68:1
-returns : tie.Need-returns Inv-loop μ-loop
-returns c = λ k. sym (c .before .loop .inv .0 k ∙ items.numbers-end _ _ _ _ (c .loop-test .left))
-
 pub note-findings-spec : {M : Type 1} → statement M
 note-findings-spec =
     tie.close
     (tie.spec
     Inv-loop
     μ-loop
-    loop-holds
-    note-words-requires
-    push-finding-requires
-    add-j
-    loop-less
-    loop-again
-    same-length
-    returns)
+    (λ c. ((λ k. laws.items-is _ _ _ _ _ _), refl))
+    (λ c κs. search needs)
+    (λ c κs. search needs)
+    (λ c. search needs)
+    (λ c. search needs)
+    (λ c. ((λ k. c .before .before .before .before .before .before .loop .inv .0 k ∙ items.numbers-more _ _ _ _ (c .before .before .before .before .before .loop-test .taken) (laws.one-finding _ (c .before .before .before .note-words .ensures) (c .before .before .push-finding .ensures k))), search needs))
+    (λ c. search needs)
+    (λ c. λ k. sym (c .before .loop .inv .0 k ∙ items.numbers-end _ _ _ _ (c .loop-test .left))))

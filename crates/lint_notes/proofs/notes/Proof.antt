@@ -18,49 +18,17 @@ Inv-loop s rules findings₀ count out₀ i₀ findings out i = ((k : List ℕ) 
 abbrev μ-loop : tie.MeasureT-loop
 μ-loop s rules findings₀ count out₀ i₀ findings out i = count - i
 
--- src/lib.rt:119:17
-cast-count : tie.Need-cast-count Inv-loop μ-loop
-cast-count c = search needs
-
--- src/lib.rt:122:5
-loop-holds : tie.Need-loop-holds Inv-loop μ-loop
-loop-holds c = ((λ k e h. laws.from-start _ _ _ h), refl)
-
--- src/lib.rt:123:9
-rule-notes-requires : tie.Need-rule-notes-requires Inv-loop μ-loop
-rule-notes-requires c κs = search needs
-
--- src/lib.rt:124:9
-add-i : tie.Need-add-i Inv-loop μ-loop
-add-i c = search needs
-
--- src/lib.rt:122:5
-loop-less : tie.Need-loop-less Inv-loop μ-loop
-loop-less c = search needs
-
--- src/lib.rt:122:5
-loop-again : tie.Need-loop-again Inv-loop μ-loop
-loop-again c = ((λ k e h. c .before .before .before .before .before .loop .inv .0 k e (laws.one-less _ _ _ _ (c .before .before .before .before .loop-test .taken) (c .before .before .rule-notes .ensures k) h)), search needs)
-
--- src/lib.rt:115:1
-same-length : tie.Need-same-length Inv-loop μ-loop
-same-length c = search needs
-
--- src/lib.rt:115:1
-returns : tie.Need-returns Inv-loop μ-loop
-returns c = λ k. c .before .loop .inv .0 k _ (laws.none-left _ _ _ _ (c .loop-test .left))
-
 pub notes-spec : {M : Type 1} → statement M
 notes-spec =
     tie.close
     (tie.spec
     Inv-loop
     μ-loop
-    cast-count
-    loop-holds
-    rule-notes-requires
-    add-i
-    loop-less
-    loop-again
-    same-length
-    returns)
+    (λ c. search needs)
+    (λ c. ((λ k e h. laws.from-start _ _ _ h), refl))
+    (λ c κs. search needs)
+    (λ c. search needs)
+    (λ c. search needs)
+    (λ c. ((λ k e h. c .before .before .before .before .before .loop .inv .0 k e (laws.one-less _ _ _ _ (c .before .before .before .before .loop-test .taken) (c .before .before .rule-notes .ensures k) h)), search needs))
+    (λ c. search needs)
+    (λ c. λ k. c .before .loop .inv .0 k _ (laws.none-left _ _ _ _ (c .loop-test .left))))
