@@ -23,9 +23,8 @@ use Rattle.engine_truth.specs.declared.Truth.{Truth}
 use Rattle.engine_truth.specs.declared.Branch.{Branch}
 use Rattle.engine_truth.specs.declared.Effect.{Effect}
 use Rattle.engine_truth.specs.declared.Action.{Action}
-use Rattle.engine_state.specs.declared.Cells.{Cells}
 use Rattle.engine_state.specs.declared.State.{State}
-use Rattle.engine_state.specs.Machine.{Machine, machine, later, with-active, storedC}
+use Rattle.engine_state.specs.Machine.{Machine, entire, machine, later, with-active, storedC}
 use Rattle.engine_state.specs.Changes.{uncertainM, log-actionM, next-stepM}
 use Rattle.engine_state.specs.Steps.{kept, goes, still, Steps}
 use Rattle.engine_state.proofs.Laws as states
@@ -137,9 +136,9 @@ pub time-going : (k : ℕ) (r : Run) (m : Machine) → r .phase ≡ Going → m 
 unfolding time-runM time-phaseM
 time-going k r m e = sym (ap (λ p. time-phaseM k r p m) e)
 
-pub expire-is : (x : List ℕ) (e n : ℕ) (c : Cells) (m : Machine) → n ≡ name x e → c ≡ storedC (cells m) e (getD x 6 0) → expire-toM n (getD (m .values) e 0) (getD x 6 0) c m ≡ expireM x e m
+pub expire-is : (x : List ℕ) (e n : ℕ) (m : Machine) → n ≡ name x e → expire-toM n (getD (m .values) e 0) (getD x 6 0) (storedC (cells m) e (getD x 6 0)) m ≡ expireM x e m
 unfolding expireM
-expire-is x e n c m en ec = ap (λ z. expire-toM z (getD (m .values) e 0) (getD x 6 0) c m) en ∙ ap (λ z. expire-toM (name x e) (getD (m .values) e 0) (getD x 6 0) z m) ec
+expire-is x e n m en = ap (λ z. expire-toM z (getD (m .values) e 0) (getD x 6 0) (storedC (cells m) e (getD x 6 0)) m) en
 
 module _ (x : List ℕ) (e v i : ℕ) (m : Machine) (is : i ≡ entityOf x e) where
   pub stale-none : 31 < i → m ≡ go-staleM x e v m
@@ -159,8 +158,9 @@ module _ (x : List ℕ) (e v i : ℕ) (m : Machine) (is : i ≡ entityOf x e) wh
     unfolding go-staleM stale-atM
     stale-goes g u = rw (← is, le-ltb 31 i h, eq-eqb (getD (m .versions) i 0) v g, ne-eqb (getD (m .values) i 0) (getD x 6 0) u)
 
-pub cleared : (st s : State) (r b : List ℕ) → b ≡ replicate (length r) 0 → s ≡ with-active 0 st → length b ≡ length r → Steps (λ c. no-runsM (machine st c)) st s kept kept (goes r b) still
-cleared st s r b e g same = subst (λ z. Steps (λ c. no-runsM (machine st c)) st z kept kept (goes r b) still) (sym g) (record {
+pub cleared : (st s : State) (r b : List ℕ) → b ≡ replicate (length r) 0 → s ≡ with-active 0 st → length b ≡ length r → {v n c : List ℕ} →
+    Steps (λ k. no-runsM (machine (entire st v n c) k)) (entire st v n c) (entire s v n c) kept kept (goes r b) still
+cleared st s r b e g same {v} {n} {c = l} = subst (λ z. Steps (λ c. no-runsM (machine (entire st v n l) c)) (entire st v n l) (entire z v n l) kept kept (goes r b) still) (sym g) (record {
   queue = refl;
   records = refl;
   runs = (same, omega arith);

@@ -29,7 +29,7 @@ use runs::Wait;
 ghost use mathlib.Core.Path.{_≡_};
 ghost use Prim.Native.Nat.{_+_, _*_, _≤_, _<_};
 ghost use lib.ListN.{length};
-ghost use Rattle.engine_state.specs.Steps.{Does, goes, kept, told, still, Fits-q, Fits-qa, Fits-qr, Fits-ar, Fits-qar, Fits-qau, Fits};
+ghost use Rattle.engine_state.specs.Steps.{Moves, Does, goes, kept, told, still, Fits-q, Fits-qa, Fits-qr, Fits-ar, Fits-qar, Fits-qau, Fits};
 ghost use Rattle.engine_actions.specs.Acts.{writtenM, setM, toggledM, flipM, delayM, unclearM, testedM, conditionM, take-listM, chooseM, begin-waitM, give-upM, performM, go-onM, goingR, resumeM};
 ghost use Rattle.engine_actions.specs.Works.{wait-overM, time-outM, expireM, go-staleM, drop-allM, externalM, processM};
 
@@ -39,6 +39,8 @@ fn write(
     x: &[u32; 436],
     q: &mut [u32],
     a: &mut [u32],
+    values: &mut [u32; 32],
+    versions: &mut [u32; 32],
     st: State,
     run: Run,
     s: Source,
@@ -46,7 +48,7 @@ fn write(
     value: u32,
 ) -> State
     requires { ⌜ Fits-qa st (now q) (now a) ⌝ }
-    ensures { λ t. ⌜ Does (writtenM (now (x .entry)) run s entity value) st t (goes (now (q .entry)) (now (q .exit))) (goes (now (a .entry)) (now (a .exit))) kept still ⌝ }
+    ensures { λ t. ⌜ Moves (writtenM (now (x .entry)) run s entity value) st t (goes (now (q .entry)) (now (q .exit))) (goes (now (a .entry)) (now (a .exit))) kept still (goes (now (values .entry)) (now (values .exit))) (goes (now (versions .entry)) (now (versions .exit))) kept ⌝ }
 {
     let rule = Rule::Of(run.automation);
     let source = Where::From {
@@ -60,13 +62,15 @@ fn write(
         rule,
         source,
     };
-    update(x, q, a, st, w)
+    update(x, q, a, values, versions, st, w)
 }
 
 fn set(
     x: &[u32; 436],
     q: &mut [u32],
     a: &mut [u32],
+    values: &mut [u32; 32],
+    versions: &mut [u32; 32],
     st: State,
     run: Run,
     s: Source,
@@ -74,9 +78,9 @@ fn set(
     value: u32,
 ) -> State
     requires { ⌜ Fits-qa st (now q) (now a) ⌝ }
-    ensures { λ t. ⌜ Does (setM (now (x .entry)) run s entity value) st t (goes (now (q .entry)) (now (q .exit))) (goes (now (a .entry)) (now (a .exit))) kept still ⌝ }
+    ensures { λ t. ⌜ Moves (setM (now (x .entry)) run s entity value) st t (goes (now (q .entry)) (now (q .exit))) (goes (now (a .entry)) (now (a .exit))) kept still (goes (now (values .entry)) (now (values .exit))) (goes (now (versions .entry)) (now (versions .exit))) kept ⌝ }
 {
-    let s1 = write(x, q, a, st, run, s, entity, value);
+    let s1 = write(x, q, a, values, versions, st, run, s, entity, value);
     next_step(q, s1, run, s1.now)
 }
 
@@ -95,20 +99,21 @@ fn flip(
     q: &mut [u32],
     a: &mut [u32],
     u: &mut [u32],
+    values: &mut [u32; 32],
+    versions: &mut [u32; 32],
     st: State,
     run: Run,
     s: Source,
     entity: u32,
 ) -> State
     requires { ⌜ Fits-qau st (now q) (now a) (now u) ⌝ }
-    ensures { λ t. ⌜ Does (flipM (now (f .entry)) (now (x .entry)) run s entity) st t (goes (now (q .entry)) (now (q .exit))) (goes (now (a .entry)) (now (a .exit))) kept (told (now (f .entry)) (now (u .entry)) (now (u .exit))) ⌝ }
+    ensures { λ t. ⌜ Moves (flipM (now (f .entry)) (now (x .entry)) run s entity) st t (goes (now (q .entry)) (now (q .exit))) (goes (now (a .entry)) (now (a .exit))) kept (told (now (f .entry)) (now (u .entry)) (now (u .exit))) (goes (now (values .entry)) (now (values .exit))) (goes (now (versions .entry)) (now (versions .exit))) kept ⌝ }
 {
     let e = entity_of(x, entity);
     if 31 < e {
         return st;
     }
-    let c = st.cells;
-    let old = c.values[e];
+    let old = values[e];
     if engine_truth::undecided(x, old) {
         let i = at_most(run.automation, 31);
         let why = about_rule(f, x, i, reasons::TOGGLE);
@@ -116,7 +121,7 @@ fn flip(
         return next_step(q, s1, run, s1.now);
     }
     let value = toggled(x, old);
-    set(x, q, a, st, run, s, entity, value)
+    set(x, q, a, values, versions, st, run, s, entity, value)
 }
 
 fn delay(q: &mut [u32], a: &mut [u32], st: State, run: Run, s: Source, seconds: u32) -> State
@@ -179,6 +184,7 @@ fn condition(
     a: &mut [u32],
     r: &mut [u32],
     u: &mut [u32],
+    values: &[u32; 32],
     st: State,
     k: usize,
     run: Run,
@@ -186,11 +192,9 @@ fn condition(
     at: u32,
 ) -> State
     requires { ⌜ (k < st .active) × Fits st (now q) (now a) (now r) (now u) ⌝ }
-    ensures { λ t. ⌜ Does (conditionM (now (f .entry)) (now (x .entry)) k run s at) st t (goes (now (q .entry)) (now (q .exit))) (goes (now (a .entry)) (now (a .exit))) (goes (now (r .entry)) (now (r .exit))) (told (now (f .entry)) (now (u .entry)) (now (u .exit))) ⌝ }
+    ensures { λ t. ⌜ Moves (conditionM (now (f .entry)) (now (x .entry)) k run s at) st t (goes (now (q .entry)) (now (q .exit))) (goes (now (a .entry)) (now (a .exit))) (goes (now (r .entry)) (now (r .exit))) (told (now (f .entry)) (now (u .entry)) (now (u .exit))) (goes (now (values .entry)) (now (values .entry))) kept kept ⌝ }
 {
-    let c = st.cells;
-    let values = c.values;
-    let t = engine_truth::evaluate(f, x, &values, at);
+    let t = engine_truth::evaluate(f, x, values, at);
     let detail = engine_truth::number_of(t);
     let s1 = log_action(a, st, 11, detail, s, run);
     tested(f, x, q, a, r, u, s1, k, run, t)
@@ -223,6 +227,7 @@ fn choose(
     a: &mut [u32],
     r: &mut [u32],
     u: &mut [u32],
+    values: &[u32; 32],
     st: State,
     k: usize,
     run: Run,
@@ -230,11 +235,9 @@ fn choose(
     at: u32,
 ) -> State
     requires { ⌜ (k < st .active) × Fits st (now q) (now a) (now r) (now u) ⌝ }
-    ensures { λ t. ⌜ Does (chooseM (now (f .entry)) (now (x .entry)) k run s at) st t (goes (now (q .entry)) (now (q .exit))) (goes (now (a .entry)) (now (a .exit))) (goes (now (r .entry)) (now (r .exit))) (told (now (f .entry)) (now (u .entry)) (now (u .exit))) ⌝ }
+    ensures { λ t. ⌜ Moves (chooseM (now (f .entry)) (now (x .entry)) k run s at) st t (goes (now (q .entry)) (now (q .exit))) (goes (now (a .entry)) (now (a .exit))) (goes (now (r .entry)) (now (r .exit))) (told (now (f .entry)) (now (u .entry)) (now (u .exit))) (goes (now (values .entry)) (now (values .entry))) kept kept ⌝ }
 {
-    let c = st.cells;
-    let values = c.values;
-    let b = engine_truth::select(f, x, &values, at);
+    let b = engine_truth::select(f, x, values, at);
     match b {
         Branch::Take(list) => take_list(f, q, a, r, st, k, run, s, list),
         Branch::Unclear => unclear(f, x, q, a, r, u, st, k, run, reasons::CHOOSE_CONDITION),
@@ -309,6 +312,8 @@ fn perform(
     a: &mut [u32],
     r: &mut [u32],
     u: &mut [u32],
+    values: &mut [u32; 32],
+    versions: &mut [u32; 32],
     st: State,
     k: usize,
     run: Run,
@@ -316,14 +321,16 @@ fn perform(
     e: Effect,
 ) -> State
     requires { ⌜ (k < st .active) × Fits st (now q) (now a) (now r) (now u) ⌝ }
-    ensures { λ t. ⌜ Does (performM (now (f .entry)) (now (x .entry)) k run s e) st t (goes (now (q .entry)) (now (q .exit))) (goes (now (a .entry)) (now (a .exit))) (goes (now (r .entry)) (now (r .exit))) (told (now (f .entry)) (now (u .entry)) (now (u .exit))) ⌝ }
+    ensures { λ t. ⌜ Moves (performM (now (f .entry)) (now (x .entry)) k run s e) st t (goes (now (q .entry)) (now (q .exit))) (goes (now (a .entry)) (now (a .exit))) (goes (now (r .entry)) (now (r .exit))) (told (now (f .entry)) (now (u .entry)) (now (u .exit))) (goes (now (values .entry)) (now (values .exit))) (goes (now (versions .entry)) (now (versions .exit))) kept ⌝ }
 {
     match e {
-        Effect::Set { entity, value } => set(x, q, a, st, run, s, entity, value),
-        Effect::Toggle { entity } => flip(f, x, q, a, u, st, run, s, entity),
+        Effect::Set { entity, value } => {
+            set(x, q, a, values, versions, st, run, s, entity, value)
+        }
+        Effect::Toggle { entity } => flip(f, x, q, a, u, values, versions, st, run, s, entity),
         Effect::Delay { seconds } => delay(q, a, st, run, s, seconds),
-        Effect::Condition { at } => condition(f, x, q, a, r, u, st, k, run, s, at),
-        Effect::Choose { at } => choose(f, x, q, a, r, u, st, k, run, s, at),
+        Effect::Condition { at } => condition(f, x, q, a, r, u, values, st, k, run, s, at),
+        Effect::Choose { at } => choose(f, x, q, a, r, u, values, st, k, run, s, at),
         Effect::Wait { at } => begin_wait(f, q, a, r, u, st, k, run, s, at),
         Effect::Unknown { reason } => give_up(f, q, a, r, u, st, k, run, s, reason),
     }
@@ -337,11 +344,13 @@ fn go_on(
     a: &mut [u32],
     r: &mut [u32],
     u: &mut [u32],
+    values: &mut [u32; 32],
+    versions: &mut [u32; 32],
     st: State,
     k: usize,
 ) -> State
     requires { ⌜ (k < st .active) × Fits st (now q) (now a) (now r) (now u) ⌝ }
-    ensures { λ t. ⌜ Does (go-onM (now (f .entry)) (now (x .entry)) k) st t (goes (now (q .entry)) (now (q .exit))) (goes (now (a .entry)) (now (a .exit))) (goes (now (r .entry)) (now (r .exit))) (told (now (f .entry)) (now (u .entry)) (now (u .exit))) ⌝ }
+    ensures { λ t. ⌜ Moves (go-onM (now (f .entry)) (now (x .entry)) k) st t (goes (now (q .entry)) (now (q .exit))) (goes (now (a .entry)) (now (a .exit))) (goes (now (r .entry)) (now (r .exit))) (told (now (f .entry)) (now (u .entry)) (now (u .exit))) (goes (now (values .entry)) (now (values .exit))) (goes (now (versions .entry)) (now (versions .exit))) kept ⌝ }
 {
     let run = runs::run_at(r, k);
     if run.depth == 0 {
@@ -353,7 +362,21 @@ fn go_on(
     let source = action.source;
     let effect = action.effect;
     runs::put_run(r, k, next);
-    perform(f, x, q, a, r, u, st, k, next, source, effect)
+    perform(
+        f,
+        x,
+        q,
+        a,
+        r,
+        u,
+        values,
+        versions,
+        st,
+        k,
+        next,
+        source,
+        effect,
+    )
 }
 
 // Whether the run can go on.
@@ -377,12 +400,14 @@ fn resume(
     a: &mut [u32],
     r: &mut [u32],
     u: &mut [u32],
+    values: &mut [u32; 32],
+    versions: &mut [u32; 32],
     st: State,
     automation: u32,
     sequence: u32,
 ) -> State
     requires { ⌜ Fits st (now q) (now a) (now r) (now u) ⌝ }
-    ensures { λ t. ⌜ Does (resumeM (now (f .entry)) (now (x .entry)) automation sequence) st t (goes (now (q .entry)) (now (q .exit))) (goes (now (a .entry)) (now (a .exit))) (goes (now (r .entry)) (now (r .exit))) (told (now (f .entry)) (now (u .entry)) (now (u .exit))) ⌝ }
+    ensures { λ t. ⌜ Moves (resumeM (now (f .entry)) (now (x .entry)) automation sequence) st t (goes (now (q .entry)) (now (q .exit))) (goes (now (a .entry)) (now (a .exit))) (goes (now (r .entry)) (now (r .exit))) (told (now (f .entry)) (now (u .entry)) (now (u .exit))) (goes (now (values .entry)) (now (values .exit))) (goes (now (versions .entry)) (now (versions .exit))) kept ⌝ }
 {
     let found = runs::find_run(r, st.active, automation, sequence);
     let Found::At(k) = found else {
@@ -390,7 +415,7 @@ fn resume(
     };
     let run = runs::run_at(r, k);
     if is_going(run) {
-        return go_on(f, x, q, a, r, u, st, k);
+        return go_on(f, x, q, a, r, u, values, versions, st, k);
     }
     st
 }
@@ -446,16 +471,22 @@ fn time_out(
     wait_over(q, a, r, st, k, run, w)
 }
 
-fn expire(x: &[u32; 436], q: &mut [u32], a: &mut [u32], st: State, e: usize) -> State
+fn expire(
+    x: &[u32; 436],
+    q: &mut [u32],
+    a: &mut [u32],
+    values: &mut [u32; 32],
+    st: State,
+    e: usize,
+) -> State
     requires { ⌜ (e < 32) × Fits-qa st (now q) (now a) ⌝ }
-    ensures { λ t. ⌜ Does (expireM (now (x .entry)) e) st t (goes (now (q .entry)) (now (q .exit))) (goes (now (a .entry)) (now (a .exit))) kept still ⌝ }
+    ensures { λ t. ⌜ Moves (expireM (now (x .entry)) e) st t (goes (now (q .entry)) (now (q .exit))) (goes (now (a .entry)) (now (a .exit))) kept still (goes (now (values .entry)) (now (values .exit))) kept kept ⌝ }
 {
-    let c = st.cells;
-    let from = c.values[e];
+    let from = values[e];
     let entity = engine_reads::name_of(x, e);
     let to = x[6];
     let m = Move { entity, from, to };
-    let d = engine_state::stored(c, e, to);
+    values[e] = to;
     let w = Setting {
         entity,
         value: to,
@@ -463,8 +494,7 @@ fn expire(x: &[u32; 436], q: &mut [u32], a: &mut [u32], st: State, e: usize) -> 
         rule: Rule::NoRule,
         source: Where::Nowhere,
     };
-    let s0 = engine_state::with_cells(st, d);
-    let s1 = engine_state::log_write(a, s0, w, m);
+    let s1 = engine_state::log_write(a, st, w, m);
     engine_steps::changed(q, s1, m)
 }
 
@@ -472,25 +502,26 @@ fn go_stale(
     x: &[u32; 436],
     q: &mut [u32],
     a: &mut [u32],
+    values: &mut [u32; 32],
+    versions: &[u32; 32],
     st: State,
     entity: u32,
     version: u32,
 ) -> State
     requires { ⌜ Fits-qa st (now q) (now a) ⌝ }
-    ensures { λ t. ⌜ Does (go-staleM (now (x .entry)) entity version) st t (goes (now (q .entry)) (now (q .exit))) (goes (now (a .entry)) (now (a .exit))) kept still ⌝ }
+    ensures { λ t. ⌜ Moves (go-staleM (now (x .entry)) entity version) st t (goes (now (q .entry)) (now (q .exit))) (goes (now (a .entry)) (now (a .exit))) kept still (goes (now (values .entry)) (now (values .exit))) (goes (now (versions .entry)) (now (versions .entry))) kept ⌝ }
 {
     let e = entity_of(x, entity);
     if 31 < e {
         return st;
     }
-    let c = st.cells;
-    if c.versions[e] != version {
+    if versions[e] != version {
         return st;
     }
-    if c.values[e] == x[6] {
+    if values[e] == x[6] {
         return st;
     }
-    expire(x, q, a, st, e)
+    expire(x, q, a, values, st, e)
 }
 
 fn drop_all(a: &mut [u32], r: &mut [u32], st: State) -> State
@@ -506,12 +537,14 @@ fn external(
     x: &[u32; 436],
     q: &mut [u32],
     a: &mut [u32],
+    values: &mut [u32; 32],
+    versions: &mut [u32; 32],
     st: State,
     entity: u32,
     value: u32,
 ) -> State
     requires { ⌜ Fits-qa st (now q) (now a) ⌝ }
-    ensures { λ t. ⌜ Does (externalM (now (x .entry)) entity value) st t (goes (now (q .entry)) (now (q .exit))) (goes (now (a .entry)) (now (a .exit))) kept still ⌝ }
+    ensures { λ t. ⌜ Moves (externalM (now (x .entry)) entity value) st t (goes (now (q .entry)) (now (q .exit))) (goes (now (a .entry)) (now (a .exit))) kept still (goes (now (values .entry)) (now (values .exit))) (goes (now (versions .entry)) (now (versions .exit))) kept ⌝ }
 {
     let w = Setting {
         entity,
@@ -520,7 +553,7 @@ fn external(
         rule: Rule::NoRule,
         source: Where::Nowhere,
     };
-    update(x, q, a, st, w)
+    update(x, q, a, values, versions, st, w)
 }
 
 // An item of the queue is worked off.
@@ -531,27 +564,41 @@ pub fn process(
     a: &mut [u32],
     r: &mut [u32],
     u: &mut [u32],
+    values: &mut [u32; 32],
+    versions: &mut [u32; 32],
+    sequences: &mut [u32; 32],
     st: State,
     work: Work,
 ) -> State
     requires { ⌜ Fits st (now q) (now a) (now r) (now u) ⌝ }
-    ensures { λ t. ⌜ Does (processM (now (f .entry)) (now (x .entry)) work) st t (goes (now (q .entry)) (now (q .exit))) (goes (now (a .entry)) (now (a .exit))) (goes (now (r .entry)) (now (r .exit))) (told (now (f .entry)) (now (u .entry)) (now (u .exit))) ⌝ }
+    ensures { λ t. ⌜ Moves (processM (now (f .entry)) (now (x .entry)) work) st t (goes (now (q .entry)) (now (q .exit))) (goes (now (a .entry)) (now (a .exit))) (goes (now (r .entry)) (now (r .exit))) (told (now (f .entry)) (now (u .entry)) (now (u .exit))) (goes (now (values .entry)) (now (values .exit))) (goes (now (versions .entry)) (now (versions .exit))) (goes (now (sequences .entry)) (now (sequences .exit))) ⌝ }
 {
     match work {
-        Work::Set { entity, value } => external(x, q, a, st, entity, value),
+        Work::Set { entity, value } => external(x, q, a, values, versions, st, entity, value),
         Work::Restart => drop_all(a, r, st),
         Work::Reload => drop_all(a, r, st),
         Work::Changed { entity, from, to } => {
-            engine_steps::trigger(f, x, q, a, r, u, st, Move { entity, from, to })
+            engine_steps::trigger(
+                f,
+                x,
+                q,
+                a,
+                r,
+                u,
+                values,
+                sequences,
+                st,
+                Move { entity, from, to },
+            )
         }
         Work::Resume {
             automation,
             sequence,
-        } => resume(f, x, q, a, r, u, st, automation, sequence),
+        } => resume(f, x, q, a, r, u, values, versions, st, automation, sequence),
         Work::Timeout {
             automation,
             sequence,
         } => time_out(q, a, r, st, automation, sequence),
-        Work::Stale { entity, version } => go_stale(x, q, a, st, entity, version),
+        Work::Stale { entity, version } => go_stale(x, q, a, values, versions, st, entity, version),
     }
 }

@@ -18,9 +18,9 @@ use Rattle.queue.specs.declared.Taken.{Taken}
 use Rattle.queue.specs.declared.Taken.the-variants.{One, Nothing}
 use Rattle.engine_reads.specs.Reads.{entities, atMost}
 use Rattle.engine_state.specs.declared.State.{State}
-use Rattle.engine_state.specs.Machine.{Machine, Content, machine, put-now}
+use Rattle.engine_state.specs.Machine.{Machine, Content, Entire, entire, machine, put-now}
 use Rattle.engine_state.specs.Steps as steps
-use Rattle.engine_state.specs.Steps.{Held, Lent, kept, goes, Listing, still, Steps, Does}
+use Rattle.engine_state.specs.Steps.{Held, Lent, kept, goes, Listing, still, Steps, Turns, Does}
 use Rattle.engine_state.proofs.Laws as states
 use Rattle.engine_state.proofs.Laws.{both, same}
 use Rattle.engine_steps.specs.Writes.{expiryM}
@@ -32,47 +32,47 @@ use Rattle.engine_loop.specs.declared.Ended.{Ended}
 -- ---- what comes next
 
 module _ (x q : List ℕ) (st : State) (t : Taken) (ens : queue.Next q (st .first) (st .items) t) where
-  after-is : (y : Taken) → t ≡ y → (f a b u : List ℕ) (k : Content) → Held f q a b u st k → next-afterM x y (machine st k) ≡ nextM x (machine st k)
+  after-is : (y : Taken) → t ≡ y → (f a b u v n c : List ℕ) (k : Content) → Held f q a b u (entire st v n c) k → next-afterM x y (machine (entire st v n c) k) ≡ nextM x (machine (entire st v n c) k)
   unfolding nextM
-  after-is y e f a b u k held = ap (λ z. next-afterM x z (machine st k)) (sym e ∙ ens .is (k .queue) (sym (held .queue .many)) (held .queue .is))
+  after-is y e f a b u v n c k held = ap (λ z. next-afterM x z (machine (entire st v n c) k)) (sym e ∙ ens .is (k .queue) (sym (held .queue .many)) (held .queue .is))
 
   pub seen-nothing : t ≡ Nothing → Seen (nextM x) q st Stop
   unfolding next-afterM
-  seen-nothing e = record { is = λ f a b u k held. after-is Nothing e f a b u k held }
+  seen-nothing e = record { is = λ f a b u v n c k held. after-is Nothing e f a b u v n c k held }
 
   module _ (i : Item) (e : t ≡ One i) where
     pub seen-records : 10000 ≤ st .records → Seen (nextM x) q st Space
     unfolding next-afterM
-    seen-records h = record { is = λ f a b u k held. rw (le-leb 10000 (length (k .records)) (subst (λ n. 10000 ≤ n) (held .records .many) h)) at (after-is (One i) e f a b u k held) }
+    seen-records h = record { is = λ f a b u v n c k held. rw (le-leb 10000 (length (k .records)) (subst (λ i. 10000 ≤ i) (held .records .many) h)) at (after-is (One i) e f a b u v n c k held) }
 
     module _ (hr : st .records < 10000) where
-      few : (f a b u : List ℕ) (k : Content) → Held f q a b u st k → leb 10000 (length (k .records)) ≡ false
-      few f a b u k held = lt-leb 10000 (length (k .records)) (subst (λ n. n < 10000) (held .records .many) hr)
+      few : (f a b u v n c : List ℕ) (k : Content) → Held f q a b u (entire st v n c) k → leb 10000 (length (k .records)) ≡ false
+      few f a b u v n c k held = lt-leb 10000 (length (k .records)) (subst (λ i. i < 10000) (held .records .many) hr)
 
       pub seen-items : 20000 < st .items → Seen (nextM x) q st Space
       unfolding next-afterM
-      seen-items h = record { is = λ f a b u k held. rw (few f a b u k held, lt-ltb 20000 (length (k .queue)) (subst (λ n. 20000 < n) (held .queue .many) h)) at (after-is (One i) e f a b u k held) }
+      seen-items h = record { is = λ f a b u v n c k held. rw (few f a b u v n c k held, lt-ltb 20000 (length (k .queue)) (subst (λ i. 20000 < i) (held .queue .many) h)) at (after-is (One i) e f a b u v n c k held) }
 
       module _ (hi : st .items ≤ 20000) where
-        short : (f a b u : List ℕ) (k : Content) → Held f q a b u st k → ltb 20000 (length (k .queue)) ≡ false
-        short f a b u k held = le-ltb 20000 (length (k .queue)) (subst (λ n. n ≤ 20000) (held .queue .many) hi)
+        short : (f a b u v n c : List ℕ) (k : Content) → Held f q a b u (entire st v n c) k → ltb 20000 (length (k .queue)) ≡ false
+        short f a b u v n c k held = le-ltb 20000 (length (k .queue)) (subst (λ i. i ≤ 20000) (held .queue .many) hi)
 
         pub seen-late : getD x 2 0 < i .second → Seen (nextM x) q st Stop
         unfolding next-afterM
-        seen-late h = record { is = λ f a b u k held. rw (few f a b u k held, short f a b u k held, lt-ltb (getD x 2 0) (i .second) h) at (after-is (One i) e f a b u k held) }
+        seen-late h = record { is = λ f a b u v n c k held. rw (few f a b u v n c k held, short f a b u v n c k held, lt-ltb (getD x 2 0) (i .second) h) at (after-is (One i) e f a b u v n c k held) }
 
         pub seen-take : i .second ≤ getD x 2 0 → Seen (nextM x) q st Take
         unfolding next-afterM
-        seen-take h = record { is = λ f a b u k held. rw (few f a b u k held, short f a b u k held, le-ltb (getD x 2 0) (i .second) h) at (after-is (One i) e f a b u k held) }
+        seen-take h = record { is = λ f a b u v n c k held. rw (few f a b u v n c k held, short f a b u v n c k held, le-ltb (getD x 2 0) (i .second) h) at (after-is (One i) e f a b u v n c k held) }
 
 module _ (x : List ℕ) (left : ℕ) (q : List ℕ) (st : State) where
   pub why-full : (st .full ≡ 0 → ⊥) → Why x left q st 3
   unfolding whyM
-  why-full h = record { seen = record { is = λ f a b u k held. rw (ne-eqb (st .full) 0 h) }; more = λ e. absurd (omega arith) }
+  why-full h = record { seen = record { is = λ f a b u v n c k held. rw (ne-eqb (st .full) 0 h) }; more = λ e. absurd (omega arith) }
 
   pub why-next : (n g : Next) (r : ℕ) → st .full ≡ 0 → Seen (nextM x) q st n → n ≡ g → r ≡ why-nextM left g → (r ≡ 4 → 0 < left) → Why x left q st r
   unfolding whyM
-  why-next n g r z seen e is more = record { seen = record { is = λ f a b u k held. rw (eq-eqb (st .full) 0 z) (is ∙ ap (why-nextM left) (sym e ∙ seen .is f a b u k held)) }; more = more }
+  why-next n g r z seen e is more = record { seen = record { is = λ f a b u v n c k held. rw (eq-eqb (st .full) 0 z) (is ∙ ap (why-nextM left) (sym e ∙ seen .is f a b u v n c k held)) }; more = more }
 
 pub take-none : (left : ℕ) → left ≡ 0 → 2 ≡ why-nextM left Take
 unfolding why-nextM
@@ -111,13 +111,13 @@ not-nothing l h = by (pop secondOf l) (order-pop secondOf l)
     by none e g = omega (arith, order-length secondOf l, ap length e)
     by (some (y, r)) e g = let z : _≡_ {A = ℕ} 0 1 = cc in omega arith
 
-pub turn-empty : (f x : List ℕ) {st : State} {q a r u : List ℕ} → st .items ≡ 0 → Steps (λ c. machine st c) st st (goes q q) (goes a a) (goes r r) (steps.told f u u) → Does (turnM f x) st st (goes q q) (goes a a) (goes r r) (steps.told f u u)
+pub turn-empty : (f x : List ℕ) {st : Entire} {q a r u : List ℕ} → st .items ≡ 0 → Steps (λ c. machine st c) st st (goes q q) (goes a a) (goes r r) (steps.told f u u) → Turns (turnM f x) st st (goes q q) (goes a a) (goes r r) (steps.told f u u)
 unfolding turnM turn-withM
 turn-empty f x {st} e d = states.knowing (λ c. turnM f x (machine st c)) d (λ _ q a r u c held. ap (λ t. turn-withM f x t (machine st c)) (nothing-of (c .queue) (sym (held .queue .many) ∙ e)))
 
-module _ (st s : State) (q b : List ℕ) (t : Taken) (took : Took q (st .first) (st .items) b t) (same : length b ≡ length q) (h : (st .first + st .items) * 5 ≤ length q) (some : 0 < st .items) where
-  pub taken : (i : Item) → t ≡ One i → s ≡ with-turn (i .second) st → Steps (λ c. tookM i (machine st c)) st s (goes q b) kept kept still
-  taken i _ e = subst (λ z. Steps (λ c. tookM i (machine st c)) st z (goes q b) kept kept still) (sym e) (record {
+module _ (st : State) (q b : List ℕ) (t : Taken) (took : Took q (st .first) (st .items) b t) (same : length b ≡ length q) (h : (st .first + st .items) * 5 ≤ length q) (some : 0 < st .items) where
+  pub taken : (s : State) (i : Item) → t ≡ One i → s ≡ with-turn (i .second) st → {v n c : List ℕ} → Steps (λ k. tookM i (machine (entire st v n c) k)) (entire st v n c) (entire s v n c) (goes q b) kept kept still
+  taken s i _ e {v} {n} {c = l} = subst (λ z. Steps (λ c. tookM i (machine (entire st v n l) c)) (entire st v n l) (entire z v n l) (goes q b) kept kept still) (sym e) (record {
     queue = (same, omega (arith, h, same));
     records = refl;
     runs = refl;
@@ -133,7 +133,8 @@ module _ (st s : State) (q b : List ℕ) (t : Taken) (took : Took q (st .first) 
   })
 
   -- a queue with items has a next one
-  pub never : (F : Content → Machine) {a r u f : List ℕ} → t ≡ Nothing → st .records * 13 ≤ length a → st .active * 28 ≤ length r → st .reasons * 5 ≤ length u → Steps F st st (goes q b) (goes a a) (goes r r) (steps.told f u u)
+  pub never : (F : Content → Machine) {a r u f v n c : List ℕ} → t ≡ Nothing → st .records * 13 ≤ length a → st .active * 28 ≤ length r → st .reasons * 5 ≤ length u →
+      Steps F (entire st v n c) (entire st v n c) (goes q b) (goes a a) (goes r r) (steps.told f u u)
   never F e ha hr hu = record {
     queue = (same, omega (arith, h, same));
     records = (refl, ha);
@@ -143,7 +144,7 @@ module _ (st s : State) (q b : List ℕ) (t : Taken) (took : Took q (st .first) 
         absurd (not-nothing (c .queue) (subst (λ n. 0 < n) (held .queue .many) some) (sym e ∙ took .is (c .queue) (sym (held .queue .many)) (held .queue .is)));
   }
 
-pub with-taken : {st s : State} {A R : Lent} {q b : List ℕ} {U : Listing} (F : Taken → Machine → Machine) {b' : List ℕ} {t y : Taken} → Took q (st .first) (st .items) b' t → t ≡ y → Steps (λ c. F y (machine st c)) st s (goes q b) A R U → Steps (λ c. F (takenOf (pop secondOf (c .queue))) (machine st c)) st s (goes q b) A R U
+pub with-taken : {st s : Entire} {A R : Lent} {q b : List ℕ} {U : Listing} (F : Taken → Machine → Machine) {b' : List ℕ} {t y : Taken} → Took q (st .first) (st .items) b' t → t ≡ y → Steps (λ c. F y (machine st c)) st s (goes q b) A R U → Steps (λ c. F (takenOf (pop secondOf (c .queue))) (machine st c)) st s (goes q b) A R U
 with-taken {st} F took e d = states.knowing (λ c. F (takenOf (pop secondOf (c .queue))) (machine st c)) d (λ f _ a r u c held.
     ap (λ z. F z (machine st c)) (sym e ∙ took .is (c .queue) (sym (held .queue .many)) (held .queue .is)))
 
@@ -161,22 +162,24 @@ module _ (f x : List ℕ) where
   loop-more (suc n) m e h = let z : suc n - 1 ≡ n = omega arith in rw (eq-eqb (whyM x (suc n) m) 4 e, loopM, z)
 
 -- where the loop stands
-pub record Looped (f x : List ℕ) (st s : State) (q q' a a' r r' u u' : List ℕ) (left why : ℕ) : Type 0 where
+pub record Looped (f x : List ℕ) (st s : State) (q q' a a' r r' u u' v v' n n' c c' : List ℕ) (left why : ℕ) : Type 0 where
   pub go : Content → Machine
-  pub steps : Steps go st s (goes q q') (goes a a') (goes r r') (steps.told f u u')
-  pub rest : (k : Content) → Held f q a r u st k → loopM f x (getD x 3 0) (machine st k) ≡ loopM f x left (go k)
+  pub steps : Steps go (entire st v n c) (entire s v' n' c') (goes q q') (goes a a') (goes r r') (steps.told f u u')
+  pub rest : (k : Content) → Held f q a r u (entire st v n c) k → loopM f x (getD x 3 0) (machine (entire st v n c) k) ≡ loopM f x left (go k)
   pub least : left ≤ getD x 3 0
   pub why-is : Why x left q' s why
   pub room : 1500 ≤ length u'
 
-pub loop-start : (f x : List ℕ) {st : State} {q a r u : List ℕ} (why : ℕ) → Steps (λ c. machine st c) st st (goes q q) (goes a a) (goes r r) (steps.told f u u) → Why x (getD x 3 0) q st why → 1500 ≤ length u → Looped f x st st q q a a r r u u (getD x 3 0) why
-loop-start f x {st} why d w h = record { go = λ c. machine st c; steps = d; rest = λ k held. refl; least = omega arith; why-is = w; room = h }
+pub loop-start : (f x : List ℕ) {st : State} {q a r u v n c : List ℕ} (why : ℕ) → Steps (λ k. machine (entire st v n c) k) (entire st v n c) (entire st v n c) (goes q q) (goes a a) (goes r r) (steps.told f u u) →
+    Why x (getD x 3 0) q st why → 1500 ≤ length u → Looped f x st st q q a a r r u u v v n n c c (getD x 3 0) why
+loop-start f x {st} {v = v} {n = n} {c = c} why d w h = record { go = λ k. machine (entire st v n c) k; steps = d; rest = λ k held. refl; least = omega arith; why-is = w; room = h }
 
-module _ {f x : List ℕ} {st s : State} {q q' a a' r r' u u' : List ℕ} {left why : ℕ} (l : Looped f x st s q q' a a' r r' u u' left why) where
-  why-here : (k : Content) → Held f q a r u st k → why ≡ whyM x left (l .go k)
-  why-here k held = let y = l .steps .does f q a r u k held in l .why-is .seen .is f a' r' u' (y .content) (y .held) ∙ ap (whyM x left) (y .is)
+module _ {f x : List ℕ} {st s : State} {q q' a a' r r' u u' v v' n n' c c' : List ℕ} {left why : ℕ} (l : Looped f x st s q q' a a' r r' u u' v v' n n' c c' left why) where
+  why-here : (k : Content) → Held f q a r u (entire st v n c) k → why ≡ whyM x left (l .go k)
+  why-here k held = let y = l .steps .does f q a r u k held in l .why-is .seen .is f a' r' u' v' n' c' (y .content) (y .held) ∙ ap (whyM x left) (y .is)
 
-  pub loop-step : {s' : State} {q'' a'' r'' u'' : List ℕ} {why' : ℕ} → why ≡ 4 → Does (turnM f x) s s' (goes q' q'') (goes a' a'') (goes r' r'') (steps.told f u' u'') → Why x (left - 1) q'' s' why' → 1500 ≤ length u'' → Looped f x st s' q q'' a a'' r r'' u u'' (left - 1) why'
+  pub loop-step : {s' : State} {q'' a'' r'' u'' v'' n'' c'' : List ℕ} {why' : ℕ} → why ≡ 4 → Turns (turnM f x) (entire s v' n' c') (entire s' v'' n'' c'') (goes q' q'') (goes a' a'') (goes r' r'') (steps.told f u' u'') →
+      Why x (left - 1) q'' s' why' → 1500 ≤ length u'' → Looped f x st s' q q'' a a'' r r'' u u'' v v'' n n'' c c'' (left - 1) why'
   loop-step e d w h = record {
     go = λ k. turnM f x (l .go k);
     steps = states.follow (turnM f x) (l .steps) d both both both both;
@@ -186,15 +189,15 @@ module _ {f x : List ℕ} {st s : State} {q q' a a' r r' u u' : List ℕ} {left 
     room = h;
   }
 
-  pub loop-halts : (e : Ended) → e ≡ record { state = s; steps = getD x 3 0 - left; why = why } → (why ≡ 4 → ⊥) → Ends f x st e q q' a a' r r' u u'
-  loop-halts e is h = subst (λ z. Ends f x st z q q' a a' r r' u u') (sym is) (record {
+  pub loop-halts : (e : Ended) → e ≡ record { state = s; steps = getD x 3 0 - left; why = why } → (why ≡ 4 → ⊥) → Ends f x st e q q' a a' r r' u u' v v' n n' c c'
+  loop-halts e is h = subst (λ z. Ends f x st z q q' a a' r r' u u' v v' n n' c c') (sym is) (record {
     queue = l .steps .queue;
     records = l .steps .records;
     runs = l .steps .runs;
     reasons = l .steps .reasons;
     does = λ k held.
         let y = l .steps .does f q a r u k held in
-        subst (λ p. Halts f q' a' r' u' (getD x 3 0) (record { state = s; steps = getD x 3 0 - left; why = why }) p) (sym (l .rest k held ∙ loop-end f x left (l .go k) (λ g. h (why-here k held ∙ g))))
+        subst (λ p. Halts f q' a' r' u' v' n' c' (getD x 3 0) (record { state = s; steps = getD x 3 0 - left; why = why }) p) (sym (l .rest k held ∙ loop-end f x left (l .go k) (λ g. h (why-here k held ∙ g))))
         (record { stands = y; steps = refl; why = why-here k held });
   })
 
@@ -223,31 +226,31 @@ pub expiries-all : (x : List ℕ) (e n : ℕ) (m : Machine) → e ≡ n → n �
 unfolding add-expiriesM entities
 expiries-all x e n m h g = ap (λ z. expiriesM x z m) (h ∙ g)
 
-pub timed : (n : ℕ) (st : State) → Does (put-now n) st (record { now = n; items = st .items; first = st .first; records = st .records; active = st .active; reasons = st .reasons; made = st .made; full = st .full; sequences = st .sequences; cells = st .cells }) kept kept kept still
-timed n st = record { queue = refl; records = refl; runs = refl; reasons = refl; does = λ f q a r u k held. record { content = k; held = record { queue = held .queue; records = held .records; runs = held .runs; reasons = held .reasons }; is = refl } }
+pub timed : (n : ℕ) (st : State) → Does (put-now n) st (record { now = n; items = st .items; first = st .first; records = st .records; active = st .active; reasons = st .reasons; made = st .made; full = st .full }) kept kept kept still
+timed n st = states.moves (λ _ _ _. record { queue = refl; records = refl; runs = refl; reasons = refl; does = λ f q a r u k held. record { content = k; held = record { queue = held .queue; records = held .records; runs = held .runs; reasons = held .reasons }; is = refl } })
 
 module _ (x : List ℕ) (d : Ended) (a : List ℕ) (h : d .state .records * 13 ≤ length a) where
   pub closed-why : (d .why ≡ 0 → ⊥) → Closes x d d a a
   unfolding closedM
-  closed-why z = record { records = (refl, h); does = λ f q r u total p g. subst (λ e. Halts f q a r u total d e) (no-why p (λ e. z (g .why ∙ e))) g }
+  closed-why z = record { records = (refl, h); does = λ f q r u v n c total p g. subst (λ e. Halts f q a r u v n c total d e) (no-why p (λ e. z (g .why ∙ e))) g }
     where
       no-why : (p : Halt) → (p .why ≡ 0 → ⊥) → p ≡ closedM x p
       no-why p g = rw (ne-eqb (p .why) 0 g)
 
   pub closed-runs : d .why ≡ 0 → (d .state .active ≡ 0 → ⊥) → Closes x d d a a
   unfolding closedM
-  closed-runs z n = record { records = (refl, h); does = λ f q r u total p g. subst (λ e. Halts f q a r u total d e) (no-end p (sym (g .why) ∙ z) (λ e. n (g .stands .held .runs .many ∙ ap (λ m. length (m .runs)) (g .stands .is) ∙ e))) g }
+  closed-runs z left = record { records = (refl, h); does = λ f q r u v n c total p g. subst (λ e. Halts f q a r u v n c total d e) (no-end p (sym (g .why) ∙ z) (λ e. left (g .stands .held .runs .many ∙ ap (λ m. length (m .runs)) (g .stands .is) ∙ e))) g }
     where
       no-end : (p : Halt) → p .why ≡ 0 → (length (p .last .runs) ≡ 0 → ⊥) → p ≡ closedM x p
       no-end p e g = rw (eq-eqb (p .why) 0 e, ne-eqb (length (p .last .runs)) 0 g)
 
   pub closed-end : (s : State) (b : List ℕ) → Does (horizonM x) (d .state) s kept (goes a b) kept still → d .why ≡ 0 → d .state .active ≡ 0 → Closes x d (record { state = s; steps = d .steps; why = 0 }) a b
   unfolding closedM
-  closed-end s b e z n = record {
+  closed-end s b e z none-left = record {
     records = e .records;
-    does = λ f q r u total p g.
-        let y = e .does f q a r u (g .stands .content) (g .stands .held) in
-        subst (λ v. Halts f q b r u total (record { state = s; steps = d .steps; why = 0 }) v) (the-end p (sym (g .why) ∙ z) (sym (ap (λ m. length (m .runs)) (g .stands .is)) ∙ sym (g .stands .held .runs .many) ∙ n))
+    does = λ f q r u v n c total p g.
+        let y = e .does v n c .does f q a r u (g .stands .content) (g .stands .held) in
+        subst (λ h'. Halts f q b r u v n c total (record { state = s; steps = d .steps; why = 0 }) h') (the-end p (sym (g .why) ∙ z) (sym (ap (λ m. length (m .runs)) (g .stands .is)) ∙ sym (g .stands .held .runs .many) ∙ none-left))
         (record { stands = record { content = y .content; held = y .held; is = y .is ∙ ap (horizonM x) (g .stands .is) }; steps = g .steps; why = refl });
   }
     where

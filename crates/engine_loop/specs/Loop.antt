@@ -15,7 +15,7 @@ use Rattle.queue.specs.declared.Taken.{Taken}
 use Rattle.queue.specs.declared.Taken.the-variants.{One, Nothing}
 use Rattle.engine_reads.specs.Reads.{entities}
 use Rattle.engine_state.specs.declared.State.{State}
-use Rattle.engine_state.specs.Machine.{Machine, Content, machine, put-now, put-queue}
+use Rattle.engine_state.specs.Machine.{Machine, Content, entire, machine, put-now, put-queue}
 use Rattle.engine_state.specs.Changes.{addM, log-plainM}
 use Rattle.engine_state.specs.Steps.{Held, Stands, Side, goes, told, Side-told}
 use Rattle.engine_steps.specs.Writes.{expiryM}
@@ -26,7 +26,7 @@ use Rattle.engine_loop.specs.declared.Ended.{Ended}
 
 -- what is seen of every machine that the state and the queue's area stand for
 pub record Seen {B : Type 0} (F : Machine → B) (q : List ℕ) (st : State) (r : B) : Type 0 where
-  pub is : (f a b u : List ℕ) (k : Content) → Held f q a b u st k → r ≡ F (machine st k)
+  pub is : (f a b u v n c : List ℕ) (k : Content) → Held f q a b u (entire st v n c) k → r ≡ F (machine (entire st v n c) k)
 
 unfoldable pub next-afterM : List ℕ → Taken → Machine → Next
 next-afterM x Nothing m = Stop
@@ -54,7 +54,7 @@ pub record Why (x : List ℕ) (left : ℕ) (q : List ℕ) (st : State) (r : ℕ)
 -- ---- a turn
 
 abbrev pub with-turn : (second : ℕ) → State → State
-with-turn n st = record { now = n; items = st .items - 1; first = st .first + 1; records = st .records; active = st .active; reasons = st .reasons; made = st .made; full = st .full; sequences = st .sequences; cells = st .cells }
+with-turn n st = record { now = n; items = st .items - 1; first = st .first + 1; records = st .records; active = st .active; reasons = st .reasons; made = st .made; full = st .full }
 
 -- the queue without the item that was taken, at its second
 abbrev pub tookM : Item → Machine → Machine
@@ -85,18 +85,18 @@ loopM f x (suc n) m = elim (eqb (whyM x (suc n) m) 4) [
   | false ↦ halt m (suc n) (whyM x (suc n) m)
 ]
 
--- the state, the steps and the reason stand for the halt p, which had `total` steps
-pub record Halts (f q a r u : List ℕ) (total : ℕ) (e : Ended) (p : Halt) : Type 0 where
-  pub stands : Stands f q a r u (e .state) (p .last)
+-- the state with its arrays, the steps and the reason stand for the halt p, which had `total` steps
+pub record Halts (f q a r u v n c : List ℕ) (total : ℕ) (e : Ended) (p : Halt) : Type 0 where
+  pub stands : Stands f q a r u (entire (e .state) v n c) (p .last)
   pub steps : e .steps ≡ total - p .left
   pub why : e .why ≡ p .why
 
-pub record Ends (f x : List ℕ) (st : State) (e : Ended) (q q' a a' r r' u u' : List ℕ) : Type 0 where
+pub record Ends (f x : List ℕ) (st : State) (e : Ended) (q q' a a' r r' u u' v v' n n' c c' : List ℕ) : Type 0 where
   pub queue : Side 5 (goes q q') (st .first + st .items) (e .state .first + e .state .items)
   pub records : Side 13 (goes a a') (st .records) (e .state .records)
   pub runs : Side 28 (goes r r') (st .active) (e .state .active)
   pub reasons : Side-told (told f u u') (st .reasons) (e .state .reasons)
-  pub does : (k : Content) → Held f q a r u st k → Halts f q' a' r' u' (getD x 3 0) e (loopM f x (getD x 3 0) (machine st k))
+  pub does : (k : Content) → Held f q a r u (entire st v n c) k → Halts f q' a' r' u' v' n' c' (getD x 3 0) e (loopM f x (getD x 3 0) (machine (entire st v n c) k))
 
 -- ---- before it
 
@@ -132,4 +132,4 @@ closedM x p = if eqb (p .why) 0 then (if eqb (length (p .last .runs)) 0 then hal
 
 pub record Closes (x : List ℕ) (d e : Ended) (a a' : List ℕ) : Type 0 where
   pub records : Side 13 (goes a a') (d .state .records) (e .state .records)
-  pub does : (f q r u : List ℕ) (total : ℕ) (p : Halt) → Halts f q a r u total d p → Halts f q a' r u total e (closedM x p)
+  pub does : (f q r u v n c : List ℕ) (total : ℕ) (p : Halt) → Halts f q a r u v n c total d p → Halts f q a' r u v n c total e (closedM x p)

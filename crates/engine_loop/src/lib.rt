@@ -8,7 +8,7 @@ use queue::Work;
 ghost use mathlib.Core.Path.{_≡_};
 ghost use Prim.Native.Nat.{_+_, _*_, _≤_, _<_};
 ghost use lib.ListN.{length};
-ghost use Rattle.engine_state.specs.Steps.{Does, goes, kept, told, still, Fits-q, Fits-qa, Fits};
+ghost use Rattle.engine_state.specs.Steps.{Moves, Does, goes, kept, told, still, Fits-q, Fits-qa, Fits};
 ghost use Rattle.engine_loop.specs.Loop.{with-turn, turnM, Seen, nextM, Why, Ends, loopM, eventW, add-eventM, add-eventsM, add-expiriesM, begunM, horizonM, closedM, Closes};
 ghost use Rattle.engine_state.specs.Machine.{put-now};
 
@@ -82,10 +82,13 @@ fn turn(
     a: &mut [u32],
     r: &mut [u32],
     u: &mut [u32],
+    values: &mut [u32; 32],
+    versions: &mut [u32; 32],
+    sequences: &mut [u32; 32],
     st: State,
 ) -> State
     requires { ⌜ Fits st (now q) (now a) (now r) (now u) ⌝ }
-    ensures { λ s. ⌜ Does (turnM (now (f .entry)) (now (x .entry))) st s (goes (now (q .entry)) (now (q .exit))) (goes (now (a .entry)) (now (a .exit))) (goes (now (r .entry)) (now (r .exit))) (told (now (f .entry)) (now (u .entry)) (now (u .exit))) ⌝ }
+    ensures { λ s. ⌜ Moves (turnM (now (f .entry)) (now (x .entry))) st s (goes (now (q .entry)) (now (q .exit))) (goes (now (a .entry)) (now (a .exit))) (goes (now (r .entry)) (now (r .exit))) (told (now (f .entry)) (now (u .entry)) (now (u .exit))) (goes (now (values .entry)) (now (values .exit))) (goes (now (versions .entry)) (now (versions .exit))) (goes (now (sequences .entry)) (now (sequences .exit))) ⌝ }
 {
     if st.items == 0 {
         return st;
@@ -96,7 +99,7 @@ fn turn(
     };
     let work = it.work;
     let s = at_second(st, it.second);
-    engine_actions::process(f, x, q, a, r, u, s, work)
+    engine_actions::process(f, x, q, a, r, u, values, versions, sequences, s, work)
 }
 
 // The state at the end, the steps taken, and why the loop ended.
@@ -113,16 +116,19 @@ pub fn run_loop(
     a: &mut [u32],
     r: &mut [u32],
     u: &mut [u32],
+    values: &mut [u32; 32],
+    versions: &mut [u32; 32],
+    sequences: &mut [u32; 32],
     st: State,
 ) -> Ended
     requires { ⌜ Fits st (now q) (now a) (now r) (now u) ⌝ }
-    ensures { λ e. ⌜ Ends (now (f .entry)) (now (x .entry)) st e (now (q .entry)) (now (q .exit)) (now (a .entry)) (now (a .exit)) (now (r .entry)) (now (r .exit)) (now (u .entry)) (now (u .exit)) ⌝ }
+    ensures { λ e. ⌜ Ends (now (f .entry)) (now (x .entry)) st e (now (q .entry)) (now (q .exit)) (now (a .entry)) (now (a .exit)) (now (r .entry)) (now (r .exit)) (now (u .entry)) (now (u .exit)) (now (values .entry)) (now (values .exit)) (now (versions .entry)) (now (versions .exit)) (now (sequences .entry)) (now (sequences .exit)) ⌝ }
 {
     let mut s = st;
     let mut left = x[3];
     let mut why = why_stop(x, q, s, left);
     while why == 4 {
-        s = turn(f, x, q, a, r, u, s);
+        s = turn(f, x, q, a, r, u, values, versions, sequences, s);
         left -= 1;
         why = why_stop(x, q, s, left);
     }
@@ -171,15 +177,15 @@ fn add_events(events: &[u32], count: usize, q: &mut [u32], st: State) -> State
     s
 }
 
-fn add_expiries(x: &[u32; 436], q: &mut [u32], st: State) -> State
+fn add_expiries(x: &[u32; 436], q: &mut [u32], versions: &[u32; 32], st: State) -> State
     requires { ⌜ Fits-q st (now q) ⌝ }
-    ensures { λ r. ⌜ Does (add-expiriesM (now (x .entry))) st r (goes (now (q .entry)) (now (q .exit))) kept kept still ⌝ }
+    ensures { λ r. ⌜ Moves (add-expiriesM (now (x .entry))) st r (goes (now (q .entry)) (now (q .exit))) kept kept still kept (goes (now (versions .entry)) (now (versions .entry))) kept ⌝ }
 {
     let n = at_most(x[0], 32);
     let mut s = st;
     let mut e: usize = 0;
     while e < n {
-        s = engine_steps::expiry(x, q, s, e);
+        s = engine_steps::expiry(x, q, versions, s, e);
         e += 1;
     }
     s
@@ -191,14 +197,15 @@ pub fn begun(
     count: usize,
     q: &mut [u32],
     a: &mut [u32],
+    versions: &[u32; 32],
     st: State,
 ) -> State
     requires { ⌜ (count * 4 ≤ length (now events)) × Fits-qa st (now q) (now a) ⌝ }
-    ensures { λ r. ⌜ Does (begunM (now (x .entry)) (now (events .entry)) count) st r (goes (now (q .entry)) (now (q .exit))) (goes (now (a .entry)) (now (a .exit))) kept still ⌝ }
+    ensures { λ r. ⌜ Moves (begunM (now (x .entry)) (now (events .entry)) count) st r (goes (now (q .entry)) (now (q .exit))) (goes (now (a .entry)) (now (a .exit))) kept still kept (goes (now (versions .entry)) (now (versions .entry))) kept ⌝ }
 {
     let s1 = log_plain(a, st, 0);
     let s2 = add_events(events, count, q, s1);
-    add_expiries(x, q, s2)
+    add_expiries(x, q, versions, s2)
 }
 
 // ---- after the loop

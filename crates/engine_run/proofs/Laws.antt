@@ -16,25 +16,24 @@ use Rattle.runs.specs.Runs.{runWords}
 use Rattle.reasons.specs.Lists.{Holds}
 use Rattle.engine_state.specs.declared.Cells.{Cells}
 use Rattle.engine_state.specs.declared.State.{State}
-use Rattle.engine_state.specs.Machine.{machine}
-use Rattle.engine_state.specs.Steps.{Held, kept, goes, still, Does}
+use Rattle.engine_state.specs.Machine.{entire, machine}
+use Rattle.engine_state.specs.Steps.{Held, kept, goes, still, Moves}
 use Rattle.engine_loop.specs.Loop.{Halt, Halts, Ends, Closes, begunM, loopM}
 use Rattle.engine_loop.specs.declared.Ended.{Ended}
 use Rattle.engine_run.specs.Run.{whollyM, Wholly, start-of, nothing-yet, beginning, refusalS, answerS, answerM, Answers, Simulates}
 use Rattle.engine_run.specs.declared.Simulation.{Simulation}
 
-module _ {f x l : List ℕ} {n : ℕ} {st s : State} {d e : Ended} {q q' q'' a a' a'' a''' r r' u u' : List ℕ} where
-  pub wholly : Does (begunM x l n) st s (goes q q') (goes a a') kept still → Ends f x s d q' q'' a' a'' r r' u u' → Closes x d e a'' a''' → Wholly f x l n st e q q'' a a''' r r' u u'
+module _ {f x l : List ℕ} {n : ℕ} {st s : State} {d e : Ended} {q q' q₂ a a' a₂ a₃ r r' u u' v v' i i' c c' : List ℕ} where
+  pub wholly : Moves (begunM x l n) st s (goes q q') (goes a a') kept still kept (goes i i) kept → Ends f x s d q' q₂ a' a₂ r r' u u' v v' i i' c c' → Closes x d e a₂ a₃ → Wholly f x l n st e q q₂ a a₃ r r' u u' v v' i i' c c'
   unfolding whollyM
-  wholly b w c = record {
+  wholly b w z = record {
     queue = w .queue .0 ∙ b .queue .0;
-    records = c .records .0 ∙ w .records .0 ∙ b .records .0;
+    records = z .records .0 ∙ w .records .0 ∙ b .records .0;
     runs = w .runs .0;
     reasons = w .reasons .0;
     does = λ k held.
-        let y = b .does f q a r u k held in
-        let z = w .does (y .content) (y .held) in
-        c .does f q'' r' u' (getD x 3 0) (loopM f x (getD x 3 0) (begunM x l n (machine st k))) (subst (λ m. Halts f q'' a'' r' u' (getD x 3 0) d (loopM f x (getD x 3 0) m)) (y .is) z);
+        let y = b .does v i c .does f q a r u k held in
+        z .does f q₂ r' u' v' i' c' (getD x 3 0) (loopM f x (getD x 3 0) (begunM x l n (machine (entire st v i c) k))) (subst (λ m. Halts f q₂ a₂ r' u' v' i' c' (getD x 3 0) d (loopM f x (getD x 3 0) m)) (y .is) (w .does (y .content) (y .held)));
   }
 
 -- ---- the answer
@@ -51,20 +50,19 @@ yes-is total p g = rw (eq-eqb (p .last .full) 0 g)
 unfoldable simulation : (steps records reasons why active : ℕ) → List ℕ → Simulation
 simulation s r n w a v = record { refused = 0; steps = s; records = r; reasons = n; why = w; waiting = not (eqb a 0); values = v }
 
-pub told-is : {f q a r u : List ℕ} {total : ℕ} {e : Ended} (p : Halt) → Halts f q a r u total e p → p .last .full ≡ 0 → answerS e ≡ answerM total p
+pub told-is : {f q a r u v n c : List ℕ} {total : ℕ} {e : Ended} (p : Halt) → Halts f q a r u v n c total e p → p .last .full ≡ 0 → answerS e v ≡ answerM total p
 unfolding answerS simulation
-told-is {f} {q} {a} {r} {u} {total} {e} p g z =
-    let k = g .stands .content in
+told-is {v = v} {total = total} {e = e} p g z =
     let m = p .last in
     let er : e .state .records ≡ length (m .records) = g .stands .held .records .many ∙ ap (λ n. length (n .records)) (g .stands .is) in
     let en : e .state .reasons ≡ length (m .reasons) = g .stands .held .reasons .many ∙ ap (λ n. length (n .reasons)) (g .stands .is) in
     let ea : e .state .active ≡ length (m .runs) = g .stands .held .runs .many ∙ ap (λ n. length (n .runs)) (g .stands .is) in
-    let ev : e .state .cells .values ≡ m .values = ap (λ n. n .values) (g .stands .is) in
-    ap (λ i. simulation i (e .state .records) (e .state .reasons) (e .why) (e .state .active) (e .state .cells .values)) (g .steps)
-    ∙ ap (λ i. simulation (total - p .left) i (e .state .reasons) (e .why) (e .state .active) (e .state .cells .values)) er
-    ∙ ap (λ i. simulation (total - p .left) (length (m .records)) i (e .why) (e .state .active) (e .state .cells .values)) en
-    ∙ ap (λ i. simulation (total - p .left) (length (m .records)) (length (m .reasons)) i (e .state .active) (e .state .cells .values)) (g .why)
-    ∙ ap (λ i. simulation (total - p .left) (length (m .records)) (length (m .reasons)) (p .why) i (e .state .cells .values)) ea
+    let ev : v ≡ m .values = ap (λ n. n .values) (g .stands .is) in
+    ap (λ i. simulation i (e .state .records) (e .state .reasons) (e .why) (e .state .active) v) (g .steps)
+    ∙ ap (λ i. simulation (total - p .left) i (e .state .reasons) (e .why) (e .state .active) v) er
+    ∙ ap (λ i. simulation (total - p .left) (length (m .records)) i (e .why) (e .state .active) v) en
+    ∙ ap (λ i. simulation (total - p .left) (length (m .records)) (length (m .reasons)) i (e .state .active) v) (g .why)
+    ∙ ap (λ i. simulation (total - p .left) (length (m .records)) (length (m .reasons)) (p .why) i v) ea
     ∙ ap (λ i. simulation (total - p .left) (length (m .records)) (length (m .reasons)) (p .why) (length (m .runs)) i) ev
     ∙ yes-is total p z
 
@@ -80,7 +78,7 @@ module _ (f : List ℕ) (c : Cells) (so-far : ℕ) (q q₁ a a₁ r r₁ u : Lis
   zeros : (x y : List ℕ) → y ≡ replicate (length x) 0 → length y ≡ length x
   zeros x y e = ap length e ∙ length-replicate (length x) 0
 
-  pub held-none : (t : List Text) → Holds f t so-far u → Held f q₁ a₁ r₁ u (start-of first c so-far) (nothing-yet (length q / 5) (length a / 13) (length r / 28) t)
+  pub held-none : (t : List Text) → Holds f t so-far u → Held f q₁ a₁ r₁ u (entire (start-of first so-far) (c .values) (c .versions) (replicate 32 0)) (nothing-yet (length q / 5) (length a / 13) (length r / 28) t)
   held-none t h = record {
     queue = record { room = ap (λ i. i / 5) (zeros q q₁ eq); many = refl; is = eq ∙ ap (λ i. replicate i 0) (sym (zeros q q₁ eq)) ∙ sym (queue.empty-is first (length q₁) fits) };
     records = record { room = ap (λ i. i / 13) (zeros a a₁ ea); many = refl; is = ea ∙ ap (λ i. replicate i 0) (sym (zeros a a₁ ea)) ∙ sym (areas.area-none recordWords (length a₁)) };
@@ -90,44 +88,44 @@ module _ (f : List ℕ) (c : Cells) (so-far : ℕ) (q q₁ a a₁ r r₁ u : Lis
 
   -- ---- the answer, from where the loop halts
 
-  module _ {x l : List ℕ} {n : ℕ} {st : State} {e : Ended} {q₂ a₂ r₂ u₂ : List ℕ} (is : st ≡ start-of first c so-far) (w : Wholly f x l n st e q₁ q₂ a₁ a₂ r₁ r₂ u u₂) where
-    halted : (t : List Text) → Holds f t so-far u → Halts f q₂ a₂ r₂ u₂ (getD x 3 0) e (whollyM f x l n (beginning c (length q / 5) (length a / 13) (length r / 28) t))
-    halted t h = (subst (λ z. Wholly f x l n z e q₁ q₂ a₁ a₂ r₁ r₂ u u₂) is w) .does (nothing-yet (length q / 5) (length a / 13) (length r / 28) t) (held-none t h)
+  module _ {x l : List ℕ} {n : ℕ} {st : State} {e : Ended} {q₂ a₂ r₂ u₂ v i j : List ℕ} (is : st ≡ start-of first so-far) (w : Wholly f x l n st e q₁ q₂ a₁ a₂ r₁ r₂ u u₂ (c .values) v (c .versions) i (replicate 32 0) j) where
+    halted : (t : List Text) → Holds f t so-far u → Halts f q₂ a₂ r₂ u₂ v i j (getD x 3 0) e (whollyM f x l n (beginning c (length q / 5) (length a / 13) (length r / 28) t))
+    halted t h = (subst (λ z. Wholly f x l n z e q₁ q₂ a₁ a₂ r₁ r₂ u u₂ (c .values) v (c .versions) i (replicate 32 0) j) is w) .does (nothing-yet (length q / 5) (length a / 13) (length r / 28) t) (held-none t h)
 
     same-records : length a₂ ≡ length a
     same-records = w .records ∙ zeros a a₁ ea
 
-    texts-are : {g v : List ℕ} {t : List Text} {i : ℕ} → Holds g t i v → Holds g t (length t) v
-    texts-are {g} {v} {t} h = subst (λ j. Holds g t j v) (h .many) h
+    texts-are : {g y : List ℕ} {t : List Text} {k : ℕ} → Holds g t k y → Holds g t (length t) y
+    texts-are {g} {y} {t} h = subst (λ k. Holds g t k y) (h .many) h
 
-    pub answered : (q₃ r₃ : List ℕ) (s : Simulation) → q₃ ≡ replicate (length q₂) 0 → r₃ ≡ replicate (length r₂) 0 → e .state .full ≡ 0 → s ≡ answerS e → Simulates f x l n c so-far s q q₃ a a₂ r r₃ u u₂
+    pub answered : (q₃ r₃ : List ℕ) (s : Simulation) → q₃ ≡ replicate (length q₂) 0 → r₃ ≡ replicate (length r₂) 0 → e .state .full ≡ 0 → s ≡ answerS e v → Simulates f x l n c so-far s q q₃ a a₂ r r₃ u u₂
     answered q₃ r₃ s cq cr z es = record {
-      queue = cq ∙ ap (λ i. replicate i 0) (w .queue ∙ zeros q q₁ eq);
-      runs = cr ∙ ap (λ i. replicate i 0) (w .runs ∙ zeros r r₁ er);
+      queue = cq ∙ ap (λ k. replicate k 0) (w .queue ∙ zeros q q₁ eq);
+      runs = cr ∙ ap (λ k. replicate k 0) (w .runs ∙ zeros r r₁ er);
       does = λ t h. by (whollyM f x l n (beginning c (length q / 5) (length a / 13) (length r / 28) t)) (halted t h);
     }
       where
-        by : (p : Halt) → Halts f q₂ a₂ r₂ u₂ (getD x 3 0) e p → Answers f x s a a₂ u₂ p
+        by : (p : Halt) → Halts f q₂ a₂ r₂ u₂ v i j (getD x 3 0) e p → Answers f x s a a₂ u₂ p
         by p g =
             let zero : p .last .full ≡ 0 = sym (ap (λ m. m .full) (g .stands .is)) ∙ z in
             record {
               answer = es ∙ told-is p g zero;
-              records = rw (eq-eqb (p .last .full) 0 zero) (g .stands .held .records .is ∙ ap (λ i. area recordWords i (g .stands .content .records)) same-records ∙ ap (λ m. area recordWords (length a) (m .records)) (g .stands .is));
+              records = rw (eq-eqb (p .last .full) 0 zero) (g .stands .held .records .is ∙ ap (λ k. area recordWords k (g .stands .content .records)) same-records ∙ ap (λ m. area recordWords (length a) (m .records)) (g .stands .is));
               reasons = subst (λ m. Holds f (m .reasons) (length (m .reasons)) u₂) (g .stands .is) (texts-are (g .stands .held .reasons));
             }
 
     pub refused : (q₃ r₃ a₃ : List ℕ) (s : Simulation) → q₃ ≡ replicate (length q₂) 0 → r₃ ≡ replicate (length r₂) 0 → a₃ ≡ replicate (length a₂) 0 → (e .state .full ≡ 0 → ⊥) → s ≡ refusalS (e .state .full) → Simulates f x l n c so-far s q q₃ a a₃ r r₃ u u₂
     refused q₃ r₃ a₃ s cq cr ca z es = record {
-      queue = cq ∙ ap (λ i. replicate i 0) (w .queue ∙ zeros q q₁ eq);
-      runs = cr ∙ ap (λ i. replicate i 0) (w .runs ∙ zeros r r₁ er);
+      queue = cq ∙ ap (λ k. replicate k 0) (w .queue ∙ zeros q q₁ eq);
+      runs = cr ∙ ap (λ k. replicate k 0) (w .runs ∙ zeros r r₁ er);
       does = λ t h. by (whollyM f x l n (beginning c (length q / 5) (length a / 13) (length r / 28) t)) (halted t h);
     }
       where
-        by : (p : Halt) → Halts f q₂ a₂ r₂ u₂ (getD x 3 0) e p → Answers f x s a a₃ u₂ p
+        by : (p : Halt) → Halts f q₂ a₂ r₂ u₂ v i j (getD x 3 0) e p → Answers f x s a a₃ u₂ p
         by p g =
             let full : e .state .full ≡ p .last .full = ap (λ m. m .full) (g .stands .is) in
             record {
               answer = es ∙ ap refusalS full ∙ no-is (getD x 3 0) p (λ k. z (full ∙ k));
-              records = rw (ne-eqb (p .last .full) 0 (λ k. z (full ∙ k))) (ca ∙ ap (λ i. replicate i 0) same-records ∙ sym (areas.area-none recordWords (length a)));
+              records = rw (ne-eqb (p .last .full) 0 (λ k. z (full ∙ k))) (ca ∙ ap (λ k. replicate k 0) same-records ∙ sym (areas.area-none recordWords (length a)));
               reasons = subst (λ m. Holds f (m .reasons) (length (m .reasons)) u₂) (g .stands .is) (texts-are (g .stands .held .reasons));
             }

@@ -12,7 +12,7 @@ use Rattle.records.specs.Records.{recordWords}
 use Rattle.reasons.specs.Lists.{Holds}
 use Rattle.engine_state.specs.declared.Cells.{Cells}
 use Rattle.engine_state.specs.declared.State.{State}
-use Rattle.engine_state.specs.Machine.{Machine, Content, machine}
+use Rattle.engine_state.specs.Machine.{Machine, Content, entire, machine}
 use Rattle.engine_state.specs.Steps.{Held}
 use Rattle.engine_loop.specs.Loop.{Halt, Halts, begunM, loopM, closedM}
 use Rattle.engine_loop.specs.declared.Ended.{Ended}
@@ -22,16 +22,16 @@ use Rattle.engine_run.specs.declared.Simulation.{Simulation}
 unfoldable pub whollyM : (f x events : List ℕ) → (count : ℕ) → Machine → Halt
 whollyM f x l n m = closedM x (loopM f x (getD x 3 0) (begunM x l n m))
 
-pub record Wholly (f x l : List ℕ) (n : ℕ) (st : State) (e : Ended) (q q' a a' r r' u u' : List ℕ) : Type 0 where
+pub record Wholly (f x l : List ℕ) (n : ℕ) (st : State) (e : Ended) (q q' a a' r r' u u' v v' i i' c c' : List ℕ) : Type 0 where
   pub queue : length q' ≡ length q
   pub records : length a' ≡ length a
   pub runs : length r' ≡ length r
   pub reasons : length u' ≡ length u
-  pub does : (k : Content) → Held f q a r u st k → Halts f q' a' r' u' (getD x 3 0) e (whollyM f x l n (machine st k))
+  pub does : (k : Content) → Held f q a r u (entire st v i c) k → Halts f q' a' r' u' v' i' c' (getD x 3 0) e (whollyM f x l n (machine (entire st v i c) k))
 
 -- the state at the start, and what the areas hold then
-abbrev pub start-of : (first : ℕ) → Cells → (reasons : ℕ) → State
-start-of i c n = record { now = 0; items = 0; first = i; records = 0; active = 0; reasons = n; made = 0; full = 0; sequences = replicate 32 0; cells = c }
+abbrev pub start-of : (first reasons : ℕ) → State
+start-of i n = record { now = 0; items = 0; first = i; records = 0; active = 0; reasons = n; made = 0; full = 0 }
 
 -- areas with room for so many items, records and runs, and reasons so far
 abbrev pub nothing-yet : (items records runs : ℕ) → List Text → Content
@@ -45,8 +45,8 @@ beginning c i j k l = record { now = 0; full = 0; made = 0; sequences = replicat
 unfoldable pub refusalS : ℕ → Simulation
 refusalS n = record { refused = n; steps = 0; records = 0; reasons = 0; why = 0; waiting = false; values = replicate 32 0 }
 
-unfoldable pub answerS : Ended → Simulation
-answerS e = record { refused = 0; steps = e .steps; records = e .state .records; reasons = e .state .reasons; why = e .why; waiting = not (eqb (e .state .active) 0); values = e .state .cells .values }
+unfoldable pub answerS : Ended → (values : List ℕ) → Simulation
+answerS e v = record { refused = 0; steps = e .steps; records = e .state .records; reasons = e .state .reasons; why = e .why; waiting = not (eqb (e .state .active) 0); values = v }
 
 unfoldable pub answerM : (total : ℕ) → Halt → Simulation
 answerM total p =

@@ -18,19 +18,22 @@ fn run_all(
     a: &mut [u32],
     r: &mut [u32],
     u: &mut [u32],
+    values: &mut [u32; 32],
+    versions: &mut [u32; 32],
+    sequences: &mut [u32; 32],
     st: State,
 ) -> Ended
     requires { ⌜ (count * 4 ≤ length (now events)) × Fits st (now q) (now a) (now r) (now u) ⌝ }
-    ensures { λ e. ⌜ Wholly (now (f .entry)) (now (x .entry)) (now (events .entry)) count st e (now (q .entry)) (now (q .exit)) (now (a .entry)) (now (a .exit)) (now (r .entry)) (now (r .exit)) (now (u .entry)) (now (u .exit)) ⌝ }
+    ensures { λ e. ⌜ Wholly (now (f .entry)) (now (x .entry)) (now (events .entry)) count st e (now (q .entry)) (now (q .exit)) (now (a .entry)) (now (a .exit)) (now (r .entry)) (now (r .exit)) (now (u .entry)) (now (u .exit)) (now (values .entry)) (now (values .exit)) (now (versions .entry)) (now (versions .exit)) (now (sequences .entry)) (now (sequences .exit)) ⌝ }
 {
-    let s = engine_loop::begun(x, events, count, q, a, st);
-    let d = engine_loop::run_loop(f, x, q, a, r, u, s);
+    let s = engine_loop::begun(x, events, count, q, a, versions, st);
+    let d = engine_loop::run_loop(f, x, q, a, r, u, values, versions, sequences, s);
     engine_loop::closed(x, a, d)
 }
 
 // The state at the start; the queue begins at the entry `first`.
-fn start(first: usize, cells: Cells, reasons: usize) -> State
-    ensures { λ r. ⌜ r ≡ start-of first cells reasons ⌝ }
+fn start(first: usize, reasons: usize) -> State
+    ensures { λ r. ⌜ r ≡ start-of first reasons ⌝ }
 {
     State {
         now: 0,
@@ -41,8 +44,6 @@ fn start(first: usize, cells: Cells, reasons: usize) -> State
         reasons,
         made: 0,
         full: 0,
-        sequences: [0u32; 32],
-        cells,
     }
 }
 
@@ -71,12 +72,10 @@ fn refusal(number: u32) -> Simulation
     }
 }
 
-fn answer(e: Ended) -> Simulation
-    ensures { λ r. ⌜ r ≡ answerS e ⌝ }
+fn answer(e: Ended, values: [u32; 32]) -> Simulation
+    ensures { λ r. ⌜ r ≡ answerS e values ⌝ }
 {
     let st = e.state;
-    let c = st.cells;
-    let values = c.values;
     let waiting = st.active != 0;
     Simulation {
         refused: 0,
@@ -111,8 +110,24 @@ pub fn simulated(
     areas::clear_all(r);
     // Free places before the first item and behind it.
     let middle = q.len() / 10;
-    let st = start(middle, cells, reasons);
-    let e = run_all(f, x, events, count, q, a, r, u, st);
+    let st = start(middle, reasons);
+    let mut values = cells.values;
+    let mut versions = cells.versions;
+    let mut sequences = [0u32; 32];
+    let e = run_all(
+        f,
+        x,
+        events,
+        count,
+        q,
+        a,
+        r,
+        u,
+        &mut values,
+        &mut versions,
+        &mut sequences,
+        st,
+    );
     let s = e.state;
     areas::clear_all(q);
     areas::clear_all(r);
@@ -120,5 +135,5 @@ pub fn simulated(
         areas::clear_all(a);
         return refusal(s.full);
     }
-    answer(e)
+    answer(e, values)
 }

@@ -30,9 +30,9 @@ use Rattle.reasons.proofs.Entries.{length-reasons}
 use Rattle.engine_state.specs.declared.Cells.{Cells}
 use Rattle.engine_state.specs.declared.State.{State}
 use Rattle.engine_state.specs.declared.Told.{Told}
-use Rattle.engine_state.specs.Machine.{Machine, Content, machine, more, later, put-full, put-counts, put-queue, put-records, put-runs, put-reasons, with-queue, with-records, with-reasons, with-full, with-run, with-cells, raisedC}
+use Rattle.engine_state.specs.Machine.{Machine, Content, Entire, entire, machine, more, later, put-full, put-counts, put-queue, put-records, put-runs, put-reasons, with-queue, with-records, with-reasons, with-full, with-run, with-cells}
 use Rattle.engine_state.specs.Changes.{item, entry, addM, logM, add-runM, uncertainM, set-cells}
-use Rattle.engine_state.specs.Steps.{Queued, Logged, Running, Held, Lent, kept, goes, Listing, still, told, Side, Side-told, first, last, file, first-told, last-told, Steps, Does}
+use Rattle.engine_state.specs.Steps.{Queued, Logged, Running, Held, Lent, kept, goes, Listing, still, told, Side, Side-told, first, last, file, first-told, last-told, Steps, Turns, Moves}
 
 -- ---- choices
 
@@ -52,10 +52,12 @@ pub later-no : (a b : ℕ) → 4294967295 - a < b → 4294967295 ≡ later a b
 unfolding later
 later-no a b h = rw (lt-leb b (4294967295 - a) h)
 
-pub raised-is : (c : Cells) (e n : ℕ) → n ≡ more (getD (c .versions) e 0) → record { values = c .values; versions = set (c .versions) e n } ≡ raisedC c e
-raised-is c e n h = ap (λ x. record { values = c .values; versions = set (c .versions) e x }) h
+-- what a function does, from what its state with any arrays does
+pub moves : {F : Machine → Machine} {st s : State} {Q A R : Lent} {U : Listing} {L N C : Lent} →
+    ((v n c : List ℕ) → Turns F (entire st (first L v) (first N n) (first C c)) (entire s (last L v) (last N n) (last C c)) Q A R U) → Moves F st s Q A R U L N C
+moves d = record { queue = d [] [] [] .queue; records = d [] [] [] .records; runs = d [] [] [] .runs; reasons = d [] [] [] .reasons; does = d }
 
-pub celled : (c : Cells) (st : State) → Does (set-cells c) st (with-cells c st) kept kept kept still
+pub celled : (c : Cells) (st : Entire) → Turns (set-cells c) st (with-cells c st) kept kept kept still
 celled c st = record { queue = refl; records = refl; runs = refl; reasons = refl; does = λ f q a r u k held. record { content = k; held = record { queue = held .queue; records = held .records; runs = held .runs; reasons = held .reasons }; is = refl } }
 
 -- ---- parts
@@ -94,15 +96,15 @@ module _ (s : ℕ) (w : Work) (m : Machine) where
   unfolding addM
   add-full z t = rw (eq-eqb (m .full) 0 z, t)
 
-module _ (st : State) (q : List ℕ) (s : ℕ) (w : Work) where
-  pub stuck : (st .first + st .items) * 5 ≤ length q → (st .full ≡ 0 → ⊥) → Does (addM s w) st st (goes q q) kept kept still
+module _ (st : Entire) (q : List ℕ) (s : ℕ) (w : Work) where
+  pub stuck : (st .first + st .items) * 5 ≤ length q → (st .full ≡ 0 → ⊥) → Turns (addM s w) st st (goes q q) kept kept still
   stuck h z = record { queue = (refl, h); records = refl; runs = refl; reasons = refl; does = λ f _ a r u k held. record { content = k; held = held; is = add-stuck s w (machine st k) z } }
 
   module _ (b : List ℕ) (p : Put) (ins : Inserted q (st .first) (st .items) (item s w) b p) (z : st .full ≡ 0) (same : length b ≡ length q) where
     size-is : (size : ℕ) (l : List Item) → Queued q (st .first) (st .items) size l → ltb (length l) size ≡ p .done
     size-is size l h = ap (λ n. ltb n size) (sym (h .many)) ∙ ap (λ n. ltb (st .items) n) (sym (h .room)) ∙ sym (ins .room)
 
-    pub added : p .done ≡ true → Does (addM s w) st (with-queue (p .first) (st .items + 1) st) (goes q b) kept kept still
+    pub added : p .done ≡ true → Turns (addM s w) st (with-queue (p .first) (st .items + 1) st) (goes q b) kept kept still
     added e = record {
       queue = (same, rw same (ins .within e));
       records = refl;
@@ -119,7 +121,7 @@ module _ (st : State) (q : List ℕ) (s : ℕ) (w : Work) where
         more-queued : (size : ℕ) (l : List Item) → Queued q (st .first) (st .items) size l → Queued b (p .first) (st .items + 1) size (l ++ item s w ∷ [])
         more-queued size l h = record { room = ap (λ n. n / 5) same ∙ h .room; many = ap (λ n. n + 1) (h .many) ∙ sym (length-one l (item s w)); is = ins .more e l (sym (h .many)) (h .is) ∙ ap (λ n. laid (p .first) n (l ++ item s w ∷ [])) (sym same) }
 
-    pub add-refused : (st .first + st .items) * 5 ≤ length q → p .done ≡ false → Does (addM s w) st (with-full 41 st) (goes q b) kept kept still
+    pub add-refused : (st .first + st .items) * 5 ≤ length q → p .done ≡ false → Turns (addM s w) st (with-full 41 st) (goes q b) kept kept still
     add-refused h e = record {
       queue = (same, omega (arith, h, same));
       records = refl;
@@ -151,15 +153,15 @@ module _ (t : Told) (v : Rule) (w : Where) (x : Change) (m : Machine) where
   unfolding logM
   log-full z e = rw (eq-eqb (m .full) 0 z, e)
 
-module _ (st : State) (a : List ℕ) (t : Told) (v : Rule) (w : Where) (x : Change) where
-  pub unlogged : st .records * 13 ≤ length a → (st .full ≡ 0 → ⊥) → Does (logM t v w x) st st kept (goes a a) kept still
+module _ (st : Entire) (a : List ℕ) (t : Told) (v : Rule) (w : Where) (x : Change) where
+  pub unlogged : st .records * 13 ≤ length a → (st .full ≡ 0 → ⊥) → Turns (logM t v w x) st st kept (goes a a) kept still
   unlogged h z = record { queue = refl; records = (refl, h); runs = refl; reasons = refl; does = λ f q _ r u k held. record { content = k; held = held; is = log-stuck t v w x (machine st k) z } }
 
   module _ (b : List ℕ) (p : Bool) (ins : records.Pushed a (st .records) (entry (st .now) t v w x) b p) (z : st .full ≡ 0) (same : length b ≡ length a) where
     record-room : (size : ℕ) (l : List Record) → Logged a (st .records) size l → ltb (length l) size ≡ p
     record-room size l h = ap (λ n. ltb n size) (sym (h .many)) ∙ ap (λ n. ltb (st .records) n) (sym (h .room)) ∙ sym (ins .room)
 
-    pub logged : p ≡ true → Does (logM t v w x) st (with-records (st .records + 1) st) kept (goes a b) kept still
+    pub logged : p ≡ true → Turns (logM t v w x) st (with-records (st .records + 1) st) kept (goes a b) kept still
     logged e = record {
       queue = refl;
       records = (same, room-is 13 (st .records) (length a) (length b) (omega arith) same (sym (ins .room) ∙ e));
@@ -176,7 +178,7 @@ module _ (st : State) (a : List ℕ) (t : Told) (v : Rule) (w : Where) (x : Chan
         more-logged : (size : ℕ) (l : List Record) → Logged a (st .records) size l → Logged b (st .records + 1) size (l ++ entry (st .now) t v w x ∷ [])
         more-logged size l h = record { room = ap (λ n. n / 13) same ∙ h .room; many = ap (λ n. n + 1) (h .many) ∙ sym (length-one l (entry (st .now) t v w x)); is = ins .more e l (sym (h .many)) (h .is) ∙ ap (λ n. area records.recordWords n (l ++ entry (st .now) t v w x ∷ [])) (sym same) }
 
-    pub log-refused : st .records * 13 ≤ length a → p ≡ false → Does (logM t v w x) st (with-full 42 st) kept (goes a b) kept still
+    pub log-refused : st .records * 13 ≤ length a → p ≡ false → Turns (logM t v w x) st (with-full 42 st) kept (goes a b) kept still
     log-refused h e = record {
       queue = refl;
       records = (same, omega (arith, h, same));
@@ -208,8 +210,8 @@ module _ (i : ℕ) (x : Run) (m : Machine) where
   unfolding add-runM
   run-full z e = rw (eq-eqb (m .full) 0 z, e)
 
-module _ (st : State) (r : List ℕ) (i : ℕ) (x : Run) where
-  pub unrun : st .active * 28 ≤ length r → (st .full ≡ 0 → ⊥) → Does (add-runM i x) st st kept kept (goes r r) still
+module _ (st : Entire) (r : List ℕ) (i : ℕ) (x : Run) where
+  pub unrun : st .active * 28 ≤ length r → (st .full ≡ 0 → ⊥) → Turns (add-runM i x) st st kept kept (goes r r) still
   unrun h z = record { queue = refl; records = refl; runs = (refl, h); reasons = refl; does = λ f q a _ u k held. record { content = k; held = held; is = run-stuck i x (machine st k) z } }
 
   module _ (b : List ℕ) (p : Bool) (ins : runs.Pushed r (st .active) x b p) (z : st .full ≡ 0) (same : length b ≡ length r) where
@@ -217,7 +219,7 @@ module _ (st : State) (r : List ℕ) (i : ℕ) (x : Run) where
     run-room size l h = ap (λ n. ltb n size) (sym (h .many)) ∙ ap (λ n. ltb (st .active) n) (sym (h .room)) ∙ sym (ins .room)
 
     pub run-added : (made next : ℕ) → made ≡ more (st .made) → next ≡ more (getD (st .sequences) i 0) → p ≡ true →
-        Does (add-runM i x) st (with-run (st .active + 1) made (set (st .sequences) i next) st) kept kept (goes r b) still
+        Turns (add-runM i x) st (with-run (st .active + 1) made (set (st .sequences) i next) st) kept kept (goes r b) still
     run-added made next em en e = record {
       queue = refl;
       records = refl;
@@ -237,7 +239,7 @@ module _ (st : State) (r : List ℕ) (i : ℕ) (x : Run) where
         counts-are : (k : Content) → machine (with-run (st .active + 1) made (set (st .sequences) i next) st) k ≡ put-counts (more (st .made)) (set (st .sequences) i (more (getD (st .sequences) i 0))) (machine st k)
         counts-are k = ap (λ n. put-counts n (set (st .sequences) i next) (machine st k)) em ∙ ap (λ n. put-counts (more (st .made)) (set (st .sequences) i n) (machine st k)) en
 
-    pub run-refused : st .active * 28 ≤ length r → p ≡ false → Does (add-runM i x) st (with-full 43 st) kept kept (goes r b) still
+    pub run-refused : st .active * 28 ≤ length r → p ≡ false → Turns (add-runM i x) st (with-full 43 st) kept kept (goes r b) still
     run-refused h e = record {
       queue = refl;
       records = refl;
@@ -274,7 +276,7 @@ push-length t l = by (memT t l)
 pub push-fits : (f u : List ℕ) (n : ℕ) (r : Reason) → n ≤ 299 → 1500 ≤ length u → length (pushT (render f r) (listed f n u)) * 5 ≤ length u
 push-fits f u n r h l = omega (arith, push-length (render f r) (listed f n u), listed-length f n u)
 
-module _ (f u : List ℕ) (x : Reason) (st : State) where
+module _ (f u : List ℕ) (x : Reason) (st : Entire) where
   enough-is : (m : Machine) → ltb 299 (length (m .reasons)) ≡ true → m ≡ uncertainM f x m
   unfolding uncertainM
   enough-is m e = rw e
@@ -283,10 +285,10 @@ module _ (f u : List ℕ) (x : Reason) (st : State) where
   unfolding uncertainM
   doubted-is m e = rw e
 
-  pub enough : st .reasons * 5 ≤ length u → 299 < st .reasons → Does (uncertainM f x) st st kept kept kept (told f u u)
+  pub enough : st .reasons * 5 ≤ length u → 299 < st .reasons → Turns (uncertainM f x) st st kept kept kept (told f u u)
   enough h l = record { queue = refl; records = refl; runs = refl; reasons = (refl, h); does = λ _ q a r _ k held. record { content = k; held = held; is = enough-is (machine st k) (ap (λ n. ltb 299 n) (sym (held .reasons .many)) ∙ lt-ltb 299 (st .reasons) l) } }
 
-  pub doubted : (b : List ℕ) (n : ℕ) → st .reasons ≤ 299 → 1500 ≤ length u → length b ≡ length u → Holds f (pushT (render f x) (listed f (st .reasons) u)) n b → Does (uncertainM f x) st (with-reasons n st) kept kept kept (told f u b)
+  pub doubted : (b : List ℕ) (n : ℕ) → st .reasons ≤ 299 → 1500 ≤ length u → length b ≡ length u → Holds f (pushT (render f x) (listed f (st .reasons) u)) n b → Turns (uncertainM f x) st (with-reasons n st) kept kept kept (told f u b)
   doubted b n l room same h = record {
     queue = refl;
     records = refl;
@@ -381,12 +383,12 @@ file-end one x = refl
 file-end two x = refl
 file-end both x = refl
 
-moved : {f f' q q' a a' r r' u u' : List ℕ} (st : State) (k : Content) → f ≡ f' → q ≡ q' → a ≡ a' → r ≡ r' → u ≡ u' → Held f q a r u st k → Held f' q' a' r' u' st k
+moved : {f f' q q' a a' r r' u u' : List ℕ} (st : Entire) (k : Content) → f ≡ f' → q ≡ q' → a ≡ a' → r ≡ r' → u ≡ u' → Held f q a r u st k → Held f' q' a' r' u' st k
 moved {f} {f'} {q} {q'} {a} {a'} {r} {r'} {u} {u'} st k ef eq ea er eu h =
     subst (λ x. Held f' q' a' r' x st k) eu (subst (λ x. Held f' q' a' x u st k) er (subst (λ x. Held f' q' x r u st k) ea (subst (λ x. Held f' x a r u st k) eq (subst (λ x. Held x q a r u st k) ef h))))
 
 -- a change and then G
-pub follow : {F : Content → Machine} {st mid s : State} {Q Q' Q'' A A' A'' R R' R'' : Lent} {U U' U'' : Listing} (G : Machine → Machine) →
+pub follow : {F : Content → Machine} {st mid s : Entire} {Q Q' Q'' A A' A'' R R' R'' : Lent} {U U' U'' : Listing} (G : Machine → Machine) →
     Steps F st mid Q A R U → Steps (λ k. G (machine mid k)) mid s Q' A' R' U' →
     Joined Q Q' Q'' → Joined A A' A'' → Joined R R' R'' → Joined-told U U' U'' → Steps (λ k. G (F k)) st s Q'' A'' R'' U''
 follow {F} {st} {mid} {s} {Q} {Q'} {Q''} {A} {A'} {A''} {R} {R'} {R''} {U} {U'} {U''} G d e jq ja jr ju = record {
@@ -426,7 +428,7 @@ stays-told-is n none x = refl
 stays-told-is n (same h) x = refl
 
 -- nothing changes
-pub stay : {F : Content → Machine} {st : State} {Q A R : Lent} {U : Listing} → ((k : Content) → machine st k ≡ F k) →
+pub stay : {F : Content → Machine} {st : Entire} {Q A R : Lent} {U : Listing} → ((k : Content) → machine st k ≡ F k) →
     Stays 5 (st .first + st .items) Q → Stays 13 (st .records) A → Stays 28 (st .active) R → Stays-told (st .reasons) U → Steps F st st Q A R U
 stay {F} {st} e q a r u = record {
   queue = stays-side 5 (st .first + st .items) q;
@@ -437,11 +439,11 @@ stay {F} {st} e q a r u = record {
 }
 
 -- the same change by another name
-pub renamed : {F : Content → Machine} {st s : State} {Q A R : Lent} {U : Listing} (G : Content → Machine) → Steps F st s Q A R U → ((k : Content) → F k ≡ G k) → Steps G st s Q A R U
+pub renamed : {F : Content → Machine} {st s : Entire} {Q A R : Lent} {U : Listing} (G : Content → Machine) → Steps F st s Q A R U → ((k : Content) → F k ≡ G k) → Steps G st s Q A R U
 renamed G d e = record { queue = d .queue; records = d .records; runs = d .runs; reasons = d .reasons; does = λ f q a r u k held. let x = d .does f q a r u k held in record { content = x .content; held = x .held; is = x .is ∙ e k } }
 
 -- a change that knows what the areas hold
-pub knowing : {F : Content → Machine} {st s : State} {Q A R : Lent} {U : Listing} (G : Content → Machine) → Steps F st s Q A R U →
+pub knowing : {F : Content → Machine} {st s : Entire} {Q A R : Lent} {U : Listing} (G : Content → Machine) → Steps F st s Q A R U →
     ((f q a r u : List ℕ) (k : Content) → Held (file U f) (first Q q) (first A a) (first R r) (first-told U u) st k → F k ≡ G k) → Steps G st s Q A R U
 knowing G d e = record { queue = d .queue; records = d .records; runs = d .runs; reasons = d .reasons; does = λ f q a r u k held. let x = d .does f q a r u k held in record { content = x .content; held = x .held; is = x .is ∙ e f q a r u k held } }
 
@@ -492,7 +494,7 @@ wide-file n none x = refl
 wide-file n same x = refl
 wide-file n (wide h) x = refl
 
-pub widen : {F : Content → Machine} {st s : State} {Q A R Q' A' R' : Lent} {U U' : Listing} → Steps F st s Q A R U →
+pub widen : {F : Content → Machine} {st s : Entire} {Q A R Q' A' R' : Lent} {U U' : Listing} → Steps F st s Q A R U →
     Wide 5 (st .first + st .items) Q Q' → Wide 13 (st .records) A A' → Wide 28 (st .active) R R' → Wide-told (st .reasons) U U' → Steps F st s Q' A' R' U'
 widen {F} {st} {s} {Q} {A} {R} {Q'} {A'} {R'} {U} {U'} d wq wa wr wu = record {
   queue = wide-side 5 (st .first + st .items) (s .first + s .items) wq (d .queue);

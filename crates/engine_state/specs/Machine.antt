@@ -45,8 +45,24 @@ pub record Content : Type 0 where
   pub runs : List Run
   pub reasons : List Text
 
+-- the state with what its arrays hold: `sequences` counts the runs that each automation has made
+pub record Entire : Type 0 where
+  pub now : ℕ
+  pub items : ℕ
+  pub first : ℕ
+  pub records : ℕ
+  pub active : ℕ
+  pub reasons : ℕ
+  pub made : ℕ
+  pub full : ℕ
+  pub sequences : List ℕ
+  pub cells : Cells
+
+abbrev pub entire : State → (values versions sequences : List ℕ) → Entire
+entire st v n s = record { now = st .now; items = st .items; first = st .first; records = st .records; active = st .active; reasons = st .reasons; made = st .made; full = st .full; sequences = s; cells = record { values = v; versions = n } }
+
 -- the machine of a state whose areas hold this
-abbrev pub machine : State → Content → Machine
+abbrev pub machine : Entire → Content → Machine
 machine st k = record { now = st .now; full = st .full; made = st .made; sequences = st .sequences; values = st .cells .values; versions = st .cells .versions; queueSize = k .queueSize; recordSize = k .recordSize; runSize = k .runSize; queue = k .queue; records = k .records; runs = k .runs; reasons = k .reasons }
 
 -- ---- a field changed
@@ -78,24 +94,24 @@ put-reasons l m = record { now = m .now; full = m .full; made = m .made; sequenc
 -- ---- the state's fields changed
 
 abbrev pub with-active : ℕ → State → State
-with-active n st = record { now = st .now; items = st .items; first = st .first; records = st .records; active = n; reasons = st .reasons; made = st .made; full = st .full; sequences = st .sequences; cells = st .cells }
+with-active n st = record { now = st .now; items = st .items; first = st .first; records = st .records; active = n; reasons = st .reasons; made = st .made; full = st .full }
 
-abbrev pub with-queue : (first items : ℕ) → State → State
+abbrev pub with-queue : (first items : ℕ) → Entire → Entire
 with-queue i n st = record { now = st .now; items = n; first = i; records = st .records; active = st .active; reasons = st .reasons; made = st .made; full = st .full; sequences = st .sequences; cells = st .cells }
 
-abbrev pub with-records : ℕ → State → State
+abbrev pub with-records : ℕ → Entire → Entire
 with-records n st = record { now = st .now; items = st .items; first = st .first; records = n; active = st .active; reasons = st .reasons; made = st .made; full = st .full; sequences = st .sequences; cells = st .cells }
 
-abbrev pub with-reasons : ℕ → State → State
+abbrev pub with-reasons : ℕ → Entire → Entire
 with-reasons n st = record { now = st .now; items = st .items; first = st .first; records = st .records; active = st .active; reasons = n; made = st .made; full = st .full; sequences = st .sequences; cells = st .cells }
 
-abbrev pub with-full : ℕ → State → State
+abbrev pub with-full : ℕ → Entire → Entire
 with-full n st = record { now = st .now; items = st .items; first = st .first; records = st .records; active = st .active; reasons = st .reasons; made = st .made; full = n; sequences = st .sequences; cells = st .cells }
 
-abbrev pub with-cells : Cells → State → State
+abbrev pub with-cells : Cells → Entire → Entire
 with-cells c st = record { now = st .now; items = st .items; first = st .first; records = st .records; active = st .active; reasons = st .reasons; made = st .made; full = st .full; sequences = st .sequences; cells = c }
 
-abbrev pub with-run : (active made : ℕ) (sequences : List ℕ) → State → State
+abbrev pub with-run : (active made : ℕ) (sequences : List ℕ) → Entire → Entire
 with-run n i l st = record { now = st .now; items = st .items; first = st .first; records = st .records; active = n; reasons = st .reasons; made = i; full = st .full; sequences = l; cells = st .cells }
 
 abbrev pub storedC : Cells → (e value : ℕ) → Cells

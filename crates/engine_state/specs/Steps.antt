@@ -12,7 +12,7 @@ use Rattle.runs.specs.Runs.{runWords}
 use Rattle.runs.specs.declared.Run.{Run}
 use Rattle.reasons.specs.Lists.{Holds}
 use Rattle.engine_state.specs.declared.State.{State}
-use Rattle.engine_state.specs.Machine.{Machine, Content, machine}
+use Rattle.engine_state.specs.Machine.{Machine, Content, Entire, entire, machine}
 
 -- an area that holds a list of n entries, with room for `size`; the queue's entries start at `first`
 pub record Queued (q : List ℕ) (first n size : ℕ) (l : List Item) : Type 0 where
@@ -31,14 +31,14 @@ pub record Running (r : List ℕ) (n size : ℕ) (l : List Run) : Type 0 where
   pub is : r ≡ area runWords (length r) l
 
 -- the areas of queue, records, runs and reasons hold this, over the file f
-pub record Held (f q a r u : List ℕ) (st : State) (k : Content) : Type 0 where
+pub record Held (f q a r u : List ℕ) (st : Entire) (k : Content) : Type 0 where
   pub queue : Queued q (st .first) (st .items) (k .queueSize) (k .queue)
   pub records : Logged a (st .records) (k .recordSize) (k .records)
   pub runs : Running r (st .active) (k .runSize) (k .runs)
   pub reasons : Holds f (k .reasons) (st .reasons) u
 
 -- the state and the areas stand for the machine m
-pub record Stands (f q a r u : List ℕ) (st : State) (m : Machine) : Type 0 where
+pub record Stands (f q a r u : List ℕ) (st : Entire) (m : Machine) : Type 0 where
   pub content : Content
   pub held : Held f q a r u st content
   pub is : machine st content ≡ m
@@ -84,7 +84,7 @@ last-told still x = x
 last-told (told f b c) x = c
 
 -- from the state st to s, with the areas of queue, records, runs and reasons: if the areas hold k before, they stand for F k after
-pub record Steps (F : Content → Machine) (st s : State) (Q A R : Lent) (U : Listing) : Type 0 where
+pub record Steps (F : Content → Machine) (st s : Entire) (Q A R : Lent) (U : Listing) : Type 0 where
   pub queue : Side 5 Q (st .first + st .items) (s .first + s .items)
   pub records : Side 13 A (st .records) (s .records)
   pub runs : Side 28 R (st .active) (s .active)
@@ -93,8 +93,20 @@ pub record Steps (F : Content → Machine) (st s : State) (Q A R : Lent) (U : Li
       Stands (file U f) (last Q q) (last A a) (last R r) (last-told U u) s (F k)
 
 -- each machine that stands before, stands after F
-abbrev pub Does : (Machine → Machine) → State → State → (Q A R : Lent) → Listing → Type 0
-Does F st s Q A R U = Steps (λ k. F (machine st k)) st s Q A R U
+abbrev pub Turns : (Machine → Machine) → Entire → Entire → (Q A R : Lent) → Listing → Type 0
+Turns F st s Q A R U = Steps (λ k. F (machine st k)) st s Q A R U
+
+-- what a function does that may be lent values, versions and sequences too
+pub record Moves (F : Machine → Machine) (st s : State) (Q A R : Lent) (U : Listing) (L N C : Lent) : Type 0 where
+  pub queue : Side 5 Q (st .first + st .items) (s .first + s .items)
+  pub records : Side 13 A (st .records) (s .records)
+  pub runs : Side 28 R (st .active) (s .active)
+  pub reasons : Side-told U (st .reasons) (s .reasons)
+  pub does : (v n c : List ℕ) → Turns F (entire st (first L v) (first N n) (first C c)) (entire s (last L v) (last N n) (last C c)) Q A R U
+
+-- what a function does that is lent none of the three
+abbrev pub Does : (Machine → Machine) → (st s : State) → (Q A R : Lent) → Listing → Type 0
+Does F st s Q A R U = Moves F st s Q A R U kept kept kept
 
 -- ---- room for what the areas hold
 

@@ -1,4 +1,6 @@
 // The state of a simulation, and the primitive changes of the state and of its areas.
+// Three arrays belong to the state and are lent to the functions that need them: by entity the values, as text places, and the
+// versions, which count the writes; by automation the sequences, which count the runs that it has made.
 use queue::Item;
 use queue::Work;
 use reasons::Reason;
@@ -11,11 +13,11 @@ use runs::Source;
 ghost use mathlib.Core.Path.{_≡_};
 ghost use Prim.Native.Nat.{_+_, _*_, _≤_, _<_};
 ghost use lib.ListN.{length};
-ghost use Rattle.engine_state.specs.Machine.{more, later, with-cells, with-active, storedC, raisedC};
-ghost use Rattle.engine_state.specs.Changes.{set-cells, addM, logM, add-runM, uncertainM, log-ruleM, log-actionM, log-plainM, log-writeM, next-stepM};
-ghost use Rattle.engine_state.specs.Steps.{Does, goes, kept, told, still};
+ghost use Rattle.engine_state.specs.Machine.{more, later, with-active};
+ghost use Rattle.engine_state.specs.Changes.{addM, logM, add-runM, uncertainM, log-ruleM, log-actionM, log-plainM, log-writeM, next-stepM};
+ghost use Rattle.engine_state.specs.Steps.{Moves, Does, goes, kept, told, still};
 
-// The values of the entities, as text places, and how often each was written.
+// What the entities have at the start: values and versions.
 pub struct Cells {
     pub values: [u32; 32],
     pub versions: [u32; 32],
@@ -32,8 +34,6 @@ pub struct State {
     pub reasons: usize,
     pub made: u32,
     pub full: u32,
-    pub sequences: [u32; 32],
-    pub cells: Cells,
 }
 
 // What a record says: its kind, and a number or a place.
@@ -80,41 +80,12 @@ pub fn after(a: u32, b: u32) -> u32
 
 // ---- the state
 
-pub fn with_cells(st: State, c: Cells) -> State
-    ensures { λ r. ⌜ Does (set-cells c) st r kept kept kept still ⌝ }
-{
-    let mut s = st;
-    s.cells = c;
-    s
-}
-
 pub fn with_active(st: State, n: usize) -> State
     ensures { λ r. ⌜ r ≡ with-active n st ⌝ }
 {
     let mut s = st;
     s.active = n;
     s
-}
-
-// The cells with a value more.
-pub fn stored(c: Cells, e: usize, value: u32) -> Cells
-    requires { ⌜ e < 32 ⌝ }
-    ensures { λ r. ⌜ r ≡ storedC c e value ⌝ }
-{
-    let mut r = c;
-    r.values[e] = value;
-    r
-}
-
-// The cells with an entity's next version.
-pub fn raised(c: Cells, e: usize) -> Cells
-    requires { ⌜ e < 32 ⌝ }
-    ensures { λ r. ⌜ r ≡ raisedC c e ⌝ }
-{
-    let mut r = c;
-    let v = r.versions[e];
-    r.versions[e] = more_than(v);
-    r
 }
 
 // ---- the primitive changes
@@ -167,9 +138,9 @@ pub fn log(a: &mut [u32], st: State, what: Told, rule: Rule, source: Where, chan
 }
 
 // A run more of the i-th automation, unless an area is full.
-pub fn add_run(r: &mut [u32], st: State, i: usize, run: Run) -> State
+pub fn add_run(r: &mut [u32], sequences: &mut [u32; 32], st: State, i: usize, run: Run) -> State
     requires { ⌜ (st .active * 28 ≤ length (now r)) × (i < 32) ⌝ }
-    ensures { λ s. ⌜ Does (add-runM i run) st s kept kept (goes (now (r .entry)) (now (r .exit))) still ⌝ }
+    ensures { λ s. ⌜ Moves (add-runM i run) st s kept kept (goes (now (r .entry)) (now (r .exit))) still kept kept (goes (now (sequences .entry)) (now (sequences .exit))) ⌝ }
 {
     let mut s = st;
     if s.full != 0 {
@@ -177,11 +148,11 @@ pub fn add_run(r: &mut [u32], st: State, i: usize, run: Run) -> State
     }
     let n = s.active;
     let made = more_than(s.made);
-    let sequence = more_than(s.sequences[i]);
+    let sequence = more_than(sequences[i]);
     if runs::push_run(r, n, run) {
         s.active = n + 1;
         s.made = made;
-        s.sequences[i] = sequence;
+        sequences[i] = sequence;
         return s;
     }
     s.full = 43;

@@ -17,27 +17,30 @@ use Rattle.runs.specs.declared.Wait.{Wait}
 use Rattle.runs.specs.declared.Phase.the-variants.{Going, Waiting}
 use Rattle.runs.specs.declared.Found.{Found}
 use Rattle.reasons.specs.declared.Reason.{Reason}
-use Rattle.engine_reads.specs.Reads.{two, word, entityOf, rules, atMost, aboutRule}
-use Rattle.engine_state.specs.Changes.{uncertainM}
+use Rattle.queue.specs.declared.Work.the-variants.{Stale}
+use Rattle.engine_reads.specs.Reads.{two, word, name, stale, entityOf, rules, atMost, aboutRule}
+use Rattle.engine_state.specs.Changes.{addM, uncertainM}
 use Rattle.engine_truth.specs.Truths.{matchesT, anyT, allT}
 use Rattle.engine_truth.specs.declared.Truth.{Truth}
 use Rattle.engine_truth.specs.declared.Truth.the-variants.{Yes, Unknown}
 use Rattle.engine_truth.specs.declared.Judged.{Judged}
-use Rattle.engine_state.specs.declared.Cells.{Cells}
 use Rattle.engine_state.specs.declared.State.{State}
 use Rattle.engine_state.specs.declared.Move.{Move}
 use Rattle.engine_state.specs.declared.Setting.{Setting}
-use Rattle.engine_state.specs.Machine.{Machine, machine, with-active, storedC, raisedC}
+use Rattle.engine_state.specs.Machine.{Machine, Entire, entire, machine, more, later, with-active}
 use Rattle.engine_state.specs.Steps.{Running, Lent, kept, goes, Listing, still, Steps}
 use Rattle.engine_state.proofs.Laws as states
-use Rattle.engine_steps.specs.Writes.{cells, writeM, update-atM, updateM}
-use Rattle.engine_steps.specs.Runs.{no-run, runM, put-runM, nowM, phaseR, outM, wake-phaseM, wake-runM, wake-oneM, wake-firstM, wakeM, dropM}
+use Rattle.engine_steps.specs.Writes.{expiryM, writeM, update-atM, updateM}
+use Rattle.engine_steps.specs.Runs.{no-run, runM, put-runM, nowM, phaseR, outM, wake-phaseM, wake-runM, wake-oneM, wake-firstM, wakeM, newRun, begin-runM, begin-nowM, begin-queuedM, begin-laterM, dropM}
 use Rattle.engine_steps.specs.Triggers.{decideM, decidedM, carry-withM, carry-outM, admitM, offer-asM, offerM, offer-firstM, triggerM}
 use Rattle.engine_steps.specs.declared.Decision.{Decision}
 
 -- ---- changes of the run area
 
-module _ (st : State) (r b : List ℕ) (h : st .active * 28 ≤ length r) (same : length b ≡ length r) where
+abbrev active : ℕ → Entire → Entire
+active n st = record { now = st .now; items = st .items; first = st .first; records = st .records; active = n; reasons = st .reasons; made = st .made; full = st .full; sequences = st .sequences; cells = st .cells }
+
+module _ (st : Entire) (r b : List ℕ) (h : st .active * 28 ≤ length r) (same : length b ≡ length r) where
   held-runs : (n size : ℕ) (l l' : List Run) → Running r (st .active) size l → n ≡ length l' → b ≡ area runWords (length r) l' → Running b n size l'
   held-runs n size l l' old many is = record { room = ap (λ i. i / 28) same ∙ old .room; many = many; is = is ∙ ap (λ i. area runWords i l') (sym same) }
 
@@ -58,9 +61,9 @@ module _ (st : State) (r b : List ℕ) (h : st .active * 28 ≤ length r) (same 
   out-length : (l : List Run) (k : ℕ) → k < length l → length (take k l ++ drop (k + 1) l) ≡ length l - 1
   out-length l k g = length-append (take k l) (drop (k + 1) l) ∙ omega (arith, length-take-le k l (omega arith), length-drop (k + 1) l)
 
-  pub removed : (s : State) (k : ℕ) → Removed r (st .active) k b → s ≡ with-active (st .active - 1) st → k < st .active → Steps (λ c. outM k (machine st c)) st s kept kept (goes r b) still
+  removed-from : (k : ℕ) → Removed r (st .active) k b → k < st .active → Steps (λ c. outM k (machine st c)) st (active (st .active - 1) st) kept kept (goes r b) still
   unfolding outM
-  removed s k rem e lt = subst (λ z. Steps (λ c. outM k (machine st c)) st z kept kept (goes r b) still) (sym e) (record {
+  removed-from k rem lt = record {
     queue = refl;
     records = refl;
     runs = (same, omega (arith, h, same));
@@ -73,11 +76,11 @@ module _ (st : State) (r b : List ℕ) (h : st .active * 28 ≤ length r) (same 
           held = record { queue = held .queue; records = held .records; runs = held-runs (st .active - 1) (c .runSize) (c .runs) l' old (ap (λ n. n - 1) (old .many) ∙ sym (out-length (c .runs) k (subst (λ n. k < n) (old .many) lt))) (rem .is (c .runs) (sym (old .many), old .is)); reasons = held .reasons };
           is = refl;
         };
-  })
+  }
 
-  pub dropped : (s : State) (i left : ℕ) → Dropped i r (st .active) b left → s ≡ with-active left st → Steps (λ c. dropM i (machine st c)) st s kept kept (goes r b) still
+  dropped-from : (i left : ℕ) → Dropped i r (st .active) b left → Steps (λ c. dropM i (machine st c)) st (active left st) kept kept (goes r b) still
   unfolding dropM
-  dropped s i left d e = subst (λ z. Steps (λ c. dropM i (machine st c)) st z kept kept (goes r b) still) (sym e) (record {
+  dropped-from i left d = record {
     queue = refl;
     records = refl;
     runs = (same, omega (arith, d .room, same));
@@ -89,11 +92,20 @@ module _ (st : State) (r b : List ℕ) (h : st .active * 28 ≤ length r) (same 
           held = record { queue = held .queue; records = held .records; runs = held-runs left (c .runSize) (c .runs) (keep (other i) (c .runs)) old (d .many (c .runs) (sym (old .many), old .is)) (d .is (c .runs) (sym (old .many), old .is)); reasons = held .reasons };
           is = refl;
         };
-  })
+  }
+
+module _ (st : State) (r b : List ℕ) (h : st .active * 28 ≤ length r) (same : length b ≡ length r) (s : State) where
+  pub removed : (k : ℕ) → Removed r (st .active) k b → s ≡ with-active (st .active - 1) st → k < st .active → {v n c : List ℕ} →
+      Steps (λ k'. outM k (machine (entire st v n c) k')) (entire st v n c) (entire s v n c) kept kept (goes r b) still
+  removed k rem e lt {v} {n} {c} = subst (λ z. Steps (λ k'. outM k (machine (entire st v n c) k')) (entire st v n c) (entire z v n c) kept kept (goes r b) still) (sym e) (removed-from (entire st v n c) r b h same k rem lt)
+
+  pub dropped : (i left : ℕ) → Dropped i r (st .active) b left → s ≡ with-active left st → {v n c : List ℕ} →
+      Steps (λ k. dropM i (machine (entire st v n c) k)) (entire st v n c) (entire s v n c) kept kept (goes r b) still
+  dropped i left d e {v} {n} {c} = subst (λ z. Steps (λ k. dropM i (machine (entire st v n c) k)) (entire st v n c) (entire z v n c) kept kept (goes r b) still) (sym e) (dropped-from (entire st v n c) r b h same i left d)
 
 -- ---- what is read of the run area is what the machine holds
 
-module _ {st s : State} {Q A : Lent} {r b : List ℕ} {U : Listing} where
+module _ {st s : Entire} {Q A : Lent} {r b : List ℕ} {U : Listing} where
   pub with-run : (F : Run → Machine → Machine) {k : ℕ} {x : Run} → x ≡ runAt r k → k < st .active → Steps (λ c. F x (machine st c)) st s Q A (goes r b) U → Steps (λ c. F (runM k (machine st c)) (machine st c)) st s Q A (goes r b) U
   unfolding runM
   with-run F {k} {x} e lt d = states.knowing (λ c. F (whole (getD (c .runs) k no-run)) (machine st c)) d (λ f q a _ u c held.
@@ -109,14 +121,20 @@ module _ {st s : State} {Q A : Lent} {r b : List ℕ} {U : Listing} where
 
 -- ---- writes
 
+pub expiry-goes : (x : List ℕ) (e t first second name' version : ℕ) (m : Machine) → t ≡ stale x e → (t ≡ 4294967295 → ⊥) → first ≡ later (m .now) t → second ≡ later first 1 → name' ≡ name x e → version ≡ getD (m .versions) e 0 →
+    addM second (Stale name' version) m ≡ expiryM x e m
+unfolding expiryM
+expiry-goes x e t first second name' version m et h ef es en ev = rw (← et, ne-eqb t 4294967295 h, ← ef, ← es, ← en, ← ev)
+
 module _ (x : List ℕ) (w : Setting) (e : ℕ) (m : Machine) (is : e ≡ entityOf x (w .entity)) where
   pub update-none : 31 < e → m ≡ updateM x w m
   unfolding updateM update-atM
   update-none h = rw (← is, lt-ltb 31 e h)
 
-  pub update-goes : (c d : Cells) → e ≤ 31 → c ≡ storedC (cells m) e (w .value) → d ≡ raisedC c e → writeM x w e (getD (m .values) e 0) d m ≡ updateM x w m
+  pub update-goes : (y : ℕ) → e ≤ 31 → y ≡ more (getD (m .versions) e 0) →
+      writeM x w e (getD (m .values) e 0) (record { values = set (m .values) e (w .value); versions = set (m .versions) e y }) m ≡ updateM x w m
   unfolding updateM update-atM
-  update-goes c d h ec ed = rw (← is, le-ltb 31 e h) (ap (λ z. writeM x w e (getD (m .values) e 0) z m) (ed ∙ ap (λ z. raisedC z e) ec))
+  update-goes y h ey = rw (← is, le-ltb 31 e h) (ap (λ z. writeM x w e (getD (m .values) e 0) (record { values = set (m .values) e (w .value); versions = set (m .versions) e z }) m) ey)
 
 -- ---- runs that wake
 
@@ -142,10 +160,20 @@ pub wake-more : (f : List ℕ) (v : Move) (k : ℕ) (m : Machine) → wake-oneM 
 unfolding wake-firstM
 wake-more f v k m = rw (add-one k)
 
-pub wake-all : (f : List ℕ) (v : Move) (k : ℕ) {st s : State} {q q' r r' : List ℕ} → k ≡ st .active → Steps (λ c. wake-firstM f v k (machine st c)) st s (goes q q') kept (goes r r') still →
+pub wake-all : (f : List ℕ) (v : Move) (k : ℕ) {st s : Entire} {q q' r r' : List ℕ} → k ≡ st .active → Steps (λ c. wake-firstM f v k (machine st c)) st s (goes q q') kept (goes r r') still →
     Steps (λ c. wakeM f v (machine st c)) st s (goes q q') kept (goes r r') still
 unfolding wakeM
 wake-all f v k {st} e d = states.knowing (λ c. wake-firstM f v (length (c .runs)) (machine st c)) d (λ _ q a _ u c held. ap (λ n. wake-firstM f v n (machine st c)) (e ∙ held .runs .many))
+
+-- ---- runs that begin
+
+pub begin-now-is : (f x : List ℕ) (i : ℕ) (r : Run) (m : Machine) → r ≡ newRun f x i false (m .made) (m .sequences) → begin-runM i r m ≡ begin-nowM f x i m
+unfolding begin-nowM
+begin-now-is f x i r m e = ap (λ z. begin-runM i z m) e
+
+pub begin-later-is : (f x : List ℕ) (i : ℕ) (r : Run) (m : Machine) → r ≡ newRun f x i true (m .made) (m .sequences) → begin-queuedM i r m ≡ begin-laterM f x i m
+unfolding begin-laterM
+begin-later-is f x i r m e = ap (λ z. begin-queuedM i z m) e
 
 -- ---- triggers
 

@@ -1,7 +1,6 @@
 // Steps of a simulation: writes, runs that end and wake, runs that begin, and what a change sets off.
 use engine_reads::name_of;
 use engine_reads::rule_word;
-use engine_state::Cells;
 use engine_state::Move;
 use engine_state::Setting;
 use engine_state::State;
@@ -22,7 +21,7 @@ use runs::Run;
 ghost use mathlib.Core.Path.{_≡_};
 ghost use Prim.Native.Nat.{_+_, _*_, _≤_, _<_};
 ghost use lib.ListN.{length};
-ghost use Rattle.engine_state.specs.Steps.{Does, goes, kept, told, still, Fits-q, Fits-qa, Fits-qr, Fits-ar, Fits-qar, Fits};
+ghost use Rattle.engine_state.specs.Steps.{Moves, Does, goes, kept, told, still, Fits-q, Fits-qa, Fits-qr, Fits-ar, Fits-qar, Fits};
 ghost use Rattle.engine_steps.specs.Writes.{expiryM, changedM, updateM};
 ghost use Rattle.engine_steps.specs.Runs.{releasedR, phaseR, releaseM, finishM, wake-oneM, wakeM, newRun, begin-nowM, begin-laterM, stop-startM};
 ghost use Rattle.engine_steps.specs.Triggers.{decideM, carry-outM, admitM, log-triggerM, offerM, triggerM};
@@ -30,16 +29,15 @@ ghost use Rattle.engine_steps.specs.Triggers.{decideM, carry-outM, admit
 // ---- writes
 
 // The entity's value will be stale.
-pub fn expiry(x: &[u32; 436], q: &mut [u32], st: State, e: usize) -> State
+pub fn expiry(x: &[u32; 436], q: &mut [u32], versions: &[u32; 32], st: State, e: usize) -> State
     requires { ⌜ (e < 32) × Fits-q st (now q) ⌝ }
-    ensures { λ r. ⌜ Does (expiryM (now (x .entry)) e) st r (goes (now (q .entry)) (now (q .exit))) kept kept still ⌝ }
+    ensures { λ r. ⌜ Moves (expiryM (now (x .entry)) e) st r (goes (now (q .entry)) (now (q .exit))) kept kept still kept (goes (now (versions .entry)) (now (versions .entry))) kept ⌝ }
 {
     let ttl = engine_reads::stale_of(x, e);
     if ttl == 4294967295 {
         return st;
     }
-    let c = st.cells;
-    let version = c.versions[e];
+    let version = versions[e];
     let entity = name_of(x, e);
     let second = after(after(st.now, ttl), 1);
     add(q, st, second, Work::Stale { entity, version })
@@ -66,24 +64,31 @@ pub fn changed(q: &mut [u32], st: State, m: Move) -> State
 }
 
 // A write, and what follows from it.
-pub fn update(x: &[u32; 436], q: &mut [u32], a: &mut [u32], st: State, w: Setting) -> State
+pub fn update(
+    x: &[u32; 436],
+    q: &mut [u32],
+    a: &mut [u32],
+    values: &mut [u32; 32],
+    versions: &mut [u32; 32],
+    st: State,
+    w: Setting,
+) -> State
     requires { ⌜ Fits-qa st (now q) (now a) ⌝ }
-    ensures { λ r. ⌜ Does (updateM (now (x .entry)) w) st r (goes (now (q .entry)) (now (q .exit))) (goes (now (a .entry)) (now (a .exit))) kept still ⌝ }
+    ensures { λ r. ⌜ Moves (updateM (now (x .entry)) w) st r (goes (now (q .entry)) (now (q .exit))) (goes (now (a .entry)) (now (a .exit))) kept still (goes (now (values .entry)) (now (values .exit))) (goes (now (versions .entry)) (now (versions .exit))) kept ⌝ }
 {
     let e = engine_reads::entity_of(x, w.entity);
     if 31 < e {
         return st;
     }
-    let c = st.cells;
-    let from = c.values[e];
+    let from = values[e];
     let m = Move {
         entity: w.entity,
         from,
         to: w.value,
     };
-    let d = engine_state::raised(engine_state::stored(c, e, w.value), e);
-    let s0 = engine_state::with_cells(st, d);
-    let s1 = expiry(x, q, s0, e);
+    values[e] = w.value;
+    versions[e] = engine_state::more_than(versions[e]);
+    let s1 = expiry(x, q, versions, st, e);
     let s2 = engine_state::log_write(a, s1, w, m);
     changed(q, s2, m)
 }
@@ -147,12 +152,12 @@ fn wake_one(f: &[u8], q: &mut [u32], r: &mut [u32], st: State, k: usize, m: Move
     requires { ⌜ (k < st .active) × Fits-qr st (now q) (now r) ⌝ }
     ensures { λ s. ⌜ Does (wake-oneM (now (f .entry)) m k) st s (goes (now (q .entry)) (now (q .exit))) kept (goes (now (r .entry)) (now (r .exit))) still × (s .active ≡ st .active) ⌝ }
 {
-    let run = runs::run_at(r, k);
-    let phase = run.phase;
+    let phase = runs::phase_at(r, k);
     let Phase::Waiting(w) = phase else {
         return st;
     };
     if engine_truth::matches(f, w.trigger, m) {
+        let run = runs::run_at(r, k);
         let going = with_phase(run, Phase::Going);
         runs::put_run(r, k, going);
         return next_step(q, st, run, st.now);
@@ -176,12 +181,13 @@ fn wake(f: &[u8], q: &mut [u32], r: &mut [u32], st: State, m: Move) -> State
 
 // ---- runs that begin
 
-fn new_run(f: &[u8], x: &[u32; 436], st: State, i: usize, later: bool) -> Run
+// A run of the i-th automation, where so many runs were made.
+fn new_run(f: &[u8], x: &[u32; 436], sequences: &[u32; 32], made: u32, i: usize, later: bool) -> Run
     requires { ⌜ i < 32 ⌝ }
-    ensures { λ r. ⌜ r ≡ newRun (now (f .entry)) (now (x .entry)) i later (st .made) (st .sequences) ⌝ }
+    ensures { λ r. ⌜ r ≡ newRun (now (f .entry)) (now (x .entry)) i later made (now (sequences .entry)) ⌝ }
 {
-    let sequence = st.sequences[i];
-    let number = engine_state::more_than(st.made);
+    let sequence = sequences[i];
+    let number = engine_state::more_than(made);
     let run = Run {
         automation: i as u32,
         sequence,
@@ -200,24 +206,33 @@ fn begin_now(
     q: &mut [u32],
     a: &mut [u32],
     r: &mut [u32],
+    sequences: &mut [u32; 32],
     st: State,
     i: usize,
 ) -> State
     requires { ⌜ (i < 32) × Fits-qar st (now q) (now a) (now r) ⌝ }
-    ensures { λ s. ⌜ Does (begin-nowM (now (f .entry)) (now (x .entry)) i) st s (goes (now (q .entry)) (now (q .exit))) (goes (now (a .entry)) (now (a .exit))) (goes (now (r .entry)) (now (r .exit))) still ⌝ }
+    ensures { λ s. ⌜ Moves (begin-nowM (now (f .entry)) (now (x .entry)) i) st s (goes (now (q .entry)) (now (q .exit))) (goes (now (a .entry)) (now (a .exit))) (goes (now (r .entry)) (now (r .exit))) still kept kept (goes (now (sequences .entry)) (now (sequences .exit))) ⌝ }
 {
-    let run = new_run(f, x, st, i, false);
-    let s1 = engine_state::add_run(r, st, i, run);
+    let run = new_run(f, x, sequences, st.made, i, false);
+    let s1 = engine_state::add_run(r, sequences, st, i, run);
     let s2 = log_rule(a, s1, 12, run.number, run.automation);
     next_step(q, s2, run, s2.now)
 }
 
-fn begin_later(f: &[u8], x: &[u32; 436], a: &mut [u32], r: &mut [u32], st: State, i: usize) -> State
+fn begin_later(
+    f: &[u8],
+    x: &[u32; 436],
+    a: &mut [u32],
+    r: &mut [u32],
+    sequences: &mut [u32; 32],
+    st: State,
+    i: usize,
+) -> State
     requires { ⌜ (i < 32) × Fits-ar st (now a) (now r) ⌝ }
-    ensures { λ s. ⌜ Does (begin-laterM (now (f .entry)) (now (x .entry)) i) st s kept (goes (now (a .entry)) (now (a .exit))) (goes (now (r .entry)) (now (r .exit))) still ⌝ }
+    ensures { λ s. ⌜ Moves (begin-laterM (now (f .entry)) (now (x .entry)) i) st s kept (goes (now (a .entry)) (now (a .exit))) (goes (now (r .entry)) (now (r .exit))) still kept kept (goes (now (sequences .entry)) (now (sequences .exit))) ⌝ }
 {
-    let run = new_run(f, x, st, i, true);
-    let s1 = engine_state::add_run(r, st, i, run);
+    let run = new_run(f, x, sequences, st.made, i, true);
+    let s1 = engine_state::add_run(r, sequences, st, i, run);
     log_rule(a, s1, 13, run.number, run.automation)
 }
 
@@ -261,16 +276,17 @@ fn stop_and_start(
     q: &mut [u32],
     a: &mut [u32],
     r: &mut [u32],
+    sequences: &mut [u32; 32],
     st: State,
     i: usize,
 ) -> State
     requires { ⌜ (i < 32) × Fits-qar st (now q) (now a) (now r) ⌝ }
-    ensures { λ s. ⌜ Does (stop-startM (now (f .entry)) (now (x .entry)) i) st s (goes (now (q .entry)) (now (q .exit))) (goes (now (a .entry)) (now (a .exit))) (goes (now (r .entry)) (now (r .exit))) still ⌝ }
+    ensures { λ s. ⌜ Moves (stop-startM (now (f .entry)) (now (x .entry)) i) st s (goes (now (q .entry)) (now (q .exit))) (goes (now (a .entry)) (now (a .exit))) (goes (now (r .entry)) (now (r .exit))) still kept kept (goes (now (sequences .entry)) (now (sequences .exit))) ⌝ }
 {
     let left = runs::drop_runs(r, st.active, i as u32);
     let s1 = engine_state::with_active(st, left);
     let s2 = log_rule(a, s1, 5, 0, i as u32);
-    begin_now(f, x, q, a, r, s2, i)
+    begin_now(f, x, q, a, r, sequences, s2, i)
 }
 
 // The automation is to run.
@@ -280,20 +296,21 @@ fn carry_out(
     q: &mut [u32],
     a: &mut [u32],
     r: &mut [u32],
+    sequences: &mut [u32; 32],
     st: State,
     i: usize,
 ) -> State
     requires { ⌜ (i < 32) × Fits-qar st (now q) (now a) (now r) ⌝ }
-    ensures { λ s. ⌜ Does (carry-outM (now (f .entry)) (now (x .entry)) i) st s (goes (now (q .entry)) (now (q .exit))) (goes (now (a .entry)) (now (a .exit))) (goes (now (r .entry)) (now (r .exit))) still ⌝ }
+    ensures { λ s. ⌜ Moves (carry-outM (now (f .entry)) (now (x .entry)) i) st s (goes (now (q .entry)) (now (q .exit))) (goes (now (a .entry)) (now (a .exit))) (goes (now (r .entry)) (now (r .exit))) still kept kept (goes (now (sequences .entry)) (now (sequences .exit))) ⌝ }
 {
     let running = runs::count_runs(r, st.active, i as u32);
     let d = decide(rule_word(x, i, 1), rule_word(x, i, 2), running);
     match d {
         Decision::AlreadyRunning => log_rule(a, st, 6, 0, i as u32),
         Decision::MaxReached => log_rule(a, st, 7, 0, i as u32),
-        Decision::Start => begin_now(f, x, q, a, r, st, i),
-        Decision::StopAndStart => stop_and_start(f, x, q, a, r, st, i),
-        Decision::WaitInLine => begin_later(f, x, a, r, st, i),
+        Decision::Start => begin_now(f, x, q, a, r, sequences, st, i),
+        Decision::StopAndStart => stop_and_start(f, x, q, a, r, sequences, st, i),
+        Decision::WaitInLine => begin_later(f, x, a, r, sequences, st, i),
     }
 }
 
@@ -307,18 +324,19 @@ fn admit(
     a: &mut [u32],
     r: &mut [u32],
     u: &mut [u32],
+    sequences: &mut [u32; 32],
     st: State,
     i: usize,
     t: Truth,
 ) -> State
     requires { ⌜ (i < 32) × Fits st (now q) (now a) (now r) (now u) ⌝ }
-    ensures { λ s. ⌜ Does (admitM (now (f .entry)) (now (x .entry)) i t) st s (goes (now (q .entry)) (now (q .exit))) (goes (now (a .entry)) (now (a .exit))) (goes (now (r .entry)) (now (r .exit))) (told (now (f .entry)) (now (u .entry)) (now (u .exit))) ⌝ }
+    ensures { λ s. ⌜ Moves (admitM (now (f .entry)) (now (x .entry)) i t) st s (goes (now (q .entry)) (now (q .exit))) (goes (now (a .entry)) (now (a .exit))) (goes (now (r .entry)) (now (r .exit))) (told (now (f .entry)) (now (u .entry)) (now (u .exit))) kept kept (goes (now (sequences .entry)) (now (sequences .exit))) ⌝ }
 {
     match t {
         Truth::Yes => {
             let notes = rule_word(x, i, 7);
             if engine_reads::two_at(f, notes as usize) == 0 {
-                return carry_out(f, x, q, a, r, st, i);
+                return carry_out(f, x, q, a, r, sequences, st, i);
             }
             st
         }
@@ -356,20 +374,20 @@ fn offer(
     a: &mut [u32],
     r: &mut [u32],
     u: &mut [u32],
+    values: &[u32; 32],
+    sequences: &mut [u32; 32],
     st: State,
     i: usize,
     m: Move,
 ) -> State
     requires { ⌜ (i < 32) × Fits st (now q) (now a) (now r) (now u) ⌝ }
-    ensures { λ s. ⌜ Does (offerM (now (f .entry)) (now (x .entry)) m i) st s (goes (now (q .entry)) (now (q .exit))) (goes (now (a .entry)) (now (a .exit))) (goes (now (r .entry)) (now (r .exit))) (told (now (f .entry)) (now (u .entry)) (now (u .exit))) ⌝ }
+    ensures { λ s. ⌜ Moves (offerM (now (f .entry)) (now (x .entry)) m i) st s (goes (now (q .entry)) (now (q .exit))) (goes (now (a .entry)) (now (a .exit))) (goes (now (r .entry)) (now (r .exit))) (told (now (f .entry)) (now (u .entry)) (now (u .exit))) (goes (now (values .entry)) (now (values .entry))) kept (goes (now (sequences .entry)) (now (sequences .exit))) ⌝ }
 {
     if engine_truth::any_matches(f, rule_word(x, i, 3), m) {
-        let c = st.cells;
-        let values = c.values;
-        let judged = engine_truth::evaluate_all(f, x, &values, rule_word(x, i, 4));
+        let judged = engine_truth::evaluate_all(f, x, values, rule_word(x, i, 4));
         let t = judged.truth;
         let s1 = log_trigger(f, x, a, st, i, t);
-        return admit(f, x, q, a, r, u, s1, i, t);
+        return admit(f, x, q, a, r, u, sequences, s1, i, t);
     }
     st
 }
@@ -382,17 +400,19 @@ pub fn trigger(
     a: &mut [u32],
     r: &mut [u32],
     u: &mut [u32],
+    values: &[u32; 32],
+    sequences: &mut [u32; 32],
     st: State,
     m: Move,
 ) -> State
     requires { ⌜ Fits st (now q) (now a) (now r) (now u) ⌝ }
-    ensures { λ s. ⌜ Does (triggerM (now (f .entry)) (now (x .entry)) m) st s (goes (now (q .entry)) (now (q .exit))) (goes (now (a .entry)) (now (a .exit))) (goes (now (r .entry)) (now (r .exit))) (told (now (f .entry)) (now (u .entry)) (now (u .exit))) ⌝ }
+    ensures { λ s. ⌜ Moves (triggerM (now (f .entry)) (now (x .entry)) m) st s (goes (now (q .entry)) (now (q .exit))) (goes (now (a .entry)) (now (a .exit))) (goes (now (r .entry)) (now (r .exit))) (told (now (f .entry)) (now (u .entry)) (now (u .exit))) (goes (now (values .entry)) (now (values .entry))) kept (goes (now (sequences .entry)) (now (sequences .exit))) ⌝ }
 {
     let n = engine_reads::at_most(x[1], 32);
     let mut s = wake(f, q, r, st, m);
     let mut i: usize = 0;
     while i < n {
-        s = offer(f, x, q, a, r, u, s, i, m);
+        s = offer(f, x, q, a, r, u, values, sequences, s, i, m);
         i += 1;
     }
     s

@@ -25,7 +25,7 @@ use Rattle.runs.proofs.put_run.Reads as put-run-reads
 
 returns-2 : tie.Need-returns-2
 unfolding waitingM
-returns-2 c = states.renamed _ (states.widen (states.follow (log-actionM 16 _ _ _) (states.follow (addM _ _) (steps.replaced _ _ _ (omega (arith, c .before .before .before .before .before .before .before .before .before .before .before .before .before .before .before .before .before .before .before .before .before .before .before .pre)) (search needs) _ _ _ (c .before .before .before .before .before .before .before .before .before .before .put-run .ensures) (c .before .before .before .before .before .before .before .before .before .before .before .before .with-phase .ensures) (omega (arith, c .before .before .before .before .before .before .before .before .before .before .before .before .before .before .before .before .before .before .before .before .before .before .before .pre))) (c .before .before .before .before .before .before .add .ensures) two none one none) (c .before .before .log-action .ensures) one two one none) same same same (wide (omega (arith, c .before .before .before .before .before .before .before .before .before .before .before .before .before .before .before .before .before .before .before .before .before .before .before .pre)))) (λ k. laws.wait-goes _ _ _ _ _ _ _ (c .before .before .before .before .before .before .before .before .before .before .before .before .before .before .before .before .before .two-at .ensures .0) _ _ _ (c .before .before .before .before .before .before .before .before .before .before .before .before .before .before .before .before .if1 .left) (c .before .before .before .before .before .before .before .before .before .before .before .before .before .before .before .four-at .ensures) (c .before .before .before .before .before .before .before .before .before .before .before .before .before .before .after .ensures) (c .before .before .before .before .before .before .before .before .before .before .before .before .before .byte-at .ensures .0))
+returns-2 c = states.moves (λ v n s. states.renamed _ (states.widen (states.follow (log-actionM 16 _ _ _) (states.follow (addM _ _) (steps.replaced _ _ _ (omega (arith, c .before .before .before .before .before .before .before .before .before .before .before .before .before .before .before .before .before .before .before .before .before .before .before .pre)) (search needs) _ _ _ (c .before .before .before .before .before .before .before .before .before .before .put-run .ensures) (c .before .before .before .before .before .before .before .before .before .before .before .before .with-phase .ensures) (omega (arith, c .before .before .before .before .before .before .before .before .before .before .before .before .before .before .before .before .before .before .before .before .before .before .before .pre))) (c .before .before .before .before .before .before .add .ensures .does _ _ _) two none one none) (c .before .before .log-action .ensures .does _ _ _) one two one none) same same same (wide (omega (arith, c .before .before .before .before .before .before .before .before .before .before .before .before .before .before .before .before .before .before .before .before .before .before .before .pre)))) (λ k. laws.wait-goes _ _ _ _ _ _ _ (c .before .before .before .before .before .before .before .before .before .before .before .before .before .before .before .before .before .two-at .ensures .0) _ _ _ (c .before .before .before .before .before .before .before .before .before .before .before .before .before .before .before .before .if1 .left) (c .before .before .before .before .before .before .before .before .before .before .before .before .before .before .before .four-at .ensures) (c .before .before .before .before .before .before .before .before .before .before .before .before .before .before .after .ensures) (c .before .before .before .before .before .before .before .before .before .before .before .before .before .byte-at .ensures .0)))
 
 pub begin-wait-spec : {M : Type 1} → statement M
 begin-wait-spec =
@@ -40,7 +40,7 @@ begin-wait-spec =
     (λ c. search needs)
     (λ c. search needs)
     (λ c. search needs)
-    (λ c. states.renamed _ (states.follow (finishM _) (c .before .before .before .before .before .before .before .before .before .before .before .before .uncertain .ensures) (c .before .before .before .before .before .before .finish .ensures) two two two one) (λ k. laws.wait-note _ _ _ _ _ _ _ (c .before .before .before .before .before .before .before .before .before .before .before .before .before .before .before .before .two-at .ensures .0) _ (c .before .before .before .before .before .before .before .before .before .before .before .before .before .before .before .if1 .taken) (c .before .before .before .before .before .before .before .before .before .before .before .before .before .before .by-itself .ensures)))
+    (λ c. states.moves (λ v n s. states.renamed _ (states.follow (finishM _) (c .before .before .before .before .before .before .before .before .before .before .before .before .uncertain .ensures .does _ _ _) (c .before .before .before .before .before .before .finish .ensures .does _ _ _) two two two one) (λ k. laws.wait-note _ _ _ _ _ _ _ (c .before .before .before .before .before .before .before .before .before .before .before .before .before .before .before .before .two-at .ensures .0) _ (c .before .before .before .before .before .before .before .before .before .before .before .before .before .before .before .if1 .taken) (c .before .before .before .before .before .before .before .before .before .before .before .before .before .before .by-itself .ensures))))
     (λ c. search needs)
     (λ c κs. search needs)
     (λ c κs. search needs)

@@ -15,15 +15,15 @@ use Rattle.engine_truth.proofs.select.Reads as select-reads
 
 returns : tie.Need-returns
 unfolding chosenM
-returns c = states.renamed _ (states.widen (c .before .before .before .before .before .before .take-list .ensures) same same same (wide (omega (arith, c .before .before .before .before .before .before .before .before .before .before .before .before .before .before .before .before .before .before .before .before .before .before .pre)))) (λ k. laws.choose-is _ _ _ _ _ _ _ _ _ (c .before .before .before .before .before .before .before .before .before .before .before .b .given .1) (c .before .before .before .before .before .before .before .before .before .before .before .before .before .select .ensures))
+returns c = states.moves (λ v n s. states.renamed _ (states.widen (c .before .before .before .before .before .before .take-list .ensures .does _ _ _) same same same (wide (omega (arith, c .before .before .before .before .before .before .before .before .before .before .before .before .before .before .before .before .before .before .before .pre)))) (λ k. laws.choose-is _ _ _ _ _ _ _ _ _ (c .before .before .before .before .before .before .before .before .before .before .before .b .given .1) (c .before .before .before .before .before .before .before .before .before .before .before .before .before .select .ensures)))
 
 returns-2 : tie.Need-returns-2
 unfolding chosenM
-returns-2 c = states.renamed _ (c .before .before .before .before .before .before .before .before .unclear .ensures) (λ k. laws.choose-is _ _ _ _ _ _ _ _ _ (c .before .before .before .before .before .before .before .before .before .before .before .before .before .enum-told .given .1) (c .before .before .before .before .before .before .before .before .before .before .before .before .before .before .before .select .ensures))
+returns-2 c = states.moves (λ v n s. states.renamed _ (c .before .before .before .before .before .before .before .before .unclear .ensures .does _ _ _) (λ k. laws.choose-is _ _ _ _ _ _ _ _ _ (c .before .before .before .before .before .before .before .before .before .before .before .before .before .enum-told .given .1) (c .before .before .before .before .before .before .before .before .before .before .before .before .before .before .before .select .ensures)))
 
 returns-3 : tie.Need-returns-3
 unfolding chosenM
-returns-3 c = states.renamed _ (c .before .before .before .before .before .before .before .before .unclear2 .ensures) (λ k. laws.choose-is _ _ _ _ _ _ _ _ _ (c .before .before .before .before .before .before .before .before .before .before .before .before .before .enum-told2 .given .1) (c .before .before .before .before .before .before .before .before .before .before .before .before .before .before .before .select .ensures))
+returns-3 c = states.moves (λ v n s. states.renamed _ (c .before .before .before .before .before .before .before .before .unclear2 .ensures .does _ _ _) (λ k. laws.choose-is _ _ _ _ _ _ _ _ _ (c .before .before .before .before .before .before .before .before .before .before .before .before .before .enum-told2 .given .1) (c .before .before .before .before .before .before .before .before .before .before .before .before .before .before .before .select .ensures)))
 
 pub choose-spec : {M : Type 1} → statement M
 choose-spec =

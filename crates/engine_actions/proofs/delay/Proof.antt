@@ -15,7 +15,7 @@ use Rattle.engine_state.proofs.next_step.Reads as next-step-reads
 
 returns : tie.Need-returns
 unfolding delayM
-returns c = states.follow (afterM _ _) (c .before .before .before .before .before .before .before .log-action .ensures) (states.renamed _ (c .before .before .next-step .ensures) (λ k. laws.after-is _ _ _ _ (c .before .before .before .before .after .ensures))) two one none none
+returns c = states.moves (λ v n s. states.follow (afterM _ _) (c .before .before .before .before .before .before .before .log-action .ensures .does _ _ _) (states.renamed _ (c .before .before .next-step .ensures .does _ _ _) (λ k. laws.after-is _ _ _ _ (c .before .before .before .before .after .ensures))) two one none none)
 
 pub delay-spec : {M : Type 1} → statement M
 delay-spec =

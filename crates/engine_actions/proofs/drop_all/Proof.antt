@@ -17,7 +17,7 @@ use Rattle.engine_state.proofs.with_active.Reads as with-active-reads
 
 returns : tie.Need-returns
 unfolding drop-allM
-returns c = states.follow (log-plainM 4) (laws.cleared _ _ _ _ (c .before .before .before .before .before .before .before .clear-all .ensures) (c .before .before .before .before .with-active .ensures) (search needs)) (c .before .before .log-plain .ensures) none two one none
+returns c = states.moves (λ v n s. states.follow (log-plainM 4) (laws.cleared _ _ _ _ (c .before .before .before .before .before .before .before .clear-all .ensures) (c .before .before .before .before .with-active .ensures) (search needs)) (c .before .before .log-plain .ensures .does _ _ _) none two one none)
 
 pub drop-all-spec : {M : Type 1} → statement M
 drop-all-spec =

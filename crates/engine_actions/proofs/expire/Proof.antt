@@ -13,13 +13,11 @@ use Rattle.engine_actions.proofs.expire.Reads as reads
 use Rattle.engine_actions.proofs.expire.Lts as lts
 use Rattle.engine_reads.proofs.name_of.Reads as name-of-reads
 use Rattle.engine_state.proofs.log_write.Reads as log-write-reads
-use Rattle.engine_state.proofs.stored.Reads as stored-reads
-use Rattle.engine_state.proofs.with_cells.Reads as with-cells-reads
 use Rattle.engine_steps.proofs.changed.Reads as changed-reads
 
 returns : tie.Need-returns
 unfolding expire-toM
-returns c = states.renamed _ (states.follow (changedM _) (states.follow (log-writeM _ _) (c .before .before .before .before .before .before .before .before .with-cells .ensures) (c .before .before .before .before .before .before .log-write .ensures) none two none none) (c .before .before .changed .ensures) two one none none) (λ k. laws.expire-is _ _ _ _ _ (c .before .before .before .before .before .before .before .before .before .before .before .name-of .ensures) (c .before .before .before .before .before .before .before .before .before .stored .ensures))
+returns c = states.moves (λ v n s. states.renamed _ (states.follow (changedM _) (states.follow (log-writeM _ _) (states.celled _ _) (c .before .before .before .before .before .before .log-write .ensures .does _ _ _) none two none none) (c .before .before .changed .ensures .does _ _ _) two one none none) (λ k. laws.expire-is _ _ _ _ (c .before .before .before .before .before .before .before .before .before .name-of .ensures)))
 
 pub expire-spec : {M : Type 1} → statement M
 expire-spec =
@@ -29,10 +27,10 @@ expire-spec =
     (λ c. search needs)
     (λ c κs. search needs)
     (λ c. search needs)
-    (λ c κs. search needs)
-    (λ c κs. search needs)
-    (λ c κs. omega (arith, c .before .before .before .before .before .before .before .before .before .pre, c .before .with-cells .ensures .records))
-    (λ c κs. omega (arith, c .before .before .before .before .before .before .before .before .before .before .before .before .before .pre, c .before .before .before .before .before .with-cells .ensures .queue, c .before .before .before .log-write .ensures .queue))
+    (λ c. search needs)
+    (λ c. search needs)
+    (λ c κs. omega (arith, c .before .before .before .before .before .before .pre))
+    (λ c κs. omega (arith, c .before .before .before .before .before .before .before .before .before .before .pre, c .before .before .before .log-write .ensures .queue))
     (λ c. search needs)
     (λ c. search needs)
     returns)

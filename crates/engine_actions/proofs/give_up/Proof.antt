@@ -27,4 +27,4 @@ give-up-spec =
     (λ c. search needs)
     (λ c. search needs)
     (λ c. search needs)
-    (λ c. states.renamed _ (states.follow (finishM _) (states.follow (log-actionM _ _ _ _) (c .before .before .before .before .before .before .before .before .before .before .before .before .before .before .before .before .uncertain .ensures) (c .before .before .before .before .before .before .before .before .before .before .before .before .log-action .ensures) none two none one) (c .before .before .before .before .before .before .finish .ensures) two both two one) (λ k. laws.give-is _ _ _ _ _ _ _ (c .before .before .before .before .before .before .before .before .before .before .before .before .before .before .before .before .before .before .note-reason .ensures))))
+    (λ c. states.moves (λ v n s. states.renamed _ (states.follow (finishM _) (states.follow (log-actionM _ _ _ _) (c .before .before .before .before .before .before .before .before .before .before .before .before .before .before .before .before .uncertain .ensures .does _ _ _) (c .before .before .before .before .before .before .before .before .before .before .before .before .log-action .ensures .does _ _ _) none two none one) (c .before .before .before .before .before .before .finish .ensures .does _ _ _) two both two one) (λ k. laws.give-is _ _ _ _ _ _ _ (c .before .before .before .before .before .before .before .before .before .before .before .before .before .before .before .before .before .before .note-reason .ensures)))))

@@ -18,31 +18,31 @@ use Rattle.engine_steps.proofs.trigger.Reads as trigger-reads
 
 returns : tie.Need-returns
 unfolding processM
-returns c = states.renamed _ (states.widen (c .before .before .before .before .external .ensures) same same (wide (omega (arith, c .before .before .before .before .before .before .before .before .before .before .before .before .before .before .before .pre))) (wide (omega (arith, c .before .before .before .before .before .before .before .before .before .before .before .before .before .before .before .pre)))) (λ k. laws.process-is _ _ _ _ _ (c .before .before .before .before .before .before .before .before .work .given .1))
+returns c = states.moves (λ v n s. states.renamed _ (states.widen (c .before .before .before .before .external .ensures .does v n _) same same (wide (omega (arith, c .before .before .before .before .before .before .before .before .before .before .before .before .before .before .before .before .before .pre))) (wide (omega (arith, c .before .before .before .before .before .before .before .before .before .before .before .before .before .before .before .before .before .pre)))) (λ k. laws.process-is _ _ _ _ _ (c .before .before .before .before .before .before .before .before .before .before .work .given .1)))
 
 returns-2 : tie.Need-returns-2
 unfolding processM
-returns-2 c = states.renamed _ (states.widen (c .before .before .before .before .drop-all .ensures) (wide (omega (arith, c .before .before .before .before .before .before .before .before .before .before .before .before .before .before .pre))) same same (wide (omega (arith, c .before .before .before .before .before .before .before .before .before .before .before .before .before .before .pre)))) (λ k. laws.process-is _ _ _ _ _ (c .before .before .before .before .before .before .before .enum-told .given .1))
+returns-2 c = states.moves (λ v n s. states.renamed _ (states.widen (c .before .before .before .before .drop-all .ensures .does _ _ _) (wide (omega (arith, c .before .before .before .before .before .before .before .before .before .before .before .before .before .before .pre))) same same (wide (omega (arith, c .before .before .before .before .before .before .before .before .before .before .before .before .before .before .pre)))) (λ k. laws.process-is _ _ _ _ _ (c .before .before .before .before .before .before .before .enum-told .given .1)))
 
 returns-3 : tie.Need-returns-3
 unfolding processM
-returns-3 c = states.renamed _ (states.widen (c .before .before .before .before .drop-all2 .ensures) (wide (omega (arith, c .before .before .before .before .before .before .before .before .before .before .before .before .before .before .pre))) same same (wide (omega (arith, c .before .before .before .before .before .before .before .before .before .before .before .before .before .before .pre)))) (λ k. laws.process-is _ _ _ _ _ (c .before .before .before .before .before .before .before .enum-told2 .given .1))
+returns-3 c = states.moves (λ v n s. states.renamed _ (states.widen (c .before .before .before .before .drop-all2 .ensures .does _ _ _) (wide (omega (arith, c .before .before .before .before .before .before .before .before .before .before .before .before .before .before .pre))) same same (wide (omega (arith, c .before .before .before .before .before .before .before .before .before .before .before .before .before .before .pre)))) (λ k. laws.process-is _ _ _ _ _ (c .before .before .before .before .before .before .before .enum-told2 .given .1)))
 
 returns-4 : tie.Need-returns-4
 unfolding processM
-returns-4 c = states.renamed _ (c .before .before .before .before .before .before .before .before .trigger .ensures) (λ k. laws.process-is _ _ _ _ _ (c .before .before .before .before .before .before .before .before .before .before .before .before .before .before .work2 .given .1))
+returns-4 c = states.moves (λ v n s. states.renamed _ (c .before .before .before .before .before .before .before .before .trigger .ensures .does v _ s) (λ k. laws.process-is _ _ _ _ _ (c .before .before .before .before .before .before .before .before .before .before .before .before .before .before .before .before .work2 .given .1)))
 
 returns-5 : tie.Need-returns-5
 unfolding processM
-returns-5 c = states.renamed _ (c .before .before .before .before .before .before .before .before .resume .ensures) (λ k. laws.process-is _ _ _ _ _ (c .before .before .before .before .before .before .before .before .before .before .before .before .before .before .work3 .given .1))
+returns-5 c = states.moves (λ v n s. states.renamed _ (c .before .before .before .before .before .before .before .before .resume .ensures .does v n _) (λ k. laws.process-is _ _ _ _ _ (c .before .before .before .before .before .before .before .before .before .before .before .before .before .before .before .before .work3 .given .1)))
 
 returns-6 : tie.Need-returns-6
 unfolding processM
-returns-6 c = states.renamed _ (states.widen (c .before .before .before .before .before .before .time-out .ensures) same same same (wide (omega (arith, c .before .before .before .before .before .before .before .before .before .before .before .before .before .before .before .before .before .before .pre)))) (λ k. laws.process-is _ _ _ _ _ (c .before .before .before .before .before .before .before .before .before .before .before .work4 .given .1))
+returns-6 c = states.moves (λ v n s. states.renamed _ (states.widen (c .before .before .before .before .before .before .time-out .ensures .does _ _ _) same same same (wide (omega (arith, c .before .before .before .before .before .before .before .before .before .before .before .before .before .before .before .before .before .before .pre)))) (λ k. laws.process-is _ _ _ _ _ (c .before .before .before .before .before .before .before .before .before .before .before .work4 .given .1)))
 
 returns-7 : tie.Need-returns-7
 unfolding processM
-returns-7 c = states.renamed _ (states.widen (c .before .before .before .before .go-stale .ensures) same same (wide (omega (arith, c .before .before .before .before .before .before .before .before .before .before .before .before .before .before .before .pre))) (wide (omega (arith, c .before .before .before .before .before .before .before .before .before .before .before .before .before .before .before .pre)))) (λ k. laws.process-is _ _ _ _ _ (c .before .before .before .before .before .before .before .before .work5 .given .1))
+returns-7 c = states.moves (λ v n s. states.renamed _ (states.widen (c .before .before .before .before .go-stale .ensures .does v n _) same same (wide (omega (arith, c .before .before .before .before .before .before .before .before .before .before .before .before .before .before .before .before .before .pre))) (wide (omega (arith, c .before .before .before .before .before .before .before .before .before .before .before .before .before .before .before .before .before .pre)))) (λ k. laws.process-is _ _ _ _ _ (c .before .before .before .before .before .before .before .before .before .before .work5 .given .1)))
 
 pub process-spec : {M : Type 1} → statement M
 process-spec =

@@ -18,7 +18,7 @@ use Rattle.runs.proofs.put_run.Reads as put-run-reads
 
 returns : tie.Need-returns
 unfolding take-listM
-returns c = states.follow (nowM _) (states.follow (log-actionM 8 _ _ _) (steps.replaced _ _ _ (omega (arith, c .before .before .before .before .before .before .before .before .before .before .before .before .before .before .before .before .before .pre)) (search needs) _ _ _ (c .before .before .before .before .before .before .before .before .before .before .put-run .ensures) (c .before .before .before .before .before .before .before .before .before .before .before .before .with-list .ensures) (omega (arith, c .before .before .before .before .before .before .before .before .before .before .before .before .before .before .before .before .before .pre))) (c .before .before .before .before .before .before .log-action .ensures) none two one none) (c .before .before .next-step .ensures) two one one none
+returns c = states.moves (λ v n s. states.follow (nowM _) (states.follow (log-actionM 8 _ _ _) (steps.replaced _ _ _ (omega (arith, c .before .before .before .before .before .before .before .before .before .before .before .before .before .before .before .before .before .pre)) (search needs) _ _ _ (c .before .before .before .before .before .before .before .before .before .before .put-run .ensures) (c .before .before .before .before .before .before .before .before .before .before .before .before .with-list .ensures) (omega (arith, c .before .before .before .before .before .before .before .before .before .before .before .before .before .before .before .before .before .pre))) (c .before .before .before .before .before .before .log-action .ensures .does _ _ _) none two one none) (c .before .before .next-step .ensures .does _ _ _) two one one none)
 
 pub take-list-spec : {M : Type 1} → statement M
 take-list-spec =

@@ -15,15 +15,15 @@ use Rattle.engine_steps.proofs.finish.Reads as finish-reads
 
 returns : tie.Need-returns
 unfolding testedM
-returns c = states.renamed _ (states.widen (c .before .before .next-step .ensures) same (wide (omega (arith, c .before .before .before .before .before .before .before .before .before .before .before .pre))) (wide (omega (arith, c .before .before .before .before .before .before .before .before .before .before .before .pre))) (wide (omega (arith, c .before .before .before .before .before .before .before .before .before .before .before .pre)))) (λ k. laws.tested-is _ _ _ _ _ _ _ (c .before .before .before .before .enum-told .given .1))
+returns c = states.moves (λ v n s. states.renamed _ (states.widen (c .before .before .next-step .ensures .does _ _ _) same (wide (omega (arith, c .before .before .before .before .before .before .before .before .before .before .before .pre))) (wide (omega (arith, c .before .before .before .before .before .before .before .before .before .before .before .pre))) (wide (omega (arith, c .before .before .before .before .before .before .before .before .before .before .before .pre)))) (λ k. laws.tested-is _ _ _ _ _ _ _ (c .before .before .before .before .enum-told .given .1)))
 
 returns-2 : tie.Need-returns-2
 unfolding testedM
-returns-2 c = states.renamed _ (states.widen (c .before .before .before .before .before .before .finish .ensures) same same same (wide (omega (arith, c .before .before .before .before .before .before .before .before .before .before .before .before .before .before .before .before .before .pre)))) (λ k. laws.tested-is _ _ _ _ _ _ _ (c .before .before .before .before .before .before .before .before .before .before .enum-told2 .given .1))
+returns-2 c = states.moves (λ v n s. states.renamed _ (states.widen (c .before .before .before .before .before .before .finish .ensures .does _ _ _) same same same (wide (omega (arith, c .before .before .before .before .before .before .before .before .before .before .before .before .before .before .before .before .before .pre)))) (λ k. laws.tested-is _ _ _ _ _ _ _ (c .before .before .before .before .before .before .before .before .before .before .enum-told2 .given .1)))
 
 returns-3 : tie.Need-returns-3
 unfolding testedM
-returns-3 c = states.renamed _ (c .before .before .before .before .before .before .before .before .unclear .ensures) (λ k. laws.tested-is _ _ _ _ _ _ _ (c .before .before .before .before .before .before .before .before .before .before .before .before .before .enum-told3 .given .1))
+returns-3 c = states.moves (λ v n s. states.renamed _ (c .before .before .before .before .before .before .before .before .unclear .ensures .does _ _ _) (λ k. laws.tested-is _ _ _ _ _ _ _ (c .before .before .before .before .before .before .before .before .before .before .before .before .before .enum-told3 .given .1)))
 
 pub tested-spec : {M : Type 1} → statement M
 tested-spec =

@@ -16,15 +16,15 @@ use Rattle.runs.proofs.run_at.Reads as run-at-reads
 
 returns : tie.Need-returns
 unfolding time-outM time-atM
-returns c = steps.with-found time-atM (c .before .before .find-run .ensures) (c .enum-told .given .1) (states.stay (λ k. refl) (same (omega (arith, c .before .before .before .before .before .before .before .pre))) (same (omega (arith, c .before .before .before .before .before .before .before .pre))) (same (omega (arith, c .before .before .before .before .before .before .before .pre))) none)
+returns c = states.moves (λ v n s. steps.with-found time-atM (c .before .before .find-run .ensures) (c .enum-told .given .1) (states.stay (λ k. refl) (same (omega (arith, c .before .before .before .before .before .before .before .pre))) (same (omega (arith, c .before .before .before .before .before .before .before .pre))) (same (omega (arith, c .before .before .before .before .before .before .before .pre))) none))
 
 returns-2 : tie.Need-returns-2
 unfolding time-outM time-atM
-returns-2 c = steps.with-found time-atM (c .before .before .before .before .before .before .before .find-run .ensures) (c .before .before .before .before .before .found .given .1) (steps.with-run (time-runM _) (c .before .before .run-at .ensures) (c .before .before .before .before .before .before .before .find-run .ensures .within _ (c .before .before .before .before .before .found .given .1)) (states.stay (λ k. laws.time-going _ _ _ (c .enum-told2 .given .1)) (same (omega (arith, c .before .before .before .before .before .before .before .before .before .before .before .before .pre))) (same (omega (arith, c .before .before .before .before .before .before .before .before .before .before .before .before .pre))) (same (omega (arith, c .before .before .before .before .before .before .before .before .before .before .before .before .pre))) none))
+returns-2 c = states.moves (λ v n s. steps.with-found time-atM (c .before .before .before .before .before .before .before .find-run .ensures) (c .before .before .before .before .before .found .given .1) (steps.with-run (time-runM _) (c .before .before .run-at .ensures) (c .before .before .before .before .before .before .before .find-run .ensures .within _ (c .before .before .before .before .before .found .given .1)) (states.stay (λ k. laws.time-going _ _ _ (c .enum-told2 .given .1)) (same (omega (arith, c .before .before .before .before .before .before .before .before .before .before .before .before .pre))) (same (omega (arith, c .before .before .before .before .before .before .before .before .before .before .before .before .pre))) (same (omega (arith, c .before .before .before .before .before .before .before .before .before .before .before .before .pre))) none)))
 
 returns-3 : tie.Need-returns-3
 unfolding time-outM time-atM
-returns-3 c = steps.with-found time-atM (c .before .before .before .before .before .before .before .before .before .before .before .before .before .before .before .before .before .before .find-run .ensures) (c .before .before .before .before .before .before .before .before .before .before .before .before .before .before .before .before .found .given .1) (steps.with-run (time-runM _) (c .before .before .before .before .before .before .before .before .before .before .before .before .before .run-at .ensures) (c .before .before .before .before .before .before .before .before .before .before .before .before .before .before .before .before .before .before .find-run .ensures .within _ (c .before .before .before .before .before .before .before .before .before .before .before .before .before .before .before .before .found .given .1)) (states.renamed _ (c .before .before .before .before .before .before .wait-over .ensures) (λ k. laws.time-wait _ _ _ _ (c .before .before .before .before .before .before .before .before .before .before .before .phase .given .1))))
+returns-3 c = states.moves (λ v n s. steps.with-found time-atM (c .before .before .before .before .before .before .before .before .before .before .before .before .before .before .before .before .before .before .find-run .ensures) (c .before .before .before .before .before .before .before .before .before .before .before .before .before .before .before .before .found .given .1) (steps.with-run (time-runM _) (c .before .before .before .before .before .before .before .before .before .before .before .before .before .run-at .ensures) (c .before .before .before .before .before .before .before .before .before .before .before .before .before .before .before .before .before .before .find-run .ensures .within _ (c .before .before .before .before .before .before .before .before .before .before .before .before .before .before .before .before .found .given .1)) (states.renamed _ (c .before .before .before .before .before .before .wait-over .ensures .does _ _ _) (λ k. laws.time-wait _ _ _ _ (c .before .before .before .before .before .before .before .before .before .before .before .phase .given .1)))))
 
 pub time-out-spec : {M : Type 1} → statement M
 time-out-spec =

@@ -17,7 +17,7 @@ use Rattle.engine_steps.proofs.finish.Reads as finish-reads
 
 returns : tie.Need-returns
 unfolding unclearM
-returns c = states.follow (finishM _) (states.renamed _ (c .before .before .before .before .before .before .before .before .before .before .before .before .uncertain .ensures) (λ k. laws.doubt-is _ _ _ _ _ _ _ (c .before .before .before .before .before .before .before .before .before .before .before .before .before .before .before .at-most .ensures .0) (c .before .before .before .before .before .before .before .before .before .before .before .before .before .before .about-rule .ensures))) (c .before .before .before .before .before .before .finish .ensures) two two two one
+returns c = states.moves (λ v n s. states.follow (finishM _) (states.renamed _ (c .before .before .before .before .before .before .before .before .before .before .before .before .uncertain .ensures .does _ _ _) (λ k. laws.doubt-is _ _ _ _ _ _ _ (c .before .before .before .before .before .before .before .before .before .before .before .before .before .before .before .at-most .ensures .0) (c .before .before .before .before .before .before .before .before .before .before .before .before .before .before .about-rule .ensures))) (c .before .before .before .before .before .before .finish .ensures .does _ _ _) two two two one)
 
 pub unclear-spec : {M : Type 1} → statement M
 unclear-spec =

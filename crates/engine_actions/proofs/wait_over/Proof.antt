@@ -18,17 +18,17 @@ use Rattle.runs.proofs.put_run.Reads as put-run-reads
 
 returns-2 : tie.Need-returns-2
 unfolding over-onM
-returns-2 c = states.renamed _ (states.follow (nowM _) (states.follow (put-runM _ _) (c .before .before .before .before .before .before .before .before .before .before .before .log-action .ensures) (steps.replaced _ _ _ (omega (arith, c .before .before .before .before .before .before .before .before .before .before .before .before .before .before .before .before .before .before .before .before .before .pre, c .before .before .before .before .before .before .before .before .before .before .before .log-action .ensures .runs)) (search needs) _ _ _ (c .before .before .before .before .before .before .put-run .ensures) (c .before .before .before .before .before .before .before .before .with-phase .ensures) (omega (arith, c .before .before .before .before .before .before .before .before .before .before .before .before .before .before .before .before .before .before .before .before .before .pre, c .before .before .before .before .before .before .before .before .before .before .before .log-action .ensures .runs))) none one two none) (c .before .before .next-step .ensures) two one one none) (λ k. laws.over-goes _ _ _ _ (c .before .before .before .before .before .before .before .before .before .before .before .before .before .before .before .if1 .left) (c .before .before .before .before .before .before .before .before .before .before .before .before .before .if2 .taken))
+returns-2 c = states.moves (λ v n s. states.renamed _ (states.follow (nowM _) (states.follow (put-runM _ _) (c .before .before .before .before .before .before .before .before .before .before .before .log-action .ensures .does _ _ _) (steps.replaced _ _ _ (omega (arith, c .before .before .before .before .before .before .before .before .before .before .before .before .before .before .before .before .before .before .before .before .before .pre, c .before .before .before .before .before .before .before .before .before .before .before .log-action .ensures .runs)) (search needs) _ _ _ (c .before .before .before .before .before .before .put-run .ensures) (c .before .before .before .before .before .before .before .before .with-phase .ensures) (omega (arith, c .before .before .before .before .before .before .before .before .before .before .before .before .before .before .before .before .before .before .before .before .before .pre, c .before .before .before .before .before .before .before .before .before .before .before .log-action .ensures .runs))) none one two none) (c .before .before .next-step .ensures .does _ _ _) two one one none) (λ k. laws.over-goes _ _ _ _ (c .before .before .before .before .before .before .before .before .before .before .before .before .before .before .before .if1 .left) (c .before .before .before .before .before .before .before .before .before .before .before .before .before .if2 .taken)))
 
 returns-3 : tie.Need-returns-3
 unfolding over-endM
-returns-3 c = states.renamed _ (states.follow (finishM _) (c .before .before .before .before .before .before .before .before .before .before .before .before .log-action2 .ensures) (c .before .before .before .before .before .before .finish .ensures) two both two none) (λ k. laws.over-ends _ _ _ _ (c .before .before .before .before .before .before .before .before .before .before .before .before .before .before .before .before .if1 .left) (c .before .before .before .before .before .before .before .before .before .before .before .before .before .before .if2 .left))
+returns-3 c = states.moves (λ v n s. states.renamed _ (states.follow (finishM _) (c .before .before .before .before .before .before .before .before .before .before .before .before .log-action2 .ensures .does _ _ _) (c .before .before .before .before .before .before .finish .ensures .does _ _ _) two both two none) (λ k. laws.over-ends _ _ _ _ (c .before .before .before .before .before .before .before .before .before .before .before .before .before .before .before .before .if1 .left) (c .before .before .before .before .before .before .before .before .before .before .before .before .before .before .if2 .left)))
 
 pub wait-over-spec : {M : Type 1} → statement M
 wait-over-spec =
     tie.close
     (tie.spec
-    (λ c. states.stay (λ k. laws.over-early _ _ _ _ (c .if1 .taken)) (same (omega (arith, c .before .before .before .before .before .before .pre))) (same (omega (arith, c .before .before .before .before .before .before .pre))) (same (omega (arith, c .before .before .before .before .before .before .pre))) none)
+    (λ c. states.moves (λ v n s. states.stay (λ k. laws.over-early _ _ _ _ (c .if1 .taken)) (same (omega (arith, c .before .before .before .before .before .before .pre))) (same (omega (arith, c .before .before .before .before .before .before .pre))) (same (omega (arith, c .before .before .before .before .before .before .pre))) none))
     (λ c κs. search needs)
     (λ c κs. search needs)
     (λ c κs. omega (arith, c .before .before .before .before .before .before .before .before .before .before .before .before .before .before .pre))

@@ -11,7 +11,7 @@ use Rattle.engine_state.proofs.add.Reads as add-reads
 
 returns : tie.Need-returns
 unfolding add-eventM
-returns c = states.renamed _ (c .before .before .add .ensures) (λ k. rw (← (c .before .before .before .before .before .event-work .ensures)))
+returns c = states.moves (λ v n s. states.renamed _ (c .before .before .add .ensures .does _ _ _) (λ k. rw (← (c .before .before .before .before .before .event-work .ensures))))
 
 pub add-event-spec : {M : Type 1} → statement M
 add-event-spec =

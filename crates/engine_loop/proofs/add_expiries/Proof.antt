@@ -6,7 +6,7 @@ use Rattle.engine_loop.proofs.Laws as laws
 use Prim.Native.Nat.{_≤_, _-_}
 use Rattle.engine_loop.specs.Loop.{expiriesM}
 use Rattle.engine_steps.specs.Writes.{expiryM}
-use Rattle.engine_state.specs.Steps.{Does, kept, goes, still}
+use Rattle.engine_state.specs.Steps.{Moves, kept, goes, still}
 use Rattle.engine_loop.proofs.add_expiries.Statement.{statement}
 use Rattle.engine_loop.proofs.add_expiries.Tie as tie
 use Rattle.engine_loop.proofs.add_expiries.Reads as reads
@@ -15,10 +15,10 @@ use Rattle.engine_reads.proofs.at_most.Reads as at-most-reads
 use Rattle.engine_steps.proofs.expiry.Reads as expiry-reads
 
 abbrev Inv-loop : tie.InvT-loop
-Inv-loop x q₀ n s₀ e₀ q s e = Does (expiriesM x e) s₀ s (goes q₀ q) kept kept still × (e ≤ n)
+Inv-loop x q₀ versions n s₀ e₀ q s e = Moves (expiriesM x e) s₀ s (goes q₀ q) kept kept still kept (goes versions versions) kept × (e ≤ n)
 
 abbrev μ-loop : tie.MeasureT-loop
-μ-loop x q₀ n s₀ e₀ q s e = n - e
+μ-loop x q₀ versions n s₀ e₀ q s e = n - e
 
 pub add-expiries-spec : {M : Type 1} → statement M
 add-expiries-spec =
@@ -28,10 +28,10 @@ add-expiries-spec =
     μ-loop
     (λ c. search needs)
     (λ c κs. search needs)
-    (λ c. (states.stay (λ k. laws.expiries-none _ _) (same (omega (arith, c .before .before .before .pre))) none none none, omega arith))
+    (λ c. (states.moves (λ v n s. states.stay (λ k. laws.expiries-none _ _) (same (omega (arith, c .before .before .before .pre))) none none none), omega arith))
     (λ c κs. (omega (arith, c .before .before .before .at-most .ensures), omega (arith, c .before .before .loop .inv .0 .queue)))
     (λ c. omega (arith, c .before .before .before .before .loop-test .taken, c .before .before .before .before .before .before .at-most .ensures))
     (λ c. search needs)
-    (λ c. (states.renamed _ (states.follow (expiryM _ _) (c .before .before .before .before .before .loop .inv .0) (c .before .before .expiry .ensures) both none none none) (λ k. laws.expiries-more _ _ _), omega arith))
+    (λ c. (states.moves (λ v n s. states.renamed _ (states.follow (expiryM _ _) (c .before .before .before .before .before .loop .inv .0 .does _ n _) (c .before .before .expiry .ensures .does _ n _) both none none none) (λ k. laws.expiries-more _ _ _)), omega arith))
     (λ c. search needs)
-    (λ c. states.renamed _ (c .before .loop .inv .0) (λ k. laws.expiries-all _ _ _ _ (omega arith) (c .before .before .at-most .ensures .0))))
+    (λ c. states.moves (λ v n s. states.renamed _ (c .before .loop .inv .0 .does _ n _) (λ k. laws.expiries-all _ _ _ _ (omega arith) (c .before .before .at-most .ensures .0)))))

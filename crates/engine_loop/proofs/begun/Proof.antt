@@ -14,7 +14,7 @@ use Rattle.engine_state.proofs.log_plain.Reads as log-plain-reads
 
 returns : tie.Need-returns
 unfolding begunM
-returns c = states.follow (add-expiriesM _) (states.follow (add-eventsM _ _) (c .before .before .before .before .before .before .before .before .before .before .log-plain .ensures) (c .before .before .before .before .before .before .add-events .ensures) two one none none) (c .before .before .add-expiries .ensures) both one none none
+returns c = states.moves (λ v n s. states.follow (add-expiriesM _) (states.follow (add-eventsM _ _) (c .before .before .before .before .before .before .before .before .before .before .log-plain .ensures .does _ _ _) (c .before .before .before .before .before .before .add-events .ensures .does _ _ _) two one none none) (c .before .before .add-expiries .ensures .does _ n _) both one none none)
 
 pub begun-spec : {M : Type 1} → statement M
 begun-spec =

@@ -14,7 +14,7 @@ use Rattle.engine_state.proofs.log_plain.Reads as log-plain-reads
 
 returns : tie.Need-returns
 unfolding horizonM
-returns c = states.follow (log-plainM 9) (c .before .before .before .before .at-now .ensures) (c .before .before .log-plain .ensures) none two none none
+returns c = states.moves (λ v n s. states.follow (log-plainM 9) (c .before .before .before .before .at-now .ensures .does _ _ _) (c .before .before .log-plain .ensures .does _ _ _) none two none none)
 
 pub horizon-reached-spec : {M : Type 1} → statement M
 horizon-reached-spec =

@@ -1,3 +1,4 @@
+use mathlib.Core.List.{[]}
 use borrow.Author.Needs.{needs}
 use mathlib.Core.Path.{refl}
 use native.Mathlib.Omega.{arith}
@@ -13,10 +14,10 @@ use Rattle.engine_loop.proofs.turn.Reads as turn-reads
 use Rattle.engine_loop.proofs.why_stop.Reads as why-stop-reads
 
 abbrev Inv-loop : tie.InvT-loop
-Inv-loop f x q₀ a₀ r₀ u₀ s₀ left₀ why₀ q a r u s left why = Looped f x s₀ s q₀ q a₀ a r₀ r u₀ u left why
+Inv-loop f x q₀ a₀ r₀ u₀ v₀ n₀ c₀ s₀ left₀ why₀ q a r u v n c s left why = Looped f x s₀ s q₀ q a₀ a r₀ r u₀ u v₀ v n₀ n c₀ c left why
 
 abbrev μ-loop : tie.MeasureT-loop
-μ-loop f x q₀ a₀ r₀ u₀ s₀ left₀ why₀ q a r u s left why = left
+μ-loop f x q₀ a₀ r₀ u₀ v₀ n₀ c₀ s₀ left₀ why₀ q a r u v n c s left why = left
 
 pub run-loop-spec : {M : Type 1} → statement M
 run-loop-spec =
@@ -27,11 +28,11 @@ run-loop-spec =
     (λ c. search needs)
     (λ c κs. omega (arith, c .before .before .before .before .before .before .before .pre))
     (λ c. laws.loop-start _ _ _ (states.stay (λ k. refl) (same (omega (arith, c .before .before .before .before .before .before .before .before .pre))) (same (omega (arith, c .before .before .before .before .before .before .before .before .pre))) (same (omega (arith, c .before .before .before .before .before .before .before .before .pre))) (same (omega (arith, c .before .before .before .before .before .before .before .before .pre)))) (c .why-stop .ensures) (omega (arith, c .before .before .before .before .before .before .before .before .pre)))
-    (λ c κs. (omega (arith, c .before .before .before .before .before .loop .inv .steps .queue), (omega (arith, c .before .before .before .before .before .loop .inv .steps .records), (omega (arith, c .before .before .before .before .before .loop .inv .steps .runs), (omega (arith, c .before .before .before .before .before .loop .inv .steps .reasons), omega (arith, c .before .before .before .before .before .loop .inv .room))))))
-    (λ c. omega (arith, c .before .before .before .before .before .before .before .before .before .before .before .before .before .before .loop .inv .why-is .more (c .before .before .before .before .before .before .before .before .before .before .before .before .before .loop-test .taken)))
+    (λ c κs. (omega (arith, c .before .before .before .before .before .before .before .before .loop .inv .steps .queue), (omega (arith, c .before .before .before .before .before .before .before .before .loop .inv .steps .records), (omega (arith, c .before .before .before .before .before .before .before .before .loop .inv .steps .runs), (omega (arith, c .before .before .before .before .before .before .before .before .loop .inv .steps .reasons), omega (arith, c .before .before .before .before .before .before .before .before .loop .inv .room))))))
+    (λ c. omega (arith, c .before .before .before .before .before .before .before .before .before .before .before .before .before .before .before .before .before .loop .inv .why-is .more (c .before .before .before .before .before .before .before .before .before .before .before .before .before .before .before .before .loop-test .taken)))
     (λ c κs. omega (arith, c .before .before .before .before .before .before .before .before .before .turn .ensures .queue))
-    (λ c. omega (arith, c .before .before .before .before .before .before .before .before .before .before .before .before .before .before .before .before .loop .inv .why-is .more (c .before .before .before .before .before .before .before .before .before .before .before .before .before .before .before .loop-test .taken)))
-    (λ c. laws.loop-step (c .before .before .before .before .before .before .before .before .before .before .before .before .before .before .before .before .loop .inv) (c .before .before .before .before .before .before .before .before .before .before .before .before .before .before .before .loop-test .taken) (c .before .before .before .before .before .before .before .before .before .before .turn .ensures) (c .why-stop2 .ensures) (omega (arith, c .before .before .before .before .before .before .before .before .before .before .before .before .before .before .before .before .loop .inv .room, c .before .before .before .before .before .before .before .before .before .before .turn .ensures .reasons)))
+    (λ c. omega (arith, c .before .before .before .before .before .before .before .before .before .before .before .before .before .before .before .before .before .before .before .loop .inv .why-is .more (c .before .before .before .before .before .before .before .before .before .before .before .before .before .before .before .before .before .before .loop-test .taken)))
+    (λ c. laws.loop-step (c .before .before .before .before .before .before .before .before .before .before .before .before .before .before .before .before .before .before .before .loop .inv) (c .before .before .before .before .before .before .before .before .before .before .before .before .before .before .before .before .before .before .loop-test .taken) (c .before .before .before .before .before .before .before .before .before .before .turn .ensures .does [] [] []) (c .why-stop2 .ensures) (omega (arith, c .before .before .before .before .before .before .before .before .before .before .before .before .before .before .before .before .before .before .before .loop .inv .room, c .before .before .before .before .before .before .before .before .before .before .turn .ensures .reasons)))
     (λ c. search needs)
     (λ c. omega (arith, c .before .before .loop .inv .least))
     (λ c. search needs)

@@ -12,7 +12,7 @@ pub add-run-spec : {M : Type 1} → statement M
 add-run-spec =
     tie.close
     (tie.spec
-    (λ c. laws.unrun _ _ _ _ (omega arith) (c .if1 .taken))
+    (λ c. laws.moves (λ v n s. laws.unrun _ _ _ _ (omega arith) (c .if1 .taken)))
     (λ c κs. search needs)
     (λ c. search needs)
     (λ c. search needs)
@@ -22,6 +22,6 @@ add-run-spec =
     (λ c. search needs)
     (λ c. search needs)
     (λ c. search needs)
-    (λ c. laws.run-added _ _ _ _ _ _ (c .before .before .before .push-run .ensures) (c .before .before .before .before .before .before .before .before .if1 .left) (search needs) _ _ (c .before .before .before .before .before .before .before .more-than .ensures) (c .before .before .before .before .before .more-than2 .ensures) (c .if2 .taken))
+    (λ c. laws.moves (λ v n s. laws.run-added _ _ _ _ _ _ (c .before .before .before .push-run .ensures) (c .before .before .before .before .before .before .before .before .if1 .left) (search needs) _ _ (c .before .before .before .before .before .before .before .more-than .ensures) (c .before .before .before .before .before .more-than2 .ensures) (c .if2 .taken)))
     (λ c. search needs)
-    (λ c. laws.run-refused _ _ _ _ _ _ (c .before .before .before .push-run .ensures) (c .before .before .before .before .before .before .before .before .if1 .left) (search needs) (omega arith) (c .if2 .left)))
+    (λ c. laws.moves (λ v n s. laws.run-refused _ _ _ _ _ _ (c .before .before .before .push-run .ensures) (c .before .before .before .before .before .before .before .before .if1 .left) (search needs) (omega arith) (c .if2 .left))))

@@ -17,7 +17,7 @@ use Rattle.engine_steps.proofs.carry_out.Reads as carry-out-reads
 
 returns-3 : tie.Need-returns-3
 unfolding admitM
-returns-3 c = states.stay (λ k. laws.admit-is _ _ _ _ _ _ (c .enum-told2 .given .1)) (same (omega (arith, c .before .before .before .before .before .before .before .pre))) (same (omega (arith, c .before .before .before .before .before .before .before .pre))) (same (omega (arith, c .before .before .before .before .before .before .before .pre))) (same (omega (arith, c .before .before .before .before .before .before .before .pre)))
+returns-3 c = states.moves (λ v n s. states.stay (λ k. laws.admit-is _ _ _ _ _ _ (c .enum-told2 .given .1)) (same (omega (arith, c .before .before .before .before .before .before .before .pre))) (same (omega (arith, c .before .before .before .before .before .before .before .pre))) (same (omega (arith, c .before .before .before .before .before .before .before .pre))) (same (omega (arith, c .before .before .before .before .before .before .before .pre))))
 
 pub admit-spec : {M : Type 1} → statement M
 admit-spec =
@@ -31,12 +31,12 @@ admit-spec =
     (λ c. search needs)
     (λ c. search needs)
     (λ c. search needs)
-    (λ c. states.renamed _ (states.widen (c .before .before .before .before .before .before .carry-out .ensures) same same same (wide (omega (arith, c .before .before .before .before .before .before .before .before .before .before .before .before .before .before .before .before .before .before .before .before .pre)))) (λ k. laws.admit-yes _ _ _ _ _ _ (c .before .before .before .before .before .before .before .before .before .before .before .before .rule-word .ensures) (c .before .before .before .before .before .before .before .before .before .before .before .two-at .ensures .0) (c .before .before .before .before .before .before .before .before .before .before .if1 .taken) ∙ laws.admit-is _ _ _ _ _ _ (c .before .before .before .before .before .before .before .before .before .before .before .before .before .enum-told .given .1)))
+    (λ c. states.moves (λ v n s. states.renamed _ (states.widen (c .before .before .before .before .before .before .carry-out .ensures .does _ _ s) same same same (wide (omega (arith, c .before .before .before .before .before .before .before .before .before .before .before .before .before .before .before .before .before .before .before .before .before .pre)))) (λ k. laws.admit-yes _ _ _ _ _ _ (c .before .before .before .before .before .before .before .before .before .before .before .before .before .rule-word .ensures) (c .before .before .before .before .before .before .before .before .before .before .before .before .two-at .ensures .0) (c .before .before .before .before .before .before .before .before .before .before .before .if1 .taken) ∙ laws.admit-is _ _ _ _ _ _ (c .before .before .before .before .before .before .before .before .before .before .before .before .before .before .enum-told .given .1))))
     (λ c. search needs)
     (λ c. search needs)
     (λ c κs. search needs)
     (λ c κs. search needs)
-    (λ c. states.stay (λ k. laws.admit-not _ _ _ _ _ _ (c .before .before .rule-word .ensures) (c .before .two-at .ensures .0) (c .if1 .left) ∙ laws.admit-is _ _ _ _ _ _ (c .before .before .before .enum-told .given .1)) (same (omega (arith, c .before .before .before .before .before .before .before .before .before .before .pre))) (same (omega (arith, c .before .before .before .before .before .before .before .before .before .before .pre))) (same (omega (arith, c .before .before .before .before .before .before .before .before .before .before .pre))) (same (omega (arith, c .before .before .before .before .before .before .before .before .before .before .pre))))
+    (λ c. states.moves (λ v n s. states.stay (λ k. laws.admit-not _ _ _ _ _ _ (c .before .before .rule-word .ensures) (c .before .two-at .ensures .0) (c .if1 .left) ∙ laws.admit-is _ _ _ _ _ _ (c .before .before .before .enum-told .given .1)) (same (omega (arith, c .before .before .before .before .before .before .before .before .before .before .pre))) (same (omega (arith, c .before .before .before .before .before .before .before .before .before .before .pre))) (same (omega (arith, c .before .before .before .before .before .before .before .before .before .before .pre))) (same (omega (arith, c .before .before .before .before .before .before .before .before .before .before .pre)))))
     returns-3
     (λ c. search needs)
-    (λ c. states.renamed _ (states.widen (c .before .before .uncertain .ensures) (wide (omega (arith, c .before .before .before .before .before .before .before .before .before .before .before .before .pre))) (wide (omega (arith, c .before .before .before .before .before .before .before .before .before .before .before .before .pre))) (wide (omega (arith, c .before .before .before .before .before .before .before .before .before .before .before .before .pre))) same) (λ k. laws.admit-unknown _ _ _ _ _ (c .before .before .before .before .about-rule .ensures) ∙ laws.admit-is _ _ _ _ _ _ (c .before .before .before .before .before .enum-told3 .given .1))))
+    (λ c. states.moves (λ v n s. states.renamed _ (states.widen (c .before .before .uncertain .ensures .does _ _ _) (wide (omega (arith, c .before .before .before .before .before .before .before .before .before .before .before .before .pre))) (wide (omega (arith, c .before .before .before .before .before .before .before .before .before .before .before .before .pre))) (wide (omega (arith, c .before .before .before .before .before .before .before .before .before .before .before .before .pre))) same) (λ k. laws.admit-unknown _ _ _ _ _ (c .before .before .before .before .about-rule .ensures) ∙ laws.admit-is _ _ _ _ _ _ (c .before .before .before .before .before .enum-told3 .given .1)))))

@@ -1,9 +1,7 @@
-use Rattle.engine_state.specs.Machine.{machine}
-use mathlib.Core.Path.{ap}
 use Rattle.engine_state.proofs.Laws.{none, one, two}
 use Rattle.engine_state.proofs.Laws as states
 use Rattle.engine_steps.proofs.Laws as laws
-use Rattle.engine_steps.specs.Runs.{begin-laterM, begin-queuedM}
+use Rattle.engine_steps.specs.Runs.{begin-queuedM}
 use Rattle.engine_state.specs.Changes.{log-ruleM}
 use borrow.Author.Needs.{needs}
 use Rattle.engine_steps.proofs.begin_later.Statement.{statement}
@@ -15,8 +13,8 @@ use Rattle.engine_state.proofs.log_rule.Reads as log-rule-reads
 use Rattle.engine_steps.proofs.new_run.Reads as new-run-reads
 
 returns : tie.Need-returns
-unfolding begin-laterM begin-queuedM
-returns c = states.renamed _ (states.follow (log-ruleM 13 _ _) (c .before .before .before .before .before .before .add-run .ensures) (c .before .before .log-rule .ensures) none two one none) (λ k. ap (λ z. begin-queuedM (c .before .before .before .before .before .before .before .before .before .before .before .before .args .i) z (machine (c .before .before .before .before .before .before .before .before .before .before .before .before .args .st) k)) (c .before .before .before .before .before .before .before .before .new-run .ensures))
+unfolding begin-queuedM
+returns c = states.moves (λ v n s. states.renamed _ (states.follow (log-ruleM 13 _ _) (c .before .before .before .before .before .before .add-run .ensures .does _ _ s) (c .before .before .log-rule .ensures .does _ _ _) none two one none) (λ k. laws.begin-later-is _ _ _ _ _ (c .before .before .before .before .before .before .before .before .before .new-run .ensures)))
 
 pub begin-later-spec : {M : Type 1} → statement M
 begin-later-spec =

@@ -1,10 +1,8 @@
-use Rattle.engine_state.specs.Machine.{machine}
-use mathlib.Core.Path.{ap}
 use native.Mathlib.Omega.{arith}
 use Rattle.engine_state.proofs.Laws.{none, one, two}
 use Rattle.engine_state.proofs.Laws as states
 use Rattle.engine_steps.proofs.Laws as laws
-use Rattle.engine_steps.specs.Runs.{begin-nowM, begin-runM, nowM}
+use Rattle.engine_steps.specs.Runs.{begin-runM, nowM}
 use Rattle.engine_state.specs.Changes.{log-ruleM}
 use borrow.Author.Needs.{needs}
 use Rattle.engine_steps.proofs.begin_now.Statement.{statement}
@@ -17,8 +15,8 @@ use Rattle.engine_state.proofs.next_step.Reads as next-step-reads
 use Rattle.engine_steps.proofs.new_run.Reads as new-run-reads
 
 returns : tie.Need-returns
-unfolding begin-nowM begin-runM
-returns c = states.renamed _ (states.follow (nowM _) (states.follow (log-ruleM 12 _ _) (c .before .before .before .before .before .before .before .before .before .before .add-run .ensures) (c .before .before .before .before .before .before .log-rule .ensures) none two one none) (c .before .before .next-step .ensures) two one one none) (λ k. ap (λ z. begin-runM (c .before .before .before .before .before .before .before .before .before .before .before .before .before .before .before .before .before .args .i) z (machine (c .before .before .before .before .before .before .before .before .before .before .before .before .before .before .before .before .before .args .st) k)) (c .before .before .before .before .before .before .before .before .before .before .before .before .new-run .ensures))
+unfolding begin-runM
+returns c = states.moves (λ v n s. states.renamed _ (states.follow (nowM _) (states.follow (log-ruleM 12 _ _) (c .before .before .before .before .before .before .before .before .before .before .add-run .ensures .does _ _ s) (c .before .before .before .before .before .before .log-rule .ensures .does _ _ _) none two one none) (c .before .before .next-step .ensures .does _ _ _) two one one none) (λ k. laws.begin-now-is _ _ _ _ _ (c .before .before .before .before .before .before .before .before .before .before .before .before .before .new-run .ensures)))
 
 pub begin-now-spec : {M : Type 1} → statement M
 begin-now-spec =
@@ -27,7 +25,7 @@ begin-now-spec =
     (λ c κs. search needs)
     (λ c κs. search needs)
     (λ c κs. search needs)
-    (λ c κs. omega (arith, c .before .before .before .before .before .before .before .before .before .before .before .before .before .before .pre, c .before .before .before .before .before .before .before .add-run .ensures .queue, c .before .before .before .log-rule .ensures .queue))
+    (λ c κs. omega (arith, c .before .before .before .before .before .before .before .before .before .before .before .before .before .before .before .before .pre, c .before .before .before .before .before .before .before .add-run .ensures .queue, c .before .before .before .log-rule .ensures .queue))
     (λ c. search needs)
     (λ c. search needs)
     (λ c. search needs)

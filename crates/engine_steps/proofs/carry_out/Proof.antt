@@ -18,23 +18,23 @@ use Rattle.runs.proofs.count_runs.Reads as count-runs-reads
 
 returns : tie.Need-returns
 unfolding carry-outM decidedM
-returns c = laws.with-count (carry-withM _ _ _) (c .before .before .before .before .before .before .before .before .before .count-runs .ensures) (states.renamed _ (states.widen (c .before .before .log-rule .ensures) (wide (omega (arith, c .before .before .before .before .before .before .before .before .before .before .before .before .before .before .before .pre))) same (wide (omega (arith, c .before .before .before .before .before .before .before .before .before .before .before .before .before .before .before .pre))) none) (λ k. laws.carry-is _ _ _ _ _ _ _ _ _ (c .before .before .before .before .enum-told .given .1) (c .before .before .before .before .before .before .decide .ensures) (c .before .before .before .before .before .before .before .before .rule-word .ensures) (c .before .before .before .before .before .before .before .rule-word2 .ensures)))
+returns c = states.moves (λ v n s. laws.with-count (carry-withM _ _ _) (c .before .before .before .before .before .before .before .before .before .count-runs .ensures) (states.renamed _ (states.widen (c .before .before .log-rule .ensures .does _ _ _) (wide (omega (arith, c .before .before .before .before .before .before .before .before .before .before .before .before .before .before .before .pre))) same (wide (omega (arith, c .before .before .before .before .before .before .before .before .before .before .before .before .before .before .before .pre))) none) (λ k. laws.carry-is _ _ _ _ _ _ _ _ _ (c .before .before .before .before .enum-told .given .1) (c .before .before .before .before .before .before .decide .ensures) (c .before .before .before .before .before .before .before .before .rule-word .ensures) (c .before .before .before .before .before .before .before .rule-word2 .ensures))))
 
 returns-2 : tie.Need-returns-2
 unfolding carry-outM decidedM
-returns-2 c = laws.with-count (carry-withM _ _ _) (c .before .before .before .before .before .before .before .before .before .count-runs .ensures) (states.renamed _ (states.widen (c .before .before .log-rule2 .ensures) (wide (omega (arith, c .before .before .before .before .before .before .before .before .before .before .before .before .before .before .before .pre))) same (wide (omega (arith, c .before .before .before .before .before .before .before .before .before .before .before .before .before .before .before .pre))) none) (λ k. laws.carry-is _ _ _ _ _ _ _ _ _ (c .before .before .before .before .enum-told2 .given .1) (c .before .before .before .before .before .before .decide .ensures) (c .before .before .before .before .before .before .before .before .rule-word .ensures) (c .before .before .before .before .before .before .before .rule-word2 .ensures)))
+returns-2 c = states.moves (λ v n s. laws.with-count (carry-withM _ _ _) (c .before .before .before .before .before .before .before .before .before .count-runs .ensures) (states.renamed _ (states.widen (c .before .before .log-rule2 .ensures .does _ _ _) (wide (omega (arith, c .before .before .before .before .before .before .before .before .before .before .before .before .before .before .before .pre))) same (wide (omega (arith, c .before .before .before .before .before .before .before .before .before .before .before .before .before .before .before .pre))) none) (λ k. laws.carry-is _ _ _ _ _ _ _ _ _ (c .before .before .before .before .enum-told2 .given .1) (c .before .before .before .before .before .before .decide .ensures) (c .before .before .before .before .before .before .before .before .rule-word .ensures) (c .before .before .before .before .before .before .before .rule-word2 .ensures))))
 
 returns-3 : tie.Need-returns-3
 unfolding carry-outM decidedM
-returns-3 c = laws.with-count (carry-withM _ _ _) (c .before .before .before .before .before .before .before .before .before .before .before .before .before .before .before .count-runs .ensures) (states.renamed _ (c .before .before .before .before .before .before .begin-now .ensures) (λ k. laws.carry-is _ _ _ _ _ _ _ _ _ (c .before .before .before .before .before .before .before .before .before .before .enum-told3 .given .1) (c .before .before .before .before .before .before .before .before .before .before .before .before .decide .ensures) (c .before .before .before .before .before .before .before .before .before .before .before .before .before .before .rule-word .ensures) (c .before .before .before .before .before .before .before .before .before .before .before .before .before .rule-word2 .ensures)))
+returns-3 c = states.moves (λ v n s. laws.with-count (carry-withM _ _ _) (c .before .before .before .before .before .before .before .before .before .before .before .before .before .before .before .before .count-runs .ensures) (states.renamed _ (c .before .before .before .before .before .before .begin-now .ensures .does _ _ s) (λ k. laws.carry-is _ _ _ _ _ _ _ _ _ (c .before .before .before .before .before .before .before .before .before .before .before .enum-told3 .given .1) (c .before .before .before .before .before .before .before .before .before .before .before .before .before .decide .ensures) (c .before .before .before .before .before .before .before .before .before .before .before .before .before .before .before .rule-word .ensures) (c .before .before .before .before .before .before .before .before .before .before .before .before .before .before .rule-word2 .ensures))))
 
 returns-4 : tie.Need-returns-4
 unfolding carry-outM decidedM
-returns-4 c = laws.with-count (carry-withM _ _ _) (c .before .before .before .before .before .before .before .before .before .before .before .before .before .before .before .count-runs .ensures) (states.renamed _ (c .before .before .before .before .before .before .stop-and-start .ensures) (λ k. laws.carry-is _ _ _ _ _ _ _ _ _ (c .before .before .before .before .before .before .before .before .before .before .enum-told4 .given .1) (c .before .before .before .before .before .before .before .before .before .before .before .before .decide .ensures) (c .before .before .before .before .before .before .before .before .before .before .before .before .before .before .rule-word .ensures) (c .before .before .before .before .before .before .before .before .before .before .before .before .before .rule-word2 .ensures)))
+returns-4 c = states.moves (λ v n s. laws.with-count (carry-withM _ _ _) (c .before .before .before .before .before .before .before .before .before .before .before .before .before .before .before .before .count-runs .ensures) (states.renamed _ (c .before .before .before .before .before .before .stop-and-start .ensures .does _ _ s) (λ k. laws.carry-is _ _ _ _ _ _ _ _ _ (c .before .before .before .before .before .before .before .before .before .before .before .enum-told4 .given .1) (c .before .before .before .before .before .before .before .before .before .before .before .before .before .decide .ensures) (c .before .before .before .before .before .before .before .before .before .before .before .before .before .before .before .rule-word .ensures) (c .before .before .before .before .before .before .before .before .before .before .before .before .before .before .rule-word2 .ensures))))
 
 returns-5 : tie.Need-returns-5
 unfolding carry-outM decidedM
-returns-5 c = laws.with-count (carry-withM _ _ _) (c .before .before .before .before .before .before .before .before .before .before .before .before .count-runs .ensures) (states.renamed _ (states.widen (c .before .before .before .before .begin-later .ensures) (wide (omega (arith, c .before .before .before .before .before .before .before .before .before .before .before .before .before .before .before .before .before .before .pre))) same same none) (λ k. laws.carry-is _ _ _ _ _ _ _ _ _ (c .before .before .before .before .before .before .before .enum-told5 .given .1) (c .before .before .before .before .before .before .before .before .before .decide .ensures) (c .before .before .before .before .before .before .before .before .before .before .before .rule-word .ensures) (c .before .before .before .before .before .before .before .before .before .before .rule-word2 .ensures)))
+returns-5 c = states.moves (λ v n s. laws.with-count (carry-withM _ _ _) (c .before .before .before .before .before .before .before .before .before .before .before .before .before .count-runs .ensures) (states.renamed _ (states.widen (c .before .before .before .before .begin-later .ensures .does _ _ s) (wide (omega (arith, c .before .before .before .before .before .before .before .before .before .before .before .before .before .before .before .before .before .before .before .pre))) same same none) (λ k. laws.carry-is _ _ _ _ _ _ _ _ _ (c .before .before .before .before .before .before .before .before .enum-told5 .given .1) (c .before .before .before .before .before .before .before .before .before .before .decide .ensures) (c .before .before .before .before .before .before .before .before .before .before .before .before .rule-word .ensures) (c .before .before .before .before .before .before .before .before .before .before .before .rule-word2 .ensures))))
 
 pub carry-out-spec : {M : Type 1} → statement M
 carry-out-spec =

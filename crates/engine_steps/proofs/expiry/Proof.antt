@@ -1,5 +1,6 @@
+use mathlib.Core.Path.{refl}
 use native.Mathlib.Omega.{arith}
-use borrow.Author.Tests.{eq-eqb, ne-eqb}
+use borrow.Author.Tests.{eq-eqb}
 use Rattle.engine_state.proofs.Laws.{none, same}
 use Rattle.engine_state.proofs.Laws as states
 use Rattle.engine_steps.proofs.Laws as laws
@@ -16,11 +17,10 @@ use Rattle.engine_state.proofs.after.Reads as after-reads
 
 returns : tie.Need-returns
 unfolding expiryM
-returns c = states.stay (λ k. rw (← (c .before .stale-of .ensures), eq-eqb _ _ (c .if1 .taken))) (same (omega (arith, c .before .before .before .pre))) none none none
+returns c = states.moves (λ v n s. states.stay (λ k. rw (← (c .before .stale-of .ensures), eq-eqb _ _ (c .if1 .taken))) (same (omega (arith, c .before .before .before .pre))) none none none)
 
 returns-2 : tie.Need-returns-2
-unfolding expiryM
-returns-2 c = states.renamed _ (c .before .before .add .ensures) (λ k. rw (← (c .before .before .before .before .before .before .before .before .before .before .stale-of .ensures), ne-eqb _ _ (c .before .before .before .before .before .before .before .before .before .if1 .left), ← (c .before .before .before .before .before .after .ensures), ← (c .before .before .before .before .after2 .ensures), ← (c .before .before .before .before .before .before .name-of .ensures)))
+returns-2 c = states.moves (λ v n s. states.renamed _ (c .before .before .add .ensures .does _ _ _) (λ k. laws.expiry-goes _ _ _ _ _ _ _ _ (c .before .before .before .before .before .before .before .before .before .stale-of .ensures) (c .before .before .before .before .before .before .before .before .if1 .left) (c .before .before .before .before .before .after .ensures) (c .before .before .before .before .after2 .ensures) (c .before .before .before .before .before .before .name-of .ensures) refl))
 
 pub expiry-spec : {M : Type 1} → statement M
 expiry-spec =

@@ -18,7 +18,7 @@ use Rattle.runs.proofs.take_run.Reads as take-run-reads
 
 returns : tie.Need-returns
 unfolding finishM finish-runM
-returns c = laws.with-run (finish-runM _) (c .before .before .before .before .before .before .before .before .before .before .before .before .before .before .before .before .run-at .ensures) (omega (arith, c .before .before .before .before .before .before .before .before .before .before .before .before .before .before .before .before .before .before .before .before .before .pre)) (states.follow (releaseM _) (states.follow (log-ruleM 14 _ _) (laws.removed _ _ _ (omega (arith, c .before .before .before .before .before .before .before .before .before .before .before .before .before .before .before .before .before .before .before .before .before .pre)) (search needs) _ _ (c .before .before .before .before .before .before .before .before .before .before .before .before .before .before .take-run .ensures) (c .before .before .before .before .before .before .before .before .before .before .before .with-active .ensures) (omega (arith, c .before .before .before .before .before .before .before .before .before .before .before .before .before .before .before .before .before .before .before .before .before .pre))) (c .before .before .before .before .before .before .before .before .before .log-rule .ensures) none two one none) (c .before .before .before .before .release .ensures) two one both none)
+returns c = states.moves (λ v n s. laws.with-run (finish-runM _) (c .before .before .before .before .before .before .before .before .before .before .before .before .before .before .before .before .run-at .ensures) (omega (arith, c .before .before .before .before .before .before .before .before .before .before .before .before .before .before .before .before .before .before .before .before .before .pre)) (states.follow (releaseM _) (states.follow (log-ruleM 14 _ _) (laws.removed _ _ _ (omega (arith, c .before .before .before .before .before .before .before .before .before .before .before .before .before .before .before .before .before .before .before .before .before .pre)) (search needs) _ _ (c .before .before .before .before .before .before .before .before .before .before .before .before .before .before .take-run .ensures) (c .before .before .before .before .before .before .before .before .before .before .before .with-active .ensures) (omega (arith, c .before .before .before .before .before .before .before .before .before .before .before .before .before .before .before .before .before .before .before .before .before .pre))) (c .before .before .before .before .before .before .before .before .before .log-rule .ensures .does _ _ _) none two one none) (c .before .before .before .before .release .ensures .does _ _ _) two one both none))
 
 pub finish-spec : {M : Type 1} → statement M
 finish-spec =

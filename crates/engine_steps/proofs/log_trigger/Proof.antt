@@ -13,7 +13,7 @@ use Rattle.engine_truth.proofs.number_of.Reads as number-of-reads
 
 returns : tie.Need-returns
 unfolding log-triggerM
-returns c = states.renamed _ (c .before .before .log .ensures) (λ k. rw (← (c .before .before .before .before .before .before .before .rule-word .ensures), ← (c .before .before .before .before .before .before .four-at .ensures), ← (c .before .before .before .before .before .four-at2 .ensures), ← (c .before .before .before .before .number-of .ensures)))
+returns c = states.moves (λ v n s. states.renamed _ (c .before .before .log .ensures .does _ _ _) (λ k. rw (← (c .before .before .before .before .before .before .before .rule-word .ensures), ← (c .before .before .before .before .before .before .four-at .ensures), ← (c .before .before .before .before .before .four-at2 .ensures), ← (c .before .before .before .before .number-of .ensures))))
 
 pub log-trigger-spec : {M : Type 1} → statement M
 log-trigger-spec =

@@ -17,7 +17,7 @@ use Rattle.runs.proofs.drop_runs.Reads as drop-runs-reads
 
 returns : tie.Need-returns
 unfolding stop-startM
-returns c = states.follow (begin-nowM _ _ _) (states.follow (log-ruleM 5 _ _) (laws.dropped _ _ _ (omega (arith, c .before .before .before .before .before .before .before .before .before .before .before .before .before .before .before .before .before .before .before .before .before .before .before .pre)) (search needs) _ _ _ (c .before .before .before .before .before .before .before .before .before .before .before .before .before .before .before .before .before .drop-runs .ensures) (c .before .before .before .before .before .before .before .before .before .before .before .before .before .before .with-active .ensures)) (c .before .before .before .before .before .before .before .before .before .before .before .before .log-rule .ensures) none two one none) (c .before .before .before .before .before .before .begin-now .ensures) two both both none
+returns c = states.moves (λ v n s. states.follow (begin-nowM _ _ _) (states.follow (log-ruleM 5 _ _) (laws.dropped _ _ _ (omega (arith, c .before .before .before .before .before .before .before .before .before .before .before .before .before .before .before .before .before .before .before .before .before .before .before .before .pre)) (search needs) _ _ _ (c .before .before .before .before .before .before .before .before .before .before .before .before .before .before .before .before .before .before .drop-runs .ensures) (c .before .before .before .before .before .before .before .before .before .before .before .before .before .before .before .with-active .ensures)) (c .before .before .before .before .before .before .before .before .before .before .before .before .before .log-rule .ensures .does _ _ _) none two one none) (c .before .before .before .before .before .before .begin-now .ensures .does _ _ s) two both both none)
 
 pub stop-and-start-spec : {M : Type 1} → statement M
 stop-and-start-spec =
@@ -28,7 +28,7 @@ stop-and-start-spec =
     (λ c κs. search needs)
     (λ c. search needs)
     (λ c κs. omega (arith, c .before .before .before .before .before .before .before .before .before .before .pre, ap (λ s. s .records) (c .before .with-active .ensures)))
-    (λ c κs. (omega (arith, c .before .before .before .before .before .before .before .before .before .before .before .before .before .before .before .before .pre), (omega (arith, c .before .before .before .before .before .before .before .before .before .before .before .before .before .before .before .before .pre, ap (λ s. s .items) (c .before .before .before .before .before .before .before .with-active .ensures), ap (λ s. s .first) (c .before .before .before .before .before .before .before .with-active .ensures), c .before .before .before .before .before .log-rule .ensures .queue), (omega (arith, c .before .before .before .before .before .before .before .before .before .before .before .before .before .before .before .before .pre, c .before .before .before .before .before .log-rule .ensures .records), omega (arith, c .before .before .before .before .before .before .before .before .before .before .before .before .before .before .before .before .pre, ap (λ s. s .active) (c .before .before .before .before .before .before .before .with-active .ensures), c .before .before .before .before .before .log-rule .ensures .runs, c .before .before .before .before .before .before .before .before .before .before .drop-runs .ensures .room)))))
+    (λ c κs. (omega (arith, c .before .before .before .before .before .before .before .before .before .before .before .before .before .before .before .before .before .pre), (omega (arith, c .before .before .before .before .before .before .before .before .before .before .before .before .before .before .before .before .before .pre, ap (λ s. s .items) (c .before .before .before .before .before .before .before .before .with-active .ensures), ap (λ s. s .first) (c .before .before .before .before .before .before .before .before .with-active .ensures), c .before .before .before .before .before .before .log-rule .ensures .queue), (omega (arith, c .before .before .before .before .before .before .before .before .before .before .before .before .before .before .before .before .before .pre, c .before .before .before .before .before .before .log-rule .ensures .records), omega (arith, c .before .before .before .before .before .before .before .before .before .before .before .before .before .before .before .before .before .pre, ap (λ s. s .active) (c .before .before .before .before .before .before .before .before .with-active .ensures), c .before .before .before .before .before .before .log-rule .ensures .runs, c .before .before .before .before .before .before .before .before .before .before .before .drop-runs .ensures .room)))))
     (λ c. search needs)
     (λ c. search needs)
     (λ c. search needs)

@@ -25,11 +25,11 @@ wake-spec =
     (tie.spec
     Inv-loop
     μ-loop
-    (λ c. (states.stay (λ k. laws.wake-none _ _ _) (same (omega (arith, c .before .before .before .pre))) none (same (omega (arith, c .before .before .before .pre))) none, (omega (arith, c .before .before .before .pre), refl)))
+    (λ c. (states.moves (λ v n s. states.stay (λ k. laws.wake-none _ _ _) (same (omega (arith, c .before .before .before .pre))) none (same (omega (arith, c .before .before .before .pre))) none), (omega (arith, c .before .before .before .pre), refl)))
     (λ c κs. (omega (arith, c .before .before .before .before .before .before .before .pre), (omega (arith, c .before .before .before .before .before .before .before .pre, c .before .before .before .loop .inv .0 .queue), omega (arith, c .before .before .before .before .before .before .before .pre, c .before .before .before .loop .inv .0 .runs))))
     (λ c. search needs)
     (λ c. search needs)
-    (λ c. (states.renamed _ (states.follow (wake-oneM _ _ _) (c .before .before .before .before .before .before .before .before .loop .inv .0) (c .before .before .before .before .wake-one .ensures .0) both none both none) (λ k. laws.wake-more _ _ _ _), (omega (arith, c .before .before .before .before .before .before .before .before .before .before .before .before .pre), c .before .before .before .before .wake-one .ensures .1 ∙ c .before .before .before .before .before .before .before .before .loop .inv .1 .1)))
+    (λ c. (states.moves (λ v n s. states.renamed _ (states.follow (wake-oneM _ _ _) (c .before .before .before .before .before .before .before .before .loop .inv .0 .does _ _ _) (c .before .before .before .before .wake-one .ensures .0 .does _ _ _) both none both none) (λ k. laws.wake-more _ _ _ _)), (omega (arith, c .before .before .before .before .before .before .before .before .before .before .before .before .pre), c .before .before .before .before .wake-one .ensures .1 ∙ c .before .before .before .before .before .before .before .before .loop .inv .1 .1)))
     (λ c. search needs)
     (λ c. search needs)
-    (λ c. laws.wake-all _ _ _ (omega (arith, c .before .before .before .before .before .pre)) (c .before .loop .inv .0)))
+    (λ c. states.moves (λ v n s. laws.wake-all _ _ _ (omega (arith, c .before .before .before .before .before .pre)) (c .before .loop .inv .0 .does _ _ _))))

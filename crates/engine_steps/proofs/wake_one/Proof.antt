@@ -1,4 +1,4 @@
-use mathlib.Core.Path.{refl}
+use mathlib.Core.Path.{refl, sym, _∙_, ap}
 use native.Mathlib.Omega.{arith}
 use Rattle.engine_state.proofs.Laws.{none, one, two, same}
 use Rattle.engine_state.proofs.Laws as states
@@ -13,19 +13,20 @@ use Rattle.engine_state.proofs.next_step.Reads as next-step-reads
 use Rattle.engine_steps.proofs.with_phase.Reads as with-phase-reads
 use Rattle.engine_truth.proofs.matches.Reads as matches-reads
 use Rattle.runs.proofs.put_run.Reads as put-run-reads
+use Rattle.runs.proofs.phase_at.Reads as phase-at-reads
 use Rattle.runs.proofs.run_at.Reads as run-at-reads
 
 returns : tie.Need-returns
 unfolding wake-oneM
-returns c = (laws.with-run (wake-runM _ _ _) (c .before .before .run-at .ensures) (omega (arith, c .before .before .before .before .before .before .before .pre)) (states.stay (λ k. laws.wake-going _ _ _ _ _ (c .enum-told .given .1)) (same (omega (arith, c .before .before .before .before .before .before .before .pre))) none (same (omega (arith, c .before .before .before .before .before .before .before .pre))) none), refl)
+returns c = (states.moves (λ v n s. laws.with-run (wake-runM _ _ _) refl (omega (arith, c .before .before .before .before .before .before .before .pre)) (states.stay (λ k. laws.wake-going _ _ _ _ _ (sym (c .before .before .phase-at .ensures) ∙ c .enum-told .given .1)) (same (omega (arith, c .before .before .before .before .before .before .before .pre))) none (same (omega (arith, c .before .before .before .before .before .before .before .pre))) none)), refl)
 
 returns-2 : tie.Need-returns-2
 unfolding wake-oneM
-returns-2 c = (laws.with-run (wake-runM _ _ _) (c .before .before .before .before .before .before .before .before .before .before .before .before .before .before .run-at .ensures) (omega (arith, c .before .before .before .before .before .before .before .before .before .before .before .before .before .before .before .before .before .before .before .pre)) (states.renamed _ (states.follow (nowM _) (laws.replaced _ _ _ (omega (arith, c .before .before .before .before .before .before .before .before .before .before .before .before .before .before .before .before .before .before .before .pre)) (search needs) _ _ _ (c .before .before .before .before .before .before .put-run .ensures) (c .before .before .before .before .before .before .before .before .with-phase .ensures) (omega (arith, c .before .before .before .before .before .before .before .before .before .before .before .before .before .before .before .before .before .before .before .pre))) (c .before .before .next-step .ensures) two none one none) (λ k. laws.wake-yes _ _ _ _ _ _ _ (c .before .before .before .before .before .before .before .before .before .before .before .before .phase .given .1) (c .before .before .before .before .before .before .before .before .before .before .matches .ensures) (c .before .before .before .before .before .before .before .before .before .if1 .taken))), c .before .before .next-step .ensures .runs)
+returns-2 c = (states.moves (λ v n s. laws.with-run (wake-runM _ _ _) (c .before .before .before .before .before .before .before .before .before .run-at .ensures) (omega (arith, c .before .before .before .before .before .before .before .before .before .before .before .before .before .before .before .before .before .before .before .before .before .pre)) (states.renamed _ (states.follow (nowM _) (laws.replaced _ _ _ (omega (arith, c .before .before .before .before .before .before .before .before .before .before .before .before .before .before .before .before .before .before .before .before .before .pre)) (search needs) _ _ _ (c .before .before .before .before .before .before .put-run .ensures) (c .before .before .before .before .before .before .before .before .with-phase .ensures) (omega (arith, c .before .before .before .before .before .before .before .before .before .before .before .before .before .before .before .before .before .before .before .before .before .pre))) (c .before .before .next-step .ensures .does _ _ _) two none one none) (λ k. laws.wake-yes _ _ _ _ _ _ _ (ap (λ z. z .phase) (c .before .before .before .before .before .before .before .before .before .run-at .ensures) ∙ sym (c .before .before .before .before .before .before .before .before .before .before .before .before .before .before .before .before .phase-at .ensures) ∙ c .before .before .before .before .before .before .before .before .before .before .before .before .before .before .phase .given .1) (c .before .before .before .before .before .before .before .before .before .before .before .before .matches .ensures) (c .before .before .before .before .before .before .before .before .before .before .before .if1 .taken)))), c .before .before .next-step .ensures .runs)
 
 returns-3 : tie.Need-returns-3
 unfolding wake-oneM
-returns-3 c = (laws.with-run (wake-runM _ _ _) (c .before .before .before .before .before .run-at .ensures) (omega (arith, c .before .before .before .before .before .before .before .before .before .before .pre)) (states.stay (λ k. laws.wake-no _ _ _ _ _ _ _ (c .before .before .before .phase .given .1) (c .before .matches .ensures) (c .if1 .left)) (same (omega (arith, c .before .before .before .before .before .before .before .before .before .before .pre))) none (same (omega (arith, c .before .before .before .before .before .before .before .before .before .before .pre))) none), refl)
+returns-3 c = (states.moves (λ v n s. laws.with-run (wake-runM _ _ _) refl (omega (arith, c .before .before .before .before .before .before .before .before .before .before .pre)) (states.stay (λ k. laws.wake-no _ _ _ _ _ _ _ (sym (c .before .before .before .before .before .phase-at .ensures) ∙ c .before .before .before .phase .given .1) (c .before .matches .ensures) (c .if1 .left)) (same (omega (arith, c .before .before .before .before .before .before .before .before .before .before .pre))) none (same (omega (arith, c .before .before .before .before .before .before .before .before .before .before .pre))) none)), refl)
 
 pub wake-one-spec : {M : Type 1} → statement M
 wake-one-spec =
@@ -39,7 +40,8 @@ wake-one-spec =
     (λ c κs. search needs)
     (λ c κs. search needs)
     (λ c κs. search needs)
-    (λ c κs. search needs)
+    (λ c κs. omega (arith, c .before .before .before .before .before .before .before .before .before .before .before .before .before .before .pre))
+    (λ c κs. omega (arith, c .before .before .before .before .before .before .before .before .before .before .before .before .before .before .before .before .before .before .pre))
     (λ c. search needs)
     (λ c. search needs)
     returns-2
