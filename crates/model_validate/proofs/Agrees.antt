@@ -57,12 +57,12 @@ use Rattle.model_index.specs.Index.{refusedW}
 use Rattle.model_index.specs.Indexed.{Holds, Indexed, Says}
 use Rattle.model_check.specs.declared.Checked.{Checked}
 use Rattle.model_check.specs.declared.Checked.the-variants as checked
-use Rattle.model_check.specs.declared.Declared.{Declared}
-use Rattle.model_check.specs.Checks.{and-then, _⨾_, stay, refuse-if, skipC, dayC, place-is, among, valueC, pairC, predicateC, predicatesC, triggersC, actionsC}
+use Rattle.model_check.specs.Checks.{Declaration, and-then, _⨾_, stay, refuse-if, skipC, dayC, place-is, among, valueC, pairC, predicateC, predicatesC, triggersC, actionsC}
 use Rattle.model_check.proofs.Laws as checks
 use Rattle.model_check.proofs.Agrees.{after, after-same, and-bind, and-assoc, accept-and, eqb-sym, or-is, by-got, next, next-and, skip-wide, skip-then, stays, refuse-if-is, Grounded, among-agrees, value-agrees, pair-agrees, predicate-agrees, predicates-agree, triggers-agree, actions-agree, day-agrees}
 use Rattle.model_validate.specs.declared.Validity.the-variants as validity
 use Rattle.model_validate.specs.Answers.{validity-of, validated}
+use Rattle.model_validate.specs.declared.Numbers.{Numbers}
 use Rattle.model_validate.specs.declared.Part.{Part}
 use Rattle.model_validate.specs.declared.Part.the-variants as part
 use Rattle.model_validate.specs.Sections.{
@@ -102,7 +102,10 @@ use Rattle.model_validate.specs.Sections.{
   Small,
   sectionsC,
   modelC,
+  declared-in,
   declared-of,
+  numbers-of,
+  indexC,
 }
 use Rattle.model_validate.proofs.Laws as laws
 
@@ -187,7 +190,7 @@ module _ (s : List ℕ) (ts : List Text) (all-texts : Reads texts s 4 ts) where
       ∙ ap doubles (sym (m .both)))
 
   -- ---- the parts, over a file whose declarations are known
-  module _ (d : Declared) (es : List Entity) (g : Grounded s d ts es) where
+  module _ (d : Declaration) (es : List Entity) (g : Grounded s d ts es) where
     stale-agrees : (p : ℕ) (o : Option ℕ) (q : ℕ) → number? s p ≡ got o q → (a : ℕ) × ((u32 s p ≡ got a q) × (stale-bad a ≡ present-and (ltb day) o))
     unfolding number? stale-bad present-and
     stale-agrees p o q e = let b = bound u32 _ e in let z = given _ _ _ (b .rest) in (b .value, (b .first ∙ ap (got (b .value)) (z .1), cases (eqb (b .value) 4294967295) (b .value) ∙ ap (present-and (ltb day)) (z .0)))
@@ -745,10 +748,13 @@ module _ (s : List ℕ) (i : Index) (m : Model) (x : Indexed s i m) where
   abbrev sc : Scenario
   sc = m .scenario
 
-  abbrev dd : Declared
+  abbrev dd : Declaration
   dd = declared-of s i
 
-  title-agrees : title-bad s i ≡ bad-title sc
+  abbrev nn : Numbers
+  nn = numbers-of i
+
+  title-agrees : title-bad s nn ≡ bad-title sc
   unfolding title-bad bad-title
   title-agrees =
       let p = place-found (x .ts) (x .title .1) in
@@ -756,14 +762,17 @@ module _ (s : List ℕ) (i : Index) (m : Model) (x : Indexed s i m) where
       ap (λ (v : ℕ). not (eqb v 1) || ltb 200 (length (textAt s (startFrom s 6 (p .at))))) (x .version)
       ∙ ap (λ (t : Text). not (eqb (sc .version) 1) || ltb 200 (length t)) (text-at s (x .all-texts .1) (p .at) (p .is-in) ∙ sym (p .is-text)))
 
-  size-agrees : size-bad i ≡ bad-size m
+  sized : size-bad (i .entities .count) nn ≡ bad-size m
   unfolding size-bad bad-size
-  size-agrees = rw (x .entities .counts, x .rules .counts, x .events .counts, x .invariants .counts) (ap (λ (b : Bool). b || ltb 32 (length (sc .entities)) || ltb 32 (length (m .rules)) || ltb 100 (length (sc .events)) || ltb 32 (length (sc .invariants))) (sym (empty-is (sc .entities))))
+  sized = rw (x .entities .counts, x .rules .counts, x .events .counts, x .invariants .counts) (ap (λ (b : Bool). b || ltb 32 (length (sc .entities)) || ltb 32 (length (m .rules)) || ltb 100 (length (sc .events)) || ltb 32 (length (sc .invariants))) (sym (empty-is (sc .entities))))
+
+  size-agrees : size-bad (dd .count) nn ≡ bad-size m
+  size-agrees = ap (λ (c : ℕ). size-bad c nn) (laws.declared-count s (i .texts .count) (i .entities .count)) ∙ sized
 
   limits-agree : limits-bad s (i .limits) ≡ bad-limits (sc .limits)
   limits-agree = laws.limits-read s (i .limits) (x .limits-at .1)
 
-  alphabet-agrees : alphabet-bad s i ≡ bad-alphabet sc
+  alphabet-agrees : alphabet-bad s nn (i .gaps .starts) ≡ bad-alphabet sc
   unfolding alphabet-bad bad-alphabet
   alphabet-agrees = rw (x .alphabet .counts, x .gaps .counts) (cases (case (ltb 4 (length (sc .gaps)))) ∙ ap (λ (b : Bool). ltb 12 (length (sc .alphabet)) || b || ltb 4 (length (sc .gaps)) || any (ltb day) (sc .gaps)) (sym (empty-is (sc .gaps))))
     where
@@ -782,12 +791,12 @@ module _ (s : List ℕ) (i : Index) (m : Model) (x : Indexed s i m) where
   horizon-read : (q : ℕ) × (u32 s (i .limits) ≡ got (sc .limits .horizon) q)
   horizon-read = horizon-of s (i .limits) (sc .limits) (x .limits-at .0) (x .limits-at .1)
 
-  module _ (small : Small i) where
+  module _ (small : Small (i .entities .count) nn) where
     few : {A : Type 0} (r : Reader A) (y : Section) (l : List A) → Holds r s y l → y .count ≤ 100 → length l ≤ 100
     few r y l h o = omega (arith, h .counts)
 
     grounded : Grounded s dd (x .ts) (sc .entities)
-    unfolding declared-of
+    unfolding declared-in
     grounded =
         let e = x .all-texts .1 in
         let f = fixed-texts s e in
@@ -806,7 +815,7 @@ module _ (s : List ℕ) (i : Index) (m : Model) (x : Indexed s i m) where
     start : {A : Type 0} (r : Reader A) (y : Section) (l : List A) → Holds r s y l → y .count ≤ 100 → (a₀ : A) (k : ℕ) → k < length l → Reads r s (getD (y .starts) (0 + k) 0) (getD l k a₀)
     start r y l h o = from-start s (x .ts) (x .all-texts) dd (sc .entities) grounded r y l h (few r y l h o)
 
-    orders-agree : (n : ℕ) → ordersC i s 0 n ≡ after 0 (9 when bad-events (sc .limits .horizon) (sc .events) and answer n)
+    orders-agree : (n : ℕ) → ordersC nn (i .events .starts) s 0 n ≡ after 0 (9 when bad-events (sc .limits .horizon) (sc .events) and answer n)
     unfolding ordersC bad-events
     orders-agree n =
         let h = sc .limits .horizon in
@@ -815,7 +824,7 @@ module _ (s : List ℕ) (i : Index) (m : Model) (x : Indexed s i m) where
         ∙ ap (λ (b : Bool). refuse-if 9 b s 0 n) (seconds-agree s (x .ts) (i .events .starts) h (sc .events) 0 0 (start (event (x .ts)) (i .events) (sc .events) (x .events) (small .events)) ∙ ap (λ (b : Bool). any (λ e. ltb h (e .at)) (sc .events) || not b) (ordered-all (sc .events)))
         ∙ refuse-if-is s 9 (any (λ e. ltb h (e .at)) (sc .events) || not (ordered (sc .events))) 0 n)
 
-    sections-agree : sectionsC dd i s 0 0 ≡ after 0 (
+    sections-agree : sectionsC dd nn (i .events .starts) (i .invariants .starts) (i .alphabet .starts) (i .rules .starts) s 0 0 ≡ after 0 (
         each-accepted (check-entity (sc .entities)) (sc .entities)
         and (each-accepted (λ e. check-input (sc .entities) (e .input)) (sc .events)
         and (each-accepted (check-input (sc .entities)) (sc .alphabet)
@@ -831,9 +840,9 @@ module _ (s : List ℕ) (i : Index) (m : Model) (x : Indexed s i m) where
         let v₅ : Verdict = check-invariants es [] (sc .invariants) in
         let rs : ℕ → Answer ℕ = check-rules es [] (m .rules) in
         let t = x .all-texts in
-        laws.sections-are dd i s 0 0
+        laws.sections-are dd nn (i .events .starts) (i .invariants .starts) (i .alphabet .starts) (i .rules .starts) s 0 0
         ∙ next-and s _ _ 0 0 0 0 v₁ (λ n. v₂ and (v₃ and (v₄ and (v₅ and rs n))))
-        (section-agrees s (x .ts) t dd es grounded (entity (x .ts)) (check-entity es) part.Entity (i .entities) es (λ j p n a q e. laws.part-entity dd s p n (i .entities .starts) j refl ∙ entity-agrees s (x .ts) t dd es grounded p n a q e) (x .entities) (few (entity (x .ts)) (i .entities) es (x .entities) (small .entities)) 0)
+        (ap (λ (c : ℕ). partsC dd part.Entity (i .entities .starts) c 0 s 0) (laws.declared-count s (i .texts .count) (i .entities .count)) ∙ section-agrees s (x .ts) t dd es grounded (entity (x .ts)) (check-entity es) part.Entity (i .entities) es (λ j p n a q e. laws.part-entity dd s p n (i .entities .starts) j refl ∙ entity-agrees s (x .ts) t dd es grounded p n a q e) (x .entities) (few (entity (x .ts)) (i .entities) es (x .entities) (small .entities)) 0)
         (λ n₁. next-and s _ _ 0 n₁ 0 0 v₂ (λ n. v₃ and (v₄ and (v₅ and rs n)))
         (section-agrees s (x .ts) t dd es grounded (event (x .ts)) (λ e. check-input es (e .input)) part.Event (i .events) (sc .events) (λ j p n a q e. laws.part-event dd s p n (i .events .starts) j refl ∙ event-agrees s (x .ts) t dd es grounded p n a q e) (x .events) (few (event (x .ts)) (i .events) (sc .events) (x .events) (small .events)) n₁)
         (λ n₂. next-and s _ _ 0 n₂ 0 0 v₃ (λ n. v₄ and (v₅ and rs n))
@@ -845,18 +854,18 @@ module _ (s : List ℕ) (i : Index) (m : Model) (x : Indexed s i m) where
         (λ n₅. ap (λ (c : ℕ). partsC dd part.Rule (i .rules .starts) c 0 s n₅) (x .rules .counts) ∙ rules-agree s (x .ts) t dd es grounded (i .rules .starts) (m .rules) 0 n₅ [] (no-ids s (x .ts) t dd es grounded part.Rule (i .rules .starts)) (start (automation (x .ts)) (i .rules) (m .rules) (x .rules) (small .rules)))))))
 
   -- the whole model
-  pub model-agrees : outcome m (modelC dd i s) ≡ validate m
+  pub model-agrees : outcome m (indexC i s) ≡ validate m
   unfolding modelC validate
   model-agrees =
       let es = sc .entities in
       rw (title-agrees, limits-agree) (
       ahead m 1 (bad-title sc) _ _ λ a.
-      ap (λ (b : Bool). outcome m (if b then checked.Refused 2 else if bad-limits (sc .limits) then checked.Refused 3 else if alphabet-bad s i then checked.Refused 4 else sectionsC dd i s 0 0)) size-agrees
+      ap (λ (b : Bool). outcome m (if b then checked.Refused 2 else if bad-limits (sc .limits) then checked.Refused 3 else if alphabet-bad s nn (i .gaps .starts) then checked.Refused 4 else sectionsC dd nn (i .events .starts) (i .invariants .starts) (i .alphabet .starts) (i .rules .starts) s 0 0)) size-agrees
       ∙ (ahead m 2 (bad-size m) _ _ λ b.
       ahead m 3 (bad-limits (sc .limits)) _ _ λ c.
-      ap (λ (b : Bool). outcome m (if b then checked.Refused 4 else sectionsC dd i s 0 0)) alphabet-agrees
+      ap (λ (b : Bool). outcome m (if b then checked.Refused 4 else sectionsC dd nn (i .events .starts) (i .invariants .starts) (i .alphabet .starts) (i .rules .starts) s 0 0)) alphabet-agrees
       ∙ (ahead m 4 (bad-alphabet sc) _ _ λ d.
-      ap (outcome m) (sections-agree (laws.small s i (size-agrees ∙ b) (alphabet-agrees ∙ d)))
+      ap (outcome m) (sections-agree (laws.small s (i .entities .count) nn (i .gaps .starts) (sized ∙ b) (alphabet-agrees ∙ d)))
       ∙ outcome-after m _
       ∙ and-to (each-accepted (check-entity es) es) _ _
       ∙ ap (λ (y : Answer Model). each-accepted (check-entity es) es and y) (
@@ -888,7 +897,7 @@ module _ (s : List ℕ) (file : File) where
       cases (answer m) h = absurd (read-or-not (h .0) e)
       cases (refused k) h = h
 
-  module _ (r : file .status ≡ status.Read) {x : Checked} (e : x ≡ modelC (declared-of s (file .index)) (file .index) s) where
+  module _ (r : file .status ≡ status.Read) {x : Checked} (e : x ≡ indexC (file .index) s) where
     -- what the check says of the model that was read
     verdict : (m : Model) → Indexed s (file .index) m → outcome m x ≡ validate m
     verdict m i = ap (outcome m) e ∙ model-agrees s (file .index) m i

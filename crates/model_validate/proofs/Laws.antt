@@ -24,8 +24,9 @@ use Rattle.model_index.specs.declared.Index.{Index}
 use Rattle.model_check.specs.declared.Checked.{Checked}
 use Rattle.model_check.specs.declared.Checked.the-variants as checked
 use Rattle.model_check.specs.declared.Declared.{Declared}
-use Rattle.model_check.specs.Checks.{and-then, _⨾_, by, stay, skipC, dayC, place-is, among, valueC, pairC, predicateC, predicatesC, triggersC, actionsC}
+use Rattle.model_check.specs.Checks.{Declaration, declaration, and-then, _⨾_, by, stay, skipC, dayC, place-is, among, valueC, pairC, predicateC, predicatesC, triggersC, actionsC}
 use Rattle.model_check.proofs.Laws as checks
+use Rattle.model_validate.specs.declared.Numbers.{Numbers}
 use Rattle.model_validate.specs.declared.Part.{Part}
 use Rattle.model_validate.specs.declared.Part.the-variants as part
 use Rattle.model_validate.specs.Sections.{
@@ -65,7 +66,9 @@ use Rattle.model_validate.specs.Sections.{
   Small,
   sectionsC,
   modelC,
-  declared-of,
+  declared-in,
+  numbers-of,
+  indexC,
 }
 
 -- ---- tests in a row
@@ -185,7 +188,7 @@ pub stale-some : (a : ℕ) → (a ≡ 4294967295 → ⊥) → stale-bad a ≡ lt
 unfolding stale-bad
 stale-some a h = rw (ne-eqb a 4294967295 h)
 
-module _ (d : Declared) (s : List ℕ) (p n : ℕ) where
+module _ (d : Declaration) (s : List ℕ) (p n : ℕ) where
   module _ (x c q v a : ℕ) where
     pub entity-5 : stale-bad a ≡ true → entity-ofC d x c q v a s p n ≡ checked.Refused 5
     unfolding entity-ofC
@@ -339,7 +342,7 @@ module _ (k : Part) (starts : List ℕ) (j : ℕ) (s : List ℕ) (x : ℕ) where
   id-fine h = rw h
 
 -- ---- invariants
-module _ (d : Declared) (s : List ℕ) (p n : ℕ) where
+module _ (d : Declaration) (s : List ℕ) (p n : ℕ) where
   module _ {a : Num} (e : found a ≡ u16 s p) where
     pub conditions-broken : a ≡ num.Broken → conditionsC d s p n ≡ checked.Refused 30
     unfolding conditionsC
@@ -498,7 +501,7 @@ module _ (m t c : ℕ) where
   unfolding bad-counts
   counts-5 a b d h = rw (ne-eqb m 0 a, le-ltb 16 m b, ne-eqb t 0 d, le-ltb 16 t h)
 
-module _ (d : Declared) (k : Part) (starts s : List ℕ) where
+module _ (d : Declaration) (k : Part) (starts s : List ℕ) where
   pub parts-end : (left j n : ℕ) → left ≤ 0 → partsC d k starts left j s n ≡ checked.To 0 n
   unfolding partsC
   parts-end zero j n h = refl
@@ -520,7 +523,7 @@ module _ (d : Declared) (k : Part) (starts s : List ℕ) where
 
 -- ---- the tests before the sections
 
-module _ (s : List ℕ) (i : Index) {a : Num} (e : found a ≡ u16 s (i .title)) where
+module _ (s : List ℕ) (i : Numbers) {a : Num} (e : found a ≡ u16 s (i .title)) where
   pub title-broken : a ≡ num.Broken → title-bad s i ≡ false
   unfolding title-bad
   title-broken h = rw (is-broken e h, title-bad)
@@ -534,29 +537,29 @@ module _ (s : List ℕ) (i : Index) {a : Num} (e : found a ≡ u16 s (i .title))
     unfolding title-bad
     title-length k f = rw (is-got e h, title-bad) (rw (eq-eqb (i .version) 1 k) (ap (ltb 200) (sym f)))
 
-module _ (i : Index) where
-  pub size-1 : i .entities .count ≡ 0 → size-bad i ≡ true
+module _ (c : ℕ) (i : Numbers) where
+  pub size-1 : c ≡ 0 → size-bad c i ≡ true
   unfolding size-bad
-  size-1 h = rw (eq-eqb (i .entities .count) 0 h)
+  size-1 h = rw (eq-eqb c 0 h)
 
-  module _ (a : i .entities .count ≡ 0 → ⊥) where
-    pub size-2 : 32 < i .entities .count → size-bad i ≡ true
+  module _ (a : c ≡ 0 → ⊥) where
+    pub size-2 : 32 < c → size-bad c i ≡ true
     unfolding size-bad
-    size-2 h = rw (ne-eqb (i .entities .count) 0 a, lt-ltb 32 (i .entities .count) h)
+    size-2 h = rw (ne-eqb c 0 a, lt-ltb 32 c h)
 
-    module _ (b : i .entities .count ≤ 32) where
-      pub size-3 : 32 < i .rules .count → size-bad i ≡ true
+    module _ (b : c ≤ 32) where
+      pub size-3 : 32 < i .rules → size-bad c i ≡ true
       unfolding size-bad
-      size-3 h = rw (ne-eqb (i .entities .count) 0 a, le-ltb 32 (i .entities .count) b, lt-ltb 32 (i .rules .count) h)
+      size-3 h = rw (ne-eqb c 0 a, le-ltb 32 c b, lt-ltb 32 (i .rules) h)
 
-      module _ (c : i .rules .count ≤ 32) where
-        pub size-4 : 100 < i .events .count → size-bad i ≡ true
+      module _ (r : i .rules ≤ 32) where
+        pub size-4 : 100 < i .events → size-bad c i ≡ true
         unfolding size-bad
-        size-4 h = rw (ne-eqb (i .entities .count) 0 a, le-ltb 32 (i .entities .count) b, le-ltb 32 (i .rules .count) c, lt-ltb 100 (i .events .count) h)
+        size-4 h = rw (ne-eqb c 0 a, le-ltb 32 c b, le-ltb 32 (i .rules) r, lt-ltb 100 (i .events) h)
 
-        pub size-5 : i .events .count ≤ 100 → size-bad i ≡ ltb 32 (i .invariants .count)
+        pub size-5 : i .events ≤ 100 → size-bad c i ≡ ltb 32 (i .invariants)
         unfolding size-bad
-        size-5 h = rw (ne-eqb (i .entities .count) 0 a, le-ltb 32 (i .entities .count) b, le-ltb 32 (i .rules .count) c, le-ltb 100 (i .events .count) h)
+        size-5 h = rw (ne-eqb c 0 a, le-ltb 32 c b, le-ltb 32 (i .rules) r, le-ltb 100 (i .events) h)
 
 module _ (h m d c : ℕ) where
   numbers : Limits
@@ -623,113 +626,114 @@ module _ (s : List ℕ) (p : ℕ) {a : Num} (e : found a ≡ u32 s p) where
         unfolding limits give
         all-limits u = bind-got u32 _ (is-got e h) ∙ bind-got u32 _ (is-got f k) ∙ bind-got u32 _ (is-got g m) ∙ bind-got u32 _ (is-got o u)
 
-module _ (s : List ℕ) (i : Index) where
-  pub alphabet-1 : 12 < i .alphabet .count → alphabet-bad s i ≡ true
+module _ (s : List ℕ) (i : Numbers) (gaps : List ℕ) where
+  pub alphabet-1 : 12 < i .alphabet → alphabet-bad s i gaps ≡ true
   unfolding alphabet-bad
-  alphabet-1 h = rw (lt-ltb 12 (i .alphabet .count) h)
+  alphabet-1 h = rw (lt-ltb 12 (i .alphabet) h)
 
-  module _ (a : i .alphabet .count ≤ 12) where
-    pub alphabet-2 : i .gaps .count ≡ 0 → alphabet-bad s i ≡ true
+  module _ (a : i .alphabet ≤ 12) where
+    pub alphabet-2 : i .gaps ≡ 0 → alphabet-bad s i gaps ≡ true
     unfolding alphabet-bad
-    alphabet-2 h = rw (le-ltb 12 (i .alphabet .count) a, eq-eqb (i .gaps .count) 0 h)
+    alphabet-2 h = rw (le-ltb 12 (i .alphabet) a, eq-eqb (i .gaps) 0 h)
 
-    module _ (b : i .gaps .count ≡ 0 → ⊥) where
-      pub alphabet-3 : 4 < i .gaps .count → alphabet-bad s i ≡ true
+    module _ (b : i .gaps ≡ 0 → ⊥) where
+      pub alphabet-3 : 4 < i .gaps → alphabet-bad s i gaps ≡ true
       unfolding alphabet-bad
-      alphabet-3 h = rw (le-ltb 12 (i .alphabet .count) a, ne-eqb (i .gaps .count) 0 b, lt-ltb 4 (i .gaps .count) h)
+      alphabet-3 h = rw (le-ltb 12 (i .alphabet) a, ne-eqb (i .gaps) 0 b, lt-ltb 4 (i .gaps) h)
 
-      pub alphabet-4 : i .gaps .count ≤ 4 → alphabet-bad s i ≡ gaps-bad (i .gaps .starts) s (i .gaps .count) 0
+      pub alphabet-4 : i .gaps ≤ 4 → alphabet-bad s i gaps ≡ gaps-bad gaps s (i .gaps) 0
       unfolding alphabet-bad
-      alphabet-4 h = rw (le-ltb 12 (i .alphabet .count) a, ne-eqb (i .gaps .count) 0 b, le-ltb 4 (i .gaps .count) h)
+      alphabet-4 h = rw (le-ltb 12 (i .alphabet) a, ne-eqb (i .gaps) 0 b, le-ltb 4 (i .gaps) h)
 
 -- ---- the model
 
-module _ (i : Index) (s : List ℕ) (p n : ℕ) {a : Num} (e : found a ≡ u32 s (i .limits)) where
-  pub orders-broken : a ≡ num.Broken → ordersC i s p n ≡ checked.Refused 30
+module _ (i : Numbers) (events s : List ℕ) (p n : ℕ) {a : Num} (e : found a ≡ u32 s (i .limits)) where
+  pub orders-broken : a ≡ num.Broken → ordersC i events s p n ≡ checked.Refused 30
   unfolding ordersC
   orders-broken h = rw (is-broken e h, ordersC)
 
   module _ {x q : ℕ} (h : a ≡ num.Is x q) where
-    pub orders-9 : seconds-bad x (i .events .starts) s (i .events .count) 0 0 ≡ true → ordersC i s p n ≡ checked.Refused 9
+    pub orders-9 : seconds-bad x events s (i .events) 0 0 ≡ true → ordersC i events s p n ≡ checked.Refused 9
     unfolding ordersC
     orders-9 k = rw (is-got e h, ordersC) (checks.refuse-yes s p n 9 k)
 
-    pub orders-right : seconds-bad x (i .events .starts) s (i .events .count) 0 0 ≡ false → ordersC i s p n ≡ checked.To p n
+    pub orders-right : seconds-bad x events s (i .events) 0 0 ≡ false → ordersC i events s p n ≡ checked.To p n
     unfolding ordersC
     orders-right k = rw (is-got e h, ordersC) (checks.refuse-no s p n 9 k)
 
-pub sections-are : (d : Declared) (i : Index) (s : List ℕ) (p n : ℕ) → sectionsC d i s p n ≡ (
-    (λ s p n. partsC d part.Entity (i .entities .starts) (i .entities .count) 0 s n)
-    ⨾ (λ s p n. partsC d part.Event (i .events .starts) (i .events .count) 0 s n)
-    ⨾ (λ s p n. partsC d part.Input (i .alphabet .starts) (i .alphabet .count) 0 s n)
-    ⨾ ordersC i
-    ⨾ (λ s p n. partsC d part.Invariant (i .invariants .starts) (i .invariants .count) 0 s n)
-    ⨾ (λ s p n. partsC d part.Rule (i .rules .starts) (i .rules .count) 0 s n)) s p n
+pub sections-are : (d : Declaration) (i : Numbers) (events invariants alphabet rules s : List ℕ) (p n : ℕ) → sectionsC d i events invariants alphabet rules s p n ≡ (
+    (λ s p n. partsC d part.Entity (d .starts) (d .count) 0 s n)
+    ⨾ (λ s p n. partsC d part.Event events (i .events) 0 s n)
+    ⨾ (λ s p n. partsC d part.Input alphabet (i .alphabet) 0 s n)
+    ⨾ ordersC i events
+    ⨾ (λ s p n. partsC d part.Invariant invariants (i .invariants) 0 s n)
+    ⨾ (λ s p n. partsC d part.Rule rules (i .rules) 0 s n)) s p n
 unfolding sectionsC
-sections-are d i s p n = refl
+sections-are d i events invariants alphabet rules s p n = refl
 
-module _ (d : Declared) (i : Index) (s : List ℕ) where
-  pub model-1 : title-bad s i ≡ true → modelC d i s ≡ checked.Refused 1
+module _ (d : Declaration) (i : Numbers) (events invariants alphabet gaps rules s : List ℕ) where
+  pub model-1 : title-bad s i ≡ true → modelC d i events invariants alphabet gaps rules s ≡ checked.Refused 1
   unfolding modelC
   model-1 h = rw h
 
   module _ (a : title-bad s i ≡ false) where
-    pub model-2 : size-bad i ≡ true → modelC d i s ≡ checked.Refused 2
+    pub model-2 : size-bad (d .count) i ≡ true → modelC d i events invariants alphabet gaps rules s ≡ checked.Refused 2
     unfolding modelC
     model-2 h = rw (a, h)
 
-    module _ (b : size-bad i ≡ false) where
-      pub model-3 : limits-bad s (i .limits) ≡ true → modelC d i s ≡ checked.Refused 3
+    module _ (b : size-bad (d .count) i ≡ false) where
+      pub model-3 : limits-bad s (i .limits) ≡ true → modelC d i events invariants alphabet gaps rules s ≡ checked.Refused 3
       unfolding modelC
       model-3 h = rw (a, b, h)
 
       module _ (c : limits-bad s (i .limits) ≡ false) where
-        pub model-4 : alphabet-bad s i ≡ true → modelC d i s ≡ checked.Refused 4
+        pub model-4 : alphabet-bad s i gaps ≡ true → modelC d i events invariants alphabet gaps rules s ≡ checked.Refused 4
         unfolding modelC
         model-4 h = rw (a, b, c, h)
 
-        pub model-is : alphabet-bad s i ≡ false → modelC d i s ≡ sectionsC d i s 0 0
+        pub model-is : alphabet-bad s i gaps ≡ false → modelC d i events invariants alphabet gaps rules s ≡ sectionsC d i events invariants alphabet rules s 0 0
         unfolding modelC
         model-is h = rw (a, b, c, h)
 
-pub declared-is : (s : List ℕ) (i : Index) {a b c e : ℕ} →
-    a ≡ place-from (i .texts .count) 0 (text "on") s 6 → b ≡ place-from (i .texts .count) 0 (text "off") s 6 →
-    c ≡ place-from (i .texts .count) 0 (text "unknown") s 6 → e ≡ place-from (i .texts .count) 0 (text "unavailable") s 6 →
-    _≡_ {A = Declared} (record { entities = i .entities; on = a; off = b; unknown = c; unavailable = e }) (declared-of s i)
-unfolding declared-of
-declared-is s i ha hb hc he = rw (ha, hb, hc, he)
+pub declared-is : (s : List ℕ) (t n : ℕ) {a b c e : ℕ} →
+    a ≡ place-from t 0 (text "on") s 6 → b ≡ place-from t 0 (text "off") s 6 →
+    c ≡ place-from t 0 (text "unknown") s 6 → e ≡ place-from t 0 (text "unavailable") s 6 →
+    _≡_ {A = Declared} (record { count = n; on = a; off = b; unknown = c; unavailable = e }) (declared-in s t n)
+unfolding declared-in
+declared-is s t n ha hb hc he = rw (ha, hb, hc, he)
 
 -- a model that passed the tests of its size is small
 or-no : (a b : Bool) → (a || b) ≡ false → (a ≡ false) × (b ≡ false)
 or-no true b h = absurd (not-both h refl)
 or-no false b h = (refl, h)
 
-pub small : (s : List ℕ) (i : Index) → size-bad i ≡ false → alphabet-bad s i ≡ false → Small i
+pub small : (s : List ℕ) (n : ℕ) (i : Numbers) (gaps : List ℕ) → size-bad n i ≡ false → alphabet-bad s i gaps ≡ false → Small n i
 unfolding size-bad alphabet-bad
-small s i h k =
-    let n = i .entities .count in
-    let r = i .rules .count in
-    let e = i .events .count in
-    let l = i .alphabet .count in
-    let m = i .gaps .count in
-    let a = or-no (eqb n 0 || ltb 32 n || ltb 32 r || ltb 100 e) (ltb 32 (i .invariants .count)) h in
+small s n i gaps h k =
+    let r = i .rules in
+    let e = i .events in
+    let l = i .alphabet in
+    let m = i .gaps in
+    let a = or-no (eqb n 0 || ltb 32 n || ltb 32 r || ltb 100 e) (ltb 32 (i .invariants)) h in
     let b = or-no (eqb n 0 || ltb 32 n || ltb 32 r) (ltb 100 e) (a .0) in
     let c = or-no (eqb n 0 || ltb 32 n) (ltb 32 r) (b .0) in
     let d = or-no (eqb n 0) (ltb 32 n) (c .0) in
-    let f = or-no (ltb 12 l || eqb m 0 || ltb 4 m) (gaps-bad (i .gaps .starts) s m 0) k in
+    let f = or-no (ltb 12 l || eqb m 0 || ltb 4 m) (gaps-bad gaps s m 0) k in
     let g = or-no (ltb 12 l || eqb m 0) (ltb 4 m) (f .0) in
     let o = or-no (ltb 12 l) (eqb m 0) (g .0) in
     record {
-      events = ltb-false 100 (i .events .count) (b .1);
-      entities = omega (arith, ltb-false 32 (i .entities .count) (d .1));
-      alphabet = omega (arith, ltb-false 12 (i .alphabet .count) (o .0));
-      invariants = omega (arith, ltb-false 32 (i .invariants .count) (a .1));
-      rules = omega (arith, ltb-false 32 (i .rules .count) (c .1));
+      events = ltb-false 100 (i .events) (b .1);
+      entities = omega (arith, ltb-false 32 n (d .1));
+      alphabet = omega (arith, ltb-false 12 (i .alphabet) (o .0));
+      invariants = omega (arith, ltb-false 32 (i .invariants) (a .1));
+      rules = omega (arith, ltb-false 32 (i .rules) (c .1));
     }
 
-pub declared-count : (s : List ℕ) (i : Index) {d : Declared} → d ≡ declared-of s i → d .entities .count ≡ i .entities .count
-unfolding declared-of
-declared-count s i e = ap (λ (d : Declared). d .entities .count) e
+pub declared-count : (s : List ℕ) (t n : ℕ) → declared-in s t n .count ≡ n
+unfolding declared-in
+declared-count s t n = refl
 
-pub model-with : (s : List ℕ) (i : Index) {d : Declared} {x : Checked} → x ≡ modelC d i s → d ≡ declared-of s i → x ≡ modelC (declared-of s i) i s
-model-with s i e f = e ∙ ap (λ (d : Declared). modelC d i s) f
+pub model-with : (s : List ℕ) (i : Index) {d : Declared} {x : Checked} →
+    x ≡ modelC (declaration d (i .entities .starts)) (numbers-of i) (i .events .starts) (i .invariants .starts) (i .alphabet .starts) (i .gaps .starts) (i .rules .starts) s →
+    d ≡ declared-in s (i .texts .count) (i .entities .count) → x ≡ indexC i s
+model-with s i e f = e ∙ ap (λ (d : Declared). modelC (declaration d (i .entities .starts)) (numbers-of i) (i .events .starts) (i .invariants .starts) (i .alphabet .starts) (i .gaps .starts) (i .rules .starts) s) f

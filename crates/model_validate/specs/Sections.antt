@@ -10,13 +10,13 @@ use Rattle.texts.specs.Texts.{Text, text}
 use Rattle.texts.specs.Places.{textAt, startFrom}
 use Rattle.model.specs.File.{got, broken, u8, u16, u32, limits}
 use Rattle.model.specs.Validate.{day, bad-length, bad-limits}
-use Rattle.model_parts.specs.declared.Section.{Section}
 use Rattle.model_order.specs.Order.{place-from}
 use Rattle.model_index.specs.declared.Index.{Index}
 use Rattle.model_check.specs.declared.Checked.{Checked}
 use Rattle.model_check.specs.declared.Checked.the-variants as checked
 use Rattle.model_check.specs.declared.Declared.{Declared}
-use Rattle.model_check.specs.Checks.{Check, and-then, _⨾_, by, stay, refuse-if, skipC, dayC, place-is, among, valueC, pairC, predicateC, predicatesC, triggersC, actionsC}
+use Rattle.model_check.specs.Checks.{Declaration, declaration, Check, and-then, _⨾_, by, stay, refuse-if, skipC, dayC, place-is, among, valueC, pairC, predicateC, predicatesC, triggersC, actionsC}
+use Rattle.model_validate.specs.declared.Numbers.{Numbers}
 use Rattle.model_validate.specs.declared.Part.{Part}
 use Rattle.model_validate.specs.declared.Part.the-variants as part
 
@@ -56,17 +56,17 @@ unfoldable pub stale-bad : ℕ → Bool
 stale-bad a = if eqb a 4294967295 then false else ltb day a
 
 -- the tests of an entity, in their order: 5, 6, then 7 and 8; its domain stands at q
-unfoldable pub entity-ofC : Declared → (x c q v a : ℕ) → Check
+unfoldable pub entity-ofC : Declaration → (x c q v a : ℕ) → Check
 entity-ofC d x c q v a s p n =
     if stale-bad a then checked.Refused 5
     else if bad-domain x c s q then checked.Refused 6
     else valueC d x v s p n
 
 -- what stands behind an entity's domain
-unfoldable pub entity-restC : Declared → (x c q : ℕ) → Check
+unfoldable pub entity-restC : Declaration → (x c q : ℕ) → Check
 entity-restC d x c q = by u16 (λ v. skipC 1 ⨾ by u32 (λ a. entity-ofC d x c q v a))
 
-unfoldable pub entityC : Declared → Check
+unfoldable pub entityC : Declaration → Check
 entityC d s p n = elim (u16 s p) [
   | got x o ↦ elim (u16 s o) [
     | got c q ↦ and-then (skipC (2 * c) s q n) (entity-restC d x c q s)
@@ -77,10 +77,10 @@ entityC d s p n = elim (u16 s p) [
 
 -- ---- events and the alphabet
 
-unfoldable pub inputC : Declared → Check
+unfoldable pub inputC : Declaration → Check
 inputC d = by u8 (λ k. if eqb k 0 then pairC d else stay)
 
-unfoldable pub eventC : Declared → Check
+unfoldable pub eventC : Declaration → Check
 eventC d = skipC 4 ⨾ inputC d
 
 -- one of `left` seconds, the j-th on, passes the horizon or is below the one before it
@@ -123,7 +123,7 @@ unfoldable pub bad-counts : (max triggers conditions : ℕ) → Bool
 bad-counts m t c = eqb m 0 || ltb 16 m || eqb t 0 || ltb 16 t || ltb 32 c
 
 -- ---- invariants
-module _ (d : Declared) where
+module _ (d : Declaration) where
   -- 11: no predicate, or too many
   unfoldable pub conditionsC : Check
   conditionsC s p n = elim (u16 s p) [
@@ -198,74 +198,86 @@ module _ (d : Declared) where
   partsC k starts zero j s n = checked.To 0 n
   partsC k starts (suc left) j s n = and-then (partC k starts j s (getD starts j 0) n) (λ q m. partsC k starts left (j + 1) s m)
 
-  abbrev pub sectionC : Part → Section → Check
-  sectionC k x s p n = partsC k (x .starts) (x .count) 0 s n
+  abbrev pub sectionC : Part → (count : ℕ) → (starts : List ℕ) → Check
+  sectionC k c starts s p n = partsC k starts c 0 s n
 
 -- ---- the tests before the sections
 
-unfoldable pub title-bad : List ℕ → Index → Bool
+unfoldable pub title-bad : List ℕ → Numbers → Bool
 title-bad s i = elim (u16 s (i .title)) [
   | got x q ↦ not (eqb (i .version) 1) || ltb 200 (length (text-of s x))
   | broken ↦ false
 ]
 
-unfoldable pub size-bad : Index → Bool
-size-bad i =
-    eqb (i .entities .count) 0
-    || ltb 32 (i .entities .count)
-    || ltb 32 (i .rules .count)
-    || ltb 100 (i .events .count)
-    || ltb 32 (i .invariants .count)
+unfoldable pub size-bad : (entities : ℕ) → Numbers → Bool
+size-bad c i = eqb c 0 || ltb 32 c || ltb 32 (i .rules) || ltb 100 (i .events) || ltb 32 (i .invariants)
 
 unfoldable pub limits-bad : List ℕ → ℕ → Bool
 limits-bad s p = elim (limits s p) [ got l q ↦ bad-limits l | broken ↦ false ]
 
-unfoldable pub alphabet-bad : List ℕ → Index → Bool
-alphabet-bad s i =
-    ltb 12 (i .alphabet .count)
-    || eqb (i .gaps .count) 0
-    || ltb 4 (i .gaps .count)
-    || gaps-bad (i .gaps .starts) s (i .gaps .count) 0
+unfoldable pub alphabet-bad : List ℕ → Numbers → (gaps : List ℕ) → Bool
+alphabet-bad s i gaps = ltb 12 (i .alphabet) || eqb (i .gaps) 0 || ltb 4 (i .gaps) || gaps-bad gaps s (i .gaps) 0
 
 -- 9
-unfoldable pub ordersC : Index → Check
-ordersC i s p n = elim (u32 s (i .limits)) [
-  | got h q ↦ refuse-if 9 (seconds-bad h (i .events .starts) s (i .events .count) 0 0) s p n
+unfoldable pub ordersC : Numbers → (events : List ℕ) → Check
+ordersC i events s p n = elim (u32 s (i .limits)) [
+  | got h q ↦ refuse-if 9 (seconds-bad h events s (i .events) 0 0) s p n
   | broken ↦ checked.Refused 30
 ]
 
--- the index of a model that isn't too large
-pub record Small (i : Index) : Type 0 where
-  pub events : i .events .count ≤ 100
-  pub entities : i .entities .count ≤ 100
-  pub alphabet : i .alphabet .count ≤ 100
-  pub invariants : i .invariants .count ≤ 100
-  pub rules : i .rules .count ≤ 100
+-- a model that isn't too large
+pub record Small (count : ℕ) (i : Numbers) : Type 0 where
+  pub events : i .events ≤ 100
+  pub entities : count ≤ 100
+  pub alphabet : i .alphabet ≤ 100
+  pub invariants : i .invariants ≤ 100
+  pub rules : i .rules ≤ 100
 
-unfoldable pub sectionsC : Declared → Index → Check
-sectionsC d i =
-    sectionC d part.Entity (i .entities)
-    ⨾ sectionC d part.Event (i .events)
-    ⨾ sectionC d part.Input (i .alphabet)
-    ⨾ ordersC i
-    ⨾ sectionC d part.Invariant (i .invariants)
-    ⨾ sectionC d part.Rule (i .rules)
+unfoldable pub sectionsC : Declaration → Numbers → (events invariants alphabet rules : List ℕ) → Check
+sectionsC d i events invariants alphabet rules =
+    sectionC d part.Entity (d .count) (d .starts)
+    ⨾ sectionC d part.Event (i .events) events
+    ⨾ sectionC d part.Input (i .alphabet) alphabet
+    ⨾ ordersC i events
+    ⨾ sectionC d part.Invariant (i .invariants) invariants
+    ⨾ sectionC d part.Rule (i .rules) rules
 
 -- all of it, in the order of `validate`
-unfoldable pub modelC : Declared → Index → List ℕ → Checked
-modelC d i s =
+unfoldable pub modelC : Declaration → Numbers → (events invariants alphabet gaps rules : List ℕ) → List ℕ → Checked
+modelC d i events invariants alphabet gaps rules s =
     if title-bad s i then checked.Refused 1
-    else if size-bad i then checked.Refused 2
+    else if size-bad (d .count) i then checked.Refused 2
     else if limits-bad s (i .limits) then checked.Refused 3
-    else if alphabet-bad s i then checked.Refused 4
-    else sectionsC d i s 0 0
+    else if alphabet-bad s i gaps then checked.Refused 4
+    else sectionsC d i events invariants alphabet rules s 0 0
 
--- what the index says that the model declares
-unfoldable pub declared-of : List ℕ → Index → Declared
-declared-of s i = record {
-  entities = i .entities;
-  on = place-from (i .texts .count) 0 (text "on") s 6;
-  off = place-from (i .texts .count) 0 (text "off") s 6;
-  unknown = place-from (i .texts .count) 0 (text "unknown") s 6;
-  unavailable = place-from (i .texts .count) 0 (text "unavailable") s 6;
+-- ---- the index
+
+-- what a model of so many texts and entities declares, beside the positions of its entities
+unfoldable pub declared-in : List ℕ → (texts entities : ℕ) → Declared
+declared-in s t e = record {
+  count = e;
+  on = place-from t 0 (text "on") s 6;
+  off = place-from t 0 (text "off") s 6;
+  unknown = place-from t 0 (text "unknown") s 6;
+  unavailable = place-from t 0 (text "unavailable") s 6;
 }
+
+abbrev pub declared-of : List ℕ → Index → Declaration
+declared-of s i = declaration (declared-in s (i .texts .count) (i .entities .count)) (i .entities .starts)
+
+abbrev pub numbers-of : Index → Numbers
+numbers-of i = record {
+  version = i .version;
+  title = i .title;
+  limits = i .limits;
+  events = i .events .count;
+  invariants = i .invariants .count;
+  alphabet = i .alphabet .count;
+  gaps = i .gaps .count;
+  rules = i .rules .count;
+}
+
+-- the check of the model that the index finds
+abbrev pub indexC : Index → List ℕ → Checked
+indexC i s = modelC (declared-of s i) (numbers-of i) (i .events .starts) (i .invariants .starts) (i .alphabet .starts) (i .gaps .starts) (i .rules .starts) s

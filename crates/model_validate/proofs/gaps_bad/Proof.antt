@@ -12,10 +12,10 @@ use Rattle.model_validate.proofs.gaps_bad.Lts as lts
 use Rattle.model_walk.proofs.u32_at.Reads as u32-at-reads
 
 abbrev Inv-loop : tie.InvT-loop
-Inv-loop s gaps count j₀ j = (gaps-bad (gaps .starts) s (gaps .count) 0 ≡ gaps-bad (gaps .starts) s (count - j) j) × (j ≤ count)
+Inv-loop s gaps count end j₀ j = (gaps-bad gaps s count 0 ≡ gaps-bad gaps s (end - j) j) × (j ≤ end)
 
 abbrev μ-loop : tie.MeasureT-loop
-μ-loop s gaps count j₀ j = count - j
+μ-loop s gaps count end j₀ j = end - j
 
 pub gaps-bad-spec : {M : Type 1} → statement M
 gaps-bad-spec =
@@ -23,7 +23,6 @@ gaps-bad-spec =
     (tie.spec
     Inv-loop
     μ-loop
-    (λ c. search needs)
     (λ c. (laws.gaps-left _ _ _ (omega arith), omega arith))
     (λ c. search needs)
     (λ c. search needs)

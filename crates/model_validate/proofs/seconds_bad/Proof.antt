@@ -12,10 +12,10 @@ use Rattle.model_validate.proofs.seconds_bad.Lts as lts
 use Rattle.model_walk.proofs.u32_at.Reads as u32-at-reads
 
 abbrev Inv-loop : tie.InvT-loop
-Inv-loop s horizon events count j₀ last₀ j last = (seconds-bad horizon (events .starts) s (events .count) 0 0 ≡ seconds-bad horizon (events .starts) s (count - j) j last) × (j ≤ count)
+Inv-loop s events count horizon end j₀ last₀ j last = (seconds-bad horizon events s count 0 0 ≡ seconds-bad horizon events s (end - j) j last) × (j ≤ end)
 
 abbrev μ-loop : tie.MeasureT-loop
-μ-loop s horizon events count j₀ last₀ j last = count - j
+μ-loop s events count horizon end j₀ last₀ j last = end - j
 
 pub seconds-bad-spec : {M : Type 1} → statement M
 seconds-bad-spec =
@@ -23,7 +23,6 @@ seconds-bad-spec =
     (tie.spec
     Inv-loop
     μ-loop
-    (λ c. search needs)
     (λ c. (laws.seconds-left _ _ _ _ _ (omega arith), omega arith))
     (λ c. search needs)
     (λ c. search needs)

@@ -4,6 +4,7 @@ use native.Mathlib.Omega.{arith}
 use Rattle.model_check.proofs.Laws as checks
 use Rattle.model_validate.proofs.Laws as laws
 use Prim.Native.Nat.{_-_, _≤_}
+use Rattle.model_check.specs.Checks.{declaration}
 use Rattle.model_validate.specs.Sections.{partsC}
 use Rattle.model_validate.proofs.section_check.Statement.{statement}
 use Rattle.model_validate.proofs.section_check.Tie as tie
@@ -12,10 +13,10 @@ use Rattle.model_validate.proofs.section_check.Lts as lts
 use Rattle.model_validate.proofs.part_check.Reads as part-check-reads
 
 abbrev Inv-loop : tie.InvT-loop
-Inv-loop s d part n section count j₀ m₀ j m = (partsC d part (section .starts) (section .count) 0 s n ≡ partsC d part (section .starts) (count - j) j s m) × (j ≤ count)
+Inv-loop s d entities part starts count n end j₀ m₀ j m = (partsC (declaration d entities) part starts count 0 s n ≡ partsC (declaration d entities) part starts (end - j) j s m) × (j ≤ end)
 
 abbrev μ-loop : tie.MeasureT-loop
-μ-loop s d part n section count j₀ m₀ j m = count - j
+μ-loop s d entities part starts count n end j₀ m₀ j m = end - j
 
 pub section-check-spec : {M : Type 1} → statement M
 section-check-spec =
@@ -23,7 +24,6 @@ section-check-spec =
     (tie.spec
     Inv-loop
     μ-loop
-    (λ c. search needs)
     (λ c. (laws.parts-left _ _ _ _ _ _ (omega arith), omega arith))
     (λ c. search needs)
     (λ c. search needs)

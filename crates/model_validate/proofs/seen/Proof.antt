@@ -12,10 +12,10 @@ use Rattle.model_validate.proofs.seen.Lts as lts
 use Rattle.model_validate.proofs.id_is.Reads as id-is-reads
 
 abbrev Inv-loop : tie.InvT-loop
-Inv-loop s part j place section i₀ i = (seen part (section .starts) s j place ≡ seen part (section .starts) s i place) × (i ≤ j)
+Inv-loop s part starts j place i₀ i = (seen part starts s j place ≡ seen part starts s i place) × (i ≤ j)
 
 abbrev μ-loop : tie.MeasureT-loop
-μ-loop s part j place section i₀ i = i
+μ-loop s part starts j place i₀ i = i
 
 pub seen-spec : {M : Type 1} → statement M
 seen-spec =
