@@ -7,7 +7,7 @@ use Rattle.model_validate.proofs.sections_check.Tie as tie
 use Rattle.model_validate.proofs.sections_check.Reads as reads
 use Rattle.model_validate.proofs.sections_check.Lts as lts
 use Rattle.model_validate.proofs.orders_check.Reads as orders-check-reads
-use Rattle.model_validate.proofs.section_check.Reads as section-check-reads
+use Rattle.model_sections.proofs.section_check.Reads as section-check-reads
 
 pub sections-check-spec : {M : Type 1} → statement M
 sections-check-spec =
