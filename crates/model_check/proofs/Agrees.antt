@@ -34,7 +34,6 @@ use Rattle.model_parts.proofs.Stands.{More, more}
 use Rattle.model_order.specs.Order.{Fixed}
 use Rattle.model_check.specs.declared.Checked.{Checked}
 use Rattle.model_check.specs.declared.Checked.the-variants as checked
-use Rattle.model_check.specs.declared.Declared.{Declared}
 use Rattle.model_check.specs.Checks.{
   Check,
   and-then,
@@ -49,7 +48,8 @@ use Rattle.model_check.specs.Checks.{
   among,
   listed-at,
   first-from,
-  number-of,
+  Declaration,
+  entity-number,
   entity-valueC,
   valueC,
   pairC,
@@ -169,11 +169,11 @@ module _ (s : List ℕ) where
 -- ---- what a model declares
 
 -- what the file declares: its texts ascend, its entities stand where `d` says, and the fixed texts too
-pub record Grounded (s : List ℕ) (d : Declared) (ts : List Text) (es : List Entity) : Type 0 where
+pub record Grounded (s : List ℕ) (d : Declaration) (ts : List Text) (es : List Entity) : Type 0 where
   pub same : (i j : ℕ) → i < length ts → j < length ts → eqT (getD ts i []) (getD ts j []) ≡ eqb i j
-  pub counts : d .entities .count ≡ length es
+  pub counts : d .count ≡ length es
   pub few : length es ≤ 100
-  pub stand : Stand (entity ts) s (d .entities .starts) es
+  pub stand : Stand (entity ts) s (d .starts) es
   pub on : Fixed ts (d .on) (text "on")
   pub off : Fixed ts (d .off) (text "off")
   pub unknown : Fixed ts (d .unknown) (text "unknown")
@@ -242,7 +242,7 @@ module _ (s : List ℕ) (ts : List Text) (same : (i j : ℕ) → i < length ts �
       subst (λ (k : ℕ). Reads (entity ts) s (getD starts k 0) (getD l j d)) y (f (suc j) (omega arith))))
 
 -- ---- the parts, over a file whose declarations are known
-module _ (s : List ℕ) (d : Declared) (ts : List Text) (es : List Entity) (g : Grounded s d ts es) where
+module _ (s : List ℕ) (d : Declaration) (ts : List Text) (es : List Entity) (g : Grounded s d ts es) where
   -- the text at a place
   abbrev T : ℕ → Text
   T x = getD ts x []
@@ -258,12 +258,12 @@ module _ (s : List ℕ) (d : Declared) (ts : List Text) (es : List Entity) (g : 
       ∙ ap (λ (b : Bool). eqb v (d .unknown) || b) (fixed-is v (d .unavailable) (text "unavailable") h (g .unavailable))
 
   -- where the entity with the name at x is
-  number-agrees : (x : ℕ) → x < length ts → (e₀ : Entity) → First (T x) es e₀ (number-of (d .entities) x s) 0
+  number-agrees : (x : ℕ) → x < length ts → (e₀ : Entity) → First (T x) es e₀ (entity-number d x s) 0
   number-agrees x h e₀ =
-      subst (λ (c : ℕ). First (T x) es e₀ (first-from (d .entities .starts) x s c 0) 0) (sym (g .counts))
-      (first-agrees s ts (g .same) (d .entities .starts) x h e₀ es 0 (λ j k.
+      subst (λ (c : ℕ). First (T x) es e₀ (first-from (d .starts) x s c 0) 0) (sym (g .counts))
+      (first-agrees s ts (g .same) (d .starts) x h e₀ es 0 (λ j k.
       let z : j ≡ 0 + j = omega arith in
-      subst (λ (i : ℕ). Reads (entity ts) s (getD (d .entities .starts) i 0) (getD es j e₀)) z (g .stand e₀ j (omega (arith, g .few)) k)))
+      subst (λ (i : ℕ). Reads (entity ts) s (getD (d .starts) i 0) (getD es j e₀)) z (g .stand e₀ j (omega (arith, g .few)) k)))
 
   -- the values that the i-th entity may have
   domain-agrees : (v : ℕ) → v < length ts → (p : ℕ) (e : Entity) → Reads (entity ts) s p e → listed-at s (p + 2) v ≡ memT (T v) (e .domain)
@@ -292,11 +292,11 @@ module _ (s : List ℕ) (d : Declared) (ts : List Text) (es : List Entity) (g : 
   check-some x v f = rw (f, check-value)
 
   -- a value of the i-th entity
-  entity-value-agrees : (i v p n : ℕ) (e : Entity) → i < length es → v < length ts → Reads (entity ts) s (getD (d .entities .starts) i 0) e → entity-valueC d i v s p n ≡ after p (8 when not (undecided (T v) || memT (T v) (e .domain)) and answer n)
+  entity-value-agrees : (i v p n : ℕ) (e : Entity) → i < length es → v < length ts → Reads (entity ts) s (getD (d .starts) i 0) e → entity-valueC d i v s p n ≡ after p (8 when not (undecided (T v) || memT (T v) (e .domain)) and answer n)
   unfolding entity-valueC
   entity-value-agrees i v p n e h k r =
-      rw (lt-leb (d .entities .count) i (omega (arith, g .counts))) (
-      ap (λ (b : Bool). if eqb v (d .unknown) then checked.To p n else if eqb v (d .unavailable) then checked.To p n else if b then checked.To p n else checked.Refused 8) (domain-agrees v k (getD (d .entities .starts) i 0) e r)
+      rw (lt-leb (d .count) i (omega (arith, g .counts))) (
+      ap (λ (b : Bool). if eqb v (d .unknown) then checked.To p n else if eqb v (d .unavailable) then checked.To p n else if b then checked.To p n else checked.Refused 8) (domain-agrees v k (getD (d .starts) i 0) e r)
       ∙ tests-agree (eqb v (d .unknown)) (eqb v (d .unavailable)) (memT (T v) (e .domain)) p n
       ∙ ap (λ (b : Bool). after p (8 when not (b || memT (T v) (e .domain)) and answer n)) (sym (undecided-is v k)))
 
@@ -308,14 +308,14 @@ module _ (s : List ℕ) (d : Declared) (ts : List Text) (es : List Entity) (g : 
       e₀ : Entity
       e₀ = record { name = []; domain = []; initial = []; tier = observational; stale-after = none }
 
-      cases : First (T x) es e₀ (number-of (d .entities) x s) 0 → entity-valueC d (number-of (d .entities) x s) v s p n ≡ after p (check-value es (T x) (T v) and answer n)
+      cases : First (T x) es e₀ (entity-number d x s) 0 → entity-valueC d (entity-number d x s) v s p n ≡ after p (check-value es (T x) (T v) and answer n)
       cases (here j q f o) =
-          let z : number-of (d .entities) x s ≡ j = omega arith in
+          let z : entity-number d x s ≡ j = omega arith in
           ap (λ (i : ℕ). entity-valueC d i v s p n) z
           ∙ entity-value-agrees j v p n (getD es j e₀) q k (g .stand e₀ j (omega (arith, g .few)) q)
           ∙ ap (λ (y : Verdict). after p (y and answer n)) (sym (check-some (T x) (T v) f))
       cases (nowhere f o) =
-          laws.value-7 d s p n (number-of (d .entities) x s) v (omega (arith, g .counts))
+          laws.value-7 d s p n (entity-number d x s) v (omega (arith, g .counts))
           ∙ ap (λ (y : Verdict). after p (y and answer n)) (sym (check-none (T x) (T v) f))
 
   -- 15
@@ -326,7 +326,7 @@ module _ (s : List ℕ) (d : Declared) (ts : List Text) (es : List Entity) (g : 
       e₀ : Entity
       e₀ = record { name = []; domain = []; initial = []; tier = observational; stale-after = none }
 
-      cases : First (T x) es e₀ (number-of (d .entities) x s) 0 → declaredC d x s p n ≡ after p (15 when absent (find (named (T x)) es) and answer n)
+      cases : First (T x) es e₀ (entity-number d x s) 0 → declaredC d x s p n ≡ after p (15 when absent (find (named (T x)) es) and answer n)
       cases (here j q f o) = laws.declared-yes d s p n x _ refl (omega (arith, g .counts)) ∙ ap (λ (y : Option Entity). after p (15 when absent y and answer n)) (sym f)
       cases (nowhere f o) = laws.declared-no d s p n x _ refl (omega (arith, g .counts)) ∙ ap (λ (y : Option Entity). after p (15 when absent y and answer n)) (sym f)
 

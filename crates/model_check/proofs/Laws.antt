@@ -17,7 +17,6 @@ use Rattle.model_walk.specs.Walk.{found}
 use Rattle.model_walk.proofs.Laws.{is-got, is-broken, u16-out}
 use Rattle.model_check.specs.declared.Checked.{Checked}
 use Rattle.model_check.specs.declared.Checked.the-variants as checked
-use Rattle.model_check.specs.declared.Declared.{Declared}
 use Rattle.model_check.specs.Checks.{
   Check,
   and-then,
@@ -33,6 +32,7 @@ use Rattle.model_check.specs.Checks.{
   among,
   listed-at,
   first-from,
+  Declaration,
   entity-valueC,
   valueC,
   pairC,
@@ -216,33 +216,33 @@ module _ (starts : List ℕ) (x : ℕ) (s : List ℕ) where
 
 -- ---- what the shut checks are
 
-module _ (d : Declared) (s : List ℕ) (p n : ℕ) where
+module _ (d : Declaration) (s : List ℕ) (p n : ℕ) where
   -- a value of the i-th entity, by the tests on the way
   module _ (i v : ℕ) where
-    pub value-7 : d .entities .count ≤ i → entity-valueC d i v s p n ≡ checked.Refused 7
+    pub value-7 : d .count ≤ i → entity-valueC d i v s p n ≡ checked.Refused 7
     unfolding entity-valueC
-    value-7 h = rw (le-leb (d .entities .count) i h)
+    value-7 h = rw (le-leb (d .count) i h)
 
-    module _ (h : i < d .entities .count) where
+    module _ (h : i < d .count) where
       pub value-unknown : v ≡ d .unknown → entity-valueC d i v s p n ≡ checked.To p n
       unfolding entity-valueC
-      value-unknown a = rw (lt-leb (d .entities .count) i h) (rw (eq-eqb v (d .unknown) a))
+      value-unknown a = rw (lt-leb (d .count) i h) (rw (eq-eqb v (d .unknown) a))
 
       module _ (a : v ≡ d .unknown → ⊥) where
         pub value-unavailable : v ≡ d .unavailable → entity-valueC d i v s p n ≡ checked.To p n
         unfolding entity-valueC
-        value-unavailable b = rw (lt-leb (d .entities .count) i h) (rw (ne-eqb v (d .unknown) a) (rw (eq-eqb v (d .unavailable) b)))
+        value-unavailable b = rw (lt-leb (d .count) i h) (rw (ne-eqb v (d .unknown) a) (rw (eq-eqb v (d .unavailable) b)))
 
         module _ (b : v ≡ d .unavailable → ⊥) where
-          pub value-listed : listed-at s (getD (d .entities .starts) i 0 + 2) v ≡ true → entity-valueC d i v s p n ≡ checked.To p n
+          pub value-listed : listed-at s (getD (d .starts) i 0 + 2) v ≡ true → entity-valueC d i v s p n ≡ checked.To p n
           unfolding entity-valueC
-          value-listed c = rw (lt-leb (d .entities .count) i h) (rw (ne-eqb v (d .unknown) a) (rw (ne-eqb v (d .unavailable) b) (rw c)))
+          value-listed c = rw (lt-leb (d .count) i h) (rw (ne-eqb v (d .unknown) a) (rw (ne-eqb v (d .unavailable) b) (rw c)))
 
-          pub value-8 : listed-at s (getD (d .entities .starts) i 0 + 2) v ≡ false → entity-valueC d i v s p n ≡ checked.Refused 8
+          pub value-8 : listed-at s (getD (d .starts) i 0 + 2) v ≡ false → entity-valueC d i v s p n ≡ checked.Refused 8
           unfolding entity-valueC
-          value-8 c = rw (lt-leb (d .entities .count) i h) (rw (ne-eqb v (d .unknown) a) (rw (ne-eqb v (d .unavailable) b) (rw c)))
+          value-8 c = rw (lt-leb (d .count) i h) (rw (ne-eqb v (d .unknown) a) (rw (ne-eqb v (d .unavailable) b) (rw c)))
 
-  pub value-is : (x v i : ℕ) → i ≡ first-from (d .entities .starts) x s (d .entities .count) 0 → valueC d x v s p n ≡ entity-valueC d i v s p n
+  pub value-is : (x v i : ℕ) → i ≡ first-from (d .starts) x s (d .count) 0 → valueC d x v s p n ≡ entity-valueC d i v s p n
   unfolding valueC
   value-is x v i e = ap (λ (j : ℕ). entity-valueC d j v s p n) (sym e)
 
@@ -258,13 +258,13 @@ module _ (d : Declared) (s : List ℕ) (p n : ℕ) where
   unfolding predicatesC
   predicates-is = refl
 
-  pub declared-no : (x i : ℕ) → i ≡ first-from (d .entities .starts) x s (d .entities .count) 0 → d .entities .count ≤ i → declaredC d x s p n ≡ checked.Refused 15
+  pub declared-no : (x i : ℕ) → i ≡ first-from (d .starts) x s (d .count) 0 → d .count ≤ i → declaredC d x s p n ≡ checked.Refused 15
   unfolding declaredC
-  declared-no x i e h = refuse-yes s p n 15 (ap (leb (d .entities .count)) (sym e) ∙ le-leb (d .entities .count) i h)
+  declared-no x i e h = refuse-yes s p n 15 (ap (leb (d .count)) (sym e) ∙ le-leb (d .count) i h)
 
-  pub declared-yes : (x i : ℕ) → i ≡ first-from (d .entities .starts) x s (d .entities .count) 0 → i < d .entities .count → declaredC d x s p n ≡ checked.To p n
+  pub declared-yes : (x i : ℕ) → i ≡ first-from (d .starts) x s (d .count) 0 → i < d .count → declaredC d x s p n ≡ checked.To p n
   unfolding declaredC
-  declared-yes x i e h = refuse-no s p n 15 (ap (leb (d .entities .count)) (sym e) ∙ lt-leb (d .entities .count) i h)
+  declared-yes x i e h = refuse-no s p n 15 (ap (leb (d .count)) (sym e) ∙ lt-leb (d .count) i h)
 
   pub optional-none : (x v : ℕ) → v ≡ 65535 → optionalC d x v s p n ≡ checked.To p n
   unfolding optionalC stay
@@ -320,11 +320,11 @@ module _ (d : Declared) (s : List ℕ) (p n : ℕ) where
     unfolding simpleC
     simple-else a b c d e = rw (ne-eqb _ _ a, ne-eqb _ _ b, ne-eqb _ _ c, ne-eqb _ _ d, ne-eqb _ _ e)
 
-pub actions-none : (d : Declared) (s : List ℕ) (p n : ℕ) → actionsC d 0 s p n ≡ checked.Refused 16
+pub actions-none : (d : Declaration) (s : List ℕ) (p n : ℕ) → actionsC d 0 s p n ≡ checked.Refused 16
 unfolding actionsC refuse
 actions-none d s p n = refl
 
-pub actions-more : (d : Declared) (left : ℕ) (s : List ℕ) (p n : ℕ) → (left ≡ 0 → ⊥) → actionsC d left s p n ≡ by u16 (λ c. timesC c (actionC d (actionsC d (left - 1)))) s p n
+pub actions-more : (d : Declaration) (left : ℕ) (s : List ℕ) (p n : ℕ) → (left ≡ 0 → ⊥) → actionsC d left s p n ≡ by u16 (λ c. timesC c (actionC d (actionsC d (left - 1)))) s p n
 unfolding actionsC
 actions-more d zero s p n h = absurd (h refl)
 actions-more d (suc left) s p n h = rw (sub-one (suc left))

@@ -83,19 +83,36 @@ first-from starts x s (suc left) i = elim (place-is s (getD starts i 0) x) [ tru
 abbrev pub number-of : Section → (x : ℕ) → List ℕ → ℕ
 number-of e x s = first-from (e .starts) x s (e .count) 0
 
+-- what a model declares: its entities, of which at most 100 are looked at, and the places of the four fixed texts
+pub record Declaration : Type 0 where
+  pub count : ℕ
+  pub starts : List ℕ
+  pub on : ℕ
+  pub off : ℕ
+  pub unknown : ℕ
+  pub unavailable : ℕ
+
+-- the same, of what the code passes on and the positions that it lends
+abbrev pub declaration : Declared → (starts : List ℕ) → Declaration
+declaration d l = record { count = d .count; starts = l; on = d .on; off = d .off; unknown = d .unknown; unavailable = d .unavailable }
+
 -- ---- parts, against the entities that the model declares
-module _ (d : Declared) where
+module _ (d : Declaration) where
+  -- the number of the entity whose name is at the place x, or the count
+  abbrev pub entity-number : (x : ℕ) → List ℕ → ℕ
+  entity-number x s = first-from (d .starts) x s (d .count) 0
+
   -- the i-th entity may have the value v; 7: there is no such entity; 8: the value isn't in its domain
   unfoldable pub entity-valueC : (i v : ℕ) → Check
   entity-valueC i v s p n =
-      if leb (d .entities .count) i then checked.Refused 7
+      if leb (d .count) i then checked.Refused 7
       else if eqb v (d .unknown) then checked.To p n
       else if eqb v (d .unavailable) then checked.To p n
-      else if listed-at s (getD (d .entities .starts) i 0 + 2) v then checked.To p n
+      else if listed-at s (getD (d .starts) i 0 + 2) v then checked.To p n
       else checked.Refused 8
 
   unfoldable pub valueC : (x v : ℕ) → Check
-  valueC x v s = entity-valueC (number-of (d .entities) x s) v s
+  valueC x v s = entity-valueC (entity-number x s) v s
 
   -- an entity and a value
   unfoldable pub pairC : Check
@@ -109,7 +126,7 @@ module _ (d : Declared) where
 
   -- 15: the entity isn't declared
   unfoldable pub declaredC : (x : ℕ) → Check
-  declaredC x s = refuse-if 15 (leb (d .entities .count) (number-of (d .entities) x s)) s
+  declaredC x s = refuse-if 15 (leb (d .count) (entity-number x s)) s
 
   -- a value, or none
   unfoldable pub optionalC : (x v : ℕ) → Check

@@ -4,8 +4,7 @@ use model_parts::Section;
 use model_walk::Num;
 ghost use mathlib.Core.Path.{_≡_};
 ghost use Prim.Native.Nat.{_+_, _≤_, _<_};
-ghost use lib.ListN.{length, getD};
-ghost use Rattle.model_check.specs.Checks.{_⨾_, skipC, dayC, place-is, among, listed-at, number-of, entity-valueC, valueC, pairC, predicateC, predicatesC, declaredC, optionalC, trigger-ofC, triggerC, triggersC, toggleC, waitC, countC, simpleC, choiceC, actionsC};
+ghost use Rattle.model_check.specs.Checks.{declaration, _⨾_, skipC, dayC, place-is, among, listed-at, first-from, number-of, entity-valueC, valueC, pairC, predicateC, predicatesC, declaredC, optionalC, trigger-ofC, triggerC, triggersC, toggleC, waitC, countC, simpleC, choiceC, actionsC};
 
 // The position after a part that passed and the actions counted so far, or the refusal.
 pub enum Checked {
@@ -13,9 +12,10 @@ pub enum Checked {
     Refused(u32),
 }
 
-// What a model declares: its entities, of which at most 100 are looked at, and the places of the four fixed texts.
+// What a model declares beside the positions of its entities, which are lent: how many entities there are, and the
+// places of the four fixed texts.
 pub struct Declared {
-    pub entities: Section,
+    pub count: u32,
     pub on: u32,
     pub off: u32,
     pub unknown: u32,
@@ -94,15 +94,15 @@ fn listed_at(s: &[u8], at: usize, place: u32) -> bool
     among(s, count, start, place)
 }
 
-// The number of the section's first part that begins with this place, or the count.
-pub fn number_of(s: &[u8], section: Section, place: u32) -> usize
-    requires { ⌜ section .count ≤ 100 ⌝ }
-    ensures { λ r. ⌜ (r ≡ number-of section place (now (s .entry))) × (r ≤ section .count) ⌝ }
+// The number of the first of so many positions that holds this place, or the count.
+pub fn first_of(s: &[u8], starts: &[usize; 100], count: u32, place: u32) -> usize
+    requires { ⌜ count ≤ 100 ⌝ }
+    ensures { λ r. ⌜ (r ≡ first-from (now (starts .entry)) place (now (s .entry)) count 0) × (r ≤ count) ⌝ }
 {
-    let count = section.count as usize;
+    let end = count as usize;
     let mut i: usize = 0;
-    while i < count {
-        let p = section.starts[i];
+    while i < end {
+        let p = starts[i];
         if place_is(s, p, place) {
             return i;
         }
@@ -111,15 +111,31 @@ pub fn number_of(s: &[u8], section: Section, place: u32) -> usize
     i
 }
 
+// The number of the section's first part that begins with this place, or the count.
+pub fn number_of(s: &[u8], section: Section, place: u32) -> usize
+    requires { ⌜ section .count ≤ 100 ⌝ }
+    ensures { λ r. ⌜ (r ≡ number-of section place (now (s .entry))) × (r ≤ section .count) ⌝ }
+{
+    let starts = section.starts;
+    first_of(s, &starts, section.count, place)
+}
+
 // ---- values
 
 // A value of the i-th entity.
-fn entity_value_check(s: &[u8], d: Declared, i: usize, value: u32, at: usize, n: u32) -> Checked
-    requires { ⌜ d .entities .count ≤ 100 ⌝ }
-    ensures { λ r. ⌜ r ≡ entity-valueC d i value (now (s .entry)) at n ⌝ }
+fn entity_value_check(
+    s: &[u8],
+    d: Declared,
+    entities: &[usize; 100],
+    i: usize,
+    value: u32,
+    at: usize,
+    n: u32,
+) -> Checked
+    requires { ⌜ d .count ≤ 100 ⌝ }
+    ensures { λ r. ⌜ r ≡ entity-valueC (declaration d (now (entities .entry))) i value (now (s .entry)) at n ⌝ }
 {
-    let entities = d.entities;
-    let count = entities.count as usize;
+    let count = d.count as usize;
     if count <= i {
         return Checked::Refused(7);
     }
@@ -129,7 +145,7 @@ fn entity_value_check(s: &[u8], d: Declared, i: usize, value: u32, at: usize, n:
     if value == d.unavailable {
         return Checked::To(at, n);
     }
-    let start = entities.starts[i];
+    let start = entities[i];
     if s.len() <= start {
         return Checked::Refused(8);
     }
@@ -139,18 +155,26 @@ fn entity_value_check(s: &[u8], d: Declared, i: usize, value: u32, at: usize, n:
     Checked::Refused(8)
 }
 
-pub fn value_check(s: &[u8], d: Declared, entity: u32, value: u32, at: usize, n: u32) -> Checked
-    requires { ⌜ d .entities .count ≤ 100 ⌝ }
-    ensures { λ r. ⌜ r ≡ valueC d entity value (now (s .entry)) at n ⌝ }
+pub fn value_check(
+    s: &[u8],
+    d: Declared,
+    entities: &[usize; 100],
+    entity: u32,
+    value: u32,
+    at: usize,
+    n: u32,
+) -> Checked
+    requires { ⌜ d .count ≤ 100 ⌝ }
+    ensures { λ r. ⌜ r ≡ valueC (declaration d (now (entities .entry))) entity value (now (s .entry)) at n ⌝ }
 {
-    let i = number_of(s, d.entities, entity);
-    entity_value_check(s, d, i, value, at, n)
+    let i = first_of(s, entities, d.count, entity);
+    entity_value_check(s, d, entities, i, value, at, n)
 }
 
 // An entity and a value.
-pub fn pair_check(s: &[u8], d: Declared, at: usize, n: u32) -> Checked
-    requires { ⌜ d .entities .count ≤ 100 ⌝ }
-    ensures { λ r. ⌜ r ≡ pairC d (now (s .entry)) at n ⌝ }
+pub fn pair_check(s: &[u8], d: Declared, entities: &[usize; 100], at: usize, n: u32) -> Checked
+    requires { ⌜ d .count ≤ 100 ⌝ }
+    ensures { λ r. ⌜ r ≡ pairC (declaration d (now (entities .entry))) (now (s .entry)) at n ⌝ }
 {
     let x = model_walk::u16_at(s, at);
     let Num::Is(entity, p) = x else {
@@ -160,29 +184,35 @@ pub fn pair_check(s: &[u8], d: Declared, at: usize, n: u32) -> Checked
     let Num::Is(value, q) = y else {
         return Checked::Refused(30);
     };
-    value_check(s, d, entity, value, q, n)
+    value_check(s, d, entities, entity, value, q, n)
 }
 
 // ---- predicates
 
-pub fn predicate_check(s: &[u8], d: Declared, at: usize, n: u32) -> Checked
-    requires { ⌜ d .entities .count ≤ 100 ⌝ }
-    ensures { λ r. ⌜ r ≡ predicateC d (now (s .entry)) at n ⌝ }
+pub fn predicate_check(s: &[u8], d: Declared, entities: &[usize; 100], at: usize, n: u32) -> Checked
+    requires { ⌜ d .count ≤ 100 ⌝ }
+    ensures { λ r. ⌜ r ≡ predicateC (declaration d (now (entities .entry))) (now (s .entry)) at n ⌝ }
 {
     let x = model_walk::u8_at(s, at);
     let Num::Is(kind, p) = x else {
         return Checked::Refused(30);
     };
     if kind == 0 {
-        return pair_check(s, d, p, n);
+        return pair_check(s, d, entities, p, n);
     }
     skip(s, 2, p, n)
 }
 
 // A count, and as many predicates.
-pub fn predicates_check(s: &[u8], d: Declared, at: usize, n: u32) -> Checked
-    requires { ⌜ d .entities .count ≤ 100 ⌝ }
-    ensures { λ r. ⌜ r ≡ predicatesC d (now (s .entry)) at n ⌝ }
+pub fn predicates_check(
+    s: &[u8],
+    d: Declared,
+    entities: &[usize; 100],
+    at: usize,
+    n: u32,
+) -> Checked
+    requires { ⌜ d .count ≤ 100 ⌝ }
+    ensures { λ r. ⌜ r ≡ predicatesC (declaration d (now (entities .entry))) (now (s .entry)) at n ⌝ }
 {
     let x = model_walk::u16_at(s, at);
     let Num::Is(count, start) = x else {
@@ -192,7 +222,7 @@ pub fn predicates_check(s: &[u8], d: Declared, at: usize, n: u32) -> Checked
     let mut p = start;
     let mut m = n;
     while 0 < left {
-        let y = predicate_check(s, d, p, m);
+        let y = predicate_check(s, d, entities, p, m);
         let Checked::To(q, k) = y else {
             return y;
         };
@@ -205,56 +235,71 @@ pub fn predicates_check(s: &[u8], d: Declared, at: usize, n: u32) -> Checked
 
 // ---- triggers
 
-fn declared_check(s: &[u8], d: Declared, entity: u32, at: usize, n: u32) -> Checked
-    requires { ⌜ d .entities .count ≤ 100 ⌝ }
-    ensures { λ r. ⌜ r ≡ declaredC d entity (now (s .entry)) at n ⌝ }
+fn declared_check(
+    s: &[u8],
+    d: Declared,
+    entities: &[usize; 100],
+    entity: u32,
+    at: usize,
+    n: u32,
+) -> Checked
+    requires { ⌜ d .count ≤ 100 ⌝ }
+    ensures { λ r. ⌜ r ≡ declaredC (declaration d (now (entities .entry))) entity (now (s .entry)) at n ⌝ }
 {
-    let entities = d.entities;
-    let count = entities.count as usize;
-    let i = number_of(s, entities, entity);
+    let count = d.count as usize;
+    let i = first_of(s, entities, d.count, entity);
     if count <= i {
         return Checked::Refused(15);
     }
     Checked::To(at, n)
 }
 
-fn optional_check(s: &[u8], d: Declared, entity: u32, value: u32, at: usize, n: u32) -> Checked
-    requires { ⌜ d .entities .count ≤ 100 ⌝ }
-    ensures { λ r. ⌜ r ≡ optionalC d entity value (now (s .entry)) at n ⌝ }
+fn optional_check(
+    s: &[u8],
+    d: Declared,
+    entities: &[usize; 100],
+    entity: u32,
+    value: u32,
+    at: usize,
+    n: u32,
+) -> Checked
+    requires { ⌜ d .count ≤ 100 ⌝ }
+    ensures { λ r. ⌜ r ≡ optionalC (declaration d (now (entities .entry))) entity value (now (s .entry)) at n ⌝ }
 {
     if value == 65535 {
         return Checked::To(at, n);
     }
-    value_check(s, d, entity, value, at, n)
+    value_check(s, d, entities, entity, value, at, n)
 }
 
 // A trigger without a note.
 fn trigger_of_check(
     s: &[u8],
     d: Declared,
+    entities: &[usize; 100],
     entity: u32,
     from: u32,
     to: u32,
     at: usize,
     n: u32,
 ) -> Checked
-    requires { ⌜ d .entities .count ≤ 100 ⌝ }
-    ensures { λ r. ⌜ r ≡ trigger-ofC d entity from to (now (s .entry)) at n ⌝ }
+    requires { ⌜ d .count ≤ 100 ⌝ }
+    ensures { λ r. ⌜ r ≡ trigger-ofC (declaration d (now (entities .entry))) entity from to (now (s .entry)) at n ⌝ }
 {
-    let a = declared_check(s, d, entity, at, n);
+    let a = declared_check(s, d, entities, entity, at, n);
     let Checked::To(p, k) = a else {
         return a;
     };
-    let b = optional_check(s, d, entity, from, p, k);
+    let b = optional_check(s, d, entities, entity, from, p, k);
     let Checked::To(q, l) = b else {
         return b;
     };
-    optional_check(s, d, entity, to, q, l)
+    optional_check(s, d, entities, entity, to, q, l)
 }
 
-fn trigger_check(s: &[u8], d: Declared, at: usize, n: u32) -> Checked
-    requires { ⌜ d .entities .count ≤ 100 ⌝ }
-    ensures { λ r. ⌜ r ≡ triggerC d (now (s .entry)) at n ⌝ }
+fn trigger_check(s: &[u8], d: Declared, entities: &[usize; 100], at: usize, n: u32) -> Checked
+    requires { ⌜ d .count ≤ 100 ⌝ }
+    ensures { λ r. ⌜ r ≡ triggerC (declaration d (now (entities .entry))) (now (s .entry)) at n ⌝ }
 {
     let x = model_walk::u16_at(s, at);
     let Num::Is(entity, p) = x else {
@@ -277,21 +322,28 @@ fn trigger_check(s: &[u8], d: Declared, at: usize, n: u32) -> Checked
         return Checked::Refused(30);
     };
     if note == 65535 {
-        return trigger_of_check(s, d, entity, from, to, next, m);
+        return trigger_of_check(s, d, entities, entity, from, to, next, m);
     }
     Checked::To(next, m)
 }
 
 // So many triggers.
-pub fn triggers_check(s: &[u8], d: Declared, count: u32, at: usize, n: u32) -> Checked
-    requires { ⌜ d .entities .count ≤ 100 ⌝ }
-    ensures { λ r. ⌜ r ≡ triggersC d count (now (s .entry)) at n ⌝ }
+pub fn triggers_check(
+    s: &[u8],
+    d: Declared,
+    entities: &[usize; 100],
+    count: u32,
+    at: usize,
+    n: u32,
+) -> Checked
+    requires { ⌜ d .count ≤ 100 ⌝ }
+    ensures { λ r. ⌜ r ≡ triggersC (declaration d (now (entities .entry))) count (now (s .entry)) at n ⌝ }
 {
     let mut left = count;
     let mut p = at;
     let mut m = n;
     while 0 < left {
-        let y = trigger_check(s, d, p, m);
+        let y = trigger_check(s, d, entities, p, m);
         let Checked::To(q, k) = y else {
             return y;
         };
@@ -304,26 +356,26 @@ pub fn triggers_check(s: &[u8], d: Declared, count: u32, at: usize, n: u32) -> C
 
 // ---- actions
 
-fn toggle_check(s: &[u8], d: Declared, at: usize, n: u32) -> Checked
-    requires { ⌜ d .entities .count ≤ 100 ⌝ }
-    ensures { λ r. ⌜ r ≡ toggleC d (now (s .entry)) at n ⌝ }
+fn toggle_check(s: &[u8], d: Declared, entities: &[usize; 100], at: usize, n: u32) -> Checked
+    requires { ⌜ d .count ≤ 100 ⌝ }
+    ensures { λ r. ⌜ r ≡ toggleC (declaration d (now (entities .entry))) (now (s .entry)) at n ⌝ }
 {
     let x = model_walk::u16_at(s, at);
     let Num::Is(entity, p) = x else {
         return Checked::Refused(30);
     };
-    let a = value_check(s, d, entity, d.on, p, n);
+    let a = value_check(s, d, entities, entity, d.on, p, n);
     let Checked::To(q, m) = a else {
         return a;
     };
-    value_check(s, d, entity, d.off, q, m)
+    value_check(s, d, entities, entity, d.off, q, m)
 }
 
-fn wait_check(s: &[u8], d: Declared, at: usize, n: u32) -> Checked
-    requires { ⌜ d .entities .count ≤ 100 ⌝ }
-    ensures { λ r. ⌜ r ≡ waitC d (now (s .entry)) at n ⌝ }
+fn wait_check(s: &[u8], d: Declared, entities: &[usize; 100], at: usize, n: u32) -> Checked
+    requires { ⌜ d .count ≤ 100 ⌝ }
+    ensures { λ r. ⌜ r ≡ waitC (declaration d (now (entities .entry))) (now (s .entry)) at n ⌝ }
 {
-    let a = trigger_check(s, d, at, n);
+    let a = trigger_check(s, d, entities, at, n);
     let Checked::To(p, k) = a else {
         return a;
     };
@@ -335,24 +387,31 @@ fn wait_check(s: &[u8], d: Declared, at: usize, n: u32) -> Checked
 }
 
 // What follows the kind of an effect that holds no list.
-fn simple_check(s: &[u8], d: Declared, kind: u32, at: usize, n: u32) -> Checked
-    requires { ⌜ d .entities .count ≤ 100 ⌝ }
-    ensures { λ r. ⌜ r ≡ simpleC d kind (now (s .entry)) at n ⌝ }
+fn simple_check(
+    s: &[u8],
+    d: Declared,
+    entities: &[usize; 100],
+    kind: u32,
+    at: usize,
+    n: u32,
+) -> Checked
+    requires { ⌜ d .count ≤ 100 ⌝ }
+    ensures { λ r. ⌜ r ≡ simpleC (declaration d (now (entities .entry))) kind (now (s .entry)) at n ⌝ }
 {
     if kind == 0 {
-        return pair_check(s, d, at, n);
+        return pair_check(s, d, entities, at, n);
     }
     if kind == 1 {
-        return toggle_check(s, d, at, n);
+        return toggle_check(s, d, entities, at, n);
     }
     if kind == 2 {
         return day_check(s, 18, at, n);
     }
     if kind == 3 {
-        return predicate_check(s, d, at, n);
+        return predicate_check(s, d, entities, at, n);
     }
     if kind == 5 {
-        return wait_check(s, d, at, n);
+        return wait_check(s, d, entities, at, n);
     }
     skip(s, 2, at, n)
 }
@@ -368,9 +427,16 @@ fn head_check(s: &[u8], at: usize, n: u32) -> Checked
 }
 
 // A list of actions below which lists may stand `left` deep.
-pub fn actions_check(s: &[u8], d: Declared, left: usize, at: usize, n: u32) -> Checked
-    requires { ⌜ d .entities .count ≤ 100 ⌝ }
-    ensures { λ r. ⌜ r ≡ actionsC d left (now (s .entry)) at n ⌝ }
+pub fn actions_check(
+    s: &[u8],
+    d: Declared,
+    entities: &[usize; 100],
+    left: usize,
+    at: usize,
+    n: u32,
+) -> Checked
+    requires { ⌜ d .count ≤ 100 ⌝ }
+    ensures { λ r. ⌜ r ≡ actionsC (declaration d (now (entities .entry))) left (now (s .entry)) at n ⌝ }
 {
     if left == 0 {
         return Checked::Refused(16);
@@ -392,9 +458,9 @@ pub fn actions_check(s: &[u8], d: Declared, left: usize, at: usize, n: u32) -> C
             return Checked::Refused(30);
         };
         let r = if kind == 4 {
-            choice_check(s, d, left - 1, next, kept)
+            choice_check(s, d, entities, left - 1, next, kept)
         } else {
-            simple_check(s, d, kind, next, kept)
+            simple_check(s, d, entities, kind, next, kept)
         };
         let Checked::To(q, k) = r else {
             return r;
@@ -407,9 +473,16 @@ pub fn actions_check(s: &[u8], d: Declared, left: usize, at: usize, n: u32) -> C
 }
 
 // The branches of a choice and its default: lists below which lists may stand `left - 1` deep.
-pub fn choice_check(s: &[u8], d: Declared, left: usize, at: usize, n: u32) -> Checked
-    requires { ⌜ d .entities .count ≤ 100 ⌝ }
-    ensures { λ r. ⌜ r ≡ choiceC d (actionsC d left) (now (s .entry)) at n ⌝ }
+pub fn choice_check(
+    s: &[u8],
+    d: Declared,
+    entities: &[usize; 100],
+    left: usize,
+    at: usize,
+    n: u32,
+) -> Checked
+    requires { ⌜ d .count ≤ 100 ⌝ }
+    ensures { λ r. ⌜ r ≡ choiceC (declaration d (now (entities .entry))) (actionsC (declaration d (now (entities .entry))) left) (now (s .entry)) at n ⌝ }
 {
     let x = model_walk::u16_at(s, at);
     let Num::Is(count, start) = x else {
@@ -419,11 +492,11 @@ pub fn choice_check(s: &[u8], d: Declared, left: usize, at: usize, n: u32) -> Ch
     let mut p = start;
     let mut m = n;
     while 0 < i {
-        let y = predicates_check(s, d, p, m);
+        let y = predicates_check(s, d, entities, p, m);
         let Checked::To(next, kept) = y else {
             return y;
         };
-        let z = actions_check(s, d, left, next, kept);
+        let z = actions_check(s, d, entities, left, next, kept);
         let Checked::To(q, k) = z else {
             return z;
         };
@@ -431,5 +504,5 @@ pub fn choice_check(s: &[u8], d: Declared, left: usize, at: usize, n: u32) -> Ch
         m = k;
         i -= 1;
     }
-    actions_check(s, d, left, p, m)
+    actions_check(s, d, entities, left, p, m)
 }

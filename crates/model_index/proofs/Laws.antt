@@ -19,7 +19,8 @@ use Rattle.model_order.specs.Order.{ascendingW, textsW}
 use Rattle.model_index.specs.declared.File.{File}
 use Rattle.model_index.specs.declared.Status.the-variants as status
 use Rattle.model_index.specs.declared.Index.{Index}
-use Rattle.model_index.specs.Index.{empty, refusedW, on, on-section, given, closed, restW, bodyW, readW}
+use Rattle.model_index.specs.declared.Front.{Front}
+use Rattle.model_index.specs.Index.{empty, refusedW, wholeW, index-of, on, on-section, given, closed, restW, bodyW, readW}
 
 module _ (w : Walked) (f : ℕ → ℕ → File) {x : Walked} (e : x ≡ w) where
   pub on-to : {p n : ℕ} → x ≡ walked.To p n → on w f ≡ f p n
@@ -52,7 +53,7 @@ module _ (s : List ℕ) (p n : ℕ) (i : Index) where
   unfolding closed
   left-over h k = rw (le-ltb 64 n h, lt-ltb p (length s) k)
 
-  pub whole : n ≤ 64 → length s ≤ p → closed s p n i ≡ record { status = status.Read; index = i }
+  pub whole : n ≤ 64 → length s ≤ p → closed s p n i ≡ wholeW i
   unfolding closed
   whole h k = rw (le-ltb 64 n h, le-ltb p (length s) k)
 
@@ -61,22 +62,15 @@ pub refused-with : (number : ℕ) {x : Section} → x ≡ empty → _≡_ {A = F
 unfolding refusedW
 refused-with number e = ap {B = File} (λ (x : Section). record { status = status.Refused number; index = record { version = 0; texts = x; title = 0; entities = x; events = x; invariants = x; alphabet = x; gaps = x; limits = 0; rules = x } }) e
 
--- the index before the later sections, from the section that stands for them
-pub rest-with : (s : List ℕ) (v at p n : ℕ) (ts es evs is : Section) {x : Section} → x ≡ empty →
-    restW s (record { version = v; texts = ts; title = at; entities = es; events = evs; invariants = is; alphabet = x; gaps = x; limits = 0; rules = x }) p n
-    ≡ restW s (record { version = v; texts = ts; title = at; entities = es; events = evs; invariants = is; alphabet = empty; gaps = empty; limits = 0; rules = empty }) p n
-unfolding restW
-rest-with s v at p n ts es evs is e = refl
-
-pub rest-is : (s : List ℕ) (i : Index) (p₃ n₃ : ℕ) → restW s i p₃ n₃ ≡ (
-    on-section (sectionW (partW (i .texts .count) part.Input) s p₃ n₃) λ alphabet p₄ n₄.
-    on-section (sectionW (partW (i .texts .count) part.Gap) s p₄ n₄) λ gaps p₅ n₅.
+pub rest-is : (s : List ℕ) (f : Front) (p₃ n₃ : ℕ) → restW s f p₃ n₃ ≡ (
+    on-section (sectionW (partW (f .texts .count) part.Input) s p₃ n₃) λ alphabet p₄ n₄.
+    on-section (sectionW (partW (f .texts .count) part.Gap) s p₄ n₄) λ gaps p₅ n₅.
     on (bytesW 16 s p₅ n₅) λ p₆ n₆.
-    on-section (sectionW (partW (i .texts .count) part.Rule) s p₆ n₆) λ rules p₇ n₇.
-    closed s p₇ n₇ (record { version = i .version; texts = i .texts; title = i .title; entities = i .entities; events = i .events; invariants = i .invariants; alphabet = alphabet; gaps = gaps; limits = p₅; rules = rules })
+    on-section (sectionW (partW (f .texts .count) part.Rule) s p₆ n₆) λ rules p₇ n₇.
+    closed s p₇ n₇ (index-of f alphabet gaps p₅ rules)
     )
 unfolding restW
-rest-is s i p₃ n₃ = refl
+rest-is s f p₃ n₃ = refl
 
 pub body-is : (s : List ℕ) (v : ℕ) (texts : Section) (at : ℕ) → bodyW s v texts at ≡ (
     on (placeW (texts .count) s at 0) λ p₀ n₀.
@@ -84,7 +78,7 @@ pub body-is : (s : List ℕ) (v : ℕ) (texts : Section) (at : ℕ) → bodyW s 
     given (sectionW (partW (texts .count) part.Entity) s p₀ 0) λ entities.
     on-section (sectionW (partW (texts .count) part.Event) s p₁ 0) λ events p₂ n₂.
     on-section (sectionW (partW (texts .count) part.Invariant) s p₂ n₂) λ invariants p₃ n₃.
-    restW s (record { version = v; texts = texts; title = at; entities = entities; events = events; invariants = invariants; alphabet = empty; gaps = empty; limits = 0; rules = empty }) p₃ n₃
+    restW s (record { version = v; texts = texts; title = at; entities = entities; events = events; invariants = invariants }) p₃ n₃
     )
 unfolding bodyW
 body-is s v texts at = refl

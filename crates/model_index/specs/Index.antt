@@ -16,6 +16,7 @@ use Rattle.model_order.specs.Order.{ascendingW, textsW}
 use Rattle.model_index.specs.declared.File.{File}
 use Rattle.model_index.specs.declared.Status.the-variants as status
 use Rattle.model_index.specs.declared.Index.{Index}
+use Rattle.model_index.specs.declared.Front.{Front}
 
 abbrev pub empty : Section
 empty = record { count = 0; starts = none; end = walked.Broken }
@@ -37,6 +38,9 @@ refusedW n = record {
   };
 }
 
+abbrev pub wholeW : Index → File
+wholeW i = record { status = status.Read; index = i }
+
 -- go on behind a walk, or refuse
 unfoldable pub on : Walked → (ℕ → ℕ → File) → File
 on (walked.To p n) f = f p n
@@ -51,27 +55,30 @@ unfoldable pub given : Section → (Section → File) → File
 given x f = f x
 
 unfoldable pub closed : List ℕ → ℕ → ℕ → Index → File
-closed s p n i = if ltb 64 n then refusedW 30 else if ltb p (length s) then refusedW 31 else record { status = status.Read; index = i }
+closed s p n i = if ltb 64 n then refusedW 30 else if ltb p (length s) then refusedW 31 else wholeW i
 
--- what follows the invariants, for an index of what comes before
-unfoldable pub restW : List ℕ → Index → ℕ → ℕ → File
-restW s i p₃ n₃ =
-    on-section (sectionW (partW (i .texts .count) part.Input) s p₃ n₃) λ alphabet p₄ n₄.
-    on-section (sectionW (partW (i .texts .count) part.Gap) s p₄ n₄) λ gaps p₅ n₅.
+abbrev pub index-of : Front → (alphabet gaps : Section) → (limits : ℕ) → (rules : Section) → Index
+index-of f alphabet gaps limits rules = record {
+  version = f .version;
+  texts = f .texts;
+  title = f .title;
+  entities = f .entities;
+  events = f .events;
+  invariants = f .invariants;
+  alphabet = alphabet;
+  gaps = gaps;
+  limits = limits;
+  rules = rules;
+}
+
+-- what follows the invariants
+unfoldable pub restW : List ℕ → Front → ℕ → ℕ → File
+restW s f p₃ n₃ =
+    on-section (sectionW (partW (f .texts .count) part.Input) s p₃ n₃) λ alphabet p₄ n₄.
+    on-section (sectionW (partW (f .texts .count) part.Gap) s p₄ n₄) λ gaps p₅ n₅.
     on (bytesW 16 s p₅ n₅) λ p₆ n₆.
-    on-section (sectionW (partW (i .texts .count) part.Rule) s p₆ n₆) λ rules p₇ n₇.
-    closed s p₇ n₇ (record {
-      version = i .version;
-      texts = i .texts;
-      title = i .title;
-      entities = i .entities;
-      events = i .events;
-      invariants = i .invariants;
-      alphabet = alphabet;
-      gaps = gaps;
-      limits = p₅;
-      rules = rules;
-    })
+    on-section (sectionW (partW (f .texts .count) part.Rule) s p₆ n₆) λ rules p₇ n₇.
+    closed s p₇ n₇ (index-of f alphabet gaps p₅ rules)
 
 -- what follows the texts
 unfoldable pub bodyW : List ℕ → (version : ℕ) → Section → ℕ → File
@@ -81,18 +88,7 @@ bodyW s v texts at =
     given (sectionW (partW (texts .count) part.Entity) s p₀ 0) λ entities.
     on-section (sectionW (partW (texts .count) part.Event) s p₁ 0) λ events p₂ n₂.
     on-section (sectionW (partW (texts .count) part.Invariant) s p₂ n₂) λ invariants p₃ n₃.
-    restW s (record {
-      version = v;
-      texts = texts;
-      title = at;
-      entities = entities;
-      events = events;
-      invariants = invariants;
-      alphabet = empty;
-      gaps = empty;
-      limits = 0;
-      rules = empty;
-    }) p₃ n₃
+    restW s (record { version = v; texts = texts; title = at; entities = entities; events = events; invariants = invariants }) p₃ n₃
 
 unfoldable pub readW : List ℕ → File
 readW s =

@@ -5,7 +5,7 @@ use model_walk::Num;
 use model_walk::Walked;
 ghost use mathlib.Core.Path.{_≡_};
 ghost use Rattle.model.specs.File.{decode};
-ghost use Rattle.model_index.specs.Index.{empty, refusedW, closed, restW, bodyW};
+ghost use Rattle.model_index.specs.Index.{empty, refusedW, wholeW, index-of, restW, bodyW};
 ghost use Rattle.model_index.specs.Indexed.{Says};
 
 // Where the parts of a model file stand.
@@ -20,6 +20,16 @@ pub struct Index {
     pub gaps: Section,
     pub limits: usize,
     pub rules: Section,
+}
+
+// What stands before the alphabet.
+pub struct Front {
+    pub version: u32,
+    pub texts: Section,
+    pub title: usize,
+    pub entities: Section,
+    pub events: Section,
+    pub invariants: Section,
 }
 
 pub enum Status {
@@ -66,28 +76,37 @@ pub fn refused(number: u32) -> File
     }
 }
 
-// The end of the file: at most 64 notes, and no byte left over.
-fn ended(s: &[u8], at: usize, notes: u32, index: Index) -> File
-    ensures { λ r. ⌜ r ≡ closed (now (s .entry)) at notes index ⌝ }
+// The index of a whole file.
+fn file_of(front: Front, alphabet: Section, gaps: Section, limits: usize, rules: Section) -> File
+    ensures { λ r. ⌜ r ≡ wholeW (index-of front alphabet gaps limits rules) ⌝ }
 {
-    if 64 < notes {
-        return refused(30);
-    }
-    if at < s.len() {
-        return refused(31);
-    }
+    let texts = front.texts;
+    let entities = front.entities;
+    let events = front.events;
+    let invariants = front.invariants;
+    let index = Index {
+        version: front.version,
+        texts,
+        title: front.title,
+        entities,
+        events,
+        invariants,
+        alphabet,
+        gaps,
+        limits,
+        rules,
+    };
     File {
         status: Status::Read,
         index,
     }
 }
 
-// What follows the invariants, for an index of what comes before.
-fn rest_at(s: &[u8], before: Index, at: usize, notes: u32) -> File
-    ensures { λ r. ⌜ r ≡ restW (now (s .entry)) before at notes ⌝ }
+// What follows the invariants. At the end there are at most 64 notes, and no byte is left over.
+fn rest_at(s: &[u8], front: Front, at: usize, notes: u32) -> File
+    ensures { λ r. ⌜ r ≡ restW (now (s .entry)) front at notes ⌝ }
 {
-    let texts = before.texts;
-    let count = texts.count;
+    let count = front.texts.count;
     let alphabet = model_parts::section_at(s, count, Part::Input, at, notes);
     let f = alphabet.end;
     let Walked::To(p4, n4) = f else {
@@ -107,12 +126,13 @@ fn rest_at(s: &[u8], before: Index, at: usize, notes: u32) -> File
     let Walked::To(p7, n7) = k else {
         return refused(30);
     };
-    let mut index = before;
-    index.alphabet = alphabet;
-    index.gaps = gaps;
-    index.limits = p5;
-    index.rules = rules;
-    ended(s, p7, n7, index)
+    if 64 < n7 {
+        return refused(30);
+    }
+    if p7 < s.len() {
+        return refused(31);
+    }
+    file_of(front, alphabet, gaps, p5, rules)
 }
 
 // What follows the texts.
@@ -139,20 +159,15 @@ fn body_at(s: &[u8], version: u32, texts: Section, at: usize) -> File
     let Walked::To(p3, n3) = e else {
         return refused(30);
     };
-    let x = no_section();
-    let before = Index {
+    let front = Front {
         version,
         texts,
         title: at,
         entities,
         events,
         invariants,
-        alphabet: x,
-        gaps: x,
-        limits: 0,
-        rules: x,
     };
-    rest_at(s, before, p3, n3)
+    rest_at(s, front, p3, n3)
 }
 
 // The index of the model that the file decodes to, or 30 or 31.

@@ -1,12 +1,10 @@
 -- Walks over the parts that stand in a section, and a section: its count, and where its parts start.
 use Prim.Native.Nat.{ℕ, zero, suc, _+_}
-use mathlib.Core.Bool.{Bool, true, false}
-use mathlib.Core.List.{List, [], _∷_}
+use mathlib.Core.List.{List}
 use lib.Dec.{ltb, eqb}
 use lib.ListN.{set, replicate}
 use Rattle.texts.specs.Lists.{if_then_else_}
-use Rattle.model.specs.File.{Got, got, broken, u8, u16, printable}
-use Rattle.model_walk.specs.declared.Walked.{Walked}
+use Rattle.model.specs.File.{got, broken, u8, u16, printable}
 use Rattle.model_walk.specs.declared.Walked.the-variants as walked
 use Rattle.model_walk.specs.declared.Piece.the-variants as piece
 use Rattle.model_walk.specs.Walk.{Walk, _⨾_, by, stop, staying, bytesW, timesW, kindW, placeW, piecesW, predicateW, actionsW}

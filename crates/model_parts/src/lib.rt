@@ -24,10 +24,6 @@ pub struct Section {
     pub end: Walked,
 }
 
-pub struct Starts {
-    pub list: [usize; 100],
-}
-
 pub fn text_at(s: &[u8], at: usize, notes: u32) -> Walked
     ensures { λ r. ⌜ r ≡ textW (now (s .entry)) at notes ⌝ }
 {
@@ -199,43 +195,38 @@ pub fn part_at(s: &[u8], texts: u32, part: Part, at: usize, notes: u32) -> Walke
     }
 }
 
-fn with(starts: Starts, i: usize, at: usize) -> Starts
-    ensures { λ r. ⌜ r .list ≡ put i at (starts .list) ⌝ }
+// The position of the i-th part, if there is room for it.
+fn put(starts: &mut [usize; 100], i: usize, at: usize)
+    ensures { λ _. ⌜ now (starts .exit) ≡ put i at (now (starts .entry)) ⌝ }
 {
-    let mut out = starts;
     if i < 100 {
-        out.list[i] = at;
-        return out;
+        starts[i] = at;
     }
-    out
 }
 
 pub fn section_at(s: &[u8], texts: u32, part: Part, at: usize, notes: u32) -> Section
     ensures { λ r. ⌜ r ≡ sectionW (partW texts part) (now (s .entry)) at notes ⌝ }
 {
     let x = model_walk::u16_at(s, at);
+    let mut starts = [0usize; 100];
     let Num::Is(count, start) = x else {
         return Section {
             count: 0,
-            starts: [0usize; 100],
+            starts,
             end: Walked::Broken,
         };
-    };
-    let mut starts = Starts {
-        list: [0usize; 100],
     };
     let mut i: usize = 0;
     let mut left = count;
     let mut p = start;
     let mut n = notes;
     while 0 < left {
-        starts = with(starts, i, p);
+        put(&mut starts, i, p);
         let y = part_at(s, texts, part, p, n);
         let Walked::To(q, m) = y else {
-            let list = starts.list;
             return Section {
                 count,
-                starts: list,
+                starts,
                 end: Walked::Broken,
             };
         };
@@ -244,10 +235,9 @@ pub fn section_at(s: &[u8], texts: u32, part: Part, at: usize, notes: u32) -> Se
         i += 1;
         left -= 1;
     }
-    let list = starts.list;
     Section {
         count,
-        starts: list,
+        starts,
         end: Walked::To(p, n),
     }
 }

@@ -6,7 +6,7 @@ use Prim.Native.Nat.{ℕ, _<_, _+_, _-_}
 use mathlib.Core.Logic.{⊎-elim}
 use borrow.Fn.Kinds.{In}
 use borrow.Fn.PlainCycle.{Measures, is, falls, and}
-use Rattle.model_check.specs.Checks.{timesC, actionsC, actionC, choiceC, branchC, _⨾_}
+use Rattle.model_check.specs.Checks.{declaration, timesC, actionsC, actionC, choiceC, branchC, _⨾_}
 use Rattle.model_check.proofs.actions_check.Reads as actions-check
 use Rattle.model_check.proofs.actions_check.Kinds as actions-check-kinds
 use Rattle.model_check.proofs.+actions_check+choice_check.Lts-actions_check as actions-check-lts
@@ -21,38 +21,38 @@ use Rattle.model_walk.proofs.u8_at.Reads as u8-at-reads
 use Rattle.model_check.proofs.+actions_check+choice_check.{statement}
 use Rattle.model_check.proofs.+actions_check+choice_check.Tie.{close}
 
-abbrev μ-actions-check : Measures 1 actions-check-kinds.ps ℕ
-μ-actions-check κs a = a .1 .1 .0 + a .1 .1 .0
+abbrev μ-actions-check : Measures 2 actions-check-kinds.ps ℕ
+μ-actions-check κs a = a .1 .1 .1 .0 + a .1 .1 .1 .0
 
-abbrev μ-choice-check : Measures 1 choice-check-kinds.ps ℕ
-μ-choice-check κs a = a .1 .1 .0 + a .1 .1 .0 + 1
+abbrev μ-choice-check : Measures 2 choice-check-kinds.ps ℕ
+μ-choice-check κs a = a .1 .1 .1 .0 + a .1 .1 .1 .0 + 1
 
-abbrev actions-check-at : ℕ → In 1 actions-check-kinds.ps
+abbrev actions-check-at : ℕ → In 2 actions-check-kinds.ps
 actions-check-at t =
-    and 1 actions-check-kinds.ps (is 1 actions-check-kinds.ps μ-actions-check t) actions-check.Pre
+    and 2 actions-check-kinds.ps (is 2 actions-check-kinds.ps μ-actions-check t) actions-check.Pre
 
-abbrev actions-check-below : ℕ → In 1 actions-check-kinds.ps
+abbrev actions-check-below : ℕ → In 2 actions-check-kinds.ps
 actions-check-below t =
-    and 1 actions-check-kinds.ps (falls 1 actions-check-kinds.ps _<_ μ-actions-check t) actions-check.Pre
+    and 2 actions-check-kinds.ps (falls 2 actions-check-kinds.ps _<_ μ-actions-check t) actions-check.Pre
 
-abbrev choice-check-at : ℕ → In 1 choice-check-kinds.ps
-choice-check-at t = and 1 choice-check-kinds.ps (is 1 choice-check-kinds.ps μ-choice-check t) choice-check.Pre
+abbrev choice-check-at : ℕ → In 2 choice-check-kinds.ps
+choice-check-at t = and 2 choice-check-kinds.ps (is 2 choice-check-kinds.ps μ-choice-check t) choice-check.Pre
 
-abbrev choice-check-below : ℕ → In 1 choice-check-kinds.ps
+abbrev choice-check-below : ℕ → In 2 choice-check-kinds.ps
 choice-check-below t =
-    and 1 choice-check-kinds.ps (falls 1 choice-check-kinds.ps _<_ μ-choice-check t) choice-check.Pre
+    and 2 choice-check-kinds.ps (falls 2 choice-check-kinds.ps _<_ μ-choice-check t) choice-check.Pre
 
 abbrev actions-check-Inv-loop : actions-check-lts.InvT-loop
-actions-check-Inv-loop s d left at n count start i₀ p₀ m₀ i p m = actionsC d left s at n ≡ timesC i (actionC d (actionsC d (left - 1))) s p m
+actions-check-Inv-loop s d entities left at n count start i₀ p₀ m₀ i p m = actionsC (declaration d entities) left s at n ≡ timesC i (actionC (declaration d entities) (actionsC (declaration d entities) (left - 1))) s p m
 
 abbrev actions-check-μ-loop : actions-check-lts.MeasureT-loop
-actions-check-μ-loop s d left at n count start i₀ p₀ m₀ i p m = i
+actions-check-μ-loop s d entities left at n count start i₀ p₀ m₀ i p m = i
 
 abbrev choice-check-Inv-loop : choice-check-lts.InvT-loop
-choice-check-Inv-loop s d left at n count start i₀ p₀ m₀ i p m = choiceC d (actionsC d left) s at n ≡ (timesC i (branchC d (actionsC d left)) ⨾ actionsC d left) s p m
+choice-check-Inv-loop s d entities left at n count start i₀ p₀ m₀ i p m = choiceC (declaration d entities) (actionsC (declaration d entities) left) s at n ≡ (timesC i (branchC (declaration d entities) (actionsC (declaration d entities) left)) ⨾ actionsC (declaration d entities) left) s p m
 
 abbrev choice-check-μ-loop : choice-check-lts.MeasureT-loop
-choice-check-μ-loop s d left at n count start i₀ p₀ m₀ i p m = i
+choice-check-μ-loop s d entities left at n count start i₀ p₀ m₀ i p m = i
 
 pub +actions-check+choice-check-spec : {M : Type 1} → statement M
 +actions-check+choice-check-spec = close μ-actions-check μ-choice-check (λ t. actions-check-lts.spec (

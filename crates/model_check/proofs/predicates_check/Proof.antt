@@ -1,7 +1,7 @@
 use borrow.Author.Needs.{needs}
 use mathlib.Core.Path.{_≡_, sym, _∙_}
 use Rattle.model_check.proofs.Laws as laws
-use Rattle.model_check.specs.Checks.{predicatesC, timesC, predicateC}
+use Rattle.model_check.specs.Checks.{declaration, predicatesC, timesC, predicateC}
 use Rattle.model_check.proofs.predicates_check.Statement.{statement}
 use Rattle.model_check.proofs.predicates_check.Tie as tie
 use Rattle.model_check.proofs.predicates_check.Reads as reads
@@ -10,10 +10,10 @@ use Rattle.model_check.proofs.predicate_check.Reads as predicate-check-
 use Rattle.model_walk.proofs.u16_at.Reads as u16-at-reads
 
 abbrev Inv-loop : tie.InvT-loop
-Inv-loop s d at n count start left₀ p₀ m₀ left p m = predicatesC d s at n ≡ timesC left (predicateC d) s p m
+Inv-loop s d entities at n count start left₀ p₀ m₀ left p m = predicatesC (declaration d entities) s at n ≡ timesC left (predicateC (declaration d entities)) s p m
 
 abbrev μ-loop : tie.MeasureT-loop
-μ-loop s d at n count start left₀ p₀ m₀ left p m = left
+μ-loop s d entities at n count start left₀ p₀ m₀ left p m = left
 
 pub predicates-check-spec : {M : Type 1} → statement M
 predicates-check-spec =

@@ -6,7 +6,7 @@ use Rattle.model_check.proofs.value_check.Tie as tie
 use Rattle.model_check.proofs.value_check.Reads as reads
 use Rattle.model_check.proofs.value_check.Lts as lts
 use Rattle.model_check.proofs.entity_value_check.Reads as entity-value-check-reads
-use Rattle.model_check.proofs.number_of.Reads as number-of-reads
+use Rattle.model_check.proofs.first_of.Reads as first-of-reads
 
 pub value-check-spec : {M : Type 1} → statement M
-value-check-spec = tie.close (tie.spec (λ c κs. search needs) (λ c κs. search needs) (λ c. c .entity-value-check .ensures ∙ sym (laws.value-is _ _ _ _ _ _ _ (c .before .number-of .ensures .0))))
+value-check-spec = tie.close (tie.spec (λ c κs. search needs) (λ c κs. search needs) (λ c. c .entity-value-check .ensures ∙ sym (laws.value-is _ _ _ _ _ _ _ (c .before .first-of .ensures .0))))

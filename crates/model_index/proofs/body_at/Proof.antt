@@ -5,7 +5,6 @@ use Rattle.model_index.proofs.body_at.Statement.{statement}
 use Rattle.model_index.proofs.body_at.Tie as tie
 use Rattle.model_index.proofs.body_at.Reads as reads
 use Rattle.model_index.proofs.body_at.Lts as lts
-use Rattle.model_index.proofs.no_section.Reads as no-section-reads
 use Rattle.model_index.proofs.refused.Reads as refused-reads
 use Rattle.model_index.proofs.rest_at.Reads as rest-at-reads
 use Rattle.model_order.proofs.ascending_at.Reads as ascending-at-reads
@@ -38,5 +37,4 @@ body-at-spec =
     (λ c κs. search needs)
     (λ c. c .refused4 .ensures ∙ sym (laws.body-is _ _ _ _ ∙ laws.on-to _ _ (c .before .before .before .before .before .before .before .before .before .before .before .before .before .before .before .before .place-at .ensures) (c .before .before .before .before .before .before .before .before .before .before .before .before .before .before .a .given .1) ∙ laws.on-to _ _ (c .before .before .before .before .before .before .before .before .before .before .before .before .ascending-at .ensures) (c .before .before .before .before .before .before .before .before .before .before .b .given .1) ∙ laws.given-is _ _ (c .before .before .before .before .before .before .before .before .section-at .ensures) ∙ laws.sec-to _ _ (c .before .before .before .before .before .before .before .section-at2 .ensures) (c .before .before .before .before .before .d .given .1) ∙ laws.sec-broken _ _ (c .before .before .before .section-at3 .ensures) (c .before .enum-told4 .given .1)))
     (λ c κs. search needs)
-    (λ c κs. search needs)
-    (λ c. c .rest-at .ensures ∙ laws.rest-with _ _ _ _ _ _ _ _ _ (c .before .no-section .ensures) ∙ sym (laws.body-is _ _ _ _ ∙ laws.on-to _ _ (c .before .before .before .before .before .before .before .before .before .before .before .before .before .before .before .before .before .before .place-at .ensures) (c .before .before .before .before .before .before .before .before .before .before .before .before .before .before .before .before .a .given .1) ∙ laws.on-to _ _ (c .before .before .before .before .before .before .before .before .before .before .before .before .before .before .ascending-at .ensures) (c .before .before .before .before .before .before .before .before .before .before .before .before .b .given .1) ∙ laws.given-is _ _ (c .before .before .before .before .before .before .before .before .before .before .section-at .ensures) ∙ laws.sec-to _ _ (c .before .before .before .before .before .before .before .before .before .section-at2 .ensures) (c .before .before .before .before .before .before .before .d .given .1) ∙ laws.sec-to _ _ (c .before .before .before .before .before .section-at3 .ensures) (c .before .before .before .e .given .1))))
+    (λ c. c .rest-at .ensures ∙ sym (laws.body-is _ _ _ _ ∙ laws.on-to _ _ (c .before .before .before .before .before .before .before .before .before .before .before .before .before .before .before .before .before .place-at .ensures) (c .before .before .before .before .before .before .before .before .before .before .before .before .before .before .before .a .given .1) ∙ laws.on-to _ _ (c .before .before .before .before .before .before .before .before .before .before .before .before .before .ascending-at .ensures) (c .before .before .before .before .before .before .before .before .before .before .before .b .given .1) ∙ laws.given-is _ _ (c .before .before .before .before .before .before .before .before .before .section-at .ensures) ∙ laws.sec-to _ _ (c .before .before .before .before .before .before .before .before .section-at2 .ensures) (c .before .before .before .before .before .before .d .given .1) ∙ laws.sec-to _ _ (c .before .before .before .before .section-at3 .ensures) (c .before .before .e .given .1))))

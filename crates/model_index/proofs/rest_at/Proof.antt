@@ -5,7 +5,7 @@ use Rattle.model_index.proofs.rest_at.Statement.{statement}
 use Rattle.model_index.proofs.rest_at.Tie as tie
 use Rattle.model_index.proofs.rest_at.Reads as reads
 use Rattle.model_index.proofs.rest_at.Lts as lts
-use Rattle.model_index.proofs.ended.Reads as ended-reads
+use Rattle.model_index.proofs.file_of.Reads as file-of-reads
 use Rattle.model_index.proofs.refused.Reads as refused-reads
 use Rattle.model_parts.proofs.section_at.Reads as section-at-reads
 use Rattle.model_walk.proofs.bytes_at.Reads as bytes-at-reads
@@ -35,4 +35,8 @@ rest-at-spec =
     (λ c κs. search needs)
     (λ c. c .refused4 .ensures ∙ sym (laws.rest-is _ _ _ _ ∙ laws.sec-to _ _ (c .before .before .before .before .before .before .before .before .before .before .before .before .before .before .before .section-at .ensures) (c .before .before .before .before .before .before .before .before .before .before .before .before .before .f .given .1) ∙ laws.sec-to _ _ (c .before .before .before .before .before .before .before .before .before .before .before .section-at2 .ensures) (c .before .before .before .before .before .before .before .before .before .g .given .1) ∙ laws.on-to _ _ (c .before .before .before .before .before .before .before .bytes-at .ensures) (c .before .before .before .before .before .h .given .1) ∙ laws.sec-broken _ _ (c .before .before .before .section-at3 .ensures) (c .before .enum-told4 .given .1)))
     (λ c κs. search needs)
-    (λ c. c .ended .ensures ∙ sym (laws.rest-is _ _ _ _ ∙ laws.sec-to _ _ (c .before .before .before .before .before .before .before .before .before .before .before .before .before .before .before .before .section-at .ensures) (c .before .before .before .before .before .before .before .before .before .before .before .before .before .before .f .given .1) ∙ laws.sec-to _ _ (c .before .before .before .before .before .before .before .before .before .before .before .before .section-at2 .ensures) (c .before .before .before .before .before .before .before .before .before .before .g .given .1) ∙ laws.on-to _ _ (c .before .before .before .before .before .before .before .before .bytes-at .ensures) (c .before .before .before .before .before .before .h .given .1) ∙ laws.sec-to _ _ (c .before .before .before .before .section-at3 .ensures) (c .before .before .k .given .1))))
+    (λ c. c .refused5 .ensures ∙ sym (laws.rest-is _ _ _ _ ∙ laws.sec-to _ _ (c .before .before .before .before .before .before .before .before .before .before .before .before .before .before .before .before .before .section-at .ensures) (c .before .before .before .before .before .before .before .before .before .before .before .before .before .before .before .f .given .1) ∙ laws.sec-to _ _ (c .before .before .before .before .before .before .before .before .before .before .before .before .before .section-at2 .ensures) (c .before .before .before .before .before .before .before .before .before .before .before .g .given .1) ∙ laws.on-to _ _ (c .before .before .before .before .before .before .before .before .before .bytes-at .ensures) (c .before .before .before .before .before .before .before .h .given .1) ∙ laws.sec-to _ _ (c .before .before .before .before .before .section-at3 .ensures) (c .before .before .before .k .given .1) ∙ laws.too-many _ _ _ _ (c .before .if1 .taken)))
+    (λ c κs. search needs)
+    (λ c. c .refused6 .ensures ∙ sym (laws.rest-is _ _ _ _ ∙ laws.sec-to _ _ (c .before .before .before .before .before .before .before .before .before .before .before .before .before .before .before .before .before .before .section-at .ensures) (c .before .before .before .before .before .before .before .before .before .before .before .before .before .before .before .before .f .given .1) ∙ laws.sec-to _ _ (c .before .before .before .before .before .before .before .before .before .before .before .before .before .before .section-at2 .ensures) (c .before .before .before .before .before .before .before .before .before .before .before .before .g .given .1) ∙ laws.on-to _ _ (c .before .before .before .before .before .before .before .before .before .before .bytes-at .ensures) (c .before .before .before .before .before .before .before .before .h .given .1) ∙ laws.sec-to _ _ (c .before .before .before .before .before .before .section-at3 .ensures) (c .before .before .before .before .k .given .1) ∙ laws.left-over _ _ _ _ (c .before .before .if1 .left) (c .before .if2 .taken)))
+    (λ c κs. search needs)
+    (λ c. c .file-of .ensures ∙ sym (laws.rest-is _ _ _ _ ∙ laws.sec-to _ _ (c .before .before .before .before .before .before .before .before .before .before .before .before .before .before .before .before .before .before .section-at .ensures) (c .before .before .before .before .before .before .before .before .before .before .before .before .before .before .before .before .f .given .1) ∙ laws.sec-to _ _ (c .before .before .before .before .before .before .before .before .before .before .before .before .before .before .section-at2 .ensures) (c .before .before .before .before .before .before .before .before .before .before .before .before .g .given .1) ∙ laws.on-to _ _ (c .before .before .before .before .before .before .before .before .before .before .bytes-at .ensures) (c .before .before .before .before .before .before .before .before .h .given .1) ∙ laws.sec-to _ _ (c .before .before .before .before .before .before .section-at3 .ensures) (c .before .before .before .before .k .given .1) ∙ laws.whole _ _ _ _ (c .before .before .if1 .left) (c .before .if2 .left))))

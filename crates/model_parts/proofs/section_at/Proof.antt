@@ -1,7 +1,6 @@
 use borrow.Author.Needs.{needs}
-use mathlib.Core.Path.{_≡_, refl, sym, ap, _∙_}
+use mathlib.Core.Path.{_≡_, sym, _∙_}
 use native.Mathlib.Omega.{arith}
-use borrow.Author.Tests.{lt-ltb, le-ltb, eq-eqb, ne-eqb}
 use Rattle.model_parts.proofs.Laws as laws
 use Rattle.model_walk.proofs.Laws as walks
 use Rattle.model_parts.proofs.section_at.Statement.{statement}
@@ -10,10 +9,10 @@ use Prim.Native.Nat.{_+_}
 use Rattle.model_parts.specs.Parts.{sectionW, fill, partW}
 
 abbrev Inv-loop : tie.InvT-loop
-Inv-loop s texts part at notes count start starts₀ i₀ left₀ p₀ n₀ starts i left p n = (sectionW (partW texts part) s at notes ≡ fill left i count (partW texts part) (starts .list) s p n) × (i + left ≡ count)
+Inv-loop s texts part at notes starts₀ count start i₀ left₀ p₀ n₀ starts i left p n = (sectionW (partW texts part) s at notes ≡ fill left i count (partW texts part) starts s p n) × (i + left ≡ count)
 
 abbrev μ-loop : tie.MeasureT-loop
-μ-loop s texts part at notes count start starts₀ i₀ left₀ p₀ n₀ starts i left p n = left
+μ-loop s texts part at notes starts₀ count start i₀ left₀ p₀ n₀ starts i left p n = left
 
 pub section-at-spec : {M : Type 1} → statement M
 section-at-spec =
@@ -30,10 +29,10 @@ section-at-spec =
     (λ c κs. search needs)
     (λ c. search needs)
     (λ c. search needs)
-    (λ c. sym (c .before .before .before .before .before .before .loop .inv .0 ∙ laws.fill-broken _ _ _ _ _ _ _ (c .before .before .before .part-at .ensures) (c .before .before .before .before .with .ensures) _ (c .before .before .before .before .before .loop-test .taken) (c .before .enum-told2 .given .1)))
+    (λ c. sym (c .before .before .before .before .before .before .loop .inv .0 ∙ laws.fill-broken _ _ _ _ _ _ _ (c .before .before .part-at .ensures) (c .before .before .before .put .ensures) _ (c .before .before .before .before .before .loop-test .taken) (c .enum-told2 .given .1)))
     (λ c. search needs)
     (λ c. search needs)
     (λ c. search needs)
-    (λ c. (c .before .before .before .before .before .before .loop .inv .0 ∙ laws.fill-more _ _ _ _ _ _ _ (c .before .before .before .part-at .ensures) (c .before .before .before .before .with .ensures) _ (c .before .before .before .before .before .loop-test .taken) (c .before .y .given .1), omega arith))
-    (λ c. sym (c .before .before .loop .inv .0 ∙ laws.fill-end _ _ _ _ _ _ _ _ (c .before .loop-test .left)))
+    (λ c. (c .before .before .before .before .before .before .before .loop .inv .0 ∙ laws.fill-more _ _ _ _ _ _ _ (c .before .before .before .part-at .ensures) (c .before .before .before .before .put .ensures) _ (c .before .before .before .before .before .before .loop-test .taken) (c .before .y .given .1), omega arith))
+    (λ c. sym (c .before .loop .inv .0 ∙ laws.fill-end _ _ _ _ _ _ _ _ (c .loop-test .left)))
     )

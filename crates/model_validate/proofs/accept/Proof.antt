@@ -1,4 +1,3 @@
-use Rattle.model_check.proofs.Laws as checks
 use Rattle.model_validate.proofs.Laws as laws
 use Rattle.model_validate.proofs.Agrees as agrees
 use borrow.Author.Needs.{needs}
@@ -19,10 +18,10 @@ accept-spec =
     (λ c. search needs)
     (λ c. search needs)
     (λ c κs. search needs)
-    (λ c κs. laws.declared-count _ _ (c .declared .ensures))
+    (λ c κs. search needs)
     (λ c. search needs)
     (λ c. search needs)
     (λ c κs. search needs)
-    (λ c. agrees.stays-refused _ _ (c .before .before .before .read .ensures) (c .enum-told .given .1))
-    (λ c. agrees.is-accepted _ _ (c .before .before .before .before .enum-told2 .given .1) (laws.model-with _ _ (c .before .before .whole-check .ensures) (c .before .before .before .declared .ensures)) (c .before .before .before .before .before .before .before .read .ensures) (c .enum-told3 .given .1))
-    (λ c. agrees.is-refused _ _ (c .before .before .before .before .before .before .enum-told2 .given .1) (laws.model-with _ _ (c .before .before .before .before .whole-check .ensures) (c .before .before .before .before .before .declared .ensures)) (c .before .before .before .before .before .before .before .before .before .read .ensures) (c .before .before .x .given .1) (c .refused .ensures)))
+    (λ c. agrees.stays-refused _ _ (c .before .before .read .ensures) (c .enum-told .given .1))
+    (λ c. agrees.is-accepted _ _ (c .before .before .before .before .before .before .before .before .before .before .before .enum-told2 .given .1) (laws.model-with _ (c .before .before .before .before .before .before .before .before .before .before .before .before .before .read .result .index) (c .before .before .whole-check .ensures) (c .before .before .before .before .before .before .before .before .before .before .declared .ensures)) (c .before .before .before .before .before .before .before .before .before .before .before .before .before .read .ensures) (c .enum-told3 .given .1))
+    (λ c. agrees.is-refused _ _ (c .before .before .before .before .before .before .before .before .before .before .before .before .before .enum-told2 .given .1) (laws.model-with _ (c .before .before .before .before .before .before .before .before .before .before .before .before .before .before .before .read .result .index) (c .before .before .before .before .whole-check .ensures) (c .before .before .before .before .before .before .before .before .before .before .before .before .declared .ensures)) (c .before .before .before .before .before .before .before .before .before .before .before .before .before .before .before .read .ensures) (c .before .before .x .given .1) (c .refused .ensures)))

@@ -1,12 +1,11 @@
 use mathlib.Core.Path.{sym, _∙_}
-use Rattle.model_check.proofs.Laws as checks
 use Rattle.model_validate.proofs.Laws as laws
 use borrow.Author.Needs.{needs}
 use Rattle.model_validate.proofs.alphabet_bad.Statement.{statement}
 use Rattle.model_validate.proofs.alphabet_bad.Tie as tie
 use Rattle.model_validate.proofs.alphabet_bad.Reads as reads
 use Rattle.model_validate.proofs.alphabet_bad.Lts as lts
-use Rattle.model_validate.proofs.gaps_bad.Reads as gaps-bad-reads
+use Rattle.model_sections.proofs.gaps_bad.Reads as gaps-bad-reads
 
 pub alphabet-bad-spec : {M : Type 1} → statement M
-alphabet-bad-spec = tie.close (tie.spec (λ c. sym (laws.alphabet-1 _ _ (c .if1 .taken))) (λ c. sym (laws.alphabet-2 _ _ (c .before .before .before .if1 .left) (c .if2 .taken))) (λ c. sym (laws.alphabet-3 _ _ (c .before .before .before .before .before .if1 .left) (c .before .before .if2 .left) (c .if3 .taken))) (λ c κs. search needs) (λ c. c .gaps-bad .ensures ∙ sym (laws.alphabet-4 _ _ (c .before .before .before .before .before .before .if1 .left) (c .before .before .before .if2 .left) (c .before .if3 .left))))
+alphabet-bad-spec = tie.close (tie.spec (λ c. sym (laws.alphabet-1 _ _ _ (c .if1 .taken))) (λ c. sym (laws.alphabet-2 _ _ _ (c .before .before .if1 .left) (c .if2 .taken))) (λ c. sym (laws.alphabet-3 _ _ _ (c .before .before .before .before .if1 .left) (c .before .before .if2 .left) (c .if3 .taken))) (λ c κs. search needs) (λ c. c .gaps-bad .ensures ∙ sym (laws.alphabet-4 _ _ _ (c .before .before .before .before .before .if1 .left) (c .before .before .before .if2 .left) (c .before .if3 .left))))

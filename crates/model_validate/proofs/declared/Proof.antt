@@ -1,4 +1,3 @@
-use Rattle.model_check.proofs.Laws as checks
 use Rattle.model_validate.proofs.Laws as laws
 use borrow.Author.Needs.{needs}
 use Rattle.model_validate.proofs.declared.Statement.{statement}
@@ -19,4 +18,4 @@ declared-spec =
     (λ c κs. search needs)
     (λ c. search needs)
     (λ c κs. search needs)
-    (λ c. laws.declared-is _ _ (c .before .before .before .before .before .before .place-of .ensures) (c .before .before .before .before .place-of2 .ensures) (c .before .before .place-of3 .ensures) (c .place-of4 .ensures)))
+    (λ c. laws.declared-is _ _ _ (c .before .before .before .before .before .before .place-of .ensures) (c .before .before .before .before .place-of2 .ensures) (c .before .before .place-of3 .ensures) (c .place-of4 .ensures)))

@@ -1,5 +1,4 @@
 use mathlib.Core.Path.{sym, _∙_}
-use Rattle.model_check.proofs.Laws as checks
 use Rattle.model_validate.proofs.Laws as laws
 use borrow.Author.Needs.{needs}
 use Rattle.model_validate.proofs.limits_bad.Statement.{statement}

@@ -1,5 +1,4 @@
 use mathlib.Core.Path.{sym}
-use Rattle.model_check.proofs.Laws as checks
 use Rattle.model_validate.proofs.Laws as laws
 use Rattle.model_validate.proofs.numbers_bad.Statement.{statement}
 use Rattle.model_validate.proofs.numbers_bad.Tie as tie

@@ -1,5 +1,4 @@
 use mathlib.Core.Path.{sym}
-use Rattle.model_check.proofs.Laws as checks
 use Rattle.model_validate.proofs.Laws as laws
 use Rattle.model_validate.proofs.size_bad.Statement.{statement}
 use Rattle.model_validate.proofs.size_bad.Tie as tie
@@ -7,4 +6,4 @@ use Rattle.model_validate.proofs.size_bad.Reads as reads
 use Rattle.model_validate.proofs.size_bad.Lts as lts
 
 pub size-bad-spec : {M : Type 1} → statement M
-size-bad-spec = tie.close (tie.spec (λ c. sym (laws.size-1 _ (c .if1 .taken))) (λ c. sym (laws.size-2 _ (c .before .before .if1 .left) (c .if2 .taken))) (λ c. sym (laws.size-3 _ (c .before .before .before .before .before .if1 .left) (c .before .before .before .if2 .left) (c .if3 .taken))) (λ c. sym (laws.size-4 _ (c .before .before .before .before .before .before .before .before .if1 .left) (c .before .before .before .before .before .before .if2 .left) (c .before .before .before .if3 .left) (c .if4 .taken))) (λ c. sym (laws.size-5 _ (c .before .before .before .before .before .before .before .before .before .before .if1 .left) (c .before .before .before .before .before .before .before .before .if2 .left) (c .before .before .before .before .before .if3 .left) (c .before .before .if4 .left))))
+size-bad-spec = tie.close (tie.spec (λ c. sym (laws.size-1 _ _ (c .if1 .taken))) (λ c. sym (laws.size-2 _ _ (c .before .if1 .left) (c .if2 .taken))) (λ c. sym (laws.size-3 _ _ (c .before .before .before .if1 .left) (c .before .before .if2 .left) (c .if3 .taken))) (λ c. sym (laws.size-4 _ _ (c .before .before .before .before .before .if1 .left) (c .before .before .before .before .if2 .left) (c .before .before .if3 .left) (c .if4 .taken))) (λ c. sym (laws.size-5 _ _ (c .before .before .before .before .before .before .if1 .left) (c .before .before .before .before .before .if2 .left) (c .before .before .before .if3 .left) (c .before .if4 .left))))

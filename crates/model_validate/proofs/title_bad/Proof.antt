@@ -1,5 +1,5 @@
 use mathlib.Core.Path.{sym}
-use Rattle.model_check.proofs.Laws as checks
+use Rattle.model_sections.proofs.Laws as parts
 use Rattle.model_validate.proofs.Laws as laws
 use borrow.Author.Needs.{needs}
 use Rattle.model_validate.proofs.title_bad.Statement.{statement}
@@ -21,4 +21,4 @@ title-bad-spec =
     (λ c. sym (laws.title-version _ _ (c .before .before .before .before .before .u16-at .ensures) (c .before .before .before .x .given .1) (c .if1 .taken)))
     (λ c κs. search needs)
     (λ c κs. search needs)
-    (λ c. sym (laws.title-length _ _ (c .before .before .before .before .before .before .before .u16-at .ensures) (c .before .before .before .before .before .x .given .1) (c .before .before .if1 .left) (laws.place-length _ _ (c .before .text-start .ensures) (c .text-len .ensures .0)))))
+    (λ c. sym (laws.title-length _ _ (c .before .before .before .before .before .before .before .u16-at .ensures) (c .before .before .before .before .before .x .given .1) (c .before .before .if1 .left) (parts.place-length _ _ (c .before .text-start .ensures) (c .text-len .ensures .0)))))

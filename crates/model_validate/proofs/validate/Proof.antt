@@ -1,4 +1,3 @@
-use Rattle.model_check.proofs.Laws as checks
 use Rattle.model_validate.proofs.Laws as laws
 use Rattle.model_validate.proofs.Agrees as agrees
 use borrow.Author.Needs.{needs}

@@ -1,6 +1,4 @@
 use mathlib.Core.Path.{sym, _∙_}
-use native.Mathlib.Omega.{arith}
-use Rattle.model_check.proofs.Laws as checks
 use Rattle.model_validate.proofs.Laws as laws
 use borrow.Author.Needs.{needs}
 use Rattle.model_validate.proofs.whole_check.Statement.{statement}
@@ -18,12 +16,12 @@ whole-check-spec =
     tie.close
     (tie.spec
     (λ c κs. search needs)
-    (λ c. sym (laws.model-1 _ _ _ (sym (c .before .title-bad .ensures) ∙ c .if1 .taken)))
+    (λ c. sym (laws.model-1 _ _ _ _ _ _ _ _ (sym (c .before .title-bad .ensures) ∙ c .if1 .taken)))
     (λ c κs. search needs)
-    (λ c. sym (laws.model-2 _ _ _ (sym (c .before .before .before .title-bad .ensures) ∙ c .before .before .if1 .left) (sym (c .before .size-bad .ensures) ∙ c .if2 .taken)))
+    (λ c. sym (laws.model-2 _ _ _ _ _ _ _ _ (sym (c .before .before .before .title-bad .ensures) ∙ c .before .before .if1 .left) (sym (c .before .size-bad .ensures) ∙ c .if2 .taken)))
     (λ c κs. search needs)
-    (λ c. sym (laws.model-3 _ _ _ (sym (c .before .before .before .before .before .title-bad .ensures) ∙ c .before .before .before .before .if1 .left) (sym (c .before .before .before .size-bad .ensures) ∙ c .before .before .if2 .left) (sym (c .before .limits-bad .ensures) ∙ c .if3 .taken)))
+    (λ c. sym (laws.model-3 _ _ _ _ _ _ _ _ (sym (c .before .before .before .before .before .title-bad .ensures) ∙ c .before .before .before .before .if1 .left) (sym (c .before .before .before .size-bad .ensures) ∙ c .before .before .if2 .left) (sym (c .before .limits-bad .ensures) ∙ c .if3 .taken)))
     (λ c κs. search needs)
-    (λ c. sym (laws.model-4 _ _ _ (sym (c .before .before .before .before .before .before .before .title-bad .ensures) ∙ c .before .before .before .before .before .before .if1 .left) (sym (c .before .before .before .before .before .size-bad .ensures) ∙ c .before .before .before .before .if2 .left) (sym (c .before .before .before .limits-bad .ensures) ∙ c .before .before .if3 .left) (sym (c .before .alphabet-bad .ensures) ∙ c .if4 .taken)))
-    (λ c κs. let z = laws.small _ _ (sym (c .before .before .before .before .before .size-bad .ensures) ∙ c .before .before .before .before .if2 .left) (sym (c .before .alphabet-bad .ensures) ∙ c .if4 .left) in (omega (arith, z .entities, c .before .before .before .before .before .before .before .before .before .pre), z))
-    (λ c. c .sections-check .ensures ∙ sym (laws.model-is _ _ _ (sym (c .before .before .before .before .before .before .before .before .title-bad .ensures) ∙ c .before .before .before .before .before .before .before .if1 .left) (sym (c .before .before .before .before .before .before .size-bad .ensures) ∙ c .before .before .before .before .before .if2 .left) (sym (c .before .before .before .before .limits-bad .ensures) ∙ c .before .before .before .if3 .left) (sym (c .before .before .alphabet-bad .ensures) ∙ c .before .if4 .left))))
+    (λ c. sym (laws.model-4 _ _ _ _ _ _ _ _ (sym (c .before .before .before .before .before .before .before .title-bad .ensures) ∙ c .before .before .before .before .before .before .if1 .left) (sym (c .before .before .before .before .before .size-bad .ensures) ∙ c .before .before .before .before .if2 .left) (sym (c .before .before .before .limits-bad .ensures) ∙ c .before .before .if3 .left) (sym (c .before .alphabet-bad .ensures) ∙ c .if4 .taken)))
+    (λ c κs. laws.small _ _ _ _ (sym (c .before .before .before .before .before .size-bad .ensures) ∙ c .before .before .before .before .if2 .left) (sym (c .before .alphabet-bad .ensures) ∙ c .if4 .left))
+    (λ c. c .sections-check .ensures ∙ sym (laws.model-is _ _ _ _ _ _ _ _ (sym (c .before .before .before .before .before .before .before .before .title-bad .ensures) ∙ c .before .before .before .before .before .before .before .if1 .left) (sym (c .before .before .before .before .before .before .size-bad .ensures) ∙ c .before .before .before .before .before .if2 .left) (sym (c .before .before .before .before .limits-bad .ensures) ∙ c .before .before .before .if3 .left) (sym (c .before .before .alphabet-bad .ensures) ∙ c .before .if4 .left))))

@@ -1,0 +1,35 @@
+use borrow.Author.Needs.{needs}
+use mathlib.Core.Path.{_≡_, refl, sym, _∙_}
+use Rattle.model_sections.proofs.Laws as laws
+use Rattle.model_sections.specs.Sections.{doubled}
+use Rattle.model_sections.proofs.doubled.Statement.{statement}
+use Rattle.model_sections.proofs.doubled.Tie as tie
+use Rattle.model_sections.proofs.doubled.Reads as reads
+use Rattle.model_sections.proofs.doubled.Lts as lts
+use Rattle.model_check.proofs.among.Reads as among-reads
+use Rattle.model_walk.proofs.u16_at.Reads as u16-at-reads
+
+abbrev Inv-loop : tie.InvT-loop
+Inv-loop s count at left₀ p₀ left p = doubled count s at ≡ doubled left s p
+
+abbrev μ-loop : tie.MeasureT-loop
+μ-loop s count at left₀ p₀ left p = left
+
+pub doubled-spec : {M : Type 1} → statement M
+doubled-spec =
+    tie.close
+    (tie.spec
+    Inv-loop
+    μ-loop
+    (λ c. refl)
+    (λ c κs. search needs)
+    (λ c. search needs)
+    (λ c. search needs)
+    (λ c. sym (c .before .before .before .before .loop .inv ∙ laws.double-broken _ _ (c .before .before .u16-at .ensures) _ (c .before .before .before .loop-test .taken) (c .enum-told .given .1)))
+    (λ c. search needs)
+    (λ c κs. search needs)
+    (λ c. sym (c .before .before .before .before .before .before .before .loop .inv ∙ laws.double-here _ _ (c .before .before .before .before .before .u16-at .ensures) (c .before .before .before .x .given .1) _ (c .before .before .before .before .before .before .loop-test .taken) (sym (c .before .among .ensures) ∙ c .if1 .taken)))
+    (λ c. search needs)
+    (λ c. search needs)
+    (λ c. c .before .before .before .before .before .before .before .loop .inv ∙ laws.double-later _ _ (c .before .before .before .before .before .u16-at .ensures) (c .before .before .before .x .given .1) _ (c .before .before .before .before .before .before .loop-test .taken) (sym (c .before .among .ensures) ∙ c .if1 .left))
+    (λ c. sym (c .before .loop .inv ∙ laws.double-end _ _ _ (c .loop-test .left))))

@@ -1,0 +1,32 @@
+use mathlib.Core.Path.{sym, _∙_}
+use Rattle.model_check.proofs.Laws as checks
+use Rattle.model_sections.proofs.Laws as laws
+use borrow.Author.Needs.{needs}
+use Rattle.model_sections.proofs.entity_check.Statement.{statement}
+use Rattle.model_sections.proofs.entity_check.Tie as tie
+use Rattle.model_sections.proofs.entity_check.Reads as reads
+use Rattle.model_sections.proofs.entity_check.Lts as lts
+use Rattle.model_check.proofs.skip.Reads as skip-reads
+use Rattle.model_sections.proofs.entity_rest_check.Reads as entity-rest-check-reads
+use Rattle.model_walk.proofs.u16_at.Reads as u16-at-reads
+
+pub entity-check-spec : {M : Type 1} → statement M
+entity-check-spec =
+    tie.close
+    (tie.spec
+    (λ c κs. search needs)
+    (λ c. search needs)
+    (λ c. search needs)
+    (λ c. sym (laws.entity-none _ _ _ _ (c .before .before .u16-at .ensures) (c .enum-told .given .1)))
+    (λ c κs. search needs)
+    (λ c. search needs)
+    (λ c. search needs)
+    (λ c. sym (laws.entity-no-count _ _ _ _ (c .before .before .before .before .before .before .u16-at .ensures) (c .before .before .before .before .x .given .1) (c .before .before .u16-at2 .ensures) (c .enum-told2 .given .1)))
+    (λ c. search needs)
+    (λ c. search needs)
+    (λ c κs. search needs)
+    (λ c. search needs)
+    (λ c. search needs)
+    (λ c. sym (laws.entity-is _ _ _ _ (c .before .before .before .before .before .before .before .before .before .before .u16-at .ensures) (c .before .before .before .before .before .before .before .before .x .given .1) (c .before .before .before .before .before .before .u16-at2 .ensures) (c .before .before .before .before .y .given .1) ∙ checks.refused _ _ _ _ _ (c .before .before .skip .ensures) (c .enum-told3 .given .1)))
+    (λ c κs. search needs)
+    (λ c. c .entity-rest-check .ensures ∙ sym (laws.entity-is _ _ _ _ (c .before .before .before .before .before .before .before .before .before .before .before .before .u16-at .ensures) (c .before .before .before .before .before .before .before .before .before .before .x .given .1) (c .before .before .before .before .before .before .before .before .u16-at2 .ensures) (c .before .before .before .before .before .before .y .given .1) ∙ checks.to _ _ _ _ _ (c .before .before .before .before .skip .ensures) (c .before .before .a .given .1))))

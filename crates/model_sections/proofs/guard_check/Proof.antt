@@ -1,0 +1,30 @@
+use mathlib.Core.Path.{sym, _∙_}
+use Rattle.model_check.proofs.Laws as checks
+use Rattle.model_sections.proofs.Laws as laws
+use borrow.Author.Needs.{needs}
+use Rattle.model_sections.proofs.guard_check.Statement.{statement}
+use Rattle.model_sections.proofs.guard_check.Tie as tie
+use Rattle.model_sections.proofs.guard_check.Reads as reads
+use Rattle.model_sections.proofs.guard_check.Lts as lts
+use Rattle.model_check.proofs.value_check.Reads as value-check-reads
+use Rattle.model_sections.proofs.conditions_check.Reads as conditions-check-reads
+use Rattle.model_walk.proofs.u16_at.Reads as u16-at-reads
+
+pub guard-check-spec : {M : Type 1} → statement M
+guard-check-spec =
+    tie.close
+    (tie.spec
+    (λ c κs. search needs)
+    (λ c. search needs)
+    (λ c. search needs)
+    (λ c. sym (laws.guard-is _ _ _ _ ∙ checks.by-broken _ _ _ _ _ (c .before .before .u16-at .ensures) (c .enum-told .given .1)))
+    (λ c κs. search needs)
+    (λ c. search needs)
+    (λ c. search needs)
+    (λ c. sym (laws.guard-is _ _ _ _ ∙ checks.by-is _ _ _ _ _ (c .before .before .before .before .before .before .u16-at .ensures) (c .before .before .before .before .x .given .1) ∙ checks.by-broken _ _ _ _ _ (c .before .before .u16-at2 .ensures) (c .enum-told2 .given .1)))
+    (λ c κs. search needs)
+    (λ c. search needs)
+    (λ c. search needs)
+    (λ c. sym (laws.guard-is _ _ _ _ ∙ checks.by-is _ _ _ _ _ (c .before .before .before .before .before .before .before .before .before .before .u16-at .ensures) (c .before .before .before .before .before .before .before .before .x .given .1) ∙ checks.by-is _ _ _ _ _ (c .before .before .before .before .before .before .u16-at2 .ensures) (c .before .before .before .before .y .given .1) ∙ checks.refused _ _ _ _ _ (c .before .before .conditions-check .ensures) (c .enum-told3 .given .1)))
+    (λ c κs. search needs)
+    (λ c. c .value-check .ensures ∙ sym (laws.guard-is _ _ _ _ ∙ checks.by-is _ _ _ _ _ (c .before .before .before .before .before .before .before .before .before .before .before .before .u16-at .ensures) (c .before .before .before .before .before .before .before .before .before .before .x .given .1) ∙ checks.by-is _ _ _ _ _ (c .before .before .before .before .before .before .before .before .u16-at2 .ensures) (c .before .before .before .before .before .before .y .given .1) ∙ checks.to _ _ _ _ _ (c .before .before .before .before .conditions-check .ensures) (c .before .before .a .given .1))))
