@@ -232,14 +232,14 @@ timed n st = states.moves (λ _ _ _. record { queue = refl; records = refl; runs
 module _ (x : List ℕ) (d : Ended) (a : List ℕ) (h : d .state .records * 13 ≤ length a) where
   pub closed-why : (d .why ≡ 0 → ⊥) → Closes x d d a a
   unfolding closedM
-  closed-why z = record { records = (refl, h); does = λ f q r u v n c total p g. subst (λ e. Halts f q a r u v n c total d e) (no-why p (λ e. z (g .why ∙ e))) g }
+  closed-why z = record { queue = refl; records = (refl, h); runs = refl; does = λ f q r u v n c total p g. subst (λ e. Halts f q a r u v n c total d e) (no-why p (λ e. z (g .why ∙ e))) g }
     where
       no-why : (p : Halt) → (p .why ≡ 0 → ⊥) → p ≡ closedM x p
       no-why p g = rw (ne-eqb (p .why) 0 g)
 
   pub closed-runs : d .why ≡ 0 → (d .state .active ≡ 0 → ⊥) → Closes x d d a a
   unfolding closedM
-  closed-runs z left = record { records = (refl, h); does = λ f q r u v n c total p g. subst (λ e. Halts f q a r u v n c total d e) (no-end p (sym (g .why) ∙ z) (λ e. left (g .stands .held .runs .many ∙ ap (λ m. length (m .runs)) (g .stands .is) ∙ e))) g }
+  closed-runs z left = record { queue = refl; records = (refl, h); runs = refl; does = λ f q r u v n c total p g. subst (λ e. Halts f q a r u v n c total d e) (no-end p (sym (g .why) ∙ z) (λ e. left (g .stands .held .runs .many ∙ ap (λ m. length (m .runs)) (g .stands .is) ∙ e))) g }
     where
       no-end : (p : Halt) → p .why ≡ 0 → (length (p .last .runs) ≡ 0 → ⊥) → p ≡ closedM x p
       no-end p e g = rw (eq-eqb (p .why) 0 e, ne-eqb (length (p .last .runs)) 0 g)
@@ -247,7 +247,9 @@ module _ (x : List ℕ) (d : Ended) (a : List ℕ) (h : d .state .records * 13 �
   pub closed-end : (s : State) (b : List ℕ) → Does (horizonM x) (d .state) s kept (goes a b) kept still → d .why ≡ 0 → d .state .active ≡ 0 → Closes x d (record { state = s; steps = d .steps; why = 0 }) a b
   unfolding closedM
   closed-end s b e z none-left = record {
+    queue = e .queue;
     records = e .records;
+    runs = e .runs;
     does = λ f q r u v n c total p g.
         let y = e .does v n c .does f q a r u (g .stands .content) (g .stands .held) in
         subst (λ h'. Halts f q b r u v n c total (record { state = s; steps = d .steps; why = 0 }) h') (the-end p (sym (g .why) ∙ z) (sym (ap (λ m. length (m .runs)) (g .stands .is)) ∙ sym (g .stands .held .runs .many) ∙ none-left))

@@ -131,5 +131,7 @@ unfoldable pub closedM : List ℕ → Halt → Halt
 closedM x p = if eqb (p .why) 0 then (if eqb (length (p .last .runs)) 0 then halt (horizonM x (p .last)) (p .left) 0 else p) else p
 
 pub record Closes (x : List ℕ) (d e : Ended) (a a' : List ℕ) : Type 0 where
+  pub queue : e .state .first + e .state .items ≡ d .state .first + d .state .items
   pub records : Side 13 (goes a a') (d .state .records) (e .state .records)
+  pub runs : e .state .active ≡ d .state .active
   pub does : (f q r u v n c : List ℕ) (total : ℕ) (p : Halt) → Halts f q a r u v n c total d p → Halts f q a' r u v n c total e (closedM x p)

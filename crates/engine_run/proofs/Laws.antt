@@ -8,12 +8,15 @@ use lib.ListN.{length, getD, replicate, length-replicate}
 use borrow.Author.Tests.{eq-eqb, ne-eqb}
 use native.Mathlib.Omega.{arith}
 use Rattle.texts.specs.Texts.{Text}
-use Rattle.areas.specs.Areas.{area}
+use Rattle.areas.specs.Areas.{area, cleared}
 use Rattle.areas.proofs.Laws as areas
 use Rattle.queue.proofs.Laws as queue
 use Rattle.records.specs.Records.{recordWords}
 use Rattle.runs.specs.Runs.{runWords}
-use Rattle.reasons.specs.Lists.{Holds}
+use Rattle.runs.specs.declared.Run.{Run}
+use Rattle.reasons.specs.Lists.{Holds, listed}
+use Rattle.reasons.proofs.Listing as listing
+use Rattle.runs.proofs.Laws as runs
 use Rattle.engine_state.specs.declared.Cells.{Cells}
 use Rattle.engine_state.specs.declared.State.{State}
 use Rattle.engine_state.specs.Machine.{entire, machine}
@@ -31,6 +34,8 @@ module _ {f x l : List ℕ} {n : ℕ} {st s : State} {d e : Ended} {q q' q₂ a 
     records = z .records .0 ∙ w .records .0 ∙ b .records .0;
     runs = w .runs .0;
     reasons = w .reasons .0;
+    items-fit = rw (z .queue) (w .queue .1);
+    runs-fit = rw (z .runs) (w .runs .1);
     does = λ k held.
         let y = b .does v i c .does f q a r u k held in
         z .does f q₂ r' u' v' i' c' (getD x 3 0) (loopM f x (getD x 3 0) (begunM x l n (machine (entire st v i c) k))) (subst (λ m. Halts f q₂ a₂ r' u' v' i' c' (getD x 3 0) d (loopM f x (getD x 3 0) m)) (y .is) (w .does (y .content) (y .held)));
@@ -71,6 +76,13 @@ told-is {v = v} {total = total} {e = e} p g z =
 pub zero-length : (n : ℕ) (y : List ℕ) → y ≡ replicate n 0 → length y ≡ n
 zero-length n y e = ap length e ∙ length-replicate n 0
 
+none-of-runs : (a b : List ℕ) (n : ℕ) (l : List Run) → length l ≡ n → a ≡ area runWords (length a) l → n * 28 ≤ length a → b ≡ cleared a 0 (n * 28) → b ≡ replicate (length a) 0
+none-of-runs a b n l e is h c =
+    let z : length a - 0 ≡ length a = omega arith in
+    c ∙ ap (λ y. cleared y 0 (n * 28)) is
+    ∙ ap (λ i. cleared (area runWords i l) 0 (n * 28)) (sym z)
+    ∙ areas.none-left runWords 28 runs.sized 0 (length a) n l e (omega arith)
+
 pub tenth : (n : ℕ) → n / 10 * 5 ≤ n
 tenth n = omega arith
 
@@ -92,16 +104,27 @@ module _ (f : List ℕ) (c : Cells) (so-far : ℕ) (q q₁ a a₁ r r₁ u : Lis
     halted : (t : List Text) → Holds f t so-far u → Halts f q₂ a₂ r₂ u₂ v i j (getD x 3 0) e (whollyM f x l n (beginning c (length q / 5) (length a / 13) (length r / 28) t))
     halted t h = (subst (λ z. Wholly f x l n z e q₁ q₂ a₁ a₂ r₁ r₂ u u₂ (c .values) v (c .versions) i (replicate 32 0) j) is w) .does (nothing-yet (length q / 5) (length a / 13) (length r / 28) t) (held-none t h)
 
+    -- where the loop halts the areas hold the items and runs that are left, whatever the reasons are
+    pub no-items : (q₃ : List ℕ) → q₃ ≡ cleared q₂ (e .state .first * 5) (e .state .items * 5) → q₃ ≡ replicate (length q₂) 0
+    no-items q₃ c =
+        let left = halted (listed f so-far u) (listing.holds f so-far u (listed f so-far u) refl) .stands .held in
+        queue.none-left q₂ q₃ (e .state .first) (e .state .items) _ (sym (left .queue .many)) (left .queue .is) (w .items-fit) c
+
+    pub no-runs : (r₃ : List ℕ) → r₃ ≡ cleared r₂ 0 (e .state .active * 28) → r₃ ≡ replicate (length r₂) 0
+    no-runs r₃ c =
+        let left = halted (listed f so-far u) (listing.holds f so-far u (listed f so-far u) refl) .stands .held in
+        none-of-runs r₂ r₃ (e .state .active) _ (sym (left .runs .many)) (left .runs .is) (w .runs-fit) c
+
     same-records : length a₂ ≡ length a
     same-records = w .records ∙ zeros a a₁ ea
 
     texts-are : {g y : List ℕ} {t : List Text} {k : ℕ} → Holds g t k y → Holds g t (length t) y
     texts-are {g} {y} {t} h = subst (λ k. Holds g t k y) (h .many) h
 
-    pub answered : (q₃ r₃ : List ℕ) (s : Simulation) → q₃ ≡ replicate (length q₂) 0 → r₃ ≡ replicate (length r₂) 0 → e .state .full ≡ 0 → s ≡ answerS e v → Simulates f x l n c so-far s q q₃ a a₂ r r₃ u u₂
+    pub answered : (q₃ r₃ : List ℕ) (s : Simulation) → q₃ ≡ cleared q₂ (e .state .first * 5) (e .state .items * 5) → r₃ ≡ cleared r₂ 0 (e .state .active * 28) → e .state .full ≡ 0 → s ≡ answerS e v → Simulates f x l n c so-far s q q₃ a a₂ r r₃ u u₂
     answered q₃ r₃ s cq cr z es = record {
-      queue = cq ∙ ap (λ k. replicate k 0) (w .queue ∙ zeros q q₁ eq);
-      runs = cr ∙ ap (λ k. replicate k 0) (w .runs ∙ zeros r r₁ er);
+      queue = no-items q₃ cq ∙ ap (λ k. replicate k 0) (w .queue ∙ zeros q q₁ eq);
+      runs = no-runs r₃ cr ∙ ap (λ k. replicate k 0) (w .runs ∙ zeros r r₁ er);
       does = λ t h. by (whollyM f x l n (beginning c (length q / 5) (length a / 13) (length r / 28) t)) (halted t h);
     }
       where
@@ -114,10 +137,10 @@ module _ (f : List ℕ) (c : Cells) (so-far : ℕ) (q q₁ a a₁ r r₁ u : Lis
               reasons = subst (λ m. Holds f (m .reasons) (length (m .reasons)) u₂) (g .stands .is) (texts-are (g .stands .held .reasons));
             }
 
-    pub refused : (q₃ r₃ a₃ : List ℕ) (s : Simulation) → q₃ ≡ replicate (length q₂) 0 → r₃ ≡ replicate (length r₂) 0 → a₃ ≡ replicate (length a₂) 0 → (e .state .full ≡ 0 → ⊥) → s ≡ refusalS (e .state .full) → Simulates f x l n c so-far s q q₃ a a₃ r r₃ u u₂
+    pub refused : (q₃ r₃ a₃ : List ℕ) (s : Simulation) → q₃ ≡ cleared q₂ (e .state .first * 5) (e .state .items * 5) → r₃ ≡ cleared r₂ 0 (e .state .active * 28) → a₃ ≡ replicate (length a₂) 0 → (e .state .full ≡ 0 → ⊥) → s ≡ refusalS (e .state .full) → Simulates f x l n c so-far s q q₃ a a₃ r r₃ u u₂
     refused q₃ r₃ a₃ s cq cr ca z es = record {
-      queue = cq ∙ ap (λ k. replicate k 0) (w .queue ∙ zeros q q₁ eq);
-      runs = cr ∙ ap (λ k. replicate k 0) (w .runs ∙ zeros r r₁ er);
+      queue = no-items q₃ cq ∙ ap (λ k. replicate k 0) (w .queue ∙ zeros q q₁ eq);
+      runs = no-runs r₃ cr ∙ ap (λ k. replicate k 0) (w .runs ∙ zeros r r₁ er);
       does = λ t h. by (whollyM f x l n (beginning c (length q / 5) (length a / 13) (length r / 28) t)) (halted t h);
     }
       where

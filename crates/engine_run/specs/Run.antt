@@ -1,5 +1,5 @@
 -- A simulation: the machine that begins, where its loop halts, and the answer.
-use Prim.Native.Nat.{ℕ, _-_, _/_}
+use Prim.Native.Nat.{ℕ, _+_, _-_, _*_, _/_, _≤_}
 use mathlib.Core.Path.{_≡_}
 use mathlib.Core.Bool.{false, not}
 use mathlib.Core.List.{List, []}
@@ -7,7 +7,7 @@ use lib.Dec.{eqb}
 use lib.ListN.{length, getD, replicate}
 use Rattle.texts.specs.Lists.{if_then_else_}
 use Rattle.texts.specs.Texts.{Text}
-use Rattle.areas.specs.Areas.{area}
+use Rattle.areas.specs.Areas.{area, cleared}
 use Rattle.records.specs.Records.{recordWords}
 use Rattle.reasons.specs.Lists.{Holds}
 use Rattle.engine_state.specs.declared.Cells.{Cells}
@@ -27,6 +27,8 @@ pub record Wholly (f x l : List ℕ) (n : ℕ) (st : State) (e : Ended) (q q' a 
   pub records : length a' ≡ length a
   pub runs : length r' ≡ length r
   pub reasons : length u' ≡ length u
+  pub items-fit : (e .state .first + e .state .items) * 5 ≤ length q'
+  pub runs-fit : e .state .active * 28 ≤ length r'
   pub does : (k : Content) → Held f q a r u (entire st v i c) k → Halts f q' a' r' u' v' i' c' (getD x 3 0) e (whollyM f x l n (machine (entire st v i c) k))
 
 -- the state at the start, and what the areas hold then
@@ -39,6 +41,11 @@ nothing-yet i j k l = record { queueSize = i; recordSize = j; runSize = k; queue
 
 abbrev pub beginning : Cells → (items records runs : ℕ) → List Text → Machine
 beginning c i j k l = record { now = 0; full = 0; made = 0; sequences = replicate 32 0; values = c .values; versions = c .versions; queueSize = i; recordSize = j; runSize = k; queue = []; records = []; runs = []; reasons = l }
+
+-- n words from `from` on are cleared
+pub record Clears (a : List ℕ) (from n : ℕ) (b : List ℕ) : Type 0 where
+  pub is : b ≡ cleared a from n
+  pub long : length b ≡ length a
 
 -- ---- the answer
 

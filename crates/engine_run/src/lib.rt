@@ -6,7 +6,7 @@ ghost use mathlib.Core.Path.{_≡_};
 ghost use Prim.Native.Nat.{_+_, _*_, _≤_, _<_};
 ghost use lib.ListN.{length};
 ghost use Rattle.engine_state.specs.Steps.{Fits};
-ghost use Rattle.engine_run.specs.Run.{Wholly, start-of, refusalS, answerS, Simulates};
+ghost use Rattle.engine_run.specs.Run.{Clears, Wholly, start-of, refusalS, answerS, Simulates};
 
 // All of the loop, with what begins and what closes it.
 fn run_all(
@@ -88,6 +88,22 @@ fn answer(e: Ended, values: [u32; 32]) -> Simulation
     }
 }
 
+// The items of a queue are cleared, n from the entry `first` on.
+fn clear_items(q: &mut [u32], first: usize, n: usize)
+    requires { ⌜ (first + n) * 5 ≤ length (now q) ⌝ }
+    ensures { λ _. ⌜ Clears (now (q .entry)) (first * 5) (n * 5) (now (q .exit)) ⌝ }
+{
+    areas::clear(q, first * 5, n * 5);
+}
+
+// The first n runs are cleared.
+fn clear_runs(r: &mut [u32], n: usize)
+    requires { ⌜ n * 28 ≤ length (now r) ⌝ }
+    ensures { λ _. ⌜ Clears (now (r .entry)) 0 (n * 28) (now (r .exit)) ⌝ }
+{
+    areas::clear(r, 0, n * 28);
+}
+
 // The areas of queue, records and runs are cleared before; `u` holds so many reasons.
 // After it queue and runs are cleared, and the records too if an area was full.
 pub fn simulated(
@@ -129,8 +145,9 @@ pub fn simulated(
         st,
     );
     let s = e.state;
-    areas::clear_all(q);
-    areas::clear_all(r);
+    // Only the items and runs that are left: the rest is zeros.
+    clear_items(q, s.first, s.items);
+    clear_runs(r, s.active);
     if s.full != 0 {
         areas::clear_all(a);
         return refusal(s.full);
