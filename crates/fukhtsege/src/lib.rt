@@ -73,12 +73,12 @@ pub extern "C" fn fukhtsege_validate(file: &[u8]) -> u32
 
 // ---- simulate
 
-fn lay_simulation(
+fn lay_simulation<'a>(
     out: &mut [u64],
     at: usize,
     head: &[u64; 8],
-    values: &[u32; 32],
-    reasons: &[u32; 1500],
+    values: &'a [u32; 32],
+    reasons: &'a [u32; 1500],
 )
     requires { ⌜ at + 1540 ≤ length (now out) ⌝ }
     ensures { λ _. ⌜ now (out .exit) ≡ laidSimulation at (now (head .entry)) (now (values .entry)) (now (reasons .entry)) (now (out .entry)) ⌝ }
@@ -102,9 +102,7 @@ fn put_simulation(out: &mut [u64], at: usize, s: Simulation)
         0,
         0,
     ];
-    let values = s.values;
-    let reasons = s.reasons;
-    lay_simulation(out, at, &head, &values, &reasons);
+    lay_simulation(out, at, &head, &s.values, &s.reasons);
 }
 
 #[no_mangle]
@@ -139,13 +137,13 @@ fn status_number(status: Status) -> u64
     }
 }
 
-fn lay_check(
+fn lay_check<'a>(
     out: &mut [u64],
     at: usize,
     head: &[u64; 4],
-    violated: &[u64; 256],
-    unknowns: &[u32; 2000],
-    incompletes: &[u32; 200],
+    violated: &'a [u64; 256],
+    unknowns: &'a [u32; 2000],
+    incompletes: &'a [u32; 200],
 )
     requires { ⌜ at + 2460 ≤ length (now out) ⌝ }
     ensures { λ _. ⌜ now (out .exit) ≡ laidCheck at (now (head .entry)) (now (violated .entry)) (now (unknowns .entry)) (now (incompletes .entry)) (now (out .entry)) ⌝ }
@@ -167,10 +165,7 @@ fn put_check(out: &mut [u64], at: usize, c: CheckResult)
         c.unknown as u64,
         c.incomplete as u64,
     ];
-    let violated = c.violated;
-    let unknowns = c.unknowns;
-    let incompletes = c.incompletes;
-    lay_check(out, at, &head, &violated, &unknowns, &incompletes);
+    lay_check(out, at, &head, &c.violated, &c.unknowns, &c.incompletes);
     let simulation = c.simulation;
     put_simulation(out, at + 2460, simulation);
 }
@@ -218,13 +213,13 @@ fn refusal_of(status: Found) -> u32
     }
 }
 
-fn lay_search(
+fn lay_search<'a>(
     out: &mut [u64],
     head: &[u64; 16],
-    inputs: &[u32; 36],
-    seconds: &[u32; 4],
-    words: &[u32; 20],
-    told: &[u32; 2000],
+    inputs: &'a [u32; 36],
+    seconds: &'a [u32; 4],
+    words: &'a [u32; 20],
+    told: &'a [u32; 2000],
 )
     requires { ⌜ 2076 ≤ length (now out) ⌝ }
     ensures { λ _. ⌜ now (out .exit) ≡ laidSearch (now (head .entry)) (now (inputs .entry)) (now (seconds .entry)) (now (words .entry)) (now (told .entry)) (now (out .entry)) ⌝ }
@@ -259,11 +254,7 @@ fn put_verification(out: &mut [u64], v: Verification)
         0,
         0,
     ];
-    let inputs = v.inputs;
-    let seconds = v.seconds;
-    let words = v.words;
-    let told = v.told;
-    lay_search(out, &head, &inputs, &seconds, &words, &told);
+    lay_search(out, &head, &v.inputs, &v.seconds, &v.words, &v.told);
     let check = v.check;
     put_check(out, 2076, check);
 }
@@ -312,8 +303,7 @@ fn put_minimized(out: &mut [u64], m: Minimized)
         0,
         0,
     ];
-    let words = m.words;
-    lay_reduction(out, &head, &words);
+    lay_reduction(out, &head, &m.words);
     let check = m.check;
     put_check(out, 408, check);
 }
@@ -339,14 +329,14 @@ pub extern "C" fn fukhtsege_minimize(
 
 // ---- lint
 
-fn lay_report(
+fn lay_report<'a>(
     out: &mut [u64],
     head: &[u64; 4],
-    cycles: &[u32; 32],
-    reads: &[u32; 32],
-    writes: &[u32; 32],
-    names: &[u32; 64],
-    readers: &[u32; 64],
+    cycles: &'a [u32; 32],
+    reads: &'a [u32; 32],
+    writes: &'a [u32; 32],
+    names: &'a [u32; 64],
+    readers: &'a [u32; 64],
 )
     requires { ⌜ 228 ≤ length (now out) ⌝ }
     ensures { λ _. ⌜ now (out .exit) ≡ laidReport (now (head .entry)) (now (cycles .entry)) (now (reads .entry)) (now (writes .entry)) (now (names .entry)) (now (readers .entry)) (now (out .entry)) ⌝ }
@@ -369,12 +359,15 @@ fn put_report(out: &mut [u64], r: Report)
         r.components as u64,
         r.undeclared as u64,
     ];
-    let cycles = r.cycles;
-    let reads = r.reads;
-    let writes = r.writes;
-    let names = r.names;
-    let readers = r.readers;
-    lay_report(out, &head, &cycles, &reads, &writes, &names, &readers);
+    lay_report(
+        out,
+        &head,
+        &r.cycles,
+        &r.reads,
+        &r.writes,
+        &r.names,
+        &r.readers,
+    );
 }
 
 #[no_mangle]
@@ -414,8 +407,7 @@ fn put_cone(out: &mut [u64], r: ConeResult)
         r.undeclared as u64,
         0,
     ];
-    let names = r.names;
-    lay_cone(out, &head, &names);
+    lay_cone(out, &head, &r.names);
 }
 
 #[no_mangle]
