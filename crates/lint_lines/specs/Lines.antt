@@ -19,13 +19,15 @@ spaced l = flat (λ t. 32 ∷ t) l
 unfoldable pub listed : List Text → Text
 listed l = decimal (length l) ++ spaced l
 
+-- `N "TEXT"..`
 unfoldable pub quoted-list : List Text → Text
 quoted-list l = listed (each quoted l)
 
+-- `N LINE:COLUMN..`
 unfoldable pub source-list : List Source → Text
 source-list l = listed (each (λ s. placed (s .line) (s .column)) l)
 
--- `CODE CERTAINTY TIER `
+-- `finding CODE CERTAINTY TIER `
 unfoldable pub kind-part : (code certainty tier : Text) → Text
 kind-part x c t = text "finding " ++ (x ++ (32 ∷ (c ++ (32 ∷ (t ++ (32 ∷ []))))))
 

@@ -11,7 +11,7 @@ ghost use Prim.Native.Nat.{_+_, _≤_, _<_};
 ghost use lib.Dec.{ltb};
 ghost use lib.ListN.{length, getD};
 ghost use Rattle.texts.specs.Lists.{if_then_else_, each, flat, through};
-ghost use Rattle.texts.specs.Texts.{Text, text};
+ghost use Rattle.texts.specs.Texts.{Text};
 ghost use Rattle.texts.specs.Places.{textAt};
 ghost use Rattle.reasons.specs.Reasons.{render, placed};
 ghost use Rattle.lint.specs.Findings.{code-name, message};
