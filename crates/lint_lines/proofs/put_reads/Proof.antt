@@ -1,23 +1,21 @@
 use borrow.Author.Needs.{needs}
-use mathlib.Core.Path.{_≡_}
-use lib.ListN.{length}
+use mathlib.Core.Path.{refl, _∙_}
+use Prim.Native.Nat.{ℕ}
+use Rattle.texts.specs.Lists.{each}
+use Rattle.show.specs.Lines.{quoted}
+use Rattle.lint_lines.specs.Lines.{spaced}
+use Rattle.lint_lines.specs.Numbers.{text-at, ascending, read-places}
+use Rattle.lint_lines.proofs.Loops as loops
+use Rattle.show.proofs.Laws as show
+use Rattle.lint_lines.proofs.Laws as laws
 use Rattle.lint_lines.proofs.put_reads.Statement.{statement}
 use Rattle.lint_lines.proofs.put_reads.Tie as tie
-use Rattle.lint_lines.proofs.put_reads.Reads as reads
-use Rattle.lint_lines.proofs.put_reads.Lts as lts
-use Rattle.lint_lines.proofs.behind.Reads as behind-reads
-use Rattle.lint_lines.proofs.long.Reads as long-reads
-use Rattle.lint_lines.proofs.name_read.Reads as name-read-reads
-use Rattle.lint_lines.proofs.put_if_place.Reads as put-if-place-reads
-use Rattle.lint_lines.proofs.strangers.Reads as strangers-reads
-use Rattle.lint_lines.proofs.sum.Reads as sum-reads
-use Rattle.show.proofs.put_number.Reads as put-number-reads
 
 abbrev Inv-loop : tie.InvT-loop
-Inv-loop out₀ n f r reader set entities declared m₀ from₀ left₀ out m from left = length out ≡ length out₀
+Inv-loop out₀ n f entities r i m₀ from₀ left₀ out m from left = loops.Part (spaced (each (λ (p : ℕ). quoted (text-at f p)) (ascending 97 0 (read-places f entities r i)))) (spaced (each (λ (p : ℕ). quoted (text-at f p)) (ascending left from (read-places f entities r i)))) out₀ m₀ out m
 
 abbrev μ-loop : tie.MeasureT-loop
-μ-loop out₀ n f r reader set entities declared m₀ from₀ left₀ out m from left = left
+μ-loop out₀ n f entities r i m₀ from₀ left₀ out m from left = left
 
 pub put-reads-spec : {M : Type 1} → statement M
 put-reads-spec =
@@ -27,14 +25,12 @@ put-reads-spec =
     μ-loop
     (λ c κs. search needs)
     (λ c κs. search needs)
-    (λ c κs. search needs)
-    (λ c κs. search needs)
-    (λ c. search needs)
+    (λ c. loops.begun refl)
     (λ c κs. search needs)
     (λ c κs. search needs)
     (λ c κs. search needs)
     (λ c. search needs)
     (λ c. search needs)
-    (λ c. search needs)
-    (λ c. search needs)
-    (λ c. search needs))
+    (λ c. loops.further (loops.read-next _ _ _ _ _ _ (c .before .before .before .before .before .before .loop-test .taken) (c .before .before .before .before .before .read-from .ensures) (c .behind .ensures)) (c .before .before .before .before .before .before .before .loop .inv) (c .before .before .before .put-text-at .ensures))
+    (λ c. c .before .loop .inv .written .same ∙ c .before .before .before .before .put-number .ensures .same)
+    (λ c. show.is (laws.reads-listed _ _ _ (c .before .before .before .before .before .reads-count .ensures)) (show.both (c .before .before .before .before .put-number .ensures) (loops.finished (loops.read-end _ _ _ _ (c .loop-test .left)) (c .before .loop .inv)))))

@@ -1,19 +1,22 @@
 use borrow.Author.Needs.{needs}
-use Prim.Native.Nat.{_-_, _≤_}
-use mathlib.Core.Path.{_≡_}
-use lib.ListN.{length}
+use mathlib.Core.Path.{_∙_}
+use Prim.Native.Nat.{ℕ, _-_, _≤_}
+use Rattle.texts.specs.Lists.{each}
+use Rattle.lint_reach.specs.Sets.{holds, members}
+use Rattle.lint_lines.specs.Lines.{spaced}
+use Rattle.lint_lines.proofs.Loops as loops
+use Rattle.reasons.specs.Reasons.{placed}
+use Rattle.lint_lines.specs.Numbers.{rule-source}
+use Rattle.show.proofs.Laws as show
+use Rattle.lint_lines.proofs.Laws as laws
 use Rattle.lint_lines.proofs.put_rule_sources.Statement.{statement}
 use Rattle.lint_lines.proofs.put_rule_sources.Tie as tie
-use Rattle.lint_lines.proofs.put_rule_sources.Reads as reads
-use Rattle.lint_lines.proofs.put_rule_sources.Lts as lts
-use Rattle.lint_lines.proofs.put_rule_source.Reads as put-rule-source-reads
-use Rattle.show.proofs.put_number.Reads as put-number-reads
 
 abbrev Inv-loop : tie.InvT-loop
-Inv-loop out₀ n f rules set m₀ i₀ out m i = (i ≤ 32) × (length out ≡ length out₀)
+Inv-loop out₀ n f rules set many m₀ i₀ out m i = loops.Part (spaced (each (λ (j : ℕ). placed (rule-source f rules j .line) (rule-source f rules j .column)) (members set))) (spaced (each (λ (j : ℕ). placed (rule-source f rules j .line) (rule-source f rules j .column)) (loops.from-on 32 (holds set) i))) out₀ m₀ out m × (i ≤ 32)
 
 abbrev μ-loop : tie.MeasureT-loop
-μ-loop out₀ n f rules set m₀ i₀ out m i = 32 - i
+μ-loop out₀ n f rules set many m₀ i₀ out m i = 32 - i
 
 pub put-rule-sources-spec : {M : Type 1} → statement M
 put-rule-sources-spec =
@@ -23,10 +26,10 @@ put-rule-sources-spec =
     μ-loop
     (λ c κs. search needs)
     (λ c κs. search needs)
-    (λ c. search needs)
+    (λ c. (loops.begun (loops.members-begun _ _), search needs))
     (λ c κs. search needs)
     (λ c. search needs)
     (λ c. search needs)
-    (λ c. search needs)
-    (λ c. search needs)
-    (λ c. search needs))
+    (λ c. (loops.further (loops.turn 32 (holds (c .before .before .before .before .before .before .before .before .before .before .before .before .before .args .set)) _ (c .before .before .before .before .before .loop .i) (c .before .before .before .before .loop-test .taken)) (c .before .before .before .before .before .loop .inv .0) (c .before .before .put-rule-source .ensures), search needs))
+    (λ c. c .before .loop .inv .0 .written .same ∙ c .before .before .before .before .put-number .ensures .same)
+    (λ c. show.is (laws.sources-listed _ _ _ _ (c .before .before .before .before .before .long .ensures) (search needs)) (show.both (c .before .before .before .before .put-number .ensures) (loops.finished (loops.end 32 _ _ _ (c .loop-test .left)) (c .before .loop .inv .0)))))
