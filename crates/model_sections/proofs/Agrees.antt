@@ -50,9 +50,6 @@ unfolding is-empty
 empty-is [] = refl
 empty-is (x ∷ l) = sym (ne-eqb (suc (length l)) 0 (λ e. absurd (omega arith)))
 
-wide-none : (s : List ℕ) (p : ℕ) → p ≤ length s → Wide 0 s p p
-wide-none s p h = record { ends = omega arith; inside = omega arith }
-
 -- the tests of an entity, in the code's order and in the definition's
 tests : (a b : Bool) (w : Verdict) (p n : ℕ) → (if a then checked.Refused 5 else if b then checked.Refused 6 else after p (w and answer n)) ≡ after p ((5 when a and 6 when b and w) and answer n)
 unfolding _when_ _and_ after
