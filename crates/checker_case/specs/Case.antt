@@ -12,15 +12,14 @@ use Rattle.model_index.specs.Indexed.{Indexed}
 use Rattle.engine.specs.Cells.{initial-cells}
 pub use Rattle.engine.specs.Words.{sizes}
 use Rattle.engine_places.specs.Events.{Among, EventAt}
-use Rattle.engine_entry.specs.declared.Ground.{Ground}
-use Rattle.engine_entry.specs.Answers.{Grounds}
+use Rattle.engine_entry.specs.Answers.{Ground, Grounds}
 use Rattle.engine_entry.proofs.Core.{tb}
 use Rattle.checker.specs.Check.{Check, checked}
 use Rattle.checker_entry.specs.declared.Status.{Status}
 use Rattle.checker_entry.specs.declared.Status.the-variants as status
 use Rattle.checker_entry.specs.declared.CheckResult.{CheckResult}
-use Rattle.checker_entry.specs.Answers.{Shows, no-check}
-use Rattle.checker_entry.specs.Parts.{Sized}
+use Rattle.checker_entry.specs.Answers.{Shows}
+use Rattle.checker_entry.specs.Parts.{Sized, RefusedAs}
 use Rattle.checker_entry.specs.Pool.{check-pool}
 
 abbrev pub refusedV : Status → Bool
@@ -37,12 +36,17 @@ pub record Part (n most r : ℕ) : Type 0 where
 module _ (f : List ℕ) (m : Model) (r : CheckResult) (x : Answer Check) where
   pub data Tells : Type 0 where
     answers : (c : Check) → x ≡ answer c → Shows f r c → Among (check-pool m) (c .unknown) → Among (check-pool m) (c .incomplete) → Tells
-    refuses : (n : ℕ) → 41 ≤ n → n ≤ 43 → x ≡ refused n → r ≡ no-check n → Tells
+    refuses : (n : ℕ) → 41 ≤ n → n ≤ 43 → x ≡ refused n → RefusedAs n r → Tells
 
 -- with areas of q, a and u words
-pub record Cased (f : List ℕ) (i : Index) (g : Ground) (v : List ℕ) (n : ℕ) (r : CheckResult) (q a u : ℕ) : Type 0 where
+pub record Cased (f starts : List ℕ) (many : ℕ) (g : Ground) (v : List ℕ) (n : ℕ) (r : CheckResult) (q a u : ℕ) : Type 0 where
   pub sized : Sized r
-  pub does : (m : Model) (acc : accepted f ≡ answer m) (o : Indexed f i m) (bytes : (k : ℕ) → getD f k 0 < 256) (gr : Grounds f i g)
+  pub does : (i : Index) → starts ≡ i .invariants .starts → many ≡ i .invariants .count
+      → (m : Model) (acc : accepted f ≡ answer m) (o : Indexed f i m) (bytes : (k : ℕ) → getD f k 0 < 256) (gr : Grounds f i g)
       (d : Event) (vs : List Event)
       → ((j : ℕ) → j < length vs → EventAt f (g .table) (o .ts) m (tb f i m acc o bytes g gr) v j (getD vs j d)) → n ≡ length vs
       → Tells f m r (checked (sizes q a u) m (initial-cells (m .scenario .entities)) vs)
+
+-- in a part of these areas, which may be too small
+abbrev pub Parted : (f starts : List ℕ) → (many : ℕ) → Ground → (v : List ℕ) → (n : ℕ) → CheckResult → (q a u : ℕ) → Type 0
+Parted f starts many g v n r q a u = refusedV (r .status) ≡ false → Cased f starts many g v n r q a u

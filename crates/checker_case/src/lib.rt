@@ -1,13 +1,14 @@
 // The check of a case among many: first in a small part of the lent areas, which is quick to clear, and in all of them only if
 // that part is too small. What isn't refused in the part is the same in all of them.
-use checker_entry::CheckResult;
+use checker_entry::Judgement;
+use checker_entry::Shared;
 use checker_entry::Status;
-use engine_entry::Ground;
-use model_index::Index;
 ghost use mathlib.Core.Path.{_≡_};
 ghost use Prim.Native.Nat.{_*_, _≤_};
 ghost use lib.ListN.{length};
-ghost use Rattle.checker_case.specs.Case.{refusedV, Part, Cased};
+ghost use Rattle.engine_entry.specs.Answers.{ground};
+ghost use Rattle.checker_entry.specs.Answers.{result-of};
+ghost use Rattle.checker_case.specs.Case.{refusedV, Part, Parted, Cased};
 
 fn is_refused(status: Status) -> bool
     ensures { λ r. ⌜ r ≡ refusedV status ⌝ }
@@ -31,35 +32,100 @@ fn part(n: usize, most: usize) -> usize
     n
 }
 
-pub fn check_case(
+// In the part. `notes` holds the reasons of the notes.
+fn check_part(
     file: &[u8],
-    index: Index,
-    g: Ground,
+    table: &[u32; 436],
+    starts: &[usize; 100],
+    notes: &[u32; 1500],
+    shared: Shared,
     events: &[u32],
     n: usize,
     queue: &mut [u32],
     records: &mut [u32],
     runs: &mut [u32],
-) -> CheckResult
-    requires { ⌜ (n * 4 ≤ length (now events)) × (length (g .reasons) ≡ 1500) ⌝ }
-    ensures { λ r. ⌜ Cased (now (file .entry)) index g (now (events .entry)) n r (length (now (queue .entry))) (length (now (records .entry))) (length (now (runs .entry))) ⌝ }
+    reasons: &mut [u32; 1500],
+    violated: &mut [u64; 256],
+    unknowns: &mut [u32; 2000],
+    incompletes: &mut [u32; 200],
+) -> Judgement
+    requires { ⌜ n * 4 ≤ length (now events) ⌝ }
+    ensures { λ r. ⌜ Parted (now (file .entry)) (now (starts .entry)) (shared .invariants) (ground (now (table .entry)) (shared .cells) (shared .notes) (now (notes .entry))) (now (events .entry)) n (result-of r (now (violated .exit)) (now (unknowns .exit)) (now (incompletes .exit)) (now (reasons .exit))) (length (now (queue .entry))) (length (now (records .entry))) (length (now (runs .entry))) ⌝ }
 {
     let items = part(queue.len(), 640);
     let lines = part(records.len(), 3328);
     let rows = part(runs.len(), 896);
-    let c = checker_entry::check_events(
+    *reasons = *notes;
+    checker_entry::check_events(
         file,
-        index,
-        g,
+        table,
+        starts,
+        shared,
         events,
         n,
         &mut queue[..items],
         &mut records[..lines],
         &mut runs[..rows],
+        reasons,
+        violated,
+        unknowns,
+        incompletes,
+    )
+}
+
+pub fn check_case(
+    file: &[u8],
+    table: &[u32; 436],
+    starts: &[usize; 100],
+    notes: &[u32; 1500],
+    shared: Shared,
+    events: &[u32],
+    n: usize,
+    queue: &mut [u32],
+    records: &mut [u32],
+    runs: &mut [u32],
+    reasons: &mut [u32; 1500],
+    violated: &mut [u64; 256],
+    unknowns: &mut [u32; 2000],
+    incompletes: &mut [u32; 200],
+) -> Judgement
+    requires { ⌜ n * 4 ≤ length (now events) ⌝ }
+    ensures { λ r. ⌜ Cased (now (file .entry)) (now (starts .entry)) (shared .invariants) (ground (now (table .entry)) (shared .cells) (shared .notes) (now (notes .entry))) (now (events .entry)) n (result-of r (now (violated .exit)) (now (unknowns .exit)) (now (incompletes .exit)) (now (reasons .exit))) (length (now (queue .entry))) (length (now (records .entry))) (length (now (runs .entry))) ⌝ }
+{
+    let c = check_part(
+        file,
+        table,
+        starts,
+        notes,
+        shared,
+        events,
+        n,
+        queue,
+        records,
+        runs,
+        reasons,
+        violated,
+        unknowns,
+        incompletes,
     );
     let status = c.status;
     if is_refused(status) {
-        return checker_entry::check_events(file, index, g, events, n, queue, records, runs);
+        *reasons = *notes;
+        return checker_entry::check_events(
+            file,
+            table,
+            starts,
+            shared,
+            events,
+            n,
+            queue,
+            records,
+            runs,
+            reasons,
+            violated,
+            unknowns,
+            incompletes,
+        );
     }
     c
 }

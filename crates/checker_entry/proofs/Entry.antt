@@ -25,16 +25,15 @@ use Rattle.engine_places.specs.Meaning.{Tabled}
 use Rattle.engine_places.specs.Events.{EventAt}
 use Rattle.engine_begin.specs.Begin.{EventsOf}
 use Rattle.engine_begin.proofs.Begins.{event-here}
-use Rattle.engine_entry.specs.declared.Ground.{Ground}
-use Rattle.engine_entry.specs.Answers.{Grounds, lent}
+use Rattle.engine_entry.specs.Answers.{Ground, Grounds, lent}
 use Rattle.engine_entry.proofs.Core.{tb}
 use Rattle.engine_entry.proofs.Entry.{events-count}
 use Rattle.checker.specs.Check as check
 use Rattle.checker.specs.Check.{checked}
 use Rattle.checker_entry.specs.declared.CheckResult.{CheckResult}
 use Rattle.checker_entry.specs.Answers.{no-check, Says, check-memory, Checks}
-use Rattle.checker_entry.specs.Parts.{Checked, RunsAs}
-use Rattle.checker_entry.proofs.Promise.{Promise, answers, refuses, promise}
+use Rattle.checker_entry.specs.Parts.{Checked, Whole, RunsAs}
+use Rattle.checker_entry.proofs.Promise.{Promise, answers, refuses, promise, whole-shows, whole-refused}
 
 module _ (f : List ℕ) (i : Index) (m : Model) (acc : accepted f ≡ answer m) (o : Indexed f i m) (bytes : (k : ℕ) → getD f k 0 < 256) (g : Ground) (gr : Grounds f i g) where
   abbrev x : List ℕ
@@ -53,7 +52,10 @@ module _ (f : List ℕ) (i : Index) (m : Model) (acc : accepted f ≡ answer m) 
   unfolding check.check _>>=_
   check-law areas = rw acc
 
-  module _ {v : List ℕ} (ev : EventsOf f i v) {n : ℕ} (many : n ≡ atMost (getD x 8 0) 100) {r : CheckResult} {q q' a a' u u' : List ℕ} (ch : Checked f i g v n r q q' a a' u u') where
+  module _ {v : List ℕ} (ev : EventsOf f i v) {n : ℕ} (many : n ≡ atMost (getD x 8 0) 100) {r : CheckResult} {q q' a a' u u' : List ℕ} (wh : Whole f (i .invariants .starts) (i .invariants .count) g v n r q q' a a' u u') where
+    abbrev ch : Checked f (i .invariants .starts) (i .invariants .count) g v n (wh .result) q q' a a' u u'
+    ch = wh .checked
+
     abbrev sizes : Areas
     sizes = record { queue = length q / 5; records = length a / 13; runs = length u / 28 }
 
@@ -72,20 +74,20 @@ module _ (f : List ℕ) (i : Index) (m : Model) (acc : accepted f ≡ answer m) 
       where
         by : Promise f i m acc o bytes g gr v none-such events evs all-events ch → Checks f r (lent q a u) (lent q' a' u')
         by (answers c e k z) = record {
-          says = subst (Says f r) (sym (check-law sizes ∙ e)) k;
+          says = subst (Says f r) (sym (check-law sizes ∙ e)) (whole-shows wh c k);
           memory = rw (ch .ran .does .queue, ch .ran .does .runs, z) (sym (ap after (check-law sizes ∙ e)));
         }
         by (refuses k lo hi e is z) = record {
-          says = subst (Says f r) (sym (check-law sizes ∙ e)) is;
+          says = subst (Says f r) (sym (check-law sizes ∙ e)) (whole-refused wh k lo is);
           memory = rw (ch .ran .does .queue, ch .ran .does .runs, z) (sym (ap after (check-law sizes ∙ e) ∙ refusals (words-in f) (λ (b : check.Check). b .simulation .trace) (lent q a u) .areas k lo hi));
         }
 
 -- ---- the entry
 
 pub run-is : (f : List ℕ) (i : Index) → ((k : ℕ) → getD f k 0 < 256) → (g : Ground) → Grounds f i g → {v : List ℕ} → EventsOf f i v →
-    {n : ℕ} → n ≡ atMost (getD (g .table) 8 0) 100 → {r : CheckResult} {q q' a a' u u' : List ℕ} → Checked f i g v n r q q' a a' u u' →
+    {n : ℕ} → n ≡ atMost (getD (g .table) 8 0) 100 → {r : CheckResult} {q q' a a' u u' : List ℕ} → Whole f (i .invariants .starts) (i .invariants .count) g v n r q q' a a' u u' →
     RunsAs f i r (lent q a u) (lent q' a' u')
-run-is f i bytes g gr ev many ch m acc o = runs-as f i m acc o bytes g gr ev many ch
+run-is f i bytes g gr ev many wh m acc o = runs-as f i m acc o bytes g gr ev many wh
 
 module _ (f : List ℕ) (x : File) (says : indexed.Says f x (accepted f)) where
   pub check-read : x .status ≡ status.Read → {r : CheckResult} {before after : Lent} → RunsAs f (x .index) r before after →

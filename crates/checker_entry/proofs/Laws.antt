@@ -5,30 +5,29 @@ use mathlib.Core.Bool.{Bool, true, false}
 use mathlib.Core.List.{List, [], _∷_, map}
 use native.Mathlib.Omega.{arith}
 use lib.ListN.{length, replicate, length-replicate}
-use lib.Dec.{eqb}
-use borrow.Author.Tests.{eq-eqb, ne-eqb, eqb-true, eqb-false}
+use borrow.Author.Tests.{eq-eqb, ne-eqb}
 use Rattle.texts.specs.Texts.{Text, insertT}
 use Rattle.areas.proofs.Laws as areas
 use Rattle.reasons.specs.Lists.{reasons, listed, insertAll, Holds}
 use Rattle.reasons.specs.Reasons.{render}
 use Rattle.reasons.specs.declared.Reason.{Reason}
 use Rattle.reasons.proofs.Listing as listing
-use Rattle.model_index.specs.declared.Index.{Index}
-use Rattle.model_walk.proofs.Found.{Case, is-true, is-false, case}
 use Rattle.engine_reads.specs.Reads.{alone}
-use Rattle.engine_state.specs.declared.Cells.{Cells}
-use Rattle.engine_entry.specs.declared.Ground.{Ground}
 use Rattle.engine_entry.specs.declared.Simulation.{Simulation}
-use Rattle.engine_entry.specs.Answers.{no-simulation}
+use Rattle.engine_entry.specs.declared.Summary.{Summary}
+use Rattle.engine_entry.specs.Answers.{ground, no-simulation, simulation-of}
 use Rattle.engine_entry.specs.Parts.{Few, Ran}
+use Rattle.engine_entry.specs.Parts as engine
 use Rattle.checker_verdict.specs.declared.Counts.{Counts}
 use Rattle.checker_verdict.specs.Verdict.{brokenV, GathersAll}
 use Rattle.checker_verdict.proofs.Laws.{all-many}
 use Rattle.checker_entry.specs.declared.Status.{Status}
 use Rattle.checker_entry.specs.declared.Status.the-variants as status
 use Rattle.checker_entry.specs.declared.CheckResult.{CheckResult}
-use Rattle.checker_entry.specs.Answers.{no-check}
-use Rattle.checker_entry.specs.Parts.{Sized, Fits, statusV, stoppedR, leftR, Starts, Ends, startV, Verdict, Checked}
+use Rattle.checker_entry.specs.declared.Judgement.{Judgement}
+use Rattle.checker_entry.specs.declared.Shared.{Shared}
+use Rattle.checker_entry.specs.Answers.{no-check, result-of}
+use Rattle.checker_entry.specs.Parts.{Fits, statusV, stoppedR, leftR, Starts, Ends, startV, Judged, Checked, Answered}
 
 -- ---- the status
 
@@ -109,64 +108,60 @@ module _ (f : List ℕ) (m : ℕ) (b a : List ℕ) where
   pub merged-most : m ≤ 300 → {k : ℕ} {a' : List ℕ} → Holds f (insertAll (listed f m b) (listed f 0 a)) k a' → k ≤ 300
   merged-most h e = omega (arith, h, e .many, merged-few)
 
-module _ {f x : List ℕ} {i : Index} {c : Cells} {a : List ℕ} (s : Simulation) where
-  pub verdict-is : {many : ℕ} → Few (s .unknown) many → (u₀ : List ℕ) {u₁ : List ℕ} {k : ℕ} → Holds f (insertAll (listed f many (s .reasons)) (listed f 0 u₀)) k u₁ →
-      {w₁ w₂ : List ℕ} {j h : ℕ} → Starts f (s .why) j w₁ → Ends f (s .waiting) j w₁ h w₂ → {n : ℕ} → Fits (s .records) (length a) n →
-      {t : Counts} {v' u₂ w₃ : List ℕ} → GathersAll f x (i .invariants) c a n (record { violations = 0; unknown = k; incomplete = h }) t (replicate 256 0) v' u₁ u₂ w₂ w₃ →
-      {y : Status} → y ≡ statusV t → length u₁ ≡ 2000 → length w₂ ≡ 200 →
-      Verdict f x i c a s (record { status = y; violations = t .violations; violated = v'; unknown = t .unknown; unknowns = u₂; incomplete = t .incomplete; incompletes = w₃; simulation = s })
+module _ {f x starts : List ℕ} {h : Shared} {a : List ℕ} (s : Summary) {told : List ℕ} where
+  pub judged-is : {many : ℕ} → Few (s .unknown) many → (u₀ : List ℕ) {u₁ : List ℕ} {k : ℕ} → Holds f (insertAll (listed f many told) (listed f 0 u₀)) k u₁ →
+      {w₁ w₂ : List ℕ} {j i : ℕ} → Starts f (s .why) j w₁ → Ends f (s .waiting) j w₁ i w₂ → {n : ℕ} → Fits (s .records) (length a) n →
+      {t : Counts} {v' u₂ w₃ : List ℕ} → GathersAll f x starts (h .invariants) (h .cells) a n (record { violations = 0; unknown = k; incomplete = i }) t (replicate 256 0) v' u₁ u₂ w₂ w₃ →
+      {y : Status} → y ≡ statusV t →
+      Judged f x starts h a s (record { status = y; violations = t .violations; unknown = t .unknown; incomplete = t .incomplete; simulation = s }) told v' u₂ w₃
   unfolding startV reasons
-  verdict-is {many} few u₀ {u₁} {k} merged {w₁} {w₂} {j} {h} st en {n} fi {t} {v'} {u₂} {w₃} all {y} e lu lw = record {
-    status-is = e;
+  judged-is {many} few u₀ {u₁} {k} merged {w₁} {w₂} {j} {i} st en {n} fi {t} {v'} {u₂} {w₃} all {y} e = record {
     simulation = refl;
-    long = all .long-v ∙ length-replicate {A = ℕ} 256 0;
-    unknowns-long = all .long-u ∙ lu;
-    incompletes-long = all .long-w ∙ lw;
-    few-unknown = omega (arith, all .most-unknown, merged-most f many (s .reasons) u₀ (few .most) merged);
-    few-incomplete = omega (arith, all .most-incomplete, st .most, en .most);
-    holds = λ ok l long roomy rep. all .does l (long ∙ sym (fi .same roomy)) rep (startV f s) (record {
-      violations = sym (areas.area-none brokenV 256) ∙ ap (λ (q : ℕ). Rattle.areas.specs.Areas.area brokenV q []) (sym (length-replicate {A = ℕ} 256 0));
-      many = refl;
-      unknown = subst (λ (q : ℕ). Holds f (insertAll (listed f q (s .reasons)) []) k u₁) (few .same ok) merged;
-      incomplete = subst (λ (q : List Text). Holds f (insertAll (map (render f) (leftR (s .waiting))) q) h w₂) (st .holds .texts) (en .holds);
-    });
+    verdict = record {
+      status-is = e;
+      long = all .long-v ∙ length-replicate {A = ℕ} 256 0;
+      few-unknown = omega (arith, all .most-unknown, merged-most f many told u₀ (few .most) merged);
+      few-incomplete = omega (arith, all .most-incomplete, st .most, en .most);
+      holds = λ ok l long roomy rep. all .does l (long ∙ sym (fi .same roomy)) rep (startV f (simulation-of s told)) (record {
+        violations = sym (areas.area-none brokenV 256) ∙ ap (λ (q : ℕ). Rattle.areas.specs.Areas.area brokenV q []) (sym (length-replicate {A = ℕ} 256 0));
+        many = refl;
+        unknown = subst (λ (q : ℕ). Holds f (insertAll (listed f q told) []) k u₁) (few .same ok) merged;
+        incomplete = subst (λ (q : List Text). Holds f (insertAll (map (render f) (leftR (s .waiting))) q) i w₂) (st .holds .texts) (en .holds);
+      });
+    };
   }
 
 -- ---- a check with given events
 
-no-check-sized : (n : ℕ) → Sized (no-check n)
-unfolding no-check
-no-check-sized n = record {
-  unknowns = length-replicate {A = ℕ} 2000 0;
-  incompletes = length-replicate {A = ℕ} 200 0;
-  few-unknown = omega arith;
-  few-incomplete = omega arith;
+module _ {f x starts w : List ℕ} {h : Shared} {events : List ℕ} {n : ℕ} {s : Summary} {told v us ws : List ℕ} {q q' a a' u u' : List ℕ}
+    (ran : Ran f (ground x (h .cells) (h .notes) w) events n (simulation-of s told) q q' a a' u u') where
+  pub checked-full : (s .refused ≡ 0 → ⊥) →
+      Checked f starts (h .invariants) (ground x (h .cells) (h .notes) w) events n (result-of (record { status = status.Refused (s .refused); violations = 0; unknown = 0; incomplete = 0; simulation = s }) v us ws told) q q' a a' u u'
+  checked-full z = record {
+    sized = record { few-unknown = omega arith; few-incomplete = omega arith };
+    ran = ran;
+    done = λ y. absurd (z y);
+    full = λ y. refl;
+  }
+
+  pub checked-done : s .refused ≡ 0 → {r : Judgement} → Judged f x starts h a' s r told v us ws →
+      Checked f starts (h .invariants) (ground x (h .cells) (h .notes) w) events n (result-of r v us ws told) q q' a a' u u'
+  checked-done z {r} j =
+      let y = j .verdict in
+      record {
+        sized = record { few-unknown = y .few-unknown; few-incomplete = y .few-incomplete };
+        ran = subst (λ (k : Summary). Ran f (ground x (h .cells) (h .notes) w) events n (simulation-of k told) q q' a a' u u') (sym (j .simulation)) ran;
+        done = λ k. y;
+        full = λ k. absurd (k (ap (λ (i : Summary). i .refused) (j .simulation) ∙ z));
+      }
+
+module _ {c r : CheckResult} where
+  pub told-full : (c .simulation .refused ≡ 0 → ⊥) → r ≡ no-check (c .simulation .refused) → Answered c r
+  told-full z e = record { done = λ y. absurd (z y); full = λ y. e }
+
+pub told-done : (j : Judgement) {v us ws w : List ℕ} → j .simulation .refused ≡ 0 → {s : Simulation} → engine.Answered (simulation-of (j .simulation) w) s →
+    Answered (result-of j v us ws w) (record { status = j .status; violations = j .violations; violated = v; unknown = j .unknown; unknowns = us; incomplete = j .incomplete; incompletes = ws; simulation = s })
+told-done j {v} {us} {ws} {w} z e = record {
+  done = λ y. ap (λ (s : Simulation). record { status = j .status; violations = j .violations; violated = v; unknown = j .unknown; unknowns = us; incomplete = j .incomplete; incompletes = ws; simulation = s }) (e .done z);
+  full = λ y. absurd (y z);
 }
-
-pub checked-sized : {f : List ℕ} {i : Index} {g : Ground} {v : List ℕ} {n : ℕ} {r : CheckResult} {q q' a a' u u' : List ℕ} → Checked f i g v n r q q' a a' u u' → Sized r
-checked-sized {r = r} ch = by (case (eqb (ch .simulation .refused) 0))
-  where
-    by : Case (eqb (ch .simulation .refused) 0) → Sized r
-    by (is-true e) =
-        let w = ch .done (eqb-true (ch .simulation .refused) 0 e) in
-        record { unknowns = w .unknowns-long; incompletes = w .incompletes-long; few-unknown = w .few-unknown; few-incomplete = w .few-incomplete }
-    by (is-false e) = subst Sized (sym (ch .full (eqb-false (ch .simulation .refused) 0 e))) (no-check-sized (ch .simulation .refused))
-
-module _ {f : List ℕ} {g : Ground} {events : List ℕ} {n : ℕ} (s : Simulation) {q q' a a' u u' : List ℕ} (ran : Ran f g events n s q q' a a' u u') where
-  pub reasons-long : length (g .reasons) ≡ 1500 → s .refused ≡ 0 → ran .told .refused ≡ 0 → length (s .reasons) ≡ 1500
-  reasons-long l z y = ap length (ran .shown .done y .reasons) ∙ ran .long ∙ l
-
-  -- a simulation that isn't refused was not refused below
-  pub told-none : s .refused ≡ 0 → ran .told .refused ≡ 0
-  unfolding no-simulation
-  told-none z = by (case (eqb (ran .told .refused) 0))
-    where
-      by : Case (eqb (ran .told .refused) 0) → ran .told .refused ≡ 0
-      by (is-true e) = eqb-true (ran .told .refused) 0 e
-      by (is-false e) = sym (ap (λ (y : Simulation). y .refused) (ran .shown .full (eqb-false (ran .told .refused) 0 e))) ∙ z
-
-  pub checked-full : {i : Index} → (s .refused ≡ 0 → ⊥) → {r : CheckResult} → r ≡ no-check (s .refused) → Checked f i g events n r q q' a a' u u'
-  checked-full z e = record { simulation = s; ran = ran; done = λ y. absurd (z y); full = λ y. e }
-
-  pub checked-done : {i : Index} → s .refused ≡ 0 → {r : CheckResult} → Verdict f (g .table) i (g .cells) a' s r → Checked f i g events n r q q' a a' u u'
-  checked-done z v = record { simulation = s; ran = ran; done = λ y. v; full = λ y. absurd (y z) }

@@ -22,8 +22,7 @@ use Rattle.engine_places.specs.Meaning.{pool-of}
 use Rattle.engine_places.specs.Events.{Among, EventAt}
 use Rattle.engine_places.proofs.Pool.{mem-left, mem-right, among-to}
 use Rattle.engine_places.proofs.Simulated.{static-among}
-use Rattle.engine_entry.specs.declared.Ground.{Ground}
-use Rattle.engine_entry.specs.Answers.{Grounds, incomplete-of}
+use Rattle.engine_entry.specs.Answers.{Ground, Grounds, incomplete-of}
 use Rattle.engine_entry.proofs.Core.{tb}
 use Rattle.engine_entry.proofs.Promise as simulator
 use Rattle.engine.specs.Unsupported.{unsupported}
@@ -183,7 +182,7 @@ module _ (f : List ℕ) (i : Index) (m : Model) (acc : accepted f ≡ answer m) 
       let all = length-append (pool-of m) (space-spent ∷ steps-spent ∷ runs-left ∷ flat invariant-pool (m .scenario .invariants)) in
       omega (arith, all, tb f i m acc o bytes g gr .few-reasons, three-each (m .scenario .invariants), promised.few-invariants f i m acc o bytes g gr)
 
-  module _ (v : List ℕ) (d : Event) (vs : List Event) (evs : (j : ℕ) → j < length vs → EventAt f (g .table) (o .ts) m (tb f i m acc o bytes g gr) v j (getD vs j d)) {n : ℕ} (many : n ≡ length vs) {r : CheckResult} {q q' a a' u u' : List ℕ} (ch : Checked f i g v n r q q' a a' u u') where
+  module _ (v : List ℕ) (d : Event) (vs : List Event) (evs : (j : ℕ) → j < length vs → EventAt f (g .table) (o .ts) m (tb f i m acc o bytes g gr) v j (getD vs j d)) {n : ℕ} (many : n ≡ length vs) {r : CheckResult} {q q' a a' u u' : List ℕ} (ch : Checked f (i .invariants .starts) (i .invariants .count) g v n r q q' a a' u u') where
     -- whatever the events: the reasons of the check are among the list
     pub record InPool (c : check.Check) : Type 0 where
       pub unknown : Among (check-pool m) (c .unknown)

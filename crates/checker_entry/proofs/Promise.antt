@@ -7,7 +7,7 @@ use native.Mathlib.Omega.{arith}
 use lib.Dec.{eqb}
 use lib.ListN.{length, getD, take, replicate, length-replicate}
 use lib.Seq.{take-all}
-use borrow.Author.Tests.{ne-eqb}
+use borrow.Author.Tests.{ne-eqb, eqb-true, eqb-false}
 use Rattle.texts.specs.Lists.{if_then_else_, is-empty, each, flat}
 use Rattle.texts.specs.Places.{textAt}
 use Rattle.texts.specs.Texts.{Text, sortedT}
@@ -34,7 +34,7 @@ use Rattle.engine.specs.Simulate as engine
 use Rattle.engine.specs.Simulate.{simulated}
 use Rattle.engine.specs.Words.{words-in}
 use Rattle.engine.proofs.Closed.{records-fit}
-use Rattle.engine.proofs.Lists.{Each}
+use Rattle.engine.proofs.Lists.{Each, Case, is-true, is-false, case}
 use Rattle.engine_reads.specs.Reads.{atMost, alone}
 use Rattle.engine_places.specs.Meaning.{cells-of, record-of, Tabled}
 use Rattle.engine_places.proofs.Accepted.{accepted-lawful}
@@ -45,9 +45,8 @@ use Rattle.engine_places.proofs.Relation.{Worded}
 use Rattle.engine_places.specs.Events.{EventAt}
 use Rattle.engine_places.proofs.Truth.{Valued}
 use Rattle.engine_begin.proofs.Begins.{start-valued, start-cells-are}
-use Rattle.engine_entry.specs.declared.Ground.{Ground}
 use Rattle.engine_entry.specs.declared.Simulation.{Simulation}
-use Rattle.engine_entry.specs.Answers.{Grounds, incomplete-of, no-simulation, Shows}
+use Rattle.engine_entry.specs.Answers.{Ground, Grounds, incomplete-of, no-simulation, Shows}
 use Rattle.engine_entry.proofs.Core.{tb}
 use Rattle.engine_entry.proofs.Promise.{texts-here, records-here}
 use Rattle.engine_entry.proofs.Promise as simulator
@@ -61,7 +60,7 @@ use Rattle.checker_entry.specs.declared.Status.the-variants as status
 use Rattle.checker_entry.specs.declared.CheckResult.{CheckResult}
 use Rattle.checker_entry.specs.Answers.{status-as, violation-words, no-check}
 use Rattle.checker_entry.specs.Answers as said
-use Rattle.checker_entry.specs.Parts.{statusV, stoppedR, leftR, startV, counts, Checked}
+use Rattle.checker_entry.specs.Parts.{statusV, stoppedR, leftR, startV, counts, Checked, Whole, RefusedAs}
 use Rattle.checker_entry.proofs.Judged.{Agreed, agreed}
 
 module _ (f x : List ℕ) (ts : List Text) (m : Model) (tb : Tabled f x ts m) where
@@ -212,7 +211,7 @@ module _ (f : List ℕ) (i : Index) (m : Model) (acc : accepted f ≡ answer m) 
 
   -- ---- a check with the events vs, given as words
 
-  module _ (v : List ℕ) (d : Event) (vs : List Event) (evs : (j : ℕ) → j < length vs → EventAt f x (o .ts) m t v j (getD vs j d)) {n : ℕ} (many : n ≡ length vs) {r : CheckResult} {q q' a a' u u' : List ℕ} (ch : Checked f i g v n r q q' a a' u u') where
+  module _ (v : List ℕ) (d : Event) (vs : List Event) (evs : (j : ℕ) → j < length vs → EventAt f x (o .ts) m t v j (getD vs j d)) {n : ℕ} (many : n ≡ length vs) {r : CheckResult} {q q' a a' u u' : List ℕ} (ch : Checked f (i .invariants .starts) (i .invariants .count) g v n r q q' a a' u u') where
     abbrev sizes : Areas
     sizes = record { queue = length q / 5; records = length a / 13; runs = length u / 28 }
 
@@ -222,7 +221,7 @@ module _ (f : List ℕ) (i : Index) (m : Model) (acc : accepted f ≡ answer m) 
     -- the answer says what the definition's check says, and the record area holds its records
     pub data Promise : Type 0 where
       answers : (c : check.Check) → plain ≡ answer c → said.Shows f r c → a' ≡ area (words-in f) (length a) (c .simulation .trace) → Promise
-      refuses : (n : ℕ) → 41 ≤ n → n ≤ 43 → plain ≡ refused n → r ≡ no-check n → a' ≡ replicate (length a) 0 → Promise
+      refuses : (n : ℕ) → 41 ≤ n → n ≤ 43 → plain ≡ refused n → RefusedAs n r → a' ≡ replicate (length a) 0 → Promise
 
     pub answer-law : (sim : engine.Simulation) → simulated sizes m cells vs ≡ answer sim → plain ≡ answer (judged is cells sim)
     unfolding checked _>>=_
@@ -232,10 +231,11 @@ module _ (f : List ℕ) (i : Index) (m : Model) (acc : accepted f ≡ answer m) 
     unfolding checked _>>=_
     refuse-law k e = rw e
 
-    refused-as : (k : ℕ) → 41 ≤ k → ch .simulation ≡ no-simulation k → r ≡ no-check k
-    refused-as k lo e =
-        let no : ch .simulation .refused ≡ k = ap (λ (y : Simulation). y .refused) e ∙ unfold no-simulation in refl in
-        ch .full (λ z. absurd (omega (arith, no, z))) ∙ ap no-check no
+    refused-as : (k : ℕ) → 41 ≤ k → r .simulation .refused ≡ k → RefusedAs k r
+    refused-as k lo e = record {
+      status-is = ch .full (λ z. absurd (omega (arith, e, lo, z))) ∙ ap status.Refused e;
+      number = e;
+    }
 
     same-length : (l : List Record) → a' ≡ area recordWords (length a) l → length l * 13 ≤ length a → length a' ≡ length a
     same-length l e h = ap length e ∙ area-length recordWords 13 sized (length a) l h
@@ -243,13 +243,13 @@ module _ (f : List ℕ) (i : Index) (m : Model) (acc : accepted f ≡ answer m) 
     answered : (sim : engine.Simulation) → simulator.Told f i m acc o bytes g gr v d vs evs many (ch .ran) sim → simulated sizes m cells vs ≡ answer sim → Promise
     unfolding judged
     answered sim k e =
-        let s = ch .simulation in
+        let s = r .simulation in
         let w = ch .done (k .shows .accepted) in
         let room : length (k .records) * 13 ≤ length a = omega (arith, k .count, k .shows .records, records-fit sizes m cells vs sim e) in
         let long = same-length (k .records) (k .area-is) room in
         let rep : a' ≡ recorded (length a') (k .records) = k .area-is ∙ ap (λ (y : ℕ). area recordWords y (k .records)) (sym long) in
         answers (judged is cells sim) (answer-law sim e)
-        (verdict-shows s sim (k .shows) (k .records) (k .trace) (k .words) r (w .status-is) (w .simulation) (w .long)
+        (verdict-shows s sim (k .shows) (k .records) (k .trace) (k .words) r (w .status-is) refl (w .long)
         (w .holds (omega (arith, k .shows .unknown .many, k .few)) (k .records) (sym (k .count)) (omega (arith, k .count, room, long)) rep))
         (k .area-is ∙ records-here f i m acc o bytes g gr (length a) (k .records) (sim .trace) (k .words) (k .trace))
 
@@ -259,3 +259,38 @@ module _ (f : List ℕ) (i : Index) (m : Model) (acc : accepted f ≡ answer m) 
         by : simulator.Promise f i m acc o bytes g gr v d vs evs many (ch .ran) → Promise
         by (simulator.answers sim e k) = answered sim k e
         by (simulator.refuses k lo hi e is z) = refuses k lo hi (refuse-law k e) (refused-as k lo is) z
+
+-- ---- the check as one answer
+
+module _ {f starts : List ℕ} {many : ℕ} {g : Ground} {v : List ℕ} {n : ℕ} {r : CheckResult} {q q' a a' u u' : List ℕ} (wh : Whole f starts many g v n r q q' a a' u u') where
+  pub whole-shows : (c : check.Check) → said.Shows f (wh .result) c → said.Shows f r c
+  whole-shows c k = subst (λ (y : CheckResult). said.Shows f y c) (sym (wh .answered .done (k .simulation .accepted))) k
+
+  pub whole-refused : (k : ℕ) → 41 ≤ k → RefusedAs k (wh .result) → r ≡ no-check k
+  whole-refused k lo e = wh .answered .full (λ z. absurd (omega (arith, e .number, lo, z))) ∙ ap no-check (e .number)
+
+  no-check-number : (k : ℕ) → no-check k .simulation .refused ≡ k
+  unfolding no-check no-simulation
+  no-check-number k = refl
+
+  -- a check that isn't refused is the whole answer
+  pub whole-done : r .simulation .refused ≡ 0 → Checked f starts many g v n r q q' a a' u u'
+  whole-done z = by (case (eqb (wh .result .simulation .refused) 0))
+    where
+      by : Case (eqb (wh .result .simulation .refused) 0) → Checked f starts many g v n r q q' a a' u u'
+      by (is-true e) =
+          subst (λ (y : CheckResult). Checked f starts many g v n y q q' a a' u u')
+          (sym (wh .answered .done (eqb-true (wh .result .simulation .refused) 0 e))) (wh .checked)
+      by (is-false e) =
+          let k = eqb-false (wh .result .simulation .refused) 0 e in
+          absurd (k (sym (ap (λ (y : CheckResult). y .simulation .refused) (wh .answered .full k) ∙ no-check-number (wh .result .simulation .refused)) ∙ z))
+
+  -- a refusal has the same number
+  pub whole-full : (r .simulation .refused ≡ 0 → ⊥) → wh .result .simulation .refused ≡ r .simulation .refused
+  whole-full z = by (case (eqb (wh .result .simulation .refused) 0))
+    where
+      by : Case (eqb (wh .result .simulation .refused) 0) → wh .result .simulation .refused ≡ r .simulation .refused
+      by (is-true e) = sym (ap (λ (y : CheckResult). y .simulation .refused) (wh .answered .done (eqb-true (wh .result .simulation .refused) 0 e)))
+      by (is-false e) =
+          let k = eqb-false (wh .result .simulation .refused) 0 e in
+          sym (ap (λ (y : CheckResult). y .simulation .refused) (wh .answered .full k) ∙ no-check-number (wh .result .simulation .refused))

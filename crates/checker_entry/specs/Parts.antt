@@ -19,15 +19,18 @@ use Rattle.model_index.specs.Indexed.{Indexed}
 use Rattle.engine.specs.Memory.{Lent}
 use Rattle.engine_reads.specs.Reads.{atMost, alone}
 use Rattle.engine_state.specs.declared.Cells.{Cells}
-use Rattle.engine_entry.specs.declared.Ground.{Ground}
 use Rattle.engine_entry.specs.declared.Simulation.{Simulation}
+use Rattle.engine_entry.specs.declared.Summary.{Summary}
+use Rattle.engine_entry.specs.Answers.{Ground}
 use Rattle.engine_entry.specs.Parts.{Ran}
 use Rattle.checker_verdict.specs.declared.Counts.{Counts}
 use Rattle.checker_verdict.specs.Verdict.{Gathered, firstV, Keeps}
 use Rattle.checker_entry.specs.declared.Status.{Status}
 use Rattle.checker_entry.specs.declared.Status.the-variants as status
 use Rattle.checker_entry.specs.declared.CheckResult.{CheckResult}
-use Rattle.checker_entry.specs.Answers.{no-check, Checks}
+use Rattle.checker_entry.specs.declared.Judgement.{Judgement}
+use Rattle.checker_entry.specs.declared.Shared.{Shared}
+use Rattle.checker_entry.specs.Answers.{no-check, result-of, Checks}
 
 -- at most as many records as the area holds
 pub record Fits (n len r : ℕ) : Type 0 where
@@ -66,31 +69,46 @@ startV f s = record {
 abbrev pub counts : CheckResult → Counts
 counts r = record { violations = r .violations; unknown = r .unknown; incomplete = r .incomplete }
 
--- the verdict on the records in the area a, whatever they are
-pub record Verdict (f x : List ℕ) (i : Index) (c : Cells) (a : List ℕ) (s : Simulation) (r : CheckResult) : Type 0 where
+-- the verdict on the records in the area a, whatever they are, for so many invariants at their positions
+pub record Verdict (f x starts : List ℕ) (many : ℕ) (c : Cells) (a : List ℕ) (r : CheckResult) : Type 0 where
   pub status-is : r .status ≡ statusV (counts r)
-  pub simulation : r .simulation ≡ s
   pub long : length (r .violated) ≡ 256
-  pub unknowns-long : length (r .unknowns) ≡ 2000
-  pub incompletes-long : length (r .incompletes) ≡ 200
   pub few-unknown : r .unknown ≤ 400
   pub few-incomplete : r .incomplete ≤ 40
-  pub holds : s .unknown ≤ 300 → (l : List Record) → length l ≡ s .records → s .records * 13 ≤ length a → a ≡ recorded (length a) l →
-      Keeps f (r .violated) (r .unknowns) (r .incompletes) (counts r) (firstV f x (i .invariants .starts) c l (atMost (i .invariants .count) 32) (startV f s))
+  pub holds : r .simulation .unknown ≤ 300 → (l : List Record) → length l ≡ r .simulation .records → r .simulation .records * 13 ≤ length a → a ≡ recorded (length a) l →
+      Keeps f (r .violated) (r .unknowns) (r .incompletes) (counts r) (firstV f x starts c l (atMost many 32) (startV f (r .simulation)))
+
+-- the judgement of a simulation whose reasons' words are u
+pub record Judged (f x starts : List ℕ) (h : Shared) (a : List ℕ) (s : Summary) (r : Judgement) (u v us ws : List ℕ) : Type 0 where
+  pub simulation : r .simulation ≡ s
+  pub verdict : Verdict f x starts (h .invariants) (h .cells) a (result-of r v us ws u)
+
+-- how many reasons the answer has at most
+pub record Sized (r : CheckResult) : Type 0 where
+  pub few-unknown : r .unknown ≤ 400
+  pub few-incomplete : r .incomplete ≤ 40
 
 -- a simulation, and the verdict on it unless an area was full
-pub record Checked (f : List ℕ) (i : Index) (g : Ground) (events : List ℕ) (n : ℕ) (r : CheckResult) (q q' a a' u u' : List ℕ) : Type 0 where
-  pub simulation : Simulation
-  pub ran : Ran f g events n simulation q q' a a' u u'
-  pub done : simulation .refused ≡ 0 → Verdict f (g .table) i (g .cells) a' simulation r
-  pub full : (simulation .refused ≡ 0 → ⊥) → r ≡ no-check (simulation .refused)
+pub record Checked (f starts : List ℕ) (many : ℕ) (g : Ground) (events : List ℕ) (n : ℕ) (r : CheckResult) (q q' a a' u u' : List ℕ) : Type 0 where
+  pub sized : Sized r
+  pub ran : Ran f g events n (r .simulation) q q' a a' u u'
+  pub done : r .simulation .refused ≡ 0 → Verdict f (g .table) starts many (g .cells) a' r
+  pub full : (r .simulation .refused ≡ 0 → ⊥) → r .status ≡ status.Refused (r .simulation .refused)
 
--- how long the answer's arrays are, and how many reasons it has at most
-pub record Sized (r : CheckResult) : Type 0 where
-  pub unknowns : length (r .unknowns) ≡ 2000
-  pub incompletes : length (r .incompletes) ≡ 200
-  pub few-unknown : r .unknown ≤ 400
-  pub few-incomplete : r .incomplete ≤ 40
+-- the answer r of the check c: a refusal is nothing but its number
+pub record Answered (c r : CheckResult) : Type 0 where
+  pub done : c .simulation .refused ≡ 0 → r ≡ c
+  pub full : (c .simulation .refused ≡ 0 → ⊥) → r ≡ no-check (c .simulation .refused)
+
+pub record Whole (f starts : List ℕ) (many : ℕ) (g : Ground) (events : List ℕ) (n : ℕ) (r : CheckResult) (q q' a a' u u' : List ℕ) : Type 0 where
+  pub result : CheckResult
+  pub checked : Checked f starts many g events n result q q' a a' u u'
+  pub answered : Answered result r
+
+-- only the number is there
+pub record RefusedAs (n : ℕ) (r : CheckResult) : Type 0 where
+  pub status-is : r .status ≡ status.Refused n
+  pub number : r .simulation .refused ≡ n
 
 -- the check of the model whose index this is
 abbrev pub RunsAs : (f : List ℕ) → Index → CheckResult → (before after : Lent) → Type 0

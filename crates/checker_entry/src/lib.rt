@@ -1,15 +1,15 @@
 // The entry `check`: the verdict on a model's simulation.
 use checker_verdict::Counts;
-use engine_entry::Ground;
 use engine_entry::Simulation;
+use engine_entry::Summary;
 use engine_state::Cells;
 use model_index::Index;
 ghost use mathlib.Core.Path.{_≡_};
 ghost use Prim.Native.Nat.{_+_, _*_, _≤_};
 ghost use lib.ListN.{length};
-ghost use Rattle.checker_entry.specs.Answers.{no-check, Checks};
-ghost use Rattle.checker_entry.specs.Parts.{Fits, statusV, Starts, Ends, Verdict, Checked, RunsAs};
-ghost use Rattle.engine_entry.specs.Answers.{lent};
+ghost use Rattle.checker_entry.specs.Answers.{no-check, result-of, Checks};
+ghost use Rattle.checker_entry.specs.Parts.{Fits, statusV, Starts, Ends, Judged, Answered, Checked, Whole, RunsAs};
+ghost use Rattle.engine_entry.specs.Answers.{ground, lent};
 
 pub enum Status {
     Refused(u32),
@@ -104,79 +104,201 @@ fn add_waiting(f: &[u8], w: &mut [u32], n: usize, waiting: bool) -> usize
     n
 }
 
-// The verdict on a simulation whose records stand in the area `a`.
+// ---- a check, its lists in lent arrays
+
+// What the checks of one model share beside its table and the positions of its invariants: the values at the start, how many
+// reasons the notes give, and how many invariants there are.
+pub struct Shared {
+    pub cells: Cells,
+    pub notes: usize,
+    pub invariants: u32,
+}
+
+// A check without its lists and without the words of its reasons.
+pub struct Judgement {
+    pub status: Status,
+    pub violations: usize,
+    pub unknown: usize,
+    pub incomplete: usize,
+    pub simulation: Summary,
+}
+
+// The verdict on a simulation whose records stand in the area `a`, and the words of its reasons in `told`.
 fn verdict(
     f: &[u8],
     x: &[u32; 436],
-    index: Index,
-    cells: Cells,
+    starts: &[usize; 100],
+    shared: Shared,
     a: &[u32],
-    s: Simulation,
-) -> CheckResult
-    requires { ⌜ length (s .reasons) ≡ 1500 ⌝ }
-    ensures { λ r. ⌜ Verdict (now (f .entry)) (now (x .entry)) index cells (now (a .entry)) s r ⌝ }
+    s: Summary,
+    told: &[u32; 1500],
+    violated: &mut [u64; 256],
+    unknowns: &mut [u32; 2000],
+    incompletes: &mut [u32; 200],
+) -> Judgement
+    ensures { λ r. ⌜ Judged (now (f .entry)) (now (x .entry)) (now (starts .entry)) shared (now (a .entry)) s r (now (told .entry)) (now (violated .exit)) (now (unknowns .exit)) (now (incompletes .exit)) ⌝ }
 {
-    let mut violated = [0u64; 256];
-    let mut unknowns = [0u32; 2000];
-    let mut incompletes = [0u32; 200];
-    let told = s.reasons;
+    let none = [0u64; 256];
+    *violated = none;
     let many = engine_entry::few(s.unknown);
-    let unknown = reasons::merge(f, &mut unknowns, 0, &told, many);
-    let stopped = add_stopped(f, &mut incompletes, s.why);
-    let incomplete = add_waiting(f, &mut incompletes, stopped, s.waiting);
+    let unknown = reasons::merge(f, unknowns, 0, told, many);
+    let stopped = add_stopped(f, incompletes, s.why);
+    let incomplete = add_waiting(f, incompletes, stopped, s.waiting);
     let start = Counts {
         violations: 0,
         unknown,
         incomplete,
     };
     let n = fitting(s.records, a);
-    let invariants = index.invariants;
+    let cells = shared.cells;
     let t = checker_verdict::judge_all(
         f,
         x,
-        invariants,
+        starts,
+        shared.invariants,
         cells,
         a,
         n,
-        &mut violated,
-        &mut unknowns,
-        &mut incompletes,
+        violated,
+        unknowns,
+        incompletes,
         start,
     );
     let status = status_of(t);
-    CheckResult {
+    Judgement {
         status,
         violations: t.violations,
-        violated,
         unknown: t.unknown,
-        unknowns,
         incomplete: t.incomplete,
-        incompletes,
         simulation: s,
     }
 }
 
-// The check of a model from its own values, with the first n of the events that stand in four words each.
+// The check of a model from its own values, with the first n of the events that stand in four words each. `reasons` holds the
+// reasons of the notes, and then those of the simulation.
 pub fn check_events(
     file: &[u8],
-    index: Index,
-    g: Ground,
+    table: &[u32; 436],
+    starts: &[usize; 100],
+    shared: Shared,
     events: &[u32],
     n: usize,
     queue: &mut [u32],
     records: &mut [u32],
     runs: &mut [u32],
-) -> CheckResult
-    requires { ⌜ (n * 4 ≤ length (now events)) × (length (g .reasons) ≡ 1500) ⌝ }
-    ensures { λ r. ⌜ Checked (now (file .entry)) index g (now (events .entry)) n r (now (queue .entry)) (now (queue .exit)) (now (records .entry)) (now (records .exit)) (now (runs .entry)) (now (runs .exit)) ⌝ }
+    reasons: &mut [u32; 1500],
+    violated: &mut [u64; 256],
+    unknowns: &mut [u32; 2000],
+    incompletes: &mut [u32; 200],
+) -> Judgement
+    requires { ⌜ n * 4 ≤ length (now events) ⌝ }
+    ensures { λ r. ⌜ Checked (now (file .entry)) (now (starts .entry)) (shared .invariants) (ground (now (table .entry)) (shared .cells) (shared .notes) (now (reasons .entry))) (now (events .entry)) n (result-of r (now (violated .exit)) (now (unknowns .exit)) (now (incompletes .exit)) (now (reasons .exit))) (now (queue .entry)) (now (queue .exit)) (now (records .entry)) (now (records .exit)) (now (runs .entry)) (now (runs .exit)) ⌝ }
 {
-    let table = g.table;
-    let cells = g.cells;
-    let s = engine_entry::run_events(file, g, events, n, queue, records, runs);
+    let cells = shared.cells;
+    let notes = shared.notes;
+    let s = engine_entry::run_events(
+        file,
+        table,
+        cells,
+        notes,
+        events,
+        n,
+        queue,
+        records,
+        runs,
+        reasons,
+    );
+    if s.refused != 0 {
+        return Judgement {
+            status: Status::Refused(s.refused),
+            violations: 0,
+            unknown: 0,
+            incomplete: 0,
+            simulation: s,
+        };
+    }
+    verdict(
+        file,
+        table,
+        starts,
+        shared,
+        records,
+        s,
+        reasons,
+        violated,
+        unknowns,
+        incompletes,
+    )
+}
+
+// ---- a check with all that it tells
+
+// A refusal is nothing but its number.
+fn told(
+    j: Judgement,
+    reasons: &[u32; 1500],
+    violations: &[u64; 256],
+    unknown: &[u32; 2000],
+    incomplete: &[u32; 200],
+) -> CheckResult
+    ensures { λ r. ⌜ Answered (result-of j (now (violations .entry)) (now (unknown .entry)) (now (incomplete .entry)) (now (reasons .entry))) r ⌝ }
+{
+    let s = j.simulation;
     if s.refused != 0 {
         return refused(s.refused);
     }
-    verdict(file, &table, index, cells, records, s)
+    let status = j.status;
+    let simulation = engine_entry::told(s, reasons);
+    let violated = *violations;
+    let unknowns = *unknown;
+    let incompletes = *incomplete;
+    CheckResult {
+        status,
+        violations: j.violations,
+        violated,
+        unknown: j.unknown,
+        unknowns,
+        incomplete: j.incomplete,
+        incompletes,
+        simulation,
+    }
+}
+
+// The check, as one answer.
+pub fn check_whole(
+    file: &[u8],
+    table: &[u32; 436],
+    starts: &[usize; 100],
+    shared: Shared,
+    events: &[u32],
+    n: usize,
+    queue: &mut [u32],
+    records: &mut [u32],
+    runs: &mut [u32],
+    reasons: &mut [u32; 1500],
+) -> CheckResult
+    requires { ⌜ n * 4 ≤ length (now events) ⌝ }
+    ensures { λ r. ⌜ Whole (now (file .entry)) (now (starts .entry)) (shared .invariants) (ground (now (table .entry)) (shared .cells) (shared .notes) (now (reasons .entry))) (now (events .entry)) n r (now (queue .entry)) (now (queue .exit)) (now (records .entry)) (now (records .exit)) (now (runs .entry)) (now (runs .exit)) ⌝ }
+{
+    let mut violated = [0u64; 256];
+    let mut unknowns = [0u32; 2000];
+    let mut incompletes = [0u32; 200];
+    let j = check_events(
+        file,
+        table,
+        starts,
+        shared,
+        events,
+        n,
+        queue,
+        records,
+        runs,
+        reasons,
+        &mut violated,
+        &mut unknowns,
+        &mut incompletes,
+    );
+    told(j, reasons, &violated, &unknowns, &incompletes)
 }
 
 // The check of an accepted model with its own values and events.
@@ -189,12 +311,32 @@ fn run(
 ) -> CheckResult
     ensures { λ r. ⌜ RunsAs (now (file .entry)) index r (lent (now (queue .entry)) (now (records .entry)) (now (runs .entry))) (lent (now (queue .exit)) (now (records .exit)) (now (runs .exit))) ⌝ }
 {
-    let g = engine_entry::prepared(file, index);
-    let table = g.table;
+    let mut reasons = [0u32; 1500];
+    let b = engine_entry::prepared(file, index, &mut reasons);
+    let table = b.table;
+    let cells = b.cells;
+    let invariants = index.invariants;
+    let starts = invariants.starts;
+    let shared = Shared {
+        cells,
+        notes: b.count,
+        invariants: invariants.count,
+    };
     let v = engine_begin::events_of(file, index);
     let events = v.words;
     let n = engine_reads::at_most(table[8], 100);
-    check_events(file, index, g, &events, n, queue, records, runs)
+    check_whole(
+        file,
+        &table,
+        &starts,
+        shared,
+        &events,
+        n,
+        queue,
+        records,
+        runs,
+        &mut reasons,
+    )
 }
 
 // The check of a model file, with lent areas of any size.

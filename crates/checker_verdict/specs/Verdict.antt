@@ -12,7 +12,6 @@ use Rattle.records.specs.declared.Record.{Record}
 use Rattle.records.specs.declared.Where.{Where}
 use Rattle.records.specs.declared.Where.the-variants.{Nowhere, From}
 use Rattle.reasons.specs.Lists.{insertAll, Holds}
-use Rattle.model_parts.specs.declared.Section.{Section}
 use Rattle.engine_reads.specs.Reads.{two, cap, atMost}
 use Rattle.engine_state.specs.declared.Cells.{Cells}
 use Rattle.checker_judge.specs.declared.Failure.{Failure}
@@ -107,5 +106,5 @@ pub record Changes (F : List Record → Gathered → Gathered) (one two three : 
 abbrev pub Gathers : (f x : List ℕ) → (at : ℕ) → Cells → (a : List ℕ) → (n : ℕ) → (s t : Counts) → (v v' u u' w w' : List ℕ) → Type 0
 Gathers f x at c a n = Changes (oneV f x at c) 1 2 1 f a n
 
-abbrev pub GathersAll : (f x : List ℕ) → Section → Cells → (a : List ℕ) → (n : ℕ) → (s t : Counts) → (v v' u u' w w' : List ℕ) → Type 0
-GathersAll f x i c a n = Changes (λ (l : List Record). firstV f x (i .starts) c l (atMost (i .count) 32)) 32 64 32 f a n
+abbrev pub GathersAll : (f x starts : List ℕ) → (count : ℕ) → Cells → (a : List ℕ) → (n : ℕ) → (s t : Counts) → (v v' u u' w w' : List ℕ) → Type 0
+GathersAll f x starts count c a n = Changes (λ (l : List Record). firstV f x starts c l (atMost count 32)) 32 64 32 f a n

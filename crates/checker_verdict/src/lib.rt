@@ -3,7 +3,6 @@ use checker_judge::Failure;
 use checker_judge::Reading;
 use engine_reads::two_at;
 use engine_state::Cells;
-use model_parts::Section;
 use records::Where;
 ghost use mathlib.Core.Path.{_≡_};
 ghost use Prim.Native.Nat.{_+_, _*_, _≤_, _<_};
@@ -149,11 +148,12 @@ fn judge_one(
     }
 }
 
-// All invariants of a section, at most 32.
+// So many invariants, at most 32, at their positions.
 pub fn judge_all(
     f: &[u8],
     x: &[u32; 436],
-    invariants: Section,
+    starts: &[usize; 100],
+    count: u32,
     cells: Cells,
     a: &[u32],
     n: usize,
@@ -163,13 +163,13 @@ pub fn judge_all(
     s: Counts,
 ) -> Counts
     requires { ⌜ (n * 13 ≤ length (now a)) × ((s .violations * 8 + 256 ≤ length (now v)) × ((s .unknown * 5 + 320 ≤ length (now u)) × (s .incomplete * 5 + 160 ≤ length (now w)))) ⌝ }
-    ensures { λ t. ⌜ GathersAll (now (f .entry)) (now (x .entry)) invariants cells (now (a .entry)) n s t (now (v .entry)) (now (v .exit)) (now (u .entry)) (now (u .exit)) (now (w .entry)) (now (w .exit)) ⌝ }
+    ensures { λ t. ⌜ GathersAll (now (f .entry)) (now (x .entry)) (now (starts .entry)) count cells (now (a .entry)) n s t (now (v .entry)) (now (v .exit)) (now (u .entry)) (now (u .exit)) (now (w .entry)) (now (w .exit)) ⌝ }
 {
-    let many = engine_reads::at_most(invariants.count, 32);
+    let many = engine_reads::at_most(count, 32);
     let mut t = s;
     let mut k: usize = 0;
     while k < many {
-        t = judge_one(f, x, invariants.starts[k], cells, a, n, v, u, w, t);
+        t = judge_one(f, x, starts[k], cells, a, n, v, u, w, t);
         k += 1;
     }
     t

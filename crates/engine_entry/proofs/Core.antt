@@ -1,6 +1,6 @@
 -- A simulation by the code is the definition's, from what the simulations of an accepted model share to the answer.
 -- `ran` is the simulator's promise: whoever runs one goes on from it.
-use Prim.Native.Nat.{ℕ, zero, suc, _+_, _-_, _/_, _≤_, _<_}
+use Prim.Native.Nat.{ℕ, _+_, _-_, _/_, _≤_, _<_}
 use mathlib.Core.Path.{_≡_, refl, sym, ap, subst, _∙_}
 use mathlib.Core.Bool.{Bool, true, false, not}
 use mathlib.Core.List.{List, [], _∷_, _++_}
@@ -11,7 +11,7 @@ use borrow.Author.Tests.{eq-eqb, ne-eqb}
 use Rattle.texts.specs.Lists.{if_then_else_, each, flat}
 use Rattle.texts.specs.Texts.{Text}
 use Rattle.model.specs.Answer.{answer, refused}
-use Rattle.model.specs.Model.{Event, Entity, Model}
+use Rattle.model.specs.Model.{Event, Model}
 use Rattle.model.specs.Validate.{accepted}
 use Rattle.model_index.specs.declared.Index.{Index}
 use Rattle.model_index.specs.Indexed.{Indexed}
@@ -41,11 +41,9 @@ use Rattle.engine_places.proofs.Simulated.{EventAt, Beginning}
 use Rattle.engine_places.proofs.Truth.{Valued}
 use Rattle.engine_table.proofs.Tabled.{model-table}
 use Rattle.engine_begin.proofs.Begins.{start-valued, start-cells-are}
-use Rattle.engine_unsupported.specs.Listing.{unsupportedL}
 use Rattle.engine_unsupported.specs.Rows.{RulesAt}
 use Rattle.engine_unsupported.proofs.Agrees.{unsupported-agrees}
-use Rattle.engine_entry.specs.declared.Ground.{Ground}
-use Rattle.engine_entry.specs.Answers.{Grounds, incomplete-of}
+use Rattle.engine_entry.specs.Answers.{Ground, Grounds, incomplete-of}
 use Rattle.engine_entry.specs.Parts.{Few}
 use Rattle.engine_entry.proofs.Laws.{zeros}
 use Rattle.engine_entry.proofs.Numbers.{area-numbers}

@@ -1,18 +1,11 @@
 -- The entries, put together from their parts.
-use Prim.Native.Nat.{ℕ, _/_, _≤_, _<_}
+use Prim.Native.Nat.{ℕ, _/_, _<_}
 use mathlib.Core.Path.{_≡_, refl, sym, ap, subst, _∙_}
-use mathlib.Core.List.{List, []}
+use mathlib.Core.List.{List}
 use native.Mathlib.Omega.{arith}
-use lib.ListN.{length, getD, replicate}
-use Rattle.texts.specs.Lists.{each}
-use Rattle.texts.specs.Texts.{Text}
-use Rattle.areas.specs.Areas.{area}
-use Rattle.records.specs.Records.{recordWords}
-use Rattle.records.specs.declared.Record.{Record}
-use Rattle.reasons.specs.Lists.{Holds}
+use lib.ListN.{length, getD}
 use Rattle.model.specs.Answer.{Answer, answer, refused, _>>=_}
-use Rattle.model.specs.Model.{Event, Input, Automation, Model}
-use Rattle.model.specs.File.{texts, got}
+use Rattle.model.specs.Model.{Event, Input, Model}
 use Rattle.model.specs.Validate.{accepted}
 use Rattle.model_index.specs.declared.File.{File}
 use Rattle.model_index.specs.declared.Index.{Index}
@@ -20,36 +13,30 @@ use Rattle.model_index.specs.declared.Status.the-variants as status
 use Rattle.model_index.specs.Indexed as indexed
 use Rattle.model_index.specs.Indexed.{Indexed}
 use Rattle.model_validate.proofs.Agrees.{accept-read, accept-refused}
-use Rattle.model_validate.proofs.Refusals.{Refuses, Refusal, Listed, refusal-numbers}
+use Rattle.model_validate.proofs.Refusals.{Refuses, Refusal, refusal-numbers}
 use mathlib.Core.Logic.{inl, inr}
-use Rattle.engine.specs.Cells.{Cell, initial-cells}
+use Rattle.engine.specs.Cells.{initial-cells}
 use Rattle.engine.specs.Memory.{Lent, entries, zeros, all-zeros, lent-after, simulate-lent}
-use Rattle.engine.specs.Records.{Trace, Areas}
+use Rattle.engine.specs.Records.{Areas}
 use Rattle.engine.specs.Simulate as engine
 use Rattle.engine.specs.Simulate.{simulated, simulate, unsupported-of}
 use Rattle.engine.specs.Unsupported.{unsupported}
-use Rattle.engine.specs.Words.{trace-words, texts-in, words-in, entry-words, simulate-memory}
+use Rattle.engine.specs.Words.{words-in, entry-words, simulate-memory}
 use Rattle.engine.proofs.Memory.{refusals}
 use Rattle.engine_reads.specs.Reads.{atMost}
-use Rattle.engine_run.specs.Run.{refusalS}
 use Rattle.engine_run.specs.Run as run
 use Rattle.engine_run.specs.declared.Simulation.{Simulation as Run}
-use Rattle.engine_places.specs.Meaning.{record-of, cells-of, Tabled}
+use Rattle.engine_places.specs.Meaning.{Tabled}
 use Rattle.engine_places.proofs.Accepted.{accepted-lawful}
-use Rattle.engine.proofs.Lists.{Each}
-use Rattle.engine_places.proofs.Relation.{Worded}
 use Rattle.engine_places.proofs.Numbers.{most-is}
 use Rattle.engine_places.proofs.Simulated.{EventAt}
-use Rattle.engine_places.proofs.Truth.{entities-are}
-use Rattle.engine_places.proofs.Words.{record-area}
 use Rattle.engine_table.proofs.Laws as table
 use Rattle.engine_begin.specs.Begin.{EventsOf}
 use Rattle.engine_begin.proofs.Begins.{event-here}
-use Rattle.engine_entry.specs.declared.Ground.{Ground}
 use Rattle.engine_entry.specs.declared.Notes.{Notes}
 use Rattle.engine_entry.specs.declared.Simulation.{Simulation}
-use Rattle.engine_entry.specs.Answers.{Grounds, no-notes, NotesSay, incomplete-of, values-of, no-simulation, Shows, Says, lent, Simulates}
-use Rattle.engine_entry.specs.Parts.{Ran, RunsAs}
+use Rattle.engine_entry.specs.Answers.{Ground, Grounds, no-notes, NotesSay, no-simulation, Shows, Says, lent, Simulates}
+use Rattle.engine_entry.specs.Parts.{Answered, Ran, RunsAs}
 use Rattle.engine_entry.proofs.Core.{tb, notes-held}
 use Rattle.engine_entry.proofs.Promise.{records-here, Promise, answers, refuses, promise}
 
@@ -98,7 +85,7 @@ module _ (f : List ℕ) (i : Index) (m : Model) (acc : accepted f ≡ answer m) 
   abbrev none-such : Event
   none-such = record { at = 0; input = Input.restart }
 
-  module _ {v : List ℕ} (ev : EventsOf f i v) {n : ℕ} (many : n ≡ atMost (getD x 8 0) 100) {ans : Simulation} {q q' a a' r r' : List ℕ} (ran : Ran f g v n ans q q' a a' r r') where
+  module _ {v : List ℕ} (ev : EventsOf f i v) {n : ℕ} (many : n ≡ atMost (getD x 8 0) 100) {fin ans : Simulation} {q q' a a' r r' : List ℕ} (ran : Ran f g v n fin q q' a a' r r') (told : Answered fin ans) where
     abbrev sizes : Areas
     sizes = record { queue = length q / 5; records = length a / 13; runs = length r / 28 }
 
@@ -114,20 +101,20 @@ module _ (f : List ℕ) (i : Index) (m : Model) (acc : accepted f ≡ answer m) 
       where
         by : Promise f i m acc o bytes g gr v none-such events evs (many ∙ events-count) ran → Simulates f ans (lent q a r) (lent q' a' r')
         by (answers sim e k) = record {
-          says = subst (Says f ans) (sym (simulate-law sizes ∙ e)) (k .shows);
+          says = subst (Says f ans) (sym (simulate-law sizes ∙ e)) (subst (λ (y : Simulation). Shows f y sim) (sym (told .done (k .shows .accepted))) (k .shows));
           memory = rw (ran .does .queue, ran .does .runs, k .area-is, records-here f i m acc o bytes g gr (length a) (k .records) (sim .trace) (k .words) (k .trace)) (sym (ap after (simulate-law sizes ∙ e)));
         }
         by (refuses n lo hi e is z) = record {
-          says = subst (Says f ans) (sym (simulate-law sizes ∙ e)) is;
+          says = subst (Says f ans) (sym (simulate-law sizes ∙ e)) (told .full (λ y. absurd (omega (arith, is, lo, y))) ∙ ap no-simulation is);
           memory = rw (ran .does .queue, ran .does .runs, z) (sym (ap after (simulate-law sizes ∙ e) ∙ refusals (words-in f) (λ (b : engine.Simulation). b .trace) (lent q a r) .areas n lo hi));
         }
 
 -- ---- the entry
 
 pub run-is : (f : List ℕ) (i : Index) → ((k : ℕ) → getD f k 0 < 256) → (g : Ground) → Grounds f i g → {v : List ℕ} → EventsOf f i v →
-    {n : ℕ} → n ≡ atMost (getD (g .table) 8 0) 100 → {ans : Simulation} {q q' a a' r r' : List ℕ} → Ran f g v n ans q q' a a' r r' →
+    {n : ℕ} → n ≡ atMost (getD (g .table) 8 0) 100 → {s ans : Simulation} {q q' a a' r r' : List ℕ} → Ran f g v n s q q' a a' r r' → Answered s ans →
     RunsAs f i ans (lent q a r) (lent q' a' r')
-run-is f i bytes g gr ev many ran m acc o = runs-as f i m acc o bytes g gr ev many ran
+run-is f i bytes g gr ev many ran told m acc o = runs-as f i m acc o bytes g gr ev many ran told
 
 module _ (f : List ℕ) (x : File) (says : indexed.Says f x (accepted f)) where
   pub simulate-read : x .status ≡ status.Read → {s : Simulation} {before after : Lent} → RunsAs f (x .index) s before after →

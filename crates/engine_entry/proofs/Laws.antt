@@ -1,5 +1,5 @@
 -- Laws for the functions of the entries.
-use Prim.Native.Nat.{ℕ, zero, suc, _+_, _≤_, _<_}
+use Prim.Native.Nat.{ℕ, zero, suc, _+_, _<_}
 use mathlib.Core.Path.{_≡_, refl, sym, ap, subst, _∙_}
 use mathlib.Core.List.{List}
 use native.Mathlib.Omega.{arith}
@@ -9,10 +9,10 @@ use Rattle.engine_begin.proofs.Laws.{one-more}
 use Rattle.engine_reads.specs.Reads.{atMost}
 use Rattle.engine_run.specs.Run as run
 use Rattle.engine_run.specs.declared.Simulation.{Simulation as Run}
-use Rattle.engine_entry.specs.declared.Ground.{Ground}
 use Rattle.engine_entry.specs.declared.Simulation.{Simulation}
-use Rattle.engine_entry.specs.Answers.{no-simulation}
-use Rattle.engine_entry.specs.Parts.{Few, Firsts, ShownAs, Ran}
+use Rattle.engine_entry.specs.declared.Summary.{Summary}
+use Rattle.engine_entry.specs.Answers.{Ground, no-simulation, simulation-of}
+use Rattle.engine_entry.specs.Parts.{Few, Firsts, ShownAs, Summed, Answered, Ran}
 
 -- ---- the first values
 
@@ -34,14 +34,21 @@ module _ (vs : List ℕ) where
 
 -- ---- the answer
 
-module _ (s : Run) (n h : ℕ) (u : List ℕ) where
-  pub shown-full : (s .refused ≡ 0 → ⊥) → (r : Simulation) → r ≡ no-simulation (s .refused) → ShownAs s n h u r
-  shown-full z r e = record { done = λ y. absurd (z y); full = λ y. e }
+pub summed-so : (s : Run) (n h : ℕ) (vs : List ℕ) → Firsts (s .values) n vs →
+    Summed s n h (record { refused = s .refused; steps = s .steps; records = s .records; horizon = h; values = vs; unknown = s .reasons; why = s .why; waiting = s .waiting })
+summed-so s n h vs f u = record {
+  done = λ y. record { accepted = y; steps = refl; records = refl; horizon = refl; values = f; unknown = refl; reasons = refl; why = refl; waiting = refl };
+  full = λ y. refl;
+}
 
-  pub shown-done : s .refused ≡ 0 → (vs : List ℕ) → Firsts (s .values) n vs →
-      ShownAs s n h u (record { refused = 0; steps = s .steps; records = s .records; horizon = h; values = vs; unknown = s .reasons; reasons = u; why = s .why; waiting = s .waiting })
-  shown-done z vs f = record {
-    done = λ y. record { accepted = refl; steps = refl; records = refl; horizon = refl; values = f; unknown = refl; reasons = refl; why = refl; waiting = refl };
+module _ (s : Summary) (u : List ℕ) where
+  pub told-full : (s .refused ≡ 0 → ⊥) → (r : Simulation) → r ≡ no-simulation (s .refused) → Answered (simulation-of s u) r
+  told-full z r e = record { done = λ y. absurd (z y); full = λ y. e }
+
+  pub told-done : s .refused ≡ 0 →
+      Answered (simulation-of s u) (record { refused = 0; steps = s .steps; records = s .records; horizon = s .horizon; values = s .values; unknown = s .unknown; reasons = u; why = s .why; waiting = s .waiting })
+  told-done z = record {
+    done = λ y. ap (λ (n : ℕ). record { refused = n; steps = s .steps; records = s .records; horizon = s .horizon; values = s .values; unknown = s .unknown; reasons = u; why = s .why; waiting = s .waiting }) (sym z);
     full = λ y. absurd (y z);
   }
 

@@ -1,6 +1,6 @@
 -- A simulation is refused with 41 to 43 only.
 use Prim.Native.Nat.{ℕ, _≤_}
-use mathlib.Core.Path.{_≡_, refl, sym, ap, subst, _∙_}
+use mathlib.Core.Path.{_≡_, sym, subst}
 use mathlib.Core.Bool.{Bool, true, false}
 use mathlib.Core.List.{List}
 use mathlib.Core.Option.{Option, none, some}
@@ -8,7 +8,7 @@ use native.Mathlib.Omega.{arith}
 use lib.Dec.{leb}
 use lib.ListN.{length}
 use Rattle.texts.specs.Lists.{if_then_else_}
-use Rattle.model.specs.Answer.{Answer, answer, refused}
+use Rattle.model.specs.Answer.{Answer, refused}
 use Rattle.model.specs.Model.{Event, Model}
 use Rattle.engine.specs.Cells.{Cell}
 use Rattle.engine.specs.Records.{Areas, Engine}

@@ -2,7 +2,7 @@
 -- Whoever runs a simulation goes on from it.
 use Prim.Native.Nat.{ℕ, _/_, _≤_, _<_}
 use mathlib.Core.Path.{_≡_, refl, sym, ap, subst, _∙_}
-use mathlib.Core.List.{List, []}
+use mathlib.Core.List.{List}
 use native.Mathlib.Omega.{arith}
 use lib.ListN.{length, getD, replicate}
 use Rattle.texts.specs.Lists.{each}
@@ -11,47 +11,33 @@ use Rattle.areas.specs.Areas.{area}
 use Rattle.records.specs.Records.{recordWords}
 use Rattle.records.specs.declared.Record.{Record}
 use Rattle.reasons.specs.Lists.{Holds}
-use Rattle.model.specs.Answer.{Answer, answer, refused, _>>=_}
-use Rattle.model.specs.Model.{Event, Input, Automation, Model}
-use Rattle.model.specs.File.{texts, got}
+use Rattle.model.specs.Answer.{Answer, answer, refused}
+use Rattle.model.specs.Model.{Event, Automation, Model}
 use Rattle.model.specs.Validate.{accepted}
-use Rattle.model_index.specs.declared.File.{File}
 use Rattle.model_index.specs.declared.Index.{Index}
 use Rattle.model_index.specs.declared.Status.the-variants as status
 use Rattle.model_index.specs.Indexed as indexed
 use Rattle.model_index.specs.Indexed.{Indexed}
-use Rattle.model_validate.proofs.Agrees.{accept-read, accept-refused}
-use Rattle.model_validate.proofs.Refusals.{Refuses, Refusal, Listed, refusal-numbers}
-use mathlib.Core.Logic.{inl, inr}
 use Rattle.engine.specs.Cells.{Cell, initial-cells}
-use Rattle.engine.specs.Memory.{Lent, entries, zeros, all-zeros, lent-after, simulate-lent}
 use Rattle.engine.specs.Records.{Trace, Areas}
 use Rattle.engine.specs.Simulate as engine
-use Rattle.engine.specs.Simulate.{simulated, simulate, unsupported-of}
-use Rattle.engine.specs.Unsupported.{unsupported}
-use Rattle.engine.specs.Words.{trace-words, texts-in, words-in, entry-words, simulate-memory}
-use Rattle.engine.proofs.Memory.{refusals}
+use Rattle.engine.specs.Simulate.{simulated}
+use Rattle.engine.specs.Words.{trace-words, texts-in, words-in}
 use Rattle.engine_reads.specs.Reads.{atMost}
 use Rattle.engine_run.specs.Run.{refusalS}
 use Rattle.engine_run.specs.Run as run
 use Rattle.engine_run.specs.declared.Simulation.{Simulation as Run}
 use Rattle.engine_places.specs.Meaning.{record-of, cells-of, pool-of, Tabled}
-use Rattle.engine_places.proofs.Accepted.{accepted-lawful}
 use Rattle.engine.proofs.Lists.{Each}
 use Rattle.engine_places.proofs.Lists.{each-length}
 use Rattle.engine_places.proofs.Pigeons.{Among}
 use Rattle.engine_places.proofs.Relation.{Worded}
-use Rattle.engine_places.proofs.Numbers.{most-is}
 use Rattle.engine_places.proofs.Simulated.{EventAt}
 use Rattle.engine_places.proofs.Truth.{entities-are}
 use Rattle.engine_places.proofs.Words.{record-area}
 use Rattle.engine_table.proofs.Laws as table
-use Rattle.engine_begin.specs.Begin.{EventsOf}
-use Rattle.engine_begin.proofs.Begins.{event-here}
-use Rattle.engine_entry.specs.declared.Ground.{Ground}
-use Rattle.engine_entry.specs.declared.Notes.{Notes}
 use Rattle.engine_entry.specs.declared.Simulation.{Simulation}
-use Rattle.engine_entry.specs.Answers.{Grounds, no-notes, NotesSay, incomplete-of, values-of, no-simulation, Shows, Says, lent, Simulates}
+use Rattle.engine_entry.specs.Answers.{Ground, Grounds, incomplete-of, values-of, Shows}
 use Rattle.engine_entry.specs.Parts.{Firsts, Ran}
 use Rattle.engine_entry.proofs.Core.{tb, Done, Outcome, done, full, ran}
 use Rattle.engine_entry.proofs.Final.{values-are}
@@ -109,7 +95,7 @@ module _ (f : List ℕ) (i : Index) (m : Model) (acc : accepted f ≡ answer m) 
 
     pub data Promise : Type 0 where
       answers : (sim : engine.Simulation) → plain ≡ answer sim → Told sim → Promise
-      refuses : (n : ℕ) → 41 ≤ n → n ≤ 43 → plain ≡ refused n → ans ≡ no-simulation n → a' ≡ replicate (length a) 0 → Promise
+      refuses : (n : ℕ) → 41 ≤ n → n ≤ 43 → plain ≡ refused n → ans .refused ≡ n → a' ≡ replicate (length a) 0 → Promise
 
     abbrev Said : engine.Simulation → Type 0
     Said sim = Done f i m acc o bytes g gr v d vs evs (ran-so .told) q q' a a' r r' (ran-so .words) sim
@@ -137,10 +123,10 @@ module _ (f : List ℕ) (i : Index) (m : Model) (acc : accepted f ≡ answer m) 
           incomplete = ap (λ (w : ℕ). incomplete-of w (ans .waiting)) (y .why) ∙ ap (incomplete-of (s .why)) (y .waiting) ∙ e .incomplete;
         }
 
-    refused-as : (n : ℕ) → 41 ≤ n → ran-so .told ≡ refusalS n → ans ≡ no-simulation n
+    refused-as : (n : ℕ) → 41 ≤ n → ran-so .told ≡ refusalS n → ans .refused ≡ n
     refused-as n lo is =
         let no : ran-so .told .refused ≡ n = ap (λ (y : Run). y .refused) is ∙ unfold refusalS in refl in
-        ran-so .shown .full (λ y. absurd (omega (arith, no, y))) ∙ ap no-simulation no
+        ran-so .shown .full (λ y. absurd (omega (arith, no, y))) ∙ no
 
     pub promise : Promise
     promise = by (ran f i m acc o bytes g gr v d vs evs (ran-so .told) q q' a a' r r' (ran-so .words) many (ran-so .few) (ran-so .does))

@@ -16,11 +16,12 @@ use Rattle.engine.specs.Simulate as engine
 use Rattle.model.specs.Rewrite.{place-of}
 use Rattle.engine.specs.Words.{texts-in, entry-words, simulate-memory}
 use Rattle.engine_unsupported.specs.Listing.{unsupportedL}
+use Rattle.engine_state.specs.declared.Cells.{Cells}
 use Rattle.engine_table.specs.Table.{TableOf}
 use Rattle.engine_begin.specs.Begin.{CellsOf}
-use Rattle.engine_entry.specs.declared.Ground.{Ground}
 use Rattle.engine_entry.specs.declared.Notes.{Notes}
 use Rattle.engine_entry.specs.declared.Simulation.{Simulation}
+use Rattle.engine_entry.specs.declared.Summary.{Summary}
 
 -- ---- unsupported
 
@@ -59,6 +60,10 @@ pub record Shows (f : List ℕ) (r : Simulation) (s : engine.Simulation) : Type 
 unfoldable pub no-simulation : (number : ℕ) → Simulation
 no-simulation n = record { refused = n; steps = 0; records = 0; horizon = 0; values = replicate 32 0; unknown = 0; reasons = replicate 1500 0; why = 0; waiting = false }
 
+-- a summary and its reasons' words
+abbrev pub simulation-of : Summary → (reasons : List ℕ) → Simulation
+simulation-of s w = record { refused = s .refused; steps = s .steps; records = s .records; horizon = s .horizon; values = s .values; unknown = s .unknown; reasons = w; why = s .why; waiting = s .waiting }
+
 abbrev pub Says : (file : List ℕ) → Simulation → Answer engine.Simulation → Type 0
 Says f r (answer s) = Shows f r s
 Says f r (refused n) = r ≡ no-simulation n
@@ -73,8 +78,17 @@ pub record Simulates (f : List ℕ) (r : Simulation) (before after : Lent) : Typ
 
 -- ---- what the simulations of one model share, from the file and its index
 
+-- the table, the values at the start, and the reasons of the notes
+pub record Ground : Type 0 where
+  pub table : List ℕ
+  pub cells : Cells
+  pub count : ℕ
+  pub reasons : List ℕ
+
+abbrev pub ground : (table : List ℕ) → Cells → (count : ℕ) → (reasons : List ℕ) → Ground
+ground x c n w = record { table = x; cells = c; count = n; reasons = w }
+
 pub record Grounds (f : List ℕ) (i : Index) (g : Ground) : Type 0 where
   pub table : TableOf f i (g .table)
   pub cells : CellsOf f i (g .cells)
   pub reasons : Holds f (unsupportedL f (g .table)) (g .count) (g .reasons)
-  pub room : length (g .reasons) ≡ 1500

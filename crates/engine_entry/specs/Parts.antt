@@ -12,9 +12,9 @@ use Rattle.engine.specs.Memory.{Lent}
 use Rattle.engine_reads.specs.Reads.{atMost}
 use Rattle.engine_run.specs.Run as run
 use Rattle.engine_run.specs.declared.Simulation.{Simulation as Run}
-use Rattle.engine_entry.specs.declared.Ground.{Ground}
 use Rattle.engine_entry.specs.declared.Simulation.{Simulation}
-use Rattle.engine_entry.specs.Answers.{no-simulation, Simulates}
+use Rattle.engine_entry.specs.declared.Summary.{Summary}
+use Rattle.engine_entry.specs.Answers.{Ground, no-simulation, simulation-of, Simulates}
 
 -- at most 300
 pub record Few (n r : ℕ) : Type 0 where
@@ -41,6 +41,15 @@ pub record Repeats (s : Run) (n h : ℕ) (u : List ℕ) (r : Simulation) : Type 
 
 pub record ShownAs (s : Run) (n h : ℕ) (u : List ℕ) (r : Simulation) : Type 0 where
   pub done : s .refused ≡ 0 → Repeats s n h u r
+  pub full : (s .refused ≡ 0 → ⊥) → r .refused ≡ s .refused
+
+-- whatever the words of its reasons
+abbrev pub Summed : Run → (n h : ℕ) → Summary → Type 0
+Summed s n h r = (u : List ℕ) → ShownAs s n h u (simulation-of r u)
+
+-- the answer r of the simulation s: a refusal is nothing but its number
+pub record Answered (s r : Simulation) : Type 0 where
+  pub done : s .refused ≡ 0 → r ≡ s
   pub full : (s .refused ≡ 0 → ⊥) → r ≡ no-simulation (s .refused)
 
 -- a run from the ground g with n events, and its answer

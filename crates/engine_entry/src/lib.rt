@@ -6,32 +6,30 @@ ghost use mathlib.Core.Path.{_≡_};
 ghost use Prim.Native.Nat.{_*_, _≤_};
 ghost use lib.ListN.{length};
 ghost use Rattle.engine.specs.Simulate.{unsupported-of};
-ghost use Rattle.engine_entry.specs.Answers.{Grounds, no-notes, NotesSay, no-simulation, lent, Simulates};
-ghost use Rattle.engine_entry.specs.Parts.{Few, Firsts, ShownAs, Ran, RunsAs};
+ghost use Rattle.engine_entry.specs.Answers.{ground, Grounds, no-notes, NotesSay, no-simulation, simulation-of, lent, Simulates};
+ghost use Rattle.engine_entry.specs.Parts.{Few, Firsts, Summed, Answered, Ran, RunsAs};
 
 // ---- what the simulations of one model share
 
-// The table, the values at the start, and the reasons of the automations' notes, five words each.
-pub struct Ground {
+// The table, the values at the start, and how many reasons the automations' notes give.
+pub struct Base {
     pub table: [u32; 436],
     pub cells: Cells,
     pub count: usize,
-    pub reasons: [u32; 1500],
 }
 
-pub fn prepared(file: &[u8], index: Index) -> Ground
-    ensures { λ g. ⌜ Grounds (now (file .entry)) index g ⌝ }
+// The reasons of the notes go to `reasons`, five words each.
+pub fn prepared(file: &[u8], index: Index, reasons: &mut [u32; 1500]) -> Base
+    ensures { λ b. ⌜ Grounds (now (file .entry)) index (ground (b .table) (b .cells) (b .count) (now (reasons .exit))) ⌝ }
 {
     let t = engine_table::table_of(file, index);
     let table = t.words;
     let cells = engine_begin::cells_of(file, index);
-    let mut reasons = [0u32; 1500];
-    let count = engine_unsupported::unsupported(file, &table, &mut reasons);
-    Ground {
+    let count = engine_unsupported::unsupported(file, &table, reasons);
+    Base {
         table,
         cells,
         count,
-        reasons,
     }
 }
 
@@ -63,11 +61,11 @@ pub fn unsupported(file: &[u8]) -> Notes
     match status {
         Status::Refused(number) => refused_notes(number),
         Status::Read => {
-            let g = prepared(file, x.index);
-            let reasons = g.reasons;
+            let mut reasons = [0u32; 1500];
+            let b = prepared(file, x.index, &mut reasons);
             Notes {
                 refused: 0,
-                count: g.count,
+                count: b.count,
                 reasons,
             }
         }
@@ -125,32 +123,57 @@ fn first_values(values: [u32; 32], n: usize) -> Values
     Values { places }
 }
 
-// The answer of a simulation of a model with so many entities and this horizon; `reasons` are its reasons' words.
-fn shown(
-    s: engine_run::Simulation,
-    entities: usize,
-    horizon: u32,
-    reasons: [u32; 1500],
-) -> Simulation
+// A simulation without the words of its reasons.
+pub struct Summary {
+    pub refused: u32,
+    pub steps: u32,
+    pub records: usize,
+    pub horizon: u32,
+    pub values: [u32; 32],
+    pub unknown: usize,
+    pub why: u32,
+    pub waiting: bool,
+}
+
+// The simulation of a model with so many entities and this horizon.
+fn summed(s: engine_run::Simulation, entities: usize, horizon: u32) -> Summary
     requires { ⌜ entities ≤ 32 ⌝ }
-    ensures { λ r. ⌜ ShownAs s entities horizon reasons r ⌝ }
+    ensures { λ r. ⌜ Summed s entities horizon r ⌝ }
 {
-    if s.refused != 0 {
-        return refused(s.refused);
-    }
     let all = s.values;
     let v = first_values(all, entities);
     let values = v.places;
-    Simulation {
-        refused: 0,
+    Summary {
+        refused: s.refused,
         steps: s.steps,
         records: s.records,
         horizon,
         values,
         unknown: s.reasons,
-        reasons,
         why: s.why,
         waiting: s.waiting,
+    }
+}
+
+// The answer, with the words of its reasons; a refusal is nothing but its number.
+pub fn told(b: Summary, words: &[u32; 1500]) -> Simulation
+    ensures { λ r. ⌜ Answered (simulation-of b (now (words .entry))) r ⌝ }
+{
+    if b.refused != 0 {
+        return refused(b.refused);
+    }
+    let values = b.values;
+    let reasons = *words;
+    Simulation {
+        refused: 0,
+        steps: b.steps,
+        records: b.records,
+        horizon: b.horizon,
+        values,
+        unknown: b.unknown,
+        reasons,
+        why: b.why,
+        waiting: b.waiting,
     }
 }
 
@@ -164,26 +187,27 @@ pub fn few(n: usize) -> usize
     n
 }
 
-// A simulation of a model from its own values, with the first n of the events that stand in four words each.
+// A simulation of a model from its own values, with the first n of the events that stand in four words each. `reasons` holds
+// the reasons of the notes, so many, and then those of the simulation.
 pub fn run_events(
     file: &[u8],
-    g: Ground,
+    table: &[u32; 436],
+    cells: Cells,
+    notes: usize,
     events: &[u32],
     n: usize,
     queue: &mut [u32],
     records: &mut [u32],
     runs: &mut [u32],
-) -> Simulation
-    requires { ⌜ (n * 4 ≤ length (now events)) × (length (g .reasons) ≡ 1500) ⌝ }
-    ensures { λ s. ⌜ Ran (now (file .entry)) g (now (events .entry)) n s (now (queue .entry)) (now (queue .exit)) (now (records .entry)) (now (records .exit)) (now (runs .entry)) (now (runs .exit)) ⌝ }
+    reasons: &mut [u32; 1500],
+) -> Summary
+    requires { ⌜ n * 4 ≤ length (now events) ⌝ }
+    ensures { λ s. ⌜ Ran (now (file .entry)) (ground (now (table .entry)) cells notes (now (reasons .entry))) (now (events .entry)) n (simulation-of s (now (reasons .exit))) (now (queue .entry)) (now (queue .exit)) (now (records .entry)) (now (records .exit)) (now (runs .entry)) (now (runs .exit)) ⌝ }
 {
-    let table = g.table;
-    let mut reasons = g.reasons;
-    let count = few(g.count);
-    let cells = g.cells;
+    let count = few(notes);
     let s = engine_run::simulated(
         file,
-        &table,
+        table,
         events,
         n,
         cells,
@@ -191,10 +215,10 @@ pub fn run_events(
         queue,
         records,
         runs,
-        &mut reasons,
+        reasons,
     );
     let entities = engine_reads::at_most(table[0], 32);
-    shown(s, entities, table[2], reasons)
+    summed(s, entities, table[2])
 }
 
 // The simulation of an accepted model with its own values and events.
@@ -207,12 +231,26 @@ fn run(
 ) -> Simulation
     ensures { λ s. ⌜ RunsAs (now (file .entry)) index s (lent (now (queue .entry)) (now (records .entry)) (now (runs .entry))) (lent (now (queue .exit)) (now (records .exit)) (now (runs .exit))) ⌝ }
 {
-    let g = prepared(file, index);
-    let table = g.table;
+    let mut reasons = [0u32; 1500];
+    let b = prepared(file, index, &mut reasons);
+    let table = b.table;
+    let cells = b.cells;
     let v = engine_begin::events_of(file, index);
     let events = v.words;
     let n = engine_reads::at_most(table[8], 100);
-    run_events(file, g, &events, n, queue, records, runs)
+    let s = run_events(
+        file,
+        &table,
+        cells,
+        b.count,
+        &events,
+        n,
+        queue,
+        records,
+        runs,
+        &mut reasons,
+    );
+    told(s, &reasons)
 }
 
 // The simulation of a model file, with lent areas of any size.

@@ -1,5 +1,5 @@
 -- Laws for the small functions.
-use Prim.Native.Nat.{ℕ, zero, suc, _+_, _*_, _≤_, _<_}
+use Prim.Native.Nat.{ℕ, zero, suc, _+_, _-_, _*_, _≤_, _<_}
 use mathlib.Core.Path.{_≡_, refl, sym, ap, _∙_}
 use mathlib.Core.Bool.{Bool, true, false, _||_}
 use mathlib.Core.List.{List}
@@ -11,9 +11,8 @@ use lib.ListN.{getD}
 use borrow.Author.Tests.{lt-ltb, le-ltb, eq-eqb, ne-eqb}
 use Rattle.checker_entry.specs.declared.Status.{Status}
 use Rattle.checker_entry.specs.declared.Status.the-variants as status
-use Rattle.checker_entry.specs.declared.CheckResult.{CheckResult}
 use Rattle.reduce.specs.declared.Reduced.{Reduced}
-use Rattle.reduce.specs.Parts.{among, is-violation, fewV, violatesV, Stops, passed, GoesOn}
+use Rattle.reduce.specs.Parts.{among, is-violation, fewV, violatesV, Stops, passed, GoesOn, Tried}
 
 -- ---- the target among the violations
 
@@ -71,14 +70,14 @@ module _ (s : Status) where
   unfolding is-violation
   is-none e = rw e
 
-module _ (c : CheckResult) (t : ℕ) where
-  pub not-so : {b : Bool} → b ≡ is-violation (c .status) → b ≡ false → false ≡ violatesV c t
+module _ (s : Status) (v : ℕ) (l : List ℕ) (t : ℕ) where
+  pub not-so : {b : Bool} → b ≡ is-violation s → b ≡ false → false ≡ violatesV s v l t
   unfolding violatesV
   not-so e z = rw (← e, z)
 
-  pub is-so : {b : Bool} → b ≡ is-violation (c .status) → b ≡ true → {n : ℕ} → n ≡ fewV (c .violations) → {r : Bool}
-      → r ≡ among (c .violated) n t →
-      r ≡ violatesV c t
+  pub is-so : {b : Bool} → b ≡ is-violation s → b ≡ true → {n : ℕ} → n ≡ fewV v → {r : Bool}
+      → r ≡ among l n t →
+      r ≡ violatesV s v l t
   unfolding violatesV
   is-so e z n h = h ∙ rw (← e, z, n)
 
@@ -102,3 +101,21 @@ module _ (r : Reduced) where
       stop = λ z. passed a (omega arith);
     }
   ]
+
+-- ---- after an attempt
+
+never : {A : Type 0} {b : Bool} → b ≡ true → b ≡ false → A
+never e k = let y : true ≡ false = sym e ∙ k in let z : _≡_ {A = ℕ} 0 1 = cc in absurd (omega arith)
+
+module _ {r : Reduced} {w : List ℕ} {n : ℕ} {b : Bool} where
+  pub tried-full : (n ≡ 0 → ⊥) →
+      Tried r w n b (record { refused = n; count = r .count; words = r .words; attempts = r .attempts + 1; reached = r .reached })
+  tried-full z = record { full = λ y. refl; kept = λ y. absurd (z y); passed = λ y. absurd (z y) }
+
+  pub tried-kept : n ≡ 0 → b ≡ true →
+      Tried r w n b (record { refused = 0; count = r .count - 1; words = w; attempts = r .attempts + 1; reached = 0 })
+  tried-kept z e = record { full = λ y. absurd (y z); kept = λ y k. refl; passed = λ y k. never e k }
+
+  pub tried-passed : n ≡ 0 → b ≡ false →
+      Tried r w n b (record { refused = 0; count = r .count; words = r .words; attempts = r .attempts + 1; reached = r .reached + 1 })
+  tried-passed z e = record { full = λ y. absurd (y z); kept = λ y k. never k e; passed = λ y k. refl }

@@ -4,8 +4,9 @@ use mathlib.Core.Path.{_≡_, refl, sym, ap, subst, _∙_}
 use mathlib.Core.Bool.{Bool, true, false}
 use mathlib.Core.List.{List, []}
 use native.Mathlib.Omega.{arith}
+use lib.Dec.{eqb}
 use lib.ListN.{length, getD}
-use borrow.Author.Tests.{lt-ltb, le-ltb}
+use borrow.Author.Tests.{lt-ltb, le-ltb, eqb-true, eqb-false}
 use Rattle.texts.specs.Texts.{Text}
 use Rattle.model.specs.Answer.{Answer, answer, refused, _>>=_}
 use Rattle.model.specs.Model.{Event, Input, Model}
@@ -14,20 +15,18 @@ use Rattle.model_index.specs.declared.Index.{Index}
 use Rattle.model_index.specs.Indexed.{Indexed}
 use Rattle.engine.specs.Cells.{Cell, initial-cells}
 use Rattle.engine.specs.Records.{Areas}
+use Rattle.engine.proofs.Lists.{Case, is-true, is-false, case}
 use Rattle.engine_places.specs.Meaning.{Tabled}
 use Rattle.engine_places.specs.Events.{EventAt}
 use Rattle.engine_begin.specs.declared.Events.{Events}
-use Rattle.engine_entry.specs.declared.Ground.{Ground}
-use Rattle.engine_entry.specs.Answers.{Grounds, no-simulation}
+use Rattle.engine_entry.specs.Answers.{Ground, Grounds}
 use Rattle.engine_entry.proofs.Core.{tb}
 use Rattle.engine_entry.proofs.Promise.{texts-here}
 use Rattle.checker.specs.Check.{Check, checked}
 use Rattle.checker.specs.Minimize.{remove, violates, reduce}
 use Rattle.checker.specs.Minimize as minimize
 use Rattle.checker_entry.specs.declared.CheckResult.{CheckResult}
-use Rattle.checker_entry.specs.Answers.{no-check}
-use Rattle.checker_entry.specs.Parts.{Checked}
-use Rattle.checker_entry.proofs.Promise.{Promise, answers, refuses, promise}
+use Rattle.checker_case.specs.Case.{Tells, answers, refuses, Cased}
 use Rattle.reduce.specs.declared.Reduced.{Reduced}
 use Rattle.reduce.specs.Events.{Left}
 use Rattle.reduce.specs.Parts.{
@@ -45,6 +44,7 @@ use Rattle.reduce.specs.Parts.{
   Ends,
   done,
   Open,
+  Tried,
   Attempted,
   Begun,
   Reduces,
@@ -93,22 +93,18 @@ module _ (areas : Areas) (m : Model) (cells : List Cell) (target : Text) (vs : L
 
 -- ---- one attempt
 
-pub refused-number : (n : ℕ) (c : CheckResult) → c ≡ no-check n → c .simulation .refused ≡ n
-unfolding no-check no-simulation
-refused-number n c e = ap (λ (y : CheckResult). y .simulation .refused) e
-
 none-such : Event
 none-such = record { at = 0; input = Input.restart }
 
-module _ {f : List ℕ} {i : Index} {g : Ground} (target : ℕ) (r : Reduced) (open-so : Open g r)
+module _ {f starts : List ℕ} {many : ℕ} {g : Ground} (target : ℕ) (r : Reduced) (open-so : Open r)
     (bytes : (k : ℕ) → getD f k 0 < 256) {w : List ℕ}
-    (without : Without (r .words) (r .count) (r .reached) w) {c : CheckResult} {q q' a a' u u' : List ℕ}
-    (ch : Checked f i g w (r .count - 1) c q q' a a' u u') where
+    (without : Without (r .words) (r .count) (r .reached) w) {c : CheckResult} {q a u : ℕ}
+    (ch : Cased f starts many g w (r .count - 1) c q a u) where
   abbrev areas : Areas
-  areas = sizes (length q) (length a) (length u)
+  areas = sizes q a u
 
   -- the definition's turn that this attempt is
-  module _ (m : Model) (acc : accepted f ≡ answer m) (o : Indexed f i m) (gr : Grounds f i g)
+  module _ (i : Index) (es : starts ≡ i .invariants .starts) (em : many ≡ i .invariants .count) (m : Model) (acc : accepted f ≡ answer m) (o : Indexed f i m) (gr : Grounds f i g)
       (inside : target < length (o .ts)) (vs : List Event) (left : Left m (o .ts) (r .words) (r .count) vs) where
     abbrev x : List ℕ
     x = g .table
@@ -136,10 +132,10 @@ module _ {f : List ℕ} {i : Index} {g : Ground} (target : ℕ) (r : Reduced) (o
     evs j h = left-at f x i m acc o t w (r .count - 1) rest left-rest none-such j h
 
     abbrev Promised : Type 0
-    Promised = Promise f i m acc o bytes g gr w none-such rest evs (left-rest .many) ch
+    Promised = Tells f m c (checked areas m cells rest)
 
     promised : Promised
-    promised = promise f i m acc o bytes g gr w none-such rest evs (left-rest .many) ch
+    promised = ch .does i es em m acc o bytes gr none-such rest evs (left-rest .many)
 
     abbrev before : Answer minimize.Reduced
     before = from areas m (o .ts) target (r .attempts) (r .reached) vs
@@ -156,14 +152,14 @@ module _ {f : List ℕ} {i : Index} {g : Ground} (target : ℕ) (r : Reduced) (o
     goes-full z e s = by promised
       where
         by : Promised → Goes areas m (o .ts) target e before
-        by (answers k y shows b) = absurd (z (shows .simulation .accepted))
-        by (refuses n lo hi y is b) =
-            let no : e .refused ≡ n = s ∙ refused-number n c is in
+        by (answers k y shows ku ki) = absurd (z (shows .simulation .accepted))
+        by (refuses n lo hi y is) =
+            let no : e .refused ≡ n = s ∙ is .number in
             parts.Goes.full (omega (arith, no)) (omega (arith, no))
             (begins ∙ turn-refused areas m cells name vs (r .attempts) (r .reached) (200 - (r .attempts + 1)) here n y
             ∙ ap refused (sym no))
 
-    module _ (z : c .simulation .refused ≡ 0) (b : Bool) (is-b : b ≡ violatesV c target) where
+    module _ (z : c .simulation .refused ≡ 0) (b : Bool) (is-b : b ≡ violatesV (c .status) (c .violations) (c .violated) target) where
       verdict : (k : Check) → checked areas m cells rest ≡ answer k → Rattle.checker_entry.specs.Answers.Shows f c k
           → violates name k ≡ b
       verdict k y shows = sym (is-b ∙ violates-is f x i m acc o t (texts-here f i m acc o bytes g gr) c k shows
@@ -175,11 +171,11 @@ module _ {f : List ℕ} {i : Index} {g : Ground} (target : ℕ) (r : Reduced) (o
         where
           by : Promised → Goes areas m (o .ts) target
               (record { refused = 0; count = r .count - 1; words = w; attempts = r .attempts + 1; reached = 0 }) before
-          by (answers k y shows d) =
+          by (answers k y shows ku ki) =
               going refl rest left-rest
               (begins ∙ turn-kept areas m cells name vs (r .attempts) (r .reached) (200 - (r .attempts + 1)) here k y
               (verdict k y shows ∙ e))
-          by (refuses n lo hi y is d) = absurd (omega (arith, refused-number n c is))
+          by (refuses n lo hi y is) = absurd (omega (arith, is .number))
 
       goes-passed : b ≡ false → Goes areas m (o .ts) target
           (record {
@@ -199,67 +195,58 @@ module _ {f : List ℕ} {i : Index} {g : Ground} (target : ℕ) (r : Reduced) (o
                 attempts = r .attempts + 1;
                 reached = r .reached + 1;
               }) before
-          by (answers k y shows d) =
+          by (answers k y shows ku ki) =
               going refl vs left
               (begins ∙ turn-passed areas m cells name vs (r .attempts) (r .reached) (200 - (r .attempts + 1)) here k y
               (verdict k y shows ∙ e))
-          by (refuses n lo hi y is d) = absurd (omega (arith, refused-number n c is))
+          by (refuses n lo hi y is) = absurd (omega (arith, is .number))
 
-  abbrev After : Reduced → Type 0
-  After e = Attempted f i g target r e (length q) (length a) (length u)
-
-  pub attempt-full : (c .simulation .refused ≡ 0 → ⊥) →
-      After (record {
-        refused = c .simulation .refused;
-        count = r .count;
-        words = r .words;
-        attempts = r .attempts + 1;
-        reached = r .reached;
-      })
-  attempt-full z = record {
-    attempts = refl;
-    few = omega arith;
-    long = open-so .long;
-    does = λ m acc o gr inside vs left. goes-full m acc o gr inside vs left z _ refl;
-  }
-
-  pub attempt-kept : c .simulation .refused ≡ 0 → {b : Bool} → b ≡ violatesV c target → b ≡ true →
-      After (record { refused = 0; count = r .count - 1; words = w; attempts = r .attempts + 1; reached = 0 })
-  attempt-kept z {b} is-b e = record {
-    attempts = refl;
-    few = omega arith;
-    long = without .long;
-    does = λ m acc o gr inside vs left. goes-kept m acc o gr inside vs left z b is-b e;
-  }
-
-  pub attempt-passed : c .simulation .refused ≡ 0 → {b : Bool} → b ≡ violatesV c target → b ≡ false →
-      After (record {
-        refused = 0;
-        count = r .count;
-        words = r .words;
-        attempts = r .attempts + 1;
-        reached = r .reached + 1;
-      })
-  attempt-passed z {b} is-b e = record {
-    attempts = refl;
-    few = omega arith;
-    long = open-so .long;
-    does = λ m acc o gr inside vs left. goes-passed m acc o gr inside vs left z b is-b e;
-  }
+  pub attempted : {b : Bool} → b ≡ violatesV (c .status) (c .violations) (c .violated) target → {e : Reduced} →
+      Tried r w (c .simulation .refused) b e → Attempted f starts many g target r e q a u
+  attempted {b} is-b {e} t = by (case (eqb (c .simulation .refused) 0)) (case b)
+    where
+      by : Case (eqb (c .simulation .refused) 0) → Case b → Attempted f starts many g target r e q a u
+      by (is-false z) k =
+          let n = eqb-false (c .simulation .refused) 0 z in
+          subst (λ (y : Reduced). Attempted f starts many g target r y q a u) (sym (t .full n))
+          (record {
+            attempts = refl;
+            few = omega arith;
+            long = open-so .long;
+            does = λ i es em m acc o gr inside vs left. goes-full i es em m acc o gr inside vs left n _ refl;
+          })
+      by (is-true z) (is-true k) =
+          let n = eqb-true (c .simulation .refused) 0 z in
+          subst (λ (y : Reduced). Attempted f starts many g target r y q a u) (sym (t .kept n k))
+          (record {
+            attempts = refl;
+            few = omega arith;
+            long = without .long;
+            does = λ i es em m acc o gr inside vs left. goes-kept i es em m acc o gr inside vs left n b is-b k;
+          })
+      by (is-true z) (is-false k) =
+          let n = eqb-true (c .simulation .refused) 0 z in
+          subst (λ (y : Reduced). Attempted f starts many g target r y q a u) (sym (t .passed n k))
+          (record {
+            attempts = refl;
+            few = omega arith;
+            long = open-so .long;
+            does = λ i es em m acc o gr inside vs left. goes-passed i es em m acc o gr inside vs left n b is-b k;
+          })
 
 -- ---- the loop, begun with the first n events in the words s, and areas q, a and u
 
-pub record Looped (f : List ℕ) (i : Index) (g : Ground) (target : ℕ) (s : List ℕ) (n : ℕ) (r : Reduced) (more : Bool)
+pub record Looped (f starts : List ℕ) (many : ℕ) (g : Ground) (target : ℕ) (s : List ℕ) (n : ℕ) (r : Reduced) (more : Bool)
     (q q' a a' u u' : List ℕ) : Type 0 where
   pub goes : GoesOn r more
   pub attempts : r .attempts ≤ 200
   pub few : r .count ≤ 100
   pub long : length (r .words) ≡ 400
-  pub reasons : length (g .reasons) ≡ 1500
   pub queue : length q' ≡ length q
   pub records : length a' ≡ length a
   pub runs : length u' ≡ length u
-  pub does : (m : Model) → accepted f ≡ answer m → (o : Indexed f i m) → Grounds f i g → target < length (o .ts)
+  pub does : (i : Index) → starts ≡ i .invariants .starts → many ≡ i .invariants .count
+      → (m : Model) → accepted f ≡ answer m → (o : Indexed f i m) → Grounds f i g → target < length (o .ts)
       → (vs : List Event) →
       Left m (o .ts) s n vs →
       Goes (sizes (length q) (length a) (length u)) m (o .ts) target r
@@ -287,10 +274,10 @@ ends areas m ts target r x h (passed k p) (going d vs left y) =
     done d vs left (y ∙ passed-is areas m (initial-cells (m .scenario .entities)) (getD ts target []) vs (r .attempts)
     (r .reached) (200 - r .attempts) (omega (arith, left .many)))
 
-module _ {f : List ℕ} {i : Index} {g : Ground} {target : ℕ} {n : ℕ} {q a u : List ℕ} where
-  pub loop-start : {e : Events} → Begun g e n → {b : Bool}
+module _ {f starts : List ℕ} {many : ℕ} {g : Ground} {target : ℕ} {n : ℕ} {q a u : List ℕ} where
+  pub loop-start : {e : Events} → Begun e n → {b : Bool}
       → GoesOn (record { refused = 0; count = n; words = e .words; attempts = 0; reached = 0 }) b →
-      Looped f i g target (e .words) n (record {
+      Looped f starts many g target (e .words) n (record {
         refused = 0;
         count = n;
         words = e .words;
@@ -302,48 +289,46 @@ module _ {f : List ℕ} {i : Index} {g : Ground} {target : ℕ} {n : ℕ} {q a u
     attempts = omega arith;
     few = y .few;
     long = y .long;
-    reasons = y .reasons;
     queue = refl;
     records = refl;
     runs = refl;
-    does = λ m acc o gr inside vs left. going refl vs left refl;
+    does = λ i es em m acc o gr inside vs left. going refl vs left refl;
   }
 
-  module _ {s : List ℕ} {r : Reduced} {b : Bool} {q' a' u' : List ℕ} (l : Looped f i g target s n r b q q' a a' u u') where
-    pub loop-open : b ≡ true → Open g r
+  module _ {s : List ℕ} {r : Reduced} {b : Bool} {q' a' u' : List ℕ} (l : Looped f starts many g target s n r b q q' a a' u u') where
+    pub loop-open : b ≡ true → Open r
     loop-open z =
         let k = l .goes .more z in
-        record { inside = k .inside; few = l .few; attempts = k .attempts; long = l .long; reasons = l .reasons }
+        record { inside = k .inside; few = l .few; attempts = k .attempts; long = l .long }
 
     pub loop-step : b ≡ true → {r' : Reduced} {b' : Bool}
-        → Attempted f i g target r r' (length q') (length a') (length u') → GoesOn r' b' →
+        → Attempted f starts many g target r r' (length q') (length a') (length u') → GoesOn r' b' →
         {q'' a'' u'' : List ℕ} → length q'' ≡ length q' → length a'' ≡ length a' → length u'' ≡ length u' →
-        Looped f i g target s n r' b' q q'' a a'' u u''
+        Looped f starts many g target s n r' b' q q'' a a'' u u''
     loop-step z {r'} {b'} k t eq ea eu =
         let y = l .goes .more z in
-        let k' : Attempted f i g target r r' (length q) (length a) (length u) = rw (l .queue, l .records, l .runs) at k in
+        let k' : Attempted f starts many g target r r' (length q) (length a) (length u) = rw (l .queue, l .records, l .runs) at k in
         record {
           goes = t;
           attempts = omega (arith, k .attempts, y .attempts);
           few = omega (arith, k .few, l .few);
           long = k .long;
-          reasons = l .reasons;
           queue = eq ∙ l .queue;
           records = ea ∙ l .records;
           runs = eu ∙ l .runs;
-          does = λ m acc o gr inside vs left.
+          does = λ i es em m acc o gr inside vs left.
               next-goes (sizes (length q) (length a) (length u)) m (o .ts) target r r' vs (y .accepted)
-              (l .does m acc o gr inside vs left) (λ ws left-ws. k' .does m acc o gr inside ws left-ws);
+              (l .does i es em m acc o gr inside vs left) (λ ws left-ws. k' .does i es em m acc o gr inside ws left-ws);
         }
 
-  pub loop-end : {e : Events} {r : Reduced} {b : Bool} {q' a' u' : List ℕ}
-      → Looped f i g target (e .words) n r b q q' a a' u u' → b ≡ false →
-      Reduces f i g target e n r (length q) (length a) (length u)
-  loop-end {e} {r} l z = record {
-    few = l .few;
-    long = l .long;
-    does = λ m acc o gr inside vs left.
-        ends (sizes (length q) (length a) (length u)) m (o .ts) target r
-        (from (sizes (length q) (length a) (length u)) m (o .ts) target 0 0 vs) (l .attempts) (l .goes .stop z)
-        (l .does m acc o gr inside vs left);
-  }
+pub loop-end : {f : List ℕ} {i : Index} {g : Ground} {target n : ℕ} {e : Events} {r : Reduced} {b : Bool} {q q' a a' u u' : List ℕ}
+    → Looped f (i .invariants .starts) (i .invariants .count) g target (e .words) n r b q q' a a' u u' → b ≡ false →
+    Reduces f i g target e n r (length q) (length a) (length u)
+loop-end {i = i} {target = target} {r = r} {q = q} {a = a} {u = u} l z = record {
+  few = l .few;
+  long = l .long;
+  does = λ m acc o gr inside vs left.
+      ends (sizes (length q) (length a) (length u)) m (o .ts) target r
+      (from (sizes (length q) (length a) (length u)) m (o .ts) target 0 0 vs) (l .attempts) (l .goes .stop z)
+      (l .does i refl refl m acc o gr inside vs left);
+}

@@ -224,7 +224,7 @@ module _ (f x : List ℕ) (i : Index) (m : Model) (acc : accepted f ≡ answer m
     violated-here : r .violated ≡ area (violation-words ts) 256 (c .violations)
     violated-here = shows .violated ∙ ap (λ (l : List Text). area (violation-words l) 256 (c .violations)) here
 
-    pub violates-is : (target : ℕ) → target < length ts → violatesV r target ≡ violates (getD ts target []) c
+    pub violates-is : (target : ℕ) → target < length ts → violatesV (r .status) (r .violations) (r .violated) target ≡ violates (getD ts target []) c
     unfolding violatesV violates fewV
     violates-is target l =
         let n = length (c .violations) in

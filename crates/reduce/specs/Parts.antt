@@ -17,13 +17,11 @@ use Rattle.engine.specs.Cells.{initial-cells}
 pub use Rattle.engine.specs.Words.{sizes}
 use Rattle.engine.specs.Records.{Areas}
 use Rattle.engine_begin.specs.declared.Events.{Events}
-use Rattle.engine_entry.specs.declared.Ground.{Ground}
-use Rattle.engine_entry.specs.Answers.{Grounds}
+use Rattle.engine_entry.specs.Answers.{Ground, Grounds}
 use Rattle.checker.specs.Minimize.{reduce}
 use Rattle.checker.specs.Minimize as minimize
 use Rattle.checker_entry.specs.declared.Status.{Status}
 use Rattle.checker_entry.specs.declared.Status.the-variants as status
-use Rattle.checker_entry.specs.declared.CheckResult.{CheckResult}
 use Rattle.reduce.specs.declared.Reduced.{Reduced}
 use Rattle.reduce.specs.Events.{Left}
 
@@ -51,8 +49,8 @@ is-violation status.NoViolationInTrace = false
 unfoldable pub fewV : ℕ → ℕ
 fewV n = if ltb 32 n then 32 else n
 
-unfoldable pub violatesV : CheckResult → (target : ℕ) → Bool
-violatesV c t = is-violation (c .status) && among (c .violated) (fewV (c .violations)) t
+unfoldable pub violatesV : Status → (violations : ℕ) → (violated : List ℕ) → (target : ℕ) → Bool
+violatesV s n l t = is-violation s && among l (fewV n) t
 
 -- ---- when the reduction stops
 
@@ -91,28 +89,36 @@ module _ (areas : Areas) (m : Model) (ts : List Text) (target : ℕ) where
         a ≡ answer (record { events = vs; attempts = r .attempts; reached = r .reached }) → Ends r a
 
 -- before an attempt
-pub record Open (g : Ground) (r : Reduced) : Type 0 where
+pub record Open (r : Reduced) : Type 0 where
   pub inside : r .reached < r .count
   pub few : r .count ≤ 100
   pub attempts : r .attempts < 200
   pub long : length (r .words) ≡ 400
-  pub reasons : length (g .reasons) ≡ 1500
 
--- after it; q, a and u are how many words the areas have
-pub record Attempted (f : List ℕ) (i : Index) (g : Ground) (target : ℕ) (r e : Reduced) (q a u : ℕ) : Type 0 where
+-- after it: it was refused, the events w are kept, or the place is passed
+pub record Tried (r : Reduced) (w : List ℕ) (number : ℕ) (stays : Bool) (e : Reduced) : Type 0 where
+  pub full : (number ≡ 0 → ⊥) →
+      e ≡ record { refused = number; count = r .count; words = r .words; attempts = r .attempts + 1; reached = r .reached }
+  pub kept : number ≡ 0 → stays ≡ true →
+      e ≡ record { refused = 0; count = r .count - 1; words = w; attempts = r .attempts + 1; reached = 0 }
+  pub passed : number ≡ 0 → stays ≡ false →
+      e ≡ record { refused = 0; count = r .count; words = r .words; attempts = r .attempts + 1; reached = r .reached + 1 }
+
+-- q, a and u are how many words the areas have; so many invariants are at their positions
+pub record Attempted (f starts : List ℕ) (many : ℕ) (g : Ground) (target : ℕ) (r e : Reduced) (q a u : ℕ) : Type 0 where
   pub attempts : e .attempts ≡ r .attempts + 1
   pub few : e .count ≤ r .count
   pub long : length (e .words) ≡ 400
-  pub does : (m : Model) → accepted f ≡ answer m → (o : Indexed f i m) → Grounds f i g → target < length (o .ts)
+  pub does : (i : Index) → starts ≡ i .invariants .starts → many ≡ i .invariants .count
+      → (m : Model) → accepted f ≡ answer m → (o : Indexed f i m) → Grounds f i g → target < length (o .ts)
       → (vs : List Event) →
       Left m (o .ts) (r .words) (r .count) vs →
       Goes (sizes q a u) m (o .ts) target e (from (sizes q a u) m (o .ts) target (r .attempts) (r .reached) vs)
 
 -- before the reduction
-pub record Begun (g : Ground) (e : Events) (n : ℕ) : Type 0 where
+pub record Begun (e : Events) (n : ℕ) : Type 0 where
   pub few : n ≤ 100
   pub long : length (e .words) ≡ 400
-  pub reasons : length (g .reasons) ≡ 1500
 
 -- after it
 pub record Reduces (f : List ℕ) (i : Index) (g : Ground) (target : ℕ) (e : Events) (n : ℕ) (r : Reduced)

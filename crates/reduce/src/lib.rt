@@ -1,13 +1,15 @@
 // The reduction of a violating model's events: each is left out in turn, for good if the violation stays.
-use checker_entry::CheckResult;
+use checker_entry::Judgement;
+use checker_entry::Shared;
 use checker_entry::Status;
 use engine_begin::Events;
-use engine_entry::Ground;
+use engine_entry::Base;
 use model_index::Index;
 ghost use mathlib.Core.Path.{_≡_};
 ghost use Prim.Native.Nat.{_*_, _≤_, _<_};
 ghost use lib.ListN.{length};
-ghost use Rattle.reduce.specs.Parts.{Without, among, is-violation, fewV, violatesV, GoesOn, Open, Attempted, Begun, Reduces};
+ghost use Rattle.engine_entry.specs.Answers.{ground};
+ghost use Rattle.reduce.specs.Parts.{Without, among, is-violation, fewV, violatesV, GoesOn, Open, Tried, Attempted, Begun, Reduces};
 
 // `refused` is 0, or 41 to 43 where a check was refused. The first `count` events in `words`, four words each, are left;
 // so many candidates were checked, and the place reached.
@@ -67,14 +69,13 @@ fn few(n: usize) -> usize
 }
 
 // The check is a violation, of the target too.
-fn violates(c: CheckResult, target: u64) -> bool
-    ensures { λ r. ⌜ r ≡ violatesV c target ⌝ }
+fn violates(j: Judgement, violated: &[u64; 256], target: u64) -> bool
+    ensures { λ r. ⌜ r ≡ violatesV (j .status) (j .violations) (now (violated .entry)) target ⌝ }
 {
-    let status = c.status;
-    let violated = c.violated;
+    let status = j.status;
     if is_violation(status) {
-        let n = few(c.violations);
-        return named(&violated, n, target);
+        let n = few(j.violations);
+        return named(violated, n, target);
     }
     false
 }
@@ -92,40 +93,27 @@ fn goes_on(r: Reduced) -> bool
     r.reached < r.count
 }
 
-// The check of the events without the one at the place reached.
-fn attempt(
-    file: &[u8],
-    index: Index,
-    g: Ground,
-    target: u64,
-    r: Reduced,
-    queue: &mut [u32],
-    records: &mut [u32],
-    runs: &mut [u32],
-) -> Reduced
-    requires { ⌜ Open g r ⌝ }
-    ensures { λ e. ⌜ Attempted (now (file .entry)) index g target r e (length (now (queue .entry))) (length (now (records .entry))) (length (now (runs .entry))) ⌝ }
+// After an attempt with the events `w`, which was refused with a number, or in which the violation stays or not.
+fn tried(r: Reduced, w: Events, number: u32, stays: bool) -> Reduced
+    requires { ⌜ Open r ⌝ }
+    ensures { λ e. ⌜ Tried r (w .words) number stays e ⌝ }
 {
     let words = r.words;
-    let n = r.count - 1;
     let attempts = r.attempts + 1;
-    let w = without(words, r.count, r.reached);
-    let left = w.words;
-    let c = checker_entry::check_events(file, index, g, &left, n, queue, records, runs);
-    let s = c.simulation;
-    if s.refused != 0 {
+    if number != 0 {
         return Reduced {
-            refused: s.refused,
+            refused: number,
             count: r.count,
             words,
             attempts,
             reached: r.reached,
         };
     }
-    if violates(c, target) {
+    if stays {
+        let left = w.words;
         return Reduced {
             refused: 0,
-            count: n,
+            count: r.count - 1,
             words: left,
             attempts,
             reached: 0,
@@ -140,11 +128,57 @@ fn attempt(
     }
 }
 
+// The check of the events without the one at the place reached. `notes` holds the reasons of the notes.
+fn attempt(
+    file: &[u8],
+    table: &[u32; 436],
+    starts: &[usize; 100],
+    notes: &[u32; 1500],
+    shared: Shared,
+    target: u64,
+    r: Reduced,
+    queue: &mut [u32],
+    records: &mut [u32],
+    runs: &mut [u32],
+    reasons: &mut [u32; 1500],
+    violated: &mut [u64; 256],
+    unknowns: &mut [u32; 2000],
+    incompletes: &mut [u32; 200],
+) -> Reduced
+    requires { ⌜ Open r ⌝ }
+    ensures { λ e. ⌜ Attempted (now (file .entry)) (now (starts .entry)) (shared .invariants) (ground (now (table .entry)) (shared .cells) (shared .notes) (now (notes .entry))) target r e (length (now (queue .entry))) (length (now (records .entry))) (length (now (runs .entry))) ⌝ }
+{
+    let words = r.words;
+    let n = r.count - 1;
+    let w = without(words, r.count, r.reached);
+    let left = w.words;
+    let c = checker_case::check_case(
+        file,
+        table,
+        starts,
+        notes,
+        shared,
+        &left,
+        n,
+        queue,
+        records,
+        runs,
+        reasons,
+        violated,
+        unknowns,
+        incompletes,
+    );
+    let s = c.simulation;
+    let stays = violates(c, violated, target);
+    tried(r, w, s.refused, stays)
+}
+
 // The first n of the events that stand in four words each, reduced; the violation of the target stays.
 pub fn reduce_events(
     file: &[u8],
     index: Index,
-    g: Ground,
+    b: Base,
+    notes: &[u32; 1500],
     target: u64,
     events: Events,
     n: usize,
@@ -152,9 +186,22 @@ pub fn reduce_events(
     records: &mut [u32],
     runs: &mut [u32],
 ) -> Reduced
-    requires { ⌜ Begun g events n ⌝ }
-    ensures { λ r. ⌜ Reduces (now (file .entry)) index g target events n r (length (now (queue .entry))) (length (now (records .entry))) (length (now (runs .entry))) ⌝ }
+    requires { ⌜ Begun events n ⌝ }
+    ensures { λ r. ⌜ Reduces (now (file .entry)) index (ground (b .table) (b .cells) (b .count) (now (notes .entry))) target events n r (length (now (queue .entry))) (length (now (records .entry))) (length (now (runs .entry))) ⌝ }
 {
+    let table = b.table;
+    let invariants = index.invariants;
+    let starts = invariants.starts;
+    let cells = b.cells;
+    let shared = Shared {
+        cells,
+        notes: b.count,
+        invariants: invariants.count,
+    };
+    let mut reasons = [0u32; 1500];
+    let mut violated = [0u64; 256];
+    let mut unknowns = [0u32; 2000];
+    let mut incompletes = [0u32; 200];
     let words = events.words;
     let mut r = Reduced {
         refused: 0,
@@ -165,7 +212,22 @@ pub fn reduce_events(
     };
     let mut more = goes_on(r);
     while more {
-        r = attempt(file, index, g, target, r, queue, records, runs);
+        r = attempt(
+            file,
+            &table,
+            &starts,
+            notes,
+            shared,
+            target,
+            r,
+            queue,
+            records,
+            runs,
+            &mut reasons,
+            &mut violated,
+            &mut unknowns,
+            &mut incompletes,
+        );
         more = goes_on(r);
     }
     r

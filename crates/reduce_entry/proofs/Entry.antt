@@ -25,8 +25,7 @@ use Rattle.engine_reads.specs.Reads.{atMost}
 use Rattle.engine_begin.specs.declared.Events.{Events}
 use Rattle.engine_begin.specs.Begin.{EventsOf}
 use Rattle.engine_places.proofs.Accepted.{accepted-lawful}
-use Rattle.engine_entry.specs.declared.Ground.{Ground}
-use Rattle.engine_entry.specs.Answers.{Grounds, lent}
+use Rattle.engine_entry.specs.Answers.{Ground, Grounds, lent}
 use Rattle.engine_entry.proofs.Core.{tb}
 use Rattle.engine_entry.proofs.Entry.{events-count}
 use Rattle.checker.specs.Minimize.{minimized, minimize}
@@ -92,7 +91,6 @@ module _ {f : List ℕ} {i : Index} (bytes : (k : ℕ) → getD f k 0 < 256) {g 
         begun = record {
           few = omega (arith, left .many, accepted-lawful f (a .m) (a .is-model) .few-events);
           long = ev .long;
-          reasons = gr .room;
         };
         left = left;
         room = omega (arith, long);

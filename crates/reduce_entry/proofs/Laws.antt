@@ -1,6 +1,6 @@
 -- Laws for the small functions.
 use Prim.Native.Nat.{ℕ, _≤_}
-use mathlib.Core.Path.{_≡_, refl, subst}
+use mathlib.Core.Path.{_≡_, refl, sym, ap, subst, _∙_}
 use mathlib.Core.Bool.{false}
 use mathlib.Core.List.{List}
 use lib.Dec.{eqb}
@@ -9,10 +9,11 @@ use Rattle.model_rewrite.specs.declared.Span.{Span}
 use Rattle.model_rewrite.specs.Span.{spanW}
 use Rattle.model_rewrite.specs.Written.{file-with, Wrote}
 use Rattle.model_index.specs.declared.Index.{Index}
-use Rattle.engine_entry.specs.declared.Ground.{Ground}
+use Rattle.engine_entry.specs.Answers.{Ground}
 use Rattle.checker_entry.specs.declared.CheckResult.{CheckResult}
 use Rattle.checker_entry.specs.Answers.{no-check}
-use Rattle.checker_entry.specs.Parts.{Checked}
+use Rattle.checker_entry.specs.Parts.{Whole}
+use Rattle.checker_entry.proofs.Promise.{whole-done, whole-full}
 use Rattle.reduce.specs.declared.Reduced.{Reduced}
 use Rattle.reduce_entry.specs.declared.Minimized.{Minimized}
 use Rattle.reduce_entry.specs.Answers.{no-reduction}
@@ -42,16 +43,18 @@ pub asked-here : {f l o : List ℕ} {n : ℕ} → Room f l n o → {s : Span} �
 asked-here r e = rw e (r .ordered, (r .inside, (r .words, r .fits)))
 
 module _ {f : List ℕ} {i : Index} {g : Ground} {target n : ℕ} {x : Reduced} {c : CheckResult} {q q' a a' u u' : List ℕ}
-    (ch : Checked f i g (x .words) (x .count) c q q' a a' u u') where
+    (wh : Whole f (i .invariants .starts) (i .invariants .count) g (x .words) (x .count) c q q' a a' u u') where
   pub last-full : {r : Minimized} → (c .simulation .refused ≡ 0 → ⊥) → r ≡ no-reduction (c .simulation .refused)
       → (o : List ℕ) →
       Finished f i g target n x r q q' a a' u u' o o
-  last-full z e o = record {
-    check = c;
-    checks = ch;
-    done = λ y. absurd (z y);
-    full = λ y. record { answer-is = e; output = refl };
-  }
+  last-full z e o =
+      let same = whole-full wh z in
+      record {
+        check = wh .result;
+        checks = wh .checked;
+        done = λ y. absurd (z (sym same ∙ y));
+        full = λ y. record { answer-is = e ∙ ap no-reduction (sym same); output = refl };
+      }
 
   pub last-done : c .simulation .refused ≡ 0 → {s : Span} → s ≡ spanW f → {size : ℕ} {o o' : List ℕ}
       → Wrote (file-with f s (x .words) (x .count)) size o o' →
@@ -69,7 +72,7 @@ module _ {f : List ℕ} {i : Index} {g : Ground} {target n : ℕ} {x : Reduced} 
       }) q q' a a' u u' o o'
   last-done z e {size} {o} {o'} w h = record {
     check = c;
-    checks = ch;
+    checks = whole-done wh z;
     done = λ y. record {
       accepted = refl;
       invariant = h;

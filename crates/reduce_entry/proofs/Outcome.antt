@@ -24,8 +24,7 @@ use Rattle.engine_places.specs.Meaning.{Tabled}
 use Rattle.engine_places.specs.Events.{EventAt}
 use Rattle.engine_places.proofs.Words.{text-place}
 use Rattle.engine_begin.specs.declared.Events.{Events}
-use Rattle.engine_entry.specs.declared.Ground.{Ground}
-use Rattle.engine_entry.specs.Answers.{Grounds}
+use Rattle.engine_entry.specs.Answers.{Ground, Grounds}
 use Rattle.engine_entry.proofs.Core.{tb}
 use Rattle.engine_entry.proofs.Promise.{texts-here}
 use Rattle.checker.specs.Check.{Check, checked, Violation}
@@ -42,7 +41,6 @@ use Rattle.model.specs.Events.{EventWords}
 use Rattle.reduce.specs.Events.{Left}
 use Rattle.reduce.specs.Parts.{is-violation, sizes, from, Ends, Reduces}
 use Rattle.reduce.specs.Parts as parts
-use Rattle.reduce.proofs.Reduction.{refused-number}
 use Rattle.reduce.proofs.Violations.{none-such, Fair, checked-fair, violation-is, Target, target-is}
 use Rattle.reduce.proofs.Words.{left-at}
 use Rattle.reduce_entry.specs.declared.Minimized.{Minimized}
@@ -140,7 +138,7 @@ same-sizes q r a b u v (eq, (ea, eu)) = rw (eq, ea, eu)
 -- what the last check asks for
 pub ready : {f : List ℕ} {i : Index} {g : Ground} {target : ℕ} {e : Events} {n : ℕ} {x : Reduced} {q a u : ℕ}
     → Reduces f i g target e n x q a u →
-    {o : List ℕ} → Aimed f i g target e n o → x .refused ≡ 0 → Ready f g x o
+    {o : List ℕ} → Aimed f i g target e n o → x .refused ≡ 0 → Ready f x o
 ready {f} {i} {g} {target} {e} {n} {x} {q} {a} {u} red {o} am z =
     by (red .does m acc ix (am .given .ground) (am .target-in) (m .scenario .events) (am .given .left))
   where
@@ -154,12 +152,11 @@ ready {f} {i} {g} {target} {e} {n} {x} {q} {a} {u} red {o} am z =
     ix = am .given .model .index
 
     by : Ends (sizes q a u) m (ix .ts) target x (from (sizes q a u) m (ix .ts) target 0 0 (m .scenario .events))
-        → Ready f g x o
+        → Ready f x o
     by (parts.Ends.full lo hi y) = absurd (omega (arith, z))
     by (parts.done d vs left y) = record {
       room = file-fits f i m acc ix (x .words) (x .count) vs left o (omega (arith, red .few, red .long)) (am .given .room);
       long = red .long;
-      reasons = am .given .begun .reasons;
     }
 
 module _ {f : List ℕ} {i : Index} {g : Ground} {target : ℕ} {e : Events} {n : ℕ} {x : Reduced} (q a u : List ℕ)
@@ -258,7 +255,7 @@ module _ {f : List ℕ} {i : Index} {g : Ground} {target : ℕ} {e : Events} {n 
                 answers (final c) (reduced-so areas m name vs _ c y (checked-here k)) (shows c s p) queue-is
                 (d ∙ ap (λ (j : ℕ). area (words-in f) j (c .simulation .trace)) (long .1 .0)) runs-is (wrote c p)
             by (promised.refuses j lo hi k is d) =
-                let no = refused-number j (fin .check) is in
+                let no = is .number in
                 let p = fin .full (λ s. absurd (omega (arith, no, s))) in
                 refuses j (inr (lo, hi)) (not-checked areas m name vs j _ y (checked-here k))
                 (p .answer-is ∙ ap no-reduction no) queue-is
@@ -274,9 +271,9 @@ module _ {f : List ℕ} {i : Index} {g : Ground} {target : ℕ} {e : Events} {n 
 
 -- ---- the first check
 
-module _ {f : List ℕ} {i : Index} {g : Ground} {e : Events} {n : ℕ}
+module _ {f : List ℕ} (i : Index) {g : Ground} {e : Events} {n : ℕ}
     (bytes : (k : ℕ) → getD f k 0 < 256) {c : CheckResult} {q q₁ a a₁ u u₁ : List ℕ}
-    (ch : Checked f i g (e .words) n c q q₁ a a₁ u u₁) where
+    (ch : Checked f (i .invariants .starts) (i .invariants .count) g (e .words) n c q q₁ a a₁ u u₁) where
   abbrev first-sizes : Areas
   first-sizes = sizes (length q) (length a) (length u)
 
@@ -322,7 +319,7 @@ module _ {f : List ℕ} {i : Index} {g : Ground} {e : Events} {n : ℕ}
           (length q) (length a) (length u) q₁ a₁ u₁ o o
       by (promised.answers d k s w) = absurd (z (s .simulation .accepted))
       by (promised.refuses j lo hi k none w) =
-          refuses j (inr (lo, hi)) (not-first first-sizes m [] vs j k) (is ∙ ap no-reduction (refused-number j c none))
+          refuses j (inr (lo, hi)) (not-first first-sizes m [] vs j k) (is ∙ ap no-reduction (none .number))
           (ch .ran .does .queue) w (ch .ran .does .runs) refl
 
   module _ (z : c .simulation .refused ≡ 0) {b : Bool} (is-b : b ≡ is-violation (c .status)) where
@@ -340,7 +337,7 @@ module _ {f : List ℕ} {i : Index} {g : Ground} {e : Events} {n : ℕ}
             (no-violation d (sym (violation-here m acc ix gr vs left d k s) ∙ sym is-b ∙ f'))) is
             (cl .queue ∙ ap (λ (j : ℕ). replicate j 0) eq) (cl .records ∙ ap (λ (j : ℕ). replicate j 0) ea)
             (cl .runs ∙ ap (λ (j : ℕ). replicate j 0) eu) refl
-        by (promised.refuses j lo hi k none w) = absurd (omega (arith, refused-number j c none))
+        by (promised.refuses j lo hi k none w) = absurd (omega (arith, none .number))
 
     module _ (so : b ≡ true) where
       -- what the reduction asks for
@@ -363,7 +360,7 @@ module _ {f : List ℕ} {i : Index} {g : Ground} {e : Events} {n : ℕ}
           by (promised.answers d k s w) =
               let v = sym (violation-here m acc ix gr (m .scenario .events) (gi .left) d k s) ∙ sym is-b ∙ so in
               record { given = gi; target-in = target-here m acc ix gr (m .scenario .events) (gi .left) d k s v .inside }
-          by (promised.refuses j lo hi k none w) = absurd (omega (arith, refused-number j c none))
+          by (promised.refuses j lo hi k none w) = absurd (omega (arith, none .number))
 
       pub first-so : {r : Minimized} {q' a' u' o o' : List ℕ}
           → ReducesTo f i g (getD (c .violated) 0 0) e n r q₁ q' a₁ a' u₁ u' o o' →
@@ -385,4 +382,4 @@ module _ {f : List ℕ} {i : Index} {g : Ground} {e : Events} {n : ℕ}
               (length a) (length u) q' a' u' o o' = rw (eq, ea, eu) at y in
               subst (λ (l : Answer checker.Minimized). Outcome f l r (length q) (length a) (length u) q' a' u' o o')
               (ap (λ (l : Text). reduced-to first-sizes m l vs) (sym (t .is-text)) ∙ sym law) y'
-          by (promised.refuses j lo hi k none w) = absurd (omega (arith, refused-number j c none))
+          by (promised.refuses j lo hi k none w) = absurd (omega (arith, none .number))

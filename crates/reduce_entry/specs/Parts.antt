@@ -19,8 +19,7 @@ use Rattle.engine.specs.Memory.{Lent}
 use Rattle.engine.specs.Records.{Areas}
 use Rattle.engine.specs.Words.{words-in}
 use Rattle.engine_begin.specs.declared.Events.{Events}
-use Rattle.engine_entry.specs.declared.Ground.{Ground}
-use Rattle.engine_entry.specs.Answers.{Grounds}
+use Rattle.engine_entry.specs.Answers.{Ground, Grounds}
 use Rattle.checker.specs.Check.{checked}
 use Rattle.checker.specs.Minimize.{reduce, minimized, reduced-file}
 use Rattle.checker.specs.Minimize as checker
@@ -51,10 +50,9 @@ pub record Room (f l : List ℕ) (n : ℕ) (o : List ℕ) : Type 0 where
   pub words : n * 4 ≤ length l
   pub fits : length (file-with f (spanW f) l n) ≤ length o
 
-pub record Ready (f : List ℕ) (g : Ground) (x : Reduced) (o : List ℕ) : Type 0 where
+pub record Ready (f : List ℕ) (x : Reduced) (o : List ℕ) : Type 0 where
   pub room : Room f (x .words) (x .count) o
   pub long : length (x .words) ≡ 400
-  pub reasons : length (g .reasons) ≡ 1500
 
 -- the answer repeats what was reduced, and the output holds the file with the events that are left
 pub record Repeats (f : List ℕ) (target n : ℕ) (x : Reduced) (c : CheckResult) (r : Minimized) (o o' : List ℕ) : Type 0 where
@@ -75,7 +73,7 @@ pub record Refused (number : ℕ) (r : Minimized) (o o' : List ℕ) : Type 0 whe
 pub record Finished (f : List ℕ) (i : Index) (g : Ground) (target n : ℕ) (x : Reduced) (r : Minimized)
     (q q' a a' u u' o o' : List ℕ) : Type 0 where
   pub check : CheckResult
-  pub checks : Checked f i g (x .words) (x .count) check q q' a a' u u'
+  pub checks : Checked f (i .invariants .starts) (i .invariants .count) g (x .words) (x .count) check q q' a a' u u'
   pub done : check .simulation .refused ≡ 0 → Repeats f target n x check r o o'
   pub full : (check .simulation .refused ≡ 0 → ⊥) → Refused (check .simulation .refused) r o o'
 
@@ -116,7 +114,7 @@ pub record Accepted (f : List ℕ) (i : Index) : Type 0 where
 pub record Given (f : List ℕ) (i : Index) (g : Ground) (e : Events) (n : ℕ) (o : List ℕ) : Type 0 where
   pub model : Accepted f i
   pub ground : Grounds f i g
-  pub begun : Begun g e n
+  pub begun : Begun e n
   pub left : Left (model .m) (model .index .ts) (e .words) n (model .m .scenario .events)
   pub room : length f ≤ length o
 

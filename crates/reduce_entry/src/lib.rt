@@ -1,11 +1,15 @@
 // The entry `minimize`: a violating model with fewer events, written as a model file.
 use checker_entry::CheckResult;
+use checker_entry::Shared;
 use engine_begin::Events;
-use engine_entry::Ground;
+use engine_entry::Base;
 use model_index::Index;
 use reduce::Reduced;
 ghost use mathlib.Core.Path.{_≡_};
-ghost use Rattle.engine_entry.specs.Answers.{lent};
+ghost use Prim.Native.Nat.{_*_, _≤_};
+ghost use lib.ListN.{length};
+ghost use Rattle.engine_entry.specs.Answers.{ground, lent};
+ghost use Rattle.checker_entry.specs.Parts.{Whole};
 ghost use Rattle.reduce_entry.specs.Answers.{no-reduction, Minimizes};
 ghost use Rattle.reduce_entry.specs.Parts.{Cleared, Placed, Ready, Finished, Accepted, Given, Aimed, ReducesTo, ReducesAll, RunsAs};
 
@@ -58,11 +62,51 @@ fn place(n: u64) -> u32
     n as u32
 }
 
+// The check of the first n of the events that stand in four words each. `notes` holds the reasons of the notes.
+fn check_of(
+    file: &[u8],
+    index: Index,
+    b: Base,
+    notes: &[u32; 1500],
+    words: &[u32],
+    n: usize,
+    queue: &mut [u32],
+    records: &mut [u32],
+    runs: &mut [u32],
+) -> CheckResult
+    requires { ⌜ n * 4 ≤ length (now words) ⌝ }
+    ensures { λ r. ⌜ Whole (now (file .entry)) (index .invariants .starts) (index .invariants .count) (ground (b .table) (b .cells) (b .count) (now (notes .entry))) (now (words .entry)) n r (now (queue .entry)) (now (queue .exit)) (now (records .entry)) (now (records .exit)) (now (runs .entry)) (now (runs .exit)) ⌝ }
+{
+    let table = b.table;
+    let cells = b.cells;
+    let invariants = index.invariants;
+    let starts = invariants.starts;
+    let shared = Shared {
+        cells,
+        notes: b.count,
+        invariants: invariants.count,
+    };
+    let mut reasons = *notes;
+    checker_entry::check_whole(
+        file,
+        &table,
+        &starts,
+        shared,
+        words,
+        n,
+        queue,
+        records,
+        runs,
+        &mut reasons,
+    )
+}
+
 // The check of the events that are left, and the file with them.
 fn last_check(
     file: &[u8],
     index: Index,
-    g: Ground,
+    b: Base,
+    notes: &[u32; 1500],
     target: u64,
     originals: usize,
     r: Reduced,
@@ -71,11 +115,11 @@ fn last_check(
     runs: &mut [u32],
     output: &mut [u8],
 ) -> Minimized
-    requires { ⌜ Ready (now file) g r (now output) ⌝ }
-    ensures { λ e. ⌜ Finished (now (file .entry)) index g target originals r e (now (queue .entry)) (now (queue .exit)) (now (records .entry)) (now (records .exit)) (now (runs .entry)) (now (runs .exit)) (now (output .entry)) (now (output .exit)) ⌝ }
+    requires { ⌜ Ready (now file) r (now output) ⌝ }
+    ensures { λ e. ⌜ Finished (now (file .entry)) index (ground (b .table) (b .cells) (b .count) (now (notes .entry))) target originals r e (now (queue .entry)) (now (queue .exit)) (now (records .entry)) (now (records .exit)) (now (runs .entry)) (now (runs .exit)) (now (output .entry)) (now (output .exit)) ⌝ }
 {
     let words = r.words;
-    let check = checker_entry::check_events(file, index, g, &words, r.count, queue, records, runs);
+    let check = check_of(file, index, b, notes, &words, r.count, queue, records, runs);
     let s = check.simulation;
     if s.refused != 0 {
         return refused(s.refused);
@@ -101,7 +145,8 @@ fn last_check(
 fn reduction(
     file: &[u8],
     index: Index,
-    g: Ground,
+    b: Base,
+    notes: &[u32; 1500],
     target: u64,
     events: Events,
     n: usize,
@@ -110,22 +155,46 @@ fn reduction(
     runs: &mut [u32],
     output: &mut [u8],
 ) -> Minimized
-    requires { ⌜ Aimed (now file) index g target events n (now output) ⌝ }
-    ensures { λ e. ⌜ ReducesTo (now (file .entry)) index g target events n e (now (queue .entry)) (now (queue .exit)) (now (records .entry)) (now (records .exit)) (now (runs .entry)) (now (runs .exit)) (now (output .entry)) (now (output .exit)) ⌝ }
+    requires { ⌜ Aimed (now file) index (ground (b .table) (b .cells) (b .count) (now notes)) target events n (now output) ⌝ }
+    ensures { λ e. ⌜ ReducesTo (now (file .entry)) index (ground (b .table) (b .cells) (b .count) (now (notes .entry))) target events n e (now (queue .entry)) (now (queue .exit)) (now (records .entry)) (now (records .exit)) (now (runs .entry)) (now (runs .exit)) (now (output .entry)) (now (output .exit)) ⌝ }
 {
-    let r = reduce::reduce_events(file, index, g, target, events, n, queue, records, runs);
+    let r = reduce::reduce_events(
+        file,
+        index,
+        b,
+        notes,
+        target,
+        events,
+        n,
+        queue,
+        records,
+        runs,
+    );
     if r.refused != 0 {
         clear(queue, records, runs);
         return refused(r.refused);
     }
-    last_check(file, index, g, target, n, r, queue, records, runs, output)
+    last_check(
+        file,
+        index,
+        b,
+        notes,
+        target,
+        n,
+        r,
+        queue,
+        records,
+        runs,
+        output,
+    )
 }
 
 // The first check, and the reduction if it is a violation.
 fn first_check(
     file: &[u8],
     index: Index,
-    g: Ground,
+    b: Base,
+    notes: &[u32; 1500],
     events: Events,
     n: usize,
     queue: &mut [u32],
@@ -133,11 +202,11 @@ fn first_check(
     runs: &mut [u32],
     output: &mut [u8],
 ) -> Minimized
-    requires { ⌜ Given (now file) index g events n (now output) ⌝ }
-    ensures { λ e. ⌜ ReducesAll (now (file .entry)) index g events n e (now (queue .entry)) (now (queue .exit)) (now (records .entry)) (now (records .exit)) (now (runs .entry)) (now (runs .exit)) (now (output .entry)) (now (output .exit)) ⌝ }
+    requires { ⌜ Given (now file) index (ground (b .table) (b .cells) (b .count) (now notes)) events n (now output) ⌝ }
+    ensures { λ e. ⌜ ReducesAll (now (file .entry)) index (ground (b .table) (b .cells) (b .count) (now (notes .entry))) events n e (now (queue .entry)) (now (queue .exit)) (now (records .entry)) (now (records .exit)) (now (runs .entry)) (now (runs .exit)) (now (output .entry)) (now (output .exit)) ⌝ }
 {
     let words = events.words;
-    let c = checker_entry::check_events(file, index, g, &words, n, queue, records, runs);
+    let c = check_of(file, index, b, notes, &words, n, queue, records, runs);
     let s = c.simulation;
     if s.refused != 0 {
         return refused(s.refused);
@@ -149,7 +218,8 @@ fn first_check(
         return reduction(
             file,
             index,
-            g,
+            b,
+            notes,
             target,
             events,
             n,
@@ -178,11 +248,23 @@ fn run(
     if output.len() < file.len() + 45 {
         return refused(44);
     }
-    let g = engine_entry::prepared(file, index);
-    let table = g.table;
+    let mut notes = [0u32; 1500];
+    let b = engine_entry::prepared(file, index, &mut notes);
+    let table = b.table;
     let events = engine_begin::events_of(file, index);
     let n = engine_reads::at_most(table[8], 100);
-    first_check(file, index, g, events, n, queue, records, runs, output)
+    first_check(
+        file,
+        index,
+        b,
+        &notes,
+        events,
+        n,
+        queue,
+        records,
+        runs,
+        output,
+    )
 }
 
 // The reduction of a violating model, with lent areas of any size.

@@ -27,23 +27,23 @@ use Rattle.checker.specs.Verify as verify
 use Rattle.checker.specs.Verify.{after-case, out-of-budget, try-case}
 use Rattle.checker_entry.specs.declared.CheckResult.{CheckResult}
 use Rattle.checker_entry.specs.declared.Status.{Status}
-use Rattle.checker_entry.specs.Answers.{status-as, no-check}
+use Rattle.checker_entry.specs.Answers.{status-as}
 use Rattle.checker_entry.specs.Answers as said
+use Rattle.checker_entry.specs.Parts.{RefusedAs}
 use Rattle.checker_entry.specs.Pool.{check-pool}
 use Rattle.checker_entry.proofs.Pool.{few-in-pool, among-both, mem-first}
 use Rattle.checker_case.specs.Case.{Tells, answers, refuses, Cased}
 use Rattle.search_inputs.specs.declared.Placed.{Placed}
 use Rattle.search_inputs.proofs.Means.{Fine, asc, fine-here, input-accepted, event-at-here}
-use Rattle.search.specs.declared.Plan.{Plan}
 use Rattle.search.specs.declared.Search.{Search}
 use Rattle.search.specs.Parts.{refusalV, violatesV, refusedS, Spends, Found, Other, Gathers}
-use Rattle.search.specs.Meaning.{none-such, cells-of, sizes, search-pool, Setting, PlacedAs, WitnessIs, Held, Outcome}
+use Rattle.search.specs.Meaning.{none-such, cells-of, sizes, search-pool, Entire, Setting, PlacedAs, WitnessIs, Held, Outcome}
 use Rattle.search.proofs.Sorted.{sorted-few, sorted-again, sorted-both, sorted-one, sorted-none}
 use Rattle.search.proofs.Budget.{few-steps}
 
 -- ---- the model behind a plan
 
-module _ {f : List ℕ} {p : Plan} {q a u : ℕ} (x : Setting f p q a u) where
+module _ {f : List ℕ} {p : Entire} {q a u : ℕ} (x : Setting f p q a u) where
   abbrev m : Model
   m = x .m
 
@@ -51,7 +51,7 @@ module _ {f : List ℕ} {p : Plan} {q a u : ℕ} (x : Setting f p q a u) where
   spent-text = text "search budget exhausted"
 
   abbrev pub table : Tabled f (p .ground .table) (x .indexed .ts) m
-  table = tb f (p .index) m (x .is-accepted) (x .indexed) (x .bytes) (p .ground) (x .grounds)
+  table = tb f (x .index) m (x .is-accepted) (x .indexed) (x .bytes) (p .ground) (x .grounds)
 
   pub spent-is : render f (alone 387) ≡ spent-text
   unfolding render body alone words textAt
@@ -59,7 +59,7 @@ module _ {f : List ℕ} {p : Plan} {q a u : ℕ} (x : Setting f p q a u) where
 
   pub pool-few : length (search-pool m) ≤ 400
   unfolding search-pool
-  pool-few = omega (arith, few-in-pool f (p .index) m (x .is-accepted) (x .indexed) (x .bytes) (p .ground) (x .grounds))
+  pool-few = omega (arith, few-in-pool f (x .index) m (x .is-accepted) (x .indexed) (x .bytes) (p .ground) (x .grounds))
 
   pub widen : (l : List Text) → Among (check-pool m) l → Among (search-pool m) l
   unfolding search-pool
@@ -166,12 +166,12 @@ module _ {f : List ℕ} {p : Plan} {q a u : ℕ} (x : Setting f p q a u) where
       EventAt f (p .ground .table) (x .indexed .ts) m table (placed .words) j (getD vs j none-such)
   events-at vs {placed} ps j h =
       let c = ps .chosen j h in
-      event-at-here f (p .index) m (x .is-accepted) (x .indexed) (placed .words) none-such vs (ps .words) j h
+      event-at-here f (x .index) m (x .is-accepted) (x .indexed) (placed .words) none-such vs (ps .words) j h
       (p .ground .table) table
-      (subst (Fine f (x .indexed .ts) (asc f (p .index) m (x .is-accepted) (x .indexed))) (sym (c .is))
-      (fine-here f (p .index) m (x .is-accepted) (x .indexed) Input.restart (c .place) (c .inside)))
+      (subst (Fine f (x .indexed .ts) (asc f (x .index) m (x .is-accepted) (x .indexed))) (sym (c .is))
+      (fine-here f (x .index) m (x .is-accepted) (x .indexed) Input.restart (c .place) (c .inside)))
       (subst (λ (i : Input). check-input (m .scenario .entities) i ≡ accept) (sym (c .is))
-      (input-accepted f (p .index) m (x .is-accepted) (x .indexed) Input.restart (c .place) (c .inside)))
+      (input-accepted f (x .index) m (x .is-accepted) (x .indexed) Input.restart (c .place) (c .inside)))
 
 -- ---- the status of a check
 
@@ -187,10 +187,6 @@ violates-as check.Status.unknown = refl
 violates-as check.Status.violation = refl
 violates-as check.Status.incomplete = refl
 violates-as check.no-violation-in-trace = refl
-
-refusal-no-check : (n : ℕ) → refusalV (no-check n .status) ≡ n
-unfolding no-check
-refusal-no-check n = refl
 
 -- ---- after a check
 
@@ -223,8 +219,8 @@ module _ (vs : List Event) (b : Check) (s : verify.Search) where
   unfolding after-case
   after-other e = rw e
 
-module _ {f : List ℕ} {p : Plan} {q a u : ℕ} {placed : Placed} {c : CheckResult}
-    (ch : Cased f (p .index) (p .ground) (placed .words) (placed .count) c q a u)
+module _ {f : List ℕ} {p : Entire} {q a u : ℕ} {placed : Placed} {c : CheckResult}
+    (ch : Cased f (p .starts) (p .invariants) (p .ground) (placed .words) (placed .count) c q a u)
     (x : Setting f p q a u) (vs : List Event) (ps : PlacedAs (x .indexed .ts) (x .m) vs placed)
     (s : verify.Search) {o : Search} {w : List ℕ} (h : Held x s o w) (lc : o .cases < p .cases)
     (ls : o .steps < 200000) where
@@ -238,7 +234,7 @@ module _ {f : List ℕ} {p : Plan} {q a u : ℕ} {placed : Placed} {c : CheckRes
   Promised = Tells f (x .m) c plain
 
   promised : Promised
-  promised = ch .does (x .m) (x .is-accepted) (x .indexed) (x .bytes) (x .grounds) none-such vs (events-at x vs ps)
+  promised = ch .does (x .index) (x .starts-are) (x .invariants-are) (x .m) (x .is-accepted) (x .indexed) (x .bytes) (x .grounds) none-such vs (events-at x vs ps)
       (ps .count)
 
   answer-so : (b : Check) → plain ≡ answer b → here ≡ answer (after-case vs b s)
@@ -252,8 +248,8 @@ module _ {f : List ℕ} {p : Plan} {q a u : ℕ} {placed : Placed} {c : CheckRes
   refusal-of : (b : Check) → said.Shows f c b → refusalV (c .status) ≡ 0
   refusal-of b k = ap refusalV (k .status-is) ∙ refusal-none (b .status)
 
-  refusal-so : (n : ℕ) → c ≡ no-check n → refusalV (c .status) ≡ n
-  refusal-so n e = ap (λ (y : CheckResult). refusalV (y .status)) e ∙ refusal-no-check n
+  refusal-so : (n : ℕ) → RefusedAs n c → refusalV (c .status) ≡ n
+  refusal-so n e = ap refusalV (e .status-is)
 
   -- the steps of a check
   steps-of : (b : Check) → plain ≡ answer b → said.Shows f c b → {n : ℕ}
@@ -309,7 +305,7 @@ module _ {f : List ℕ} {p : Plan} {q a u : ℕ} {placed : Placed} {c : CheckRes
 
   pub other-held : {n : ℕ} {v : Bool} {count : ℕ} {r : Search} {w' : List ℕ} → n ≡ refusalV (c .status) → n ≡ 0
       → v ≡ violatesV (c .status) → v ≡ false →
-      Gathers f (o .reasons) c w count w' → Other o count (c .simulation .steps) r → Outcome x here r w'
+      Gathers f (o .reasons) (c .unknown) (c .unknowns) (c .incomplete) (c .incompletes) w count w' → Other o count (c .simulation .steps) r → Outcome x here r w'
   other-held {n} {v} {count} {r} {w'} e z d t told g = by promised
     where
       by : Promised → Outcome x here r w'

@@ -12,9 +12,9 @@ use Rattle.reasons.specs.declared.Reason.{Reason}
 use Rattle.reasons.proofs.Listing as listing
 use Rattle.model_index.specs.declared.Index.{Index}
 use Rattle.engine_reads.specs.Reads.{four, cap, alone}
-use Rattle.engine_entry.specs.declared.Ground.{Ground}
 use Rattle.checker_verdict.proofs.Laws.{all-many}
-use Rattle.checker_entry.specs.declared.CheckResult.{CheckResult}
+use Rattle.search_inputs.specs.declared.Alphabet.{Alphabet}
+use Rattle.search_inputs.specs.declared.Gaps.{Gaps}
 use Rattle.search_inputs.specs.declared.Placed.{Placed}
 use Rattle.search_inputs.specs.Inputs.{lastV, Placing}
 use Rattle.search.specs.declared.Plan.{Plan}
@@ -48,25 +48,25 @@ spent-reasons f w {w'} {k} {n} {r} a e h o =
     subst (λ (j : ℕ). Holds f (insertT (render f (alone 387)) (listed f j w)) r w') (a .same o)
     (subst (λ (z : Reason). Holds f (insertT (render f z) (listed f n w)) r w') e h)
 
-pub gathers-is : (f w : List ℕ) (n : ℕ) (c : CheckResult) {k many first j more r : ℕ} {w₁ w₂ : List ℕ} → AtMost n 400 k
-    → AtMost (c .unknown) 400 many →
-    Holds f (insertAll (listed f many (c .unknowns)) (listed f k w)) first w₁ → AtMost first 400 j
-    → AtMost (c .incomplete) 40 more →
-    Holds f (insertAll (listed f more (c .incompletes)) (listed f j w₁)) r w₂ → Gathers f n c w r w₂
-gathers-is f w n c {k} {many} {first} {j} {more} {r} {w₁} {w₂} ak am h aj ao g on om oo few =
-    let h₁ : Holds f (insertAll (listed f (c .unknown) (c .unknowns)) (listed f n w)) first w₁ = subst
-    (λ (i : ℕ). Holds f (insertAll (listed f i (c .unknowns)) (listed f n w)) first w₁) (am .same om)
-    (subst (λ (i : ℕ). Holds f (insertAll (listed f many (c .unknowns)) (listed f i w)) first w₁) (ak .same on) h) in
+pub gathers-is : (f w : List ℕ) (n : ℕ) {un inc : ℕ} (us ws : List ℕ) {k many first j more r : ℕ} {w₁ w₂ : List ℕ} → AtMost n 400 k
+    → AtMost un 400 many →
+    Holds f (insertAll (listed f many us) (listed f k w)) first w₁ → AtMost first 400 j
+    → AtMost inc 40 more →
+    Holds f (insertAll (listed f more ws) (listed f j w₁)) r w₂ → Gathers f n un us inc ws w r w₂
+gathers-is f w n {un} {inc} us ws {k} {many} {first} {j} {more} {r} {w₁} {w₂} ak am h aj ao g on om oo few =
+    let h₁ : Holds f (insertAll (listed f un us) (listed f n w)) first w₁ = subst
+    (λ (i : ℕ). Holds f (insertAll (listed f i us) (listed f n w)) first w₁) (am .same om)
+    (subst (λ (i : ℕ). Holds f (insertAll (listed f many us) (listed f i w)) first w₁) (ak .same on) h) in
     let fj : j ≡ first = aj .same (omega (arith, h₁ .many, few)) in
-    subst (λ (l : List Text). Holds f (insertAll (listed f (c .incomplete) (c .incompletes)) l) r w₂) (h₁ .texts)
-    (subst (λ (i : ℕ). Holds f (insertAll (listed f i (c .incompletes)) (listed f first w₁)) r w₂) (ao .same oo)
-    (subst (λ (i : ℕ). Holds f (insertAll (listed f more (c .incompletes)) (listed f i w₁)) r w₂) fj g))
+    subst (λ (l : List Text). Holds f (insertAll (listed f inc ws) l) r w₂) (h₁ .texts)
+    (subst (λ (i : ℕ). Holds f (insertAll (listed f i ws) (listed f first w₁)) r w₂) (ao .same oo)
+    (subst (λ (i : ℕ). Holds f (insertAll (listed f more ws) (listed f i w₁)) r w₂) fj g))
 
-pub begins-reasons : (f w : List ℕ) {w' : List ℕ} (g : Ground) {n r : ℕ} → AtMost (g .count) 300 n →
-    Holds f (insertAll (listed f n (g .reasons)) (listed f 0 w)) r w' → g .count ≤ 300
-    → Holds f (insertAll (listed f (g .count) (g .reasons)) []) r w'
+pub begins-reasons : (f w notes : List ℕ) {w' : List ℕ} {count n r : ℕ} → AtMost count 300 n →
+    Holds f (insertAll (listed f n notes) (listed f 0 w)) r w' → count ≤ 300
+    → Holds f (insertAll (listed f count notes) []) r w'
 unfolding reasons
-begins-reasons f w {w'} g {n} {r} a h o = subst (λ (j : ℕ). Holds f (insertAll (listed f j (g .reasons)) []) r w')
+begins-reasons f w notes {w'} {count} {n} {r} a h o = subst (λ (j : ℕ). Holds f (insertAll (listed f j notes) []) r w')
     (a .same o) h
 
 -- ---- pairs of a gap and an input
@@ -85,17 +85,17 @@ module _ (k g i : ℕ) (h : k < g * i) where
   pub input-below : k % i < i
   input-below = mod-lt k some-inputs
 
-pub next-is : (p : Plan) (placed : Placed) (k : ℕ) {last at : ℕ} {r : Placed} → last ≡ lastV placed →
-    at ≡ cap (last + getD (p .gaps .seconds) (k / p .alphabet .count) 0)
-    → Placing placed at (p .alphabet) (k % p .alphabet .count) r → Nexts p placed k r
+pub next-is : (gs : Gaps) (is : Alphabet) (placed : Placed) (k : ℕ) {last at : ℕ} {r : Placed} → last ≡ lastV placed →
+    at ≡ cap (last + getD (gs .seconds) (k / is .count) 0)
+    → Placing placed at is (k % is .count) r → Nexts gs is placed k r
 unfolding nextAt
-next-is p placed k {last} {at} {r} e a h =
-    subst (λ (y : ℕ). Placing placed y (p .alphabet) (k % p .alphabet .count) r)
-    (a ∙ ap (λ (y : ℕ). cap (y + getD (p .gaps .seconds) (k / p .alphabet .count) 0)) e) h
+next-is gs is placed k {last} {at} {r} e a h =
+    subst (λ (y : ℕ). Placing placed y is (k % is .count) r)
+    (a ∙ ap (λ (y : ℕ). cap (y + getD (gs .seconds) (k / is .count) 0)) e) h
 
 -- at most 4 gaps and 12 inputs
 pub few-pairs : (g i : ℕ) → g ≤ 4 → i ≤ 12 → g * i ≤ 48
 few-pairs g i h k = mul-le-mul h k
 
 pub fit-any : {p : Plan} {n m : ℕ} → Fitted p n → m ≡ n → Fitted p m
-fit-any h e = record { reasons = h .reasons; inputs = h .inputs; gaps = h .gaps; cases = h .cases; area = e ∙ h .area }
+fit-any h e = record { inputs = h .inputs; gaps = h .gaps; cases = h .cases; area = e ∙ h .area }

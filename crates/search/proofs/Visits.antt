@@ -23,13 +23,13 @@ use Rattle.checker.specs.Verify.{last-at, unless-stopped}
 use Rattle.search_inputs.specs.declared.Placed.{Placed}
 use Rattle.search_inputs.specs.Inputs.{input-words, event-words, gap-words, lastV, placing}
 use Rattle.search_inputs.proofs.Means.{input-size, event-size, gap-size}
-use Rattle.search.specs.declared.Plan.{Plan}
 use Rattle.search.specs.declared.Search.{Search}
 use Rattle.search.specs.Parts.{nextAt, Nexts}
 use Rattle.search.specs.Meaning.{
   none-such,
   cells-of,
   sizes,
+  Entire,
   Setting,
   Chosen,
   PlacedAs,
@@ -66,7 +66,7 @@ none-placed ts m = record {
   chosen = λ j h. absurd (omega arith);
 }
 
-module _ {f : List ℕ} {p : Plan} {q a u : ℕ} (x : Setting f p q a u) where
+module _ {f : List ℕ} {p : Entire} {q a u : ℕ} (x : Setting f p q a u) where
   abbrev m : Model
   m = x .m
 
@@ -110,7 +110,7 @@ module _ {f : List ℕ} {p : Plan} {q a u : ℕ} (x : Setting f p q a u) where
         ∙ ap (λ (n : ℕ). getD (area gap-words 4 gs) n 0) e
         ∙ areas.word-is gap-words 1 gap-size 4 gs (k / length is) 0 0 at-gap (omega arith)
 
-    second-is : nextAt p placed k ≡ next-event (sizes q a u) m vs k .at
+    second-is : nextAt (p .gaps) (p .alphabet) placed k ≡ next-event (sizes q a u) m vs k .at
     unfolding nextAt next-event
     second-is =
         let e = last-is vs placed ps in
@@ -127,7 +127,7 @@ module _ {f : List ℕ} {p : Plan} {q a u : ℕ} (x : Setting f p q a u) where
         ap (λ (l : List ℕ). getD l (j * 3 + i) 0) (x .words)
         ∙ areas.word-is (input-words ts) 3 (input-size ts) 36 is j i Input.restart g o
 
-    placing-is : placing (nextAt p placed k) (p .alphabet) (k % p .alphabet .count)
+    placing-is : placing (nextAt (p .gaps) (p .alphabet) placed k) (p .alphabet) (k % p .alphabet .count)
         ≡ event-words ts (next-event (sizes q a u) m vs k)
     unfolding placing event-words next-event
     placing-is =
@@ -135,7 +135,7 @@ module _ {f : List ℕ} {p : Plan} {q a u : ℕ} (x : Setting f p q a u) where
         let z : j * 3 ≡ j * 3 + 0 = omega arith in
         let w : (i : ℕ) → i < 3 → getD (p .alphabet .words) (j * 3 + i) 0
         ≡ getD (input-words ts (getD is j Input.restart)) i 0 = λ i o. input-word-is j i at-input o in
-        ap (λ (n : ℕ). placing (nextAt p placed k) (p .alphabet) (k % n)) (x .inputs)
+        ap (λ (n : ℕ). placing (nextAt (p .gaps) (p .alphabet) placed k) (p .alphabet) (k % n)) (x .inputs)
         ∙ ap (λ (n : ℕ). n ∷ getD (p .alphabet .words) (j * 3) 0 ∷ getD (p .alphabet .words) (j * 3 + 1) 0
         ∷ getD (p .alphabet .words) (j * 3 + 2) 0 ∷ []) second-is
         ∙ ap (λ (n : ℕ). next-event (sizes q a u) m vs k .at ∷ n ∷ getD (p .alphabet .words) (j * 3 + 1) 0
@@ -163,13 +163,13 @@ module _ {f : List ℕ} {p : Plan} {q a u : ℕ} (x : Setting f p q a u) where
           (record { place = k % length is; inside = at-input; is = refl }))
     ]
 
-    pub placed-next : (next : Placed) → Nexts p placed k next → PlacedAs ts m more next
+    pub placed-next : (next : Placed) → Nexts (p .gaps) (p .alphabet) placed k next → PlacedAs ts m more next
     placed-next next g = record {
       count = g .count ∙ omega (arith, ps .count, length-append vs (next-event (sizes q a u) m vs k ∷ []));
       words =
           g .words
           ∙ ap (λ (l : List ℕ). written l (placed .count * 4)
-          (placing (nextAt p placed k) (p .alphabet) (k % p .alphabet .count))) (ps .words)
+          (placing (nextAt (p .gaps) (p .alphabet) placed k) (p .alphabet) (k % p .alphabet .count))) (ps .words)
           ∙ ap (λ (l : List ℕ). written (area (event-words ts) 20 vs) (placed .count * 4) l) placing-is
           ∙ areas.push-is (event-words ts) 4 (event-size ts) 20 vs (next-event (sizes q a u) m vs k) (placed .count)
           (sym (ps .count)) (omega arith);
@@ -214,7 +214,7 @@ visit-none areas m vs s = refl
 never : {A : Type 0} (o : Search) → o .stopped ≡ false → o .stopped ≡ true → A
 never o e g = let z : true ≡ false = sym g ∙ e in let y : _≡_ {A = ℕ} 0 1 = cc in absurd (omega arith)
 
-module _ {f : List ℕ} {p : Plan} where
+module _ {f : List ℕ} {p : Entire} where
   pub stays-so : {n : ℕ} {placed : Placed} {o : Search} {w : List ℕ} {q a u : ℕ} → o .stopped ≡ true
       → Visits f p n placed o w o w q a u
   stays-so {n} {placed} {o} e = record {
@@ -248,7 +248,7 @@ module _ {f : List ℕ} {p : Plan} where
 
   module _ {n : ℕ} {placed : Placed} {o : Search} {w : List ℕ} {k : ℕ} {t : Search} {w₁ : List ℕ} {q a u : ℕ} where
     pub walk-next : k < p .gaps .count * p .alphabet .count → lastV placed ≤ p .horizon → placed .count < 5
-        → {next : Placed} → Nexts p placed k next →
+        → {next : Placed} → Nexts (p .gaps) (p .alphabet) placed k next →
         Walks f p n placed o w k t w₁ q a u → {r : Search} {w₂ : List ℕ} {q' a' u' : ℕ} → q' ≡ q → a' ≡ a → u' ≡ u →
         Visits f p n next t w₁ r w₂ q' a' u' → Walks f p n placed o w (k + 1) r w₂ q a u
     unfolding walked step _>>=_

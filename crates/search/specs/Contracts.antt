@@ -6,11 +6,10 @@ use mathlib.Core.List.{List, []}
 use Rattle.model.specs.Model.{Event}
 use Rattle.checker.specs.Verify as verify
 use Rattle.search_inputs.specs.declared.Placed.{Placed}
-use Rattle.search.specs.declared.Plan.{Plan}
 use Rattle.search.specs.declared.Search.{Search}
-use Rattle.search.specs.Meaning.{cells-of, sizes, Setting, PlacedAs, Held, Outcome, walked, guarded, step}
+use Rattle.search.specs.Meaning.{Entire, cells-of, sizes, Setting, PlacedAs, Held, Outcome, walked, guarded, step}
 
-module _ (f : List ℕ) (p : Plan) where
+module _ (f : List ℕ) (p : Entire) where
   pub record Tries (placed : Placed) (o : Search) (w : List ℕ) (r : Search) (w' : List ℕ) (q a u : ℕ) : Type 0 where
     pub does : (x : Setting f p q a u) (vs : List Event) → PlacedAs (x .indexed .ts) (x .m) vs placed
         → (s : verify.Search) → Held x s o w →

@@ -12,15 +12,18 @@ use Rattle.reasons.specs.Lists.{Holds}
 use Rattle.model.specs.Answer.{Answer, answer, refused, _>>=_}
 use Rattle.model.specs.Model.{Input, Event, Model}
 use Rattle.model.specs.Validate.{accepted}
+use Rattle.model_index.specs.declared.Index.{Index}
 use Rattle.model_index.specs.Indexed.{Indexed}
 use Rattle.engine.specs.Cells.{Cell, initial-cells}
 use Rattle.engine.specs.Records.{Areas}
 pub use Rattle.engine.specs.Words.{sizes}
 use Rattle.engine_places.specs.Events.{Among}
-use Rattle.engine_entry.specs.Answers.{Grounds}
+use Rattle.engine_entry.specs.Answers.{Ground, ground, Grounds}
 use Rattle.checker.specs.Check.{checked}
 use Rattle.checker.specs.Verify as verify
 use Rattle.checker_entry.specs.Pool.{check-pool}
+use Rattle.search_inputs.specs.declared.Alphabet.{Alphabet}
+use Rattle.search_inputs.specs.declared.Gaps.{Gaps}
 use Rattle.search_inputs.specs.declared.Placed.{Placed}
 use Rattle.search_inputs.specs.Inputs.{input-words, event-words, gap-words}
 use Rattle.search.specs.declared.Plan.{Plan}
@@ -36,14 +39,39 @@ cells-of m = initial-cells (m .scenario .entities)
 unfoldable pub search-pool : Model → List Text
 search-pool m = text "search budget exhausted" ∷ check-pool m
 
--- ---- the model behind a plan, with areas of q, a and u words
+-- ---- a plan with the arrays that are lent beside it
 
-pub record Setting (f : List ℕ) (p : Plan) (q a u : ℕ) : Type 0 where
+pub record Entire : Type 0 where
+  pub ground : Ground
+  pub starts : List ℕ
+  pub invariants : ℕ
+  pub alphabet : Alphabet
+  pub gaps : Gaps
+  pub horizon : ℕ
+  pub cases : ℕ
+
+abbrev pub entire : Plan → (table starts notes : List ℕ) → Entire
+entire p x s w = record {
+  ground = ground x (p .shared .cells) (p .shared .notes) w;
+  starts = s;
+  invariants = p .shared .invariants;
+  alphabet = p .alphabet;
+  gaps = p .gaps;
+  horizon = p .horizon;
+  cases = p .cases;
+}
+
+-- ---- the model behind it, with areas of q, a and u words
+
+pub record Setting (f : List ℕ) (p : Entire) (q a u : ℕ) : Type 0 where
   pub m : Model
   pub is-accepted : accepted f ≡ answer m
-  pub indexed : Indexed f (p .index) m
+  pub index : Index
+  pub starts-are : p .starts ≡ index .invariants .starts
+  pub invariants-are : p .invariants ≡ index .invariants .count
+  pub indexed : Indexed f index m
   pub bytes : (k : ℕ) → getD f k 0 < 256
-  pub grounds : Grounds f (p .index) (p .ground)
+  pub grounds : Grounds f index (p .ground)
   pub inputs : p .alphabet .count ≡ length (m .scenario .alphabet)
   pub words : p .alphabet .words ≡ area (input-words (indexed .ts)) 36 (m .scenario .alphabet)
   pub gaps : p .gaps .count ≡ length (m .scenario .gaps)
@@ -70,7 +98,7 @@ pub record PlacedAs (ts : List Text) (m : Model) (vs : List Event) (p : Placed) 
 
 -- ---- how far a search has come
 
-module _ {f : List ℕ} {p : Plan} {q a u : ℕ} (x : Setting f p q a u) where
+module _ {f : List ℕ} {p : Entire} {q a u : ℕ} (x : Setting f p q a u) where
   -- a witness's events, and its check
   pub record Witnessed (w : verify.Witness) (o : Search) : Type 0 where
     pub found : o .found ≡ true

@@ -10,11 +10,11 @@ use Rattle.reasons.specs.Lists.{listed, insertAll, Holds}
 use Rattle.reasons.specs.Reasons.{render}
 use Rattle.model_index.specs.declared.Index.{Index}
 use Rattle.engine_reads.specs.Reads.{four, cap, alone}
-use Rattle.engine_entry.specs.declared.Ground.{Ground}
-use Rattle.engine_entry.specs.Answers.{Grounds}
+use Rattle.engine_state.specs.declared.Cells.{Cells}
 use Rattle.checker_entry.specs.declared.Status.{Status}
 use Rattle.checker_entry.specs.declared.Status.the-variants as status
-use Rattle.checker_entry.specs.declared.CheckResult.{CheckResult}
+use Rattle.search_inputs.specs.declared.Alphabet.{Alphabet}
+use Rattle.search_inputs.specs.declared.Gaps.{Gaps}
 use Rattle.search_inputs.specs.declared.Placed.{Placed}
 use Rattle.search_inputs.specs.Inputs.{AlphabetOf, GapsOf, lastV, Placing}
 use Rattle.search.specs.declared.Plan.{Plan}
@@ -30,17 +30,17 @@ pub record AtMost (n m r : ℕ) : Type 0 where
 unfoldable pub limitV : List ℕ → Index → (k : ℕ) → ℕ
 limitV f i k = four f (cap (i .limits) + k)
 
-pub record Plans (f : List ℕ) (i : Index) (p : Plan) : Type 0 where
-  pub index : p .index ≡ i
-  pub ground : Grounds f i (p .ground)
+pub record Plans (f : List ℕ) (i : Index) (c : Cells) (notes : ℕ) (p : Plan) : Type 0 where
+  pub cells : p .shared .cells ≡ c
+  pub notes-are : p .shared .notes ≡ notes
+  pub invariants : p .shared .invariants ≡ i .invariants .count
   pub alphabet : AlphabetOf f i (p .alphabet)
   pub gaps : GapsOf f i (p .gaps)
   pub horizon : p .horizon ≡ limitV f i 0
   pub cases : AtMost (limitV f i 12) 2000 (p .cases)
 
--- the arrays' lengths, and the counts' bounds
+-- the counts' bounds
 pub record Fitted (p : Plan) (room : ℕ) : Type 0 where
-  pub reasons : length (p .ground .reasons) ≡ 1500
   pub inputs : p .alphabet .count ≤ 12
   pub gaps : p .gaps .count ≤ 4
   pub cases : p .cases ≤ 2000
@@ -113,28 +113,28 @@ pub record Other (o : Search) (count took : ℕ) (r : Search) : Type 0 where
   pub witness : r .witness ≡ o .witness
 
 -- the reasons of a check among the n others, if there are few
-abbrev pub Gathers : (f : List ℕ) → (n : ℕ) → CheckResult → (w : List ℕ) → (r : ℕ) → (w' : List ℕ) → Type 0
-Gathers f n c w r w' =
-    n ≤ 400 → c .unknown ≤ 400 → c .incomplete ≤ 40 →
-    length (insertAll (listed f (c .unknown) (c .unknowns)) (listed f n w)) ≤ 400 →
-    Holds f (insertAll (listed f (c .incomplete) (c .incompletes))
-    (insertAll (listed f (c .unknown) (c .unknowns)) (listed f n w))) r w'
+abbrev pub Gathers : (f : List ℕ) → (n unknown : ℕ) → (unknowns : List ℕ) → (incomplete : ℕ) → (incompletes : List ℕ)
+    → (w : List ℕ) → (r : ℕ) → (w' : List ℕ) → Type 0
+Gathers f n k us j ws w r w' =
+    n ≤ 400 → k ≤ 400 → j ≤ 40 →
+    length (insertAll (listed f k us) (listed f n w)) ≤ 400 →
+    Holds f (insertAll (listed f j ws) (insertAll (listed f k us) (listed f n w))) r w'
 
 -- ---- the next events
 
-unfoldable pub nextAt : Plan → Placed → (k : ℕ) → ℕ
-nextAt p placed k = cap (lastV placed + getD (p .gaps .seconds) (k / p .alphabet .count) 0)
+unfoldable pub nextAt : Gaps → Alphabet → Placed → (k : ℕ) → ℕ
+nextAt gs is placed k = cap (lastV placed + getD (gs .seconds) (k / is .count) 0)
 
-abbrev pub Nexts : Plan → Placed → (k : ℕ) → Placed → Type 0
-Nexts p placed k r = Placing placed (nextAt p placed k) (p .alphabet) (k % p .alphabet .count) r
+abbrev pub Nexts : Gaps → Alphabet → Placed → (k : ℕ) → Placed → Type 0
+Nexts gs is placed k r = Placing placed (nextAt gs is placed k) is (k % is .count) r
 
 -- ---- before the first case
 
-pub record Begins (f : List ℕ) (g : Ground) (r : Search) (w' : List ℕ) : Type 0 where
+pub record Begins (f : List ℕ) (n : ℕ) (notes : List ℕ) (r : Search) (w' : List ℕ) : Type 0 where
   pub refused : r .refused ≡ 0
   pub cases : r .cases ≡ 0
   pub steps : r .steps ≡ 0
   pub found : r .found ≡ false
   pub shortest : r .shortest ≡ false
   pub stopped : r .stopped ≡ false
-  pub reasons : g .count ≤ 300 → Holds f (insertAll (listed f (g .count) (g .reasons)) []) (r .reasons) w'
+  pub reasons : n ≤ 300 → Holds f (insertAll (listed f n notes) []) (r .reasons) w'

@@ -1,7 +1,7 @@
 // The bounded search for a violation: each list of events up to a depth, by depth, from the alphabet and the gaps.
-use checker_entry::CheckResult;
+use checker_entry::Shared;
 use checker_entry::Status;
-use engine_entry::Ground;
+use engine_state::Cells;
 use model_index::Index;
 use search_inputs::Alphabet;
 use search_inputs::Gaps;
@@ -11,12 +11,12 @@ ghost use Prim.Native.Nat.{_+_, _*_, _≤_, _<_};
 ghost use lib.ListN.{length};
 ghost use Rattle.engine_reads.specs.Reads.{cap};
 ghost use Rattle.search.specs.Parts.{AtMost, limitV, Plans, Fitted, Shaped, refusalV, violatesV, refusedS, Spends, Found, Other, Gathers, Nexts, Begins};
+ghost use Rattle.search.specs.Meaning.{entire};
 ghost use Rattle.search.specs.Contracts.{Tries, Visits, Deepens};
 
-// What all cases share: the model's index, table and start, what is chosen from, the horizon and the most cases.
+// What all cases share beside the arrays that are lent: the start, what is chosen from, the horizon and the most cases.
 pub struct Plan {
-    pub index: Index,
-    pub ground: Ground,
+    pub shared: Shared,
     pub alphabet: Alphabet,
     pub gaps: Gaps,
     pub horizon: u32,
@@ -67,17 +67,22 @@ pub fn limit(file: &[u8], index: Index, k: usize) -> u32
     engine_reads::four_at(file, p + k)
 }
 
-pub fn planned(file: &[u8], index: Index) -> Plan
-    ensures { λ p. ⌜ Plans (now (file .entry)) index p ⌝ }
+// From the values at the start, and so many reasons of the notes.
+pub fn planned(file: &[u8], index: Index, cells: Cells, notes: usize) -> Plan
+    ensures { λ p. ⌜ Plans (now (file .entry)) index cells notes p ⌝ }
 {
-    let ground = engine_entry::prepared(file, index);
+    let invariants = index.invariants;
+    let shared = Shared {
+        cells,
+        notes,
+        invariants: invariants.count,
+    };
     let alphabet = search_inputs::alphabet_of(file, index);
     let gaps = search_inputs::gaps_of(file, index);
     let horizon = limit(file, index, 0);
     let cases = at_most(limit(file, index, 12), 2000);
     Plan {
-        index,
-        ground,
+        shared,
         alphabet,
         gaps,
         horizon,
@@ -167,18 +172,24 @@ fn found_case(o: Search, placed: Placed, steps: u32) -> Search
 }
 
 // The reasons of a check among the others.
-fn gather(f: &[u8], w: &mut [u32], n: usize, c: CheckResult) -> usize
-    requires { ⌜ (length (now w) ≡ 4000) × ((length (c .unknowns) ≡ 2000) × (length (c .incompletes) ≡ 200)) ⌝ }
-    ensures { λ r. ⌜ Gathers (now (f .entry)) n c (now (w .entry)) r (now (w .exit)) ⌝ }
+fn gather(
+    f: &[u8],
+    w: &mut [u32],
+    n: usize,
+    unknown: usize,
+    unknowns: &[u32; 2000],
+    incomplete: usize,
+    incompletes: &[u32; 200],
+) -> usize
+    requires { ⌜ length (now w) ≡ 4000 ⌝ }
+    ensures { λ r. ⌜ Gathers (now (f .entry)) n unknown (now (unknowns .entry)) incomplete (now (incompletes .entry)) (now (w .entry)) r (now (w .exit)) ⌝ }
 {
-    let unknowns = c.unknowns;
-    let incompletes = c.incompletes;
     let k = few(n, 400);
-    let many = few(c.unknown, 400);
-    let first = reasons::merge(f, w, k, &unknowns, many);
+    let many = few(unknown, 400);
+    let first = reasons::merge(f, w, k, unknowns, many);
     let j = few(first, 400);
-    let more = few(c.incomplete, 40);
-    reasons::merge(f, w, j, &incompletes, more)
+    let more = few(incomplete, 40);
+    reasons::merge(f, w, j, incompletes, more)
 }
 
 // No violation: the search goes on, with the reasons of this case.
@@ -202,6 +213,9 @@ fn other_case(o: Search, count: usize, steps: u32) -> Search
 // The check with the events placed so far, unless the budget is spent.
 fn try_case(
     file: &[u8],
+    table: &[u32; 436],
+    starts: &[usize; 100],
+    notes: &[u32; 1500],
     p: Plan,
     placed: Placed,
     o: Search,
@@ -209,9 +223,13 @@ fn try_case(
     records: &mut [u32],
     runs: &mut [u32],
     w: &mut [u32],
+    reasons: &mut [u32; 1500],
+    violated: &mut [u64; 256],
+    unknowns: &mut [u32; 2000],
+    incompletes: &mut [u32; 200],
 ) -> Search
     requires { ⌜ Shaped p placed 0 (length (now w)) ⌝ }
-    ensures { λ r. ⌜ Tries (now (file .entry)) p placed o (now (w .entry)) r (now (w .exit)) (length (now (queue .entry))) (length (now (records .entry))) (length (now (runs .entry))) ⌝ }
+    ensures { λ r. ⌜ Tries (now (file .entry)) (entire p (now (table .entry)) (now (starts .entry)) (now (notes .entry))) placed o (now (w .entry)) r (now (w .exit)) (length (now (queue .entry))) (length (now (records .entry))) (length (now (runs .entry))) ⌝ }
 {
     if p.cases <= o.cases {
         return spent(file, o, w);
@@ -219,11 +237,25 @@ fn try_case(
     if 200000 <= o.steps {
         return spent(file, o, w);
     }
-    let index = p.index;
-    let ground = p.ground;
+    let shared = p.shared;
     let events = placed.words;
     let n = placed.count;
-    let c = checker_case::check_case(file, index, ground, &events, n, queue, records, runs);
+    let c = checker_case::check_case(
+        file,
+        table,
+        starts,
+        notes,
+        shared,
+        &events,
+        n,
+        queue,
+        records,
+        runs,
+        reasons,
+        violated,
+        unknowns,
+        incompletes,
+    );
     let status = c.status;
     let simulation = c.simulation;
     let number = refusal(status);
@@ -233,7 +265,15 @@ fn try_case(
     if violates(status) {
         return found_case(o, placed, simulation.steps);
     }
-    let count = gather(file, w, o.reasons, c);
+    let count = gather(
+        file,
+        w,
+        o.reasons,
+        c.unknown,
+        unknowns,
+        c.incomplete,
+        incompletes,
+    );
     other_case(o, count, simulation.steps)
 }
 
@@ -249,7 +289,7 @@ fn later(last: u32, gap: u32) -> u32
 // The events placed so far and the k-th of the pairs of a gap and an input.
 fn next_events(p: Plan, placed: Placed, k: usize) -> Placed
     requires { ⌜ (k < p .gaps .count * p .alphabet .count) × Shaped p placed 1 4000 ⌝ }
-    ensures { λ r. ⌜ Nexts p placed k r ⌝ }
+    ensures { λ r. ⌜ Nexts (p .gaps) (p .alphabet) placed k r ⌝ }
 {
     let alphabet = p.alphabet;
     let gaps = p.gaps;
@@ -263,6 +303,9 @@ fn next_events(p: Plan, placed: Placed, k: usize) -> Placed
 // `remaining` more events are placed, and then the case is checked.
 fn visit(
     file: &[u8],
+    table: &[u32; 436],
+    starts: &[usize; 100],
+    notes: &[u32; 1500],
     p: Plan,
     remaining: usize,
     placed: Placed,
@@ -271,9 +314,13 @@ fn visit(
     records: &mut [u32],
     runs: &mut [u32],
     w: &mut [u32],
+    reasons: &mut [u32; 1500],
+    violated: &mut [u64; 256],
+    unknowns: &mut [u32; 2000],
+    incompletes: &mut [u32; 200],
 ) -> Search
     requires { ⌜ Shaped p placed remaining (length (now w)) ⌝ }
-    ensures { λ r. ⌜ Visits (now (file .entry)) p remaining placed o (now (w .entry)) r (now (w .exit)) (length (now (queue .entry))) (length (now (records .entry))) (length (now (runs .entry))) ⌝ }
+    ensures { λ r. ⌜ Visits (now (file .entry)) (entire p (now (table .entry)) (now (starts .entry)) (now (notes .entry))) remaining placed o (now (w .entry)) r (now (w .exit)) (length (now (queue .entry))) (length (now (records .entry))) (length (now (runs .entry))) ⌝ }
 {
     if o.stopped {
         return o;
@@ -282,7 +329,23 @@ fn visit(
         return o;
     }
     if remaining == 0 {
-        return try_case(file, p, placed, o, queue, records, runs, w);
+        return try_case(
+            file,
+            table,
+            starts,
+            notes,
+            p,
+            placed,
+            o,
+            queue,
+            records,
+            runs,
+            w,
+            reasons,
+            violated,
+            unknowns,
+            incompletes,
+        );
     }
     let gaps = p.gaps;
     let alphabet = p.alphabet;
@@ -291,15 +354,86 @@ fn visit(
     let mut k: usize = 0;
     while k < pairs {
         let next = next_events(p, placed, k);
-        s = visit(file, p, remaining - 1, next, s, queue, records, runs, w);
+        s = visit(
+            file,
+            table,
+            starts,
+            notes,
+            p,
+            remaining - 1,
+            next,
+            s,
+            queue,
+            records,
+            runs,
+            w,
+            reasons,
+            violated,
+            unknowns,
+            incompletes,
+        );
         k += 1;
     }
     s
 }
 
 // The depths from 0 to `depth`.
-pub fn deepen(
+fn deepen(
     file: &[u8],
+    table: &[u32; 436],
+    starts: &[usize; 100],
+    notes: &[u32; 1500],
+    p: Plan,
+    depth: usize,
+    o: Search,
+    queue: &mut [u32],
+    records: &mut [u32],
+    runs: &mut [u32],
+    w: &mut [u32],
+    reasons: &mut [u32; 1500],
+    violated: &mut [u64; 256],
+    unknowns: &mut [u32; 2000],
+    incompletes: &mut [u32; 200],
+) -> Search
+    requires { ⌜ (depth ≤ 5) × Fitted p (length (now w)) ⌝ }
+    ensures { λ r. ⌜ Deepens (now (file .entry)) (entire p (now (table .entry)) (now (starts .entry)) (now (notes .entry))) depth o (now (w .entry)) r (now (w .exit)) (length (now (queue .entry))) (length (now (records .entry))) (length (now (runs .entry))) ⌝ }
+{
+    let none = Placed {
+        count: 0,
+        words: [0u32; 20],
+    };
+    let mut s = o;
+    let mut d: usize = 0;
+    while d <= depth {
+        s = visit(
+            file,
+            table,
+            starts,
+            notes,
+            p,
+            d,
+            none,
+            s,
+            queue,
+            records,
+            runs,
+            w,
+            reasons,
+            violated,
+            unknowns,
+            incompletes,
+        );
+        d += 1;
+    }
+    s
+}
+
+// The same, with the arrays that each check writes.
+pub fn search_depths(
+    file: &[u8],
+    table: &[u32; 436],
+    starts: &[usize; 100],
+    notes: &[u32; 1500],
     p: Plan,
     depth: usize,
     o: Search,
@@ -309,29 +443,38 @@ pub fn deepen(
     w: &mut [u32],
 ) -> Search
     requires { ⌜ (depth ≤ 5) × Fitted p (length (now w)) ⌝ }
-    ensures { λ r. ⌜ Deepens (now (file .entry)) p depth o (now (w .entry)) r (now (w .exit)) (length (now (queue .entry))) (length (now (records .entry))) (length (now (runs .entry))) ⌝ }
+    ensures { λ r. ⌜ Deepens (now (file .entry)) (entire p (now (table .entry)) (now (starts .entry)) (now (notes .entry))) depth o (now (w .entry)) r (now (w .exit)) (length (now (queue .entry))) (length (now (records .entry))) (length (now (runs .entry))) ⌝ }
 {
-    let none = Placed {
-        count: 0,
-        words: [0u32; 20],
-    };
-    let mut s = o;
-    let mut d: usize = 0;
-    while d <= depth {
-        s = visit(file, p, d, none, s, queue, records, runs, w);
-        d += 1;
-    }
-    s
+    let mut reasons = [0u32; 1500];
+    let mut violated = [0u64; 256];
+    let mut unknowns = [0u32; 2000];
+    let mut incompletes = [0u32; 200];
+    deepen(
+        file,
+        table,
+        starts,
+        notes,
+        p,
+        depth,
+        o,
+        queue,
+        records,
+        runs,
+        w,
+        &mut reasons,
+        &mut violated,
+        &mut unknowns,
+        &mut incompletes,
+    )
 }
 
-// Before the first case: the reasons of the automations' notes.
-pub fn begun(f: &[u8], g: Ground, w: &mut [u32]) -> Search
-    requires { ⌜ (length (now w) ≡ 4000) × (length (g .reasons) ≡ 1500) ⌝ }
-    ensures { λ r. ⌜ Begins (now (f .entry)) g r (now (w .exit)) ⌝ }
+// Before the first case: the reasons of the automations' notes, so many.
+pub fn begun(f: &[u8], notes: &[u32; 1500], n: usize, w: &mut [u32]) -> Search
+    requires { ⌜ length (now w) ≡ 4000 ⌝ }
+    ensures { λ r. ⌜ Begins (now (f .entry)) n (now (notes .entry)) r (now (w .exit)) ⌝ }
 {
-    let notes = g.reasons;
-    let many = few(g.count, 300);
-    let count = reasons::merge(f, w, 0, &notes, many);
+    let many = few(n, 300);
+    let count = reasons::merge(f, w, 0, notes, many);
     Search {
         refused: 0,
         cases: 0,

@@ -23,29 +23,35 @@ use Rattle.engine.specs.Records.{Areas}
 use Rattle.engine.specs.Words.{words-in, entry-words}
 use Rattle.engine.proofs.Memory.{refusals}
 use Rattle.engine_reads.specs.Reads.{atMost}
+use Rattle.engine_state.specs.declared.Cells.{Cells}
 use Rattle.engine_places.proofs.Numbers.{most-is}
+use Rattle.engine_entry.specs.Answers.{ground, Grounds}
 use Rattle.checker.specs.Verify as verify
 use Rattle.checker.specs.Verify.{searched, verified, short-of-room}
 use Rattle.search_inputs.proofs.Lawful.{accepted-searchable}
 use Rattle.search.specs.declared.Plan.{Plan}
 use Rattle.search.specs.declared.Search.{Search}
 use Rattle.search.specs.Parts.{limitV, Plans, Begins}
-use Rattle.search.specs.Meaning.{cells-of, sizes, Setting, Outcome}
+use Rattle.search.specs.Meaning.{cells-of, sizes, Entire, entire, Setting, Outcome}
 use Rattle.search.specs.Contracts.{Deepens}
 use Rattle.search_entry.specs.declared.Verification.{Verification}
 use Rattle.search_entry.specs.Answers.{no-verification, Says, witness-trace, output-after, Gives, Verifies}
 use Rattle.search_entry.specs.Parts.{Reached, Ending, Ends, Accepted, Runs, Admits}
-use Rattle.search_entry.proofs.Start.{limits-are, setting, fitted, start-of, start-held}
+use Rattle.search_entry.proofs.Start.{limits-are, setting, start-of, start-held}
 
 -- ---- the search
 
-module _ {f : List ℕ} {i : Index} (bytes : (k : ℕ) → getD f k 0 < 256) (p : Plan)
-    (pl : Plans f i p) {start : Search} {w₀ : List ℕ} (b : Begins f (p .ground) start w₀)
+module _ {f : List ℕ} {i : Index} (bytes : (k : ℕ) → getD f k 0 < 256) (p : Plan) {x notes : List ℕ} {c : Cells} {n : ℕ}
+    (gr : Grounds f i (ground x c n notes)) (pl : Plans f i c n p)
+    {start : Search} {w₀ : List ℕ} (b : Begins f (p .shared .notes) notes start w₀)
     {depth : ℕ} (few : depth ≡ atMost (limitV f i 8) 5) {q a u : ℕ} {o : Search} {w : List ℕ}
-    (d : Deepens f p depth start w₀ o w q a u) where
+    (d : Deepens f (entire p x (i .invariants .starts) notes) depth start w₀ o w q a u) where
+  abbrev all : Entire
+  all = entire p x (i .invariants .starts) notes
+
   module _ (m : Model) (acc : accepted f ≡ answer m) (ix : Indexed f i m) where
-    abbrev x : Setting f p q a u
-    x = setting f i m acc ix bytes p pl q a u (pl .index)
+    abbrev here : Setting f all q a u
+    here = setting f i m acc ix p pl bytes x notes gr q a u
 
     depth-is : depth ≡ m .scenario .limits .search-depth
     depth-is =
@@ -59,33 +65,33 @@ module _ {f : List ℕ} {i : Index} (bytes : (k : ℕ) → getD f k 0 < 256) (p 
         let e : suc depth ≡ m .scenario .limits .search-depth + 1 = omega (arith, depth-is) in
         ap (λ (n : ℕ). verify.deepen (sizes q a u) m (cells-of m) n 0 (start-of m)) e
 
-    pub reached : Outcome x (searched (sizes q a u) m (cells-of m)) o w
-    reached = subst (λ (y : Answer verify.Search). Outcome x y o w) searched-is (d .does x (start-of m) (start-held x b))
+    pub reached : Outcome here (searched (sizes q a u) m (cells-of m)) o w
+    reached = subst (λ (y : Answer verify.Search). Outcome here y o w) searched-is (d .does here (start-of m) (start-held here b))
 
-  pub reach : Accepted f i → {n : ℕ} → length f + 45 ≤ n → length w ≡ 4000 → {q' a' u' : ℕ} → q' ≡ q → a' ≡ a → u' ≡ u
-      → Reached f p o w q' a' u' n
-  reach y {n} room long {q'} {a'} {u'} eq ea eu =
-      subst (λ (k : ℕ). Reached f p o w k a' u' n) (sym eq)
-      (subst (λ (k : ℕ). Reached f p o w q k u' n) (sym ea)
-      (subst (λ (k : ℕ). Reached f p o w q a k n) (sym eu) (record {
-        setting = x (y .m) (y .is-accepted) (y .indexed);
-        fitted = fitted f i (y .m) (y .is-accepted) (y .indexed) bytes p pl long;
+  pub reach : Accepted f i → {k : ℕ} → length f + 45 ≤ k → length w ≡ 4000 → {q' a' u' : ℕ} → q' ≡ q → a' ≡ a → u' ≡ u
+      → Reached f all o w q' a' u' k
+  reach y {k} room long {q'} {a'} {u'} eq ea eu =
+      subst (λ (j : ℕ). Reached f all o w j a' u' k) (sym eq)
+      (subst (λ (j : ℕ). Reached f all o w q j u' k) (sym ea)
+      (subst (λ (j : ℕ). Reached f all o w q a j k) (sym eu) (record {
+        setting = here (y .m) (y .is-accepted) (y .indexed);
+        area = long;
         ending = searched (sizes q a u) (y .m) (cells-of (y .m));
         outcome = reached (y .m) (y .is-accepted) (y .indexed);
         room = room;
       })))
 
   pub run-so : {r : Verification} {after : Lent} {out out' : List ℕ} {q' a' u' : ℕ} → q' ≡ q → a' ≡ a → u' ≡ u
-      → Ends f p o w r q' a' u' after out out' → Runs f i r q a u after out out'
+      → Ends f i all o w r q' a' u' after out out' → Runs f i r q a u after out out'
   unfolding verified
   run-so {r} {after} {out} {out'} {q'} {a'} {u'} eq ea eu en₀ = record {
-    does = λ m acc ix. en .does (x m acc ix) (searched (sizes q a u) m (cells-of m)) (reached m acc ix);
+    does = λ m acc ix. en .does (here m acc ix) refl (searched (sizes q a u) m (cells-of m)) (reached m acc ix);
   }
     where
-      en : Ends f p o w r q a u after out out'
-      en = subst (λ (k : ℕ). Ends f p o w r k a u after out out') eq
-          (subst (λ (k : ℕ). Ends f p o w r q' k u after out out') ea
-          (subst (λ (k : ℕ). Ends f p o w r q' a' k after out out') eu en₀))
+      en : Ends f i all o w r q a u after out out'
+      en = subst (λ (k : ℕ). Ends f i all o w r k a u after out out') eq
+          (subst (λ (k : ℕ). Ends f i all o w r q' k u after out out') ea
+          (subst (λ (k : ℕ). Ends f i all o w r q' a' k after out out') eu en₀))
 
 -- ---- from an ending to the areas
 

@@ -13,15 +13,16 @@ use Rattle.areas.proofs.Laws as areas
 use Rattle.reasons.specs.Lists.{insertAll, Holds}
 use Rattle.reasons.proofs.Sorting.{one-by-one}
 use Rattle.model.specs.Answer.{Answer, answer, refused, _>>=_}
+use Rattle.model_index.specs.declared.Index.{Index}
 use Rattle.engine.specs.Memory.{Lent}
 use Rattle.engine.specs.Words.{texts-in, words-in}
 use Rattle.engine_entry.proofs.Promise.{texts-here}
 use Rattle.checker.specs.Verify as verify
 use Rattle.checker.specs.Verify.{found-of, verification-of, witness-file}
 use Rattle.search_inputs.specs.Inputs.{input-words, event-words}
-use Rattle.search.specs.declared.Plan.{Plan}
 use Rattle.search.specs.declared.Search.{Search}
-use Rattle.search.specs.Meaning.{Setting, Witnessed, Held, Outcome}
+use Rattle.search.specs.Parts.{limitV}
+use Rattle.search.specs.Meaning.{Entire, Setting, Witnessed, Held, Outcome}
 use Rattle.search.proofs.Cases.{few-reasons}
 use Rattle.search.proofs.Sorted.{sorted-again}
 use Rattle.search_entry.specs.declared.Verification.{Verification}
@@ -57,12 +58,12 @@ unfolding statusV found-of
 status-none [] e = rw e
 status-none (t ∷ l) {n} e = rw (ne-eqb n 0 (λ z. absurd (omega (arith, e, z))))
 
-module _ {f : List ℕ} {p : Plan} {q a u : ℕ} (x : Setting f p q a u) where
+module _ {f : List ℕ} {i : Index} {p : Entire} {q a u : ℕ} (x : Setting f p q a u) (here : x .index ≡ i) where
   texts-are : texts-in f ≡ x .indexed .ts
-  texts-are = texts-here f (p .index) (x .m) (x .is-accepted) (x .indexed) (x .bytes) (p .ground) (x .grounds)
+  texts-are = texts-here f (x .index) (x .m) (x .is-accepted) (x .indexed) (x .bytes) (p .ground) (x .grounds)
 
   module _ (s : verify.Search) {o : Search} {w : List ℕ} (h : Held x s o w) {y : Witness} {r : Verification}
-      (t : Told f p o w y r) where
+      (t : Told f i (p .alphabet) (p .gaps) (p .horizon) o w y r) where
     reasons-are : Holds f (sortedT (s .reasons)) (r .reasons) (r .told)
     reasons-are =
         subst (λ (l : List Text). Holds f l (r .reasons) (r .told))
@@ -74,15 +75,15 @@ module _ {f : List ℕ} {p : Plan} {q a u : ℕ} (x : Setting f p q a u) where
         → Shows f r (verification-of (x .m) s)
     unfolding verification-of
     shows-with e k =
-        let l = limits-are f (p .index) (x .m) (x .is-accepted) (x .indexed) in
+        let l = limits-are f (x .index) (x .m) (x .is-accepted) (x .indexed) in
         record {
           status-is = e;
           cases = t .cases ∙ h .cases;
           total = t .total ∙ h .steps;
-          depth = t .depth ∙ l .depth;
+          depth = t .depth ∙ ap (λ (j : Index). limitV f j 8) (sym here) ∙ l .depth;
           horizon = t .horizon ∙ x .horizon;
-          most = t .most ∙ l .cases;
-          steps = t .steps ∙ l .steps;
+          most = t .most ∙ ap (λ (j : Index). limitV f j 12) (sym here) ∙ l .cases;
+          steps = t .steps ∙ ap (λ (j : Index). limitV f j 4) (sym here) ∙ l .steps;
           alphabet = t .alphabet ∙ x .inputs;
           inputs = t .inputs ∙ x .words ∙ ap (λ (ts : List Text). area (input-words ts) 36 (x .m .scenario .alphabet))
               (sym texts-are);
@@ -126,17 +127,17 @@ module _ {f : List ℕ} {p : Plan} {q a u : ℕ} (x : Setting f p q a u) where
 
 -- ---- the three ends
 
-module _ {f : List ℕ} {p : Plan} {o : Search} {w : List ℕ} {q a u : ℕ} {after : Lent} {out : List ℕ} where
+module _ {f : List ℕ} {i : Index} {p : Entire} {o : Search} {w : List ℕ} {q a u : ℕ} {after : Lent} {out : List ℕ} where
   pub end-refused : (o .refused ≡ 0 → ⊥) → {r : Verification} → r ≡ no-verification (o .refused) →
       after .queue ≡ replicate q 0 → after .records ≡ replicate a 0 → after .runs ≡ replicate u 0
-      → Ends f p o w r q a u after out out
+      → Ends f i p o w r q a u after out out
   unfolding _>>=_ output-after
   end-refused z {r} e eq ea eu = record { does = by }
     where
-      by : (x : Setting f p q a u) (y : Answer verify.Search) → Outcome x y o w
+      by : (x : Setting f p q a u) → x .index ≡ i → (y : Answer verify.Search) → Outcome x y o w
           → Ending f r (answer-of (x .m) y) q a u after out out
-      by x (answer s) h = absurd (z (h .fine))
-      by x (refused n) h = record {
+      by x here (answer s) h = absurd (z (h .fine))
+      by x here (refused n) h = record {
         says = e ∙ ap no-verification (h .number);
         number = (h .low, h .high);
         queue = eq;
@@ -145,61 +146,61 @@ module _ {f : List ℕ} {p : Plan} {o : Search} {w : List ℕ} {q a u : ℕ} {af
         output = refl;
       }
 
-  pub end-none : o .refused ≡ 0 → o .found ≡ false → {y : Witness} {r : Verification} → y ≡ without → Told f p o w y r →
+  pub end-none : o .refused ≡ 0 → o .found ≡ false → {y : Witness} {r : Verification} → y ≡ without → Told f i (p .alphabet) (p .gaps) (p .horizon) o w y r →
       after .queue ≡ replicate q 0 → after .records ≡ replicate a 0 → after .runs ≡ replicate u 0
-      → Ends f p o w r q a u after out out
+      → Ends f i p o w r q a u after out out
   unfolding _>>=_ output-after witness-trace witness-file verification-of
   end-none z e {y} {r} n t eq ea eu = record { does = by }
     where
-      made : (x : Setting f p q a u) (s : verify.Search) (h : Held x s o w) (v : Option verify.Witness) → s .witness ≡ v →
+      made : (x : Setting f p q a u) → x .index ≡ i → (s : verify.Search) (h : Held x s o w) (v : Option verify.Witness) → s .witness ≡ v →
           Rattle.search.specs.Meaning.WitnessIs x v o → Ending f r (answer (verification-of (x .m) s)) q a u after out out
-      made x s h none g k = record {
-        says = shows-with x s h t (subst (λ (v : Option verify.Witness). r .status
-            ≡ found-as (found-of v (sortedT (s .reasons)))) (sym g) (none-status x s h t e))
-            (subst (WitnessSays f r) (sym g) (none-says x s h t n));
+      made x here s h none g k = record {
+        says = shows-with x here s h t (subst (λ (v : Option verify.Witness). r .status
+            ≡ found-as (found-of v (sortedT (s .reasons)))) (sym g) (none-status x here s h t e))
+            (subst (WitnessSays f r) (sym g) (none-says x here s h t n));
         number = tt;
         queue = eq;
         records = rw g (ea ∙ sym (areas.area-none (words-in f) a));
         runs = eu;
         output = rw g;
       }
-      made x s h (some v) g k = let c : true ≡ false = sym (k .found)
+      made x here s h (some v) g k = let c : true ≡ false = sym (k .found)
           ∙ e in let d : _≡_ {A = ℕ} 0 1 = cc in absurd (omega arith)
 
-      by : (x : Setting f p q a u) (y : Answer verify.Search) → Outcome x y o w
+      by : (x : Setting f p q a u) → x .index ≡ i → (y : Answer verify.Search) → Outcome x y o w
           → Ending f r (answer-of (x .m) y) q a u after out out
-      by x (answer s) h = made x s h (s .witness) refl (h .witness)
-      by x (refused j) h = absurd (omega (arith, h .number, h .low, z))
+      by x here (answer s) h = made x here s h (s .witness) refl (h .witness)
+      by x here (refused j) h = absurd (omega (arith, h .number, h .low, z))
 
   pub end-some : o .refused ≡ 0 → o .found ≡ true → {y : Witness} {r : Verification} {out' : List ℕ}
-      → Writes f p (o .witness) y q a u after out out' → Told f p o w y r →
-      Ends f p o w r q a u after out out'
+      → Writes f p (o .witness) y q a u after out out' → Told f i (p .alphabet) (p .gaps) (p .horizon) o w y r →
+      Ends f i p o w r q a u after out out'
   unfolding _>>=_ output-after witness-trace witness-file verification-of
   end-some z e {y} {r} {out'} ws t = record { does = by }
     where
-      made : (x : Setting f p q a u) (s : verify.Search) (h : Held x s o w) (v : Option verify.Witness) → s .witness ≡ v →
+      made : (x : Setting f p q a u) → x .index ≡ i → (s : verify.Search) (h : Held x s o w) (v : Option verify.Witness) → s .witness ≡ v →
           Rattle.search.specs.Meaning.WitnessIs x v o → Ending f r (answer (verification-of (x .m) s)) q a u after out out'
-      made x s h none g k = let c : true ≡ false = sym e ∙ k in let d : _≡_ {A = ℕ} 0 1 = cc in absurd (omega arith)
-      made x s h (some v) g k =
-          let i = ws .does x (v .events) (k .placed) (v .check) (k .checks) in
+      made x here s h none g k = let c : true ≡ false = sym e ∙ k in let d : _≡_ {A = ℕ} 0 1 = cc in absurd (omega arith)
+      made x here s h (some v) g k =
+          let d = ws .does x (v .events) (k .placed) (v .check) (k .checks) in
           record {
-            says = shows-with x s h t (subst (λ (v : Option verify.Witness). r .status
-                ≡ found-as (found-of v (sortedT (s .reasons)))) (sym g) (some-status x s h t v e))
-                (subst (WitnessSays f r) (sym g) (some-says x s h t v k i));
+            says = shows-with x here s h t (subst (λ (v : Option verify.Witness). r .status
+                ≡ found-as (found-of v (sortedT (s .reasons)))) (sym g) (some-status x here s h t v e))
+                (subst (WitnessSays f r) (sym g) (some-says x here s h t v k d));
             number = tt;
-            queue = i .queue;
-            records = rw g (i .records);
-            runs = i .runs;
-            output = rw g (i .written .is-out);
+            queue = d .queue;
+            records = rw g (d .records);
+            runs = d .runs;
+            output = rw g (d .written .is-out);
           }
 
-      by : (x : Setting f p q a u) (y : Answer verify.Search) → Outcome x y o w
+      by : (x : Setting f p q a u) → x .index ≡ i → (y : Answer verify.Search) → Outcome x y o w
           → Ending f r (answer-of (x .m) y) q a u after out out'
-      by x (answer s) h = made x s h (s .witness) refl (h .witness)
-      by x (refused j) h = absurd (omega (arith, h .number, h .low, z))
+      by x here (answer s) h = made x here s h (s .witness) refl (h .witness)
+      by x here (refused j) h = absurd (omega (arith, h .number, h .low, z))
 
 -- a witness's events, and room for its file
-pub writable : {f : List ℕ} {p : Plan} {o : Search} {w : List ℕ} {q a u n : ℕ} → Reached f p o w q a u n
+pub writable : {f : List ℕ} {p : Entire} {o : Search} {w : List ℕ} {q a u n : ℕ} → Reached f p o w q a u n
     → o .refused ≡ 0 → o .found ≡ true → Writable f p (o .witness) q a u n
 writable {f} {p} {o} {w} {q} {a} {u} {n} h z e = by (h .ending) (h .outcome)
   where

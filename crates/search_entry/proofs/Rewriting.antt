@@ -21,17 +21,16 @@ use Rattle.engine_entry.specs.Answers.{lent}
 use Rattle.checker.specs.Check.{Check, checked}
 use Rattle.checker_entry.specs.declared.CheckResult.{CheckResult}
 use Rattle.checker_entry.specs.Answers as said
-use Rattle.checker_entry.specs.Parts.{Checked}
-use Rattle.checker_entry.proofs.Promise.{Promise, answers, refuses, promise}
+use Rattle.checker_entry.specs.Parts.{Checked, Whole}
+use Rattle.checker_entry.proofs.Promise.{Promise, answers, refuses, promise, whole-shows}
 use Rattle.search_inputs.specs.declared.Placed.{Placed}
 use Rattle.search_inputs.specs.Inputs.{event-words}
 use Rattle.search_inputs.proofs.Means.{Fine, asc, fine-here, event-size, event-words-here}
-use Rattle.search.specs.declared.Plan.{Plan}
-use Rattle.search.specs.Meaning.{none-such, cells-of, sizes, Setting, PlacedAs}
+use Rattle.search.specs.Meaning.{none-such, cells-of, sizes, Entire, Setting, PlacedAs}
 use Rattle.search.proofs.Cases.{events-at}
 use Rattle.search_entry.specs.Parts.{Writable, Written, Writes}
 
-module _ {f : List ℕ} {p : Plan} {q a u : ℕ} (x : Setting f p q a u) where
+module _ {f : List ℕ} {p : Entire} {q a u : ℕ} (x : Setting f p q a u) where
   decoded : decode f ≡ answer (x .m)
   decoded = accepted-decoded f (x .m) (x .is-accepted)
 
@@ -39,11 +38,11 @@ module _ {f : List ℕ} {p : Plan} {q a u : ℕ} (x : Setting f p q a u) where
       EventWords (x .indexed .ts) (placed .words) j (getD vs j none-such)
   words-at vs placed ps j h =
       let c = ps .chosen j h in
-      event-words-here f (p .index) (x .m) (x .is-accepted) (x .indexed) (placed .words) none-such vs (ps .words) j h
-      (subst (Fine f (x .indexed .ts) (asc f (p .index) (x .m) (x .is-accepted) (x .indexed))) (sym (c .is))
-      (fine-here f (p .index) (x .m) (x .is-accepted) (x .indexed) Input.restart (c .place) (c .inside)))
+      event-words-here f (x .index) (x .m) (x .is-accepted) (x .indexed) (placed .words) none-such vs (ps .words) j h
+      (subst (Fine f (x .indexed .ts) (asc f (x .index) (x .m) (x .is-accepted) (x .indexed))) (sym (c .is))
+      (fine-here f (x .index) (x .m) (x .is-accepted) (x .indexed) Input.restart (c .place) (c .inside)))
 
-module _ {f : List ℕ} {p : Plan} {placed : Placed} {q a u o : ℕ} (h : Writable f p placed q a u o) where
+module _ {f : List ℕ} {p : Entire} {placed : Placed} {q a u o : ℕ} (h : Writable f p placed q a u o) where
   abbrev x : Setting f p q a u
   x = h .setting
 
@@ -56,34 +55,38 @@ module _ {f : List ℕ} {p : Plan} {placed : Placed} {q a u o : ℕ} (h : Writab
       ∙ areas.area-length (event-words (x .indexed .ts)) 4 (event-size (x .indexed .ts)) 20 (h .events)
       (omega (arith, h .few))
 
-  pub check-asks : (placed .count * 4 ≤ length (placed .words)) × (length (p .ground .reasons) ≡ 1500)
-  check-asks = (omega (arith, five, long), x .grounds .room)
+  pub check-asks : placed .count * 4 ≤ length (placed .words)
+  check-asks = omega (arith, five, long)
 
   pub write-asks : {s : Span} → s ≡ spanW f → (out : List ℕ) → length out ≡ o →
       (s .start ≤ s .end) × ((s .end ≤ length f)
       × ((placed .count * 4 ≤ length (placed .words))
       × (length (file-with f s (placed .words) (placed .count)) ≤ length out)))
   write-asks e out l =
-      asked f (x .m) (p .index) (decoded x) (x .indexed) (placed .words) none-such (h .events)
-      (words-at x (h .events) placed (h .placed-as)) e (h .placed-as .count) out (check-asks .0)
+      asked f (x .m) (x .index) (decoded x) (x .indexed) (placed .words) none-such (h .events)
+      (words-at x (h .events) placed (h .placed-as)) e (h .placed-as .count) out check-asks
       (omega (arith, few-events f (x .m) (decoded x) (h .events) (h .few), h .room, l))
 
-pub writes-so : {f : List ℕ} {p : Plan} (placed : Placed) {c : CheckResult} {q q' a a' u u' : List ℕ} →
-    Checked f (p .index) (p .ground) (placed .words) (placed .count) c q q' a a' u u' → {s : Span} → s ≡ spanW f →
+pub writes-so : {f : List ℕ} {p : Entire} (placed : Placed) {c : CheckResult} {q q' a a' u u' : List ℕ} →
+    Whole f (p .starts) (p .invariants) (p .ground) (placed .words) (placed .count) c q q' a a' u u' → {s : Span} → s ≡ spanW f →
     {n : ℕ} {out out' : List ℕ} → Wrote (file-with f s (placed .words) (placed .count)) n out out' →
     Writes f p placed (record { events = placed .count; words = placed .words; written = n; check = c }) (length q)
     (length a) (length u) (lent q' a' u') out out'
-writes-so {f} {p} placed {c} {q} {q'} {a} {a'} {u} {u'} ch {s} e {n} {out} {out'} wr = record {
+writes-so {f} {p} placed {c} {q} {q'} {a} {a'} {u} {u'} wh {s} e {n} {out} {out'} wr = record {
   does = λ x vs ps b y. by x vs ps b y
-      (promise f (p .index) (x .m) (x .is-accepted) (x .indexed) (x .bytes) (p .ground) (x .grounds)
-      (placed .words) none-such vs (events-at x vs ps) (ps .count) ch);
+      (promise f (x .index) (x .m) (x .is-accepted) (x .indexed) (x .bytes) (p .ground) (x .grounds)
+      (placed .words) none-such vs (events-at x vs ps) (ps .count) (ch x));
 }
   where
+    ch : (x : Setting f p (length q) (length a) (length u)) →
+        Checked f (x .index .invariants .starts) (x .index .invariants .count) (p .ground) (placed .words) (placed .count) (wh .result) q q' a a' u u'
+    ch x = rw (x .starts-are, x .invariants-are) at (wh .checked)
+
     by : (x : Setting f p (length q) (length a) (length u)) (vs : List Event)
         (ps : PlacedAs (x .indexed .ts) (x .m) vs placed) (b : Check) →
         checked (sizes (length q) (length a) (length u)) (x .m) (cells-of (x .m)) vs ≡ answer b →
-        Promise f (p .index) (x .m) (x .is-accepted) (x .indexed) (x .bytes) (p .ground) (x .grounds)
-        (placed .words) none-such vs (events-at x vs ps) (ps .count) ch →
+        Promise f (x .index) (x .m) (x .is-accepted) (x .indexed) (x .bytes) (p .ground) (x .grounds)
+        (placed .words) none-such vs (events-at x vs ps) (ps .count) (ch x) →
         Written f vs b placed (record { events = placed .count; words = placed .words; written = n; check = c })
         (length q) (length a) (length u) (lent q' a' u') out out'
     by x vs ps b y (answers d z k l) =
@@ -91,12 +94,12 @@ writes-so {f} {p} placed {c} {q} {q'} {a} {a'} {u} {u'} ch {s} e {n} {out} {out'
         record {
           events = refl;
           words = refl;
-          written = told f (x .m) (p .index) (decoded x) (x .indexed) (placed .words) none-such vs
+          written = told f (x .m) (x .index) (decoded x) (x .indexed) (placed .words) none-such vs
               (words-at x vs placed ps) e (ps .count) wr;
-          check = subst (said.Shows f c) same k;
-          queue = ch .ran .does .queue;
+          check = subst (said.Shows f c) same (whole-shows wh d k);
+          queue = wh .checked .ran .does .queue;
           records = subst (λ (i : Check). a' ≡ area (words-in f) (length a) (i .simulation .trace)) same l;
-          runs = ch .ran .does .runs;
+          runs = wh .checked .ran .does .runs;
         }
     by x vs ps b y (refuses j lo hi z k l) = absurd (no (sym z ∙ y))
       where

@@ -1,6 +1,6 @@
 -- What a search of an accepted model goes by, and where it starts.
 use Prim.Native.Nat.{ℕ, _+_, _≤_, _<_}
-use mathlib.Core.Path.{_≡_, sym, ap, subst, _∙_}
+use mathlib.Core.Path.{_≡_, refl, sym, ap, subst, _∙_}
 use mathlib.Core.Bool.{false}
 use mathlib.Core.List.{List, [], _∷_}
 use mathlib.Core.Option.{none}
@@ -20,20 +20,20 @@ use Rattle.model_index.specs.Indexed.{Indexed}
 use Rattle.engine.specs.Reasons.{unsupported-wait}
 use Rattle.engine.specs.Unsupported.{unsupported}
 use Rattle.engine_reads.specs.Reads.{four, cap}
+use Rattle.engine_state.specs.declared.Cells.{Cells}
 use Rattle.engine_places.specs.Meaning.{rule-pool, pool-of}
 use Rattle.engine_places.proofs.Accepted.{accepted-lawful, accepted-small}
 use Rattle.engine_places.proofs.Numbers.{four-is, cap-is, most-is}
-use Rattle.engine_entry.specs.Answers.{Grounds}
+use Rattle.engine_entry.specs.Answers.{ground, Grounds}
 use Rattle.engine_entry.proofs.Core.{tb, notes-held}
 use Rattle.checker.specs.Verify as verify
 use Rattle.checker_entry.proofs.Pool.{notes-among}
-use Rattle.search_inputs.specs.Inputs.{AlphabetOf, GapsOf}
 use Rattle.search_inputs.proofs.Lawful.{Searchable, accepted-searchable}
 use Rattle.search_inputs.proofs.Means.{alphabet-is, gaps-are}
 use Rattle.search.specs.declared.Plan.{Plan}
 use Rattle.search.specs.declared.Search.{Search}
 use Rattle.search.specs.Parts.{limitV, Plans, Fitted, Begins}
-use Rattle.search.specs.Meaning.{cells-of, Setting, Held}
+use Rattle.search.specs.Meaning.{cells-of, Entire, entire, Setting, Held}
 use Rattle.search.proofs.Cases.{widen}
 
 -- ---- the limits
@@ -70,38 +70,38 @@ module _ (f : List ℕ) (i : Index) (m : Model) (acc : accepted f ≡ answer m) 
 
   -- ---- the plan
 
-  module _ (bytes : (k : ℕ) → getD f k 0 < 256) (p : Plan) (h : Plans f i p) where
+  module _ (p : Plan) {c : Cells} {n : ℕ} (h : Plans f i c n p) where
     pub few : Searchable m
     few = accepted-searchable f m acc
 
-    abbrev pub setting : (q a u : ℕ) → (e : p .index ≡ i) → Setting f p q a u
-    setting q a u e =
-        let al = subst (λ (j : Index). AlphabetOf f j (p .alphabet)) (sym e) (h .alphabet) in
-        let ga = subst (λ (j : Index). GapsOf f j (p .gaps)) (sym e) (h .gaps) in
-        let ix = subst (λ (j : Index). Indexed f j m) (sym e) o in
-        record {
-          m = m;
-          is-accepted = acc;
-          indexed = ix;
-          bytes = bytes;
-          grounds = subst (λ (j : Index). Grounds f j (p .ground)) (sym e) (h .ground);
-          inputs = h .alphabet .count ∙ most-is (i .alphabet .count) 12
-              (omega (arith, o .alphabet .counts, few .few-inputs)) ∙ o .alphabet .counts;
-          words = alphabet-is f (p .index) m acc ix (p .alphabet) al;
-          gaps = h .gaps .count ∙ most-is (i .gaps .count) 4 (omega (arith, o .gaps .counts, few .few-gaps))
-              ∙ o .gaps .counts;
-          seconds = gaps-are f (p .index) m acc ix (p .gaps) ga;
-          few-inputs = few .few-inputs;
-          few-gaps = few .few-gaps;
-          short = few .short;
-          horizon = h .horizon ∙ limits-are .horizon;
-          day-long = accepted-lawful f m acc .day-long;
-          cases = h .cases .same (omega (arith, limits-are .cases, few .cases)) ∙ limits-are .cases;
-        }
+    abbrev pub setting : (bytes : (k : ℕ) → getD f k 0 < 256) (x w : List ℕ) → Grounds f i (ground x c n w) → (q a u : ℕ)
+        → Setting f (entire p x (i .invariants .starts) w) q a u
+    setting bytes x w gr q a u = record {
+      m = m;
+      is-accepted = acc;
+      index = i;
+      starts-are = refl;
+      invariants-are = h .invariants;
+      indexed = o;
+      bytes = bytes;
+      grounds = subst (λ (k : Cells). Grounds f i (ground x k (p .shared .notes) w)) (sym (h .cells))
+          (subst (λ (k : ℕ). Grounds f i (ground x c k w)) (sym (h .notes-are)) gr);
+      inputs = h .alphabet .count ∙ most-is (i .alphabet .count) 12
+          (omega (arith, o .alphabet .counts, few .few-inputs)) ∙ o .alphabet .counts;
+      words = alphabet-is f i m acc o (p .alphabet) (h .alphabet);
+      gaps = h .gaps .count ∙ most-is (i .gaps .count) 4 (omega (arith, o .gaps .counts, few .few-gaps))
+          ∙ o .gaps .counts;
+      seconds = gaps-are f i m acc o (p .gaps) (h .gaps);
+      few-inputs = few .few-inputs;
+      few-gaps = few .few-gaps;
+      short = few .short;
+      horizon = h .horizon ∙ limits-are .horizon;
+      day-long = accepted-lawful f m acc .day-long;
+      cases = h .cases .same (omega (arith, limits-are .cases, few .cases)) ∙ limits-are .cases;
+    }
 
     pub fitted : {n : ℕ} → n ≡ 4000 → Fitted p n
     fitted e = record {
-      reasons = h .ground .room;
       inputs = omega (
         arith,
         h .alphabet .count,
@@ -132,21 +132,21 @@ start-of m = record {
   stopped = false;
 }
 
-module _ {f : List ℕ} {p : Plan} {q a u : ℕ} (x : Setting f p q a u) where
+module _ {f : List ℕ} {p : Entire} {q a u : ℕ} (x : Setting f p q a u) where
   few-notes : p .ground .count ≤ 300
   unfolding pool-of
   few-notes =
       omega (
         arith,
-        notes-held f (p .index) (x .m) (x .is-accepted) (x .indexed) (x .bytes) (p .ground)
+        notes-held f (x .index) (x .m) (x .is-accepted) (x .indexed) (x .bytes) (p .ground)
             (x .grounds) .many,
-        tb f (p .index) (x .m) (x .is-accepted) (x .indexed) (x .bytes) (p .ground)
+        tb f (x .index) (x .m) (x .is-accepted) (x .indexed) (x .bytes) (p .ground)
             (x .grounds) .few-reasons,
         length-append (unsupported (x .m .rules))
             (unsupported-wait ∷ flat rule-pool (x .m .rules)),
       )
 
-  pub start-held : {o : Search} {w : List ℕ} → Begins f (p .ground) o w → Held x (start-of (x .m)) o w
+  pub start-held : {o : Search} {w : List ℕ} → Begins f (p .ground .count) (p .ground .reasons) o w → Held x (start-of (x .m)) o w
   start-held {o} {w} b = record {
     fine = b .refused;
     cases = b .cases;
@@ -154,7 +154,7 @@ module _ {f : List ℕ} {p : Plan} {q a u : ℕ} (x : Setting f p q a u) where
     reasons =
         subst (λ (l : List Text). Holds f l (o .reasons) w)
         (ap (λ (l : List Text). insertAll l [])
-        (notes-held f (p .index) (x .m) (x .is-accepted) (x .indexed) (x .bytes) (p .ground) (x .grounds) .texts)
+        (notes-held f (x .index) (x .m) (x .is-accepted) (x .indexed) (x .bytes) (p .ground) (x .grounds) .texts)
         ∙ one-by-one (unsupported (x .m .rules)))
         (b .reasons few-notes);
     within = widen x (unsupported (x .m .rules))

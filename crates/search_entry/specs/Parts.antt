@@ -21,11 +21,12 @@ use Rattle.engine.specs.Words.{words-in}
 use Rattle.checker.specs.Check.{Check, checked}
 use Rattle.checker.specs.Verify as verify
 use Rattle.checker_entry.specs.Answers as check
+use Rattle.search_inputs.specs.declared.Alphabet.{Alphabet}
+use Rattle.search_inputs.specs.declared.Gaps.{Gaps}
 use Rattle.search_inputs.specs.declared.Placed.{Placed}
-use Rattle.search.specs.declared.Plan.{Plan}
 use Rattle.search.specs.declared.Search.{Search}
-use Rattle.search.specs.Parts.{limitV, Fitted}
-use Rattle.search.specs.Meaning.{cells-of, sizes, Setting, PlacedAs, Outcome}
+use Rattle.search.specs.Parts.{limitV}
+use Rattle.search.specs.Meaning.{cells-of, sizes, Entire, Setting, PlacedAs, Outcome}
 use Rattle.search_entry.specs.declared.Found.{Found}
 use Rattle.search_entry.specs.declared.Found.the-variants as found
 use Rattle.search_entry.specs.declared.Verification.{Verification}
@@ -36,18 +37,19 @@ unfoldable pub statusV : (found : Bool) → (reasons : ℕ) → Found
 statusV b n = if b then found.Counterexample else if eqb n 0 then found.NoCounterexampleWithinBounds else found.Inconclusive
 
 -- an answer that repeats what it is made of
-pub record Told (f : List ℕ) (p : Plan) (o : Search) (w : List ℕ) (x : Witness) (r : Verification) : Type 0 where
+pub record Told (f : List ℕ) (i : Index) (is : Alphabet) (gs : Gaps) (h : ℕ) (o : Search) (w : List ℕ) (x : Witness)
+    (r : Verification) : Type 0 where
   pub status-is : r .status ≡ statusV (o .found) (r .reasons)
   pub cases : r .cases ≡ o .cases
   pub total : r .total ≡ o .steps
-  pub depth : r .depth ≡ limitV f (p .index) 8
-  pub horizon : r .horizon ≡ p .horizon
-  pub most : r .most ≡ limitV f (p .index) 12
-  pub steps : r .steps ≡ limitV f (p .index) 4
-  pub alphabet : r .alphabet ≡ p .alphabet .count
-  pub inputs : r .inputs ≡ p .alphabet .words
-  pub gaps : r .gaps ≡ p .gaps .count
-  pub seconds : r .seconds ≡ p .gaps .seconds
+  pub depth : r .depth ≡ limitV f i 8
+  pub horizon : r .horizon ≡ h
+  pub most : r .most ≡ limitV f i 12
+  pub steps : r .steps ≡ limitV f i 4
+  pub alphabet : r .alphabet ≡ is .count
+  pub inputs : r .inputs ≡ is .words
+  pub gaps : r .gaps ≡ gs .count
+  pub seconds : r .seconds ≡ gs .seconds
   pub shortest : r .shortest ≡ o .shortest
   pub events : r .events ≡ x .events
   pub words : r .words ≡ x .words
@@ -62,7 +64,7 @@ unfoldable pub without : Witness
 without = record { events = 0; words = replicate 20 0; written = 0; check = check.no-check 0 }
 
 -- its events, and room for its file
-pub record Writable (f : List ℕ) (p : Plan) (placed : Placed) (q a u o : ℕ) : Type 0 where
+pub record Writable (f : List ℕ) (p : Entire) (placed : Placed) (q a u o : ℕ) : Type 0 where
   pub setting : Setting f p q a u
   pub events : List Event
   pub few : length events ≤ 5
@@ -79,7 +81,7 @@ pub record Written (f : List ℕ) (vs : List Event) (c : Check) (placed : Placed
   pub records : after .records ≡ area (words-in f) a (c .simulation .trace)
   pub runs : after .runs ≡ replicate u 0
 
-pub record Writes (f : List ℕ) (p : Plan) (placed : Placed) (r : Witness) (q a u : ℕ) (after : Lent)
+pub record Writes (f : List ℕ) (p : Entire) (placed : Placed) (r : Witness) (q a u : ℕ) (after : Lent)
     (o o' : List ℕ) : Type 0 where
   pub does : (x : Setting f p q a u) (vs : List Event) → PlacedAs (x .indexed .ts) (x .m) vs placed →
       (c : Check) → checked (sizes q a u) (x .m) (cells-of (x .m)) vs ≡ answer c → Written f vs c placed r q a u after o o'
@@ -87,9 +89,9 @@ pub record Writes (f : List ℕ) (p : Plan) (placed : Placed) (r : Witness) (q a
 -- ---- after the search
 
 -- how the search ended, and room for a witness's file
-pub record Reached (f : List ℕ) (p : Plan) (s : Search) (w : List ℕ) (q a u o : ℕ) : Type 0 where
+pub record Reached (f : List ℕ) (p : Entire) (s : Search) (w : List ℕ) (q a u o : ℕ) : Type 0 where
   pub setting : Setting f p q a u
-  pub fitted : Fitted p (length w)
+  pub area : length w ≡ 4000
   pub ending : Answer verify.Search
   pub outcome : Outcome setting ending s w
   pub room : length f + 45 ≤ o
@@ -118,9 +120,9 @@ pub record Ending (f : List ℕ) (r : Verification) (v : Answer verify.Verificat
   pub runs : after .runs ≡ replicate u 0
   pub output : o' ≡ output-after f v o
 
-pub record Ends (f : List ℕ) (p : Plan) (s : Search) (w : List ℕ) (r : Verification) (q a u : ℕ) (after : Lent)
+pub record Ends (f : List ℕ) (i : Index) (p : Entire) (s : Search) (w : List ℕ) (r : Verification) (q a u : ℕ) (after : Lent)
     (o o' : List ℕ) : Type 0 where
-  pub does : (x : Setting f p q a u) (y : Answer verify.Search) → Outcome x y s w
+  pub does : (x : Setting f p q a u) → x .index ≡ i → (y : Answer verify.Search) → Outcome x y s w
       → Ending f r (answer-of (x .m) y) q a u after o o'
 
 -- ---- the accepted model

@@ -8,6 +8,7 @@ ghost use mathlib.Core.Path.{_≡_};
 ghost use Prim.Native.Nat.{_+_, _≤_};
 ghost use lib.ListN.{length, replicate};
 ghost use Rattle.engine_entry.specs.Answers.{lent};
+ghost use Rattle.search.specs.Meaning.{entire};
 ghost use Rattle.search_entry.specs.Answers.{no-verification, Verifies};
 ghost use Rattle.search_entry.specs.Parts.{statusV, without, Told, Writable, Writes, Reached, Ends, Accepted, Runs, Admits};
 
@@ -93,6 +94,9 @@ fn no_witness() -> Witness
 // The witness is checked once more, and its file is written.
 fn witness_of(
     file: &[u8],
+    table: &[u32; 436],
+    starts: &[usize; 100],
+    notes: &mut [u32; 1500],
     p: Plan,
     placed: Placed,
     queue: &mut [u32],
@@ -100,14 +104,24 @@ fn witness_of(
     runs: &mut [u32],
     output: &mut [u8],
 ) -> Witness
-    requires { ⌜ Writable (now file) p placed (length (now queue)) (length (now records)) (length (now runs)) (length (now output)) ⌝ }
-    ensures { λ r. ⌜ Writes (now (file .entry)) p placed r (length (now (queue .entry))) (length (now (records .entry))) (length (now (runs .entry))) (lent (now (queue .exit)) (now (records .exit)) (now (runs .exit))) (now (output .entry)) (now (output .exit)) ⌝ }
+    requires { ⌜ Writable (now file) (entire p (now table) (now starts) (now notes)) placed (length (now queue)) (length (now records)) (length (now runs)) (length (now output)) ⌝ }
+    ensures { λ r. ⌜ Writes (now (file .entry)) (entire p (now (table .entry)) (now (starts .entry)) (now (notes .entry))) placed r (length (now (queue .entry))) (length (now (records .entry))) (length (now (runs .entry))) (lent (now (queue .exit)) (now (records .exit)) (now (runs .exit))) (now (output .entry)) (now (output .exit)) ⌝ }
 {
-    let index = p.index;
-    let ground = p.ground;
+    let shared = p.shared;
     let words = placed.words;
     let n = placed.count;
-    let check = checker_entry::check_events(file, index, ground, &words, n, queue, records, runs);
+    let check = checker_entry::check_whole(
+        file,
+        table,
+        starts,
+        shared,
+        &words,
+        n,
+        queue,
+        records,
+        runs,
+        notes,
+    );
     let place = model_rewrite::events_in(file);
     let written = model_rewrite::rewrite(file, place, &words, n, output);
     Witness {
@@ -133,11 +147,10 @@ fn status_of(found: bool, reasons: usize) -> Found
 }
 
 // The answer of a search whose reasons stand in w.
-fn told_of(file: &[u8], p: Plan, o: Search, w: &[u32], x: Witness) -> Verification
+fn told_of(file: &[u8], index: Index, p: Plan, o: Search, w: &[u32], x: Witness) -> Verification
     requires { ⌜ length (now w) ≡ 4000 ⌝ }
-    ensures { λ r. ⌜ Told (now (file .entry)) p o (now (w .entry)) x r ⌝ }
+    ensures { λ r. ⌜ Told (now (file .entry)) index (p .alphabet) (p .gaps) (p .horizon) o (now (w .entry)) x r ⌝ }
 {
-    let index = p.index;
     let alphabet = p.alphabet;
     let inputs = alphabet.words;
     let gaps = p.gaps;
@@ -181,6 +194,10 @@ fn clear(queue: &mut [u32], records: &mut [u32], runs: &mut [u32])
 // What is left to do after the search.
 fn ended(
     file: &[u8],
+    index: Index,
+    table: &[u32; 436],
+    starts: &[usize; 100],
+    notes: &mut [u32; 1500],
     p: Plan,
     o: Search,
     w: &[u32],
@@ -189,8 +206,8 @@ fn ended(
     runs: &mut [u32],
     output: &mut [u8],
 ) -> Verification
-    requires { ⌜ Reached (now file) p o (now w) (length (now queue)) (length (now records)) (length (now runs)) (length (now output)) ⌝ }
-    ensures { λ r. ⌜ Ends (now (file .entry)) p o (now (w .entry)) r (length (now (queue .entry))) (length (now (records .entry))) (length (now (runs .entry))) (lent (now (queue .exit)) (now (records .exit)) (now (runs .exit))) (now (output .entry)) (now (output .exit)) ⌝ }
+    requires { ⌜ Reached (now file) (entire p (now table) (now starts) (now notes)) o (now w) (length (now queue)) (length (now records)) (length (now runs)) (length (now output)) ⌝ }
+    ensures { λ r. ⌜ Ends (now (file .entry)) index (entire p (now (table .entry)) (now (starts .entry)) (now (notes .entry))) o (now (w .entry)) r (length (now (queue .entry))) (length (now (records .entry))) (length (now (runs .entry))) (lent (now (queue .exit)) (now (records .exit)) (now (runs .exit))) (now (output .entry)) (now (output .exit)) ⌝ }
 {
     if o.refused != 0 {
         clear(queue, records, runs);
@@ -198,12 +215,23 @@ fn ended(
     }
     if o.found {
         let placed = o.witness;
-        let x = witness_of(file, p, placed, queue, records, runs, output);
-        return told_of(file, p, o, w, x);
+        let x = witness_of(
+            file,
+            table,
+            starts,
+            notes,
+            p,
+            placed,
+            queue,
+            records,
+            runs,
+            output,
+        );
+        return told_of(file, index, p, o, w, x);
     }
     clear(queue, records, runs);
     let x = no_witness();
-    told_of(file, p, o, w, x)
+    told_of(file, index, p, o, w, x)
 }
 
 // The search of an accepted model.
@@ -219,12 +247,43 @@ fn run(
     ensures { λ r. ⌜ Runs (now (file .entry)) index r (length (now (queue .entry))) (length (now (records .entry))) (length (now (runs .entry))) (lent (now (queue .exit)) (now (records .exit)) (now (runs .exit))) (now (output .entry)) (now (output .exit)) ⌝ }
 {
     let mut w = [0u32; 4000];
-    let p = search::planned(file, index);
-    let ground = p.ground;
-    let start = search::begun(file, ground, &mut w);
+    let mut notes = [0u32; 1500];
+    let b = engine_entry::prepared(file, index, &mut notes);
+    let table = b.table;
+    let cells = b.cells;
+    let invariants = index.invariants;
+    let starts = invariants.starts;
+    let p = search::planned(file, index, cells, b.count);
+    let shared = p.shared;
+    let start = search::begun(file, &notes, shared.notes, &mut w);
     let depth = engine_reads::at_most(search::limit(file, index, 8), 5);
-    let o = search::deepen(file, p, depth, start, queue, records, runs, &mut w);
-    ended(file, p, o, &w, queue, records, runs, output)
+    let o = search::search_depths(
+        file,
+        &table,
+        &starts,
+        &notes,
+        p,
+        depth,
+        start,
+        queue,
+        records,
+        runs,
+        &mut w,
+    );
+    ended(
+        file,
+        index,
+        &table,
+        &starts,
+        &mut notes,
+        p,
+        o,
+        &w,
+        queue,
+        records,
+        runs,
+        output,
+    )
 }
 
 // An accepted model without invariants is refused, and an output without room for a witness's file.

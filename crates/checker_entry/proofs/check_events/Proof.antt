@@ -4,7 +4,6 @@ use Rattle.checker_entry.proofs.check_events.Statement.{statement}
 use Rattle.checker_entry.proofs.check_events.Tie as tie
 use Rattle.checker_entry.proofs.check_events.Reads as reads
 use Rattle.checker_entry.proofs.check_events.Lts as lts
-use Rattle.checker_entry.proofs.refused.Reads as refused-reads
 use Rattle.checker_entry.proofs.verdict.Reads as verdict-reads
 use Rattle.engine_entry.proofs.run_events.Reads as run-events-reads
 
@@ -13,13 +12,12 @@ check-events-spec =
     tie.close
     (tie.spec
     (λ c κs. search needs)
+    (λ c. search needs)
+    (λ c. search needs)
+    (λ c. search needs)
+    (λ c. laws.checked-full (c .before .before .before .before .before .before .before .before .run-events .ensures) (c .if1 .taken))
     (λ c κs. search needs)
     (λ c. search needs)
     (λ c. search needs)
     (λ c. search needs)
-    (λ c. laws.checked-full _ (c .before .before .before .before .before .before .before .before .before .run-events .ensures) (c .before .if1 .taken) (c .refused .ensures))
-    (λ c κs. laws.reasons-long _ (c .before .before .before .before .before .before .before .before .before .before .run-events .ensures) (c .before .before .before .before .before .before .before .before .before .before .before .before .before .before .before .before .before .before .before .before .before .pre .1) (c .before .before .if1 .left) (laws.told-none _ (c .before .before .before .before .before .before .before .before .before .before .run-events .ensures) (c .before .before .if1 .left)))
-    (λ c. search needs)
-    (λ c. search needs)
-    (λ c. search needs)
-    (λ c. laws.checked-done _ (c .before .before .before .before .before .before .before .before .before .before .before .run-events .ensures) (c .before .before .before .if1 .left) (c .verdict .ensures)))
+    (λ c. laws.checked-done (c .before .before .before .before .before .before .before .before .before .before .before .before .before .before .run-events .ensures) (c .before .before .before .before .before .before .if1 .left) (c .verdict .ensures)))

@@ -1,8 +1,6 @@
 use borrow.Author.Needs.{needs}
 use Rattle.checker_entry.proofs.Laws as laws
-use Prim.Native.Nat.{ℕ}
 use native.Mathlib.Omega.{arith}
-use lib.ListN.{length-replicate}
 use Rattle.checker_entry.proofs.verdict.Statement.{statement}
 use Rattle.checker_entry.proofs.verdict.Tie as tie
 use Rattle.checker_entry.proofs.verdict.Reads as reads
@@ -20,17 +18,10 @@ verdict-spec =
     tie.close
     (tie.spec
     (λ c κs. search needs)
-    (λ c. search needs)
-    (λ c. search needs)
-    (λ c κs. laws.merge-room _ _ _ _ (c .before .before .few .ensures .most) (c .before .before .before .before .before .before .pre) (length-replicate {A = ℕ} 2000 0))
-    (λ c. search needs)
-    (λ c κs. search needs)
-    (λ c. search needs)
+    (λ c κs. laws.merge-room _ _ _ _ (c .before .before .few .ensures .most) (search needs) (search needs))
     (λ c κs. search needs)
     (λ c κs. search needs)
-    (λ c. search needs)
-    (λ c. search needs)
-    (λ c. search needs)
-    (λ c κs. (c .before .before .before .before .fitting .ensures .most, (omega (arith, length-replicate {A = ℕ} 256 0), (omega (arith, laws.merged-most _ _ _ _ (c .before .before .before .before .before .before .before .before .before .before .before .before .before .before .before .few .ensures .most) (c .before .before .before .before .before .before .before .before .before .before .before .before .merge .ensures), c .before .before .before .before .before .before .before .before .before .before .before .before .merge .kept .1 .0, length-replicate {A = ℕ} 2000 0), omega (arith, c .before .before .before .before .before .before .add-waiting .ensures .most, c .before .before .before .before .before .before .before .before .before .add-stopped .ensures .most, c .before .before .before .before .before .before .add-waiting .kept .1 .0, c .before .before .before .before .before .before .before .before .before .add-stopped .kept .1 .0, length-replicate {A = ℕ} 200 0)))))
     (λ c κs. search needs)
-    (λ c. laws.verdict-is (c .before .before .before .before .before .before .before .before .before .before .before .before .before .before .before .before .before .before .before .before .before .before .before .before .args .s) (c .before .before .before .before .before .before .before .before .before .before .before .before .before .before .before .before .before .before .before .before .few .ensures) _ (c .before .before .before .before .before .before .before .before .before .before .before .before .before .before .before .before .before .merge .ensures) (c .before .before .before .before .before .before .before .before .before .before .before .before .before .before .add-stopped .ensures) (c .before .before .before .before .before .before .before .before .before .before .before .add-waiting .ensures) (c .before .before .before .before .before .before .before .before .before .fitting .ensures) (c .before .before .before .before .judge-all .ensures) (c .status-of .ensures) (omega (arith, c .before .before .before .before .before .before .before .before .before .before .before .before .before .before .before .before .before .merge .kept .1 .0, length-replicate {A = ℕ} 2000 0)) (omega (arith, c .before .before .before .before .before .before .before .before .before .before .before .add-waiting .kept .1 .0, c .before .before .before .before .before .before .before .before .before .before .before .before .before .before .add-stopped .kept .1 .0, length-replicate {A = ℕ} 200 0))))
+    (λ c κs. (c .before .before .before .before .fitting .ensures .most, (search needs, (omega (arith, laws.merged-most _ _ _ _ (c .before .before .before .before .before .before .before .before .before .before .before .before .few .ensures .most) (c .before .before .before .before .before .before .before .before .before .merge .ensures)), omega (arith, c .before .before .before .before .before .add-waiting .ensures .most, c .before .before .before .before .before .before .before .add-stopped .ensures .most)))))
+    (λ c κs. search needs)
+    (λ c. laws.judged-is _ (c .before .before .before .before .before .before .before .before .before .before .before .before .before .before .few .ensures) _ (c .before .before .before .before .before .before .before .before .before .before .before .merge .ensures) (c .before .before .before .before .before .before .before .before .before .add-stopped .ensures) (c .before .before .before .before .before .before .before .add-waiting .ensures) (c .before .before .before .before .before .before .fitting .ensures) (c .before .judge-all .ensures) (c .status-of .ensures)))

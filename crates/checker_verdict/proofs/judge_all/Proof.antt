@@ -13,11 +13,11 @@ use Rattle.checker_verdict.proofs.judge_one.Reads as judge-one-reads
 use Rattle.engine_reads.proofs.at_most.Reads as at-most-reads
 
 abbrev Inv-loop : tie.InvT-loop
-Inv-loop f x cells a n v₀ u₀ w₀ invariants many t₀ k₀ v u w t k =
-    (k ≤ many) × Changes (λ (l : List Record). firstV f x (invariants .starts) cells l k) k (k * 2) k f a n t₀ t v₀ v u₀ u w₀ w
+Inv-loop f x starts count cells a n v₀ u₀ w₀ many t₀ k₀ v u w t k =
+    (k ≤ many) × Changes (λ (l : List Record). firstV f x starts cells l k) k (k * 2) k f a n t₀ t v₀ v u₀ u w₀ w
 
 abbrev μ-loop : tie.MeasureT-loop
-μ-loop f x cells a n v₀ u₀ w₀ invariants many t₀ k₀ v u w t k = many - k
+μ-loop f x starts count cells a n v₀ u₀ w₀ many t₀ k₀ v u w t k = many - k
 
 pub judge-all-spec : {M : Type 1} → statement M
 judge-all-spec =

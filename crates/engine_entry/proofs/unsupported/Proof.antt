@@ -19,4 +19,4 @@ unsupported-spec =
     (λ c. search needs)
     (λ c κs. search needs)
     (λ c. entry.notes-refused _ _ (c .before .before .before .before .accept .ensures) (c .before .before .status .given .1) (c .refused-notes .ensures))
-    (λ c. entry.notes-read _ _ (c .before .before .before .before .accept .ensures) (λ k. omega (arith, c .before .before .before .before .before .shared-slice-known .given k)) (c .before .before .enum-told .given .1) _ (c .before .prepared .ensures)))
+    (λ c. entry.notes-read _ _ (c .before .before .before .before .accept .ensures) (λ k. omega (arith, c .before .before .before .before .before .shared-slice-known .given k)) (c .before .before .enum-told .given .1) _ (c .prepared .ensures)))

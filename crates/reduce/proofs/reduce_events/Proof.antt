@@ -1,6 +1,7 @@
 use borrow.Author.Needs.{needs}
 use Prim.Native.Nat.{_-_}
 use native.Mathlib.Omega.{arith}
+use Rattle.engine_entry.specs.Answers.{ground}
 use Rattle.reduce.proofs.Reduction as reduction
 use Rattle.reduce.proofs.Reduction.{Looped}
 use Rattle.reduce.proofs.reduce_events.Statement.{statement}
@@ -11,10 +12,11 @@ use Rattle.reduce.proofs.attempt.Reads as attempt-reads
 use Rattle.reduce.proofs.goes_on.Reads as goes-on-reads
 
 abbrev Inv-loop : tie.InvT-loop
-Inv-loop file index g target n queue₀ records₀ runs₀ r₀ more₀ queue records runs r more = Looped file index g target (r₀ .words) n r more queue₀ queue records₀ records runs₀ runs
+Inv-loop file notes target n queue₀ records₀ runs₀ table starts shared reasons₀ violated₀ unknowns₀ incompletes₀ r₀ more₀ queue records runs reasons violated unknowns incompletes r more =
+    Looped file starts (shared .invariants) (ground table (shared .cells) (shared .notes) notes) target (r₀ .words) n r more queue₀ queue records₀ records runs₀ runs
 
 abbrev μ-loop : tie.MeasureT-loop
-μ-loop file index g target n queue₀ records₀ runs₀ r₀ more₀ queue records runs r more = 200 - r .attempts
+μ-loop file notes target n queue₀ records₀ runs₀ table starts shared reasons₀ violated₀ unknowns₀ incompletes₀ r₀ more₀ queue records runs reasons violated unknowns incompletes r more = 200 - r .attempts
 
 pub reduce-events-spec : {M : Type 1} → statement M
 reduce-events-spec =
@@ -23,11 +25,11 @@ reduce-events-spec =
     Inv-loop
     μ-loop
     (λ c κs. search needs)
-    (λ c. reduction.loop-start (c .before .before .before .before .before .before .pre) (c .goes-on .ensures))
-    (λ c κs. reduction.loop-open (c .before .before .before .before .loop .inv) (c .before .before .before .loop-test .taken))
+    (λ c. reduction.loop-start (c .before .before .before .before .before .before .before .before .before .before .pre) (c .goes-on .ensures))
+    (λ c κs. reduction.loop-open (c .before .before .before .before .before .before .before .before .before .before .loop .inv) (c .before .before .before .before .before .before .before .before .before .loop-test .taken))
     (λ c κs. search needs)
-    (λ c. omega (arith, c .before .before .before .before .before .before .before .attempt .ensures .attempts, c .before .before .before .before .before .before .before .before .before .before .before .before .loop .inv .goes .more (c .before .before .before .before .before .before .before .before .before .before .before .loop-test .taken) .attempts))
-    (λ c. reduction.loop-step (c .before .before .before .before .before .before .before .before .before .before .before .before .loop .inv) (c .before .before .before .before .before .before .before .before .before .before .before .loop-test .taken) (c .before .before .before .before .before .before .before .attempt .ensures) (c .goes-on2 .ensures) (c .before .before .before .before .before .before .before .attempt .kept .1 .1 .1 .1 .1 .0) (c .before .before .before .before .before .before .before .attempt .kept .1 .1 .1 .1 .1 .1 .0) (c .before .before .before .before .before .before .before .attempt .kept .1 .1 .1 .1 .1 .1 .1 .0))
+    (λ c. omega (arith, c .before .before .before .before .before .before .before .attempt .ensures .attempts, c .before .before .before .before .before .before .before .before .before .before .before .before .before .before .before .before .before .before .loop .inv .goes .more (c .before .before .before .before .before .before .before .before .before .before .before .before .before .before .before .before .before .loop-test .taken) .attempts))
+    (λ c. reduction.loop-step (c .before .before .before .before .before .before .before .before .before .before .before .before .before .before .before .before .before .before .loop .inv) (c .before .before .before .before .before .before .before .before .before .before .before .before .before .before .before .before .before .loop-test .taken) (c .before .before .before .before .before .before .before .attempt .ensures) (c .goes-on2 .ensures) (c .before .before .before .before .before .before .before .attempt .kept .1 .1 .1 .1 .1 .1 .1 .0) (c .before .before .before .before .before .before .before .attempt .kept .1 .1 .1 .1 .1 .1 .1 .1 .0) (c .before .before .before .before .before .before .before .attempt .kept .1 .1 .1 .1 .1 .1 .1 .1 .1 .0))
     (λ c. omega (arith, c .before .loop .inv .queue))
     (λ c. omega (arith, c .before .loop .inv .records))
     (λ c. omega (arith, c .before .loop .inv .runs))

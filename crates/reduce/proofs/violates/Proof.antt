@@ -10,4 +10,10 @@ use Rattle.reduce.proofs.named.Reads as named-reads
 
 pub violates-spec : {M : Type 1} → statement M
 violates-spec =
-    tie.close (tie.spec (λ c κs. search needs) (λ c κs. search needs) (λ c κs. search needs) (λ c. laws.is-so (c .before .before .before .before .before .before .args .c) _ (c .before .before .before .before .is-violation .ensures) (c .before .before .before .if1 .taken) (c .before .before .few .ensures .0) (c .named .ensures)) (λ c. laws.not-so (c .before .before .before .args .c) _ (c .before .is-violation .ensures) (c .if1 .left)))
+    tie.close
+    (tie.spec
+    (λ c κs. search needs)
+    (λ c κs. search needs)
+    (λ c κs. search needs)
+    (λ c. laws.is-so _ _ _ _ (c .before .before .before .is-violation .ensures) (c .before .before .if1 .taken) (c .before .few .ensures .0) (c .named .ensures))
+    (λ c. laws.not-so _ _ _ _ (c .before .is-violation .ensures) (c .if1 .left)))

@@ -1,13 +1,13 @@
-use Rattle.reduce_entry.proofs.Laws as laws
-use native.Mathlib.Omega.{arith}
 use borrow.Author.Needs.{needs}
+use native.Mathlib.Omega.{arith}
+use Rattle.reduce_entry.proofs.Laws as laws
 use Rattle.reduce_entry.proofs.last_check.Statement.{statement}
 use Rattle.reduce_entry.proofs.last_check.Tie as tie
 use Rattle.reduce_entry.proofs.last_check.Reads as reads
 use Rattle.reduce_entry.proofs.last_check.Lts as lts
-use Rattle.checker_entry.proofs.check_events.Reads as check-events-reads
 use Rattle.model_rewrite.proofs.events_in.Reads as events-in-reads
 use Rattle.model_rewrite.proofs.rewrite.Reads as rewrite-reads
+use Rattle.reduce_entry.proofs.check_of.Reads as check-of-reads
 use Rattle.reduce_entry.proofs.place.Reads as place-reads
 use Rattle.reduce_entry.proofs.refused.Reads as refused-reads
 
@@ -16,12 +16,12 @@ last-check-spec =
     tie.close
     (tie.spec
     (λ c. omega (arith, c .before .before .before .before .before .before .before .pre .long))
-    (λ c κs. (c .before .before .before .before .before .before .before .before .before .before .pre .room .words, c .before .before .before .before .before .before .before .before .before .before .pre .reasons))
+    (λ c κs. c .before .before .before .before .before .before .before .before .before .before .pre .room .words)
     (λ c κs. search needs)
     (λ c. search needs)
     (λ c. search needs)
     (λ c. search needs)
-    (λ c. laws.last-full (c .before .before .before .before .before .before .before .before .before .before .check-events .ensures) (c .before .if1 .taken) (c .refused .ensures) _)
+    (λ c. laws.last-full (c .before .before .before .before .before .before .before .before .before .before .check-of .ensures) (c .before .if1 .taken) (c .refused .ensures) _)
     (λ c κs. search needs)
     (λ c. omega (arith, c .before .before .before .before .before .before .before .before .before .before .before .before .before .before .before .before .before .before .before .before .before .before .pre .long))
     (λ c κs. laws.asked-here (c .before .before .before .before .before .before .before .before .before .before .before .before .before .before .before .before .before .before .before .before .before .before .before .pre .room) (c .before .before .events-in .ensures))
@@ -30,4 +30,4 @@ last-check-spec =
     (λ c. search needs)
     (λ c. search needs)
     (λ c. search needs)
-    (λ c. laws.last-done (c .before .before .before .before .before .before .before .before .before .before .before .before .before .before .before .before .before .check-events .ensures) (c .before .before .before .before .before .before .before .before .if1 .left) (c .before .before .before .before .before .before .before .events-in .ensures) (c .before .before .before .before .rewrite .ensures) (c .before .place .ensures)))
+    (λ c. laws.last-done (c .before .before .before .before .before .before .before .before .before .before .before .before .before .before .before .before .before .check-of .ensures) (c .before .before .before .before .before .before .before .before .if1 .left) (c .before .before .before .before .before .before .before .events-in .ensures) (c .before .before .before .before .rewrite .ensures) (c .before .place .ensures)))

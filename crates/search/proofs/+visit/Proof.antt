@@ -5,6 +5,7 @@ use lib.ListN.{length}
 use borrow.Author.Needs.{needs}
 use Rattle.search.proofs.Visits as visits
 use Rattle.search.proofs.Laws as laws
+use Rattle.search.specs.Meaning.{entire}
 use Rattle.search.specs.Contracts.{Walks}
 use Prim.Native.Nat.{ℕ, _<_}
 use borrow.Fn.Kinds.{In}
@@ -18,22 +19,21 @@ use Rattle.search_inputs.proofs.last_at.Reads as last-at-reads
 use Rattle.search.proofs.+visit.{statement}
 use Rattle.search.proofs.+visit.Tie.{close}
 
-abbrev μ-visit : Measures 5 visit-kinds.ps ℕ
-μ-visit κs a = a .1 .1 .0
+abbrev μ-visit : Measures 12 visit-kinds.ps ℕ
+μ-visit κs a = a .1 .1 .1 .1 .1 .0
 
-abbrev visit-at : ℕ → In 5 visit-kinds.ps
-visit-at t = and 5 visit-kinds.ps (is 5 visit-kinds.ps μ-visit t) visit.Pre
+abbrev visit-at : ℕ → In 12 visit-kinds.ps
+visit-at t = and 12 visit-kinds.ps (is 12 visit-kinds.ps μ-visit t) visit.Pre
 
-abbrev visit-below : ℕ → In 5 visit-kinds.ps
-visit-below t = and 5 visit-kinds.ps (falls 5 visit-kinds.ps _<_ μ-visit t) visit.Pre
+abbrev visit-below : ℕ → In 12 visit-kinds.ps
+visit-below t = and 12 visit-kinds.ps (falls 12 visit-kinds.ps _<_ μ-visit t) visit.Pre
 
 abbrev visit-Inv-loop : visit-lts.InvT-loop
-visit-Inv-loop file p remaining placed queue₀ records₀ runs₀ w₀ pairs s₀ k₀ queue records runs w s k = (length queue ≡ length queue₀) × ((length records ≡ length records₀) × ((length runs ≡ length runs₀) × ((length w ≡ length w₀) × ((k ≤ pairs) × Walks file p (remaining - 1) placed s₀ w₀ k s w (length queue₀) (length records₀) (length runs₀)))))
+visit-Inv-loop file table starts notes p remaining placed queue₀ records₀ runs₀ w₀ reasons₀ violated₀ unknowns₀ incompletes₀ pairs s₀ k₀ queue records runs w reasons violated unknowns incompletes s k = (length queue ≡ length queue₀) × ((length records ≡ length records₀) × ((length runs ≡ length runs₀) × ((length w ≡ length w₀) × ((k ≤ pairs) × Walks file (entire p table starts notes) (remaining - 1) placed s₀ w₀ k s w (length queue₀) (length records₀) (length runs₀)))))
 
 abbrev visit-μ-loop : visit-lts.MeasureT-loop
-visit-μ-loop file p remaining placed queue₀ records₀ runs₀ w₀ pairs s₀ k₀ queue records runs w s k = pairs - k
+visit-μ-loop file table starts notes p remaining placed queue₀ records₀ runs₀ w₀ reasons₀ violated₀ unknowns₀ incompletes₀ pairs s₀ k₀ queue records runs w reasons violated unknowns incompletes s k = pairs - k
 
--- src/lib.rt:272:9
 visit-returns : (t : ℕ) → visit-lts.Need-returns (
   last-at-reads.Asked,
   last-at-reads.Learnt,
@@ -46,7 +46,6 @@ visit-returns : (t : ℕ) → visit-lts.Need-returns (
 ) (visit-at t) visit.Post visit-Inv-loop visit-μ-loop
 visit-returns t c = visits.stays-so (c .if1 .taken)
 
--- src/lib.rt:274:20
 visit-last-at-requires : (t : ℕ) → visit-lts.Need-last-at-requires (
   last-at-reads.Asked,
   last-at-reads.Learnt,
@@ -59,7 +58,6 @@ visit-last-at-requires : (t : ℕ) → visit-lts.Need-last-at-requires (
 ) (visit-at t) visit.Post visit-Inv-loop visit-μ-loop
 visit-last-at-requires t c κs = omega (arith, c .before .before .before .before .before .before .pre .1 .events)
 
--- src/lib.rt:275:9
 visit-returns-2 : (t : ℕ) → visit-lts.Need-returns-2 (
   last-at-reads.Asked,
   last-at-reads.Learnt,
@@ -72,7 +70,6 @@ visit-returns-2 : (t : ℕ) → visit-lts.Need-returns-2 (
 ) (visit-at t) visit.Post visit-Inv-loop visit-μ-loop
 visit-returns-2 t c = visits.late-so (c .before .before .before .if1 .left) (omega (arith, c .if2 .taken, c .before .before .last-at .ensures))
 
--- src/lib.rt:278:9
 visit-try-case-requires : (t : ℕ) → visit-lts.Need-try-case-requires (
   last-at-reads.Asked,
   last-at-reads.Learnt,
@@ -83,9 +80,8 @@ visit-try-case-requires : (t : ℕ) → visit-lts.Need-try-case-requires (
   visit-below t,
   visit.Post,
 ) (visit-at t) visit.Post visit-Inv-loop visit-μ-loop
-visit-try-case-requires t c κs = record { fitted = c .before .before .before .before .before .before .before .before .before .before .before .before .before .before .pre .1 .fitted; words = c .before .before .before .before .before .before .before .before .before .before .before .before .before .before .pre .1 .words; events = omega (arith, c .before .before .before .before .before .before .before .before .before .before .before .before .before .before .pre .1 .events) }
+visit-try-case-requires t c κs = record { fitted = c .before .before .before .before .before .before .before .before .before .before .before .before .before .before .before .before .before .before .pre .1 .fitted; words = c .before .before .before .before .before .before .before .before .before .before .before .before .before .before .before .before .before .before .pre .1 .words; events = omega (arith, c .before .before .before .before .before .before .before .before .before .before .before .before .before .before .before .before .before .before .pre .1 .events) }
 
--- src/lib.rt:278:9
 visit-same-length : (t : ℕ) → visit-lts.Need-same-length (
   last-at-reads.Asked,
   last-at-reads.Learnt,
@@ -98,7 +94,6 @@ visit-same-length : (t : ℕ) → visit-lts.Need-same-length (
 ) (visit-at t) visit.Post visit-Inv-loop visit-μ-loop
 visit-same-length t c = search needs
 
--- src/lib.rt:278:9
 visit-same-length-2 : (t : ℕ) → visit-lts.Need-same-length-2 (
   last-at-reads.Asked,
   last-at-reads.Learnt,
@@ -111,7 +106,6 @@ visit-same-length-2 : (t : ℕ) → visit-lts.Need-same-length-2 (
 ) (visit-at t) visit.Post visit-Inv-loop visit-μ-loop
 visit-same-length-2 t c = search needs
 
--- src/lib.rt:278:9
 visit-same-length-3 : (t : ℕ) → visit-lts.Need-same-length-3 (
   last-at-reads.Asked,
   last-at-reads.Learnt,
@@ -124,7 +118,6 @@ visit-same-length-3 : (t : ℕ) → visit-lts.Need-same-length-3 (
 ) (visit-at t) visit.Post visit-Inv-loop visit-μ-loop
 visit-same-length-3 t c = search needs
 
--- src/lib.rt:278:9
 visit-same-length-4 : (t : ℕ) → visit-lts.Need-same-length-4 (
   last-at-reads.Asked,
   last-at-reads.Learnt,
@@ -137,7 +130,6 @@ visit-same-length-4 : (t : ℕ) → visit-lts.Need-same-length-4 (
 ) (visit-at t) visit.Post visit-Inv-loop visit-μ-loop
 visit-same-length-4 t c = search needs
 
--- src/lib.rt:278:9
 visit-returns-3 : (t : ℕ) → visit-lts.Need-returns-3 (
   last-at-reads.Asked,
   last-at-reads.Learnt,
@@ -148,9 +140,8 @@ visit-returns-3 : (t : ℕ) → visit-lts.Need-returns-3 (
   visit-below t,
   visit.Post,
 ) (visit-at t) visit.Post visit-Inv-loop visit-μ-loop
-visit-returns-3 t c = visits.case-so (c .before .before .before .before .before .before .before .before .before .before .before .before .before .before .before .before .before .if1 .left) (omega (arith, c .before .before .before .before .before .before .before .before .before .before .before .before .before .before .if2 .left, c .before .before .before .before .before .before .before .before .before .before .before .before .before .before .before .before .last-at .ensures)) (c .before .before .before .before .before .before .before .before .before .before .before .before .before .if3 .taken) (c .before .before .before .before .before .before .before .before .try-case .ensures)
+visit-returns-3 t c = visits.case-so (c .before .before .before .before .before .before .before .before .before .before .before .before .before .before .before .before .before .before .before .before .before .if1 .left) (omega (arith, c .before .before .before .before .before .before .before .before .before .before .before .before .before .before .before .before .before .before .if2 .left, c .before .before .before .before .before .before .before .before .before .before .before .before .before .before .before .before .before .before .before .before .last-at .ensures)) (c .before .before .before .before .before .before .before .before .before .before .before .before .before .before .before .before .before .if3 .taken) (c .before .before .before .before .before .before .before .before .try-case .ensures)
 
--- src/lib.rt:282:17
 visit-mul-pairs : (t : ℕ) → visit-lts.Need-mul-pairs (
   last-at-reads.Asked,
   last-at-reads.Learnt,
@@ -163,7 +154,6 @@ visit-mul-pairs : (t : ℕ) → visit-lts.Need-mul-pairs (
 ) (visit-at t) visit.Post visit-Inv-loop visit-μ-loop
 visit-mul-pairs t c = omega (arith, laws.few-pairs _ _ (c .before .before .before .before .before .before .before .before .before .before .before .before .before .before .pre .1 .fitted .gaps) (c .before .before .before .before .before .before .before .before .before .before .before .before .before .before .pre .1 .fitted .inputs))
 
--- src/lib.rt:285:5
 visit-loop-holds : (t : ℕ) → visit-lts.Need-loop-holds (
   last-at-reads.Asked,
   last-at-reads.Learnt,
@@ -176,7 +166,6 @@ visit-loop-holds : (t : ℕ) → visit-lts.Need-loop-holds (
 ) (visit-at t) visit.Post visit-Inv-loop visit-μ-loop
 visit-loop-holds t c = (refl, (refl, (refl, (refl, (omega arith, visits.walk-start)))))
 
--- src/lib.rt:286:13
 visit-next-events-requires : (t : ℕ) → visit-lts.Need-next-events-requires (
   last-at-reads.Asked,
   last-at-reads.Learnt,
@@ -189,7 +178,6 @@ visit-next-events-requires : (t : ℕ) → visit-lts.Need-next-events-requires (
 ) (visit-at t) visit.Post visit-Inv-loop visit-μ-loop
 visit-next-events-requires t c κs = (c .loop-test .taken, record { fitted = laws.fit-any (c .before .before .before .before .before .before .before .before .before .before .before .before .before .before .before .before .pre .1 .fitted) (sym (c .before .before .before .before .before .before .before .before .before .before .before .before .before .before .before .before .pre .1 .fitted .area)); words = c .before .before .before .before .before .before .before .before .before .before .before .before .before .before .before .before .pre .1 .words; events = omega (arith, c .before .before .before .before .before .before .before .before .before .before .before .before .before .before .before .before .pre .1 .events, c .before .before .before .before .before .before .if3 .left) })
 
--- src/lib.rt:287:28
 visit-sub-visit : (t : ℕ) → visit-lts.Need-sub-visit (
   last-at-reads.Asked,
   last-at-reads.Learnt,
@@ -202,7 +190,6 @@ visit-sub-visit : (t : ℕ) → visit-lts.Need-sub-visit (
 ) (visit-at t) visit.Post visit-Inv-loop visit-μ-loop
 visit-sub-visit t c = omega (arith, c .before .before .before .before .before .before .before .if3 .left)
 
--- src/lib.rt:287:9
 visit-visit-requires : (t : ℕ) → visit-lts.Need-visit-requires (
   last-at-reads.Asked,
   last-at-reads.Learnt,
@@ -213,9 +200,8 @@ visit-visit-requires : (t : ℕ) → visit-lts.Need-visit-requires (
   visit-below t,
   visit.Post,
 ) (visit-at t) visit.Post visit-Inv-loop visit-μ-loop
-visit-visit-requires t c κs = (omega (arith, c .before .before .before .before .before .before .before .before .before .before .before .if3 .left, c .before .before .before .before .before .before .before .before .before .before .before .before .before .before .before .before .before .before .before .before .before .pre .0), record { fitted = laws.fit-any (c .before .before .before .before .before .before .before .before .before .before .before .before .before .before .before .before .before .before .before .before .before .pre .1 .fitted) (c .before .before .before .before .before .before .loop .inv .1 .1 .1 .0); words = c .before .before .before .before .next-events .ensures .long ∙ c .before .before .before .before .before .before .before .before .before .before .before .before .before .before .before .before .before .before .before .before .before .pre .1 .words; events = omega (arith, c .before .before .before .before .before .before .before .before .before .before .before .before .before .before .before .before .before .before .before .before .before .pre .1 .events, c .before .before .before .before .before .before .before .before .before .before .before .if3 .left, c .before .before .before .before .next-events .ensures .count) })
+visit-visit-requires t c κs = (omega (arith, c .before .before .before .before .before .before .before .before .before .before .before .before .before .before .before .if3 .left, c .before .before .before .before .before .before .before .before .before .before .before .before .before .before .before .before .before .before .before .before .before .before .before .before .before .pre .0), record { fitted = laws.fit-any (c .before .before .before .before .before .before .before .before .before .before .before .before .before .before .before .before .before .before .before .before .before .before .before .before .before .pre .1 .fitted) (c .before .before .before .before .before .before .before .before .before .before .loop .inv .1 .1 .1 .0); words = c .before .before .before .before .before .before .before .before .next-events .ensures .long ∙ c .before .before .before .before .before .before .before .before .before .before .before .before .before .before .before .before .before .before .before .before .before .before .before .before .before .pre .1 .words; events = omega (arith, c .before .before .before .before .before .before .before .before .before .before .before .before .before .before .before .before .before .before .before .before .before .before .before .before .before .pre .1 .events, c .before .before .before .before .before .before .before .before .before .before .before .before .before .before .before .if3 .left, c .before .before .before .before .before .before .before .before .next-events .ensures .count) })
 
--- src/lib.rt:288:9
 visit-add-k : (t : ℕ) → visit-lts.Need-add-k (
   last-at-reads.Asked,
   last-at-reads.Learnt,
@@ -226,9 +212,8 @@ visit-add-k : (t : ℕ) → visit-lts.Need-add-k (
   visit-below t,
   visit.Post,
 ) (visit-at t) visit.Post visit-Inv-loop visit-μ-loop
-visit-add-k t c = omega (arith, c .before .before .before .before .before .before .before .before .before .before .before .before .before .before .loop-test .taken, laws.few-pairs _ _ (c .before .before .before .before .before .before .before .before .before .before .before .before .before .before .before .before .before .before .before .before .before .before .before .before .before .before .before .before .before .before .pre .1 .fitted .gaps) (c .before .before .before .before .before .before .before .before .before .before .before .before .before .before .before .before .before .before .before .before .before .before .before .before .before .before .before .before .before .before .pre .1 .fitted .inputs))
+visit-add-k t c = omega (arith, c .before .before .before .before .before .before .before .before .before .before .before .before .before .before .before .before .before .before .loop-test .taken, laws.few-pairs _ _ (c .before .before .before .before .before .before .before .before .before .before .before .before .before .before .before .before .before .before .before .before .before .before .before .before .before .before .before .before .before .before .before .before .before .before .pre .1 .fitted .gaps) (c .before .before .before .before .before .before .before .before .before .before .before .before .before .before .before .before .before .before .before .before .before .before .before .before .before .before .before .before .before .before .before .before .before .before .pre .1 .fitted .inputs))
 
--- src/lib.rt:285:5
 visit-loop-less : (t : ℕ) → visit-lts.Need-loop-less (
   last-at-reads.Asked,
   last-at-reads.Learnt,
@@ -241,7 +226,6 @@ visit-loop-less : (t : ℕ) → visit-lts.Need-loop-less (
 ) (visit-at t) visit.Post visit-Inv-loop visit-μ-loop
 visit-loop-less t c = search needs
 
--- src/lib.rt:285:5
 visit-loop-again : (t : ℕ) → visit-lts.Need-loop-again (
   last-at-reads.Asked,
   last-at-reads.Learnt,
@@ -252,9 +236,8 @@ visit-loop-again : (t : ℕ) → visit-lts.Need-loop-again (
   visit-below t,
   visit.Post,
 ) (visit-at t) visit.Post visit-Inv-loop visit-μ-loop
-visit-loop-again t c = (omega (arith, c .before .before .before .before .before .before .before .before .before .before .before .before .before .before .before .loop .inv .0, c .before .before .before .before .before .before .before .before .visit .kept .1 .1 .1 .1 .1 .0), (omega (arith, c .before .before .before .before .before .before .before .before .before .before .before .before .before .before .before .loop .inv .1 .0, c .before .before .before .before .before .before .before .before .visit .kept .1 .1 .1 .1 .1 .1 .0), (omega (arith, c .before .before .before .before .before .before .before .before .before .before .before .before .before .before .before .loop .inv .1 .1 .0, c .before .before .before .before .before .before .before .before .visit .kept .1 .1 .1 .1 .1 .1 .1 .0), (omega (arith, c .before .before .before .before .before .before .before .before .before .before .before .before .before .before .before .loop .inv .1 .1 .1 .0, c .before .before .before .before .before .before .before .before .visit .kept .1 .1 .1 .1 .1 .1 .1 .1 .0), (omega (arith, c .before .before .before .before .before .before .before .before .before .before .before .before .before .before .loop-test .taken), visits.walk-next (c .before .before .before .before .before .before .before .before .before .before .before .before .before .before .loop-test .taken) (omega (arith, c .before .before .before .before .before .before .before .before .before .before .before .before .before .before .before .before .before .before .before .before .before .if2 .left, c .before .before .before .before .before .before .before .before .before .before .before .before .before .before .before .before .before .before .before .before .before .before .before .last-at .ensures)) (omega (arith, c .before .before .before .before .before .before .before .before .before .before .before .before .before .before .before .before .before .before .before .before .before .before .before .before .before .before .before .before .before .before .pre .1 .events, c .before .before .before .before .before .before .before .before .before .before .before .before .before .before .before .before .before .before .before .before .if3 .left)) (c .before .before .before .before .before .before .before .before .before .before .before .before .before .next-events .ensures) (c .before .before .before .before .before .before .before .before .before .before .before .before .before .before .before .loop .inv .1 .1 .1 .1 .1) (c .before .before .before .before .before .before .before .before .before .before .before .before .before .before .before .loop .inv .0) (c .before .before .before .before .before .before .before .before .before .before .before .before .before .before .before .loop .inv .1 .0) (c .before .before .before .before .before .before .before .before .before .before .before .before .before .before .before .loop .inv .1 .1 .0) (c .before .before .before .before .before .before .before .before .visit .ensures))))))
+visit-loop-again t c = (omega (arith, c .before .before .before .before .before .before .before .before .before .before .before .before .before .before .before .before .before .before .before .loop .inv .0, c .before .before .before .before .before .before .before .before .visit .kept .1 .1 .1 .1 .1 .1 .1 .1 .0), (omega (arith, c .before .before .before .before .before .before .before .before .before .before .before .before .before .before .before .before .before .before .before .loop .inv .1 .0, c .before .before .before .before .before .before .before .before .visit .kept .1 .1 .1 .1 .1 .1 .1 .1 .1 .0), (omega (arith, c .before .before .before .before .before .before .before .before .before .before .before .before .before .before .before .before .before .before .before .loop .inv .1 .1 .0, c .before .before .before .before .before .before .before .before .visit .kept .1 .1 .1 .1 .1 .1 .1 .1 .1 .1 .0), (omega (arith, c .before .before .before .before .before .before .before .before .before .before .before .before .before .before .before .before .before .before .before .loop .inv .1 .1 .1 .0, c .before .before .before .before .before .before .before .before .visit .kept .1 .1 .1 .1 .1 .1 .1 .1 .1 .1 .1 .0), (omega (arith, c .before .before .before .before .before .before .before .before .before .before .before .before .before .before .before .before .before .before .loop-test .taken), visits.walk-next (c .before .before .before .before .before .before .before .before .before .before .before .before .before .before .before .before .before .before .loop-test .taken) (omega (arith, c .before .before .before .before .before .before .before .before .before .before .before .before .before .before .before .before .before .before .before .before .before .before .before .before .before .if2 .left, c .before .before .before .before .before .before .before .before .before .before .before .before .before .before .before .before .before .before .before .before .before .before .before .before .before .before .before .last-at .ensures)) (omega (arith, c .before .before .before .before .before .before .before .before .before .before .before .before .before .before .before .before .before .before .before .before .before .before .before .before .before .before .before .before .before .before .before .before .before .before .pre .1 .events, c .before .before .before .before .before .before .before .before .before .before .before .before .before .before .before .before .before .before .before .before .before .before .before .before .if3 .left)) (c .before .before .before .before .before .before .before .before .before .before .before .before .before .before .before .before .before .next-events .ensures) (c .before .before .before .before .before .before .before .before .before .before .before .before .before .before .before .before .before .before .before .loop .inv .1 .1 .1 .1 .1) (c .before .before .before .before .before .before .before .before .before .before .before .before .before .before .before .before .before .before .before .loop .inv .0) (c .before .before .before .before .before .before .before .before .before .before .before .before .before .before .before .before .before .before .before .loop .inv .1 .0) (c .before .before .before .before .before .before .before .before .before .before .before .before .before .before .before .before .before .before .before .loop .inv .1 .1 .0) (c .before .before .before .before .before .before .before .before .visit .ensures))))))
 
--- src/lib.rt:257:1
 visit-same-length-5 : (t : ℕ) → visit-lts.Need-same-length-5 (
   last-at-reads.Asked,
   last-at-reads.Learnt,
@@ -267,7 +250,6 @@ visit-same-length-5 : (t : ℕ) → visit-lts.Need-same-length-5 (
 ) (visit-at t) visit.Post visit-Inv-loop visit-μ-loop
 visit-same-length-5 t c = search needs
 
--- src/lib.rt:257:1
 visit-same-length-6 : (t : ℕ) → visit-lts.Need-same-length-6 (
   last-at-reads.Asked,
   last-at-reads.Learnt,
@@ -280,7 +262,6 @@ visit-same-length-6 : (t : ℕ) → visit-lts.Need-same-length-6 (
 ) (visit-at t) visit.Post visit-Inv-loop visit-μ-loop
 visit-same-length-6 t c = search needs
 
--- src/lib.rt:257:1
 visit-same-length-7 : (t : ℕ) → visit-lts.Need-same-length-7 (
   last-at-reads.Asked,
   last-at-reads.Learnt,
@@ -293,7 +274,6 @@ visit-same-length-7 : (t : ℕ) → visit-lts.Need-same-length-7 (
 ) (visit-at t) visit.Post visit-Inv-loop visit-μ-loop
 visit-same-length-7 t c = search needs
 
--- src/lib.rt:257:1
 visit-same-length-8 : (t : ℕ) → visit-lts.Need-same-length-8 (
   last-at-reads.Asked,
   last-at-reads.Learnt,
@@ -306,7 +286,6 @@ visit-same-length-8 : (t : ℕ) → visit-lts.Need-same-length-8 (
 ) (visit-at t) visit.Post visit-Inv-loop visit-μ-loop
 visit-same-length-8 t c = search needs
 
--- src/lib.rt:257:1
 visit-returns-4 : (t : ℕ) → visit-lts.Need-returns-4 (
   last-at-reads.Asked,
   last-at-reads.Learnt,
