@@ -120,13 +120,14 @@ unfolding put
 put-out i p l h = rw (le-ltb i 100 h)
 
 module _ (k : Walk) (s : List ℕ) (p n : ℕ) {x : Num} (e : found x ≡ u16 s p) where
-  pub section-is : {c q : ℕ} → x ≡ num.Is c q → sectionW k s p n ≡ fill c 0 c k none s q n
-  unfolding sectionW
-  section-is h = rw (is-got e h, sectionW)
+  module _ {l : List ℕ} (f : l ≡ none) where
+    pub section-is : {c q : ℕ} → x ≡ num.Is c q → sectionW k s p n ≡ fill c 0 c k l s q n
+    unfolding sectionW
+    section-is h = rw (is-got e h, f, sectionW)
 
-  pub section-broken : x ≡ num.Broken → sectionW k s p n ≡ record { count = 0; starts = none; end = walked.Broken }
-  unfolding sectionW
-  section-broken h = rw (is-broken e h, sectionW)
+    pub section-broken : x ≡ num.Broken → sectionW k s p n ≡ record { count = 0; starts = l; end = walked.Broken }
+    unfolding sectionW
+    section-broken h = rw (is-broken e h, f, sectionW)
 
 module _ (k : Walk) (s : List ℕ) (p n i c : ℕ) (l : List ℕ) where
   pub fill-end : (left : ℕ) → left ≤ 0 → fill left i c k l s p n ≡ record { count = c; starts = l; end = walked.To p n }

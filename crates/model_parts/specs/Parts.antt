@@ -11,6 +11,7 @@ use Rattle.model_walk.specs.Walk.{Walk, _⨾_, by, stop, staying, bytesW, times
 use Rattle.model_parts.specs.declared.Part.{Part}
 use Rattle.model_parts.specs.declared.Part.the-variants as part
 use Rattle.model_parts.specs.declared.Section.{Section}
+use Rattle.model_parts.specs.declared.Extent.{Extent}
 
 -- a byte from 32 to 126
 abbrev pub letterW : Walk
@@ -75,3 +76,7 @@ sectionW k s p n = elim (u16 s p) [
   | got c q ↦ fill c 0 c k none s q n
   | broken ↦ record { count = 0; starts = none; end = walked.Broken }
 ]
+
+-- a section from its extent and its positions
+abbrev pub section : Extent → List ℕ → Section
+section x l = record { count = x .count; starts = l; end = x .end }

@@ -4,7 +4,7 @@ use model_walk::Piece;
 use model_walk::Walked;
 ghost use mathlib.Core.Path.{_≡_};
 ghost use Rattle.model_walk.specs.Walk.{_⨾_, by, timesW, bytesW};
-ghost use Rattle.model_parts.specs.Parts.{textW, entityW, inputW, eventW, conditionW, invariantW, ruleW, partW, put, sectionW};
+ghost use Rattle.model_parts.specs.Parts.{textW, entityW, inputW, eventW, conditionW, invariantW, ruleW, partW, put, none, sectionW, section};
 
 // What a section is a list of. Texts don't name texts; any other part does.
 pub enum Part {
@@ -21,6 +21,12 @@ pub enum Part {
 pub struct Section {
     pub count: u32,
     pub starts: [usize; 100],
+    pub end: Walked,
+}
+
+// A section but for the positions.
+pub struct Extent {
+    pub count: u32,
     pub end: Walked,
 }
 
@@ -204,15 +210,22 @@ fn put(starts: &mut [usize; 100], i: usize, at: usize)
     }
 }
 
-pub fn section_at(s: &[u8], texts: u32, part: Part, at: usize, notes: u32) -> Section
-    ensures { λ r. ⌜ r ≡ sectionW (partW texts part) (now (s .entry)) at notes ⌝ }
+// A section whose positions go into a lent array; that is all zeros before.
+pub fn section_into(
+    s: &[u8],
+    texts: u32,
+    part: Part,
+    at: usize,
+    notes: u32,
+    starts: &mut [usize; 100],
+) -> Extent
+    requires { ⌜ now starts ≡ none ⌝ }
+    ensures { λ r. ⌜ section r (now (starts .exit)) ≡ sectionW (partW texts part) (now (s .entry)) at notes ⌝ }
 {
     let x = model_walk::u16_at(s, at);
-    let mut starts = [0usize; 100];
     let Num::Is(count, start) = x else {
-        return Section {
+        return Extent {
             count: 0,
-            starts,
             end: Walked::Broken,
         };
     };
@@ -221,12 +234,11 @@ pub fn section_at(s: &[u8], texts: u32, part: Part, at: usize, notes: u32) -> Se
     let mut p = start;
     let mut n = notes;
     while 0 < left {
-        put(&mut starts, i, p);
+        put(starts, i, p);
         let y = part_at(s, texts, part, p, n);
         let Walked::To(q, m) = y else {
-            return Section {
+            return Extent {
                 count,
-                starts,
                 end: Walked::Broken,
             };
         };
@@ -235,9 +247,21 @@ pub fn section_at(s: &[u8], texts: u32, part: Part, at: usize, notes: u32) -> Se
         i += 1;
         left -= 1;
     }
-    Section {
+    Extent {
         count,
-        starts,
         end: Walked::To(p, n),
+    }
+}
+
+pub fn section_at(s: &[u8], texts: u32, part: Part, at: usize, notes: u32) -> Section
+    ensures { λ r. ⌜ r ≡ sectionW (partW texts part) (now (s .entry)) at notes ⌝ }
+{
+    let mut starts = [0usize; 100];
+    let x = section_into(s, texts, part, at, notes, &mut starts);
+    let end = x.end;
+    Section {
+        count: x.count,
+        starts,
+        end,
     }
 }

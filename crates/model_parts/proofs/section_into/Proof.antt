@@ -1,12 +1,16 @@
 use borrow.Author.Needs.{needs}
 use mathlib.Core.Path.{_≡_, sym, _∙_}
 use native.Mathlib.Omega.{arith}
-use Rattle.model_parts.proofs.Laws as laws
-use Rattle.model_walk.proofs.Laws as walks
-use Rattle.model_parts.proofs.section_at.Statement.{statement}
-use Rattle.model_parts.proofs.section_at.Tie as tie
 use Prim.Native.Nat.{_+_}
 use Rattle.model_parts.specs.Parts.{sectionW, fill, partW}
+use Rattle.model_parts.proofs.Laws as laws
+use Rattle.model_parts.proofs.section_into.Statement.{statement}
+use Rattle.model_parts.proofs.section_into.Tie as tie
+use Rattle.model_parts.proofs.section_into.Reads as reads
+use Rattle.model_parts.proofs.section_into.Lts as lts
+use Rattle.model_parts.proofs.part_at.Reads as part-at-reads
+use Rattle.model_parts.proofs.put.Reads as put-reads
+use Rattle.model_walk.proofs.u16_at.Reads as u16-at-reads
 
 abbrev Inv-loop : tie.InvT-loop
 Inv-loop s texts part at notes starts₀ count start i₀ left₀ p₀ n₀ starts i left p n = (sectionW (partW texts part) s at notes ≡ fill left i count (partW texts part) starts s p n) × (i + left ≡ count)
@@ -14,8 +18,8 @@ Inv-loop s texts part at notes starts₀ count start i₀ left₀ p₀ n₀ star
 abbrev μ-loop : tie.MeasureT-loop
 μ-loop s texts part at notes starts₀ count start i₀ left₀ p₀ n₀ starts i left p n = left
 
-pub section-at-spec : {M : Type 1} → statement M
-section-at-spec =
+pub section-into-spec : {M : Type 1} → statement M
+section-into-spec =
     tie.close
     (tie.spec
     Inv-loop
@@ -23,8 +27,8 @@ section-at-spec =
     (λ c κs. search needs)
     (λ c. search needs)
     (λ c. search needs)
-    (λ c. sym (laws.section-broken _ _ _ _ (c .before .before .u16-at .ensures) (c .enum-told .given .1)))
-    (λ c. (laws.section-is _ _ _ _ (c .before .before .before .u16-at .ensures) (c .before .x .given .1), omega arith))
+    (λ c. sym (laws.section-broken _ _ _ _ (c .before .before .u16-at .ensures) (c .before .before .before .before .pre) (c .enum-told .given .1)))
+    (λ c. (laws.section-is _ _ _ _ (c .before .before .before .u16-at .ensures) (c .before .before .before .before .before .pre) (c .before .x .given .1), omega arith))
     (λ c κs. search needs)
     (λ c κs. search needs)
     (λ c. search needs)
@@ -34,5 +38,4 @@ section-at-spec =
     (λ c. search needs)
     (λ c. search needs)
     (λ c. (c .before .before .before .before .before .before .before .loop .inv .0 ∙ laws.fill-more _ _ _ _ _ _ _ (c .before .before .before .part-at .ensures) (c .before .before .before .before .put .ensures) _ (c .before .before .before .before .before .before .loop-test .taken) (c .before .y .given .1), omega arith))
-    (λ c. sym (c .before .loop .inv .0 ∙ laws.fill-end _ _ _ _ _ _ _ _ (c .loop-test .left)))
-    )
+    (λ c. sym (c .before .loop .inv .0 ∙ laws.fill-end _ _ _ _ _ _ _ _ (c .loop-test .left))))
