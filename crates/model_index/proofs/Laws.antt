@@ -14,13 +14,14 @@ use Rattle.model_walk.specs.Walk.{found, placeW, bytesW}
 use Rattle.model_walk.proofs.Laws.{is-got, is-broken}
 use Rattle.model_parts.specs.declared.Section.{Section}
 use Rattle.model_parts.specs.declared.Part.the-variants as part
-use Rattle.model_parts.specs.Parts.{partW, sectionW}
+use Rattle.model_parts.specs.Parts.{partW, sectionW, section}
 use Rattle.model_order.specs.Order.{ascendingW, textsW}
 use Rattle.model_index.specs.declared.File.{File}
+use Rattle.model_index.specs.declared.Status.{Status}
 use Rattle.model_index.specs.declared.Status.the-variants as status
 use Rattle.model_index.specs.declared.Index.{Index}
-use Rattle.model_index.specs.declared.Front.{Front}
-use Rattle.model_index.specs.Index.{empty, refusedW, wholeW, index-of, on, on-section, given, closed, restW, bodyW, readW}
+use Rattle.model_index.specs.declared.Outline.{Outline}
+use Rattle.model_index.specs.Index.{empty, refusedW, wholeW, index-of, file-of, on, on-section, given, closed, restW, bodyW, readW}
 
 module _ (w : Walked) (f : ℕ → ℕ → File) {x : Walked} (e : x ≡ w) where
   pub on-to : {p n : ℕ} → x ≡ walked.To p n → on w f ≡ f p n
@@ -62,15 +63,35 @@ pub refused-with : (number : ℕ) {x : Section} → x ≡ empty → _≡_ {A = F
 unfolding refusedW
 refused-with number e = ap {B = File} (λ (x : Section). record { status = status.Refused number; index = record { version = 0; texts = x; title = 0; entities = x; events = x; invariants = x; alphabet = x; gaps = x; limits = 0; rules = x } }) e
 
-pub rest-is : (s : List ℕ) (f : Front) (p₃ n₃ : ℕ) → restW s f p₃ n₃ ≡ (
-    on-section (sectionW (partW (f .texts .count) part.Input) s p₃ n₃) λ alphabet p₄ n₄.
-    on-section (sectionW (partW (f .texts .count) part.Gap) s p₄ n₄) λ gaps p₅ n₅.
+-- a file by its outline's status
+module _ (o : Outline) (t e v i a g r : List ℕ) where
+  pub file-refused : {k : ℕ} → o .status ≡ status.Refused k → file-of o t e v i a g r ≡ refusedW k
+  unfolding file-of
+  file-refused h = rw (h, file-of)
+
+  pub file-read : o .status ≡ status.Read → file-of o t e v i a g r ≡ wholeW (index-of (o .front) t e v i (section (o .alphabet) a) (section (o .gaps) g) (o .limits) (section (o .rules) r))
+  unfolding file-of
+  file-read h = rw (h, file-of)
+
+  -- from the sections
+  pub file-made : o .status ≡ status.Read → {x₁ x₂ x₃ x₄ x₅ x₆ x₇ : Section} →
+      x₁ ≡ section (o .front .texts) t → x₂ ≡ section (o .front .entities) e → x₃ ≡ section (o .front .events) v →
+      x₄ ≡ section (o .front .invariants) i → x₅ ≡ section (o .alphabet) a → x₆ ≡ section (o .gaps) g → x₇ ≡ section (o .rules) r →
+      _≡_ {A = File} (record { status = o .status; index = record { version = o .front .version; texts = x₁; title = o .front .title; entities = x₂; events = x₃; invariants = x₄; alphabet = x₅; gaps = x₆; limits = o .limits; rules = x₇ } }) (file-of o t e v i a g r)
+  file-made h e₁ e₂ e₃ e₄ e₅ e₆ e₇ =
+      rw (e₁, e₂, e₃, e₄, e₅, e₆, e₇)
+      (ap {B = File} (λ (x : Status). record { status = x; index = index-of (o .front) t e v i (section (o .alphabet) a) (section (o .gaps) g) (o .limits) (section (o .rules) r) }) h
+      ∙ sym (file-read h))
+
+pub rest-is : (s : List ℕ) (c : ℕ) (f : Section → Section → ℕ → Section → Index) (p₃ n₃ : ℕ) → restW s c f p₃ n₃ ≡ (
+    on-section (sectionW (partW c part.Input) s p₃ n₃) λ alphabet p₄ n₄.
+    on-section (sectionW (partW c part.Gap) s p₄ n₄) λ gaps p₅ n₅.
     on (bytesW 16 s p₅ n₅) λ p₆ n₆.
-    on-section (sectionW (partW (f .texts .count) part.Rule) s p₆ n₆) λ rules p₇ n₇.
-    closed s p₇ n₇ (index-of f alphabet gaps p₅ rules)
+    on-section (sectionW (partW c part.Rule) s p₆ n₆) λ rules p₇ n₇.
+    closed s p₇ n₇ (f alphabet gaps p₅ rules)
     )
 unfolding restW
-rest-is s f p₃ n₃ = refl
+rest-is s c f p₃ n₃ = refl
 
 pub body-is : (s : List ℕ) (v : ℕ) (texts : Section) (at : ℕ) → bodyW s v texts at ≡ (
     on (placeW (texts .count) s at 0) λ p₀ n₀.
@@ -78,7 +99,7 @@ pub body-is : (s : List ℕ) (v : ℕ) (texts : Section) (at : ℕ) → bodyW s 
     given (sectionW (partW (texts .count) part.Entity) s p₀ 0) λ entities.
     on-section (sectionW (partW (texts .count) part.Event) s p₁ 0) λ events p₂ n₂.
     on-section (sectionW (partW (texts .count) part.Invariant) s p₂ n₂) λ invariants p₃ n₃.
-    restW s (record { version = v; texts = texts; title = at; entities = entities; events = events; invariants = invariants }) p₃ n₃
+    restW s (texts .count) (λ alphabet gaps limits rules. record { version = v; texts = texts; title = at; entities = entities; events = events; invariants = invariants; alphabet = alphabet; gaps = gaps; limits = limits; rules = rules }) p₃ n₃
     )
 unfolding bodyW
 body-is s v texts at = refl

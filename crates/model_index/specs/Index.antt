@@ -1,5 +1,6 @@
 -- The walk over a whole file.
 use Prim.Native.Nat.{ℕ}
+use mathlib.Core.Path.{_≡_}
 use mathlib.Core.Bool.{false}
 use mathlib.Core.List.{List}
 use lib.Dec.{ltb}
@@ -11,12 +12,13 @@ use Rattle.model_walk.specs.declared.Walked.the-variants as walked
 use Rattle.model_walk.specs.Walk.{placeW, bytesW}
 use Rattle.model_parts.specs.declared.Section.{Section}
 use Rattle.model_parts.specs.declared.Part.the-variants as part
-use Rattle.model_parts.specs.Parts.{partW, none, sectionW}
+use Rattle.model_parts.specs.Parts.{partW, none, sectionW, section}
 use Rattle.model_order.specs.Order.{ascendingW, textsW}
 use Rattle.model_index.specs.declared.File.{File}
 use Rattle.model_index.specs.declared.Status.the-variants as status
 use Rattle.model_index.specs.declared.Index.{Index}
 use Rattle.model_index.specs.declared.Front.{Front}
+use Rattle.model_index.specs.declared.Outline.{Outline}
 
 abbrev pub empty : Section
 empty = record { count = 0; starts = none; end = walked.Broken }
@@ -57,28 +59,42 @@ given x f = f x
 unfoldable pub closed : List ℕ → ℕ → ℕ → Index → File
 closed s p n i = if ltb 64 n then refusedW 30 else if ltb p (length s) then refusedW 31 else wholeW i
 
-abbrev pub index-of : Front → (alphabet gaps : Section) → (limits : ℕ) → (rules : Section) → Index
-index-of f alphabet gaps limits rules = record {
+-- an index from the front, the positions of its sections, and what follows it
+abbrev pub index-of : Front → (texts entities events invariants : List ℕ) → (alphabet gaps : Section) → (limits : ℕ) → (rules : Section) → Index
+index-of f t e v i alphabet gaps limits rules = record {
   version = f .version;
-  texts = f .texts;
+  texts = section (f .texts) t;
   title = f .title;
-  entities = f .entities;
-  events = f .events;
-  invariants = f .invariants;
+  entities = section (f .entities) e;
+  events = section (f .events) v;
+  invariants = section (f .invariants) i;
   alphabet = alphabet;
   gaps = gaps;
   limits = limits;
   rules = rules;
 }
 
--- what follows the invariants
-unfoldable pub restW : List ℕ → Front → ℕ → ℕ → File
-restW s f p₃ n₃ =
-    on-section (sectionW (partW (f .texts .count) part.Input) s p₃ n₃) λ alphabet p₄ n₄.
-    on-section (sectionW (partW (f .texts .count) part.Gap) s p₄ n₄) λ gaps p₅ n₅.
+-- the file of an outline and its positions; a refused one has none
+unfoldable pub file-of : Outline → (texts entities events invariants alphabet gaps rules : List ℕ) → File
+file-of o t e v i a g r = elim (o .status) [
+  | status.Read ↦ wholeW (index-of (o .front) t e v i (section (o .alphabet) a) (section (o .gaps) g) (o .limits) (section (o .rules) r))
+  | status.Refused n ↦ refusedW n
+]
+
+-- three arrays of zeros
+pub record Zeros (a b c : List ℕ) : Type 0 where
+  pub first : a ≡ none
+  pub second : b ≡ none
+  pub third : c ≡ none
+
+-- what follows the invariants, for a file with so many texts
+unfoldable pub restW : List ℕ → (texts : ℕ) → ((alphabet gaps : Section) → ℕ → (rules : Section) → Index) → ℕ → ℕ → File
+restW s c f p₃ n₃ =
+    on-section (sectionW (partW c part.Input) s p₃ n₃) λ alphabet p₄ n₄.
+    on-section (sectionW (partW c part.Gap) s p₄ n₄) λ gaps p₅ n₅.
     on (bytesW 16 s p₅ n₅) λ p₆ n₆.
-    on-section (sectionW (partW (f .texts .count) part.Rule) s p₆ n₆) λ rules p₇ n₇.
-    closed s p₇ n₇ (index-of f alphabet gaps p₅ rules)
+    on-section (sectionW (partW c part.Rule) s p₆ n₆) λ rules p₇ n₇.
+    closed s p₇ n₇ (f alphabet gaps p₅ rules)
 
 -- what follows the texts
 unfoldable pub bodyW : List ℕ → (version : ℕ) → Section → ℕ → File
@@ -88,7 +104,7 @@ bodyW s v texts at =
     given (sectionW (partW (texts .count) part.Entity) s p₀ 0) λ entities.
     on-section (sectionW (partW (texts .count) part.Event) s p₁ 0) λ events p₂ n₂.
     on-section (sectionW (partW (texts .count) part.Invariant) s p₂ n₂) λ invariants p₃ n₃.
-    restW s (record { version = v; texts = texts; title = at; entities = entities; events = events; invariants = invariants }) p₃ n₃
+    restW s (texts .count) (λ alphabet gaps limits rules. record { version = v; texts = texts; title = at; entities = entities; events = events; invariants = invariants; alphabet = alphabet; gaps = gaps; limits = limits; rules = rules }) p₃ n₃
 
 unfoldable pub readW : List ℕ → File
 readW s =

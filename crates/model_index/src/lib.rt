@@ -1,11 +1,15 @@
 // The reader of a model file: its index, or 30 or 31.
+use model_parts::Extent;
 use model_parts::Part;
 use model_parts::Section;
 use model_walk::Num;
 use model_walk::Walked;
 ghost use mathlib.Core.Path.{_≡_};
+ghost use mathlib.Core.List.{List};
+ghost use Prim.Native.Nat.{ℕ};
 ghost use Rattle.model.specs.File.{decode};
-ghost use Rattle.model_index.specs.Index.{empty, refusedW, wholeW, index-of, restW, bodyW};
+ghost use Rattle.model_parts.specs.Parts.{none, section};
+ghost use Rattle.model_index.specs.Index.{empty, refusedW, index-of, file-of, Zeros, restW, bodyW};
 ghost use Rattle.model_index.specs.Indexed.{Says};
 
 // Where the parts of a model file stand.
@@ -22,14 +26,14 @@ pub struct Index {
     pub rules: Section,
 }
 
-// What stands before the alphabet.
+// What stands before the alphabet, but for the positions.
 pub struct Front {
     pub version: u32,
-    pub texts: Section,
+    pub texts: Extent,
     pub title: usize,
-    pub entities: Section,
-    pub events: Section,
-    pub invariants: Section,
+    pub entities: Extent,
+    pub events: Extent,
+    pub invariants: Extent,
 }
 
 pub enum Status {
@@ -41,6 +45,16 @@ pub enum Status {
 pub struct File {
     pub status: Status,
     pub index: Index,
+}
+
+// What reading a file gives, but for the positions.
+pub struct Outline {
+    pub status: Status,
+    pub front: Front,
+    pub alphabet: Extent,
+    pub gaps: Extent,
+    pub limits: usize,
+    pub rules: Extent,
 }
 
 fn no_section() -> Section
@@ -76,115 +90,208 @@ pub fn refused(number: u32) -> File
     }
 }
 
-// The index of a whole file.
-fn file_of(front: Front, alphabet: Section, gaps: Section, limits: usize, rules: Section) -> File
-    ensures { λ r. ⌜ r ≡ wholeW (index-of front alphabet gaps limits rules) ⌝ }
+// The outline of a refused file.
+pub fn refusal(number: u32) -> Outline
+    ensures { λ r. ⌜ r .status ≡ Status.Refused number ⌝ }
 {
-    let texts = front.texts;
-    let entities = front.entities;
-    let events = front.events;
-    let invariants = front.invariants;
+    let x = Extent {
+        count: 0,
+        end: Walked::Broken,
+    };
+    let front = Front {
+        version: 0,
+        texts: x,
+        title: 0,
+        entities: x,
+        events: x,
+        invariants: x,
+    };
+    Outline {
+        status: Status::Refused(number),
+        front,
+        alphabet: x,
+        gaps: x,
+        limits: 0,
+        rules: x,
+    }
+}
+
+fn section(x: Extent, starts: &[usize; 100]) -> Section
+    ensures { λ r. ⌜ r ≡ section x (now (starts .entry)) ⌝ }
+{
+    let end = x.end;
+    Section {
+        count: x.count,
+        starts: *starts,
+        end,
+    }
+}
+
+// The file of an outline and its positions.
+pub fn file_of(
+    x: Outline,
+    texts: &[usize; 100],
+    entities: &[usize; 100],
+    events: &[usize; 100],
+    invariants: &[usize; 100],
+    alphabet: &[usize; 100],
+    gaps: &[usize; 100],
+    rules: &[usize; 100],
+) -> File
+    ensures { λ r. ⌜ r ≡ file-of x (now (texts .entry)) (now (entities .entry)) (now (events .entry)) (now (invariants .entry)) (now (alphabet .entry)) (now (gaps .entry)) (now (rules .entry)) ⌝ }
+{
+    let status = x.status;
+    if let Status::Refused(number) = status {
+        return refused(number);
+    }
+    let front = x.front;
     let index = Index {
         version: front.version,
-        texts,
+        texts: section(front.texts, texts),
         title: front.title,
-        entities,
-        events,
-        invariants,
-        alphabet,
-        gaps,
-        limits,
-        rules,
+        entities: section(front.entities, entities),
+        events: section(front.events, events),
+        invariants: section(front.invariants, invariants),
+        alphabet: section(x.alphabet, alphabet),
+        gaps: section(x.gaps, gaps),
+        limits: x.limits,
+        rules: section(x.rules, rules),
     };
-    File {
-        status: Status::Read,
-        index,
-    }
+    File { status, index }
 }
 
 // What follows the invariants. At the end there are at most 64 notes, and no byte is left over.
-fn rest_at(s: &[u8], front: Front, at: usize, notes: u32) -> File
-    ensures { λ r. ⌜ r ≡ restW (now (s .entry)) front at notes ⌝ }
+fn rest_at(
+    s: &[u8],
+    front: Front,
+    at: usize,
+    notes: u32,
+    alphabet: &mut [usize; 100],
+    gaps: &mut [usize; 100],
+    rules: &mut [usize; 100],
+) -> Outline
+    requires { ⌜ Zeros (now alphabet) (now gaps) (now rules) ⌝ }
+    ensures { λ r. ⌜ ((t e v i : List ℕ) → file-of r t e v i (now (alphabet .exit)) (now (gaps .exit)) (now (rules .exit)) ≡ restW (now (s .entry)) (front .texts .count) (index-of front t e v i) at notes) ⌝ }
 {
     let count = front.texts.count;
-    let alphabet = model_parts::section_at(s, count, Part::Input, at, notes);
-    let f = alphabet.end;
+    let a = model_parts::section_into(s, count, Part::Input, at, notes, alphabet);
+    let f = a.end;
     let Walked::To(p4, n4) = f else {
-        return refused(30);
+        return refusal(30);
     };
-    let gaps = model_parts::section_at(s, count, Part::Gap, p4, n4);
-    let g = gaps.end;
+    let b = model_parts::section_into(s, count, Part::Gap, p4, n4, gaps);
+    let g = b.end;
     let Walked::To(p5, n5) = g else {
-        return refused(30);
+        return refusal(30);
     };
     let h = model_walk::bytes_at(s, 16, p5, n5);
     let Walked::To(p6, n6) = h else {
-        return refused(30);
+        return refusal(30);
     };
-    let rules = model_parts::section_at(s, count, Part::Rule, p6, n6);
-    let k = rules.end;
+    let d = model_parts::section_into(s, count, Part::Rule, p6, n6, rules);
+    let k = d.end;
     let Walked::To(p7, n7) = k else {
-        return refused(30);
+        return refusal(30);
     };
     if 64 < n7 {
-        return refused(30);
+        return refusal(30);
     }
     if p7 < s.len() {
-        return refused(31);
+        return refusal(31);
     }
-    file_of(front, alphabet, gaps, p5, rules)
+    Outline {
+        status: Status::Read,
+        front,
+        alphabet: a,
+        gaps: b,
+        limits: p5,
+        rules: d,
+    }
 }
 
 // What follows the texts.
-fn body_at(s: &[u8], version: u32, texts: Section, at: usize) -> File
-    ensures { λ r. ⌜ r ≡ bodyW (now (s .entry)) version texts at ⌝ }
+fn body_at(
+    s: &[u8],
+    version: u32,
+    texts: Extent,
+    at: usize,
+    entities: &mut [usize; 100],
+    events: &mut [usize; 100],
+    invariants: &mut [usize; 100],
+    alphabet: &mut [usize; 100],
+    gaps: &mut [usize; 100],
+    rules: &mut [usize; 100],
+) -> Outline
+    requires { ⌜ Zeros (now entities) (now events) (now invariants) × Zeros (now alphabet) (now gaps) (now rules) ⌝ }
+    ensures { λ r. ⌜ ((t : List ℕ) → file-of r t (now (entities .exit)) (now (events .exit)) (now (invariants .exit)) (now (alphabet .exit)) (now (gaps .exit)) (now (rules .exit)) ≡ bodyW (now (s .entry)) version (section texts t) at) ⌝ }
 {
     let count = texts.count;
     let a = model_walk::place_at(s, count, at, 0);
     let Walked::To(p0, _) = a else {
-        return refused(30);
+        return refusal(30);
     };
     let b = model_order::ascending_at(s, count, Part::Entity, false, p0);
     let Walked::To(p1, _) = b else {
-        return refused(30);
+        return refusal(30);
     };
-    let entities = model_parts::section_at(s, count, Part::Entity, p0, 0);
-    let events = model_parts::section_at(s, count, Part::Event, p1, 0);
-    let d = events.end;
+    let x = model_parts::section_into(s, count, Part::Entity, p0, 0, entities);
+    let y = model_parts::section_into(s, count, Part::Event, p1, 0, events);
+    let d = y.end;
     let Walked::To(p2, n2) = d else {
-        return refused(30);
+        return refusal(30);
     };
-    let invariants = model_parts::section_at(s, count, Part::Invariant, p2, n2);
-    let e = invariants.end;
+    let z = model_parts::section_into(s, count, Part::Invariant, p2, n2, invariants);
+    let e = z.end;
     let Walked::To(p3, n3) = e else {
-        return refused(30);
+        return refusal(30);
     };
     let front = Front {
         version,
         texts,
         title: at,
-        entities,
-        events,
-        invariants,
+        entities: x,
+        events: y,
+        invariants: z,
     };
-    rest_at(s, front, p3, n3)
+    rest_at(s, front, p3, n3, alphabet, gaps, rules)
 }
 
-// The index of the model that the file decodes to, or 30 or 31.
-pub fn read(s: &[u8]) -> File
-    ensures { λ r. ⌜ Says (now (s .entry)) r (decode (now (s .entry))) ⌝ }
+// The outline and the positions of the model that the file decodes to, or 30 or 31. The arrays are all zeros before.
+pub fn read(
+    s: &[u8],
+    texts: &mut [usize; 100],
+    entities: &mut [usize; 100],
+    events: &mut [usize; 100],
+    invariants: &mut [usize; 100],
+    alphabet: &mut [usize; 100],
+    gaps: &mut [usize; 100],
+    rules: &mut [usize; 100],
+) -> Outline
+    requires { ⌜ (now texts ≡ none) × (Zeros (now entities) (now events) (now invariants) × Zeros (now alphabet) (now gaps) (now rules)) ⌝ }
+    ensures { λ r. ⌜ Says (now (s .entry)) (file-of r (now (texts .exit)) (now (entities .exit)) (now (events .exit)) (now (invariants .exit)) (now (alphabet .exit)) (now (gaps .exit)) (now (rules .exit))) (decode (now (s .entry))) ⌝ }
 {
     if 32768 < s.len() {
-        return refused(30);
+        return refusal(30);
     }
     let x = model_walk::u32_at(s, 0);
     let Num::Is(version, start) = x else {
-        return refused(30);
+        return refusal(30);
     };
     let a = model_order::texts_at(s, start);
     let Walked::To(p, _) = a else {
-        return refused(30);
+        return refusal(30);
     };
-    let texts = model_parts::section_at(s, 0, Part::Text, start, 0);
-    body_at(s, version, texts, p)
+    let b = model_parts::section_into(s, 0, Part::Text, start, 0, texts);
+    body_at(
+        s,
+        version,
+        b,
+        p,
+        entities,
+        events,
+        invariants,
+        alphabet,
+        gaps,
+        rules,
+    )
 }

@@ -18,17 +18,21 @@ use Rattle.model.specs.Validate.{day, ordered, bad-title, bad-size, bad-limits,
 use Rattle.model_walk.proofs.Found as found
 use Rattle.model_walk.proofs.Found.{Case, is-true, is-false, case, bound, given, place-found}
 use Rattle.model_parts.specs.declared.Section.{Section}
+use Rattle.model_parts.specs.Parts.{section}
 use Rattle.model_parts.specs.Stand.{Reads}
 use Rattle.model_order.specs.Order.{place-from, Fixed}
 use Rattle.model_order.proofs.Places.{same-place, texts-ascend, text-at, fixed-at, fixed-texts}
 use Rattle.model_index.specs.declared.Index.{Index}
 use Rattle.model_index.specs.declared.File.{File}
 use Rattle.model_index.specs.declared.Status.the-variants as status
-use Rattle.model_index.specs.Index.{refusedW}
+use Rattle.model_index.specs.declared.Outline.{Outline}
+use Rattle.model_index.specs.Index.{refusedW, wholeW, index-of, file-of}
+use Rattle.model_index.proofs.Laws as index
 use Rattle.model_index.specs.Indexed.{Holds, Indexed, Says}
 use Rattle.model_check.specs.declared.Checked.{Checked}
 use Rattle.model_check.specs.declared.Checked.the-variants as checked
-use Rattle.model_check.specs.Checks.{Declaration, refuse-if}
+use Rattle.model_check.specs.declared.Declared.{Declared}
+use Rattle.model_check.specs.Checks.{Declaration, declaration, refuse-if}
 use Rattle.model_check.proofs.Laws as checks
 use Rattle.model_check.proofs.Agrees.{after, and-assoc, accept-and, next, next-and, refuse-if-is, Grounded}
 use Rattle.model_validate.specs.declared.Validity.the-variants as validity
@@ -298,3 +302,34 @@ module _ (s : List ℕ) (file : File) where
           let y : status.Refused k ≡ status.Refused i = sym e ∙ refused-status i h in
           let same : k ≡ i = cc in
           z ∙ ap refused (sym same)
+
+-- the same of an outline and its positions
+module _ (o : Outline) (t e v i a g r : List ℕ) where
+  pub is-read : o .status ≡ status.Read → file-of o t e v i a g r .status ≡ status.Read
+  is-read h = ap (λ (f : File). f .status) (index.file-read o t e v i a g r h)
+
+  pub is-refusal : {k : ℕ} → o .status ≡ status.Refused k → file-of o t e v i a g r .status ≡ status.Refused k
+  unfolding refusedW
+  is-refusal h = ap (λ (f : File). f .status) (index.file-refused o t e v i a g r h)
+
+  module _ (s : List ℕ) (says : Says s (file-of o t e v i a g r) (decode s)) where
+    pub outline-refused : {k : ℕ} → o .status ≡ status.Refused k → Says s (file-of o t e v i a g r) (accepted s)
+    outline-refused h = stays-refused s (file-of o t e v i a g r) says (is-refusal h)
+
+    module _ (h : o .status ≡ status.Read) {d : Declared} {x : Checked}
+        (c : x ≡ modelC (declaration d e) (numbers-of (index-of (o .front) t e v i (section (o .alphabet) a) (section (o .gaps) g) (o .limits) (section (o .rules) r))) v i a g r s)
+        (f : d ≡ declared-in s (o .front .texts .count) (o .front .entities .count)) where
+      abbrev ii : Index
+      ii = index-of (o .front) t e v i (section (o .alphabet) a) (section (o .gaps) g) (o .limits) (section (o .rules) r)
+
+      read-says : Says s (wholeW ii) (decode s)
+      read-says = subst (λ (y : File). Says s y (decode s)) (index.file-read o t e v i a g r h) says
+
+      pub outline-accepted : {p n : ℕ} → x ≡ checked.To p n → Says s (file-of o t e v i a g r) (accepted s)
+      outline-accepted k = subst (λ (y : File). Says s y (accepted s)) (sym (index.file-read o t e v i a g r h)) (is-accepted s (wholeW ii) refl (laws.model-with s ii c f) read-says k)
+
+      pub outline-checked : {k : ℕ} → x ≡ checked.Refused k → (u : Outline) → u .status ≡ status.Refused k → Says s (file-of u t e v i a g r) (accepted s)
+      outline-checked k u m = is-refused s (wholeW ii) refl (laws.model-with s ii c f) read-says k (index.file-refused u t e v i a g r m)
+
+pub file-says : (s : List ℕ) {f x : File} → f ≡ x → Says s x (accepted s) → Says s f (accepted s)
+file-says s e h = subst (λ (y : File). Says s y (accepted s)) (sym e) h

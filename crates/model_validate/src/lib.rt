@@ -2,12 +2,15 @@
 use model_check::Checked;
 use model_check::Declared;
 use model_index::File;
+use model_index::Outline;
 use model_index::Status;
 use model_sections::Part;
 use model_walk::Num;
 ghost use mathlib.Core.Path.{_≡_};
 ghost use Prim.Native.Nat.{_≤_};
 ghost use Rattle.model.specs.Validate.{accepted, bad-limits};
+ghost use Rattle.model_parts.specs.Parts.{none};
+ghost use Rattle.model_index.specs.Index.{file-of, Zeros};
 ghost use Rattle.model_index.specs.Indexed.{Says};
 ghost use Rattle.model_check.specs.Checks.{declaration};
 ghost use Rattle.model_validate.specs.Whole.{title-bad, size-bad, limits-bad, alphabet-bad, ordersC, Small, sectionsC, modelC, declared-in};
@@ -182,17 +185,17 @@ fn sections_check(
     model_sections::section_check(s, d, entities, Part::Rule, rules, numbers.rules, n4)
 }
 
-// All of it; the positions of the six sections are lent out of one index.
-fn whole_check<'a>(
+// All of it.
+fn whole_check(
     s: &[u8],
     d: Declared,
     numbers: Numbers,
-    entities: &'a [usize; 100],
-    events: &'a [usize; 100],
-    invariants: &'a [usize; 100],
-    alphabet: &'a [usize; 100],
-    gaps: &'a [usize; 100],
-    rules: &'a [usize; 100],
+    entities: &[usize; 100],
+    events: &[usize; 100],
+    invariants: &[usize; 100],
+    alphabet: &[usize; 100],
+    gaps: &[usize; 100],
+    rules: &[usize; 100],
 ) -> Checked
     ensures { λ r. ⌜ r ≡ modelC (declaration d (now (entities .entry))) numbers (now (events .entry)) (now (invariants .entry)) (now (alphabet .entry)) (now (gaps .entry)) (now (rules .entry)) (now (s .entry)) ⌝ }
 {
@@ -226,49 +229,119 @@ fn declared(s: &[u8], texts: u32, entities: u32) -> Declared
     }
 }
 
+// Reads a file and checks its model: the outline and the positions of a model that is accepted, or the refusal. The arrays
+// are all zeros before.
+fn examine(
+    s: &[u8],
+    texts: &mut [usize; 100],
+    entities: &mut [usize; 100],
+    events: &mut [usize; 100],
+    invariants: &mut [usize; 100],
+    alphabet: &mut [usize; 100],
+    gaps: &mut [usize; 100],
+    rules: &mut [usize; 100],
+) -> Outline
+    requires { ⌜ (now texts ≡ none) × (Zeros (now entities) (now events) (now invariants) × Zeros (now alphabet) (now gaps) (now rules)) ⌝ }
+    ensures { λ r. ⌜ Says (now (s .entry)) (file-of r (now (texts .exit)) (now (entities .exit)) (now (events .exit)) (now (invariants .exit)) (now (alphabet .exit)) (now (gaps .exit)) (now (rules .exit))) (accepted (now (s .entry))) ⌝ }
+{
+    let x = model_index::read(
+        s,
+        texts,
+        entities,
+        events,
+        invariants,
+        alphabet,
+        gaps,
+        rules,
+    );
+    let status = x.status;
+    match status {
+        Status::Refused(_) => x,
+        Status::Read => {
+            let numbers = Numbers {
+                version: x.front.version,
+                title: x.front.title,
+                limits: x.limits,
+                events: x.front.events.count,
+                invariants: x.front.invariants.count,
+                alphabet: x.alphabet.count,
+                gaps: x.gaps.count,
+                rules: x.rules.count,
+            };
+            let d = declared(s, x.front.texts.count, x.front.entities.count);
+            let y = whole_check(
+                s,
+                d,
+                numbers,
+                entities,
+                events,
+                invariants,
+                alphabet,
+                gaps,
+                rules,
+            );
+            match y {
+                Checked::To(_, _) => x,
+                Checked::Refused(number) => model_index::refusal(number),
+            }
+        }
+    }
+}
+
 // The index of a file whose model is accepted, or the refusal.
 pub fn accept(s: &[u8]) -> File
     ensures { λ r. ⌜ Says (now (s .entry)) r (accepted (now (s .entry))) ⌝ }
 {
-    let file = model_index::read(s);
-    let status = file.status;
-    match status {
-        Status::Refused(_) => file,
-        Status::Read => {
-            let numbers = Numbers {
-                version: file.index.version,
-                title: file.index.title,
-                limits: file.index.limits,
-                events: file.index.events.count,
-                invariants: file.index.invariants.count,
-                alphabet: file.index.alphabet.count,
-                gaps: file.index.gaps.count,
-                rules: file.index.rules.count,
-            };
-            let x = whole_check(
-                s,
-                declared(s, file.index.texts.count, file.index.entities.count),
-                numbers,
-                &file.index.entities.starts,
-                &file.index.events.starts,
-                &file.index.invariants.starts,
-                &file.index.alphabet.starts,
-                &file.index.gaps.starts,
-                &file.index.rules.starts,
-            );
-            match x {
-                Checked::To(_, _) => file,
-                Checked::Refused(number) => model_index::refused(number),
-            }
-        }
-    }
+    let mut texts = [0usize; 100];
+    let mut entities = [0usize; 100];
+    let mut events = [0usize; 100];
+    let mut invariants = [0usize; 100];
+    let mut alphabet = [0usize; 100];
+    let mut gaps = [0usize; 100];
+    let mut rules = [0usize; 100];
+    let x = examine(
+        s,
+        &mut texts,
+        &mut entities,
+        &mut events,
+        &mut invariants,
+        &mut alphabet,
+        &mut gaps,
+        &mut rules,
+    );
+    model_index::file_of(
+        x,
+        &texts,
+        &entities,
+        &events,
+        &invariants,
+        &alphabet,
+        &gaps,
+        &rules,
+    )
 }
 
 // Whether a model file is accepted, or the number of its refusal.
 pub fn validate(file: &[u8]) -> Validity
     ensures { λ r. ⌜ r ≡ validated (now (file .entry)) ⌝ }
 {
-    let x = accept(file);
+    let mut texts = [0usize; 100];
+    let mut entities = [0usize; 100];
+    let mut events = [0usize; 100];
+    let mut invariants = [0usize; 100];
+    let mut alphabet = [0usize; 100];
+    let mut gaps = [0usize; 100];
+    let mut rules = [0usize; 100];
+    let x = examine(
+        file,
+        &mut texts,
+        &mut entities,
+        &mut events,
+        &mut invariants,
+        &mut alphabet,
+        &mut gaps,
+        &mut rules,
+    );
     let status = x.status;
     match status {
         Status::Read => Validity::Accepted,

@@ -1,28 +1,33 @@
-use borrow.Author.Needs.{needs}
 use mathlib.Core.Path.{sym, _∙_}
 use Rattle.model_index.proofs.Laws as laws
-use Rattle.model_walk.proofs.Laws as walks
+use Rattle.model_index.proofs.Whole.{says}
+use borrow.Author.Needs.{needs}
 use Rattle.model_index.proofs.read.Statement.{statement}
 use Rattle.model_index.proofs.read.Tie as tie
-use Rattle.model_index.proofs.Whole.{says}
+use Rattle.model_index.proofs.read.Reads as reads
+use Rattle.model_index.proofs.read.Lts as lts
+use Rattle.model_index.proofs.body_at.Reads as body-at-reads
+use Rattle.model_index.proofs.refusal.Reads as refusal-reads
+use Rattle.model_order.proofs.texts_at.Reads as texts-at-reads
+use Rattle.model_parts.proofs.section_into.Reads as section-into-reads
+use Rattle.model_walk.proofs.u32_at.Reads as u32-at-reads
 
 pub read-spec : {M : Type 1} → statement M
 read-spec =
     tie.close
     (tie.spec
     (λ c κs. search needs)
-    (λ c. says _ (c .refused .ensures ∙ sym (laws.too-long _ (c .before .if1 .taken))))
+    (λ c. says _ (laws.file-refused _ _ _ _ _ _ _ _ (c .refusal .ensures) ∙ sym (laws.too-long _ (c .before .if1 .taken))))
     (λ c κs. search needs)
     (λ c. search needs)
     (λ c. search needs)
     (λ c κs. search needs)
-    (λ c. says _ (c .refused2 .ensures ∙ sym (laws.no-version _ (c .before .before .before .before .if1 .left) (c .before .before .before .u32-at .ensures) (c .before .enum-told .given .1))))
+    (λ c. says _ (laws.file-refused _ _ _ _ _ _ _ _ (c .refusal2 .ensures) ∙ sym (laws.no-version _ (c .before .before .before .before .if1 .left) (c .before .before .before .u32-at .ensures) (c .before .enum-told .given .1))))
     (λ c κs. search needs)
     (λ c. search needs)
     (λ c. search needs)
     (λ c κs. search needs)
-    (λ c. says _ (c .refused3 .ensures ∙ sym (laws.version-is _ (c .before .before .before .before .before .before .before .before .if1 .left) (c .before .before .before .before .before .before .before .u32-at .ensures) (c .before .before .before .before .before .x .given .1) ∙ laws.on-broken _ _ (c .before .before .before .texts-at .ensures) (c .before .enum-told2 .given .1))))
+    (λ c. says _ (laws.file-refused _ _ _ _ _ _ _ _ (c .refusal3 .ensures) ∙ sym (laws.version-is _ (c .before .before .before .before .before .before .before .before .if1 .left) (c .before .before .before .before .before .before .before .u32-at .ensures) (c .before .before .before .before .before .x .given .1) ∙ laws.on-broken _ _ (c .before .before .before .texts-at .ensures) (c .before .enum-told2 .given .1))))
     (λ c κs. search needs)
     (λ c κs. search needs)
-    (λ c. says _ (c .body-at .ensures ∙ sym (laws.version-is _ (c .before .before .before .before .before .before .before .before .before .before .if1 .left) (c .before .before .before .before .before .before .before .before .before .u32-at .ensures) (c .before .before .before .before .before .before .before .x .given .1) ∙ laws.on-to _ _ (c .before .before .before .before .before .texts-at .ensures) (c .before .before .before .a .given .1) ∙ laws.given-is _ _ (c .before .section-at .ensures))))
-    )
+    (λ c. says _ (c .body-at .ensures _ ∙ sym (laws.version-is _ (c .before .before .before .before .before .before .before .before .before .before .before .before .before .before .before .before .before .if1 .left) (c .before .before .before .before .before .before .before .before .before .before .before .before .before .before .before .before .u32-at .ensures) (c .before .before .before .before .before .before .before .before .before .before .before .before .before .before .x .given .1) ∙ laws.on-to _ _ (c .before .before .before .before .before .before .before .before .before .before .before .before .texts-at .ensures) (c .before .before .before .before .before .before .before .before .before .before .a .given .1) ∙ laws.given-is _ _ (c .before .before .before .before .before .before .before .section-into .ensures)))))

@@ -1,0 +1,26 @@
+use Rattle.model_validate.proofs.Agrees as agrees
+use borrow.Author.Needs.{needs}
+use Rattle.model_validate.proofs.examine.Statement.{statement}
+use Rattle.model_validate.proofs.examine.Tie as tie
+use Rattle.model_validate.proofs.examine.Reads as reads
+use Rattle.model_validate.proofs.examine.Lts as lts
+use Rattle.model_index.proofs.read.Reads as read-reads
+use Rattle.model_index.proofs.refusal.Reads as refusal-reads
+use Rattle.model_validate.proofs.declared.Reads as declared-reads
+use Rattle.model_validate.proofs.whole_check.Reads as whole-check-reads
+
+pub examine-spec : {M : Type 1} → statement M
+examine-spec =
+    tie.close
+    (tie.spec
+    (λ c κs. search needs)
+    (λ c. search needs)
+    (λ c. search needs)
+    (λ c κs. search needs)
+    (λ c κs. search needs)
+    (λ c. search needs)
+    (λ c. search needs)
+    (λ c κs. search needs)
+    (λ c. agrees.outline-refused _ _ _ _ _ _ _ _ _ (c .before .before .read .ensures) (c .enum-told .given .1))
+    (λ c. agrees.outline-accepted _ _ _ _ _ _ _ _ _ (c .before .before .before .before .before .before .before .before .before .before .before .before .read .ensures) (c .before .before .before .before .before .before .before .before .before .before .enum-told2 .given .1) (c .before .before .whole-check .ensures) (c .before .before .before .before .before .before .before .before .before .declared .ensures) (c .enum-told3 .given .1))
+    (λ c. agrees.outline-checked _ _ _ _ _ _ _ _ _ (c .before .before .before .before .before .before .before .before .before .before .before .before .before .before .read .ensures) (c .before .before .before .before .before .before .before .before .before .before .before .before .enum-told2 .given .1) (c .before .before .before .before .whole-check .ensures) (c .before .before .before .before .before .before .before .before .before .before .before .declared .ensures) (c .before .before .y .given .1) _ (c .refusal .ensures)))
