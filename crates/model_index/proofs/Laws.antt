@@ -21,7 +21,7 @@ use Rattle.model_index.specs.declared.Status.{Status}
 use Rattle.model_index.specs.declared.Status.the-variants as status
 use Rattle.model_index.specs.declared.Index.{Index}
 use Rattle.model_index.specs.declared.Outline.{Outline}
-use Rattle.model_index.specs.Index.{empty, refusedW, wholeW, index-of, file-of, on, on-section, given, closed, restW, bodyW, readW}
+use Rattle.model_index.specs.Index.{empty, refusedW, refusalW, wholeW, index-of, file-of, on, on-section, given, closed, restW, bodyW, readW}
 
 module _ (w : Walked) (f : ℕ → ℕ → File) {x : Walked} (e : x ≡ w) where
   pub on-to : {p n : ℕ} → x ≡ walked.To p n → on w f ≡ f p n
@@ -68,6 +68,9 @@ module _ (o : Outline) (t e v i a g r : List ℕ) where
   pub file-refused : {k : ℕ} → o .status ≡ status.Refused k → file-of o t e v i a g r ≡ refusedW k
   unfolding file-of
   file-refused h = rw (h, file-of)
+
+  pub file-refusal : {k : ℕ} → o ≡ refusalW k → file-of o t e v i a g r ≡ refusedW k
+  file-refusal h = file-refused (ap (λ (x : Outline). x .status) h)
 
   pub file-read : o .status ≡ status.Read → file-of o t e v i a g r ≡ wholeW (index-of (o .front) t e v i (section (o .alphabet) a) (section (o .gaps) g) (o .limits) (section (o .rules) r))
   unfolding file-of

@@ -11,6 +11,7 @@ use Rattle.model_walk.specs.declared.Walked.{Walked}
 use Rattle.model_walk.specs.declared.Walked.the-variants as walked
 use Rattle.model_walk.specs.Walk.{placeW, bytesW}
 use Rattle.model_parts.specs.declared.Section.{Section}
+use Rattle.model_parts.specs.declared.Extent.{Extent}
 use Rattle.model_parts.specs.declared.Part.the-variants as part
 use Rattle.model_parts.specs.Parts.{partW, none, sectionW, section}
 use Rattle.model_order.specs.Order.{ascendingW, textsW}
@@ -38,6 +39,20 @@ refusedW n = record {
     limits = 0;
     rules = empty;
   };
+}
+
+abbrev pub no-extent : Extent
+no-extent = record { count = 0; end = walked.Broken }
+
+-- the outline of a refused file
+abbrev pub refusalW : ℕ → Outline
+refusalW n = record {
+  status = status.Refused n;
+  front = record { version = 0; texts = no-extent; title = 0; entities = no-extent; events = no-extent; invariants = no-extent };
+  alphabet = no-extent;
+  gaps = no-extent;
+  limits = 0;
+  rules = no-extent;
 }
 
 abbrev pub wholeW : Index → File

@@ -9,7 +9,7 @@ ghost use mathlib.Core.List.{List};
 ghost use Prim.Native.Nat.{ℕ};
 ghost use Rattle.model.specs.File.{decode};
 ghost use Rattle.model_parts.specs.Parts.{none, section};
-ghost use Rattle.model_index.specs.Index.{empty, refusedW, index-of, file-of, Zeros, restW, bodyW};
+ghost use Rattle.model_index.specs.Index.{empty, refusedW, refusalW, index-of, file-of, Zeros, restW, bodyW};
 ghost use Rattle.model_index.specs.Indexed.{Says};
 
 // Where the parts of a model file stand.
@@ -92,7 +92,7 @@ pub fn refused(number: u32) -> File
 
 // The outline of a refused file.
 pub fn refusal(number: u32) -> Outline
-    ensures { λ r. ⌜ r .status ≡ Status.Refused number ⌝ }
+    ensures { λ r. ⌜ r ≡ refusalW number ⌝ }
 {
     let x = Extent {
         count: 0,
@@ -116,6 +116,7 @@ pub fn refusal(number: u32) -> Outline
     }
 }
 
+// A section from its extent and its positions.
 fn section(x: Extent, starts: &[usize; 100]) -> Section
     ensures { λ r. ⌜ r ≡ section x (now (starts .entry)) ⌝ }
 {

@@ -26,7 +26,7 @@ use Rattle.model_index.specs.declared.Index.{Index}
 use Rattle.model_index.specs.declared.File.{File}
 use Rattle.model_index.specs.declared.Status.the-variants as status
 use Rattle.model_index.specs.declared.Outline.{Outline}
-use Rattle.model_index.specs.Index.{refusedW, wholeW, index-of, file-of}
+use Rattle.model_index.specs.Index.{refusedW, refusalW, wholeW, index-of, file-of}
 use Rattle.model_index.proofs.Laws as index
 use Rattle.model_index.specs.Indexed.{Holds, Indexed, Says}
 use Rattle.model_check.specs.declared.Checked.{Checked}
@@ -328,8 +328,8 @@ module _ (o : Outline) (t e v i a g r : List ℕ) where
       pub outline-accepted : {p n : ℕ} → x ≡ checked.To p n → Says s (file-of o t e v i a g r) (accepted s)
       outline-accepted k = subst (λ (y : File). Says s y (accepted s)) (sym (index.file-read o t e v i a g r h)) (is-accepted s (wholeW ii) refl (laws.model-with s ii c f) read-says k)
 
-      pub outline-checked : {k : ℕ} → x ≡ checked.Refused k → (u : Outline) → u .status ≡ status.Refused k → Says s (file-of u t e v i a g r) (accepted s)
-      outline-checked k u m = is-refused s (wholeW ii) refl (laws.model-with s ii c f) read-says k (index.file-refused u t e v i a g r m)
+      pub outline-checked : {k : ℕ} → x ≡ checked.Refused k → (u : Outline) → u ≡ refusalW k → Says s (file-of u t e v i a g r) (accepted s)
+      outline-checked k u m = is-refused s (wholeW ii) refl (laws.model-with s ii c f) read-says k (index.file-refusal u t e v i a g r m)
 
 pub file-says : (s : List ℕ) {f x : File} → f ≡ x → Says s x (accepted s) → Says s f (accepted s)
 file-says s e h = subst (λ (y : File). Says s y (accepted s)) (sym e) h
