@@ -15,9 +15,9 @@ use Rattle.reasons.proofs.Listing as listing
 use Rattle.engine_reads.specs.Reads.{alone}
 use Rattle.engine_entry.specs.declared.Simulation.{Simulation}
 use Rattle.engine_entry.specs.declared.Summary.{Summary}
-use Rattle.engine_entry.specs.Answers.{ground, no-simulation, simulation-of}
+use Rattle.engine.specs.Memory.{Lent}
+use Rattle.engine_entry.specs.Answers.{Ground, ground, no-simulation, simulation-of}
 use Rattle.engine_entry.specs.Parts.{Few, Ran}
-use Rattle.engine_entry.specs.Parts as engine
 use Rattle.checker_verdict.specs.declared.Counts.{Counts}
 use Rattle.checker_verdict.specs.Verdict.{brokenV, GathersAll}
 use Rattle.checker_verdict.proofs.Laws.{all-many}
@@ -26,8 +26,8 @@ use Rattle.checker_entry.specs.declared.Status.the-variants as status
 use Rattle.checker_entry.specs.declared.CheckResult.{CheckResult}
 use Rattle.checker_entry.specs.declared.Judgement.{Judgement}
 use Rattle.checker_entry.specs.declared.Shared.{Shared}
-use Rattle.checker_entry.specs.Answers.{no-check, result-of}
-use Rattle.checker_entry.specs.Parts.{Fits, statusV, stoppedR, leftR, Starts, Ends, startV, Judged, Checked, Answered}
+use Rattle.checker_entry.specs.Answers.{no-check, result-of, Checks}
+use Rattle.checker_entry.specs.Parts.{Fits, statusV, stoppedR, leftR, Starts, Ends, startV, Judged, Checked, Answered, Whole}
 
 -- ---- the status
 
@@ -155,13 +155,23 @@ module _ {f x starts w : List ℕ} {h : Shared} {events : List ℕ} {n : ℕ} {s
         full = λ k. absurd (k (ap (λ (i : Summary). i .refused) (j .simulation) ∙ z));
       }
 
-module _ {c r : CheckResult} where
-  pub told-full : (c .simulation .refused ≡ 0 → ⊥) → r ≡ no-check (c .simulation .refused) → Answered c r
-  told-full z e = record { done = λ y. absurd (z y); full = λ y. e }
+pub settled-full : {c r : CheckResult} → (c .simulation .refused ≡ 0 → ⊥) → r ≡ no-check (c .simulation .refused) → Answered c r
+settled-full z e = record { done = λ y. absurd (z y); full = λ y. e }
 
-pub told-done : (j : Judgement) {v us ws w : List ℕ} → j .simulation .refused ≡ 0 → {s : Simulation} → engine.Answered (simulation-of (j .simulation) w) s →
-    Answered (result-of j v us ws w) (record { status = j .status; violations = j .violations; violated = v; unknown = j .unknown; unknowns = us; incomplete = j .incomplete; incompletes = ws; simulation = s })
-told-done j {v} {us} {ws} {w} z e = record {
-  done = λ y. ap (λ (s : Simulation). record { status = j .status; violations = j .violations; violated = v; unknown = j .unknown; unknowns = us; incomplete = j .incomplete; incompletes = ws; simulation = s }) (e .done z);
-  full = λ y. absurd (y z);
-}
+pub settled-done : {c : CheckResult} → c .simulation .refused ≡ 0 → Answered c c
+settled-done z = record { done = λ y. refl; full = λ y. absurd (y z) }
+
+-- ---- the answer as one value
+
+pub with-lists-is : (j : Judgement) {v us ws w : List ℕ} {s : Simulation} → s ≡ simulation-of (j .simulation) w →
+    record { status = j .status; violations = j .violations; violated = v; unknown = j .unknown; unknowns = us; incomplete = j .incomplete; incompletes = ws; simulation = s } ≡ result-of j v us ws w
+with-lists-is j {v} {us} {ws} e =
+    ap (λ (s : Simulation). record { status = j .status; violations = j .violations; violated = v; unknown = j .unknown; unknowns = us; incomplete = j .incomplete; incompletes = ws; simulation = s }) e
+
+pub whole-as : {f starts : List ℕ} {many : ℕ} {g : Ground} {events : List ℕ} {n : ℕ} {r s : CheckResult} {q q' a a' u u' : List ℕ} → r ≡ s →
+    Whole f starts many g events n s q q' a a' u u' → Whole f starts many g events n r q q' a a' u u'
+whole-as {f} {starts} {many} {g} {events} {n} {r} {s} {q} {q'} {a} {a'} {u} {u'} e h =
+    subst (λ (y : CheckResult). Whole f starts many g events n y q q' a a' u u') (sym e) h
+
+pub checks-as : {f : List ℕ} {r s : CheckResult} {before after : Lent} → r ≡ s → Checks f s before after → Checks f r before after
+checks-as {f} {r} {s} {before} {after} e h = subst (λ (y : CheckResult). Checks f y before after) (sym e) h

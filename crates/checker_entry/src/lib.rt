@@ -231,24 +231,176 @@ pub fn check_events(
     )
 }
 
-// ---- a check with all that it tells
+// ---- the answer in lent arrays
 
-// A refusal is nothing but its number.
-fn told(
+// A refusal is nothing but its number: the lists and the words of the reasons are cleared.
+pub fn refused_judgement(
+    number: u32,
+    reasons: &mut [u32; 1500],
+    violated: &mut [u64; 256],
+    unknowns: &mut [u32; 2000],
+    incompletes: &mut [u32; 200],
+) -> Judgement
+    ensures { λ r. ⌜ result-of r (now (violated .exit)) (now (unknowns .exit)) (now (incompletes .exit)) (now (reasons .exit)) ≡ no-check number ⌝ }
+{
+    let simulation = engine_entry::refused_summary(number, reasons);
+    *violated = [0u64; 256];
+    *unknowns = [0u32; 2000];
+    *incompletes = [0u32; 200];
+    Judgement {
+        status: Status::Refused(number),
+        violations: 0,
+        unknown: 0,
+        incomplete: 0,
+        simulation,
+    }
+}
+
+// What a check answers.
+fn settled(
+    j: Judgement,
+    reasons: &mut [u32; 1500],
+    violated: &mut [u64; 256],
+    unknowns: &mut [u32; 2000],
+    incompletes: &mut [u32; 200],
+) -> Judgement
+    ensures { λ r. ⌜ Answered (result-of j (now (violated .entry)) (now (unknowns .entry)) (now (incompletes .entry)) (now (reasons .entry))) (result-of r (now (violated .exit)) (now (unknowns .exit)) (now (incompletes .exit)) (now (reasons .exit))) ⌝ }
+{
+    let s = j.simulation;
+    if s.refused != 0 {
+        return refused_judgement(s.refused, reasons, violated, unknowns, incompletes);
+    }
+    j
+}
+
+// The check with the first n events, and its answer.
+pub fn check_settled(
+    file: &[u8],
+    table: &[u32; 436],
+    starts: &[usize; 100],
+    shared: Shared,
+    events: &[u32],
+    n: usize,
+    queue: &mut [u32],
+    records: &mut [u32],
+    runs: &mut [u32],
+    reasons: &mut [u32; 1500],
+    violated: &mut [u64; 256],
+    unknowns: &mut [u32; 2000],
+    incompletes: &mut [u32; 200],
+) -> Judgement
+    requires { ⌜ n * 4 ≤ length (now events) ⌝ }
+    ensures { λ r. ⌜ Whole (now (file .entry)) (now (starts .entry)) (shared .invariants) (ground (now (table .entry)) (shared .cells) (shared .notes) (now (reasons .entry))) (now (events .entry)) n (result-of r (now (violated .exit)) (now (unknowns .exit)) (now (incompletes .exit)) (now (reasons .exit))) (now (queue .entry)) (now (queue .exit)) (now (records .entry)) (now (records .exit)) (now (runs .entry)) (now (runs .exit)) ⌝ }
+{
+    let j = check_events(
+        file,
+        table,
+        starts,
+        shared,
+        events,
+        n,
+        queue,
+        records,
+        runs,
+        reasons,
+        violated,
+        unknowns,
+        incompletes,
+    );
+    settled(j, reasons, violated, unknowns, incompletes)
+}
+
+// The check of an accepted model with its own values and events.
+fn run(
+    file: &[u8],
+    index: Index,
+    queue: &mut [u32],
+    records: &mut [u32],
+    runs: &mut [u32],
+    reasons: &mut [u32; 1500],
+    violated: &mut [u64; 256],
+    unknowns: &mut [u32; 2000],
+    incompletes: &mut [u32; 200],
+) -> Judgement
+    ensures { λ r. ⌜ RunsAs (now (file .entry)) index (result-of r (now (violated .exit)) (now (unknowns .exit)) (now (incompletes .exit)) (now (reasons .exit))) (lent (now (queue .entry)) (now (records .entry)) (now (runs .entry))) (lent (now (queue .exit)) (now (records .exit)) (now (runs .exit))) ⌝ }
+{
+    let b = engine_entry::prepared(file, index, reasons);
+    let table = b.table;
+    let cells = b.cells;
+    let invariants = index.invariants;
+    let starts = invariants.starts;
+    let shared = Shared {
+        cells,
+        notes: b.count,
+        invariants: invariants.count,
+    };
+    let v = engine_begin::events_of(file, index);
+    let events = v.words;
+    let n = engine_reads::at_most(table[8], 100);
+    check_settled(
+        file,
+        &table,
+        &starts,
+        shared,
+        &events,
+        n,
+        queue,
+        records,
+        runs,
+        reasons,
+        violated,
+        unknowns,
+        incompletes,
+    )
+}
+
+// `check`, with its lists and the words of the simulation's reasons in lent arrays.
+pub fn check_lent(
+    file: &[u8],
+    queue: &mut [u32],
+    records: &mut [u32],
+    runs: &mut [u32],
+    reasons: &mut [u32; 1500],
+    violated: &mut [u64; 256],
+    unknowns: &mut [u32; 2000],
+    incompletes: &mut [u32; 200],
+) -> Judgement
+    ensures { λ r. ⌜ Checks (now (file .entry)) (result-of r (now (violated .exit)) (now (unknowns .exit)) (now (incompletes .exit)) (now (reasons .exit))) (lent (now (queue .entry)) (now (records .entry)) (now (runs .entry))) (lent (now (queue .exit)) (now (records .exit)) (now (runs .exit))) ⌝ }
+{
+    let x = model_validate::accept(file);
+    let status = x.status;
+    match status {
+        model_index::Status::Refused(number) => {
+            refused_judgement(number, reasons, violated, unknowns, incompletes)
+        }
+        model_index::Status::Read => run(
+            file,
+            x.index,
+            queue,
+            records,
+            runs,
+            reasons,
+            violated,
+            unknowns,
+            incompletes,
+        ),
+    }
+}
+
+// ---- the answer as one value
+
+pub fn with_lists(
     j: Judgement,
     reasons: &[u32; 1500],
     violations: &[u64; 256],
     unknown: &[u32; 2000],
     incomplete: &[u32; 200],
 ) -> CheckResult
-    ensures { λ r. ⌜ Answered (result-of j (now (violations .entry)) (now (unknown .entry)) (now (incomplete .entry)) (now (reasons .entry))) r ⌝ }
+    ensures { λ r. ⌜ r ≡ result-of j (now (violations .entry)) (now (unknown .entry)) (now (incomplete .entry)) (now (reasons .entry)) ⌝ }
 {
-    let s = j.simulation;
-    if s.refused != 0 {
-        return refused(s.refused);
-    }
     let status = j.status;
-    let simulation = engine_entry::told(s, reasons);
+    let s = j.simulation;
+    let simulation = engine_entry::with_reasons(s, reasons);
     let violated = *violations;
     let unknowns = *unknown;
     let incompletes = *incomplete;
@@ -264,7 +416,7 @@ fn told(
     }
 }
 
-// The check, as one answer.
+// The check with the first n events, as one value.
 pub fn check_whole(
     file: &[u8],
     table: &[u32; 436],
@@ -283,7 +435,7 @@ pub fn check_whole(
     let mut violated = [0u64; 256];
     let mut unknowns = [0u32; 2000];
     let mut incompletes = [0u32; 200];
-    let j = check_events(
+    let j = check_settled(
         file,
         table,
         starts,
@@ -298,55 +450,26 @@ pub fn check_whole(
         &mut unknowns,
         &mut incompletes,
     );
-    told(j, reasons, &violated, &unknowns, &incompletes)
-}
-
-// The check of an accepted model with its own values and events.
-fn run(
-    file: &[u8],
-    index: Index,
-    queue: &mut [u32],
-    records: &mut [u32],
-    runs: &mut [u32],
-) -> CheckResult
-    ensures { λ r. ⌜ RunsAs (now (file .entry)) index r (lent (now (queue .entry)) (now (records .entry)) (now (runs .entry))) (lent (now (queue .exit)) (now (records .exit)) (now (runs .exit))) ⌝ }
-{
-    let mut reasons = [0u32; 1500];
-    let b = engine_entry::prepared(file, index, &mut reasons);
-    let table = b.table;
-    let cells = b.cells;
-    let invariants = index.invariants;
-    let starts = invariants.starts;
-    let shared = Shared {
-        cells,
-        notes: b.count,
-        invariants: invariants.count,
-    };
-    let v = engine_begin::events_of(file, index);
-    let events = v.words;
-    let n = engine_reads::at_most(table[8], 100);
-    check_whole(
-        file,
-        &table,
-        &starts,
-        shared,
-        &events,
-        n,
-        queue,
-        records,
-        runs,
-        &mut reasons,
-    )
+    with_lists(j, reasons, &violated, &unknowns, &incompletes)
 }
 
 // The check of a model file, with lent areas of any size.
 pub fn check(file: &[u8], queue: &mut [u32], records: &mut [u32], runs: &mut [u32]) -> CheckResult
     ensures { λ r. ⌜ Checks (now (file .entry)) r (lent (now (queue .entry)) (now (records .entry)) (now (runs .entry))) (lent (now (queue .exit)) (now (records .exit)) (now (runs .exit))) ⌝ }
 {
-    let x = model_validate::accept(file);
-    let status = x.status;
-    match status {
-        model_index::Status::Refused(number) => refused(number),
-        model_index::Status::Read => run(file, x.index, queue, records, runs),
-    }
+    let mut reasons = [0u32; 1500];
+    let mut violated = [0u64; 256];
+    let mut unknowns = [0u32; 2000];
+    let mut incompletes = [0u32; 200];
+    let j = check_lent(
+        file,
+        queue,
+        records,
+        runs,
+        &mut reasons,
+        &mut violated,
+        &mut unknowns,
+        &mut incompletes,
+    );
+    with_lists(j, &reasons, &violated, &unknowns, &incompletes)
 }

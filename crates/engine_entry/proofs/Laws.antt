@@ -11,7 +11,8 @@ use Rattle.engine_run.specs.Run as run
 use Rattle.engine_run.specs.declared.Simulation.{Simulation as Run}
 use Rattle.engine_entry.specs.declared.Simulation.{Simulation}
 use Rattle.engine_entry.specs.declared.Summary.{Summary}
-use Rattle.engine_entry.specs.Answers.{Ground, no-simulation, simulation-of}
+use Rattle.engine.specs.Memory.{Lent}
+use Rattle.engine_entry.specs.Answers.{Ground, no-simulation, simulation-of, Simulates}
 use Rattle.engine_entry.specs.Parts.{Few, Firsts, ShownAs, Summed, Answered, Ran}
 
 -- ---- the first values
@@ -42,15 +43,14 @@ summed-so s n h vs f u = record {
 }
 
 module _ (s : Summary) (u : List ℕ) where
-  pub told-full : (s .refused ≡ 0 → ⊥) → (r : Simulation) → r ≡ no-simulation (s .refused) → Answered (simulation-of s u) r
-  told-full z r e = record { done = λ y. absurd (z y); full = λ y. e }
+  pub settled-full : (s .refused ≡ 0 → ⊥) → (r : Simulation) → r ≡ no-simulation (s .refused) → Answered (simulation-of s u) r
+  settled-full z r e = record { done = λ y. absurd (z y); full = λ y. e }
 
-  pub told-done : s .refused ≡ 0 →
-      Answered (simulation-of s u) (record { refused = 0; steps = s .steps; records = s .records; horizon = s .horizon; values = s .values; unknown = s .unknown; reasons = u; why = s .why; waiting = s .waiting })
-  told-done z = record {
-    done = λ y. ap (λ (n : ℕ). record { refused = n; steps = s .steps; records = s .records; horizon = s .horizon; values = s .values; unknown = s .unknown; reasons = u; why = s .why; waiting = s .waiting }) (sym z);
-    full = λ y. absurd (y z);
-  }
+  pub settled-done : s .refused ≡ 0 → Answered (simulation-of s u) (simulation-of s u)
+  settled-done z = record { done = λ y. refl; full = λ y. absurd (y z) }
+
+pub simulates-as : {f : List ℕ} {r s : Simulation} {before after : Lent} → r ≡ s → Simulates f s before after → Simulates f r before after
+simulates-as {f} {r} {s} {before} {after} e h = subst (λ (y : Simulation). Simulates f y before after) (sym e) h
 
 -- ---- a run
 

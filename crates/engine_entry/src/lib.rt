@@ -155,17 +155,41 @@ fn summed(s: engine_run::Simulation, entities: usize, horizon: u32) -> Summary
     }
 }
 
-// The answer, with the words of its reasons; a refusal is nothing but its number.
-pub fn told(b: Summary, words: &[u32; 1500]) -> Simulation
-    ensures { λ r. ⌜ Answered (simulation-of b (now (words .entry))) r ⌝ }
+// A refusal is nothing but its number; the words of the reasons are cleared.
+pub fn refused_summary(number: u32, words: &mut [u32; 1500]) -> Summary
+    ensures { λ r. ⌜ simulation-of r (now (words .exit)) ≡ no-simulation number ⌝ }
+{
+    *words = [0u32; 1500];
+    Summary {
+        refused: number,
+        steps: 0,
+        records: 0,
+        horizon: 0,
+        values: [0u32; 32],
+        unknown: 0,
+        why: 0,
+        waiting: false,
+    }
+}
+
+// What a simulation answers.
+fn settled(b: Summary, words: &mut [u32; 1500]) -> Summary
+    ensures { λ r. ⌜ Answered (simulation-of b (now (words .entry))) (simulation-of r (now (words .exit))) ⌝ }
 {
     if b.refused != 0 {
-        return refused(b.refused);
+        return refused_summary(b.refused, words);
     }
+    b
+}
+
+// The answer as one value, with the words of its reasons.
+pub fn with_reasons(b: Summary, words: &[u32; 1500]) -> Simulation
+    ensures { λ r. ⌜ r ≡ simulation-of b (now (words .entry)) ⌝ }
+{
     let values = b.values;
     let reasons = *words;
     Simulation {
-        refused: 0,
+        refused: b.refused,
         steps: b.steps,
         records: b.records,
         horizon: b.horizon,
@@ -221,18 +245,18 @@ pub fn run_events(
     summed(s, entities, table[2])
 }
 
-// The simulation of an accepted model with its own values and events.
+// The simulation of an accepted model with its own values and events; the words of its reasons go to `reasons`.
 fn run(
     file: &[u8],
     index: Index,
     queue: &mut [u32],
     records: &mut [u32],
     runs: &mut [u32],
-) -> Simulation
-    ensures { λ s. ⌜ RunsAs (now (file .entry)) index s (lent (now (queue .entry)) (now (records .entry)) (now (runs .entry))) (lent (now (queue .exit)) (now (records .exit)) (now (runs .exit))) ⌝ }
+    reasons: &mut [u32; 1500],
+) -> Summary
+    ensures { λ s. ⌜ RunsAs (now (file .entry)) index (simulation-of s (now (reasons .exit))) (lent (now (queue .entry)) (now (records .entry)) (now (runs .entry))) (lent (now (queue .exit)) (now (records .exit)) (now (runs .exit))) ⌝ }
 {
-    let mut reasons = [0u32; 1500];
-    let b = prepared(file, index, &mut reasons);
+    let b = prepared(file, index, reasons);
     let table = b.table;
     let cells = b.cells;
     let v = engine_begin::events_of(file, index);
@@ -248,19 +272,34 @@ fn run(
         queue,
         records,
         runs,
-        &mut reasons,
+        reasons,
     );
-    told(s, &reasons)
+    settled(s, reasons)
+}
+
+// `simulate`, with the words of the reasons in a lent array.
+pub fn simulate_lent(
+    file: &[u8],
+    queue: &mut [u32],
+    records: &mut [u32],
+    runs: &mut [u32],
+    reasons: &mut [u32; 1500],
+) -> Summary
+    ensures { λ s. ⌜ Simulates (now (file .entry)) (simulation-of s (now (reasons .exit))) (lent (now (queue .entry)) (now (records .entry)) (now (runs .entry))) (lent (now (queue .exit)) (now (records .exit)) (now (runs .exit))) ⌝ }
+{
+    let x = model_validate::accept(file);
+    let status = x.status;
+    match status {
+        Status::Refused(number) => refused_summary(number, reasons),
+        Status::Read => run(file, x.index, queue, records, runs, reasons),
+    }
 }
 
 // The simulation of a model file, with lent areas of any size.
 pub fn simulate(file: &[u8], queue: &mut [u32], records: &mut [u32], runs: &mut [u32]) -> Simulation
     ensures { λ s. ⌜ Simulates (now (file .entry)) s (lent (now (queue .entry)) (now (records .entry)) (now (runs .entry))) (lent (now (queue .exit)) (now (records .exit)) (now (runs .exit))) ⌝ }
 {
-    let x = model_validate::accept(file);
-    let status = x.status;
-    match status {
-        Status::Refused(number) => refused(number),
-        Status::Read => run(file, x.index, queue, records, runs),
-    }
+    let mut reasons = [0u32; 1500];
+    let s = simulate_lent(file, queue, records, runs, &mut reasons);
+    with_reasons(s, &reasons)
 }

@@ -11,6 +11,7 @@ use Rattle.checker_entry.specs.declared.Status.the-variants as status
 use Rattle.checker_entry.specs.declared.CheckResult.{CheckResult}
 use Rattle.search_entry.specs.declared.Found.{Found}
 use Rattle.search_entry.specs.declared.Found.the-variants as found
+use Rattle.search_entry.specs.declared.Searched.{Searched}
 use Rattle.search_entry.specs.declared.Verification.{Verification}
 use Rattle.reduce_entry.specs.declared.Minimized.{Minimized}
 use Rattle.lint_answer.specs.declared.Report.{Report}
@@ -69,6 +70,11 @@ refusalOf found.Inconclusive = 0
 unfoldable pub laidSearch : (head inputs seconds words told a : List ℕ) → List ℕ
 laidSearch head inputs seconds words told a =
     written (written (written (written (written a 0 head) 16 inputs) 52 seconds) 56 words) 76 told
+
+-- the numbers of a search, with its reasons' words
+unfoldable pub searchIn : Searched → (told a : List ℕ) → List ℕ
+searchIn v told a =
+    laidSearch (foundNumber (v .status) ∷ v .cases ∷ v .total ∷ v .depth ∷ v .horizon ∷ v .most ∷ v .steps ∷ v .alphabet ∷ v .gaps ∷ v .reasons ∷ flagOf (v .shortest) ∷ v .events ∷ v .written ∷ 0 ∷ 0 ∷ 0 ∷ []) (v .inputs) (v .seconds) (v .words) told a
 
 unfoldable pub verificationIn : Verification → List ℕ → List ℕ
 verificationIn v a =

@@ -1,22 +1,25 @@
 // The entries for C (include/fukhtsege.h): the answer goes as numbers into a lent slice, and the result is 0, the refusal's
 // number, or 47 if that slice is too short; then nothing else happens.
 use checker_entry::CheckResult;
+use checker_entry::Judgement;
 use checker_entry::Status;
 use cone_entry::ConeResult;
-use engine_entry::Simulation;
+use engine_entry::Summary;
 use lint_answer::Report;
 use model_validate::Validity;
 use reduce_entry::Minimized;
 use search_entry::Found;
-use search_entry::Verification;
+use search_entry::Searched;
 ghost use mathlib.Core.Path.{_≡_};
 ghost use Prim.Native.Nat.{_+_, _≤_};
 ghost use lib.ListN.{length};
 ghost use Rattle.areas.specs.Areas.{written};
-ghost use Rattle.engine_entry.specs.Answers.{lent};
+ghost use Rattle.engine_entry.specs.Answers.{lent, simulation-of};
+ghost use Rattle.checker_entry.specs.Answers.{result-of};
+ghost use Rattle.search_entry.specs.Answers.{whole-of};
 ghost use Rattle.lint.specs.Memory as lint;
 ghost use Rattle.model_validate.specs.Answers.{validated};
-ghost use Rattle.fukhtsege.specs.Numbers.{flagOf, statusNumber, foundNumber, refusalOf, validityNumber, laidSimulation, laidCheck, laidSearch, laidReduction, laidReport, laidCone, simulationIn, checkIn, verificationIn, minimizedIn, reportIn, coneIn};
+ghost use Rattle.fukhtsege.specs.Numbers.{flagOf, statusNumber, foundNumber, refusalOf, validityNumber, laidSimulation, laidCheck, laidSearch, laidReduction, laidReport, laidCone, simulationIn, checkIn, searchIn, verificationIn, minimizedIn, reportIn, coneIn};
 ghost use Rattle.fukhtsege.specs.Answers.{SimulatesC, ChecksC, VerifiesC, MinimizesC, LintsC, ConesC};
 
 // The result if the answer is too short.
@@ -73,12 +76,12 @@ pub extern "C" fn fukhtsege_validate(file: &[u8]) -> u32
 
 // ---- simulate
 
-fn lay_simulation<'a>(
+fn lay_simulation(
     out: &mut [u64],
     at: usize,
     head: &[u64; 8],
-    values: &'a [u32; 32],
-    reasons: &'a [u32; 1500],
+    values: &[u32; 32],
+    reasons: &[u32; 1500],
 )
     requires { ⌜ at + 1540 ≤ length (now out) ⌝ }
     ensures { λ _. ⌜ now (out .exit) ≡ laidSimulation at (now (head .entry)) (now (values .entry)) (now (reasons .entry)) (now (out .entry)) ⌝ }
@@ -88,9 +91,9 @@ fn lay_simulation<'a>(
     put_words(out, at + 40, reasons);
 }
 
-fn put_simulation(out: &mut [u64], at: usize, s: Simulation)
+fn put_simulation(out: &mut [u64], at: usize, s: Summary, reasons: &[u32; 1500])
     requires { ⌜ at + 1540 ≤ length (now out) ⌝ }
-    ensures { λ _. ⌜ now (out .exit) ≡ simulationIn at s (now (out .entry)) ⌝ }
+    ensures { λ _. ⌜ now (out .exit) ≡ simulationIn at (simulation-of s (now (reasons .entry))) (now (out .entry)) ⌝ }
 {
     let head = [
         wide(s.steps),
@@ -102,7 +105,7 @@ fn put_simulation(out: &mut [u64], at: usize, s: Simulation)
         0,
         0,
     ];
-    lay_simulation(out, at, &head, &s.values, &s.reasons);
+    lay_simulation(out, at, &head, &s.values, reasons);
 }
 
 #[no_mangle]
@@ -118,8 +121,9 @@ pub extern "C" fn fukhtsege_simulate(
     if answer.len() < 1540 {
         return SHORT_ANSWER;
     }
-    let s = engine_entry::simulate(file, queue, records, runs);
-    put_simulation(answer, 0, s);
+    let mut reasons = [0u32; 1500];
+    let s = engine_entry::simulate_lent(file, queue, records, runs, &mut reasons);
+    put_simulation(answer, 0, s, &reasons);
     s.refused
 }
 
@@ -137,13 +141,13 @@ fn status_number(status: Status) -> u64
     }
 }
 
-fn lay_check<'a>(
+fn lay_check(
     out: &mut [u64],
     at: usize,
     head: &[u64; 4],
-    violated: &'a [u64; 256],
-    unknowns: &'a [u32; 2000],
-    incompletes: &'a [u32; 200],
+    violated: &[u64; 256],
+    unknowns: &[u32; 2000],
+    incompletes: &[u32; 200],
 )
     requires { ⌜ at + 2460 ≤ length (now out) ⌝ }
     ensures { λ _. ⌜ now (out .exit) ≡ laidCheck at (now (head .entry)) (now (violated .entry)) (now (unknowns .entry)) (now (incompletes .entry)) (now (out .entry)) ⌝ }
@@ -154,20 +158,28 @@ fn lay_check<'a>(
     put_words(out, at + 2260, incompletes);
 }
 
-fn put_check(out: &mut [u64], at: usize, c: CheckResult)
+fn put_check(
+    out: &mut [u64],
+    at: usize,
+    j: Judgement,
+    reasons: &[u32; 1500],
+    violated: &[u64; 256],
+    unknowns: &[u32; 2000],
+    incompletes: &[u32; 200],
+)
     requires { ⌜ at + 4000 ≤ length (now out) ⌝ }
-    ensures { λ _. ⌜ now (out .exit) ≡ checkIn at c (now (out .entry)) ⌝ }
+    ensures { λ _. ⌜ now (out .exit) ≡ checkIn at (result-of j (now (violated .entry)) (now (unknowns .entry)) (now (incompletes .entry)) (now (reasons .entry))) (now (out .entry)) ⌝ }
 {
-    let status = c.status;
+    let status = j.status;
     let head = [
         status_number(status),
-        c.violations as u64,
-        c.unknown as u64,
-        c.incomplete as u64,
+        j.violations as u64,
+        j.unknown as u64,
+        j.incomplete as u64,
     ];
-    lay_check(out, at, &head, &c.violated, &c.unknowns, &c.incompletes);
-    let simulation = c.simulation;
-    put_simulation(out, at + 2460, simulation);
+    lay_check(out, at, &head, violated, unknowns, incompletes);
+    let s = j.simulation;
+    put_simulation(out, at + 2460, s, reasons);
 }
 
 #[no_mangle]
@@ -183,9 +195,22 @@ pub extern "C" fn fukhtsege_check(
     if answer.len() < 4000 {
         return SHORT_ANSWER;
     }
-    let c = checker_entry::check(file, queue, records, runs);
-    put_check(answer, 0, c);
-    let s = c.simulation;
+    let mut reasons = [0u32; 1500];
+    let mut violated = [0u64; 256];
+    let mut unknowns = [0u32; 2000];
+    let mut incompletes = [0u32; 200];
+    let j = checker_entry::check_lent(
+        file,
+        queue,
+        records,
+        runs,
+        &mut reasons,
+        &mut violated,
+        &mut unknowns,
+        &mut incompletes,
+    );
+    put_check(answer, 0, j, &reasons, &violated, &unknowns, &incompletes);
+    let s = j.simulation;
     s.refused
 }
 
@@ -213,13 +238,13 @@ fn refusal_of(status: Found) -> u32
     }
 }
 
-fn lay_search<'a>(
+fn lay_search(
     out: &mut [u64],
     head: &[u64; 16],
-    inputs: &'a [u32; 36],
-    seconds: &'a [u32; 4],
-    words: &'a [u32; 20],
-    told: &'a [u32; 2000],
+    inputs: &[u32; 36],
+    seconds: &[u32; 4],
+    words: &[u32; 20],
+    told: &[u32; 2000],
 )
     requires { ⌜ 2076 ≤ length (now out) ⌝ }
     ensures { λ _. ⌜ now (out .exit) ≡ laidSearch (now (head .entry)) (now (inputs .entry)) (now (seconds .entry)) (now (words .entry)) (now (told .entry)) (now (out .entry)) ⌝ }
@@ -231,9 +256,9 @@ fn lay_search<'a>(
     put_words(out, 76, told);
 }
 
-fn put_verification(out: &mut [u64], v: Verification)
-    requires { ⌜ 6076 ≤ length (now out) ⌝ }
-    ensures { λ _. ⌜ now (out .exit) ≡ verificationIn v (now (out .entry)) ⌝ }
+fn put_searched(out: &mut [u64], v: Searched, told: &[u32; 2000])
+    requires { ⌜ 2076 ≤ length (now out) ⌝ }
+    ensures { λ _. ⌜ now (out .exit) ≡ searchIn v (now (told .entry)) (now (out .entry)) ⌝ }
 {
     let status = v.status;
     let head = [
@@ -254,9 +279,27 @@ fn put_verification(out: &mut [u64], v: Verification)
         0,
         0,
     ];
-    lay_search(out, &head, &v.inputs, &v.seconds, &v.words, &v.told);
-    let check = v.check;
-    put_check(out, 2076, check);
+    let inputs = v.inputs;
+    let seconds = v.seconds;
+    let words = v.words;
+    lay_search(out, &head, &inputs, &seconds, &words, told);
+}
+
+fn put_verification(
+    out: &mut [u64],
+    v: Searched,
+    told: &[u32; 2000],
+    reasons: &[u32; 1500],
+    violated: &[u64; 256],
+    unknowns: &[u32; 2000],
+    incompletes: &[u32; 200],
+)
+    requires { ⌜ 6076 ≤ length (now out) ⌝ }
+    ensures { λ _. ⌜ now (out .exit) ≡ verificationIn (whole-of v (now (told .entry)) (now (violated .entry)) (now (unknowns .entry)) (now (incompletes .entry)) (now (reasons .entry))) (now (out .entry)) ⌝ }
+{
+    put_searched(out, v, told);
+    let j = v.check;
+    put_check(out, 2076, j, reasons, violated, unknowns, incompletes);
 }
 
 #[no_mangle]
@@ -273,8 +316,32 @@ pub extern "C" fn fukhtsege_verify(
     if answer.len() < 6076 {
         return SHORT_ANSWER;
     }
-    let v = search_entry::verify(file, queue, records, runs, output);
-    put_verification(answer, v);
+    let mut told = [0u32; 2000];
+    let mut reasons = [0u32; 1500];
+    let mut violated = [0u64; 256];
+    let mut unknowns = [0u32; 2000];
+    let mut incompletes = [0u32; 200];
+    let v = search_entry::verify_lent(
+        file,
+        queue,
+        records,
+        runs,
+        output,
+        &mut told,
+        &mut reasons,
+        &mut violated,
+        &mut unknowns,
+        &mut incompletes,
+    );
+    put_verification(
+        answer,
+        v,
+        &told,
+        &reasons,
+        &violated,
+        &unknowns,
+        &incompletes,
+    );
     let status = v.status;
     refusal_of(status)
 }
@@ -287,6 +354,38 @@ fn lay_reduction(out: &mut [u64], head: &[u64; 8], words: &[u32; 400])
 {
     put_numbers(out, 0, head);
     put_words(out, 8, words);
+}
+
+// A check as one value.
+fn put_result(out: &mut [u64], at: usize, c: CheckResult)
+    requires { ⌜ at + 4000 ≤ length (now out) ⌝ }
+    ensures { λ _. ⌜ now (out .exit) ≡ checkIn at c (now (out .entry)) ⌝ }
+{
+    let status = c.status;
+    let head = [
+        status_number(status),
+        c.violations as u64,
+        c.unknown as u64,
+        c.incomplete as u64,
+    ];
+    let violated = c.violated;
+    let unknowns = c.unknowns;
+    let incompletes = c.incompletes;
+    lay_check(out, at, &head, &violated, &unknowns, &incompletes);
+    let s = c.simulation;
+    let values = s.values;
+    let reasons = s.reasons;
+    let b = Summary {
+        refused: s.refused,
+        steps: s.steps,
+        records: s.records,
+        horizon: s.horizon,
+        values,
+        unknown: s.unknown,
+        why: s.why,
+        waiting: s.waiting,
+    };
+    put_simulation(out, at + 2460, b, &reasons);
 }
 
 fn put_minimized(out: &mut [u64], m: Minimized)
@@ -305,7 +404,7 @@ fn put_minimized(out: &mut [u64], m: Minimized)
     ];
     lay_reduction(out, &head, &m.words);
     let check = m.check;
-    put_check(out, 408, check);
+    put_result(out, 408, check);
 }
 
 #[no_mangle]

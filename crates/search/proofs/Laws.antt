@@ -10,7 +10,6 @@ use Rattle.reasons.specs.Lists.{reasons, listed, insertAll, Holds}
 use Rattle.reasons.specs.Reasons.{render}
 use Rattle.reasons.specs.declared.Reason.{Reason}
 use Rattle.reasons.proofs.Listing as listing
-use Rattle.model_index.specs.declared.Index.{Index}
 use Rattle.engine_reads.specs.Reads.{four, cap, alone}
 use Rattle.checker_verdict.proofs.Laws.{all-many}
 use Rattle.search_inputs.specs.declared.Alphabet.{Alphabet}
@@ -20,9 +19,9 @@ use Rattle.search_inputs.specs.Inputs.{lastV, Placing}
 use Rattle.search.specs.declared.Plan.{Plan}
 use Rattle.search.specs.Parts.{AtMost, limitV, Fitted, Gathers, nextAt, Nexts}
 
-pub limit-is : (f : List ℕ) (i : Index) (k : ℕ) {p r : ℕ} → p ≡ cap (i .limits) → r ≡ four f (p + k) → r ≡ limitV f i k
+pub limit-is : (f : List ℕ) (at k : ℕ) {p r : ℕ} → p ≡ cap at → r ≡ four f (p + k) → r ≡ limitV f at k
 unfolding limitV
-limit-is f i k e h = h ∙ ap (λ (p : ℕ). four f (p + k)) e
+limit-is f at k e h = h ∙ ap (λ (p : ℕ). four f (p + k)) e
 
 -- ---- reasons
 

@@ -27,8 +27,8 @@ pub record AtMost (n m r : ℕ) : Type 0 where
 -- ---- what a search goes by
 
 -- a limit of the model: 0 horizon, 4 steps, 8 depth, 12 cases
-unfoldable pub limitV : List ℕ → Index → (k : ℕ) → ℕ
-limitV f i k = four f (cap (i .limits) + k)
+unfoldable pub limitV : List ℕ → (limits k : ℕ) → ℕ
+limitV f at k = four f (cap at + k)
 
 pub record Plans (f : List ℕ) (i : Index) (c : Cells) (notes : ℕ) (p : Plan) : Type 0 where
   pub cells : p .shared .cells ≡ c
@@ -36,8 +36,8 @@ pub record Plans (f : List ℕ) (i : Index) (c : Cells) (notes : ℕ) (p : Plan)
   pub invariants : p .shared .invariants ≡ i .invariants .count
   pub alphabet : AlphabetOf f i (p .alphabet)
   pub gaps : GapsOf f i (p .gaps)
-  pub horizon : p .horizon ≡ limitV f i 0
-  pub cases : AtMost (limitV f i 12) 2000 (p .cases)
+  pub horizon : p .horizon ≡ limitV f (i .limits) 0
+  pub cases : AtMost (limitV f (i .limits) 12) 2000 (p .cases)
 
 -- the counts' bounds
 pub record Fitted (p : Plan) (room : ℕ) : Type 0 where

@@ -59,11 +59,11 @@ pub fn few(n: usize, most: usize) -> usize
 // ---- what a search goes by
 
 // A limit of the model.
-pub fn limit(file: &[u8], index: Index, k: usize) -> u32
+pub fn limit(file: &[u8], limits: usize, k: usize) -> u32
     requires { ⌜ k ≤ 12 ⌝ }
-    ensures { λ r. ⌜ r ≡ limitV (now (file .entry)) index k ⌝ }
+    ensures { λ r. ⌜ r ≡ limitV (now (file .entry)) limits k ⌝ }
 {
-    let p = engine_reads::capped(index.limits) as usize;
+    let p = engine_reads::capped(limits) as usize;
     engine_reads::four_at(file, p + k)
 }
 
@@ -79,8 +79,8 @@ pub fn planned(file: &[u8], index: Index, cells: Cells, notes: usize) -> Plan
     };
     let alphabet = search_inputs::alphabet_of(file, index);
     let gaps = search_inputs::gaps_of(file, index);
-    let horizon = limit(file, index, 0);
-    let cases = at_most(limit(file, index, 12), 2000);
+    let horizon = limit(file, index.limits, 0);
+    let cases = at_most(limit(file, index.limits, 12), 2000);
     Plan {
         shared,
         alphabet,

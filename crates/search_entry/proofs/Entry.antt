@@ -44,7 +44,7 @@ use Rattle.search_entry.proofs.Start.{limits-are, setting, start-of, st
 module _ {f : List ℕ} {i : Index} (bytes : (k : ℕ) → getD f k 0 < 256) (p : Plan) {x notes : List ℕ} {c : Cells} {n : ℕ}
     (gr : Grounds f i (ground x c n notes)) (pl : Plans f i c n p)
     {start : Search} {w₀ : List ℕ} (b : Begins f (p .shared .notes) notes start w₀)
-    {depth : ℕ} (few : depth ≡ atMost (limitV f i 8) 5) {q a u : ℕ} {o : Search} {w : List ℕ}
+    {depth : ℕ} (few : depth ≡ atMost (limitV f (i .limits) 8) 5) {q a u : ℕ} {o : Search} {w : List ℕ}
     (d : Deepens f (entire p x (i .invariants .starts) notes) depth start w₀ o w q a u) where
   abbrev all : Entire
   all = entire p x (i .invariants .starts) notes
@@ -56,7 +56,7 @@ module _ {f : List ℕ} {i : Index} (bytes : (k : ℕ) → getD f k 0 < 256) (p 
     depth-is : depth ≡ m .scenario .limits .search-depth
     depth-is =
         let l = limits-are f i m acc ix .depth in
-        few ∙ most-is (limitV f i 8) 5 (omega (arith, l, accepted-searchable f m acc .depth)) ∙ l
+        few ∙ most-is (limitV f (i .limits) 8) 5 (omega (arith, l, accepted-searchable f m acc .depth)) ∙ l
 
     searched-is : verify.deepen (sizes q a u) m (cells-of m) (suc depth) 0 (start-of m)
         ≡ searched (sizes q a u) m (cells-of m)
@@ -82,16 +82,16 @@ module _ {f : List ℕ} {i : Index} (bytes : (k : ℕ) → getD f k 0 < 256) (p 
       })))
 
   pub run-so : {r : Verification} {after : Lent} {out out' : List ℕ} {q' a' u' : ℕ} → q' ≡ q → a' ≡ a → u' ≡ u
-      → Ends f i all o w r q' a' u' after out out' → Runs f i r q a u after out out'
+      → Ends f (i .limits) all o w r q' a' u' after out out' → Runs f i r q a u after out out'
   unfolding verified
   run-so {r} {after} {out} {out'} {q'} {a'} {u'} eq ea eu en₀ = record {
     does = λ m acc ix. en .does (here m acc ix) refl (searched (sizes q a u) m (cells-of m)) (reached m acc ix);
   }
     where
-      en : Ends f i all o w r q a u after out out'
-      en = subst (λ (k : ℕ). Ends f i all o w r k a u after out out') eq
-          (subst (λ (k : ℕ). Ends f i all o w r q' k u after out out') ea
-          (subst (λ (k : ℕ). Ends f i all o w r q' a' k after out out') eu en₀))
+      en : Ends f (i .limits) all o w r q a u after out out'
+      en = subst (λ (k : ℕ). Ends f (i .limits) all o w r k a u after out out') eq
+          (subst (λ (k : ℕ). Ends f (i .limits) all o w r q' k u after out out') ea
+          (subst (λ (k : ℕ). Ends f (i .limits) all o w r q' a' k after out out') eu en₀))
 
 -- ---- from an ending to the areas
 

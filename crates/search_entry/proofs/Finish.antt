@@ -13,7 +13,6 @@ use Rattle.areas.proofs.Laws as areas
 use Rattle.reasons.specs.Lists.{insertAll, Holds}
 use Rattle.reasons.proofs.Sorting.{one-by-one}
 use Rattle.model.specs.Answer.{Answer, answer, refused, _>>=_}
-use Rattle.model_index.specs.declared.Index.{Index}
 use Rattle.engine.specs.Memory.{Lent}
 use Rattle.engine.specs.Words.{texts-in, words-in}
 use Rattle.engine_entry.proofs.Promise.{texts-here}
@@ -26,7 +25,6 @@ use Rattle.search.specs.Meaning.{Entire, Setting, Witnessed, Held, Outcome}
 use Rattle.search.proofs.Cases.{few-reasons}
 use Rattle.search.proofs.Sorted.{sorted-again}
 use Rattle.search_entry.specs.declared.Verification.{Verification}
-use Rattle.search_entry.specs.declared.Witness.{Witness}
 use Rattle.search_entry.specs.Answers.{
   found-as,
   NoWitness,
@@ -39,6 +37,7 @@ use Rattle.search_entry.specs.Answers.{
 }
 use Rattle.search_entry.specs.Parts.{
   statusV,
+  WithCheck,
   Told,
   without,
   Writable,
@@ -58,12 +57,12 @@ unfolding statusV found-of
 status-none [] e = rw e
 status-none (t ∷ l) {n} e = rw (ne-eqb n 0 (λ z. absurd (omega (arith, e, z))))
 
-module _ {f : List ℕ} {i : Index} {p : Entire} {q a u : ℕ} (x : Setting f p q a u) (here : x .index ≡ i) where
+module _ {f : List ℕ} {at : ℕ} {p : Entire} {q a u : ℕ} (x : Setting f p q a u) (here : x .index .limits ≡ at) where
   texts-are : texts-in f ≡ x .indexed .ts
   texts-are = texts-here f (x .index) (x .m) (x .is-accepted) (x .indexed) (x .bytes) (p .ground) (x .grounds)
 
-  module _ (s : verify.Search) {o : Search} {w : List ℕ} (h : Held x s o w) {y : Witness} {r : Verification}
-      (t : Told f i (p .alphabet) (p .gaps) (p .horizon) o w y r) where
+  module _ (s : verify.Search) {o : Search} {w : List ℕ} (h : Held x s o w) {y : WithCheck} {r : Verification}
+      (t : Told f at (p .alphabet) (p .gaps) (p .horizon) o w y r) where
     reasons-are : Holds f (sortedT (s .reasons)) (r .reasons) (r .told)
     reasons-are =
         subst (λ (l : List Text). Holds f l (r .reasons) (r .told))
@@ -80,10 +79,10 @@ module _ {f : List ℕ} {i : Index} {p : Entire} {q a u : ℕ} (x : Setting f p 
           status-is = e;
           cases = t .cases ∙ h .cases;
           total = t .total ∙ h .steps;
-          depth = t .depth ∙ ap (λ (j : Index). limitV f j 8) (sym here) ∙ l .depth;
+          depth = t .depth ∙ ap (λ (j : ℕ). limitV f j 8) (sym here) ∙ l .depth;
           horizon = t .horizon ∙ x .horizon;
-          most = t .most ∙ ap (λ (j : Index). limitV f j 12) (sym here) ∙ l .cases;
-          steps = t .steps ∙ ap (λ (j : Index). limitV f j 4) (sym here) ∙ l .steps;
+          most = t .most ∙ ap (λ (j : ℕ). limitV f j 12) (sym here) ∙ l .cases;
+          steps = t .steps ∙ ap (λ (j : ℕ). limitV f j 4) (sym here) ∙ l .steps;
           alphabet = t .alphabet ∙ x .inputs;
           inputs = t .inputs ∙ x .words ∙ ap (λ (ts : List Text). area (input-words ts) 36 (x .m .scenario .alphabet))
               (sym texts-are);
@@ -99,10 +98,10 @@ module _ {f : List ℕ} {i : Index} {p : Entire} {q a u : ℕ} (x : Setting f p 
     none-says : y ≡ without → NoWitness r
     unfolding without
     none-says e = record {
-      events = t .events ∙ ap (λ (z : Witness). z .events) e;
-      words = t .words ∙ ap (λ (z : Witness). z .words) e;
-      written = t .written ∙ ap (λ (z : Witness). z .written) e;
-      check = t .check ∙ ap (λ (z : Witness). z .check) e;
+      events = t .events ∙ ap (λ (z : WithCheck). z .events) e;
+      words = t .words ∙ ap (λ (z : WithCheck). z .words) e;
+      written = t .written ∙ ap (λ (z : WithCheck). z .written) e;
+      check = t .check ∙ ap (λ (z : WithCheck). z .check) e;
     }
 
     none-status : o .found ≡ false → r .status ≡ found-as (found-of none (sortedT (s .reasons)))
@@ -127,14 +126,14 @@ module _ {f : List ℕ} {i : Index} {p : Entire} {q a u : ℕ} (x : Setting f p 
 
 -- ---- the three ends
 
-module _ {f : List ℕ} {i : Index} {p : Entire} {o : Search} {w : List ℕ} {q a u : ℕ} {after : Lent} {out : List ℕ} where
+module _ {f : List ℕ} {at : ℕ} {p : Entire} {o : Search} {w : List ℕ} {q a u : ℕ} {after : Lent} {out : List ℕ} where
   pub end-refused : (o .refused ≡ 0 → ⊥) → {r : Verification} → r ≡ no-verification (o .refused) →
       after .queue ≡ replicate q 0 → after .records ≡ replicate a 0 → after .runs ≡ replicate u 0
-      → Ends f i p o w r q a u after out out
+      → Ends f at p o w r q a u after out out
   unfolding _>>=_ output-after
   end-refused z {r} e eq ea eu = record { does = by }
     where
-      by : (x : Setting f p q a u) → x .index ≡ i → (y : Answer verify.Search) → Outcome x y o w
+      by : (x : Setting f p q a u) → x .index .limits ≡ at → (y : Answer verify.Search) → Outcome x y o w
           → Ending f r (answer-of (x .m) y) q a u after out out
       by x here (answer s) h = absurd (z (h .fine))
       by x here (refused n) h = record {
@@ -146,13 +145,13 @@ module _ {f : List ℕ} {i : Index} {p : Entire} {o : Search} {w : List ℕ} {q 
         output = refl;
       }
 
-  pub end-none : o .refused ≡ 0 → o .found ≡ false → {y : Witness} {r : Verification} → y ≡ without → Told f i (p .alphabet) (p .gaps) (p .horizon) o w y r →
+  pub end-none : o .refused ≡ 0 → o .found ≡ false → {y : WithCheck} {r : Verification} → y ≡ without → Told f at (p .alphabet) (p .gaps) (p .horizon) o w y r →
       after .queue ≡ replicate q 0 → after .records ≡ replicate a 0 → after .runs ≡ replicate u 0
-      → Ends f i p o w r q a u after out out
+      → Ends f at p o w r q a u after out out
   unfolding _>>=_ output-after witness-trace witness-file verification-of
   end-none z e {y} {r} n t eq ea eu = record { does = by }
     where
-      made : (x : Setting f p q a u) → x .index ≡ i → (s : verify.Search) (h : Held x s o w) (v : Option verify.Witness) → s .witness ≡ v →
+      made : (x : Setting f p q a u) → x .index .limits ≡ at → (s : verify.Search) (h : Held x s o w) (v : Option verify.Witness) → s .witness ≡ v →
           Rattle.search.specs.Meaning.WitnessIs x v o → Ending f r (answer (verification-of (x .m) s)) q a u after out out
       made x here s h none g k = record {
         says = shows-with x here s h t (subst (λ (v : Option verify.Witness). r .status
@@ -167,18 +166,18 @@ module _ {f : List ℕ} {i : Index} {p : Entire} {o : Search} {w : List ℕ} {q 
       made x here s h (some v) g k = let c : true ≡ false = sym (k .found)
           ∙ e in let d : _≡_ {A = ℕ} 0 1 = cc in absurd (omega arith)
 
-      by : (x : Setting f p q a u) → x .index ≡ i → (y : Answer verify.Search) → Outcome x y o w
+      by : (x : Setting f p q a u) → x .index .limits ≡ at → (y : Answer verify.Search) → Outcome x y o w
           → Ending f r (answer-of (x .m) y) q a u after out out
       by x here (answer s) h = made x here s h (s .witness) refl (h .witness)
       by x here (refused j) h = absurd (omega (arith, h .number, h .low, z))
 
-  pub end-some : o .refused ≡ 0 → o .found ≡ true → {y : Witness} {r : Verification} {out' : List ℕ}
-      → Writes f p (o .witness) y q a u after out out' → Told f i (p .alphabet) (p .gaps) (p .horizon) o w y r →
-      Ends f i p o w r q a u after out out'
+  pub end-some : o .refused ≡ 0 → o .found ≡ true → {y : WithCheck} {r : Verification} {out' : List ℕ}
+      → Writes f p (o .witness) y q a u after out out' → Told f at (p .alphabet) (p .gaps) (p .horizon) o w y r →
+      Ends f at p o w r q a u after out out'
   unfolding _>>=_ output-after witness-trace witness-file verification-of
   end-some z e {y} {r} {out'} ws t = record { does = by }
     where
-      made : (x : Setting f p q a u) → x .index ≡ i → (s : verify.Search) (h : Held x s o w) (v : Option verify.Witness) → s .witness ≡ v →
+      made : (x : Setting f p q a u) → x .index .limits ≡ at → (s : verify.Search) (h : Held x s o w) (v : Option verify.Witness) → s .witness ≡ v →
           Rattle.search.specs.Meaning.WitnessIs x v o → Ending f r (answer (verification-of (x .m) s)) q a u after out out'
       made x here s h none g k = let c : true ≡ false = sym e ∙ k in let d : _≡_ {A = ℕ} 0 1 = cc in absurd (omega arith)
       made x here s h (some v) g k =
@@ -194,7 +193,7 @@ module _ {f : List ℕ} {i : Index} {p : Entire} {o : Search} {w : List ℕ} {q 
             output = rw g (d .written .is-out);
           }
 
-      by : (x : Setting f p q a u) → x .index ≡ i → (y : Answer verify.Search) → Outcome x y o w
+      by : (x : Setting f p q a u) → x .index .limits ≡ at → (y : Answer verify.Search) → Outcome x y o w
           → Ending f r (answer-of (x .m) y) q a u after out out'
       by x here (answer s) h = made x here s h (s .witness) refl (h .witness)
       by x here (refused j) h = absurd (omega (arith, h .number, h .low, z))

@@ -1,6 +1,6 @@
 -- Laws for the small functions of the entry.
 use Prim.Native.Nat.{ℕ, _*_, _≤_}
-use mathlib.Core.Path.{_≡_, subst}
+use mathlib.Core.Path.{_≡_, sym, ap, subst}
 use mathlib.Core.Bool.{Bool, true, false}
 use mathlib.Core.List.{List, []}
 use native.Mathlib.Omega.{arith}
@@ -10,18 +10,29 @@ use Rattle.reasons.specs.Lists.{reasons, listed, insertAll, Holds}
 use Rattle.reasons.proofs.Listing as listing
 use Rattle.checker_verdict.proofs.Laws.{all-many}
 use Rattle.checker_entry.specs.declared.CheckResult.{CheckResult}
-use Rattle.checker_entry.specs.Answers.{no-check}
+use Rattle.engine.specs.Memory.{Lent}
+use Rattle.checker_entry.specs.Answers.{no-check, result-of}
 use Rattle.search.specs.Parts.{AtMost}
 use Rattle.search_entry.specs.declared.Found.the-variants as found
-use Rattle.search_entry.specs.declared.Witness.{Witness}
-use Rattle.search_entry.specs.Answers.{unverified, no-verification}
-use Rattle.search_entry.specs.Parts.{statusV, without}
+use Rattle.search_entry.specs.declared.Searched.{Searched}
+use Rattle.search_entry.specs.declared.Verification.{Verification}
+use Rattle.search_entry.specs.Answers.{whole-of, unverified, no-verification, Verifies}
+use Rattle.search_entry.specs.Parts.{statusV, WithCheck, without}
 
 pub refused-is : (n : ℕ) {c : CheckResult} → c ≡ no-check 0 → unverified n c ≡ no-verification n
 unfolding no-verification
 refused-is n e = rw e
 
-pub without-is : {c : CheckResult} → c ≡ no-check 0 → _≡_ {A = Witness}
+pub with-lists-is : (x : Searched) {t v us ws s : List ℕ} {c : CheckResult} → c ≡ result-of (x .check) v us ws s →
+    record { status = x .status; cases = x .cases; total = x .total; depth = x .depth; horizon = x .horizon; most = x .most; steps = x .steps; alphabet = x .alphabet; inputs = x .inputs; gaps = x .gaps; seconds = x .seconds; reasons = x .reasons; told = t; shortest = x .shortest; events = x .events; words = x .words; written = x .written; check = c }
+    ≡ whole-of x t v us ws s
+with-lists-is x {t} e =
+    ap (λ (c : CheckResult). record { status = x .status; cases = x .cases; total = x .total; depth = x .depth; horizon = x .horizon; most = x .most; steps = x .steps; alphabet = x .alphabet; inputs = x .inputs; gaps = x .gaps; seconds = x .seconds; reasons = x .reasons; told = t; shortest = x .shortest; events = x .events; words = x .words; written = x .written; check = c }) e
+
+pub verifies-as : {f : List ℕ} {r s : Verification} {before after : Lent} {o o' : List ℕ} → r ≡ s → Verifies f s before after o o' → Verifies f r before after o o'
+verifies-as {f} {r} {s} {before} {after} {o} {o'} e h = subst (λ (y : Verification). Verifies f y before after o o') (sym e) h
+
+pub without-is : {c : CheckResult} → c ≡ no-check 0 → _≡_ {A = WithCheck}
     (record { events = 0; words = replicate 20 0; written = 0; check = c }) without
 unfolding without
 without-is e = rw e

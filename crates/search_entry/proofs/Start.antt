@@ -40,10 +40,10 @@ use Rattle.search.proofs.Cases.{widen}
 
 module _ (f : List ℕ) (i : Index) (m : Model) (acc : accepted f ≡ answer m) (o : Indexed f i m) where
   pub record LimitsAre : Type 0 where
-    pub horizon : limitV f i 0 ≡ m .scenario .limits .horizon
-    pub steps : limitV f i 4 ≡ m .scenario .limits .max-steps
-    pub depth : limitV f i 8 ≡ m .scenario .limits .search-depth
-    pub cases : limitV f i 12 ≡ m .scenario .limits .max-cases
+    pub horizon : limitV f (i .limits) 0 ≡ m .scenario .limits .horizon
+    pub steps : limitV f (i .limits) 4 ≡ m .scenario .limits .max-steps
+    pub depth : limitV f (i .limits) 8 ≡ m .scenario .limits .search-depth
+    pub cases : limitV f (i .limits) 12 ≡ m .scenario .limits .max-cases
 
   pub limits-are : LimitsAre
   unfolding limits limitV

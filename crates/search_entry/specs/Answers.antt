@@ -20,6 +20,7 @@ use Rattle.checker_entry.specs.Answers as check
 use Rattle.search_inputs.specs.Inputs.{input-words, event-words, gap-words}
 use Rattle.search_entry.specs.declared.Found.{Found}
 use Rattle.search_entry.specs.declared.Found.the-variants as found
+use Rattle.search_entry.specs.declared.Searched.{Searched}
 use Rattle.search_entry.specs.declared.Verification.{Verification}
 
 -- the status by its name in the scope
@@ -65,6 +66,29 @@ pub record Shows (f : List ℕ) (r : Verification) (v : verify.Verification) : T
   pub reasons : Holds f (v .reasons) (r .reasons) (r .told)
   pub shortest : r .shortest ≡ v .shortest
   pub witness : WitnessSays f r (v .witness)
+
+-- an answer, its lists, and those of its check
+abbrev pub whole-of : Searched → (told violated unknowns incompletes reasons : List ℕ) → Verification
+whole-of x t v us ws s = record {
+  status = x .status;
+  cases = x .cases;
+  total = x .total;
+  depth = x .depth;
+  horizon = x .horizon;
+  most = x .most;
+  steps = x .steps;
+  alphabet = x .alphabet;
+  inputs = x .inputs;
+  gaps = x .gaps;
+  seconds = x .seconds;
+  reasons = x .reasons;
+  told = t;
+  shortest = x .shortest;
+  events = x .events;
+  words = x .words;
+  written = x .written;
+  check = check.result-of (x .check) v us ws s;
+}
 
 -- an answer that says no more than its number, with a check beside it
 abbrev pub unverified : (number : ℕ) → CheckResult → Verification

@@ -20,6 +20,7 @@ use Rattle.engine.specs.Records.{Trace}
 use Rattle.engine.specs.Words.{words-in}
 use Rattle.checker.specs.Check.{Check, checked}
 use Rattle.checker.specs.Verify as verify
+use Rattle.checker_entry.specs.declared.CheckResult.{CheckResult}
 use Rattle.checker_entry.specs.Answers as check
 use Rattle.search_inputs.specs.declared.Alphabet.{Alphabet}
 use Rattle.search_inputs.specs.declared.Gaps.{Gaps}
@@ -36,16 +37,26 @@ use Rattle.search_entry.specs.Answers.{Says, witness-trace, output-after
 unfoldable pub statusV : (found : Bool) → (reasons : ℕ) → Found
 statusV b n = if b then found.Counterexample else if eqb n 0 then found.NoCounterexampleWithinBounds else found.Inconclusive
 
+-- a witness with the whole of its check
+pub record WithCheck : Type 0 where
+  pub events : ℕ
+  pub words : List ℕ
+  pub written : ℕ
+  pub check : CheckResult
+
+abbrev pub with-check : Witness → CheckResult → WithCheck
+with-check x c = record { events = x .events; words = x .words; written = x .written; check = c }
+
 -- an answer that repeats what it is made of
-pub record Told (f : List ℕ) (i : Index) (is : Alphabet) (gs : Gaps) (h : ℕ) (o : Search) (w : List ℕ) (x : Witness)
+pub record Told (f : List ℕ) (limits : ℕ) (is : Alphabet) (gs : Gaps) (h : ℕ) (o : Search) (w : List ℕ) (x : WithCheck)
     (r : Verification) : Type 0 where
   pub status-is : r .status ≡ statusV (o .found) (r .reasons)
   pub cases : r .cases ≡ o .cases
   pub total : r .total ≡ o .steps
-  pub depth : r .depth ≡ limitV f i 8
+  pub depth : r .depth ≡ limitV f limits 8
   pub horizon : r .horizon ≡ h
-  pub most : r .most ≡ limitV f i 12
-  pub steps : r .steps ≡ limitV f i 4
+  pub most : r .most ≡ limitV f limits 12
+  pub steps : r .steps ≡ limitV f limits 4
   pub alphabet : r .alphabet ≡ is .count
   pub inputs : r .inputs ≡ is .words
   pub gaps : r .gaps ≡ gs .count
@@ -60,7 +71,7 @@ pub record Told (f : List ℕ) (i : Index) (is : Alphabet) (gs : Gaps) (h : ℕ)
 -- ---- the witness
 
 -- no witness
-unfoldable pub without : Witness
+unfoldable pub without : WithCheck
 without = record { events = 0; words = replicate 20 0; written = 0; check = check.no-check 0 }
 
 -- its events, and room for its file
@@ -71,7 +82,7 @@ pub record Writable (f : List ℕ) (p : Entire) (placed : Placed) (q a u o : ℕ
   pub placed-as : PlacedAs (setting .indexed .ts) (setting .m) events placed
   pub room : length f + 45 ≤ o
 
-pub record Written (f : List ℕ) (vs : List Event) (c : Check) (placed : Placed) (r : Witness) (q a u : ℕ) (after : Lent)
+pub record Written (f : List ℕ) (vs : List Event) (c : Check) (placed : Placed) (r : WithCheck) (q a u : ℕ) (after : Lent)
     (o o' : List ℕ) : Type 0 where
   pub events : r .events ≡ placed .count
   pub words : r .words ≡ placed .words
@@ -81,7 +92,7 @@ pub record Written (f : List ℕ) (vs : List Event) (c : Check) (placed : Placed
   pub records : after .records ≡ area (words-in f) a (c .simulation .trace)
   pub runs : after .runs ≡ replicate u 0
 
-pub record Writes (f : List ℕ) (p : Entire) (placed : Placed) (r : Witness) (q a u : ℕ) (after : Lent)
+pub record Writes (f : List ℕ) (p : Entire) (placed : Placed) (r : WithCheck) (q a u : ℕ) (after : Lent)
     (o o' : List ℕ) : Type 0 where
   pub does : (x : Setting f p q a u) (vs : List Event) → PlacedAs (x .indexed .ts) (x .m) vs placed →
       (c : Check) → checked (sizes q a u) (x .m) (cells-of (x .m)) vs ≡ answer c → Written f vs c placed r q a u after o o'
@@ -120,9 +131,9 @@ pub record Ending (f : List ℕ) (r : Verification) (v : Answer verify.Verificat
   pub runs : after .runs ≡ replicate u 0
   pub output : o' ≡ output-after f v o
 
-pub record Ends (f : List ℕ) (i : Index) (p : Entire) (s : Search) (w : List ℕ) (r : Verification) (q a u : ℕ) (after : Lent)
+pub record Ends (f : List ℕ) (limits : ℕ) (p : Entire) (s : Search) (w : List ℕ) (r : Verification) (q a u : ℕ) (after : Lent)
     (o o' : List ℕ) : Type 0 where
-  pub does : (x : Setting f p q a u) → x .index ≡ i → (y : Answer verify.Search) → Outcome x y s w
+  pub does : (x : Setting f p q a u) → x .index .limits ≡ limits → (y : Answer verify.Search) → Outcome x y s w
       → Ending f r (answer-of (x .m) y) q a u after o o'
 
 -- ---- the accepted model

@@ -1,24 +1,19 @@
 use borrow.Author.Needs.{needs}
-use Rattle.checker_entry.proofs.Entry as entry
+use Rattle.checker_entry.proofs.Laws as laws
 use Rattle.checker_entry.proofs.check.Statement.{statement}
 use Rattle.checker_entry.proofs.check.Tie as tie
 use Rattle.checker_entry.proofs.check.Reads as reads
 use Rattle.checker_entry.proofs.check.Lts as lts
-use Rattle.checker_entry.proofs.refused.Reads as refused-reads
-use Rattle.checker_entry.proofs.run.Reads as run-reads
-use Rattle.model_validate.proofs.accept.Reads as accept-reads
+use Rattle.checker_entry.proofs.check_lent.Reads as check-lent-reads
+use Rattle.checker_entry.proofs.with_lists.Reads as with-lists-reads
 
 pub check-spec : {M : Type 1} → statement M
 check-spec =
     tie.close
     (tie.spec
     (λ c κs. search needs)
-    (λ c. search needs)
     (λ c κs. search needs)
     (λ c. search needs)
-    (λ c κs. search needs)
-    (λ c. entry.check-refused _ _ (c .before .before .before .before .accept .ensures) (c .before .before .status .given .1) (c .refused .ensures) _)
     (λ c. search needs)
     (λ c. search needs)
-    (λ c. search needs)
-    (λ c. entry.check-read _ _ (c .before .before .before .before .before .before .before .before .before .before .before .before .accept .ensures) (c .before .before .before .before .before .before .before .before .before .before .enum-told .given .1) (c .before .before .before .before .before .before .run .ensures)))
+    (λ c. laws.checks-as (c .with-lists .ensures) (c .before .before .before .before .before .before .before .before .before .before .before .check-lent .ensures)))

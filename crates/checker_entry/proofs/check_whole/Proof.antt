@@ -4,8 +4,8 @@ use Rattle.checker_entry.proofs.check_whole.Statement.{statement}
 use Rattle.checker_entry.proofs.check_whole.Tie as tie
 use Rattle.checker_entry.proofs.check_whole.Reads as reads
 use Rattle.checker_entry.proofs.check_whole.Lts as lts
-use Rattle.checker_entry.proofs.check_events.Reads as check-events-reads
-use Rattle.checker_entry.proofs.told.Reads as told-reads
+use Rattle.checker_entry.proofs.check_settled.Reads as check-settled-reads
+use Rattle.checker_entry.proofs.with_lists.Reads as with-lists-reads
 
 pub check-whole-spec : {M : Type 1} → statement M
 check-whole-spec =
@@ -16,4 +16,4 @@ check-whole-spec =
     (λ c. search needs)
     (λ c. search needs)
     (λ c. search needs)
-    (λ c. record { result = _; checked = c .before .before .before .before .before .before .before .before .before .before .before .check-events .ensures; answered = c .told .ensures }))
+    (λ c. laws.whole-as (c .with-lists .ensures) (c .before .before .before .before .before .before .before .before .before .before .before .check-settled .ensures)))

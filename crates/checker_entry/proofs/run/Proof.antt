@@ -5,7 +5,7 @@ use Rattle.checker_entry.proofs.run.Statement.{statement}
 use Rattle.checker_entry.proofs.run.Tie as tie
 use Rattle.checker_entry.proofs.run.Reads as reads
 use Rattle.checker_entry.proofs.run.Lts as lts
-use Rattle.checker_entry.proofs.check_whole.Reads as check-whole-reads
+use Rattle.checker_entry.proofs.check_settled.Reads as check-settled-reads
 use Rattle.engine_begin.proofs.events_of.Reads as events-of-reads
 use Rattle.engine_entry.proofs.prepared.Reads as prepared-reads
 use Rattle.engine_reads.proofs.at_most.Reads as at-most-reads
@@ -23,4 +23,4 @@ run-spec =
     (λ c. search needs)
     (λ c. search needs)
     (λ c. search needs)
-    (λ c. entry.run-is _ _ (λ k. omega (arith, c .before .before .before .before .before .before .before .before .before .before .before .before .before .before .before .before .before .before .before .before .before .before .before .before .before .before .shared-slice-known .given k)) _ (c .before .before .before .before .before .before .before .before .before .before .before .before .before .before .before .before .before .before .before .before .before .prepared .ensures) (c .before .before .before .before .before .before .before .before .before .before .before .before .before .before .before .before .events-of .ensures) (c .before .before .before .before .before .before .before .before .before .before .before .before .before .before .at-most .ensures .0) (c .before .before .before .before .before .before .check-whole .ensures)))
+    (λ c. entry.run-is _ _ (λ k. omega (arith, c .before .before .before .before .before .before .before .before .before .before .before .before .before .before .before .before .before .before .before .before .before .before .before .before .before .before .before .before .before .shared-slice-known .given k)) _ (c .before .before .before .before .before .before .before .before .before .before .before .before .before .before .before .before .before .before .before .before .before .before .before .before .prepared .ensures) (c .before .before .before .before .before .before .before .before .before .before .before .before .before .before .before .before .before .before .before .events-of .ensures) (c .before .before .before .before .before .before .before .before .before .before .before .before .before .before .before .before .before .at-most .ensures .0) (c .before .before .before .before .before .before .check-settled .ensures)))

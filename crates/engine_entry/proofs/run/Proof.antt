@@ -8,7 +8,7 @@ use Rattle.engine_entry.proofs.run.Lts as lts
 use Rattle.engine_begin.proofs.events_of.Reads as events-of-reads
 use Rattle.engine_entry.proofs.prepared.Reads as prepared-reads
 use Rattle.engine_entry.proofs.run_events.Reads as run-events-reads
-use Rattle.engine_entry.proofs.told.Reads as told-reads
+use Rattle.engine_entry.proofs.settled.Reads as settled-reads
 use Rattle.engine_reads.proofs.at_most.Reads as at-most-reads
 
 pub run-spec : {M : Type 1} → statement M
@@ -25,4 +25,4 @@ run-spec =
     (λ c. search needs)
     (λ c. search needs)
     (λ c. search needs)
-    (λ c. entry.run-is _ _ (λ k. omega (arith, c .before .before .before .before .before .before .before .before .before .before .before .before .before .before .before .before .before .before .before .before .before .before .before .before .before .shared-slice-known .given k)) _ (c .before .before .before .before .before .before .before .before .before .before .before .before .before .before .before .before .before .before .before .before .prepared .ensures) (c .before .before .before .before .before .before .before .before .before .before .before .before .before .before .before .before .before .events-of .ensures) (c .before .before .before .before .before .before .before .before .before .before .before .before .before .before .before .at-most .ensures .0) (c .before .before .before .before .before .before .before .before .run-events .ensures) (c .told .ensures)))
+    (λ c. entry.run-is _ _ (λ k. omega (arith, c .before .before .before .before .before .before .before .before .before .before .before .before .before .before .before .before .before .before .before .before .before .before .before .before .before .shared-slice-known .given k)) _ (c .before .before .before .before .before .before .before .before .before .before .before .before .before .before .before .before .before .before .before .before .prepared .ensures) (c .before .before .before .before .before .before .before .before .before .before .before .before .before .before .before .before .before .events-of .ensures) (c .before .before .before .before .before .before .before .before .before .before .before .before .before .before .before .at-most .ensures .0) (c .before .before .before .before .before .before .before .before .run-events .ensures) (c .settled .ensures)))

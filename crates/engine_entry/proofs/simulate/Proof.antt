@@ -1,24 +1,22 @@
 use borrow.Author.Needs.{needs}
-use Rattle.engine_entry.proofs.Entry as entry
+use Rattle.engine_entry.proofs.Laws as laws
 use Rattle.engine_entry.proofs.simulate.Statement.{statement}
 use Rattle.engine_entry.proofs.simulate.Tie as tie
 use Rattle.engine_entry.proofs.simulate.Reads as reads
 use Rattle.engine_entry.proofs.simulate.Lts as lts
-use Rattle.engine_entry.proofs.refused.Reads as refused-reads
-use Rattle.engine_entry.proofs.run.Reads as run-reads
-use Rattle.model_validate.proofs.accept.Reads as accept-reads
+use Rattle.engine_entry.proofs.simulate_lent.Reads as simulate-lent-reads
+use Rattle.engine_entry.proofs.with_reasons.Reads as with-reasons-reads
+
+returns : tie.Need-returns
+returns c = laws.simulates-as (c .with-reasons .ensures) (c .before .before .before .before .before .before .before .before .simulate-lent .ensures)
 
 pub simulate-spec : {M : Type 1} → statement M
 simulate-spec =
     tie.close
     (tie.spec
     (λ c κs. search needs)
-    (λ c. search needs)
     (λ c κs. search needs)
     (λ c. search needs)
-    (λ c κs. search needs)
-    (λ c. entry.simulate-refused _ _ (c .before .before .before .before .accept .ensures) (c .before .before .status .given .1) (c .refused .ensures) _)
     (λ c. search needs)
     (λ c. search needs)
-    (λ c. search needs)
-    (λ c. entry.simulate-read _ _ (c .before .before .before .before .before .before .before .before .before .before .before .before .accept .ensures) (c .before .before .before .before .before .before .before .before .before .before .enum-told .given .1) (c .before .before .before .before .before .before .run .ensures)))
+    returns)

@@ -6,7 +6,7 @@ use Rattle.fukhtsege.proofs.fukhtsege_check.Statement.{statement}
 use Rattle.fukhtsege.proofs.fukhtsege_check.Tie as tie
 use Rattle.fukhtsege.proofs.fukhtsege_check.Reads as reads
 use Rattle.fukhtsege.proofs.fukhtsege_check.Lts as lts
-use Rattle.checker_entry.proofs.check.Reads as check-reads
+use Rattle.checker_entry.proofs.check_lent.Reads as check-lent-reads
 use Rattle.fukhtsege.proofs.put_check.Reads as put-check-reads
 
 pub fukhtsege-check-spec : {M : Type 1} → statement M
@@ -20,4 +20,4 @@ fukhtsege-check-spec =
     (λ c. search needs)
     (λ c. search needs)
     (λ c. search needs)
-    (λ c. laws.answered (omega (arith, c .before .before .before .before .before .before .before .before .before .before .before .before .before .before .before .if1 .left)) (c .before .before .before .before .before .before .before .before .before .before .before .check .result) (c .before .before .before .before .before .before .before .before .before .before .before .check .ensures) refl (c .before .before .before .put-check .ensures)))
+    (λ c. laws.answered (omega (arith, c .before .before .before .before .before .before .before .before .before .before .before .before .before .before .before .before .before .before .before .before .before .before .before .if1 .left)) _ (c .before .before .before .before .before .before .before .before .before .before .before .before .before .before .before .check-lent .ensures) refl (c .before .before .before .put-check .ensures)))

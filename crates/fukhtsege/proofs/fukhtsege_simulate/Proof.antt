@@ -6,7 +6,7 @@ use Rattle.fukhtsege.proofs.fukhtsege_simulate.Statement.{statement}
 use Rattle.fukhtsege.proofs.fukhtsege_simulate.Tie as tie
 use Rattle.fukhtsege.proofs.fukhtsege_simulate.Reads as reads
 use Rattle.fukhtsege.proofs.fukhtsege_simulate.Lts as lts
-use Rattle.engine_entry.proofs.simulate.Reads as simulate-reads
+use Rattle.engine_entry.proofs.simulate_lent.Reads as simulate-lent-reads
 use Rattle.fukhtsege.proofs.put_simulation.Reads as put-simulation-reads
 
 pub fukhtsege-simulate-spec : {M : Type 1} → statement M
@@ -20,4 +20,4 @@ fukhtsege-simulate-spec =
     (λ c. search needs)
     (λ c. search needs)
     (λ c. search needs)
-    (λ c. laws.answered (omega (arith, c .before .before .before .before .before .before .before .before .before .before .before .before .before .before .if1 .left)) (c .before .before .before .before .before .before .before .before .before .before .simulate .result) (c .before .before .before .before .before .before .before .before .before .before .simulate .ensures) refl (c .before .before .put-simulation .ensures)))
+    (λ c. laws.answered (omega (arith, c .before .before .before .before .before .before .before .before .before .before .before .before .before .before .before .before .if1 .left)) _ (c .before .before .before .before .before .before .before .before .before .before .before .simulate-lent .ensures) refl (c .before .before .put-simulation .ensures)))

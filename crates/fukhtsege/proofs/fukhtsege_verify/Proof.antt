@@ -8,7 +8,7 @@ use Rattle.fukhtsege.proofs.fukhtsege_verify.Reads as reads
 use Rattle.fukhtsege.proofs.fukhtsege_verify.Lts as lts
 use Rattle.fukhtsege.proofs.put_verification.Reads as put-verification-reads
 use Rattle.fukhtsege.proofs.refusal_of.Reads as refusal-of-reads
-use Rattle.search_entry.proofs.verify.Reads as verify-reads
+use Rattle.search_entry.proofs.verify_lent.Reads as verify-lent-reads
 
 pub fukhtsege-verify-spec : {M : Type 1} → statement M
 fukhtsege-verify-spec =
@@ -23,4 +23,4 @@ fukhtsege-verify-spec =
     (λ c. search needs)
     (λ c. search needs)
     (λ c. search needs)
-    (λ c. laws.answered (omega (arith, c .before .before .before .before .before .before .before .before .before .before .before .before .before .before .before .before .before .before .if1 .left)) (c .before .before .before .before .before .before .before .before .before .before .before .before .before .verify .result) (c .before .before .before .before .before .before .before .before .before .before .before .before .before .verify .ensures) (c .refusal-of .ensures) (c .before .before .before .put-verification .ensures)))
+    (λ c. laws.answered (omega (arith, c .before .before .before .before .before .before .before .before .before .before .before .before .before .before .before .before .before .before .before .before .before .before .before .before .before .before .before .before .if1 .left)) _ (c .before .before .before .before .before .before .before .before .before .before .before .before .before .before .before .before .before .before .verify-lent .ensures) (c .refusal-of .ensures) (c .before .before .before .put-verification .ensures)))

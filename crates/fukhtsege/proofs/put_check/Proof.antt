@@ -10,7 +10,7 @@ use Rattle.fukhtsege.proofs.status_number.Reads as status-number-reads
 
 returns : tie.Need-returns
 unfolding checkIn
-returns c = rw (c .before .before .put-simulation .ensures, c .before .before .before .before .before .before .before .lay-check .ensures, c .before .before .before .before .before .before .before .before .before .before .before .before .before .before .status-number .ensures)
+returns c = rw (c .before .before .put-simulation .ensures, c .before .before .before .before .before .before .before .lay-check .ensures, c .before .before .before .before .before .before .before .before .before .before .status-number .ensures)
 
 pub put-check-spec : {M : Type 1} → statement M
 put-check-spec =

@@ -6,12 +6,12 @@ use Rattle.fukhtsege.proofs.put_minimized.Reads as reads
 use Rattle.fukhtsege.proofs.put_minimized.Lts as lts
 use Rattle.fukhtsege.proofs.flag.Reads as flag-reads
 use Rattle.fukhtsege.proofs.lay_reduction.Reads as lay-reduction-reads
-use Rattle.fukhtsege.proofs.put_check.Reads as put-check-reads
+use Rattle.fukhtsege.proofs.put_result.Reads as put-result-reads
 use Rattle.fukhtsege.proofs.wide.Reads as wide-reads
 
 returns : tie.Need-returns
 unfolding minimizedIn
-returns c = rw (c .before .before .put-check .ensures, c .before .before .before .before .before .before .before .lay-reduction .ensures, c .before .before .before .before .before .before .before .before .before .before .before .before .before .before .wide .ensures, c .before .before .before .before .before .before .before .before .before .before .before .before .before .wide2 .ensures, c .before .before .before .before .before .before .before .before .before .before .before .before .flag .ensures)
+returns c = rw (c .before .before .put-result .ensures, c .before .before .before .before .before .before .before .lay-reduction .ensures, c .before .before .before .before .before .before .before .before .before .before .before .before .before .before .wide .ensures, c .before .before .before .before .before .before .before .before .before .before .before .before .before .wide2 .ensures, c .before .before .before .before .before .before .before .before .before .before .before .before .flag .ensures)
 
 pub put-minimized-spec : {M : Type 1} → statement M
 put-minimized-spec =

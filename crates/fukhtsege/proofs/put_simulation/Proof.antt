@@ -10,7 +10,7 @@ use Rattle.fukhtsege.proofs.wide.Reads as wide-reads
 
 returns : tie.Need-returns
 unfolding simulationIn
-returns c = rw (c .before .before .lay-simulation .ensures, c .before .before .before .before .before .before .before .before .before .before .before .wide .ensures, c .before .before .before .before .before .before .before .before .before .before .wide2 .ensures, c .before .before .before .before .before .before .before .before .before .wide3 .ensures, c .before .before .before .before .before .before .before .before .flag .ensures)
+returns c = rw (c .before .before .lay-simulation .ensures, c .before .before .before .before .before .before .before .before .before .before .wide .ensures, c .before .before .before .before .before .before .before .before .before .wide2 .ensures, c .before .before .before .before .before .before .before .before .wide3 .ensures, c .before .before .before .before .before .before .before .flag .ensures)
 
 pub put-simulation-spec : {M : Type 1} → statement M
 put-simulation-spec =

@@ -1,31 +1,20 @@
 use borrow.Author.Needs.{needs}
-use Rattle.fukhtsege.specs.Numbers.{verificationIn}
+use Rattle.fukhtsege.specs.Numbers.{searchIn, verificationIn}
 use Rattle.fukhtsege.proofs.put_verification.Statement.{statement}
 use Rattle.fukhtsege.proofs.put_verification.Tie as tie
 use Rattle.fukhtsege.proofs.put_verification.Reads as reads
 use Rattle.fukhtsege.proofs.put_verification.Lts as lts
-use Rattle.fukhtsege.proofs.flag.Reads as flag-reads
-use Rattle.fukhtsege.proofs.found_number.Reads as found-number-reads
-use Rattle.fukhtsege.proofs.lay_search.Reads as lay-search-reads
 use Rattle.fukhtsege.proofs.put_check.Reads as put-check-reads
-use Rattle.fukhtsege.proofs.wide.Reads as wide-reads
+use Rattle.fukhtsege.proofs.put_searched.Reads as put-searched-reads
 
 returns : tie.Need-returns
-unfolding verificationIn
-returns c = rw (c .before .before .put-check .ensures, c .before .before .before .before .before .before .before .lay-search .ensures, c .before .before .before .before .before .before .before .before .before .before .before .before .before .before .before .before .before .before .before .before .before .before .found-number .ensures, c .before .before .before .before .before .before .before .before .before .before .before .before .before .before .before .before .before .before .before .before .before .wide .ensures, c .before .before .before .before .before .before .before .before .before .before .before .before .before .before .before .before .before .before .before .before .wide2 .ensures, c .before .before .before .before .before .before .before .before .before .before .before .before .before .before .before .before .before .before .before .wide3 .ensures, c .before .before .before .before .before .before .before .before .before .before .before .before .before .before .before .before .before .before .wide4 .ensures, c .before .before .before .before .before .before .before .before .before .before .before .before .before .before .before .before .before .wide5 .ensures, c .before .before .before .before .before .before .before .before .before .before .before .before .before .before .before .before .wide6 .ensures, c .before .before .before .before .before .before .before .before .before .before .before .before .before .before .before .flag .ensures)
+unfolding verificationIn searchIn
+returns c = rw (c .before .before .put-check .ensures, c .before .before .before .before .before .before .before .put-searched .ensures)
 
 pub put-verification-spec : {M : Type 1} → statement M
 put-verification-spec =
     tie.close
     (tie.spec
-    (λ c κs. search needs)
-    (λ c κs. search needs)
-    (λ c κs. search needs)
-    (λ c κs. search needs)
-    (λ c κs. search needs)
-    (λ c κs. search needs)
-    (λ c κs. search needs)
-    (λ c κs. search needs)
     (λ c κs. search needs)
     (λ c κs. search needs)
     (λ c. search needs)

@@ -4,15 +4,15 @@ use Rattle.search_entry.proofs.no_witness.Statement.{statement}
 use Rattle.search_entry.proofs.no_witness.Tie as tie
 use Rattle.search_entry.proofs.no_witness.Reads as reads
 use Rattle.search_entry.proofs.no_witness.Lts as lts
-use Rattle.checker_entry.proofs.refused.Reads as refused-reads
+use Rattle.checker_entry.proofs.refused_judgement.Reads as refused-judgement-reads
 
 -- src/lib.rt:84:9
-refused-requires : tie.Need-refused-requires
-refused-requires c κs = search needs
+refused-judgement-requires : tie.Need-refused-judgement-requires
+refused-judgement-requires c κs = search needs
 
 -- src/lib.rt:81:1
 returns : tie.Need-returns
-returns c = laws.without-is (c .refused .ensures)
+returns c = laws.without-is (c .refused-judgement .ensures)
 
 pub no-witness-spec : {M : Type 1} → statement M
-no-witness-spec = tie.close (tie.spec refused-requires returns)
+no-witness-spec = tie.close (tie.spec refused-judgement-requires returns)

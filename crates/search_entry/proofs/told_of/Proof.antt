@@ -1,7 +1,5 @@
 use Rattle.search_entry.proofs.Laws as laws
 use mathlib.Core.Path.{refl}
-use Prim.Native.Nat.{ℕ}
-use lib.ListN.{length-replicate}
 use borrow.Author.Needs.{needs}
 use Rattle.search_entry.proofs.told_of.Statement.{statement}
 use Rattle.search_entry.proofs.told_of.Tie as tie
@@ -17,10 +15,9 @@ told-of-spec =
     tie.close
     (tie.spec
     (λ c κs. search needs)
-    (λ c. search needs)
-    (λ c κs. laws.told-room _ (c .before .before .before .before .before .before .before .before .before .before .args .w .now) _ _ (c .before .few .ensures .most) (c .before .before .before .before .before .before .before .before .before .before .pre) (length-replicate {A = ℕ} 2000 0))
+    (λ c κs. laws.told-room _ (c .before .before .before .before .before .before .before .before .before .before .args .w .now) _ _ (c .before .few .ensures .most) (c .before .before .before .before .before .before .before .before .before .before .pre) (search needs))
     (λ c κs. search needs)
     (λ c κs. search needs)
     (λ c κs. search needs)
     (λ c κs. search needs)
-    (λ c. record { status-is = c .before .before .before .status-of .ensures; cases = refl; total = refl; depth = c .before .before .limit .ensures; horizon = refl; most = c .before .limit2 .ensures; steps = c .limit3 .ensures; alphabet = refl; inputs = refl; gaps = refl; seconds = refl; shortest = refl; events = refl; words = refl; written = refl; check = refl; reasons = laws.told-reasons _ _ _ (c .before .before .before .before .before .before .before .few .ensures) (c .before .before .before .before .before .merge .ensures) }))
+    (λ c v us ws s. record { status-is = c .before .before .before .status-of .ensures; cases = refl; total = refl; depth = c .before .before .limit .ensures; horizon = refl; most = c .before .limit2 .ensures; steps = c .limit3 .ensures; alphabet = refl; inputs = refl; gaps = refl; seconds = refl; shortest = refl; events = refl; words = refl; written = refl; check = refl; reasons = laws.told-reasons _ _ _ (c .before .before .before .before .before .before .few .ensures) (c .before .before .before .before .merge .ensures) }))

@@ -1,69 +1,20 @@
-use Rattle.search_entry.proofs.Entry as entry
 use borrow.Author.Needs.{needs}
+use Rattle.search_entry.proofs.Laws as laws
 use Rattle.search_entry.proofs.verify.Statement.{statement}
 use Rattle.search_entry.proofs.verify.Tie as tie
 use Rattle.search_entry.proofs.verify.Reads as reads
 use Rattle.search_entry.proofs.verify.Lts as lts
-use Rattle.model_validate.proofs.accept.Reads as accept-reads
-use Rattle.search_entry.proofs.admitted.Reads as admitted-reads
-use Rattle.search_entry.proofs.refused.Reads as refused-reads
-
--- src/lib.rt:265:9
-accept-requires : tie.Need-accept-requires
-accept-requires c κs = search needs
-
--- src/lib.rt:268:38
-enum-known-status : tie.Need-enum-known-status
-enum-known-status c = search needs
-
--- src/lib.rt:268:49
-refused-requires : tie.Need-refused-requires
-refused-requires c κs = search needs
-
--- src/lib.rt:269:62
-enum-told : tie.Need-enum-told
-enum-told c = search needs
-
--- src/lib.rt:269:38
-admitted-requires : tie.Need-admitted-requires
-admitted-requires c κs = entry.accepted-so _ _ (c .before .before .before .before .before .before .accept .ensures) (c .before .before .before .before .enum-told .given .1)
-
--- src/lib.rt:256:1
-returns : tie.Need-returns
-returns c = entry.verify-refused _ _ (c .before .before .before .before .accept .ensures) (c .before .before .status .given .1) (c .refused .ensures) _ _
-
--- src/lib.rt:256:1
-same-length : tie.Need-same-length
-same-length c = search needs
-
--- src/lib.rt:256:1
-same-length-2 : tie.Need-same-length-2
-same-length-2 c = search needs
-
--- src/lib.rt:256:1
-same-length-3 : tie.Need-same-length-3
-same-length-3 c = search needs
-
--- src/lib.rt:256:1
-same-length-4 : tie.Need-same-length-4
-same-length-4 c = search needs
-
--- src/lib.rt:256:1
-returns-2 : tie.Need-returns-2
-returns-2 c = entry.verify-read _ _ (c .before .before .before .before .before .before .before .before .before .before .before .before .before .before .before .accept .ensures) (c .before .before .before .before .before .before .before .before .before .before .before .before .before .enum-told .given .1) (c .before .before .before .before .before .before .before .before .admitted .ensures)
+use Rattle.search_entry.proofs.verify_lent.Reads as verify-lent-reads
+use Rattle.search_entry.proofs.with_lists.Reads as with-lists-reads
 
 pub verify-spec : {M : Type 1} → statement M
 verify-spec =
     tie.close
     (tie.spec
-    accept-requires
-    enum-known-status
-    refused-requires
-    enum-told
-    admitted-requires
-    returns
-    same-length
-    same-length-2
-    same-length-3
-    same-length-4
-    returns-2)
+    (λ c κs. search needs)
+    (λ c κs. search needs)
+    (λ c. search needs)
+    (λ c. search needs)
+    (λ c. search needs)
+    (λ c. search needs)
+    (λ c. laws.verifies-as (c .with-lists .ensures) (c .before .before .before .before .before .before .before .before .before .before .before .before .before .before .verify-lent .ensures)))

@@ -5,7 +5,7 @@ use Rattle.search_entry.proofs.witness_of.Statement.{statement}
 use Rattle.search_entry.proofs.witness_of.Tie as tie
 use Rattle.search_entry.proofs.witness_of.Reads as reads
 use Rattle.search_entry.proofs.witness_of.Lts as lts
-use Rattle.checker_entry.proofs.check_whole.Reads as check-whole-reads
+use Rattle.checker_entry.proofs.check_settled.Reads as check-settled-reads
 use Rattle.model_rewrite.proofs.events_in.Reads as events-in-reads
 use Rattle.model_rewrite.proofs.rewrite.Reads as rewrite-reads
 
@@ -14,12 +14,12 @@ witness-of-spec =
     tie.close
     (tie.spec
     (λ c. sym (rewriting.long (c .before .before .before .before .before .before .before .before .pre)))
-    (λ c κs. rewriting.check-asks (c .before .before .before .before .before .before .before .before .before .before .before .before .pre))
+    (λ c κs. rewriting.check-asks (c .before .before .before .before .before .before .before .before .before .before .before .before .before .before .before .pre))
     (λ c κs. search needs)
-    (λ c. sym (rewriting.long (c .before .before .before .before .before .before .before .before .before .before .before .before .before .before .before .before .before .before .before .before .before .pre)))
-    (λ c κs. rewriting.write-asks (c .before .before .before .before .before .before .before .before .before .before .before .before .before .before .before .before .before .before .before .before .before .before .pre) (c .before .before .events-in .ensures) (c .before .before .before .before .before .before .before .before .before .before .before .before .before .before .before .before .before .before .before .before .before .before .args .output .now) refl)
+    (λ c. sym (rewriting.long (c .before .before .before .before .before .before .before .before .before .before .before .before .before .before .before .before .before .before .before .before .before .before .before .before .pre)))
+    (λ c κs. rewriting.write-asks (c .before .before .before .before .before .before .before .before .before .before .before .before .before .before .before .before .before .before .before .before .before .before .before .before .before .pre) (c .before .before .events-in .ensures) (c .before .before .before .before .before .before .before .before .before .before .before .before .before .before .before .before .before .before .before .before .before .before .before .before .before .args .output .now) refl)
     (λ c. search needs)
     (λ c. search needs)
     (λ c. search needs)
     (λ c. search needs)
-    (λ c. rewriting.writes-so (c .before .before .before .before .before .before .before .before .before .before .before .before .before .before .before .before .before .before .before .before .before .before .before .before .before .args .placed) (c .before .before .before .before .before .before .before .before .before .before .before .before .check-whole .ensures) (c .before .before .before .before .before .events-in .ensures) (c .before .before .rewrite .ensures)))
+    (λ c. rewriting.writes-so (c .before .before .before .before .before .before .before .before .before .before .before .before .before .before .before .before .before .before .before .before .before .before .before .before .before .before .before .before .args .placed) (c .before .before .before .before .before .before .before .before .before .before .before .before .check-settled .ensures) (c .before .before .before .before .before .events-in .ensures) (c .before .before .rewrite .ensures)))
