@@ -7,12 +7,14 @@ use lib.ListN.{getD, replicate}
 use Rattle.model_index.specs.declared.Index.{Index}
 use Rattle.model_parts.specs.declared.Section.{Section}
 use Rattle.lint_walk.specs.declared.Walk.{Walk}
-use Rattle.lint_walk.specs.Walks.{walkW}
-use Rattle.lint_touches.specs.Sets.{writesS}
+use Rattle.lint_walk.specs.Walks.{walkBy, walkW}
+use Rattle.lint_touches.specs.Sets.{sectionBy, writesS}
+use Rattle.lint_touches.proofs.Laws.{writes-by}
 use Rattle.lint_names.specs.declared.Undeclared.{Undeclared}
 use Rattle.lint_names.specs.Strange.{undeclaredU}
 use Rattle.lint_entry.specs.Order.{fillL}
 use Rattle.cone_sets.specs.Sets.{namedS, needsS}
+use Rattle.cone_sets.proofs.Laws.{named-by, needs-by}
 use Rattle.cone_close.specs.declared.ConeSets.{ConeSets}
 use Rattle.cone_close.specs.Rounds.{closedC}
 use Rattle.cone_names.specs.declared.ConeNames.{ConeNames}
@@ -38,14 +40,14 @@ module _ (s : List ℕ) (e rules : Section) where
 
 -- the walk of the automation at a position
 module _ (s : List ℕ) (e : Section) (p : ℕ) {w : Walk} {x : ℕ} (d : w ≡ walkW s p) where
-  pub write-is : x ≡ writesS s e w → x ≡ writesS s e (walkW s p)
-  write-is f = f ∙ ap (writesS s e) d
+  pub write-is : x ≡ writesS s (sectionBy (e .starts) (e .count)) (walkBy (w .list) (w .count)) → x ≡ writesS s e (walkW s p)
+  write-is f = writes-by s e w f ∙ ap (writesS s e) d
 
-  pub need-is : x ≡ needsS s e p w → x ≡ needsS s e p (walkW s p)
-  need-is f = f ∙ ap (needsS s e p) d
+  pub need-is : x ≡ needsS s (sectionBy (e .starts) (e .count)) p (walkBy (w .list) (w .count)) → x ≡ needsS s e p (walkW s p)
+  need-is f = needs-by s e p w f ∙ ap (needsS s e p) d
 
 pub told-is : (s : List ℕ) (i : Index) {t : Touched} {x : ℕ} {c : ConeSets} {u : Undeclared} {n : ConeNames}
-    → x ≡ namedS s (i .entities) (i .invariants) → Touches s (i .entities) (i .rules) t
+    → x ≡ namedS s (sectionBy (i .entities .starts) (i .entities .count)) (i .invariants) → Touches s (i .entities) (i .rules) t
     → c ≡ closedC (t .writes) (t .needs) (i .rules .count) x
     → u ≡ undeclaredU s (i .entities) (i .rules) (i .texts .count)
     → n ≡ namesN u (c .automations) (i .texts .count)
@@ -65,7 +67,7 @@ told-is s i {t} {x} {c} {u} {n} d e f g h = record {
 }
   where
     sets : c ≡ setsE s i
-    sets = unfold setsE in (f ∙ rw (d, e .writes, e .needs))
+    sets = unfold setsE in (f ∙ rw (named-by s (i .entities) (i .invariants) d, e .writes, e .needs))
 
     found : n ≡ namesE s i
     found = unfold namesE in (h ∙ rw (g, sets))

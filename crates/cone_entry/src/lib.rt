@@ -43,15 +43,18 @@ fn rule_sets(s: &[u8], entities: Section, rules: Section) -> Touched
     requires { ⌜ (entities .count ≤ 32) × (rules .count ≤ 32) ⌝ }
     ensures { λ r. ⌜ Touches (now (s .entry)) entities rules r ⌝ }
 {
-    let count = rules.count as usize;
+    let n = rules.count as usize;
+    let many = entities.count;
     let mut writes = [0u32; 32];
     let mut needs = [0u32; 32];
     let mut i: usize = 0;
-    while i < count {
+    while i < n {
         let at = rules.starts[i];
-        let w = lint_walk::rule_walk(s, at);
-        writes[i] = lint_touches::writes(s, entities, w);
-        needs[i] = cone_sets::needs(s, entities, at, w);
+        let mut list = [0usize; 512];
+        let c = lint_walk::rule_walk(s, at, &mut list);
+        let count = c.count;
+        writes[i] = lint_touches::writes(s, &entities.starts, many, &list, count);
+        needs[i] = cone_sets::needs(s, &entities.starts, many, at, &list, count);
         i += 1;
     }
     Touched { writes, needs }
@@ -66,7 +69,8 @@ fn coned(s: &[u8], index: Index) -> ConeResult
     let invariants = index.invariants;
     let rules = index.rules;
     let texts = index.texts;
-    let start = cone_sets::named(s, entities, invariants);
+    let many = entities.count;
+    let start = cone_sets::named(s, &entities.starts, many, invariants);
     let t = rule_sets(s, entities, rules);
     let count = rules.count as usize;
     let writes = t.writes;

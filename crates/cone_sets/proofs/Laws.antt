@@ -6,7 +6,8 @@ use borrow.Author.Tests.{eq-eqb, ne-eqb}
 use Rattle.model_parts.specs.declared.Section.{Section}
 use Rattle.lint_walk.specs.declared.Walk.{Walk}
 use Rattle.lint_walk.specs.Raw.{byteZ, placeZ, past, predicateEnd, kindZ}
-use Rattle.lint_touches.specs.Sets.{over, addE, addP, predicatesS, readsS}
+use Rattle.lint_walk.specs.Walks.{walkBy}
+use Rattle.lint_touches.specs.Sets.{sectionBy, over, addE, addP, predicatesS, triggersS, branchesS, addA, addT, readsS}
 use Rattle.cone_sets.specs.Sets.{addI, namedS, addG, needsS}
 
 module _ (s : List ℕ) (e : Section) (p set : ℕ) where
@@ -45,3 +46,12 @@ module _ (s : List ℕ) (e : Section) where
   pub needs-is : (p : ℕ) (w : Walk) → needsS s e p w ≡ over (addG s e) (w .list) (w .count) 0 (readsS s e p w)
   unfolding needsS
   needs-is p w = refl
+
+  -- positions and counts alone say what invariants name and what an automation needs
+  pub named-by : (is : Section) {r : ℕ} → r ≡ namedS s (sectionBy (e .starts) (e .count)) is → r ≡ namedS s e is
+  unfolding namedS addI predicatesS addP addE
+  named-by is h = h
+
+  pub needs-by : (p : ℕ) (w : Walk) {r : ℕ} → r ≡ needsS s (sectionBy (e .starts) (e .count)) p (walkBy (w .list) (w .count)) → r ≡ needsS s e p w
+  unfolding needsS addG readsS predicatesS triggersS branchesS addA addT addP addE
+  needs-by p w h = h

@@ -1,45 +1,45 @@
 // What the cone is closed over: the declared entities that invariants name, and those that an automation reads or
 // toggles, as sets of their numbers in the file.
-use lint_walk::Walk;
 use model_parts::Section;
 ghost use mathlib.Core.Path.{_≡_};
 ghost use Prim.Native.Nat.{_≤_, _<_, _+_};
-ghost use lib.ListN.{length};
+ghost use Rattle.lint_walk.specs.Walks.{walkBy};
+ghost use Rattle.lint_touches.specs.Sets.{sectionBy};
 ghost use Rattle.cone_sets.specs.Sets.{addI, namedS, addG, needsS};
 
 // ---- invariants
 
 // What the invariant at a position names.
-fn add_named(s: &[u8], entities: Section, set: u32, at: usize) -> u32
-    requires { ⌜ entities .count ≤ 32 ⌝ }
-    ensures { λ r. ⌜ r ≡ addI (now (s .entry)) entities at set ⌝ }
+fn add_named(s: &[u8], entities: &[usize; 100], many: u32, set: u32, at: usize) -> u32
+    requires { ⌜ many ≤ 32 ⌝ }
+    ensures { λ r. ⌜ r ≡ addI (now (s .entry)) (sectionBy (now (entities .entry)) many) at set ⌝ }
 {
     let kind = lint_walk::byte_at(s, at);
     let p = lint_walk::past(s, at, 3);
     if kind == 0 {
-        return lint_touches::add_predicates(s, entities, set, p);
+        return lint_touches::add_predicates(s, entities, many, set, p);
     }
     if kind == 1 {
-        let guarded = lint_touches::add_entity(s, entities, set, lint_walk::place_at(s, p));
-        return lint_touches::add_predicates(s, entities, guarded, lint_walk::past(s, at, 7));
+        let guarded = lint_touches::add_entity(s, entities, many, set, lint_walk::place_at(s, p));
+        return lint_touches::add_predicates(s, entities, many, guarded, lint_walk::past(s, at, 7));
     }
     if kind == 2 {
-        return lint_touches::add_entity(s, entities, set, lint_walk::place_at(s, p));
+        return lint_touches::add_entity(s, entities, many, set, lint_walk::place_at(s, p));
     }
-    let when = lint_touches::add_predicate(s, entities, set, p);
-    lint_touches::add_predicate(s, entities, when, lint_walk::predicate_end(s, p))
+    let when = lint_touches::add_predicate(s, entities, many, set, p);
+    lint_touches::add_predicate(s, entities, many, when, lint_walk::predicate_end(s, p))
 }
 
 // What all invariants name.
-pub fn named(s: &[u8], entities: Section, invariants: Section) -> u32
-    requires { ⌜ (entities .count ≤ 32) × (invariants .count ≤ 32) ⌝ }
-    ensures { λ r. ⌜ r ≡ namedS (now (s .entry)) entities invariants ⌝ }
+pub fn named(s: &[u8], entities: &[usize; 100], many: u32, invariants: Section) -> u32
+    requires { ⌜ (many ≤ 32) × (invariants .count ≤ 32) ⌝ }
+    ensures { λ r. ⌜ r ≡ namedS (now (s .entry)) (sectionBy (now (entities .entry)) many) invariants ⌝ }
 {
     let count = invariants.count as usize;
     let mut set: u32 = 0;
     let mut k: usize = 0;
     while k < count {
-        set = add_named(s, entities, set, invariants.starts[k]);
+        set = add_named(s, entities, many, set, invariants.starts[k]);
         k += 1;
     }
     set
@@ -48,27 +48,33 @@ pub fn named(s: &[u8], entities: Section, invariants: Section) -> u32
 // ---- automations
 
 // A toggle's entity.
-fn add_toggle(s: &[u8], entities: Section, set: u32, at: usize) -> u32
-    requires { ⌜ entities .count ≤ 32 ⌝ }
-    ensures { λ r. ⌜ r ≡ addG (now (s .entry)) entities at set ⌝ }
+fn add_toggle(s: &[u8], entities: &[usize; 100], many: u32, set: u32, at: usize) -> u32
+    requires { ⌜ many ≤ 32 ⌝ }
+    ensures { λ r. ⌜ r ≡ addG (now (s .entry)) (sectionBy (now (entities .entry)) many) at set ⌝ }
 {
     if lint_walk::kind_at(s, at) == 1 {
         let place = lint_walk::place_at(s, lint_walk::past(s, at, 9));
-        return lint_touches::add_entity(s, entities, set, place);
+        return lint_touches::add_entity(s, entities, many, set, place);
     }
     set
 }
 
-// What the automation at a position reads or toggles; w is the walk over its actions.
-pub fn needs(s: &[u8], entities: Section, at: usize, w: Walk) -> u32
-    requires { ⌜ (entities .count ≤ 32) × (w .count ≤ 512) × (length (w .list) ≡ 512) ⌝ }
-    ensures { λ r. ⌜ r ≡ needsS (now (s .entry)) entities at w ⌝ }
+// What the automation at a position reads or toggles; its actions are the first `count` of `list`.
+pub fn needs(
+    s: &[u8],
+    entities: &[usize; 100],
+    many: u32,
+    at: usize,
+    list: &[usize; 512],
+    count: usize,
+) -> u32
+    requires { ⌜ (many ≤ 32) × (count ≤ 512) ⌝ }
+    ensures { λ r. ⌜ r ≡ needsS (now (s .entry)) (sectionBy (now (entities .entry)) many) at (walkBy (now (list .entry)) count) ⌝ }
 {
-    let mut set = lint_touches::reads(s, entities, at, w);
-    let count = w.count;
+    let mut set = lint_touches::reads(s, entities, many, at, list, count);
     let mut k: usize = 0;
     while k < count {
-        set = add_toggle(s, entities, set, w.list[k]);
+        set = add_toggle(s, entities, many, set, list[k]);
         k += 1;
     }
     set

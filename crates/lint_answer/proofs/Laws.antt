@@ -11,8 +11,9 @@ use Rattle.model_parts.specs.declared.Section.{Section}
 use Rattle.lint_board.specs.declared.Out.{Out}
 use Rattle.lint_reach.specs.declared.Components.{Components}
 use Rattle.lint_walk.specs.declared.Walk.{Walk}
-use Rattle.lint_walk.specs.Walks.{walkW}
-use Rattle.lint_touches.specs.Sets.{readsS, writesS}
+use Rattle.lint_walk.specs.Walks.{walkBy, walkW}
+use Rattle.lint_touches.specs.Sets.{sectionBy, readsS, writesS}
+use Rattle.lint_touches.proofs.Laws.{reads-by, writes-by}
 use Rattle.lint_tests.specs.declared.Names.{Names}
 use Rattle.lint_names.specs.declared.Undeclared.{Undeclared}
 use Rattle.lint_names.specs.Strange.{undeclaredU}
@@ -44,11 +45,11 @@ module _ (s : List ℕ) (e rules : Section) where
 
 -- the walk of the automation at a position
 module _ (s : List ℕ) (e : Section) (p : ℕ) {w : Walk} {x : ℕ} (d : w ≡ walkW s p) where
-  pub read-is : x ≡ readsS s e p w → x ≡ readsS s e p (walkW s p)
-  read-is f = f ∙ ap (readsS s e p) d
+  pub read-is : x ≡ readsS s (sectionBy (e .starts) (e .count)) p (walkBy (w .list) (w .count)) → x ≡ readsS s e p (walkW s p)
+  read-is f = reads-by s e p w f ∙ ap (readsS s e p) d
 
-  pub write-is : x ≡ writesS s e w → x ≡ writesS s e (walkW s p)
-  write-is f = f ∙ ap (writesS s e) d
+  pub write-is : x ≡ writesS s (sectionBy (e .starts) (e .count)) (walkBy (w .list) (w .count)) → x ≡ writesS s e (walkW s p)
+  write-is f = writes-by s e w f ∙ ap (writesS s e) d
 
 pub names-are : (s : List ℕ) (i : Index) {a b c : ℕ} → a ≡ place-from (i .texts .count) 0 (text "on") s 6 → b ≡ place-from (i .texts .count) 0 (text "off") s 6 → c ≡ place-from (i .texts .count) 0 (text "*") s 6 →
     record { entities = i .entities; invariants = i .invariants; on = a; off = b; star = c } ≡ namesOf s i

@@ -70,37 +70,31 @@ fn first_sets(sets: [u32; 32], n: usize) -> Sets
     Sets { list }
 }
 
-// The declared entities that each automation reads.
-fn read_sets(s: &[u8], entities: Section, rules: Section) -> Sets
-    requires { ⌜ (entities .count ≤ 32) × (rules .count ≤ 32) ⌝ }
-    ensures { λ r. ⌜ r .list ≡ readSets (now (s .entry)) entities rules ⌝ }
-{
-    let count = rules.count as usize;
-    let mut list = [0u32; 32];
-    let mut i: usize = 0;
-    while i < count {
-        let at = rules.starts[i];
-        let w = lint_walk::rule_walk(s, at);
-        list[i] = lint_touches::reads(s, entities, at, w);
-        i += 1;
-    }
-    Sets { list }
+// The declared entities that each automation reads, and those that it writes.
+pub struct Touched {
+    pub reads: [u32; 32],
+    pub writes: [u32; 32],
 }
 
-// The entities that each automation writes.
-fn write_sets(s: &[u8], entities: Section, rules: Section) -> Sets
+fn rule_sets(s: &[u8], entities: Section, rules: Section) -> Touched
     requires { ⌜ (entities .count ≤ 32) × (rules .count ≤ 32) ⌝ }
-    ensures { λ r. ⌜ r .list ≡ writeSets (now (s .entry)) entities rules ⌝ }
+    ensures { λ r. ⌜ (r .reads ≡ readSets (now (s .entry)) entities rules) × (r .writes ≡ writeSets (now (s .entry)) entities rules) ⌝ }
 {
-    let count = rules.count as usize;
-    let mut list = [0u32; 32];
+    let n = rules.count as usize;
+    let many = entities.count;
+    let mut reads = [0u32; 32];
+    let mut writes = [0u32; 32];
     let mut i: usize = 0;
-    while i < count {
-        let w = lint_walk::rule_walk(s, rules.starts[i]);
-        list[i] = lint_touches::writes(s, entities, w);
+    while i < n {
+        let at = rules.starts[i];
+        let mut list = [0usize; 512];
+        let c = lint_walk::rule_walk(s, at, &mut list);
+        let count = c.count;
+        reads[i] = lint_touches::reads(s, &entities.starts, many, at, &list, count);
+        writes[i] = lint_touches::writes(s, &entities.starts, many, &list, count);
         i += 1;
     }
-    Sets { list }
+    Touched { reads, writes }
 }
 
 // ---- the answer
@@ -132,12 +126,11 @@ fn told(s: &[u8], index: Index, out: Out, found: Components) -> Report
     let texts = index.texts;
     let sets = found.sets;
     let c = first_sets(sets, found.count);
-    let x = read_sets(s, entities, rules);
-    let y = write_sets(s, entities, rules);
+    let t = rule_sets(s, entities, rules);
     let u = lint_names::undeclared_names(s, entities, rules, texts.count);
     let cycles = c.list;
-    let reads = x.list;
-    let writes = y.list;
+    let reads = t.reads;
+    let writes = t.writes;
     let names = u.names;
     let readers = u.readers;
     Report {

@@ -11,7 +11,7 @@ use Rattle.model_parts.specs.declared.Section.{Section}
 use Rattle.lint_walk.specs.declared.Walk.{Walk}
 use Rattle.lint_walk.specs.Raw.{placeZ, numberZ, past, kindZ}
 use Rattle.lint_walk.specs.Walks.{walkBy, walkW}
-use Rattle.lint_touches.specs.Sets.{readsS, writesS}
+use Rattle.lint_touches.specs.Sets.{sectionBy, readsS, writesS}
 use Rattle.lint_board.specs.Board.{Item, finding, Board, pushes}
 use Rattle.lint_reach.specs.declared.Components.{Components}
 use Rattle.lint_reach.specs.Sets.{holds}
@@ -21,7 +21,8 @@ use Rattle.lint_tests.specs.declared.Names.{Names}
 use Rattle.lint_tests.specs.Tests.{anyL, highestZ, leadsZ}
 use Rattle.lint_findings.specs.declared.About.{About}
 use Rattle.lint_findings.specs.Entries.{itemsN, valueZ, ruleItems, pairItems}
-use Rattle.lint_findings.proofs.Laws.{numbers-start, pair-by}
+use Rattle.lint_touches.proofs.Laws.{reads-by, writes-by}
+use Rattle.lint_findings.proofs.Laws.{numbers-start, numbers-end, pair-by, rule-by}
 use Rattle.lint_entry.specs.Order.{aboutAt, ruleAt, rulesItems, pairAt, laterItems, opposingItems, actionLeadsZ, leadsToZ, fillL, rowZ, edgesZ, cycleWritesFrom, cycleWritesZ, cycleZ, cyclesItems}
 
 module _ (s : List ℕ) where
@@ -31,10 +32,12 @@ module _ (s : List ℕ) where
   about-is e i source writes d f g h k = rw (d, g, f, h, k)
 
   pub rule-is : (d : Names) (rules : Section) (i : ℕ) {w : Walk} {writes reads : ℕ} {a : About} (x : Board) {y : Board} →
-      w ≡ walkW s (getD (rules .starts) i 0) → writes ≡ writesS s (d .entities) w → reads ≡ readsS s (d .entities) (getD (rules .starts) i 0) w → a ≡ aboutAt s (d .entities) i (w .next) writes →
-      y ≡ pushes (ruleItems s d rules a (getD (rules .starts) i 0) w reads writes) x → y ≡ pushes (ruleAt s d rules i) x
+      w ≡ walkW s (getD (rules .starts) i 0) → writes ≡ writesS s (sectionBy (d .entities .starts) (d .entities .count)) (walkBy (w .list) (w .count)) → reads ≡ readsS s (sectionBy (d .entities .starts) (d .entities .count)) (getD (rules .starts) i 0) (walkBy (w .list) (w .count)) →
+      a ≡ aboutAt s (d .entities) i (w .next) writes → y ≡ pushes (ruleItems s d rules a (getD (rules .starts) i 0) (walkBy (w .list) (w .count)) reads writes) x → y ≡ pushes (ruleAt s d rules i) x
   unfolding ruleAt
-  rule-is d rules i x e f g h k = rw (← e) (rw (← f) (rw (← g) (rw (← h) k)))
+  rule-is d rules i {w} {writes} {reads} {a} x e f g h k =
+      rw (← e) (rw (← writes-by s (d .entities) w f) (rw (← reads-by s (d .entities) (getD (rules .starts) i 0) w g) (rw (← h)
+      (k ∙ ap (λ (l : List Item). pushes l x) (rule-by s d rules a (getD (rules .starts) i 0) w reads writes)))))
 
   pub rules-is : (d : Names) (rules : Section) (x : Board) → pushes (rulesItems s d rules) x ≡ pushes (itemsN (ruleAt s d rules) (rules .count - 0) 0) x
   unfolding rulesItems
@@ -45,13 +48,14 @@ module _ (s : List ℕ) where
   unfolding pairAt
   pair-is d rules i v j {w} {a} {b} x e f g h = rw (← e) (rw (← f) (rw (← g) (h ∙ ap (λ (l : List Item). pushes l x) (pair-by s d b v w))))
 
-  pub pair-of : (d : Names) (rules : Section) (i : ℕ) (v : Walk) (j : ℕ) (x : Board) {y : Board} → y ≡ pushes (pairAt s d rules i (walkBy (v .list) (v .count)) j) x → y ≡ pushes (pairAt s d rules i v j) x
-  unfolding pairAt pairItems
-  pair-of d rules i v j x h = h
-
-  pub later-is : (d : Names) (rules : Section) (i : ℕ) {v : Walk} (x : Board) → v ≡ walkW s (getD (rules .starts) i 0) → pushes (laterItems s d rules i) x ≡ pushes (itemsN (pairAt s d rules i v) (rules .count - (i + 1)) (i + 1)) x
+  pub later-none : (d : Names) (rules : Section) (i : ℕ) (x : Board) → rules .count ≤ i + 1 → pushes (laterItems s d rules i) x ≡ x
   unfolding laterItems
-  later-is d rules i x e = rw e
+  later-none d rules i x h = numbers-end (pairAt s d rules i (walkW s (getD (rules .starts) i 0))) (rules .count) (i + 1) x h
+
+  pub later-is : (d : Names) (rules : Section) (i : ℕ) {v : Walk} (x : Board) → v ≡ walkW s (getD (rules .starts) i 0) →
+      pushes (laterItems s d rules i) x ≡ pushes (itemsN (pairAt s d rules i (walkBy (v .list) (v .count))) (rules .count - (i + 1)) (i + 1)) x
+  unfolding laterItems pairAt pairItems
+  later-is d rules i x e = rw (← e)
 
   pub opposing-is : (d : Names) (rules : Section) (x : Board) → pushes (opposingItems s d rules) x ≡ pushes (itemsN (laterItems s d rules) (rules .count - 0) 0) x
   unfolding opposingItems
@@ -70,10 +74,6 @@ module _ (s : List ℕ) where
   unfolding leadsToZ
   leads-is star w p = refl
 
-  pub leads-by : (star : ℕ) (w : Walk) (p : ℕ) {r : Bool} → r ≡ leadsToZ s star (walkBy (w .list) (w .count)) p → r ≡ leadsToZ s star w p
-  unfolding leadsToZ
-  leads-by star w p h = h
-
   pub row-is : (star : ℕ) (rules : Section) (w : Walk) → rowZ s star rules w ≡ fillL (λ j. leadsToZ s star w (getD (rules .starts) j 0)) (rules .count - 0) 0 (replicate 32 false)
   unfolding rowZ
   row-is star rules w =
@@ -86,7 +86,8 @@ module _ (s : List ℕ) where
       let m : rules .count - 0 ≡ rules .count = omega arith in
       rw m
 
-  pub edge-row : (star : ℕ) (rules : Section) (i : ℕ) {w : Walk} {r : List Bool} → w ≡ walkW s (getD (rules .starts) i 0) → r ≡ rowZ s star rules w → r ≡ rowZ s star rules (walkW s (getD (rules .starts) i 0))
+  pub edge-row : (star : ℕ) (rules : Section) (i : ℕ) {w : Walk} {r : List Bool} → w ≡ walkW s (getD (rules .starts) i 0) → r ≡ rowZ s star rules (walkBy (w .list) (w .count)) → r ≡ rowZ s star rules (walkW s (getD (rules .starts) i 0))
+  unfolding rowZ leadsToZ
   edge-row star rules i e f = f ∙ ap (rowZ s star rules) e
 
   module _ (e rules : Section) (z : ℕ) where
@@ -97,12 +98,12 @@ module _ (s : List ℕ) where
         rw m
 
     module _ (n i x : ℕ) (h : i < n) {r : Bool} (f : r ≡ holds z i) where
-      pub writes-yes : {w : Walk} {y u : ℕ} → r ≡ true → w ≡ walkW s (getD (rules .starts) i 0) → y ≡ writesS s e w → u ≡ bitOr x y →
+      pub writes-yes : {w : Walk} {y u : ℕ} → r ≡ true → w ≡ walkW s (getD (rules .starts) i 0) → y ≡ writesS s (sectionBy (e .starts) (e .count)) (walkBy (w .list) (w .count)) → u ≡ bitOr x y →
           cycleWritesFrom s e rules z (n - i) i x ≡ cycleWritesFrom s e rules z (n - (i + 1)) (i + 1) u
       unfolding cycleWritesFrom
-      writes-yes a b c d =
+      writes-yes {w} a b c d =
           let m : n - i ≡ suc (n - (i + 1)) = omega arith in
-          rw (d, c, b) (rw (m, cycleWritesFrom) (rw (← f) (rw a)))
+          rw (d, writes-by s e w c, b) (rw (m, cycleWritesFrom) (rw (← f) (rw a)))
 
       pub writes-no : r ≡ false → cycleWritesFrom s e rules z (n - i) i x ≡ cycleWritesFrom s e rules z (n - (i + 1)) (i + 1) x
       unfolding cycleWritesFrom

@@ -3,12 +3,10 @@ use lint_board::Out;
 use lint_findings::About;
 use lint_reach::Components;
 use lint_tests::Names;
-use lint_walk::Walk;
 use model_parts::Section;
 ghost use mathlib.Core.Path.{_≡_};
 ghost use mathlib.Core.List.{List};
 ghost use Prim.Native.Nat.{ℕ, _≤_, _<_, _+_, _-_};
-ghost use lib.ListN.{length};
 ghost use Rattle.lint_reach.specs.Cycles.{Cycles};
 ghost use Rattle.lint_board.specs.Board.{board, pushes};
 ghost use Rattle.lint_walk.specs.Walks.{walkBy};
@@ -46,18 +44,22 @@ fn rule_entries(
     ensures { λ r. ⌜ board (now (findings .exit)) (now (interactions .exit)) r ≡ pushes (ruleAt (now (s .entry)) names rules i) (board (now (findings .entry)) (now (interactions .entry)) o) ⌝ }
 {
     let at = rules.starts[i];
-    let w = lint_walk::rule_walk(s, at);
+    let mut list = [0usize; 512];
+    let c = lint_walk::rule_walk(s, at, &mut list);
+    let count = c.count;
     let entities = names.entities;
-    let writes = lint_touches::writes(s, entities, w);
-    let reads = lint_touches::reads(s, entities, at, w);
-    let a = about(s, entities, i, w.next, writes);
+    let many = entities.count;
+    let writes = lint_touches::writes(s, &entities.starts, many, &list, count);
+    let reads = lint_touches::reads(s, &entities.starts, many, at, &list, count);
+    let a = about(s, entities, i, c.next, writes);
     lint_findings::rule_findings(
         s,
         names,
         rules,
         a,
         at,
-        w,
+        &list,
+        count,
         reads,
         writes,
         findings,
@@ -105,9 +107,10 @@ fn pair_entries(
     requires { ⌜ (names .entities .count ≤ 32) × (i < 32) × (j < 32) × (count ≤ 512) ⌝ }
     ensures { λ r. ⌜ ((k : List ℕ) → board (now (findings .exit)) k r ≡ pushes (pairAt (now (s .entry)) names rules i (walkBy (now (list .entry)) count) j) (board (now (findings .entry)) k o)) ⌝ }
 {
-    let w = lint_walk::rule_walk(s, rules.starts[j]);
+    let mut others = [0usize; 512];
+    let c = lint_walk::rule_walk(s, rules.starts[j], &mut others);
     let set = lint_reach::with(lint_reach::with(0, i), j);
-    lint_findings::oppose_pair(s, names, set, list, count, &w.list, w.count, findings, o)
+    lint_findings::oppose_pair(s, names, set, list, count, &others, c.count, findings, o)
 }
 
 // The i-th automation against each later one.
@@ -123,11 +126,16 @@ fn later_entries(
     ensures { λ r. ⌜ ((k : List ℕ) → board (now (findings .exit)) k r ≡ pushes (laterItems (now (s .entry)) names rules i) (board (now (findings .entry)) k o)) ⌝ }
 {
     let count = rules.count as usize;
-    let v = lint_walk::rule_walk(s, rules.starts[i]);
-    let mut out = o;
     let mut j = i + 1;
+    if count <= j {
+        return o;
+    }
+    let mut list = [0usize; 512];
+    let c = lint_walk::rule_walk(s, rules.starts[i], &mut list);
+    let m = c.count;
+    let mut out = o;
     while j < count {
-        out = pair_entries(s, names, rules, i, &v.list, v.count, j, findings, out);
+        out = pair_entries(s, names, rules, i, &list, m, j, findings, out);
         j += 1;
     }
     out
@@ -177,16 +185,16 @@ fn action_leads(s: &[u8], star: u32, action: usize, at: usize) -> bool
     lint_tests::leads(s, star, x, v, at)
 }
 
-// Which automations the walk's automation can set off.
-fn reach_row(s: &[u8], star: u32, rules: Section, w: Walk) -> [bool; 32]
-    requires { ⌜ (rules .count ≤ 32) × (w .count ≤ 512) × (length (w .list) ≡ 512) ⌝ }
-    ensures { λ r. ⌜ r ≡ rowZ (now (s .entry)) star rules w ⌝ }
+// Which automations the first `count` actions of `list` can set off.
+fn reach_row(s: &[u8], star: u32, rules: Section, list: &[usize; 512], count: usize) -> [bool; 32]
+    requires { ⌜ (rules .count ≤ 32) × (count ≤ 512) ⌝ }
+    ensures { λ r. ⌜ r ≡ rowZ (now (s .entry)) star rules (walkBy (now (list .entry)) count) ⌝ }
 {
-    let count = rules.count as usize;
+    let n = rules.count as usize;
     let mut row = [false; 32];
     let mut j: usize = 0;
-    while j < count {
-        row[j] = leads_to(s, star, &w.list, w.count, rules.starts[j]);
+    while j < n {
+        row[j] = leads_to(s, star, list, count, rules.starts[j]);
         j += 1;
     }
     row
@@ -201,8 +209,9 @@ pub fn edges(s: &[u8], star: u32, rules: Section) -> [[bool; 32]; 32]
     let mut start = [[false; 32]; 32];
     let mut i: usize = 0;
     while i < count {
-        let w = lint_walk::rule_walk(s, rules.starts[i]);
-        start[i] = reach_row(s, star, rules, w);
+        let mut list = [0usize; 512];
+        let c = lint_walk::rule_walk(s, rules.starts[i], &mut list);
+        start[i] = reach_row(s, star, rules, &list, c.count);
         i += 1;
     }
     start
@@ -224,12 +233,15 @@ fn cycle_writes(s: &[u8], entities: Section, rules: Section, set: u32) -> u32
     ensures { λ r. ⌜ r ≡ cycleWritesZ (now (s .entry)) entities rules set ⌝ }
 {
     let count = rules.count as usize;
+    let many = entities.count;
     let mut writes: u32 = 0;
     let mut i: usize = 0;
     while i < count {
         if lint_reach::has(set, i) {
-            let w = lint_walk::rule_walk(s, rules.starts[i]);
-            writes = lint_reach::union(writes, lint_touches::writes(s, entities, w));
+            let mut list = [0usize; 512];
+            let c = lint_walk::rule_walk(s, rules.starts[i], &mut list);
+            let more = lint_touches::writes(s, &entities.starts, many, &list, c.count);
+            writes = lint_reach::union(writes, more);
             i += 1;
         } else {
             i += 1;

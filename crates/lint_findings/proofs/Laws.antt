@@ -253,6 +253,11 @@ module _ (s : List ℕ) where
   unfolding pairItems rowItems
   pair-by d set v w = refl
 
+  -- and so do the entries of an automation
+  pub rule-by : (d : Names) (rules : Section) (a : About) (p : ℕ) (w : Walk) (reads writes : ℕ) → ruleItems s d rules a p (walkBy (w .list) (w .count)) reads writes ≡ ruleItems s d rules a p w reads writes
+  unfolding ruleItems firstItems ownItems delayedZ delaysZ branchesItems branchesAt writesItems
+  rule-by d rules a p w reads writes = refl
+
 pub spelled-yes : (t : ℕ) → t ≡ 3 → 4 ≡ spelledZ t
 unfolding spelledZ
 spelled-yes t h = rw h

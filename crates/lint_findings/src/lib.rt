@@ -1,12 +1,10 @@
 // The findings and interactions of each automation, in the order in which Rust adds them.
 use lint_board::Out;
 use lint_tests::Names;
-use lint_walk::Walk;
 use model_parts::Section;
 ghost use mathlib.Core.Path.{_≡_};
 ghost use mathlib.Core.List.{List};
 ghost use Prim.Native.Nat.{ℕ, _≤_, _<_, _+_, _-_};
-ghost use lib.ListN.{length};
 ghost use Rattle.lint_walk.specs.Walks.{walkBy};
 ghost use Rattle.lint_board.specs.Board.{board, pushes};
 ghost use Rattle.lint_findings.specs.Entries.{aboutZ, actionZ, delayedZ, ownItems, branchItems, branchesItems, staleHereZ, freshItems, valueZ, riskyZ, interactItems, writeItems, writesItems, firstItems, ruleItems, spelledZ, pairZ, opposingZ, foundItems, rowItems, pairItems};
@@ -55,27 +53,28 @@ fn at_action(s: &[u8], a: About, code: u32, certainty: u32, entity: u32, at: usi
 
 // ---- conditions, triggers, delays
 
-fn delayed(s: &[u8], w: Walk, writes: u32) -> bool
-    requires { ⌜ (w .count ≤ 512) × (length (w .list) ≡ 512) ⌝ }
-    ensures { λ r. ⌜ r ≡ delayedZ (now (s .entry)) w writes ⌝ }
+fn delayed(s: &[u8], list: &[usize; 512], count: usize, writes: u32) -> bool
+    requires { ⌜ count ≤ 512 ⌝ }
+    ensures { λ r. ⌜ r ≡ delayedZ (now (s .entry)) (walkBy (now (list .entry)) count) writes ⌝ }
 {
     if writes == 0 {
         return false;
     }
-    lint_tests::delays(s, w)
+    lint_tests::delays(s, list, count)
 }
 
 fn own_findings(
     s: &[u8],
     a: About,
     at: usize,
-    w: Walk,
+    list: &[usize; 512],
+    count: usize,
     writes: u32,
     findings: &mut [u32],
     o: Out,
 ) -> Out
-    requires { ⌜ (w .count ≤ 512) × (length (w .list) ≡ 512) ⌝ }
-    ensures { λ r. ⌜ ((i : List ℕ) → board (now (findings .exit)) i r ≡ pushes (ownItems (now (s .entry)) a at w writes) (board (now (findings .entry)) i o)) ⌝ }
+    requires { ⌜ count ≤ 512 ⌝ }
+    ensures { λ r. ⌜ ((i : List ℕ) → board (now (findings .exit)) i r ≡ pushes (ownItems (now (s .entry)) a at (walkBy (now (list .entry)) count) writes) (board (now (findings .entry)) i o)) ⌝ }
 {
     let line = a.line;
     let column = a.column;
@@ -83,7 +82,7 @@ fn own_findings(
     let p = lint_board::push_if(findings, o, first, finding(a, 0, 0, 0, line, column));
     let second = lint_tests::mismatched(s, at);
     let q = lint_board::push_if(findings, p, second, finding(a, 1, 1, 0, line, column));
-    let third = delayed(s, w, writes);
+    let third = delayed(s, list, count, writes);
     lint_board::push_if(findings, q, third, finding(a, 2, 1, 0, line, column))
 }
 
@@ -106,15 +105,21 @@ fn choice_findings(s: &[u8], a: About, at: usize, findings: &mut [u32], o: Out) 
     out
 }
 
-fn branch_findings(s: &[u8], a: About, w: Walk, findings: &mut [u32], o: Out) -> Out
-    requires { ⌜ (w .count ≤ 512) × (length (w .list) ≡ 512) ⌝ }
-    ensures { λ r. ⌜ ((i : List ℕ) → board (now (findings .exit)) i r ≡ pushes (branchesItems (now (s .entry)) a w) (board (now (findings .entry)) i o)) ⌝ }
+fn branch_findings(
+    s: &[u8],
+    a: About,
+    list: &[usize; 512],
+    count: usize,
+    findings: &mut [u32],
+    o: Out,
+) -> Out
+    requires { ⌜ count ≤ 512 ⌝ }
+    ensures { λ r. ⌜ ((i : List ℕ) → board (now (findings .exit)) i r ≡ pushes (branchesItems (now (s .entry)) a (walkBy (now (list .entry)) count)) (board (now (findings .entry)) i o)) ⌝ }
 {
-    let count = w.count;
     let mut out = o;
     let mut k: usize = 0;
     while k < count {
-        let p = w.list[k];
+        let p = list[k];
         if lint_walk::kind_at(s, p) == 4 {
             out = choice_findings(s, a, p, findings, out);
             k += 1;
@@ -261,19 +266,19 @@ fn writes_findings(
     names: Names,
     rules: Section,
     a: About,
-    w: Walk,
+    list: &[usize; 512],
+    count: usize,
     findings: &mut [u32],
     interactions: &mut [u32],
     o: Out,
 ) -> Out
-    requires { ⌜ (names .entities .count ≤ 32) × (names .invariants .count ≤ 32) × (rules .count ≤ 32) × (w .count ≤ 512) × (length (w .list) ≡ 512) ⌝ }
-    ensures { λ r. ⌜ board (now (findings .exit)) (now (interactions .exit)) r ≡ pushes (writesItems (now (s .entry)) names rules a w) (board (now (findings .entry)) (now (interactions .entry)) o) ⌝ }
+    requires { ⌜ (names .entities .count ≤ 32) × (names .invariants .count ≤ 32) × (rules .count ≤ 32) × (count ≤ 512) ⌝ }
+    ensures { λ r. ⌜ board (now (findings .exit)) (now (interactions .exit)) r ≡ pushes (writesItems (now (s .entry)) names rules a (walkBy (now (list .entry)) count)) (board (now (findings .entry)) (now (interactions .entry)) o) ⌝ }
 {
-    let count = w.count;
     let mut out = o;
     let mut k: usize = 0;
     while k < count {
-        out = write_findings(s, names, rules, a, w.list[k], findings, interactions, out);
+        out = write_findings(s, names, rules, a, list[k], findings, interactions, out);
         k += 1;
     }
     out
@@ -286,16 +291,17 @@ fn first_findings(
     s: &[u8],
     a: About,
     at: usize,
-    w: Walk,
+    list: &[usize; 512],
+    count: usize,
     writes: u32,
     findings: &mut [u32],
     o: Out,
 ) -> Out
-    requires { ⌜ (w .count ≤ 512) × (length (w .list) ≡ 512) ⌝ }
-    ensures { λ r. ⌜ ((i : List ℕ) → board (now (findings .exit)) i r ≡ pushes (firstItems (now (s .entry)) a at w writes) (board (now (findings .entry)) i o)) ⌝ }
+    requires { ⌜ count ≤ 512 ⌝ }
+    ensures { λ r. ⌜ ((i : List ℕ) → board (now (findings .exit)) i r ≡ pushes (firstItems (now (s .entry)) a at (walkBy (now (list .entry)) count) writes) (board (now (findings .entry)) i o)) ⌝ }
 {
-    let p = own_findings(s, a, at, w, writes, findings, o);
-    let q = branch_findings(s, a, w, findings, p);
+    let p = own_findings(s, a, at, list, count, writes, findings, o);
+    let q = branch_findings(s, a, list, count, findings, p);
     let line = a.line;
     let column = a.column;
     lint_board::push_if(
@@ -306,26 +312,27 @@ fn first_findings(
     )
 }
 
-// The entries of the automation at a position, with its walk and the sets of what it reads and writes.
+// The entries of the automation at a position, with its actions, the first `count` of `list`, and the sets of what it reads and writes.
 pub fn rule_findings(
     s: &[u8],
     names: Names,
     rules: Section,
     a: About,
     at: usize,
-    w: Walk,
+    list: &[usize; 512],
+    count: usize,
     reads: u32,
     writes: u32,
     findings: &mut [u32],
     interactions: &mut [u32],
     o: Out,
 ) -> Out
-    requires { ⌜ (names .entities .count ≤ 32) × (names .invariants .count ≤ 32) × (rules .count ≤ 32) × (w .count ≤ 512) × (length (w .list) ≡ 512) ⌝ }
-    ensures { λ r. ⌜ board (now (findings .exit)) (now (interactions .exit)) r ≡ pushes (ruleItems (now (s .entry)) names rules a at w reads writes) (board (now (findings .entry)) (now (interactions .entry)) o) ⌝ }
+    requires { ⌜ (names .entities .count ≤ 32) × (names .invariants .count ≤ 32) × (rules .count ≤ 32) × (count ≤ 512) ⌝ }
+    ensures { λ r. ⌜ board (now (findings .exit)) (now (interactions .exit)) r ≡ pushes (ruleItems (now (s .entry)) names rules a at (walkBy (now (list .entry)) count) reads writes) (board (now (findings .entry)) (now (interactions .entry)) o) ⌝ }
 {
-    let p = first_findings(s, a, at, w, writes, findings, o);
+    let p = first_findings(s, a, at, list, count, writes, findings, o);
     let q = fresh_findings(s, a, names.entities, reads, findings, p);
-    writes_findings(s, names, rules, a, w, findings, interactions, q)
+    writes_findings(s, names, rules, a, list, count, findings, interactions, q)
 }
 
 // ---- pairs of automations

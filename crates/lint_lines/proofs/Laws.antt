@@ -26,7 +26,6 @@ use Rattle.lint_reach.specs.Sets.{members}
 use Rattle.lint_reach.proofs.Bits.{ones-members}
 use Rattle.lint_walk.specs.Raw.{placeZ, numberZ, past}
 use Rattle.lint_walk.specs.Walks.{walkW}
-use Rattle.lint_walk.specs.declared.Walk.{Walk}
 use Rattle.lint_answer.specs.declared.Report.{Report}
 use Rattle.show.specs.declared.Source.the-variants.{At}
 use Rattle.show.specs.Lines.{newline, escape, quoted, source, all-lines}
@@ -310,7 +309,7 @@ reads-listed f l k e = counted (λ p. quoted (text-at f p)) l k e ∙ ap listed 
 
 -- ---- sources
 
-pub rule-placed : (f : List ℕ) (s : Section) (i p : ℕ) (w : Walk) (line q column : ℕ) → p ≡ start-at s i → w ≡ walkW f p → line ≡ numberZ f (w .next) → q ≡ past f (w .next) 4 → column ≡ numberZ f q →
+pub rule-placed : (f : List ℕ) (s : Section) (i p w line q column : ℕ) → p ≡ start-at s i → w ≡ walkW f p .next → line ≡ numberZ f w → q ≡ past f w 4 → column ≡ numberZ f q →
     32 ∷ placed line column ≡ 32 ∷ placed (rule-source f s i .line) (rule-source f s i .column)
 unfolding rule-source source-at
 rule-placed f s i p w line q column a b c d e = rw (c, e, d, b, a)

@@ -287,10 +287,9 @@ fn put_rule_source(out: &mut [u8], n: usize, f: &[u8], rules: Section, set: u32,
     ensures { λ m. ⌜ Written (if holds set i then 32 ∷ placed (rule-source (now (f .entry)) rules i .line) (rule-source (now (f .entry)) rules i .column) else []) (now (out .entry)) n (now (out .exit)) m ⌝ }
 {
     if lint_reach::has(set, i) {
-        let w = lint_walk::rule_walk(f, start_at(rules, i));
-        let next = w.next;
-        let line = lint_walk::number_at(f, next);
-        let column = lint_walk::number_at(f, lint_walk::past(f, next, 4));
+        let source = lint_walk::source_at(f, start_at(rules, i));
+        let line = lint_walk::number_at(f, source);
+        let column = lint_walk::number_at(f, lint_walk::past(f, source, 4));
         return put_place(out, n, line, column);
     }
     n

@@ -2,7 +2,6 @@
 use model_parts::Section;
 ghost use mathlib.Core.Path.{_≡_};
 ghost use Prim.Native.Nat.{_≤_, _<_, _+_, _-_};
-ghost use lib.ListN.{length};
 ghost use Rattle.lint_walk.specs.Walks.{walkBy};
 ghost use Rattle.lint_names.specs.Strange.{awaitZ, awaitsZ, withU, readU, ruleU, undeclaredU};
 
@@ -80,11 +79,12 @@ fn rule_names(
     requires { ⌜ (entities .count ≤ 32) × (i < 32) ⌝ }
     ensures { λ r. ⌜ r ≡ ruleU (now (s .entry)) entities rules texts i u ⌝ }
 {
-    let w = lint_walk::rule_walk(s, rules.starts[i]);
+    let mut list = [0usize; 512];
+    let c = lint_walk::rule_walk(s, rules.starts[i], &mut list);
     let mut v = u;
     let mut place: u32 = 0;
     while place < texts {
-        if awaits(s, &w.list, w.count, place) {
+        if awaits(s, &list, c.count, place) {
             v = with_strange(s, entities, i as u32, place, v);
             place += 1;
         } else {

@@ -10,13 +10,12 @@ use Rattle.texts.specs.Texts.{Text}
 use Rattle.reasons.specs.Lists.{listed, reasons}
 use Rattle.engine_reads.specs.Reads.{cap}
 use Rattle.engine_unsupported.specs.Listing.{ruleL}
-use Rattle.lint_walk.specs.declared.Walk.{Walk}
 use Rattle.lint_walk.specs.Raw.{placeZ, numberZ, past, triggersZ, conditionsZ, actionsZ, predicatesEnd}
 use Rattle.lint_walk.specs.Walks.{walkW}
 use Rattle.lint_board.specs.Board.{finding, Board, pushes}
 use Rattle.lint_findings.specs.Entries.{itemsN}
 use Rattle.lint_findings.proofs.Laws.{numbers-start}
-use Rattle.lint_notes.specs.Notes.{noteZ, noteItems, RowOf, Few, RuleNotes, AllNotes, no-notes, more-notes}
+use Rattle.lint_notes.specs.Notes.{noteZ, noteItems, RowOf, Few, RuleNotes, NotesAt, AllNotes, no-notes, more-notes}
 
 pub words-is : (set line column : ℕ) (u : List ℕ) (j k : ℕ) → k ≡ 5 * j →
     (9 ∷ 2 ∷ 5 ∷ 0 ∷ set ∷ line ∷ column ∷ 0 ∷ 0 ∷ getD u k 0 ∷ getD u (k + 1) 0 ∷ getD u (k + 2) 0 ∷ getD u (k + 3) 0 ∷ getD u (k + 4) 0 ∷ []) ≡ noteZ set line column u j
@@ -46,22 +45,24 @@ pub none-listed : (f a : List ℕ) → listed f 0 a ≡ []
 unfolding reasons
 none-listed f a = refl
 
-pub rule-is : (s : List ℕ) (rules : Section) (i : ℕ) {w : Walk} {row : List ℕ} (u : List ℕ) {n k line q column x : ℕ} (b : Board) {c : Board} {l : List Text} →
-    w ≡ walkW s (getD (rules .starts) i 0) → RowOf s (getD (rules .starts) i 0) (w .next) row → l ≡ [] → listed s n u ≡ ruleL s row 0 l → Few n k →
-    line ≡ numberZ s (w .next) → q ≡ past s (w .next) 4 → column ≡ numberZ s q → x ≡ bitOr 0 (2 ^ i) → c ≡ pushes (noteItems x line column u k) b → RuleNotes s rules i b c
-rule-is s rules i {w} {row} u {n} {k} {line} {q} {column} {x} b e f z g h l m o p j = record {
-  row = row;
-  reasons = u;
-  many = n;
-  count = k;
-  is-row = subst (λ (v : Walk). RowOf s (getD (rules .starts) i 0) (v .next) row) e f;
-  are-reasons = g ∙ ap (ruleL s row 0) z;
-  counts = h;
-  inserted = j
-      ∙ ap (λ (y : ℕ). pushes (noteItems y line column u k) b) p
-      ∙ ap (λ (y : ℕ). pushes (noteItems (bitOr 0 (2 ^ i)) y column u k) b) (l ∙ ap (λ (v : Walk). numberZ s (v .next)) e)
-      ∙ ap (λ (y : ℕ). pushes (noteItems (bitOr 0 (2 ^ i)) (numberZ s (walkW s (getD (rules .starts) i 0) .next)) y u k) b) (o ∙ ap (numberZ s) (m ∙ ap (λ (v : Walk). past s (v .next) 4) e));
-}
+pub rule-is : (s : List ℕ) (i : ℕ) {at w : ℕ} {row : List ℕ} (u : List ℕ) {n k line q column x : ℕ} (b : Board) {c : Board} {l : List Text} →
+    w ≡ walkW s at .next → RowOf s at w row → l ≡ [] → listed s n u ≡ ruleL s row 0 l → Few n k →
+    line ≡ numberZ s w → q ≡ past s w 4 → column ≡ numberZ s q → x ≡ bitOr 0 (2 ^ i) → c ≡ pushes (noteItems x line column u k) b → NotesAt s at i b c
+rule-is s i {at} {w} {row} u {n} {k} {line} {q} {column} {x} b e₀ f₀ z g h l m o p j rules y =
+    let e : w ≡ walkW s (getD (rules .starts) i 0) .next = e₀ ∙ ap (λ (a : ℕ). walkW s a .next) y in
+    record {
+      row = row;
+      reasons = u;
+      many = n;
+      count = k;
+      is-row = subst (λ (a : ℕ). RowOf s a (walkW s (getD (rules .starts) i 0) .next) row) y (subst (λ (v : ℕ). RowOf s at v row) e f₀);
+      are-reasons = g ∙ ap (ruleL s row 0) z;
+      counts = h;
+      inserted = j
+          ∙ ap (λ (y : ℕ). pushes (noteItems y line column u k) b) p
+          ∙ ap (λ (y : ℕ). pushes (noteItems (bitOr 0 (2 ^ i)) y column u k) b) (l ∙ ap (numberZ s) e)
+          ∙ ap (λ (y : ℕ). pushes (noteItems (bitOr 0 (2 ^ i)) (numberZ s (walkW s (getD (rules .starts) i 0) .next)) y u k) b) (o ∙ ap (numberZ s) (m ∙ ap (λ (v : ℕ). past s v 4) e));
+    }
 
 module _ (s : List ℕ) (rules : Section) where
   -- one automation less is left

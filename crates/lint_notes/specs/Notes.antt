@@ -45,6 +45,10 @@ pub record RuleNotes (s : List ℕ) (rules : Section) (i : ℕ) (b c : Board) : 
   pub counts : Few many count
   pub inserted : c ≡ pushes (noteItems (bitOr 0 (2 ^ i)) (numberZ s (walkW s (getD (rules .starts) i 0) .next)) (numberZ s (past s (walkW s (getD (rules .starts) i 0) .next) 4)) reasons count) b
 
+-- the i-th automation stands at p
+abbrev pub NotesAt : (s : List ℕ) → (p i : ℕ) → (b c : Board) → Type 0
+NotesAt s p i b c = (rules : Section) → p ≡ getD (rules .starts) i 0 → RuleNotes s rules i b c
+
 -- those of `left` automations from the i-th on
 pub data AllNotes (s : List ℕ) (rules : Section) : (left i : ℕ) → Board → Board → Type 0 where
   no-notes : {i : ℕ} {b : Board} → AllNotes s rules zero i b b

@@ -4,28 +4,22 @@ use model_parts::Section;
 ghost use mathlib.Core.Path.{_≡_};
 ghost use mathlib.Core.List.{List};
 ghost use Prim.Native.Nat.{ℕ, _≤_, _<_, _+_, _*_, _-_};
-ghost use lib.ListN.{length};
 ghost use Rattle.lint_board.specs.Board.{board, pushes};
-ghost use Rattle.lint_notes.specs.Notes.{noteZ, noteItems, RowOf, Few, RuleNotes, AllNotes};
+ghost use Rattle.lint_notes.specs.Notes.{noteZ, noteItems, RowOf, Few, NotesAt, AllNotes};
 
 // ---- where the notes of an automation stand
 
 // The first row of a table is the automation's: its identifier, and where its triggers, conditions, actions and notes stand.
-pub struct Row {
-    pub words: [u32; 436],
-}
-
-fn row_of(s: &[u8], at: usize, source: usize) -> Row
-    ensures { λ r. ⌜ RowOf (now (s .entry)) at source (r .words) ⌝ }
+fn put_row(s: &[u8], at: usize, source: usize, words: &mut [u32; 436])
+    ensures { λ _. ⌜ RowOf (now (s .entry)) at source (now (words .exit)) ⌝ }
 {
     let conditions = lint_walk::conditions_at(s, at);
-    let mut words = [0u32; 436];
+    *words = [0u32; 436];
     words[80] = lint_walk::place_at(s, at);
     words[83] = engine_reads::capped(lint_walk::triggers_at(s, at));
     words[84] = engine_reads::capped(conditions);
     words[85] = engine_reads::capped(lint_walk::predicates_end(s, conditions));
     words[87] = engine_reads::capped(lint_walk::past(s, source, 8));
-    Row { words }
 }
 
 // At most 300.
@@ -86,25 +80,29 @@ fn note_findings(
     out
 }
 
-// The notes of the i-th automation.
-fn rule_notes(s: &[u8], rules: Section, i: usize, findings: &mut [u32], o: Out) -> Out
+// The notes of the i-th automation, which stands at a position; the row and the reasons are lent.
+fn rule_notes(
+    s: &[u8],
+    at: usize,
+    i: usize,
+    words: &mut [u32; 436],
+    reasons: &mut [u32; 1500],
+    findings: &mut [u32],
+    o: Out,
+) -> Out
     requires { ⌜ i < 32 ⌝ }
-    ensures { λ r. ⌜ ((k : List ℕ) → RuleNotes (now (s .entry)) rules i (board (now (findings .entry)) k o) (board (now (findings .exit)) k r)) ⌝ }
+    ensures { λ r. ⌜ ((k : List ℕ) → NotesAt (now (s .entry)) at i (board (now (findings .entry)) k o) (board (now (findings .exit)) k r)) ⌝ }
 {
-    let at = rules.starts[i];
-    let w = lint_walk::rule_walk(s, at);
-    let source = w.next;
-    let row = row_of(s, at, source);
-    let words = row.words;
-    let mut reasons = [0u32; 1500];
-    let count = few(engine_unsupported::rule_notes(s, &words, &mut reasons, 0, 0));
+    let source = lint_walk::source_at(s, at);
+    put_row(s, at, source, words);
+    let count = few(engine_unsupported::rule_notes(s, words, reasons, 0, 0));
     let line = lint_walk::number_at(s, source);
     let column = lint_walk::number_at(s, lint_walk::past(s, source, 4));
     note_findings(
         lint_reach::with(0, i),
         line,
         column,
-        &reasons,
+        reasons,
         count,
         findings,
         o,
@@ -117,10 +115,13 @@ pub fn notes(s: &[u8], rules: Section, findings: &mut [u32], o: Out) -> Out
     ensures { λ r. ⌜ ((k : List ℕ) → AllNotes (now (s .entry)) rules (rules .count) 0 (board (now (findings .entry)) k o) (board (now (findings .exit)) k r)) ⌝ }
 {
     let count = rules.count as usize;
+    let mut words = [0u32; 436];
+    let mut reasons = [0u32; 1500];
     let mut out = o;
     let mut i: usize = 0;
     while i < count {
-        out = rule_notes(s, rules, i, findings, out);
+        let at = rules.starts[i];
+        out = rule_notes(s, at, i, &mut words, &mut reasons, findings, out);
         i += 1;
     }
     out

@@ -1,9 +1,8 @@
 // The tests of lint, on places in the file.
-use lint_walk::Walk;
 use model_parts::Section;
 ghost use mathlib.Core.Path.{_≡_};
 ghost use Prim.Native.Nat.{_≤_, _<_, _+_, _-_};
-ghost use lib.ListN.{length};
+ghost use Rattle.lint_walk.specs.Walks.{walkBy};
 ghost use Rattle.lint_tests.specs.Tests.{clashZ, clashesZ, meetsZ, contradictoryZ, mismatchZ, mismatchedZ, delaysZ, guardZ, guardedZ, unguardedZ, setsOffZ, leadsZ, opposedZ, tierZ, staleZ, highestZ, greaterZ};
 
 // What a test needs of a model: its declared entities, its invariants, and the places of `on`, `off` and `*`; the number of texts for no `*`.
@@ -149,15 +148,14 @@ pub fn leads(s: &[u8], star: u32, x: u32, v: u32, at: usize) -> bool
 
 // ---- actions
 
-// Whether one of the actions is a delay.
-pub fn delays(s: &[u8], w: Walk) -> bool
-    requires { ⌜ (w .count ≤ 512) × (length (w .list) ≡ 512) ⌝ }
-    ensures { λ r. ⌜ r ≡ delaysZ (now (s .entry)) w ⌝ }
+// Whether one of the first `count` actions of `list` is a delay.
+pub fn delays(s: &[u8], list: &[usize; 512], count: usize) -> bool
+    requires { ⌜ count ≤ 512 ⌝ }
+    ensures { λ r. ⌜ r ≡ delaysZ (now (s .entry)) (walkBy (now (list .entry)) count) ⌝ }
 {
-    let count = w.count;
     let mut k: usize = 0;
     while k < count {
-        if lint_walk::kind_at(s, w.list[k]) == 2 {
+        if lint_walk::kind_at(s, list[k]) == 2 {
             return true;
         }
         k += 1;

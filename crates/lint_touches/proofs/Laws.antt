@@ -11,8 +11,8 @@ use Rattle.model_parts.specs.declared.Section.{Section}
 use Rattle.model_check.specs.Checks.{number-of}
 use Rattle.lint_walk.specs.declared.Walk.{Walk}
 use Rattle.lint_walk.specs.Raw.{byteZ, placeZ, past, predicateEnd, predicatesEnd, kindZ, triggersZ, conditionsZ}
-use Rattle.lint_walk.specs.Walks.{listEnd}
-use Rattle.lint_touches.specs.Sets.{Adds, over, along, addE, addP, predicatesS, addT, triggersS, branchesS, addA, addW, readsS, writesS}
+use Rattle.lint_walk.specs.Walks.{walkBy, listEnd}
+use Rattle.lint_touches.specs.Sets.{sectionBy, Adds, over, along, addE, addP, predicatesS, addT, triggersS, branchesS, addA, addW, readsS, writesS}
 
 -- ---- loops
 
@@ -119,3 +119,12 @@ module _ (s : List ℕ) (e : Section) where
   pub reads-is : (p : ℕ) (w : Walk) {q r x y : ℕ} → q ≡ triggersZ s p → x ≡ triggersS s e q 0 → over (addA s e) (w .list) (w .count) 0 x ≡ y → r ≡ conditionsZ s p → predicatesS s e r y ≡ readsS s e p w
   unfolding readsS
   reads-is p w a b c d = rw (d, ← c, b, a)
+
+  -- positions and counts alone say what an automation reads and writes
+  pub reads-by : (p : ℕ) (w : Walk) {r : ℕ} → r ≡ readsS s (sectionBy (e .starts) (e .count)) p (walkBy (w .list) (w .count)) → r ≡ readsS s e p w
+  unfolding readsS predicatesS triggersS branchesS addA addT addP addE
+  reads-by p w h = h
+
+  pub writes-by : (w : Walk) {r : ℕ} → r ≡ writesS s (sectionBy (e .starts) (e .count)) (walkBy (w .list) (w .count)) → r ≡ writesS s e w
+  unfolding writesS addW addE
+  writes-by w h = h

@@ -5,11 +5,16 @@ use lib.Bits.{bitOr}
 use lib.Dec.{ltb, eqb}
 use lib.ListN.{getD}
 use Rattle.texts.specs.Lists.{if_then_else_}
+use Rattle.model_walk.specs.declared.Walked.the-variants as walked
 use Rattle.model_parts.specs.declared.Section.{Section}
 use Rattle.model_check.specs.Checks.{number-of}
 use Rattle.lint_walk.specs.declared.Walk.{Walk}
 use Rattle.lint_walk.specs.Raw.{byteZ, placeZ, past, predicateEnd, predicatesEnd, kindZ, triggersZ, conditionsZ}
 use Rattle.lint_walk.specs.Walks.{listEnd}
+
+-- a section by its first n positions alone
+abbrev pub sectionBy : List ℕ → (n : ℕ) → Section
+sectionBy l n = record { count = n; starts = l; end = walked.Broken }
 
 -- a change of a set
 abbrev pub Adds : Type 0

@@ -4,7 +4,7 @@ use mathlib.Core.List.{List}
 use Prim.Native.Nat.{ℕ, zero, suc, _+_, _-_, _*_, _≤_, _<_}
 use native.Mathlib.Numerals.{sub-one}
 use native.Mathlib.Omega.{arith}
-use lib.ListN.{length, set}
+use lib.ListN.{length, set, replicate}
 use borrow.Author.Tests.{lt-ltb, le-ltb, le-leb, lt-leb, eq-eqb, ne-eqb}
 use Rattle.model.specs.File.{Got, u8, u16, u32}
 use Rattle.model_walk.specs.declared.Num.{Num}
@@ -171,13 +171,17 @@ module _ (s : List ℕ) (w : Walk) where
   unfolding branchW
   branch-is inner = refl
 
-pub walk-is : (s : List ℕ) (p q : ℕ) → q ≡ actionsZ s p → listW 18 s (fresh q) ≡ walkW s p
+pub walk-is : (s : List ℕ) (p : ℕ) {l : List ℕ} {q : ℕ} → l ≡ replicate 512 0 → q ≡ actionsZ s p → listW 18 s (record { list = l; count = 0; next = q }) ≡ walkW s p
 unfolding walkW
-walk-is s p q e = rw e
+walk-is s p d e = rw (d, e)
 
 pub list-end-is : (s : List ℕ) (p : ℕ) (w : Walk) → w ≡ listW 18 s (fresh p) → w .next ≡ listEnd s p
 unfolding listEnd
 list-end-is s p w e = rw e
+
+pub source-is : (s : List ℕ) (p : ℕ) {q : ℕ} → q ≡ actionsZ s p → listEnd s q ≡ walkW s p .next
+unfolding listEnd walkW
+source-is s p e = rw e
 
 pub same-start : {A : Type 0} (f : A → A) {n m : ℕ} {a b : A} → n ≡ m → a ≡ b → repeat m f b ≡ repeat n f a
 same-start f e g = rw (e, g)

@@ -3,7 +3,7 @@
 use model_walk::Num;
 ghost use mathlib.Core.Path.{_≡_};
 ghost use Prim.Native.Nat.{_+_, _≤_, _<_};
-ghost use lib.ListN.{length};
+ghost use lib.ListN.{replicate};
 ghost use Rattle.lint_walk.specs.Raw.{byteZ, placeZ, numberZ, past, predicateEnd, predicatesEnd, simpleEnd, kindZ, triggersZ, conditionsZ, actionsZ};
 ghost use Rattle.lint_walk.specs.Walks.{walkOf, movedC, notedW, enteredW, simpleW, listW, choiceW, walkW, listEnd};
 
@@ -129,7 +129,7 @@ fn actions_at(s: &[u8], at: usize) -> usize
 
 // ---- walking
 
-// The positions of the actions so far, the first `count` of `list`, and the position that is next.
+// The positions of the actions so far, the first `count` of `list`, and the position that is next: what contracts speak of.
 pub struct Walk {
     pub list: [usize; 512],
     pub count: usize,
@@ -137,9 +137,9 @@ pub struct Walk {
 }
 
 // How many positions are listed so far, and the position that is next: a walk without its list, which is lent.
-struct Cursor {
-    count: usize,
-    next: usize,
+pub struct Cursor {
+    pub count: usize,
+    pub next: usize,
 }
 
 fn moved(c: Cursor, next: usize) -> Cursor
@@ -217,21 +217,16 @@ fn choice_walk(s: &[u8], left: usize, list: &mut [usize; 512], c: Cursor) -> Cur
     list_walk(s, left, list, v)
 }
 
-// The actions of the automation at a position; its source is next.
-pub fn rule_walk(s: &[u8], at: usize) -> Walk
-    ensures { λ r. ⌜ r ≡ walkW (now (s .entry)) at ⌝ }
+// The actions of the automation at a position, into a list of zeros; its source is next.
+pub fn rule_walk(s: &[u8], at: usize, list: &mut [usize; 512]) -> Cursor
+    requires { ⌜ now list ≡ replicate 512 0 ⌝ }
+    ensures { λ r. ⌜ walkOf (now (list .exit)) r ≡ walkW (now (s .entry)) at ⌝ }
 {
-    let mut list = [0usize; 512];
     let start = Cursor {
         count: 0,
         next: actions_at(s, at),
     };
-    let c = list_walk(s, 18, &mut list, start);
-    Walk {
-        list: list,
-        count: c.count,
-        next: c.next,
-    }
+    list_walk(s, 18, list, start)
 }
 
 // The position behind a list of actions.
@@ -241,4 +236,11 @@ pub fn list_end(s: &[u8], at: usize) -> usize
     let mut list = [0usize; 512];
     let start = Cursor { count: 0, next: at };
     list_walk(s, 18, &mut list, start).next
+}
+
+// The source of the automation at a position: it stands behind the actions.
+pub fn source_at(s: &[u8], at: usize) -> usize
+    ensures { λ r. ⌜ r ≡ walkW (now (s .entry)) at .next ⌝ }
+{
+    list_end(s, actions_at(s, at))
 }

@@ -19,13 +19,10 @@ use Rattle.lint_touches.proofs.writes.Reads as writes-reads
 use Rattle.lint_walk.proofs.rule_walk.Reads as rule-walk-reads
 
 abbrev Inv-loop : tie.InvT-loop
-Inv-loop s entities rules count writes₀ needs₀ i₀ writes needs i =
-    (writesL s entities rules ≡ fillL (λ k. writesS s entities (walkW s (getD (rules .starts) k 0)))
-    (count - i) i writes) × (needsL s entities rules ≡ fillL
-    (λ k. needsS s entities (getD (rules .starts) k 0) (walkW s (getD (rules .starts) k 0))) (count - i) i needs)
+Inv-loop s entities rules n many writes₀ needs₀ i₀ writes needs i = (writesL s entities rules ≡ fillL (λ k. writesS s entities (walkW s (getD (rules .starts) k 0))) (n - i) i writes) × (needsL s entities rules ≡ fillL (λ k. needsS s entities (getD (rules .starts) k 0) (walkW s (getD (rules .starts) k 0))) (n - i) i needs)
 
 abbrev μ-loop : tie.MeasureT-loop
-μ-loop s entities rules count writes₀ needs₀ i₀ writes needs i = count - i
+μ-loop s entities rules n many writes₀ needs₀ i₀ writes needs i = n - i
 
 pub rule-sets-spec : {M : Type 1} → statement M
 rule-sets-spec =
@@ -38,13 +35,13 @@ rule-sets-spec =
     (λ c. search needs)
     (λ c. search needs)
     (λ c κs. search needs)
-    (λ c κs. (c .before .before .before .before .before .pre .0, sizes.sized _ _ (c .rule-walk .ensures) .0, sizes.sized _ _ (c .rule-walk .ensures) .1))
+    (λ c κs. (c .before .before .before .before .before .before .before .before .before .pre .0, sizes.sized _ _ (c .before .before .before .rule-walk .ensures) .0))
     (λ c. search needs)
     (λ c. search needs)
-    (λ c κs. (c .before .before .before .before .before .before .pre .0, sizes.sized _ _ (c .before .rule-walk .ensures) .0, sizes.sized _ _ (c .before .rule-walk .ensures) .1))
+    (λ c κs. (c .before .before .before .before .before .before .before .before .before .before .before .before .before .pre .0, sizes.sized _ _ (c .before .before .before .before .before .before .before .rule-walk .ensures) .0))
     (λ c. search needs)
     (λ c. search needs)
     (λ c. search needs)
     (λ c. search needs)
-    (λ c. (c .before .before .before .before .before .loop .inv .0 ∙ entry.fill-more _ _ _ _ (c .before .before .before .before .loop-test .taken) (laws.write-is _ _ _ (c .before .before .rule-walk .ensures) (c .before .writes .ensures)), c .before .before .before .before .before .loop .inv .1 ∙ entry.fill-more _ _ _ _ (c .before .before .before .before .loop-test .taken) (laws.need-is _ _ _ (c .before .before .rule-walk .ensures) (c .needs .ensures))))
+    (λ c. (c .before .before .before .before .before .before .before .before .before .before .before .before .loop .inv .0 ∙ entry.fill-more _ _ _ _ (c .before .before .before .before .before .before .before .before .before .before .before .loop-test .taken) (laws.write-is _ _ _ (c .before .before .before .before .before .before .before .before .rule-walk .ensures) (c .before .before .before .before .writes .ensures)), c .before .before .before .before .before .before .before .before .before .before .before .before .loop .inv .1 ∙ entry.fill-more _ _ _ _ (c .before .before .before .before .before .before .before .before .before .before .before .loop-test .taken) (laws.need-is _ _ _ (c .before .before .before .before .before .before .before .before .rule-walk .ensures) (c .needs .ensures))))
     (λ c. record { writes = sym (c .before .loop .inv .0 ∙ entry.fill-end _ _ _ _ (c .loop-test .left)); needs = sym (c .before .loop .inv .1 ∙ entry.fill-end _ _ _ _ (c .loop-test .left)) }))

@@ -1,7 +1,7 @@
 use borrow.Author.Needs.{needs}
 use mathlib.Core.Path.{_≡_, refl, sym, _∙_}
 use Prim.Native.Nat.{_-_}
-use Rattle.lint_touches.specs.Sets.{over}
+use Rattle.lint_touches.specs.Sets.{sectionBy, over}
 use Rattle.lint_touches.proofs.Laws as touches
 use Rattle.cone_sets.specs.Sets.{addI, namedS}
 use Rattle.cone_sets.proofs.Laws as laws
@@ -12,11 +12,11 @@ use Rattle.cone_sets.proofs.named.Lts as lts
 use Rattle.cone_sets.proofs.add_named.Reads as add-named-reads
 
 abbrev Inv-loop : tie.InvT-loop
-Inv-loop s entities invariants count set₀ k₀ set k =
-    namedS s entities invariants ≡ over (addI s entities) (invariants .starts) (count - k) k set
+Inv-loop s entities many invariants count set₀ k₀ set k =
+    namedS s (sectionBy entities many) invariants ≡ over (addI s (sectionBy entities many)) (invariants .starts) (count - k) k set
 
 abbrev μ-loop : tie.MeasureT-loop
-μ-loop s entities invariants count set₀ k₀ set k = count - k
+μ-loop s entities many invariants count set₀ k₀ set k = count - k
 
 pub named-spec : {M : Type 1} → statement M
 named-spec =

@@ -1,7 +1,8 @@
 use borrow.Author.Needs.{needs}
 use mathlib.Core.Path.{_≡_, sym, _∙_}
 use Prim.Native.Nat.{_-_}
-use Rattle.lint_touches.specs.Sets.{over}
+use Rattle.lint_walk.specs.Walks.{walkBy}
+use Rattle.lint_touches.specs.Sets.{sectionBy, over}
 use Rattle.lint_touches.proofs.Laws as touches
 use Rattle.cone_sets.specs.Sets.{addG, needsS}
 use Rattle.cone_sets.proofs.Laws as laws
@@ -13,10 +14,10 @@ use Rattle.cone_sets.proofs.add_toggle.Reads as add-toggle-reads
 use Rattle.lint_touches.proofs.reads.Reads as reads-reads
 
 abbrev Inv-loop : tie.InvT-loop
-Inv-loop s entities at w set₀ count k₀ set k = needsS s entities at w ≡ over (addG s entities) (w .list) (count - k) k set
+Inv-loop s entities many at list count set₀ k₀ set k = needsS s (sectionBy entities many) at (walkBy list count) ≡ over (addG s (sectionBy entities many)) list (count - k) k set
 
 abbrev μ-loop : tie.MeasureT-loop
-μ-loop s entities at w set₀ count k₀ set k = count - k
+μ-loop s entities many at list count set₀ k₀ set k = count - k
 
 pub needs-spec : {M : Type 1} → statement M
 needs-spec =

@@ -5,8 +5,7 @@ use Rattle.lint_answer.proofs.told.Tie as tie
 use Rattle.lint_answer.proofs.told.Reads as reads
 use Rattle.lint_answer.proofs.told.Lts as lts
 use Rattle.lint_answer.proofs.first_sets.Reads as first-sets-reads
-use Rattle.lint_answer.proofs.read_sets.Reads as read-sets-reads
-use Rattle.lint_answer.proofs.write_sets.Reads as write-sets-reads
+use Rattle.lint_answer.proofs.rule_sets.Reads as rule-sets-reads
 use Rattle.lint_names.proofs.undeclared_names.Reads as undeclared-names-reads
 
 pub told-spec : {M : Type 1} → statement M
@@ -16,5 +15,4 @@ told-spec =
     (λ c κs. search needs)
     (λ c κs. search needs)
     (λ c κs. search needs)
-    (λ c κs. search needs)
-    (λ c. laws.told-is _ _ _ _ (c .before .before .before .before .before .before .before .before .first-sets .ensures) (c .before .before .before .before .before .before .before .read-sets .ensures) (c .before .before .before .before .before .before .write-sets .ensures) (c .before .before .before .before .before .undeclared-names .ensures)))
+    (λ c. laws.told-is _ _ _ _ (c .before .before .before .before .before .before .before .first-sets .ensures) (c .before .before .before .before .before .before .rule-sets .ensures .0) (c .before .before .before .before .before .before .rule-sets .ensures .1) (c .before .before .before .before .before .undeclared-names .ensures)))

@@ -3,8 +3,6 @@ use mathlib.Core.Path.{_≡_, sym, _∙_}
 use Prim.Native.Nat.{_-_}
 use lib.ListN.{getD}
 use Rattle.lint_walk.specs.Walks.{walkW}
-use Rattle.lint_findings.proofs.Laws as items
-use Rattle.lint_tests.proofs.Laws as tests
 use Rattle.lint_walk.proofs.Sizes as sizes
 use Rattle.lint_entry.proofs.Laws as laws
 use Rattle.lint_entry.specs.Order.{fillL, rowZ, edgesZ}
@@ -32,10 +30,10 @@ edges-spec =
     (λ c. search needs)
     (λ c. search needs)
     (λ c κs. search needs)
-    (λ c κs. (c .before .before .before .before .before .pre, sizes.sized _ _ (c .rule-walk .ensures) .0, sizes.sized _ _ (c .rule-walk .ensures) .1))
+    (λ c κs. (c .before .before .before .before .before .before .before .pre, sizes.sized _ _ (c .before .rule-walk .ensures) .0))
     (λ c. search needs)
     (λ c. search needs)
     (λ c. search needs)
     (λ c. search needs)
-    (λ c. c .before .before .before .before .loop .inv ∙ laws.fill-more _ _ _ _ (c .before .before .before .loop-test .taken) (laws.edge-row _ _ _ _ (c .before .rule-walk .ensures) (c .reach-row .ensures)))
+    (λ c. c .before .before .before .before .before .before .loop .inv ∙ laws.fill-more _ _ _ _ (c .before .before .before .before .before .loop-test .taken) (laws.edge-row _ _ _ _ (c .before .before .rule-walk .ensures) (c .reach-row .ensures)))
     (λ c. sym (c .before .loop .inv ∙ laws.fill-end _ _ _ _ (c .loop-test .left))))

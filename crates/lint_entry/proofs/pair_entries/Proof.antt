@@ -1,6 +1,6 @@
-use borrow.Author.Needs.{needs}
 use Rattle.lint_walk.proofs.Sizes as sizes
 use Rattle.lint_entry.proofs.Laws as laws
+use borrow.Author.Needs.{needs}
 use Rattle.lint_entry.proofs.pair_entries.Statement.{statement}
 use Rattle.lint_entry.proofs.pair_entries.Tie as tie
 use Rattle.lint_entry.proofs.pair_entries.Reads as reads
@@ -18,6 +18,6 @@ pair-entries-spec =
     (λ c κs. search needs)
     (λ c κs. search needs)
     (λ c κs. search needs)
-    (λ c κs. (c .before .before .before .before .before .before .before .before .before .pre .0, c .before .before .before .before .before .before .before .before .before .pre .3, sizes.sized _ _ (c .before .before .before .before .before .rule-walk .ensures) .0))
+    (λ c κs. (c .before .before .before .before .before .before .before .before .before .pre .0, c .before .before .before .before .before .before .before .before .before .pre .3, sizes.sized _ _ (c .before .before .before .before .rule-walk .ensures) .0))
     (λ c. search needs)
-    (λ c. λ k. laws.pair-is _ _ _ _ _ _ _ (c .before .before .before .before .before .before .before .before .rule-walk .ensures) (c .before .before .before .before .before .before .before .with .ensures) (c .before .before .before .before .before .before .with2 .ensures) (c .before .before .oppose-pair .ensures k)))
+    (λ c. λ k. laws.pair-is _ _ _ _ _ _ _ (c .before .before .before .before .before .before .before .rule-walk .ensures) (c .before .before .before .before .before .before .with .ensures) (c .before .before .before .before .before .with2 .ensures) (c .before .before .oppose-pair .ensures k)))

@@ -2,6 +2,7 @@ use borrow.Author.Needs.{needs}
 use mathlib.Core.Path.{_≡_, sym, _∙_}
 use Prim.Native.Nat.{_-_}
 use lib.ListN.{getD}
+use Rattle.lint_walk.specs.Walks.{walkBy}
 use Rattle.lint_entry.proofs.Laws as laws
 use Rattle.lint_entry.specs.Order.{leadsToZ, fillL, rowZ}
 use Rattle.lint_entry.proofs.reach_row.Statement.{statement}
@@ -11,10 +12,10 @@ use Rattle.lint_entry.proofs.reach_row.Lts as lts
 use Rattle.lint_entry.proofs.leads_to.Reads as leads-to-reads
 
 abbrev Inv-loop : tie.InvT-loop
-Inv-loop s star rules w count row₀ j₀ row j = rowZ s star rules w ≡ fillL (λ j. leadsToZ s star w (getD (rules .starts) j 0)) (count - j) j row
+Inv-loop s star list count rules n row₀ j₀ row j = rowZ s star rules (walkBy list count) ≡ fillL (λ j. leadsToZ s star (walkBy list count) (getD (rules .starts) j 0)) (n - j) j row
 
 abbrev μ-loop : tie.MeasureT-loop
-μ-loop s star rules w count row₀ j₀ row j = count - j
+μ-loop s star list count rules n row₀ j₀ row j = n - j
 
 pub reach-row-spec : {M : Type 1} → statement M
 reach-row-spec =
@@ -30,5 +31,5 @@ reach-row-spec =
     (λ c. search needs)
     (λ c. search needs)
     (λ c. search needs)
-    (λ c. c .before .before .before .before .before .loop .inv ∙ laws.fill-more _ _ _ _ (c .before .before .before .before .loop-test .taken) (laws.leads-by _ _ _ _ (c .leads-to .ensures)))
+    (λ c. c .before .before .before .loop .inv ∙ laws.fill-more _ _ _ _ (c .before .before .loop-test .taken) (c .leads-to .ensures))
     (λ c. sym (c .before .loop .inv ∙ laws.fill-end _ _ _ _ (c .loop-test .left))))

@@ -1,6 +1,3 @@
-use Prim.Native.Nat.{_-_}
-use Rattle.lint_findings.proofs.Laws as items
-use Rattle.lint_tests.proofs.Laws as tests
 use Rattle.lint_walk.proofs.Sizes as sizes
 use Rattle.lint_entry.proofs.Laws as laws
 use borrow.Author.Needs.{needs}
@@ -21,10 +18,10 @@ rule-entries-spec =
     (λ c. search needs)
     (λ c. search needs)
     (λ c κs. search needs)
-    (λ c κs. (c .before .before .before .before .before .before .pre .0, sizes.sized _ _ (c .before .rule-walk .ensures) .0, sizes.sized _ _ (c .before .rule-walk .ensures) .1))
-    (λ c κs. (c .before .before .before .before .before .before .before .pre .0, sizes.sized _ _ (c .before .before .rule-walk .ensures) .0, sizes.sized _ _ (c .before .before .rule-walk .ensures) .1))
-    (λ c κs. (c .before .before .before .before .before .before .before .before .pre .0, c .before .before .before .before .before .before .before .before .pre .3))
-    (λ c κs. (c .before .before .before .before .before .before .before .before .before .before .before .pre .0, c .before .before .before .before .before .before .before .before .before .before .before .pre .1, c .before .before .before .before .before .before .before .before .before .before .before .pre .2, sizes.sized _ _ (c .before .before .before .before .before .before .rule-walk .ensures) .0, sizes.sized _ _ (c .before .before .before .before .before .before .rule-walk .ensures) .1))
+    (λ c κs. (c .before .before .before .before .before .before .before .before .before .before .pre .0, sizes.sized _ _ (c .before .before .before .before .rule-walk .ensures) .0))
+    (λ c κs. (c .before .before .before .before .before .before .before .before .before .before .before .before .before .before .pre .0, sizes.sized _ _ (c .before .before .before .before .before .before .before .before .rule-walk .ensures) .0))
+    (λ c κs. search needs)
+    (λ c κs. (c .before .before .before .before .before .before .before .before .before .before .before .before .before .before .before .before .before .before .before .pre .0, c .before .before .before .before .before .before .before .before .before .before .before .before .before .before .before .before .before .before .before .pre .1, c .before .before .before .before .before .before .before .before .before .before .before .before .before .before .before .before .before .before .before .pre .2, sizes.sized _ _ (c .before .before .before .before .before .before .before .before .before .before .before .before .before .rule-walk .ensures) .0))
     (λ c. search needs)
     (λ c. search needs)
-    (λ c. laws.rule-is _ _ _ _ _ (c .before .before .before .before .before .before .before .before .before .before .before .rule-walk .ensures) (c .before .before .before .before .before .before .before .before .before .writes .ensures) (c .before .before .before .before .before .before .before .before .reads .ensures) (c .before .before .before .before .before .before .before .about .ensures) (c .before .before .before .before .rule-findings .ensures)))
+    (λ c. laws.rule-is _ _ _ _ _ (c .before .before .before .before .before .before .before .before .before .before .before .before .before .before .before .before .before .before .rule-walk .ensures) (c .before .before .before .before .before .before .before .before .before .before .before .before .before .writes .ensures) (c .before .before .before .before .before .before .before .before .before .reads .ensures) (c .before .before .before .before .before .before .before .before .about .ensures) (c .before .before .before .before .rule-findings .ensures)))

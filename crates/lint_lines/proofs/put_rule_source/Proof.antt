@@ -17,5 +17,5 @@ put-rule-source-spec =
     (λ c κs. search needs)
     (λ c κs. search needs)
     (λ c. search needs)
-    (λ c. show.is (laws.rule-placed _ _ _ _ _ _ _ _ (c .before .before .before .before .before .before .before .before .start-at .ensures) (c .before .before .before .before .before .before .before .rule-walk .ensures) (c .before .before .before .before .before .before .number-at .ensures) (c .before .before .before .before .before .past .ensures) (c .before .before .before .before .number-at2 .ensures) ∙ laws.chosen _ _ (sym (c .before .before .before .before .before .before .before .before .before .before .has .ensures) ∙ c .before .before .before .before .before .before .before .before .before .if1 .taken)) (c .before .before .put-place .ensures))
+    (λ c. show.is (laws.rule-placed _ _ _ _ _ _ _ _ (c .before .before .before .before .before .before .before .before .start-at .ensures) (c .before .before .before .before .before .before .before .source-at .ensures) (c .before .before .before .before .before .before .number-at .ensures) (c .before .before .before .before .before .past .ensures) (c .before .before .before .before .number-at2 .ensures) ∙ laws.chosen _ _ (sym (c .before .before .before .before .before .before .before .before .before .before .has .ensures) ∙ c .before .before .before .before .before .before .before .before .before .if1 .taken)) (c .before .before .put-place .ensures))
     (λ c. show.is (laws.not-chosen _ _ (sym (c .before .has .ensures) ∙ c .if1 .left)) (show.nothing _ _)))

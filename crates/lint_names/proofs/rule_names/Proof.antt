@@ -1,6 +1,7 @@
 use borrow.Author.Needs.{needs}
 use mathlib.Core.Path.{_≡_, refl, sym, _∙_}
 use Prim.Native.Nat.{_-_}
+use Rattle.lint_walk.specs.Walks.{walkOf}
 use Rattle.lint_walk.proofs.Sizes as sizes
 use Rattle.lint_names.specs.Strange.{namesU}
 use Rattle.lint_names.proofs.Laws as laws
@@ -13,10 +14,10 @@ use Rattle.lint_names.proofs.with_strange.Reads as with-strange-reads
 use Rattle.lint_walk.proofs.rule_walk.Reads as rule-walk-reads
 
 abbrev Inv-loop : tie.InvT-loop
-Inv-loop s entities texts i w v₀ place₀ v place = namesU s entities w i (texts - 0) 0 v₀ ≡ namesU s entities w i (texts - place) place v
+Inv-loop s entities texts i list c v₀ place₀ v place = namesU s entities (walkOf list c) i (texts - 0) 0 v₀ ≡ namesU s entities (walkOf list c) i (texts - place) place v
 
 abbrev μ-loop : tie.MeasureT-loop
-μ-loop s entities texts i w v₀ place₀ v place = texts - place
+μ-loop s entities texts i list c v₀ place₀ v place = texts - place
 
 pub rule-names-spec : {M : Type 1} → statement M
 rule-names-spec =
@@ -28,13 +29,13 @@ rule-names-spec =
     (λ c. search needs)
     (λ c κs. search needs)
     (λ c. refl)
-    (λ c κs. sizes.sized _ _ (c .before .before .before .before .rule-walk .ensures) .0)
+    (λ c κs. sizes.sized _ _ (c .before .before .before .rule-walk .ensures) .0)
     (λ c. search needs)
     (λ c κs. search needs)
     (λ c. search needs)
     (λ c. search needs)
-    (λ c. c .before .before .before .before .before .before .loop .inv ∙ laws.names-more _ _ _ _ _ _ _ (c .before .before .before .before .before .loop-test .taken) (laws.name-yes _ _ _ _ _ _ (c .before .before .awaits .ensures) (c .before .if1 .taken) (c .with-strange .ensures)))
+    (λ c. c .before .before .before .before .before .loop .inv ∙ laws.names-more _ _ _ _ _ _ _ (c .before .before .before .before .loop-test .taken) (laws.name-yes _ _ _ _ _ _ (c .before .before .awaits .ensures) (c .before .if1 .taken) (c .with-strange .ensures)))
     (λ c. search needs)
     (λ c. search needs)
-    (λ c. c .before .before .before .before .before .loop .inv ∙ laws.names-more _ _ _ _ _ _ _ (c .before .before .before .before .loop-test .taken) (laws.name-no _ _ _ _ _ _ (c .before .awaits .ensures) (c .if1 .left)))
+    (λ c. c .before .before .before .before .loop .inv ∙ laws.names-more _ _ _ _ _ _ _ (c .before .before .before .loop-test .taken) (laws.name-no _ _ _ _ _ _ (c .before .awaits .ensures) (c .if1 .left)))
     (λ c. sym (laws.rule-is _ _ _ _ _ _ (c .before .before .rule-walk .ensures) ∙ c .before .loop .inv ∙ laws.names-end _ _ _ _ _ _ _ (c .loop-test .left))))

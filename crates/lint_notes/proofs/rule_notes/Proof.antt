@@ -7,21 +7,17 @@ use Rattle.lint_notes.proofs.rule_notes.Lts as lts
 use Rattle.engine_unsupported.proofs.rule_notes.Reads as rule-notes-reads
 use Rattle.lint_notes.proofs.few.Reads as few-reads
 use Rattle.lint_notes.proofs.note_findings.Reads as note-findings-reads
-use Rattle.lint_notes.proofs.row_of.Reads as row-of-reads
+use Rattle.lint_notes.proofs.put_row.Reads as put-row-reads
 use Rattle.lint_reach.proofs.with.Reads as with-reads
 use Rattle.lint_walk.proofs.number_at.Reads as number-at-reads
 use Rattle.lint_walk.proofs.past.Reads as past-reads
-use Rattle.lint_walk.proofs.rule_walk.Reads as rule-walk-reads
+use Rattle.lint_walk.proofs.source_at.Reads as source-at-reads
 
 pub rule-notes-spec : {M : Type 1} → statement M
 rule-notes-spec =
     tie.close
     (tie.spec
-    (λ c. search needs)
-    (λ c. search needs)
     (λ c κs. search needs)
-    (λ c κs. search needs)
-    (λ c. search needs)
     (λ c κs. search needs)
     (λ c κs. search needs)
     (λ c κs. search needs)
@@ -29,5 +25,6 @@ rule-notes-spec =
     (λ c κs. search needs)
     (λ c κs. search needs)
     (λ c κs. search needs)
+    (λ c κs. search needs)
     (λ c. search needs)
-    (λ c. λ k. laws.rule-is _ _ _ _ _ (c .before .before .before .before .before .before .before .before .before .before .before .before .before .before .before .before .rule-walk .ensures) (c .before .before .before .before .before .before .before .before .before .before .before .before .before .before .before .row-of .ensures) (laws.none-listed _ _) (c .before .before .before .before .before .before .before .before .before .before .before .rule-notes .ensures) (c .before .before .before .before .before .before .before .before .before .few .ensures) (c .before .before .before .before .before .before .before .before .number-at .ensures) (c .before .before .before .before .before .before .before .past .ensures) (c .before .before .before .before .before .before .number-at2 .ensures) (c .before .before .before .before .before .with .ensures) (c .before .before .note-findings .ensures k)))
+    (λ c. λ k. laws.rule-is _ _ _ _ (c .before .before .before .before .before .before .before .before .before .before .before .before .before .before .before .source-at .ensures) (c .before .before .before .before .before .before .before .before .before .before .before .before .before .put-row .ensures) (laws.none-listed _ _) (c .before .before .before .before .before .before .before .before .before .before .rule-notes .ensures) (c .before .before .before .before .before .before .before .before .before .few .ensures) (c .before .before .before .before .before .before .before .before .number-at .ensures) (c .before .before .before .before .before .before .before .past .ensures) (c .before .before .before .before .before .before .number-at2 .ensures) (c .before .before .before .before .before .with .ensures) (c .before .before .note-findings .ensures k)))

@@ -6,6 +6,7 @@ use lib.Dec.{eqb}
 use Rattle.lint_tests.proofs.Laws as laws
 use Rattle.lint_tests.specs.Tests.{anyL, delaysZ}
 use Rattle.lint_walk.specs.Raw.{kindZ}
+use Rattle.lint_walk.specs.Walks.{walkBy}
 use Rattle.lint_tests.proofs.delays.Statement.{statement}
 use Rattle.lint_tests.proofs.delays.Tie as tie
 use Rattle.lint_tests.proofs.delays.Reads as reads
@@ -13,10 +14,10 @@ use Rattle.lint_tests.proofs.delays.Lts as lts
 use Rattle.lint_walk.proofs.kind_at.Reads as kind-at-reads
 
 abbrev Inv-loop : tie.InvT-loop
-Inv-loop s w count k₀ k = delaysZ s w ≡ anyL (λ p. eqb (kindZ s p) 2) (w .list) (count - k) k
+Inv-loop s list count k₀ k = delaysZ s (walkBy list count) ≡ anyL (λ p. eqb (kindZ s p) 2) list (count - k) k
 
 abbrev μ-loop : tie.MeasureT-loop
-μ-loop s w count k₀ k = count - k
+μ-loop s list count k₀ k = count - k
 
 pub delays-spec : {M : Type 1} → statement M
 delays-spec =

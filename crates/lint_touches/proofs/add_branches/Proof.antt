@@ -2,7 +2,7 @@ use borrow.Author.Needs.{needs}
 use mathlib.Core.Path.{_≡_, refl, sym, ap, _∙_}
 use Prim.Native.Nat.{_-_}
 use Rattle.lint_touches.proofs.Laws as laws
-use Rattle.lint_touches.specs.Sets.{along, predicatesS}
+use Rattle.lint_touches.specs.Sets.{sectionBy, along, predicatesS}
 use Rattle.lint_walk.specs.Raw.{predicatesEnd, past}
 use Rattle.lint_walk.specs.Walks.{listEnd}
 use Rattle.lint_touches.proofs.add_branches.Statement.{statement}
@@ -16,10 +16,10 @@ use Rattle.lint_walk.proofs.place_at.Reads as place-at-reads
 use Rattle.lint_walk.proofs.predicates_end.Reads as predicates-end-reads
 
 abbrev Inv-loop : tie.InvT-loop
-Inv-loop s entities set at left₀ p₀ out₀ left p out = along (predicatesS s entities) (λ q. listEnd s (predicatesEnd s q)) left₀ p₀ out₀ ≡ along (predicatesS s entities) (λ q. listEnd s (predicatesEnd s q)) left p out
+Inv-loop s entities many set at left₀ p₀ out₀ left p out = along (predicatesS s (sectionBy entities many)) (λ q. listEnd s (predicatesEnd s q)) left₀ p₀ out₀ ≡ along (predicatesS s (sectionBy entities many)) (λ q. listEnd s (predicatesEnd s q)) left p out
 
 abbrev μ-loop : tie.MeasureT-loop
-μ-loop s entities set at left₀ p₀ out₀ left p out = left
+μ-loop s entities many set at left₀ p₀ out₀ left p out = left
 
 pub add-branches-spec : {M : Type 1} → statement M
 add-branches-spec =

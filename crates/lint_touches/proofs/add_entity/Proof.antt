@@ -1,3 +1,4 @@
+use Rattle.lint_touches.specs.Sets.{sectionBy}
 use mathlib.Core.Path.{sym, _∙_}
 use Prim.Native.Nat.{_-_}
 use Rattle.lint_touches.proofs.Laws as laws
@@ -7,8 +8,8 @@ use Rattle.lint_touches.proofs.add_entity.Tie as tie
 use Rattle.lint_touches.proofs.add_entity.Reads as reads
 use Rattle.lint_touches.proofs.add_entity.Lts as lts
 use Rattle.lint_reach.proofs.with.Reads as with-reads
-use Rattle.model_check.proofs.number_of.Reads as number-of-reads
+use Rattle.model_check.proofs.first_of.Reads as first-of-reads
 
 pub add-entity-spec : {M : Type 1} → statement M
 add-entity-spec =
-    tie.close (tie.spec (λ c κs. search needs) (λ c. search needs) (λ c κs. search needs) (λ c. c .with .ensures ∙ sym (laws.entity-yes _ _ _ (c .before .before .before .number-of .ensures .0) _ (c .before .if1 .taken))) (λ c. sym (laws.entity-no _ _ _ (c .before .before .number-of .ensures .0) _ (c .if1 .left))))
+    tie.close (tie.spec (λ c κs. search needs) (λ c κs. search needs) (λ c. c .with .ensures ∙ sym (laws.entity-yes _ (sectionBy _ _) _ (c .before .before .first-of .ensures .0) _ (c .before .if1 .taken))) (λ c. sym (laws.entity-no _ (sectionBy _ _) _ (c .before .first-of .ensures .0) _ (c .if1 .left))))

@@ -2,7 +2,7 @@ use borrow.Author.Needs.{needs}
 use mathlib.Core.Path.{_≡_, refl, sym, _∙_}
 use Prim.Native.Nat.{_-_}
 use Rattle.lint_touches.proofs.Laws as laws
-use Rattle.lint_touches.specs.Sets.{along, addP}
+use Rattle.lint_touches.specs.Sets.{sectionBy, along, addP}
 use Rattle.lint_walk.specs.Raw.{predicateEnd, past}
 use Rattle.lint_touches.proofs.add_predicates.Statement.{statement}
 use Rattle.lint_touches.proofs.add_predicates.Tie as tie
@@ -14,10 +14,10 @@ use Rattle.lint_walk.proofs.place_at.Reads as place-at-reads
 use Rattle.lint_walk.proofs.predicate_end.Reads as predicate-end-reads
 
 abbrev Inv-loop : tie.InvT-loop
-Inv-loop s entities set at left₀ p₀ out₀ left p out = along (addP s entities) (predicateEnd s) left₀ p₀ out₀ ≡ along (addP s entities) (predicateEnd s) left p out
+Inv-loop s entities many set at left₀ p₀ out₀ left p out = along (addP s (sectionBy entities many)) (predicateEnd s) left₀ p₀ out₀ ≡ along (addP s (sectionBy entities many)) (predicateEnd s) left p out
 
 abbrev μ-loop : tie.MeasureT-loop
-μ-loop s entities set at left₀ p₀ out₀ left p out = left
+μ-loop s entities many set at left₀ p₀ out₀ left p out = left
 
 pub add-predicates-spec : {M : Type 1} → statement M
 add-predicates-spec =

@@ -2,7 +2,7 @@ use borrow.Author.Needs.{needs}
 use mathlib.Core.Path.{_≡_, refl, sym, _∙_}
 use Prim.Native.Nat.{_-_}
 use Rattle.lint_touches.proofs.Laws as laws
-use Rattle.lint_touches.specs.Sets.{along, addT}
+use Rattle.lint_touches.specs.Sets.{sectionBy, along, addT}
 use Rattle.lint_walk.specs.Raw.{past}
 use Rattle.lint_touches.proofs.add_triggers.Statement.{statement}
 use Rattle.lint_touches.proofs.add_triggers.Tie as tie
@@ -13,10 +13,10 @@ use Rattle.lint_walk.proofs.past.Reads as past-reads
 use Rattle.lint_walk.proofs.place_at.Reads as place-at-reads
 
 abbrev Inv-loop : tie.InvT-loop
-Inv-loop s entities set at left₀ p₀ out₀ left p out = along (addT s entities) (λ q. past s q 16) left₀ p₀ out₀ ≡ along (addT s entities) (λ q. past s q 16) left p out
+Inv-loop s entities many set at left₀ p₀ out₀ left p out = along (addT s (sectionBy entities many)) (λ q. past s q 16) left₀ p₀ out₀ ≡ along (addT s (sectionBy entities many)) (λ q. past s q 16) left p out
 
 abbrev μ-loop : tie.MeasureT-loop
-μ-loop s entities set at left₀ p₀ out₀ left p out = left
+μ-loop s entities many set at left₀ p₀ out₀ left p out = left
 
 pub add-triggers-spec : {M : Type 1} → statement M
 add-triggers-spec =

@@ -2,7 +2,7 @@ use borrow.Author.Needs.{needs}
 use mathlib.Core.Path.{_≡_, refl, _∙_}
 use Prim.Native.Nat.{_-_}
 use Rattle.lint_touches.proofs.Laws as laws
-use Rattle.lint_touches.specs.Sets.{over, addA}
+use Rattle.lint_touches.specs.Sets.{sectionBy, over, addA}
 use Rattle.lint_touches.proofs.reads.Statement.{statement}
 use Rattle.lint_touches.proofs.reads.Tie as tie
 use Rattle.lint_touches.proofs.reads.Reads as reads
@@ -14,10 +14,10 @@ use Rattle.lint_walk.proofs.conditions_at.Reads as conditions-at-reads
 use Rattle.lint_walk.proofs.triggers_at.Reads as triggers-at-reads
 
 abbrev Inv-loop : tie.InvT-loop
-Inv-loop s entities at w set₀ count k₀ set k = over (addA s entities) (w .list) (w .count) 0 set₀ ≡ over (addA s entities) (w .list) (count - k) k set
+Inv-loop s entities many at list count set₀ k₀ set k = over (addA s (sectionBy entities many)) list count 0 set₀ ≡ over (addA s (sectionBy entities many)) list (count - k) k set
 
 abbrev μ-loop : tie.MeasureT-loop
-μ-loop s entities at w set₀ count k₀ set k = count - k
+μ-loop s entities many at list count set₀ k₀ set k = count - k
 
 pub reads-spec : {M : Type 1} → statement M
 reads-spec =

@@ -2,7 +2,7 @@ use borrow.Author.Needs.{needs}
 use mathlib.Core.Path.{_≡_, refl, sym, _∙_}
 use Prim.Native.Nat.{_-_}
 use Rattle.lint_touches.proofs.Laws as laws
-use Rattle.lint_touches.specs.Sets.{over, addW}
+use Rattle.lint_touches.specs.Sets.{sectionBy, over, addW}
 use Rattle.lint_touches.proofs.writes.Statement.{statement}
 use Rattle.lint_touches.proofs.writes.Tie as tie
 use Rattle.lint_touches.proofs.writes.Reads as reads
@@ -10,10 +10,10 @@ use Rattle.lint_touches.proofs.writes.Lts as lts
 use Rattle.lint_touches.proofs.add_write.Reads as add-write-reads
 
 abbrev Inv-loop : tie.InvT-loop
-Inv-loop s entities w count set₀ k₀ set k = over (addW s entities) (w .list) (w .count) 0 0 ≡ over (addW s entities) (w .list) (count - k) k set
+Inv-loop s entities many list count set₀ k₀ set k = over (addW s (sectionBy entities many)) list count 0 0 ≡ over (addW s (sectionBy entities many)) list (count - k) k set
 
 abbrev μ-loop : tie.MeasureT-loop
-μ-loop s entities w count set₀ k₀ set k = count - k
+μ-loop s entities many list count set₀ k₀ set k = count - k
 
 pub writes-spec : {M : Type 1} → statement M
 writes-spec =
