@@ -1,8 +1,9 @@
-use native.Mathlib.Omega.{arith}
 use Rattle.engine_state.proofs.Laws.{same, wide}
 use Rattle.engine_state.proofs.Laws as states
 use Rattle.engine_steps.proofs.Laws as steps
 use Rattle.engine_actions.proofs.Laws as laws
+use Rattle.engine_actions.proofs.Wholes as wholes
+use Rattle.engine_actions.proofs.Wholes.{apart, lent}
 use Rattle.engine_actions.specs.Acts.{chosenM}
 use borrow.Author.Needs.{needs}
 use Rattle.engine_actions.proofs.choose.Statement.{statement}
@@ -15,15 +16,15 @@ use Rattle.engine_truth.proofs.select.Reads as select-reads
 
 returns : tie.Need-returns
 unfolding chosenM
-returns c = states.moves (λ v n s. states.renamed _ (states.widen (c .before .before .before .before .before .before .take-list .ensures .does _ _ _) same same same (wide (omega (arith, c .before .before .before .before .before .before .before .before .before .before .before .before .before .before .before .before .before .before .before .pre)))) (λ k. laws.choose-is _ _ _ _ _ _ _ _ _ (c .before .before .before .before .before .before .before .before .before .before .before .b .given .1) (c .before .before .before .before .before .before .before .before .before .before .before .before .before .select .ensures)))
+returns c = wholes.part (c .before .before .before .before .before .before .take-list .ensures) same same same (wide (c .before .before .before .before .before .before .before .before .before .before .before .before .before .before .before .before .before .before .before .pre .1 .1 .1 .1 .0)) lent apart apart (λ v n s k. laws.choose-is _ _ _ _ _ _ _ _ _ (c .before .before .before .before .before .before .before .before .before .before .before .b .given .1) (c .before .before .before .before .before .before .before .before .before .before .before .before .before .select .ensures))
 
 returns-2 : tie.Need-returns-2
 unfolding chosenM
-returns-2 c = states.moves (λ v n s. states.renamed _ (c .before .before .before .before .before .before .before .before .unclear .ensures .does _ _ _) (λ k. laws.choose-is _ _ _ _ _ _ _ _ _ (c .before .before .before .before .before .before .before .before .before .before .before .before .before .enum-told .given .1) (c .before .before .before .before .before .before .before .before .before .before .before .before .before .before .before .select .ensures)))
+returns-2 c = wholes.part (c .before .before .before .before .before .before .before .before .unclear .ensures) same same same same lent apart apart (λ v n s k. laws.choose-is _ _ _ _ _ _ _ _ _ (c .before .before .before .before .before .before .before .before .before .before .before .before .before .enum-told .given .1) (c .before .before .before .before .before .before .before .before .before .before .before .before .before .before .before .select .ensures))
 
 returns-3 : tie.Need-returns-3
 unfolding chosenM
-returns-3 c = states.moves (λ v n s. states.renamed _ (c .before .before .before .before .before .before .before .before .unclear2 .ensures .does _ _ _) (λ k. laws.choose-is _ _ _ _ _ _ _ _ _ (c .before .before .before .before .before .before .before .before .before .before .before .before .before .enum-told2 .given .1) (c .before .before .before .before .before .before .before .before .before .before .before .before .before .before .before .select .ensures)))
+returns-3 c = wholes.part (c .before .before .before .before .before .before .before .before .unclear2 .ensures) same same same same lent apart apart (λ v n s k. laws.choose-is _ _ _ _ _ _ _ _ _ (c .before .before .before .before .before .before .before .before .before .before .before .before .before .enum-told2 .given .1) (c .before .before .before .before .before .before .before .before .before .before .before .before .before .before .before .select .ensures))
 
 pub choose-spec : {M : Type 1} → statement M
 choose-spec =

@@ -3,6 +3,8 @@ use Rattle.engine_state.proofs.Laws.{none, one, two, same, wide}
 use Rattle.engine_state.proofs.Laws as states
 use Rattle.engine_steps.proofs.Laws as steps
 use Rattle.engine_actions.proofs.Laws as laws
+use Rattle.engine_actions.proofs.Wholes as wholes
+use Rattle.engine_actions.proofs.Wholes.{apart, shared}
 use Rattle.engine_steps.specs.Runs.{nowM}
 use borrow.Author.Needs.{needs}
 use Rattle.engine_actions.proofs.flip.Statement.{statement}
@@ -23,7 +25,7 @@ flip-spec =
     tie.close
     (tie.spec
     (λ c κs. search needs)
-    (λ c. states.moves (λ v n s. states.stay (λ k. laws.flip-none _ _ _ _ _ _ _ (c .before .entity-of .ensures) (c .if1 .taken)) (same (omega (arith, c .before .before .before .before .before .before .pre))) (same (omega (arith, c .before .before .before .before .before .before .pre))) none (same (omega (arith, c .before .before .before .before .before .before .pre)))))
+    (λ c. states.moves (λ v n s. states.stay (λ k. laws.flip-none _ _ _ _ _ _ _ (c .before .entity-of .ensures) (c .if1 .taken)) (same (c .before .before .before .before .before .before .pre .0)) (same (c .before .before .before .before .before .before .pre .1 .0)) none (same (c .before .before .before .before .before .before .pre .1 .1 .0))))
     (λ c. search needs)
     (λ c. search needs)
     (λ c κs. search needs)
@@ -33,9 +35,9 @@ flip-spec =
     (λ c κs. omega (arith, c .before .before .before .before .before .before .before .before .before .before .before .before .before .before .before .before .pre, c .before .before .before .uncertain .ensures .queue))
     (λ c. search needs)
     (λ c. search needs)
-    (λ c. states.moves (λ v n s. states.renamed _ (states.widen (states.follow (nowM _) (states.renamed _ (c .before .before .before .before .before .before .uncertain .ensures .does _ _ _) (λ k. laws.doubt-is _ _ _ _ _ _ _ (c .before .before .before .before .before .before .before .before .before .at-most .ensures .0) (c .before .before .before .before .before .before .before .before .about-rule .ensures))) (c .before .before .next-step .ensures .does _ _ _) two none none one) same (wide (omega (arith, c .before .before .before .before .before .before .before .before .before .before .before .before .before .before .before .before .before .before .before .pre))) none same) (λ k. laws.flip-unknown _ _ _ _ _ _ _ (c .before .before .before .before .before .before .before .before .before .before .before .before .before .before .entity-of .ensures) _ (c .before .before .before .before .before .before .before .before .before .before .before .before .before .if1 .left) (c .before .before .before .before .before .before .before .before .before .before .before .undecided .ensures) (c .before .before .before .before .before .before .before .before .before .before .if2 .taken))))
+    (λ c. states.moves (λ v n s. states.renamed _ (states.widen (states.follow (nowM _) (states.renamed _ (c .before .before .before .before .before .before .uncertain .ensures .does _ _ _) (λ k. laws.doubt-is _ _ _ _ _ _ _ (c .before .before .before .before .before .before .before .before .before .at-most .ensures .0) (c .before .before .before .before .before .before .before .before .about-rule .ensures))) (c .before .before .next-step .ensures .does _ _ _) two none none one) same (wide (c .before .before .before .before .before .before .before .before .before .before .before .before .before .before .before .before .before .before .before .pre .1 .0)) none same) (λ k. laws.flip-unknown _ _ _ _ _ _ _ (c .before .before .before .before .before .before .before .before .before .before .before .before .before .before .entity-of .ensures) _ (c .before .before .before .before .before .before .before .before .before .before .before .before .before .if1 .left) (c .before .before .before .before .before .before .before .before .before .before .before .undecided .ensures) (c .before .before .before .before .before .before .before .before .before .before .if2 .taken))))
     (λ c κs. search needs)
     (λ c κs. search needs)
     (λ c. search needs)
     (λ c. search needs)
-    (λ c. states.moves (λ v n s. states.renamed _ (states.widen (c .before .before .before .before .set .ensures .does v n _) same same none (wide (omega (arith, c .before .before .before .before .before .before .before .before .before .before .before .before .before .before .before .before .before .before .before .pre)))) (λ k. laws.flip-set _ _ _ _ _ _ _ (c .before .before .before .before .before .before .before .before .before .before .before .before .before .before .entity-of .ensures) _ (c .before .before .before .before .before .before .before .before .before .before .before .before .before .if1 .left) (c .before .before .before .before .before .before .before .before .before .before .before .undecided .ensures) _ (c .before .before .before .before .before .before .before .before .before .before .if2 .left) (c .before .before .before .before .before .before .before .before .before .toggled .ensures)))))
+    (λ c. wholes.part (c .before .before .before .before .set .ensures) same same none (wide (c .before .before .before .before .before .before .before .before .before .before .before .before .before .before .before .before .before .before .before .pre .1 .1 .0)) shared shared apart (λ v n s k. laws.flip-set _ _ _ _ _ _ _ (c .before .before .before .before .before .before .before .before .before .before .before .before .before .before .entity-of .ensures) _ (c .before .before .before .before .before .before .before .before .before .before .before .before .before .if1 .left) (c .before .before .before .before .before .before .before .before .before .before .before .undecided .ensures) _ (c .before .before .before .before .before .before .before .before .before .before .if2 .left) (c .before .before .before .before .before .before .before .before .before .toggled .ensures))))

@@ -1,8 +1,9 @@
-use native.Mathlib.Omega.{arith}
 use Rattle.engine_state.proofs.Laws.{same, wide}
 use Rattle.engine_state.proofs.Laws as states
 use Rattle.engine_steps.proofs.Laws as steps
 use Rattle.engine_actions.proofs.Laws as laws
+use Rattle.engine_actions.proofs.Wholes as wholes
+use Rattle.engine_actions.proofs.Wholes.{apart, lent, shared}
 use Rattle.engine_actions.specs.Acts.{performM}
 use borrow.Author.Needs.{needs}
 use Rattle.engine_actions.proofs.perform.Statement.{statement}
@@ -19,31 +20,31 @@ use Rattle.engine_actions.proofs.set.Reads as set-reads
 
 returns : tie.Need-returns
 unfolding performM
-returns c = states.moves (λ v n s. states.renamed _ (states.widen (c .before .before .before .before .set .ensures .does v n _) same same (wide (omega (arith, c .before .before .before .before .before .before .before .before .before .before .before .before .before .before .before .before .before .pre))) (wide (omega (arith, c .before .before .before .before .before .before .before .before .before .before .before .before .before .before .before .before .before .pre)))) (λ k. laws.perform-is _ _ _ _ _ _ _ _ (c .before .before .before .before .before .before .before .before .before .before .e .given .1)))
+returns c = wholes.part (c .before .before .before .before .set .ensures) same same (wide (c .before .before .before .before .before .before .before .before .before .before .before .before .before .before .before .before .before .pre .1 .1 .1 .0)) (wide (c .before .before .before .before .before .before .before .before .before .before .before .before .before .before .before .before .before .pre .1 .1 .1 .1 .0)) shared shared apart (λ v n s k. laws.perform-is _ _ _ _ _ _ _ _ (c .before .before .before .before .before .before .before .before .before .before .e .given .1))
 
 returns-2 : tie.Need-returns-2
 unfolding performM
-returns-2 c = states.moves (λ v n s. states.renamed _ (states.widen (c .before .before .before .before .before .before .flip .ensures .does v n _) same same (wide (omega (arith, c .before .before .before .before .before .before .before .before .before .before .before .before .before .before .before .before .before .before .before .before .pre))) same) (λ k. laws.perform-is _ _ _ _ _ _ _ _ (c .before .before .before .before .before .before .before .before .before .before .before .before .before .e2 .given .1)))
+returns-2 c = wholes.part (c .before .before .before .before .before .before .flip .ensures) same same (wide (c .before .before .before .before .before .before .before .before .before .before .before .before .before .before .before .before .before .before .before .before .pre .1 .1 .1 .0)) same shared shared apart (λ v n s k. laws.perform-is _ _ _ _ _ _ _ _ (c .before .before .before .before .before .before .before .before .before .before .before .before .before .e2 .given .1))
 
 returns-3 : tie.Need-returns-3
 unfolding performM
-returns-3 c = states.moves (λ v n s. states.renamed _ (states.widen (c .before .before .before .before .delay .ensures .does _ _ _) same same (wide (omega (arith, c .before .before .before .before .before .before .before .before .before .before .before .before .before .before .before .pre))) (wide (omega (arith, c .before .before .before .before .before .before .before .before .before .before .before .before .before .before .before .pre)))) (λ k. laws.perform-is _ _ _ _ _ _ _ _ (c .before .before .before .before .before .before .before .before .e3 .given .1)))
+returns-3 c = wholes.part (c .before .before .before .before .delay .ensures) same same (wide (c .before .before .before .before .before .before .before .before .before .before .before .before .before .before .before .pre .1 .1 .1 .0)) (wide (c .before .before .before .before .before .before .before .before .before .before .before .before .before .before .before .pre .1 .1 .1 .1 .0)) lent lent apart (λ v n s k. laws.perform-is _ _ _ _ _ _ _ _ (c .before .before .before .before .before .before .before .before .e3 .given .1))
 
 returns-4 : tie.Need-returns-4
 unfolding performM
-returns-4 c = states.moves (λ v n s. states.renamed _ (c .before .before .before .before .before .before .before .before .condition .ensures .does v _ _) (λ k. laws.perform-is _ _ _ _ _ _ _ _ (c .before .before .before .before .before .before .before .before .before .before .before .before .before .before .before .e4 .given .1)))
+returns-4 c = wholes.part (c .before .before .before .before .before .before .before .before .condition .ensures) same same same same shared lent apart (λ v n s k. laws.perform-is _ _ _ _ _ _ _ _ (c .before .before .before .before .before .before .before .before .before .before .before .before .before .before .before .e4 .given .1))
 
 returns-5 : tie.Need-returns-5
 unfolding performM
-returns-5 c = states.moves (λ v n s. states.renamed _ (c .before .before .before .before .before .before .before .before .choose .ensures .does v _ _) (λ k. laws.perform-is _ _ _ _ _ _ _ _ (c .before .before .before .before .before .before .before .before .before .before .before .before .before .before .before .e5 .given .1)))
+returns-5 c = wholes.part (c .before .before .before .before .before .before .before .before .choose .ensures) same same same same shared lent apart (λ v n s k. laws.perform-is _ _ _ _ _ _ _ _ (c .before .before .before .before .before .before .before .before .before .before .before .before .before .before .before .e5 .given .1))
 
 returns-6 : tie.Need-returns-6
 unfolding performM
-returns-6 c = states.moves (λ v n s. states.renamed _ (c .before .before .before .before .before .before .before .before .begin-wait .ensures .does _ _ _) (λ k. laws.perform-is _ _ _ _ _ _ _ _ (c .before .before .before .before .before .before .before .before .before .before .before .before .before .before .e6 .given .1)))
+returns-6 c = wholes.part (c .before .before .before .before .before .before .before .before .begin-wait .ensures) same same same same lent lent apart (λ v n s k. laws.perform-is _ _ _ _ _ _ _ _ (c .before .before .before .before .before .before .before .before .before .before .before .before .before .before .e6 .given .1))
 
 returns-7 : tie.Need-returns-7
 unfolding performM
-returns-7 c = states.moves (λ v n s. states.renamed _ (c .before .before .before .before .before .before .before .before .give-up .ensures .does _ _ _) (λ k. laws.perform-is _ _ _ _ _ _ _ _ (c .before .before .before .before .before .before .before .before .before .before .before .before .before .before .e7 .given .1)))
+returns-7 c = wholes.part (c .before .before .before .before .before .before .before .before .give-up .ensures) same same same same lent lent apart (λ v n s k. laws.perform-is _ _ _ _ _ _ _ _ (c .before .before .before .before .before .before .before .before .before .before .before .before .before .before .e7 .given .1))
 
 pub perform-spec : {M : Type 1} → statement M
 perform-spec =

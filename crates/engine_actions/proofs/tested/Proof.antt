@@ -1,8 +1,9 @@
-use native.Mathlib.Omega.{arith}
 use Rattle.engine_state.proofs.Laws.{same, wide}
 use Rattle.engine_state.proofs.Laws as states
 use Rattle.engine_steps.proofs.Laws as steps
 use Rattle.engine_actions.proofs.Laws as laws
+use Rattle.engine_actions.proofs.Wholes as wholes
+use Rattle.engine_actions.proofs.Wholes.{apart}
 use Rattle.engine_actions.specs.Acts.{testedM}
 use borrow.Author.Needs.{needs}
 use Rattle.engine_actions.proofs.tested.Statement.{statement}
@@ -15,15 +16,15 @@ use Rattle.engine_steps.proofs.finish.Reads as finish-reads
 
 returns : tie.Need-returns
 unfolding testedM
-returns c = states.moves (λ v n s. states.renamed _ (states.widen (c .before .before .next-step .ensures .does _ _ _) same (wide (omega (arith, c .before .before .before .before .before .before .before .before .before .before .before .pre))) (wide (omega (arith, c .before .before .before .before .before .before .before .before .before .before .before .pre))) (wide (omega (arith, c .before .before .before .before .before .before .before .before .before .before .before .pre)))) (λ k. laws.tested-is _ _ _ _ _ _ _ (c .before .before .before .before .enum-told .given .1)))
+returns c = wholes.part (c .before .before .next-step .ensures) same (wide (c .before .before .before .before .before .before .before .before .before .before .before .pre .1 .1 .0)) (wide (c .before .before .before .before .before .before .before .before .before .before .before .pre .1 .1 .1 .0)) (wide (c .before .before .before .before .before .before .before .before .before .before .before .pre .1 .1 .1 .1 .0)) apart apart apart (λ v n s k. laws.tested-is _ _ _ _ _ _ _ (c .before .before .before .before .enum-told .given .1))
 
 returns-2 : tie.Need-returns-2
 unfolding testedM
-returns-2 c = states.moves (λ v n s. states.renamed _ (states.widen (c .before .before .before .before .before .before .finish .ensures .does _ _ _) same same same (wide (omega (arith, c .before .before .before .before .before .before .before .before .before .before .before .before .before .before .before .before .before .pre)))) (λ k. laws.tested-is _ _ _ _ _ _ _ (c .before .before .before .before .before .before .before .before .before .before .enum-told2 .given .1)))
+returns-2 c = wholes.part (c .before .before .before .before .before .before .finish .ensures) same same same (wide (c .before .before .before .before .before .before .before .before .before .before .before .before .before .before .before .before .before .pre .1 .1 .1 .1 .0)) apart apart apart (λ v n s k. laws.tested-is _ _ _ _ _ _ _ (c .before .before .before .before .before .before .before .before .before .before .enum-told2 .given .1))
 
 returns-3 : tie.Need-returns-3
 unfolding testedM
-returns-3 c = states.moves (λ v n s. states.renamed _ (c .before .before .before .before .before .before .before .before .unclear .ensures .does _ _ _) (λ k. laws.tested-is _ _ _ _ _ _ _ (c .before .before .before .before .before .before .before .before .before .before .before .before .before .enum-told3 .given .1)))
+returns-3 c = wholes.part (c .before .before .before .before .before .before .before .before .unclear .ensures) same same same same apart apart apart (λ v n s k. laws.tested-is _ _ _ _ _ _ _ (c .before .before .before .before .before .before .before .before .before .before .before .before .before .enum-told3 .given .1))
 
 pub tested-spec : {M : Type 1} → statement M
 tested-spec =

@@ -16,11 +16,11 @@ use Rattle.runs.proofs.run_at.Reads as run-at-reads
 
 returns : tie.Need-returns
 unfolding time-outM time-atM
-returns c = states.moves (λ v n s. steps.with-found time-atM (c .before .before .find-run .ensures) (c .enum-told .given .1) (states.stay (λ k. refl) (same (omega (arith, c .before .before .before .before .before .before .before .pre))) (same (omega (arith, c .before .before .before .before .before .before .before .pre))) (same (omega (arith, c .before .before .before .before .before .before .before .pre))) none))
+returns c = states.moves (λ v n s. steps.with-found time-atM (c .before .before .find-run .ensures) (c .enum-told .given .1) (states.stay (λ k. refl) (same (c .before .before .before .before .before .before .before .pre .0)) (same (c .before .before .before .before .before .before .before .pre .1 .0)) (same (c .before .before .before .before .before .before .before .pre .1 .1)) none))
 
 returns-2 : tie.Need-returns-2
 unfolding time-outM time-atM
-returns-2 c = states.moves (λ v n s. steps.with-found time-atM (c .before .before .before .before .before .before .before .find-run .ensures) (c .before .before .before .before .before .found .given .1) (steps.with-run (time-runM _) (c .before .before .run-at .ensures) (c .before .before .before .before .before .before .before .find-run .ensures .within _ (c .before .before .before .before .before .found .given .1)) (states.stay (λ k. laws.time-going _ _ _ (c .enum-told2 .given .1)) (same (omega (arith, c .before .before .before .before .before .before .before .before .before .before .before .before .pre))) (same (omega (arith, c .before .before .before .before .before .before .before .before .before .before .before .before .pre))) (same (omega (arith, c .before .before .before .before .before .before .before .before .before .before .before .before .pre))) none)))
+returns-2 c = states.moves (λ v n s. steps.with-found time-atM (c .before .before .before .before .before .before .before .find-run .ensures) (c .before .before .before .before .before .found .given .1) (steps.with-run (time-runM _) (c .before .before .run-at .ensures) (c .before .before .before .before .before .before .before .find-run .ensures .within _ (c .before .before .before .before .before .found .given .1)) (states.stay (λ k. laws.time-going _ _ _ (c .enum-told2 .given .1)) (same (c .before .before .before .before .before .before .before .before .before .before .before .before .pre .0)) (same (c .before .before .before .before .before .before .before .before .before .before .before .before .pre .1 .0)) (same (c .before .before .before .before .before .before .before .before .before .before .before .before .pre .1 .1)) none)))
 
 returns-3 : tie.Need-returns-3
 unfolding time-outM time-atM
@@ -40,7 +40,7 @@ time-out-spec =
     (λ c. search needs)
     (λ c. search needs)
     returns-2
-    (λ c κs. (c .before .before .before .before .before .before .before .before .before .before .before .find-run .ensures .within _ (c .before .before .before .before .before .before .before .before .before .found .given .1), (omega (arith, c .before .before .before .before .before .before .before .before .before .before .before .before .before .before .before .before .pre), (omega (arith, c .before .before .before .before .before .before .before .before .before .before .before .before .before .before .before .before .pre), omega (arith, c .before .before .before .before .before .before .before .before .before .before .before .before .before .before .before .before .pre)))))
+    (λ c κs. (c .before .before .before .before .before .before .before .before .before .before .before .find-run .ensures .within _ (c .before .before .before .before .before .before .before .before .before .found .given .1), c .before .before .before .before .before .before .before .before .before .before .before .before .before .before .before .before .pre))
     (λ c. search needs)
     (λ c. search needs)
     (λ c. search needs)

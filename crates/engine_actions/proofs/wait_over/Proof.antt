@@ -28,7 +28,7 @@ pub wait-over-spec : {M : Type 1} → statement M
 wait-over-spec =
     tie.close
     (tie.spec
-    (λ c. states.moves (λ v n s. states.stay (λ k. laws.over-early _ _ _ _ (c .if1 .taken)) (same (omega (arith, c .before .before .before .before .before .before .pre))) (same (omega (arith, c .before .before .before .before .before .before .pre))) (same (omega (arith, c .before .before .before .before .before .before .pre))) none))
+    (λ c. states.moves (λ v n s. states.stay (λ k. laws.over-early _ _ _ _ (c .if1 .taken)) (same (c .before .before .before .before .before .before .pre .1 .0)) (same (c .before .before .before .before .before .before .pre .1 .1 .0)) (same (c .before .before .before .before .before .before .pre .1 .1 .1)) none))
     (λ c κs. search needs)
     (λ c κs. search needs)
     (λ c κs. omega (arith, c .before .before .before .before .before .before .before .before .before .before .before .before .before .before .pre))
