@@ -6,9 +6,7 @@ use lib.Dec.{ltb, eqb}
 use lib.ListN.{getD}
 use Rattle.texts.specs.Lists.{if_then_else_}
 use Rattle.queue.specs.declared.Work.the-variants.{Timeout}
-use Rattle.records.specs.declared.Rule.{Rule}
 use Rattle.records.specs.declared.Rule.the-variants.{Of}
-use Rattle.records.specs.declared.Where.{Where}
 use Rattle.records.specs.declared.Where.the-variants.{From}
 use Rattle.runs.specs.Lists.{placeFrom}
 use Rattle.runs.specs.Runs.{isRun}
@@ -29,14 +27,10 @@ use Rattle.engine_truth.specs.declared.Branch.the-variants.{Take, Unclear, Skip
 use Rattle.engine_truth.specs.declared.Effect.{Effect}
 use Rattle.engine_truth.specs.declared.Effect.the-variants as effect
 use Rattle.engine_truth.specs.declared.Action.{Action}
-use Rattle.engine_state.specs.declared.Setting.{Setting}
 use Rattle.engine_state.specs.Machine.{Machine, later}
 use Rattle.engine_state.specs.Changes.{addM, uncertainM, log-actionM, next-stepM}
-use Rattle.engine_steps.specs.Writes.{updateM}
+use Rattle.engine_steps.specs.Writes.{updateM, setting}
 use Rattle.engine_steps.specs.Runs.{runM, put-runM, nowM, phaseR, finishM}
-
-abbrev pub setting : (entity value kind : ℕ) → Rule → Where → Setting
-setting e v k u w = record { entity = e; value = v; kind = k; rule = u; source = w }
 
 unfoldable pub writtenM : List ℕ → Run → Source → (entity value : ℕ) → Machine → Machine
 writtenM x r s e v m = updateM x (setting e v 2 (Of (r .automation)) (From (s .line) (s .column))) m

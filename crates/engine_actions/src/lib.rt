@@ -1,10 +1,9 @@
-// What a run does next, and the other work of a simulation.
+// What a run's next action does.
 use engine_reads::about_rule;
 use engine_reads::at_most;
 use engine_reads::entity_of;
 use engine_reads::four_at;
 use engine_reads::two_at;
-use engine_state::Move;
 use engine_state::Setting;
 use engine_state::State;
 use engine_state::add;
@@ -16,24 +15,18 @@ use engine_steps::finish;
 use engine_steps::update;
 use engine_steps::with_phase;
 use engine_truth::Branch;
-use engine_truth::Effect;
 use engine_truth::Truth;
 use queue::Work;
 use records::Rule;
 use records::Where;
-use runs::Found;
 use runs::Phase;
 use runs::Run;
 use runs::Source;
 use runs::Wait;
 ghost use mathlib.Core.Path.{_≡_};
-ghost use Prim.Native.Nat.{_+_, _*_, _≤_, _<_};
-ghost use lib.ListN.{length};
-ghost use Rattle.engine_state.specs.Steps.{Moves, Does, goes, kept, told, still, Fits-q, Fits-qa, Fits-qr, Fits-ar, Fits-qar, Fits-qau, Fits};
-ghost use Rattle.engine_actions.specs.Acts.{writtenM, setM, toggledM, flipM, delayM, unclearM, testedM, conditionM, take-listM, chooseM, begin-waitM, give-upM, performM, go-onM, goingR, resumeM};
-ghost use Rattle.engine_actions.specs.Works.{wait-overM, time-outM, expireM, go-staleM, drop-allM, externalM, processM};
-
-// ---- a run's next action
+ghost use Prim.Native.Nat.{_<_};
+ghost use Rattle.engine_state.specs.Steps.{Moves, Does, goes, kept, told, still, Fits-qa, Fits-qar, Fits-qau, Fits};
+ghost use Rattle.engine_actions.specs.Acts.{writtenM, setM, toggledM, flipM, delayM, unclearM, testedM, conditionM, take-listM, chooseM, begin-waitM, give-upM};
 
 fn write(
     x: &[u32; 436],
@@ -65,7 +58,7 @@ fn write(
     update(x, q, a, values, versions, st, w)
 }
 
-fn set(
+pub fn set(
     x: &[u32; 436],
     q: &mut [u32],
     a: &mut [u32],
@@ -93,7 +86,7 @@ fn toggled(x: &[u32; 436], v: u32) -> u32
     x[4]
 }
 
-fn flip(
+pub fn flip(
     f: &[u8],
     x: &[u32; 436],
     q: &mut [u32],
@@ -124,7 +117,7 @@ fn flip(
     set(x, q, a, values, versions, st, run, s, entity, value)
 }
 
-fn delay(q: &mut [u32], a: &mut [u32], st: State, run: Run, s: Source, seconds: u32) -> State
+pub fn delay(q: &mut [u32], a: &mut [u32], st: State, run: Run, s: Source, seconds: u32) -> State
     requires { ⌜ Fits-qa st (now q) (now a) ⌝ }
     ensures { λ t. ⌜ Does (delayM run s seconds) st t (goes (now (q .entry)) (now (q .exit))) (goes (now (a .entry)) (now (a .exit))) kept still ⌝ }
 {
@@ -177,7 +170,7 @@ fn tested(
     }
 }
 
-fn condition(
+pub fn condition(
     f: &[u8],
     x: &[u32; 436],
     q: &mut [u32],
@@ -220,7 +213,7 @@ fn take_list(
     next_step(q, s1, run, s1.now)
 }
 
-fn choose(
+pub fn choose(
     f: &[u8],
     x: &[u32; 436],
     q: &mut [u32],
@@ -245,7 +238,7 @@ fn choose(
     }
 }
 
-fn begin_wait(
+pub fn begin_wait(
     f: &[u8],
     q: &mut [u32],
     a: &mut [u32],
@@ -284,7 +277,7 @@ fn begin_wait(
     log_action(a, s1, 16, seconds, s, run)
 }
 
-fn give_up(
+pub fn give_up(
     f: &[u8],
     q: &mut [u32],
     a: &mut [u32],
@@ -303,302 +296,4 @@ fn give_up(
     let s1 = uncertain(f, u, st, why);
     let s2 = log_action(a, s1, 18, reason, s, run);
     finish(q, a, r, s2, k)
-}
-
-fn perform(
-    f: &[u8],
-    x: &[u32; 436],
-    q: &mut [u32],
-    a: &mut [u32],
-    r: &mut [u32],
-    u: &mut [u32],
-    values: &mut [u32; 32],
-    versions: &mut [u32; 32],
-    st: State,
-    k: usize,
-    run: Run,
-    s: Source,
-    e: Effect,
-) -> State
-    requires { ⌜ (k < st .active) × Fits st (now q) (now a) (now r) (now u) ⌝ }
-    ensures { λ t. ⌜ Moves (performM (now (f .entry)) (now (x .entry)) k run s e) st t (goes (now (q .entry)) (now (q .exit))) (goes (now (a .entry)) (now (a .exit))) (goes (now (r .entry)) (now (r .exit))) (told (now (f .entry)) (now (u .entry)) (now (u .exit))) (goes (now (values .entry)) (now (values .exit))) (goes (now (versions .entry)) (now (versions .exit))) kept ⌝ }
-{
-    match e {
-        Effect::Set { entity, value } => {
-            set(x, q, a, values, versions, st, run, s, entity, value)
-        }
-        Effect::Toggle { entity } => flip(f, x, q, a, u, values, versions, st, run, s, entity),
-        Effect::Delay { seconds } => delay(q, a, st, run, s, seconds),
-        Effect::Condition { at } => condition(f, x, q, a, r, u, values, st, k, run, s, at),
-        Effect::Choose { at } => choose(f, x, q, a, r, u, values, st, k, run, s, at),
-        Effect::Wait { at } => begin_wait(f, q, a, r, u, st, k, run, s, at),
-        Effect::Unknown { reason } => give_up(f, q, a, r, u, st, k, run, s, reason),
-    }
-}
-
-// The run's next action, or its end.
-fn go_on(
-    f: &[u8],
-    x: &[u32; 436],
-    q: &mut [u32],
-    a: &mut [u32],
-    r: &mut [u32],
-    u: &mut [u32],
-    values: &mut [u32; 32],
-    versions: &mut [u32; 32],
-    st: State,
-    k: usize,
-) -> State
-    requires { ⌜ (k < st .active) × Fits st (now q) (now a) (now r) (now u) ⌝ }
-    ensures { λ t. ⌜ Moves (go-onM (now (f .entry)) (now (x .entry)) k) st t (goes (now (q .entry)) (now (q .exit))) (goes (now (a .entry)) (now (a .exit))) (goes (now (r .entry)) (now (r .exit))) (told (now (f .entry)) (now (u .entry)) (now (u .exit))) (goes (now (values .entry)) (now (values .exit))) (goes (now (versions .entry)) (now (versions .exit))) kept ⌝ }
-{
-    let run = runs::run_at(r, k);
-    if run.depth == 0 {
-        return finish(q, a, r, st, k);
-    }
-    let place = engine_truth::top(run);
-    let action = engine_truth::action_at(f, x, place.position);
-    let next = engine_truth::stepped(run, action.next);
-    let source = action.source;
-    let effect = action.effect;
-    runs::put_run(r, k, next);
-    perform(
-        f,
-        x,
-        q,
-        a,
-        r,
-        u,
-        values,
-        versions,
-        st,
-        k,
-        next,
-        source,
-        effect,
-    )
-}
-
-// Whether the run can go on.
-fn is_going(run: Run) -> bool
-    ensures { λ r. ⌜ r ≡ goingR run ⌝ }
-{
-    if run.queued {
-        return false;
-    }
-    let phase = run.phase;
-    match phase {
-        Phase::Going => true,
-        Phase::Waiting(_) => false,
-    }
-}
-
-fn resume(
-    f: &[u8],
-    x: &[u32; 436],
-    q: &mut [u32],
-    a: &mut [u32],
-    r: &mut [u32],
-    u: &mut [u32],
-    values: &mut [u32; 32],
-    versions: &mut [u32; 32],
-    st: State,
-    automation: u32,
-    sequence: u32,
-) -> State
-    requires { ⌜ Fits st (now q) (now a) (now r) (now u) ⌝ }
-    ensures { λ t. ⌜ Moves (resumeM (now (f .entry)) (now (x .entry)) automation sequence) st t (goes (now (q .entry)) (now (q .exit))) (goes (now (a .entry)) (now (a .exit))) (goes (now (r .entry)) (now (r .exit))) (told (now (f .entry)) (now (u .entry)) (now (u .exit))) (goes (now (values .entry)) (now (values .exit))) (goes (now (versions .entry)) (now (versions .exit))) kept ⌝ }
-{
-    let found = runs::find_run(r, st.active, automation, sequence);
-    let Found::At(k) = found else {
-        return st;
-    };
-    let run = runs::run_at(r, k);
-    if is_going(run) {
-        return go_on(f, x, q, a, r, u, values, versions, st, k);
-    }
-    st
-}
-
-// ---- the other work
-
-fn wait_over(
-    q: &mut [u32],
-    a: &mut [u32],
-    r: &mut [u32],
-    st: State,
-    k: usize,
-    run: Run,
-    w: Wait,
-) -> State
-    requires { ⌜ (k < st .active) × Fits-qar st (now q) (now a) (now r) ⌝ }
-    ensures { λ t. ⌜ Does (wait-overM k run w) st t (goes (now (q .entry)) (now (q .exit))) (goes (now (a .entry)) (now (a .exit))) (goes (now (r .entry)) (now (r .exit))) still ⌝ }
-{
-    if w.deadline != st.now {
-        return st;
-    }
-    let s = w.source;
-    if w.onward {
-        let s1 = log_action(a, st, 17, 1, s, run);
-        let going = with_phase(run, Phase::Going);
-        runs::put_run(r, k, going);
-        return next_step(q, s1, run, s1.now);
-    }
-    let s2 = log_action(a, st, 17, 0, s, run);
-    finish(q, a, r, s2, k)
-}
-
-fn time_out(
-    q: &mut [u32],
-    a: &mut [u32],
-    r: &mut [u32],
-    st: State,
-    automation: u32,
-    sequence: u32,
-) -> State
-    requires { ⌜ Fits-qar st (now q) (now a) (now r) ⌝ }
-    ensures { λ t. ⌜ Does (time-outM automation sequence) st t (goes (now (q .entry)) (now (q .exit))) (goes (now (a .entry)) (now (a .exit))) (goes (now (r .entry)) (now (r .exit))) still ⌝ }
-{
-    let found = runs::find_run(r, st.active, automation, sequence);
-    let Found::At(k) = found else {
-        return st;
-    };
-    let run = runs::run_at(r, k);
-    let phase = run.phase;
-    let Phase::Waiting(w) = phase else {
-        return st;
-    };
-    wait_over(q, a, r, st, k, run, w)
-}
-
-fn expire(
-    x: &[u32; 436],
-    q: &mut [u32],
-    a: &mut [u32],
-    values: &mut [u32; 32],
-    st: State,
-    e: usize,
-) -> State
-    requires { ⌜ (e < 32) × Fits-qa st (now q) (now a) ⌝ }
-    ensures { λ t. ⌜ Moves (expireM (now (x .entry)) e) st t (goes (now (q .entry)) (now (q .exit))) (goes (now (a .entry)) (now (a .exit))) kept still (goes (now (values .entry)) (now (values .exit))) kept kept ⌝ }
-{
-    let from = values[e];
-    let entity = engine_reads::name_of(x, e);
-    let to = x[6];
-    let m = Move { entity, from, to };
-    values[e] = to;
-    let w = Setting {
-        entity,
-        value: to,
-        kind: 3,
-        rule: Rule::NoRule,
-        source: Where::Nowhere,
-    };
-    let s1 = engine_state::log_write(a, st, w, m);
-    engine_steps::changed(q, s1, m)
-}
-
-fn go_stale(
-    x: &[u32; 436],
-    q: &mut [u32],
-    a: &mut [u32],
-    values: &mut [u32; 32],
-    versions: &[u32; 32],
-    st: State,
-    entity: u32,
-    version: u32,
-) -> State
-    requires { ⌜ Fits-qa st (now q) (now a) ⌝ }
-    ensures { λ t. ⌜ Moves (go-staleM (now (x .entry)) entity version) st t (goes (now (q .entry)) (now (q .exit))) (goes (now (a .entry)) (now (a .exit))) kept still (goes (now (values .entry)) (now (values .exit))) (goes (now (versions .entry)) (now (versions .entry))) kept ⌝ }
-{
-    let e = entity_of(x, entity);
-    if 31 < e {
-        return st;
-    }
-    if versions[e] != version {
-        return st;
-    }
-    if values[e] == x[6] {
-        return st;
-    }
-    expire(x, q, a, values, st, e)
-}
-
-fn drop_all(a: &mut [u32], r: &mut [u32], st: State) -> State
-    requires { ⌜ Fits-ar st (now a) (now r) ⌝ }
-    ensures { λ t. ⌜ Does (drop-allM) st t kept (goes (now (a .entry)) (now (a .exit))) (goes (now (r .entry)) (now (r .exit))) still ⌝ }
-{
-    areas::clear_all(r);
-    let s1 = engine_state::with_active(st, 0);
-    engine_state::log_plain(a, s1, 4)
-}
-
-fn external(
-    x: &[u32; 436],
-    q: &mut [u32],
-    a: &mut [u32],
-    values: &mut [u32; 32],
-    versions: &mut [u32; 32],
-    st: State,
-    entity: u32,
-    value: u32,
-) -> State
-    requires { ⌜ Fits-qa st (now q) (now a) ⌝ }
-    ensures { λ t. ⌜ Moves (externalM (now (x .entry)) entity value) st t (goes (now (q .entry)) (now (q .exit))) (goes (now (a .entry)) (now (a .exit))) kept still (goes (now (values .entry)) (now (values .exit))) (goes (now (versions .entry)) (now (versions .exit))) kept ⌝ }
-{
-    let w = Setting {
-        entity,
-        value,
-        kind: 1,
-        rule: Rule::NoRule,
-        source: Where::Nowhere,
-    };
-    update(x, q, a, values, versions, st, w)
-}
-
-// An item of the queue is worked off.
-pub fn process(
-    f: &[u8],
-    x: &[u32; 436],
-    q: &mut [u32],
-    a: &mut [u32],
-    r: &mut [u32],
-    u: &mut [u32],
-    values: &mut [u32; 32],
-    versions: &mut [u32; 32],
-    sequences: &mut [u32; 32],
-    st: State,
-    work: Work,
-) -> State
-    requires { ⌜ Fits st (now q) (now a) (now r) (now u) ⌝ }
-    ensures { λ t. ⌜ Moves (processM (now (f .entry)) (now (x .entry)) work) st t (goes (now (q .entry)) (now (q .exit))) (goes (now (a .entry)) (now (a .exit))) (goes (now (r .entry)) (now (r .exit))) (told (now (f .entry)) (now (u .entry)) (now (u .exit))) (goes (now (values .entry)) (now (values .exit))) (goes (now (versions .entry)) (now (versions .exit))) (goes (now (sequences .entry)) (now (sequences .exit))) ⌝ }
-{
-    match work {
-        Work::Set { entity, value } => external(x, q, a, values, versions, st, entity, value),
-        Work::Restart => drop_all(a, r, st),
-        Work::Reload => drop_all(a, r, st),
-        Work::Changed { entity, from, to } => {
-            engine_steps::trigger(
-                f,
-                x,
-                q,
-                a,
-                r,
-                u,
-                values,
-                sequences,
-                st,
-                Move { entity, from, to },
-            )
-        }
-        Work::Resume {
-            automation,
-            sequence,
-        } => resume(f, x, q, a, r, u, values, versions, st, automation, sequence),
-        Work::Timeout {
-            automation,
-            sequence,
-        } => time_out(q, a, r, st, automation, sequence),
-        Work::Stale { entity, version } => go_stale(x, q, a, values, versions, st, entity, version),
-    }
 }

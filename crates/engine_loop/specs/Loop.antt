@@ -19,7 +19,7 @@ use Rattle.engine_state.specs.Machine.{Machine, Content, entire, machine, put-n
 use Rattle.engine_state.specs.Changes.{addM, log-plainM}
 use Rattle.engine_state.specs.Steps.{Held, Stands, Side, goes, told, Side-told}
 use Rattle.engine_steps.specs.Writes.{expiryM}
-use Rattle.engine_actions.specs.Works.{processM}
+use Rattle.engine_process.specs.Process.{processM}
 use Rattle.engine_loop.specs.declared.Next.{Next}
 use Rattle.engine_loop.specs.declared.Next.the-variants.{Stop, Space, Take}
 use Rattle.engine_loop.specs.declared.Ended.{Ended}

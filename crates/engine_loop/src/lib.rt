@@ -99,7 +99,7 @@ fn turn(
     };
     let work = it.work;
     let s = at_second(st, it.second);
-    engine_actions::process(f, x, q, a, r, u, values, versions, sequences, s, work)
+    engine_process::process(f, x, q, a, r, u, values, versions, sequences, s, work)
 }
 
 // The state at the end, the steps taken, and why the loop ended.

@@ -24,7 +24,7 @@ use Rattle.engine.proofs.Lists.{Each}
 use Rattle.engine.proofs.Closed.{loop-closed}
 use Rattle.model_walk.proofs.Found.{Case, is-true, is-false, case}
 use Rattle.engine_state.specs.Machine.{Machine, put-now, put-queue}
-use Rattle.engine_actions.specs.Works.{processM}
+use Rattle.engine_process.specs.Process.{processM}
 use Rattle.engine_loop.specs.declared.Next.{Next as ANext}
 use Rattle.engine_loop.specs.declared.Next.the-variants as nexts
 use Rattle.engine_loop.specs.Loop.{next-afterM, nextM, why-nextM, whyM, turn-withM, turnM, Halt, halt, loopM}

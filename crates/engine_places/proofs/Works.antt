@@ -36,10 +36,11 @@ use Rattle.engine_truth.specs.Actions.{put-places, topA, actionA}
 use Rattle.engine_state.specs.declared.Move.{Move}
 use Rattle.engine_state.specs.Machine.{Machine, storedC}
 use Rattle.engine_state.specs.Changes.{logM, log-actionM}
-use Rattle.engine_steps.specs.Writes.{cells, move, changedM}
+use Rattle.engine_steps.specs.Writes.{cells, move, changedM, setting}
 use Rattle.engine_steps.specs.Runs.{no-run, put-runM, nowM, phaseR, finishM}
-use Rattle.engine_actions.specs.Acts.{setting, actM, act-nextM, go-on-runM, go-onM, going-phase, goingR, resume-runM, resume-atM, resumeM}
-use Rattle.engine_actions.specs.Works.{over-onM, over-endM, wait-overM, time-phaseM, time-runM, time-atM, time-outM, expire-toM, expireM, stale-atM, go-staleM, drop-allM, externalM, processM}
+use Rattle.engine_actions.specs.Acts.{actM, act-nextM, go-on-runM, go-onM, going-phase, goingR, resume-runM, resume-atM, resumeM}
+use Rattle.engine_works.specs.Works.{over-onM, over-endM, wait-overM, time-phaseM, time-runM, time-atM, time-outM, expire-toM, expireM, stale-atM, go-staleM, drop-allM, externalM}
+use Rattle.engine_process.specs.Process.{processM}
 use Rattle.engine_places.specs.Meaning.{key-of, kind-of, work-of, run-of, wait-of, waiting-of, source-of, actions-at, cell-at, cells-of, Tabled}
 use Rattle.engine_places.specs.Events.{GoodWork}
 use Rattle.engine_places.proofs.Truth.{Sought, here, nowhere, cell-is, name-in, fixed-is, Moved}

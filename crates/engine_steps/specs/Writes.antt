@@ -5,6 +5,8 @@ use lib.Dec.{ltb, eqb}
 use lib.ListN.{getD}
 use Rattle.texts.specs.Lists.{if_then_else_}
 use Rattle.queue.specs.declared.Work.the-variants.{Changed, Stale}
+use Rattle.records.specs.declared.Rule.{Rule}
+use Rattle.records.specs.declared.Where.{Where}
 use Rattle.engine_reads.specs.Reads.{name, stale, entityOf}
 use Rattle.engine_state.specs.Machine.{Machine, later, put-cells, storedC, raisedC}
 use Rattle.engine_state.specs.Changes.{addM, log-writeM}
@@ -21,6 +23,9 @@ changedM v m = if eqb (v .from) (v .to) then m else addM (m .now) (Changed (v .e
 
 abbrev pub cells : Machine → Cells
 cells m = record { values = m .values; versions = m .versions }
+
+abbrev pub setting : (entity value kind : ℕ) → Rule → Where → Setting
+setting e v k u w = record { entity = e; value = v; kind = k; rule = u; source = w }
 
 abbrev pub move : (entity from to : ℕ) → Move
 move e f t = record { entity = e; from = f; to = t }

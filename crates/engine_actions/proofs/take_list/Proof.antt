@@ -2,7 +2,6 @@ use native.Mathlib.Omega.{arith}
 use Rattle.engine_state.proofs.Laws.{none, one, two}
 use Rattle.engine_state.proofs.Laws as states
 use Rattle.engine_steps.proofs.Laws as steps
-use Rattle.engine_actions.proofs.Laws as laws
 use Rattle.engine_actions.specs.Acts.{take-listM}
 use Rattle.engine_steps.specs.Runs.{nowM}
 use Rattle.engine_state.specs.Changes.{log-actionM}

@@ -1,6 +1,4 @@
-use Rattle.engine_state.proofs.Laws as states
 use Rattle.engine_steps.proofs.Laws as steps
-use Rattle.engine_actions.proofs.Laws as laws
 use Rattle.engine_actions.specs.Acts.{writtenM}
 use borrow.Author.Needs.{needs}
 use Rattle.engine_actions.proofs.write.Statement.{statement}

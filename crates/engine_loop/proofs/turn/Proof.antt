@@ -4,13 +4,13 @@ use Rattle.engine_state.proofs.Laws.{two, both, same}
 use Rattle.engine_state.proofs.Laws as states
 use Rattle.engine_loop.proofs.Laws as laws
 use Rattle.engine_loop.specs.Loop.{turnM, turn-withM}
-use Rattle.engine_actions.specs.Works.{processM}
+use Rattle.engine_process.specs.Process.{processM}
 use borrow.Author.Needs.{needs}
 use Rattle.engine_loop.proofs.turn.Statement.{statement}
 use Rattle.engine_loop.proofs.turn.Tie as tie
 use Rattle.engine_loop.proofs.turn.Reads as reads
 use Rattle.engine_loop.proofs.turn.Lts as lts
-use Rattle.engine_actions.proofs.process.Reads as process-reads
+use Rattle.engine_process.proofs.process.Reads as process-reads
 use Rattle.engine_loop.proofs.at_second.Reads as at-second-reads
 use Rattle.queue.proofs.take.Reads as take-reads
 

@@ -1,7 +1,7 @@
-use native.Mathlib.Omega.{arith}
 use Rattle.engine_state.proofs.Laws.{none, same, wide}
-use Rattle.engine_state.proofs.Laws as states
 use Rattle.engine_steps.proofs.Laws as laws
+use Rattle.engine_steps.proofs.Wholes as wholes
+use Rattle.engine_steps.proofs.Wholes.{apart, lent, shared}
 use Rattle.engine_steps.specs.Triggers.{carry-outM, carry-withM, decidedM}
 use borrow.Author.Needs.{needs}
 use Rattle.engine_steps.proofs.carry_out.Statement.{statement}
@@ -18,23 +18,23 @@ use Rattle.runs.proofs.count_runs.Reads as count-runs-reads
 
 returns : tie.Need-returns
 unfolding carry-outM decidedM
-returns c = states.moves (λ v n s. laws.with-count (carry-withM _ _ _) (c .before .before .before .before .before .before .before .before .before .count-runs .ensures) (states.renamed _ (states.widen (c .before .before .log-rule .ensures .does _ _ _) (wide (omega (arith, c .before .before .before .before .before .before .before .before .before .before .before .before .before .before .before .pre))) same (wide (omega (arith, c .before .before .before .before .before .before .before .before .before .before .before .before .before .before .before .pre))) none) (λ k. laws.carry-is _ _ _ _ _ _ _ _ _ (c .before .before .before .before .enum-told .given .1) (c .before .before .before .before .before .before .decide .ensures) (c .before .before .before .before .before .before .before .before .rule-word .ensures) (c .before .before .before .before .before .before .before .rule-word2 .ensures))))
+returns c = wholes.counted (carry-withM _ _ _) (c .before .before .before .before .before .before .before .before .before .count-runs .ensures) (wholes.part (c .before .before .log-rule .ensures) (wide (c .before .before .before .before .before .before .before .before .before .before .before .before .before .before .before .pre .1 .0)) same (wide (c .before .before .before .before .before .before .before .before .before .before .before .before .before .before .before .pre .1 .1 .1)) none apart apart lent (λ v n s k. laws.carry-is _ _ _ _ _ _ _ _ _ (c .before .before .before .before .enum-told .given .1) (c .before .before .before .before .before .before .decide .ensures) (c .before .before .before .before .before .before .before .before .rule-word .ensures) (c .before .before .before .before .before .before .before .rule-word2 .ensures)))
 
 returns-2 : tie.Need-returns-2
 unfolding carry-outM decidedM
-returns-2 c = states.moves (λ v n s. laws.with-count (carry-withM _ _ _) (c .before .before .before .before .before .before .before .before .before .count-runs .ensures) (states.renamed _ (states.widen (c .before .before .log-rule2 .ensures .does _ _ _) (wide (omega (arith, c .before .before .before .before .before .before .before .before .before .before .before .before .before .before .before .pre))) same (wide (omega (arith, c .before .before .before .before .before .before .before .before .before .before .before .before .before .before .before .pre))) none) (λ k. laws.carry-is _ _ _ _ _ _ _ _ _ (c .before .before .before .before .enum-told2 .given .1) (c .before .before .before .before .before .before .decide .ensures) (c .before .before .before .before .before .before .before .before .rule-word .ensures) (c .before .before .before .before .before .before .before .rule-word2 .ensures))))
+returns-2 c = wholes.counted (carry-withM _ _ _) (c .before .before .before .before .before .before .before .before .before .count-runs .ensures) (wholes.part (c .before .before .log-rule2 .ensures) (wide (c .before .before .before .before .before .before .before .before .before .before .before .before .before .before .before .pre .1 .0)) same (wide (c .before .before .before .before .before .before .before .before .before .before .before .before .before .before .before .pre .1 .1 .1)) none apart apart lent (λ v n s k. laws.carry-is _ _ _ _ _ _ _ _ _ (c .before .before .before .before .enum-told2 .given .1) (c .before .before .before .before .before .before .decide .ensures) (c .before .before .before .before .before .before .before .before .rule-word .ensures) (c .before .before .before .before .before .before .before .rule-word2 .ensures)))
 
 returns-3 : tie.Need-returns-3
 unfolding carry-outM decidedM
-returns-3 c = states.moves (λ v n s. laws.with-count (carry-withM _ _ _) (c .before .before .before .before .before .before .before .before .before .before .before .before .before .before .before .before .count-runs .ensures) (states.renamed _ (c .before .before .before .before .before .before .begin-now .ensures .does _ _ s) (λ k. laws.carry-is _ _ _ _ _ _ _ _ _ (c .before .before .before .before .before .before .before .before .before .before .before .enum-told3 .given .1) (c .before .before .before .before .before .before .before .before .before .before .before .before .before .decide .ensures) (c .before .before .before .before .before .before .before .before .before .before .before .before .before .before .before .rule-word .ensures) (c .before .before .before .before .before .before .before .before .before .before .before .before .before .before .rule-word2 .ensures))))
+returns-3 c = wholes.counted (carry-withM _ _ _) (c .before .before .before .before .before .before .before .before .before .before .before .before .before .before .before .before .count-runs .ensures) (wholes.part (c .before .before .before .before .before .before .begin-now .ensures) same same same none apart apart shared (λ v n s k. laws.carry-is _ _ _ _ _ _ _ _ _ (c .before .before .before .before .before .before .before .before .before .before .before .enum-told3 .given .1) (c .before .before .before .before .before .before .before .before .before .before .before .before .before .decide .ensures) (c .before .before .before .before .before .before .before .before .before .before .before .before .before .before .before .rule-word .ensures) (c .before .before .before .before .before .before .before .before .before .before .before .before .before .before .rule-word2 .ensures)))
 
 returns-4 : tie.Need-returns-4
 unfolding carry-outM decidedM
-returns-4 c = states.moves (λ v n s. laws.with-count (carry-withM _ _ _) (c .before .before .before .before .before .before .before .before .before .before .before .before .before .before .before .before .count-runs .ensures) (states.renamed _ (c .before .before .before .before .before .before .stop-and-start .ensures .does _ _ s) (λ k. laws.carry-is _ _ _ _ _ _ _ _ _ (c .before .before .before .before .before .before .before .before .before .before .before .enum-told4 .given .1) (c .before .before .before .before .before .before .before .before .before .before .before .before .before .decide .ensures) (c .before .before .before .before .before .before .before .before .before .before .before .before .before .before .before .rule-word .ensures) (c .before .before .before .before .before .before .before .before .before .before .before .before .before .before .rule-word2 .ensures))))
+returns-4 c = wholes.counted (carry-withM _ _ _) (c .before .before .before .before .before .before .before .before .before .before .before .before .before .before .before .before .count-runs .ensures) (wholes.part (c .before .before .before .before .before .before .stop-and-start .ensures) same same same none apart apart shared (λ v n s k. laws.carry-is _ _ _ _ _ _ _ _ _ (c .before .before .before .before .before .before .before .before .before .before .before .enum-told4 .given .1) (c .before .before .before .before .before .before .before .before .before .before .before .before .before .decide .ensures) (c .before .before .before .before .before .before .before .before .before .before .before .before .before .before .before .rule-word .ensures) (c .before .before .before .before .before .before .before .before .before .before .before .before .before .before .rule-word2 .ensures)))
 
 returns-5 : tie.Need-returns-5
 unfolding carry-outM decidedM
-returns-5 c = states.moves (λ v n s. laws.with-count (carry-withM _ _ _) (c .before .before .before .before .before .before .before .before .before .before .before .before .before .count-runs .ensures) (states.renamed _ (states.widen (c .before .before .before .before .begin-later .ensures .does _ _ s) (wide (omega (arith, c .before .before .before .before .before .before .before .before .before .before .before .before .before .before .before .before .before .before .before .pre))) same same none) (λ k. laws.carry-is _ _ _ _ _ _ _ _ _ (c .before .before .before .before .before .before .before .before .enum-told5 .given .1) (c .before .before .before .before .before .before .before .before .before .before .decide .ensures) (c .before .before .before .before .before .before .before .before .before .before .before .before .rule-word .ensures) (c .before .before .before .before .before .before .before .before .before .before .before .rule-word2 .ensures))))
+returns-5 c = wholes.counted (carry-withM _ _ _) (c .before .before .before .before .before .before .before .before .before .before .before .before .before .count-runs .ensures) (wholes.part (c .before .before .before .before .begin-later .ensures) (wide (c .before .before .before .before .before .before .before .before .before .before .before .before .before .before .before .before .before .before .before .pre .1 .0)) same same none apart apart shared (λ v n s k. laws.carry-is _ _ _ _ _ _ _ _ _ (c .before .before .before .before .before .before .before .before .enum-told5 .given .1) (c .before .before .before .before .before .before .before .before .before .before .decide .ensures) (c .before .before .before .before .before .before .before .before .before .before .before .before .rule-word .ensures) (c .before .before .before .before .before .before .before .before .before .before .before .rule-word2 .ensures)))
 
 pub carry-out-spec : {M : Type 1} → statement M
 carry-out-spec =
