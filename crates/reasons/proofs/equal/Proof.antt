@@ -1,4 +1,4 @@
-use mathlib.Core.Path.{sym}
+use mathlib.Core.Path.{sym, _∙_}
 use borrow.Author.Needs.{needs}
 use Rattle.texts.proofs.Ordering as ordering
 use Rattle.reasons.proofs.equal.Statement.{statement}
@@ -12,6 +12,6 @@ equal-spec =
     (λ c. search needs)
     (λ c. search needs)
     (λ c. search needs)
-    (λ c. sym (ordering.is-same _ _ (cc)))
-    (λ c. sym (ordering.is-less _ _ (cc) .0))
-    (λ c. sym (ordering.is-greater _ _ (cc) .0)))
+    (λ c. sym (ordering.is-same _ _ (sym (c .enum-told .given .1) ∙ c .before .before .compare .ensures)))
+    (λ c. sym (ordering.is-less _ _ (sym (c .enum-told2 .given .1) ∙ c .before .before .compare .ensures) .0))
+    (λ c. sym (ordering.is-greater _ _ (sym (c .enum-told3 .given .1) ∙ c .before .before .compare .ensures) .0)))
