@@ -1,4 +1,4 @@
-use mathlib.Core.Path.{_∙_}
+use mathlib.Core.Path.{sym, _∙_}
 use borrow.Author.Needs.{needs}
 use Rattle.reasons.proofs.Rendering as rendering
 use Rattle.reasons.proofs.source_seek.Statement.{statement}
@@ -11,8 +11,8 @@ source-seek-spec =
     (λ c κs. search needs)
     (λ c. search needs)
     (λ c. search needs)
-    (λ c. rendering.colon _ _ _ (c .before .before .s2 .given .0 .0) (cc) (c .if1 .taken))
+    (λ c. rendering.colon _ _ _ (c .before .before .s2 .given .0 .0) (sym (c .before .before .s2 .given .1) ∙ c .before .before .before .before .number-seek .ensures) (c .if1 .taken))
     (λ c. search needs)
     (λ c κs. search needs)
-    (λ c. rendering.line-byte _ _ _ (c .before .s .given .0 .0) (cc))
-    (λ c. c .number-seek2 .ensures ∙ rendering.column-byte _ _ _ (c .before .before .before .s2 .given .0 .0) (cc) (c .before .if1 .left)))
+    (λ c. rendering.line-byte _ _ _ (c .before .s .given .0 .0) (sym (c .before .s .given .1) ∙ c .before .before .before .number-seek .ensures))
+    (λ c. c .number-seek2 .ensures ∙ rendering.column-byte _ _ _ (c .before .before .before .s2 .given .0 .0) (sym (c .before .before .before .s2 .given .1) ∙ c .before .before .before .before .before .number-seek .ensures) (c .before .if1 .left)))
