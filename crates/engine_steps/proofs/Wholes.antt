@@ -1,6 +1,6 @@
 -- What a function does, put together from what its parts do: laws over any state and areas.
 use Prim.Native.Nat.{ℕ, _+_, _<_}
-use mathlib.Core.Path.{_≡_, refl, _∙_, ap, subst}
+use mathlib.Core.Path.{_≡_, refl}
 use mathlib.Core.Bool.{Bool}
 use mathlib.Core.List.{List}
 use Rattle.runs.specs.Lists.{placeFrom, tally}
@@ -9,9 +9,9 @@ use Rattle.runs.specs.declared.Run.{Run}
 use Rattle.runs.specs.declared.Found.{Found}
 use Rattle.engine_state.specs.declared.State.{State}
 use Rattle.engine_state.specs.Machine.{Machine, Content, entire, machine}
-use Rattle.engine_state.specs.Steps.{Lent, kept, goes, Listing, still, first, last, Turns, Moves}
+use Rattle.engine_state.specs.Steps.{Lent, kept, goes, Listing, still, first, Moves}
 use Rattle.engine_state.proofs.Laws as states
-use Rattle.engine_state.proofs.Laws.{Joined, Joined-told, none, one, two, both}
+use Rattle.engine_state.proofs.Laws.{none}
 use Rattle.engine_steps.specs.Runs.{runM}
 use Rattle.engine_steps.proofs.Laws as steps
 
@@ -47,41 +47,6 @@ module _ {F : Machine → Machine} {st s : State} {Q A R : Lent} {U : Listing} w
 -- nothing changes
 pub idle : (st : State) → Moves (λ m. m) st st kept kept kept still kept kept kept
 idle st = states.moves (λ v n c. states.stay (λ k. refl) none none none none)
-
--- ---- a change and then another
-
-start : {P Q R : Lent} → Joined P Q R → (x : List ℕ) → first P (first R x) ≡ first R x
-start none x = refl
-start one x = refl
-start two x = refl
-start both x = refl
-
-middle : {P Q R : Lent} → Joined P Q R → (x : List ℕ) → first Q (last P (first R x)) ≡ last P (first R x)
-middle none x = refl
-middle one x = refl
-middle two x = refl
-middle both x = refl
-
-end : {P Q R : Lent} → Joined P Q R → (x : List ℕ) → last Q (last P (first R x)) ≡ last R x
-end none x = refl
-end one x = refl
-end two x = refl
-end both x = refl
-
-entire-is : (st : State) {v v' n n' c c' : List ℕ} → v ≡ v' → n ≡ n' → c ≡ c' → entire st v n c ≡ entire st v' n' c'
-entire-is st {v} {v'} {n} {n'} {c} e g h = ap (λ z. entire st z n c) e ∙ ap (λ z. entire st v' z c) g ∙ ap (λ z. entire st v' n' z) h
-
-pub after : {F : Machine → Machine} {st mid s : State} {Q Q' Q'' A A' A'' R R' R'' : Lent} {U U' U'' : Listing} {L L' L'' N N' N'' C C' C'' : Lent} (G : Machine → Machine) →
-    Moves F st mid Q A R U L N C → Moves G mid s Q' A' R' U' L' N' C' →
-    Joined Q Q' Q'' → Joined A A' A'' → Joined R R' R'' → Joined-told U U' U'' → Joined L L' L'' → Joined N N' N'' → Joined C C' C'' → Moves (λ m. G (F m)) st s Q'' A'' R'' U'' L'' N'' C''
-after {F} {st} {mid} {s} {Q} {Q'} {Q''} {A} {A'} {A''} {R} {R'} {R''} {U} {U'} {U''} {L} {L'} {L''} {N} {N'} {N''} {C} {C'} {C''} G d e jq ja jr ju jl jn jc =
-    states.moves (λ v n c.
-    subst (λ z. Turns (λ m. G (F m)) z (entire s (last L'' v) (last N'' n) (last C'' c)) Q'' A'' R'' U'') (entire-is st (start jl v) (start jn n) (start jc c))
-    (subst (λ z. Turns (λ m. G (F m)) (entire st (first L (first L'' v)) (first N (first N'' n)) (first C (first C'' c))) z Q'' A'' R'' U'') (entire-is s (end jl v) (end jn n) (end jc c))
-    (states.follow G (d .does (first L'' v) (first N'' n) (first C'' c))
-    (subst (λ z. Turns G z (entire s (last L' (last L (first L'' v))) (last N' (last N (first N'' n))) (last C' (last C (first C'' c)))) Q' A' R' U') (entire-is mid (middle jl v) (middle jn n) (middle jc c))
-    (e .does (last L (first L'' v)) (last N (first N'' n)) (last C (first C'' c))))
-    jq ja jr ju)))
 
 -- ---- what is read of the run area is what the machine holds
 
