@@ -1,6 +1,7 @@
 // The entry `cone`: the entities and the automations of a model file on which its invariants depend.
 use cone_close::ConeSets;
 use cone_names::ConeNames;
+use lint_tests::Extent;
 use model_index::Index;
 use model_index::Status;
 use model_parts::Section;
@@ -76,7 +77,21 @@ fn coned(s: &[u8], index: Index) -> ConeResult
     let writes = t.writes;
     let needs = t.needs;
     let c = cone_close::close(writes, needs, start, count);
-    let u = lint_names::undeclared_names(s, entities, rules, texts.count);
+    let end = entities.end;
+    let declared = Extent { count: many, end };
+    let last = rules.end;
+    let extent = Extent {
+        count: rules.count,
+        end: last,
+    };
+    let u = lint_names::undeclared_names(
+        s,
+        &entities.starts,
+        declared,
+        &rules.starts,
+        extent,
+        texts.count,
+    );
     let n = cone_names::names_in(u, c.automations, texts.count);
     let names = n.list;
     ConeResult {

@@ -14,7 +14,9 @@ use Rattle.lint_walk.specs.declared.Walk.{Walk}
 use Rattle.lint_walk.specs.Walks.{walkBy, walkW}
 use Rattle.lint_touches.specs.Sets.{sectionBy, readsS, writesS}
 use Rattle.lint_touches.proofs.Laws.{reads-by, writes-by}
-use Rattle.lint_tests.specs.declared.Names.{Names}
+use Rattle.lint_tests.specs.declared.Extent.{Extent}
+use Rattle.lint_tests.specs.declared.Given.{Given}
+use Rattle.lint_tests.specs.Given.{sectionOf, namesBy}
 use Rattle.lint_names.specs.declared.Undeclared.{Undeclared}
 use Rattle.lint_names.specs.Strange.{undeclaredU}
 use Rattle.lint_board.specs.Board.{Board, board}
@@ -22,7 +24,7 @@ use Rattle.lint_entry.specs.Order.{fillL, Lints}
 use Rattle.lint_entry.specs.declared.Linted.{Linted}
 use Rattle.lint_notes.specs.Notes.{AllNotes}
 use Rattle.lint_places.specs.Ground.{namesOf}
-use Rattle.lint_answer.specs.Parts.{firstL, readSets, writeSets, Bounds, Inserts, Tells}
+use Rattle.lint_answer.specs.Parts.{givenBy, firstL, readSets, writeSets, Bounds, Inserts, Tells}
 
 pub first-is : (l : List ℕ) (n : ℕ) → firstL l n ≡ fillL (λ i. getD l i 0) (n - 0) 0 (replicate 32 0)
 unfolding firstL
@@ -51,10 +53,13 @@ module _ (s : List ℕ) (e : Section) (p : ℕ) {w : Walk} {x : ℕ} (d : w ≡ 
   pub write-is : x ≡ writesS s (sectionBy (e .starts) (e .count)) (walkBy (w .list) (w .count)) → x ≡ writesS s e (walkW s p)
   write-is f = writes-by s e w f ∙ ap (writesS s e) d
 
-pub names-are : (s : List ℕ) (i : Index) {a b c : ℕ} → a ≡ place-from (i .texts .count) 0 (text "on") s 6 → b ≡ place-from (i .texts .count) 0 (text "off") s 6 → c ≡ place-from (i .texts .count) 0 (text "*") s 6 →
-    record { entities = i .entities; invariants = i .invariants; on = a; off = b; star = c } ≡ namesOf s i
-unfolding namesOf
-names-are s i d e f = rw (d, e, f)
+pub given-is : (s : List ℕ) (e i r : Extent) (n : ℕ) {a b c : ℕ} → a ≡ place-from n 0 (text "on") s 6 → b ≡ place-from n 0 (text "off") s 6 → c ≡ place-from n 0 (text "*") s 6 →
+    record { entities = e; invariants = i; rules = r; on = a; off = b; star = c } ≡ givenBy s e i r n
+given-is s e i r n d f g = rw (d, f, g)
+
+-- of the model whose index this is
+abbrev givenOf : List ℕ → Index → Given
+givenOf s i = givenBy s (record { count = i .entities .count; end = i .entities .end }) (record { count = i .invariants .count; end = i .invariants .end }) (record { count = i .rules .count; end = i .rules .end }) (i .texts .count)
 
 pub told-is : (s : List ℕ) (i : Index) (o : Out) (c : Components) {a b e : List ℕ} {u : Undeclared} → a ≡ firstL (c .sets) (c .count) → b ≡ readSets s (i .entities) (i .rules) → e ≡ writeSets s (i .entities) (i .rules) → u ≡ undeclaredU s (i .entities) (i .rules) (i .texts .count) →
     Tells s i o c (record {
@@ -82,22 +87,22 @@ told-is s i o c d f g h = record {
   readers = ap (λ (x : Undeclared). x .readers) h;
 }
 
-pub names-few : (s : List ℕ) (i : Index) {n : Names} → n ≡ namesOf s i → Bounds i → (n .entities .count ≤ 32) × (n .invariants .count ≤ 32)
-unfolding namesOf
-names-few s i e b = rw e (b .entities, b .invariants)
+pub given-few : (s : List ℕ) (i : Index) {d : Given} → d ≡ givenOf s i → Bounds i → (d .entities .count ≤ 32) × (d .invariants .count ≤ 32) × (d .rules .count ≤ 32)
+given-few s i e b = rw e (b .entities, b .invariants, b .rules)
 
 -- the areas as they were cleared, the entries, and the notes
-pub inserts : (s : List ℕ) (i : Index) (F I : List ℕ) {d : Names} {f₀ i₀ f k g : List ℕ} (x : Linted) (o : Out) →
-    (f₀ ≡ replicate (length F) 0) × (i₀ ≡ replicate (length I) 0) → d ≡ namesOf s i →
-    Lints s d (i .rules) (board f₀ i₀ (record { findings = 0; interactions = 0; refusal = 0 })) x (board f k (x .out)) →
+pub inserts : (s : List ℕ) (i : Index) (F I : List ℕ) {d : Given} {f₀ i₀ f k g : List ℕ} (x : Linted) (o : Out) →
+    (f₀ ≡ replicate (length F) 0) × (i₀ ≡ replicate (length I) 0) → d ≡ givenOf s i →
+    Lints s (namesBy (i .entities .starts) (i .invariants .starts) d) (sectionOf (i .rules .starts) (d .rules)) (board f₀ i₀ (record { findings = 0; interactions = 0; refusal = 0 })) x (board f k (x .out)) →
     ((y : List ℕ) → AllNotes s (i .rules) (i .rules .count) 0 (board f y (x .out)) (board g y o)) → Inserts s i F I (record { out = o; found = x .found }) (board g k o)
+unfolding namesOf
 inserts s i F I {d} {f₀} {i₀} {f} {k} {g} x o z e h n = record {
   first = x;
   between = board f k (x .out);
   entries =
       subst (λ (a : List ℕ). Lints s (namesOf s i) (i .rules) (board a (replicate (length I) 0) (record { findings = 0; interactions = 0; refusal = 0 })) x (board f k (x .out))) (z .0)
       (subst (λ (a : List ℕ). Lints s (namesOf s i) (i .rules) (board f₀ a (record { findings = 0; interactions = 0; refusal = 0 })) x (board f k (x .out))) (z .1)
-      (subst (λ (a : Names). Lints s a (i .rules) (board f₀ i₀ (record { findings = 0; interactions = 0; refusal = 0 })) x (board f k (x .out))) e h));
+      (subst (λ (a : Given). Lints s (namesBy (i .entities .starts) (i .invariants .starts) a) (sectionOf (i .rules .starts) (a .rules)) (board f₀ i₀ (record { findings = 0; interactions = 0; refusal = 0 })) x (board f k (x .out))) e h));
   found = refl;
   notes = n k;
 }

@@ -9,7 +9,11 @@ use Rattle.model.specs.Validate.{accepted}
 use Rattle.model_index.specs.declared.Index.{Index}
 use Rattle.model_index.specs.Indexed.{Indexed}
 use Rattle.model_parts.specs.declared.Section.{Section}
+use Rattle.texts.specs.Texts.{text}
+use Rattle.model_order.specs.Order.{place-from}
 use Rattle.lint.specs.Memory.{Lent}
+use Rattle.lint_tests.specs.declared.Extent.{Extent}
+use Rattle.lint_tests.specs.declared.Given.{Given}
 use Rattle.lint_board.specs.declared.Out.{Out}
 use Rattle.lint_reach.specs.declared.Components.{Components}
 use Rattle.lint_walk.specs.Walks.{walkW}
@@ -23,6 +27,17 @@ use Rattle.lint_places.specs.Ground.{namesOf}
 pub use Rattle.lint_places.specs.Ground.{Bounds}
 use Rattle.lint_answer.specs.declared.Report.{Report}
 use Rattle.lint_answer.specs.Answers.{Answers}
+
+-- what the tests need of a model with so many texts, beside positions
+abbrev pub givenBy : List ℕ → (entities invariants rules : Extent) → (texts : ℕ) → Given
+givenBy s e i r n = record {
+  entities = e;
+  invariants = i;
+  rules = r;
+  on = place-from n 0 (text "on") s 6;
+  off = place-from n 0 (text "off") s 6;
+  star = place-from n 0 (text "*") s 6;
+}
 
 -- the first n, then zeros
 unfoldable pub firstL : List ℕ → (n : ℕ) → List ℕ

@@ -3,18 +3,18 @@
 use lint_board::Out;
 use lint_entry::Linted;
 use lint_reach::Components;
-use lint_tests::Names;
+use lint_tests::Extent;
+use lint_tests::Given;
 use model_index::Index;
 use model_index::Status;
-use model_parts::Section;
 ghost use mathlib.Core.Path.{_≡_};
 ghost use Prim.Native.Nat.{_≤_, _<_, _+_, _-_};
 ghost use lib.ListN.{length};
 ghost use Rattle.lint.specs.Memory.{lent};
 ghost use Rattle.lint_board.specs.Board.{board};
-ghost use Rattle.lint_places.specs.Ground.{namesOf};
+ghost use Rattle.lint_tests.specs.Given.{sectionOf};
 ghost use Rattle.lint_answer.specs.Answers.{no-lint, Answers};
-ghost use Rattle.lint_answer.specs.Parts.{firstL, readSets, writeSets, Bounds, Inserts, Tells, AnswersAs};
+ghost use Rattle.lint_answer.specs.Parts.{givenBy, firstL, readSets, writeSets, Bounds, Inserts, Tells, AnswersAs};
 
 // `refused` is 0 or the refusal's number; then the rest is 0. As many `findings` and `interactions` stand in their areas.
 // The first `components` of `cycles` are the components, as sets of automations by number. `reads` and `writes` are sets of
@@ -76,22 +76,28 @@ pub struct Touched {
     pub writes: [u32; 32],
 }
 
-fn rule_sets(s: &[u8], entities: Section, rules: Section) -> Touched
-    requires { ⌜ (entities .count ≤ 32) × (rules .count ≤ 32) ⌝ }
-    ensures { λ r. ⌜ (r .reads ≡ readSets (now (s .entry)) entities rules) × (r .writes ≡ writeSets (now (s .entry)) entities rules) ⌝ }
+fn rule_sets(
+    s: &[u8],
+    entities: &[usize; 100],
+    declared: Extent,
+    rules: &[usize; 100],
+    extent: Extent,
+) -> Touched
+    requires { ⌜ (declared .count ≤ 32) × (extent .count ≤ 32) ⌝ }
+    ensures { λ r. ⌜ (r .reads ≡ readSets (now (s .entry)) (sectionOf (now (entities .entry)) declared) (sectionOf (now (rules .entry)) extent)) × (r .writes ≡ writeSets (now (s .entry)) (sectionOf (now (entities .entry)) declared) (sectionOf (now (rules .entry)) extent)) ⌝ }
 {
-    let n = rules.count as usize;
-    let many = entities.count;
+    let n = extent.count as usize;
+    let many = declared.count;
     let mut reads = [0u32; 32];
     let mut writes = [0u32; 32];
     let mut i: usize = 0;
     while i < n {
-        let at = rules.starts[i];
+        let at = rules[i];
         let mut list = [0usize; 512];
         let c = lint_walk::rule_walk(s, at, &mut list);
         let count = c.count;
-        reads[i] = lint_touches::reads(s, &entities.starts, many, at, &list, count);
-        writes[i] = lint_touches::writes(s, &entities.starts, many, &list, count);
+        reads[i] = lint_touches::reads(s, entities, many, at, &list, count);
+        writes[i] = lint_touches::writes(s, entities, many, &list, count);
         i += 1;
     }
     Touched { reads, writes }
@@ -99,20 +105,17 @@ fn rule_sets(s: &[u8], entities: Section, rules: Section) -> Touched
 
 // ---- the answer
 
-// What the tests need of the model.
-fn names_of(s: &[u8], index: Index) -> Names
-    ensures { λ r. ⌜ r ≡ namesOf (now (s .entry)) index ⌝ }
+// What the tests need of a model with so many texts, beside positions.
+fn given_of(s: &[u8], entities: Extent, invariants: Extent, rules: Extent, texts: u32) -> Given
+    ensures { λ r. ⌜ r ≡ givenBy (now (s .entry)) entities invariants rules texts ⌝ }
 {
-    let texts = index.texts;
-    let count = texts.count;
-    let entities = index.entities;
-    let invariants = index.invariants;
-    Names {
+    Given {
         entities,
         invariants,
-        on: model_order::place_of(s, b"on", count),
-        off: model_order::place_of(s, b"off", count),
-        star: model_order::place_of(s, b"*", count),
+        rules,
+        on: model_order::place_of(s, b"on", texts),
+        off: model_order::place_of(s, b"off", texts),
+        star: model_order::place_of(s, b"*", texts),
     }
 }
 
@@ -122,12 +125,28 @@ fn told(s: &[u8], index: Index, out: Out, found: Components) -> Report
     ensures { λ r. ⌜ Tells (now (s .entry)) index out found r ⌝ }
 {
     let entities = index.entities;
+    let end = entities.end;
+    let declared = Extent {
+        count: entities.count,
+        end,
+    };
     let rules = index.rules;
-    let texts = index.texts;
+    let last = rules.end;
+    let extent = Extent {
+        count: rules.count,
+        end: last,
+    };
     let sets = found.sets;
     let c = first_sets(sets, found.count);
-    let t = rule_sets(s, entities, rules);
-    let u = lint_names::undeclared_names(s, entities, rules, texts.count);
+    let t = rule_sets(s, &entities.starts, declared, &rules.starts, extent);
+    let u = lint_names::undeclared_names(
+        s,
+        &entities.starts,
+        declared,
+        &rules.starts,
+        extent,
+        index.texts.count,
+    );
     let cycles = c.list;
     let reads = t.reads;
     let writes = t.writes;
@@ -152,15 +171,41 @@ fn inserted(s: &[u8], index: Index, findings: &mut [u32], interactions: &mut [u3
     requires { ⌜ Bounds index ⌝ }
     ensures { λ r. ⌜ Inserts (now (s .entry)) index (now (findings .entry)) (now (interactions .entry)) r (board (now (findings .exit)) (now (interactions .exit)) (r .out)) ⌝ }
 {
+    let entities = index.entities;
+    let end = entities.end;
+    let declared = Extent {
+        count: entities.count,
+        end,
+    };
+    let invariants = index.invariants;
+    let close = invariants.end;
+    let kept = Extent {
+        count: invariants.count,
+        end: close,
+    };
     let rules = index.rules;
+    let last = rules.end;
+    let extent = Extent {
+        count: rules.count,
+        end: last,
+    };
+    let given = given_of(s, declared, kept, extent, index.texts.count);
     let start = Out {
         findings: 0,
         interactions: 0,
         refusal: 0,
     };
     lint_board::clear(findings, interactions);
-    let names = names_of(s, index);
-    let l = lint_entry::entries(s, names, rules, findings, interactions, start);
+    let l = lint_entry::entries(
+        s,
+        &entities.starts,
+        &invariants.starts,
+        &rules.starts,
+        given,
+        findings,
+        interactions,
+        start,
+    );
     let out = lint_notes::notes(s, rules, findings, l.out);
     let found = l.found;
     Linted { out, found }

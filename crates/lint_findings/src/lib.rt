@@ -1,12 +1,13 @@
 // The findings and interactions of each automation, in the order in which Rust adds them.
 use lint_board::Out;
-use lint_tests::Names;
-use model_parts::Section;
+use lint_tests::Extent;
+use lint_tests::Given;
 ghost use mathlib.Core.Path.{_≡_};
 ghost use mathlib.Core.List.{List};
 ghost use Prim.Native.Nat.{ℕ, _≤_, _<_, _+_, _-_};
 ghost use Rattle.lint_walk.specs.Walks.{walkBy};
 ghost use Rattle.lint_board.specs.Board.{board, pushes};
+ghost use Rattle.lint_tests.specs.Given.{sectionOf, namesBy};
 ghost use Rattle.lint_findings.specs.Entries.{aboutZ, actionZ, delayedZ, ownItems, branchItems, branchesItems, staleHereZ, freshItems, valueZ, riskyZ, interactItems, writeItems, writesItems, firstItems, ruleItems, spelledZ, pairZ, opposingZ, foundItems, rowItems, pairItems};
 
 // An automation: its number, the set of it alone, the highest tier that it writes, its source.
@@ -132,12 +133,12 @@ fn branch_findings(
 
 // ---- entities that are read
 
-fn stale_here(s: &[u8], entities: Section, reads: u32, k: usize) -> bool
-    requires { ⌜ (entities .count ≤ 32) × (k < 32) ⌝ }
-    ensures { λ r. ⌜ r ≡ staleHereZ (now (s .entry)) entities reads k ⌝ }
+fn stale_here(s: &[u8], entities: &[usize; 100], extent: Extent, reads: u32, k: usize) -> bool
+    requires { ⌜ k < 32 ⌝ }
+    ensures { λ r. ⌜ r ≡ staleHereZ (now (s .entry)) (sectionOf (now (entities .entry)) extent) reads k ⌝ }
 {
     if lint_reach::has(reads, k) {
-        return lint_tests::stale(s, entities.starts[k]);
+        return lint_tests::stale(s, entities[k]);
     }
     false
 }
@@ -145,21 +146,22 @@ fn stale_here(s: &[u8], entities: Section, reads: u32, k: usize) -> bool
 fn fresh_findings(
     s: &[u8],
     a: About,
-    entities: Section,
+    entities: &[usize; 100],
+    extent: Extent,
     reads: u32,
     findings: &mut [u32],
     o: Out,
 ) -> Out
-    requires { ⌜ entities .count ≤ 32 ⌝ }
-    ensures { λ r. ⌜ ((i : List ℕ) → board (now (findings .exit)) i r ≡ pushes (freshItems (now (s .entry)) a entities reads) (board (now (findings .entry)) i o)) ⌝ }
+    requires { ⌜ extent .count ≤ 32 ⌝ }
+    ensures { λ r. ⌜ ((i : List ℕ) → board (now (findings .exit)) i r ≡ pushes (freshItems (now (s .entry)) a (sectionOf (now (entities .entry)) extent) reads) (board (now (findings .entry)) i o)) ⌝ }
 {
-    let count = entities.count as usize;
+    let count = extent.count as usize;
     let line = a.line;
     let column = a.column;
     let mut out = o;
     let mut k: usize = 0;
     while k < count {
-        let test = stale_here(s, entities, reads, k);
+        let test = stale_here(s, entities, extent, reads, k);
         out = lint_board::push_if(
             findings,
             out,
@@ -184,22 +186,30 @@ pub fn value(s: &[u8], star: u32, at: usize) -> u32
 }
 
 // Whether a write of v to the entity x, whose number is e, needs a guard and has none.
-fn risky(s: &[u8], names: Names, x: u32, v: u32, e: usize) -> bool
-    requires { ⌜ (names .invariants .count ≤ 32) × (e < 100) ⌝ }
-    ensures { λ r. ⌜ r ≡ riskyZ (now (s .entry)) names x v e ⌝ }
+fn risky(
+    s: &[u8],
+    entities: &[usize; 100],
+    invariants: &[usize; 100],
+    given: Given,
+    x: u32,
+    v: u32,
+    e: usize,
+) -> bool
+    requires { ⌜ (given .invariants .count ≤ 32) × (e < 100) ⌝ }
+    ensures { λ r. ⌜ r ≡ riskyZ (now (s .entry)) (namesBy (now (entities .entry)) (now (invariants .entry)) given) x v e ⌝ }
 {
-    let entities = names.entities;
-    if lint_tests::tier(s, entities.starts[e]) < 2 {
+    if lint_tests::tier(s, entities[e]) < 2 {
         return false;
     }
-    lint_tests::unguarded(s, names, x, v)
+    lint_tests::unguarded(s, entities, invariants, given, x, v)
 }
 
 // The automations that a write of v to x, the entity with the number e, can set off.
 fn interactions_of(
     s: &[u8],
     from: u32,
-    rules: Section,
+    rules: &[usize; 100],
+    extent: Extent,
     star: u32,
     x: u32,
     v: u32,
@@ -207,14 +217,14 @@ fn interactions_of(
     interactions: &mut [u32],
     o: Out,
 ) -> Out
-    requires { ⌜ rules .count ≤ 32 ⌝ }
-    ensures { λ r. ⌜ ((f : List ℕ) → board f (now (interactions .exit)) r ≡ pushes (interactItems (now (s .entry)) from rules star x v e) (board f (now (interactions .entry)) o)) ⌝ }
+    requires { ⌜ extent .count ≤ 32 ⌝ }
+    ensures { λ r. ⌜ ((f : List ℕ) → board f (now (interactions .exit)) r ≡ pushes (interactItems (now (s .entry)) from (sectionOf (now (rules .entry)) extent) star x v e) (board f (now (interactions .entry)) o)) ⌝ }
 {
-    let count = rules.count as usize;
+    let count = extent.count as usize;
     let mut out = o;
     let mut k: usize = 0;
     while k < count {
-        let test = lint_tests::leads(s, star, x, v, rules.starts[k]);
+        let test = lint_tests::leads(s, star, x, v, rules[k]);
         out = lint_board::interact_if(interactions, out, test, [from, k as u32, e]);
         k += 1;
     }
@@ -224,35 +234,39 @@ fn interactions_of(
 // What the action at a position writes: its guard, and the automations that it can set off.
 fn write_findings(
     s: &[u8],
-    names: Names,
-    rules: Section,
+    entities: &[usize; 100],
+    invariants: &[usize; 100],
+    rules: &[usize; 100],
+    given: Given,
     a: About,
     at: usize,
     findings: &mut [u32],
     interactions: &mut [u32],
     o: Out,
 ) -> Out
-    requires { ⌜ (names .entities .count ≤ 32) × (names .invariants .count ≤ 32) × (rules .count ≤ 32) ⌝ }
-    ensures { λ r. ⌜ board (now (findings .exit)) (now (interactions .exit)) r ≡ pushes (writeItems (now (s .entry)) names rules a at) (board (now (findings .entry)) (now (interactions .entry)) o) ⌝ }
+    requires { ⌜ (given .entities .count ≤ 32) × (given .invariants .count ≤ 32) × (given .rules .count ≤ 32) ⌝ }
+    ensures { λ r. ⌜ board (now (findings .exit)) (now (interactions .exit)) r ≡ pushes (writeItems (now (s .entry)) (namesBy (now (entities .entry)) (now (invariants .entry)) given) (sectionOf (now (rules .entry)) (given .rules)) a at) (board (now (findings .entry)) (now (interactions .entry)) o) ⌝ }
 {
     if 1 < lint_walk::kind_at(s, at) {
         return o;
     }
     let x = lint_walk::place_at(s, lint_walk::past(s, at, 9));
-    let entities = names.entities;
-    let count = entities.count as usize;
-    let e = model_check::number_of(s, entities, x);
+    let extent = given.entities;
+    let count = extent.count as usize;
+    let e = model_check::first_of(s, entities, extent.count, x);
     if count <= e {
         return o;
     }
-    let v = value(s, names.star, at);
+    let v = value(s, given.star, at);
     let words = at_action(s, a, 7, 1, e as u32, at);
-    let p = lint_board::push_if(findings, o, risky(s, names, x, v, e), words);
+    let test = risky(s, entities, invariants, given, x, v, e);
+    let p = lint_board::push_if(findings, o, test, words);
     interactions_of(
         s,
         a.number,
         rules,
-        names.star,
+        given.rules,
+        given.star,
         x,
         v,
         e as u32,
@@ -263,8 +277,10 @@ fn write_findings(
 
 fn writes_findings(
     s: &[u8],
-    names: Names,
-    rules: Section,
+    entities: &[usize; 100],
+    invariants: &[usize; 100],
+    rules: &[usize; 100],
+    given: Given,
     a: About,
     list: &[usize; 512],
     count: usize,
@@ -272,13 +288,24 @@ fn writes_findings(
     interactions: &mut [u32],
     o: Out,
 ) -> Out
-    requires { ⌜ (names .entities .count ≤ 32) × (names .invariants .count ≤ 32) × (rules .count ≤ 32) × (count ≤ 512) ⌝ }
-    ensures { λ r. ⌜ board (now (findings .exit)) (now (interactions .exit)) r ≡ pushes (writesItems (now (s .entry)) names rules a (walkBy (now (list .entry)) count)) (board (now (findings .entry)) (now (interactions .entry)) o) ⌝ }
+    requires { ⌜ (given .entities .count ≤ 32) × (given .invariants .count ≤ 32) × (given .rules .count ≤ 32) × (count ≤ 512) ⌝ }
+    ensures { λ r. ⌜ board (now (findings .exit)) (now (interactions .exit)) r ≡ pushes (writesItems (now (s .entry)) (namesBy (now (entities .entry)) (now (invariants .entry)) given) (sectionOf (now (rules .entry)) (given .rules)) a (walkBy (now (list .entry)) count)) (board (now (findings .entry)) (now (interactions .entry)) o) ⌝ }
 {
     let mut out = o;
     let mut k: usize = 0;
     while k < count {
-        out = write_findings(s, names, rules, a, list[k], findings, interactions, out);
+        out = write_findings(
+            s,
+            entities,
+            invariants,
+            rules,
+            given,
+            a,
+            list[k],
+            findings,
+            interactions,
+            out,
+        );
         k += 1;
     }
     out
@@ -315,8 +342,10 @@ fn first_findings(
 // The entries of the automation at a position, with its actions, the first `count` of `list`, and the sets of what it reads and writes.
 pub fn rule_findings(
     s: &[u8],
-    names: Names,
-    rules: Section,
+    entities: &[usize; 100],
+    invariants: &[usize; 100],
+    rules: &[usize; 100],
+    given: Given,
     a: About,
     at: usize,
     list: &[usize; 512],
@@ -327,12 +356,24 @@ pub fn rule_findings(
     interactions: &mut [u32],
     o: Out,
 ) -> Out
-    requires { ⌜ (names .entities .count ≤ 32) × (names .invariants .count ≤ 32) × (rules .count ≤ 32) × (count ≤ 512) ⌝ }
-    ensures { λ r. ⌜ board (now (findings .exit)) (now (interactions .exit)) r ≡ pushes (ruleItems (now (s .entry)) names rules a at (walkBy (now (list .entry)) count) reads writes) (board (now (findings .entry)) (now (interactions .entry)) o) ⌝ }
+    requires { ⌜ (given .entities .count ≤ 32) × (given .invariants .count ≤ 32) × (given .rules .count ≤ 32) × (count ≤ 512) ⌝ }
+    ensures { λ r. ⌜ board (now (findings .exit)) (now (interactions .exit)) r ≡ pushes (ruleItems (now (s .entry)) (namesBy (now (entities .entry)) (now (invariants .entry)) given) (sectionOf (now (rules .entry)) (given .rules)) a at (walkBy (now (list .entry)) count) reads writes) (board (now (findings .entry)) (now (interactions .entry)) o) ⌝ }
 {
     let p = first_findings(s, a, at, list, count, writes, findings, o);
-    let q = fresh_findings(s, a, names.entities, reads, findings, p);
-    writes_findings(s, names, rules, a, list, count, findings, interactions, q)
+    let q = fresh_findings(s, a, entities, given.entities, reads, findings, p);
+    writes_findings(
+        s,
+        entities,
+        invariants,
+        rules,
+        given,
+        a,
+        list,
+        count,
+        findings,
+        interactions,
+        q,
+    )
 }
 
 // ---- pairs of automations
@@ -348,11 +389,19 @@ fn spelled(tier: u32) -> u32
 }
 
 // The words of opposing writes at two positions, to the entity with the number e.
-fn pair_words(s: &[u8], entities: Section, set: u32, e: usize, at: usize, other: usize) -> [u32; 14]
+fn pair_words(
+    s: &[u8],
+    entities: &[usize; 100],
+    extent: Extent,
+    set: u32,
+    e: usize,
+    at: usize,
+    other: usize,
+) -> [u32; 14]
     requires { ⌜ e < 100 ⌝ }
-    ensures { λ w. ⌜ w ≡ pairZ (now (s .entry)) entities set e at other ⌝ }
+    ensures { λ w. ⌜ w ≡ pairZ (now (s .entry)) (sectionOf (now (entities .entry)) extent) set e at other ⌝ }
 {
-    let tier = spelled(lint_tests::tier(s, entities.starts[e]));
+    let tier = spelled(lint_tests::tier(s, entities[e]));
     let line = lint_walk::number_at(s, at);
     let column = lint_walk::number_at(s, lint_walk::past(s, at, 4));
     let line2 = lint_walk::number_at(s, other);
@@ -392,7 +441,8 @@ fn opposing(s: &[u8], star: u32, x: u32, v: u32, other: usize) -> bool
 // Two writes against each other, at two positions, the first of them to the entity x: a finding if it is declared.
 fn oppose(
     s: &[u8],
-    entities: Section,
+    entities: &[usize; 100],
+    extent: Extent,
     set: u32,
     x: u32,
     at: usize,
@@ -400,21 +450,27 @@ fn oppose(
     findings: &mut [u32],
     o: Out,
 ) -> Out
-    requires { ⌜ entities .count ≤ 32 ⌝ }
-    ensures { λ r. ⌜ ((i : List ℕ) → board (now (findings .exit)) i r ≡ pushes (foundItems (now (s .entry)) entities set x at other) (board (now (findings .entry)) i o)) ⌝ }
+    requires { ⌜ extent .count ≤ 32 ⌝ }
+    ensures { λ r. ⌜ ((i : List ℕ) → board (now (findings .exit)) i r ≡ pushes (foundItems (now (s .entry)) (sectionOf (now (entities .entry)) extent) set x at other) (board (now (findings .entry)) i o)) ⌝ }
 {
-    let count = entities.count as usize;
-    let e = model_check::number_of(s, entities, x);
+    let count = extent.count as usize;
+    let e = model_check::first_of(s, entities, extent.count, x);
     if count <= e {
         return o;
     }
-    lint_board::push_finding(findings, o, pair_words(s, entities, set, e, at, other))
+    lint_board::push_finding(
+        findings,
+        o,
+        pair_words(s, entities, extent, set, e, at, other),
+    )
 }
 
 // The action at a position against each of another automation, the first `count` of `list`.
 fn oppose_row(
     s: &[u8],
-    names: Names,
+    entities: &[usize; 100],
+    invariants: &[usize; 100],
+    given: Given,
     set: u32,
     at: usize,
     list: &[usize; 512],
@@ -422,13 +478,13 @@ fn oppose_row(
     findings: &mut [u32],
     o: Out,
 ) -> Out
-    requires { ⌜ (names .entities .count ≤ 32) × (count ≤ 512) ⌝ }
-    ensures { λ r. ⌜ ((i : List ℕ) → board (now (findings .exit)) i r ≡ pushes (rowItems (now (s .entry)) names set (walkBy (now (list .entry)) count) at) (board (now (findings .entry)) i o)) ⌝ }
+    requires { ⌜ (given .entities .count ≤ 32) × (count ≤ 512) ⌝ }
+    ensures { λ r. ⌜ ((i : List ℕ) → board (now (findings .exit)) i r ≡ pushes (rowItems (now (s .entry)) (namesBy (now (entities .entry)) (now (invariants .entry)) given) set (walkBy (now (list .entry)) count) at) (board (now (findings .entry)) i o)) ⌝ }
 {
     if 1 < lint_walk::kind_at(s, at) {
         return o;
     }
-    let star = names.star;
+    let star = given.star;
     let x = lint_walk::place_at(s, lint_walk::past(s, at, 9));
     let v = value(s, star, at);
     let mut out = o;
@@ -436,7 +492,17 @@ fn oppose_row(
     while k < count {
         let other = list[k];
         if opposing(s, star, x, v, other) {
-            out = oppose(s, names.entities, set, x, at, other, findings, out);
+            out = oppose(
+                s,
+                entities,
+                given.entities,
+                set,
+                x,
+                at,
+                other,
+                findings,
+                out,
+            );
             k += 1;
         } else {
             k += 1;
@@ -448,7 +514,9 @@ fn oppose_row(
 // Each action of one automation against each of another: the first m of one list, the first n of the other.
 pub fn oppose_pair(
     s: &[u8],
-    names: Names,
+    entities: &[usize; 100],
+    invariants: &[usize; 100],
+    given: Given,
     set: u32,
     list: &[usize; 512],
     m: usize,
@@ -457,13 +525,24 @@ pub fn oppose_pair(
     findings: &mut [u32],
     o: Out,
 ) -> Out
-    requires { ⌜ (names .entities .count ≤ 32) × (m ≤ 512) × (n ≤ 512) ⌝ }
-    ensures { λ r. ⌜ ((i : List ℕ) → board (now (findings .exit)) i r ≡ pushes (pairItems (now (s .entry)) names set (walkBy (now (list .entry)) m) (walkBy (now (others .entry)) n)) (board (now (findings .entry)) i o)) ⌝ }
+    requires { ⌜ (given .entities .count ≤ 32) × (m ≤ 512) × (n ≤ 512) ⌝ }
+    ensures { λ r. ⌜ ((i : List ℕ) → board (now (findings .exit)) i r ≡ pushes (pairItems (now (s .entry)) (namesBy (now (entities .entry)) (now (invariants .entry)) given) set (walkBy (now (list .entry)) m) (walkBy (now (others .entry)) n)) (board (now (findings .entry)) i o)) ⌝ }
 {
     let mut out = o;
     let mut k: usize = 0;
     while k < m {
-        out = oppose_row(s, names, set, list[k], others, n, findings, out);
+        out = oppose_row(
+            s,
+            entities,
+            invariants,
+            given,
+            set,
+            list[k],
+            others,
+            n,
+            findings,
+            out,
+        );
         k += 1;
     }
     out

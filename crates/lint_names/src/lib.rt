@@ -1,8 +1,9 @@
 // The undeclared names that automations read: the entities of waits whose triggers have notes. A model has at most 64.
-use model_parts::Section;
+use lint_tests::Extent;
 ghost use mathlib.Core.Path.{_≡_};
 ghost use Prim.Native.Nat.{_≤_, _<_, _+_, _-_};
 ghost use Rattle.lint_walk.specs.Walks.{walkBy};
+ghost use Rattle.lint_tests.specs.Given.{sectionOf};
 ghost use Rattle.lint_names.specs.Strange.{awaitZ, awaitsZ, withU, readU, ruleU, undeclaredU};
 
 // Whether the action at a position waits for the entity that a place names.
@@ -56,12 +57,19 @@ fn with_name(u: Undeclared, reader: u32, place: u32) -> Undeclared
 }
 
 // With the name at a place, which the i-th automation reads, if no entity has it.
-fn with_strange(s: &[u8], entities: Section, i: u32, place: u32, u: Undeclared) -> Undeclared
-    requires { ⌜ entities .count ≤ 32 ⌝ }
-    ensures { λ r. ⌜ r ≡ readU (now (s .entry)) entities i place u ⌝ }
+fn with_strange(
+    s: &[u8],
+    entities: &[usize; 100],
+    declared: Extent,
+    i: u32,
+    place: u32,
+    u: Undeclared,
+) -> Undeclared
+    requires { ⌜ declared .count ≤ 32 ⌝ }
+    ensures { λ r. ⌜ r ≡ readU (now (s .entry)) (sectionOf (now (entities .entry)) declared) i place u ⌝ }
 {
-    let count = entities.count as usize;
-    if model_check::number_of(s, entities, place) < count {
+    let count = declared.count as usize;
+    if model_check::first_of(s, entities, declared.count, place) < count {
         return u;
     }
     with_name(u, i, place)
@@ -70,22 +78,24 @@ fn with_strange(s: &[u8], entities: Section, i: u32, place: u32, u: Undeclared) 
 // With the names that the i-th automation reads, of so many texts.
 fn rule_names(
     s: &[u8],
-    entities: Section,
-    rules: Section,
+    entities: &[usize; 100],
+    declared: Extent,
+    rules: &[usize; 100],
+    extent: Extent,
     texts: u32,
     i: usize,
     u: Undeclared,
 ) -> Undeclared
-    requires { ⌜ (entities .count ≤ 32) × (i < 32) ⌝ }
-    ensures { λ r. ⌜ r ≡ ruleU (now (s .entry)) entities rules texts i u ⌝ }
+    requires { ⌜ (declared .count ≤ 32) × (i < 32) ⌝ }
+    ensures { λ r. ⌜ r ≡ ruleU (now (s .entry)) (sectionOf (now (entities .entry)) declared) (sectionOf (now (rules .entry)) extent) texts i u ⌝ }
 {
     let mut list = [0usize; 512];
-    let c = lint_walk::rule_walk(s, rules.starts[i], &mut list);
+    let c = lint_walk::rule_walk(s, rules[i], &mut list);
     let mut v = u;
     let mut place: u32 = 0;
     while place < texts {
         if awaits(s, &list, c.count, place) {
-            v = with_strange(s, entities, i as u32, place, v);
+            v = with_strange(s, entities, declared, i as u32, place, v);
             place += 1;
         } else {
             place += 1;
@@ -95,11 +105,18 @@ fn rule_names(
 }
 
 // The undeclared names that each automation reads, ascending.
-pub fn undeclared_names(s: &[u8], entities: Section, rules: Section, texts: u32) -> Undeclared
-    requires { ⌜ (entities .count ≤ 32) × (rules .count ≤ 32) ⌝ }
-    ensures { λ r. ⌜ r ≡ undeclaredU (now (s .entry)) entities rules texts ⌝ }
+pub fn undeclared_names(
+    s: &[u8],
+    entities: &[usize; 100],
+    declared: Extent,
+    rules: &[usize; 100],
+    extent: Extent,
+    texts: u32,
+) -> Undeclared
+    requires { ⌜ (declared .count ≤ 32) × (extent .count ≤ 32) ⌝ }
+    ensures { λ r. ⌜ r ≡ undeclaredU (now (s .entry)) (sectionOf (now (entities .entry)) declared) (sectionOf (now (rules .entry)) extent) texts ⌝ }
 {
-    let count = rules.count as usize;
+    let count = extent.count as usize;
     let mut u = Undeclared {
         count: 0,
         names: [0u32; 64],
@@ -107,7 +124,7 @@ pub fn undeclared_names(s: &[u8], entities: Section, rules: Section, texts: u32)
     };
     let mut i: usize = 0;
     while i < count {
-        u = rule_names(s, entities, rules, texts, i, u);
+        u = rule_names(s, entities, declared, rules, extent, texts, i, u);
         i += 1;
     }
     u

@@ -1,14 +1,32 @@
 // The tests of lint, on places in the file.
 use model_parts::Section;
+use model_walk::Walked;
 ghost use mathlib.Core.Path.{_≡_};
 ghost use Prim.Native.Nat.{_≤_, _<_, _+_, _-_};
 ghost use Rattle.lint_walk.specs.Walks.{walkBy};
+ghost use Rattle.lint_tests.specs.Given.{sectionOf, namesBy};
 ghost use Rattle.lint_tests.specs.Tests.{clashZ, clashesZ, meetsZ, contradictoryZ, mismatchZ, mismatchedZ, delaysZ, guardZ, guardedZ, unguardedZ, setsOffZ, leadsZ, opposedZ, tierZ, staleZ, highestZ, greaterZ};
 
 // What a test needs of a model: its declared entities, its invariants, and the places of `on`, `off` and `*`; the number of texts for no `*`.
 pub struct Names {
     pub entities: Section,
     pub invariants: Section,
+    pub on: u32,
+    pub off: u32,
+    pub star: u32,
+}
+
+// A section without the positions of its parts, which are lent: their count, and where it ends.
+pub struct Extent {
+    pub count: u32,
+    pub end: Walked,
+}
+
+// The same of a model, and of its automations, where the positions are lent.
+pub struct Given {
+    pub entities: Extent,
+    pub invariants: Extent,
+    pub rules: Extent,
     pub on: u32,
     pub off: u32,
     pub star: u32,
@@ -191,14 +209,14 @@ fn guard(s: &[u8], x: u32, v: u32, at: usize) -> bool
     lint_walk::place_at(s, lint_walk::past(s, at, 5)) == v
 }
 
-fn guarded(s: &[u8], invariants: Section, x: u32, v: u32) -> bool
-    requires { ⌜ invariants .count ≤ 32 ⌝ }
-    ensures { λ r. ⌜ r ≡ guardedZ (now (s .entry)) invariants x v ⌝ }
+fn guarded(s: &[u8], invariants: &[usize; 100], extent: Extent, x: u32, v: u32) -> bool
+    requires { ⌜ extent .count ≤ 32 ⌝ }
+    ensures { λ r. ⌜ r ≡ guardedZ (now (s .entry)) (sectionOf (now (invariants .entry)) extent) x v ⌝ }
 {
-    let count = invariants.count as usize;
+    let count = extent.count as usize;
     let mut k: usize = 0;
     while k < count {
-        if guard(s, x, v, invariants.starts[k]) {
+        if guard(s, x, v, invariants[k]) {
             return true;
         }
         k += 1;
@@ -207,17 +225,24 @@ fn guarded(s: &[u8], invariants: Section, x: u32, v: u32) -> bool
 }
 
 // Whether a write of v to x has a value that no guard is about; a toggle has two.
-pub fn unguarded(s: &[u8], names: Names, x: u32, v: u32) -> bool
-    requires { ⌜ names .invariants .count ≤ 32 ⌝ }
-    ensures { λ r. ⌜ r ≡ unguardedZ (now (s .entry)) names x v ⌝ }
+pub fn unguarded(
+    s: &[u8],
+    entities: &[usize; 100],
+    invariants: &[usize; 100],
+    given: Given,
+    x: u32,
+    v: u32,
+) -> bool
+    requires { ⌜ given .invariants .count ≤ 32 ⌝ }
+    ensures { λ r. ⌜ r ≡ unguardedZ (now (s .entry)) (namesBy (now (entities .entry)) (now (invariants .entry)) given) x v ⌝ }
 {
-    if v == names.star {
-        if !guarded(s, names.invariants, x, names.on) {
+    if v == given.star {
+        if !guarded(s, invariants, given.invariants, x, given.on) {
             return true;
         }
-        return !guarded(s, names.invariants, x, names.off);
+        return !guarded(s, invariants, given.invariants, x, given.off);
     }
-    !guarded(s, names.invariants, x, v)
+    !guarded(s, invariants, given.invariants, x, v)
 }
 
 // ---- entities, from their positions
@@ -257,16 +282,16 @@ fn greater(a: u32, b: u32) -> u32
 }
 
 // The highest tier among the entities of a set.
-pub fn highest(s: &[u8], entities: Section, set: u32) -> u32
-    requires { ⌜ entities .count ≤ 32 ⌝ }
-    ensures { λ r. ⌜ r ≡ highestZ (now (s .entry)) entities set ⌝ }
+pub fn highest(s: &[u8], entities: &[usize; 100], extent: Extent, set: u32) -> u32
+    requires { ⌜ extent .count ≤ 32 ⌝ }
+    ensures { λ r. ⌜ r ≡ highestZ (now (s .entry)) (sectionOf (now (entities .entry)) extent) set ⌝ }
 {
-    let count = entities.count as usize;
+    let count = extent.count as usize;
     let mut best: u32 = 0;
     let mut k: usize = 0;
     while k < count {
         if lint_reach::has(set, k) {
-            best = greater(best, tier(s, entities.starts[k]));
+            best = greater(best, tier(s, entities[k]));
             k += 1;
         } else {
             k += 1;

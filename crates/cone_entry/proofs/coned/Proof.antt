@@ -20,4 +20,4 @@ coned-spec =
     (λ c κs. search needs)
     (λ c κs. search needs)
     (λ c κs. search needs)
-    (λ c. laws.told-is _ _ (c .before .before .before .before .before .before .before .before .named .ensures) (c .before .before .before .before .before .before .before .rule-sets .ensures) (c .before .before .before .close .ensures) (c .before .before .undeclared-names .ensures) (c .before .names-in .ensures)))
+    (λ c. laws.told-is _ _ (c .before .before .before .before .before .before .before .before .before .before .before .named .ensures) (c .before .before .before .before .before .before .before .before .before .before .rule-sets .ensures) (c .before .before .before .before .before .before .before .close .ensures) (c .before .before .undeclared-names .ensures) (c .before .names-in .ensures)))

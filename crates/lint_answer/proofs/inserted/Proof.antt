@@ -4,7 +4,7 @@ use Rattle.lint_answer.proofs.inserted.Statement.{statement}
 use Rattle.lint_answer.proofs.inserted.Tie as tie
 use Rattle.lint_answer.proofs.inserted.Reads as reads
 use Rattle.lint_answer.proofs.inserted.Lts as lts
-use Rattle.lint_answer.proofs.names_of.Reads as names-of-reads
+use Rattle.lint_answer.proofs.given_of.Reads as given-of-reads
 use Rattle.lint_board.proofs.clear.Reads as clear-reads
 use Rattle.lint_entry.proofs.entries.Reads as entries-reads
 use Rattle.lint_notes.proofs.notes.Reads as notes-reads
@@ -15,8 +15,8 @@ inserted-spec =
     (tie.spec
     (λ c κs. search needs)
     (λ c κs. search needs)
-    (λ c κs. (laws.names-few _ _ (c .before .before .names-of .ensures) (c .before .before .before .before .before .before .before .before .before .before .before .before .before .before .pre) .0, laws.names-few _ _ (c .before .before .names-of .ensures) (c .before .before .before .before .before .before .before .before .before .before .before .before .before .before .pre) .1, c .before .before .before .before .before .before .before .before .before .before .before .before .before .before .pre .rules))
-    (λ c κs. c .before .before .before .before .before .before .before .before .before .before .before .before .before .before .before .before .before .before .before .before .pre .rules)
+    (λ c κs. laws.given-few _ _ (c .before .before .before .before .before .before .before .before .before .before .before .before .before .before .before .given-of .ensures) (c .before .before .before .before .before .before .before .before .before .before .before .before .before .before .before .before .before .before .before .before .before .before .pre))
+    (λ c κs. c .before .before .before .before .before .before .before .before .before .before .before .before .before .before .before .before .before .before .before .before .before .before .before .before .before .before .before .before .pre .rules)
     (λ c. search needs)
     (λ c. search needs)
-    (λ c. laws.inserts _ _ _ _ _ _ (c .before .before .before .before .before .before .before .before .before .before .before .before .before .before .before .before .before .clear .ensures) (c .before .before .before .before .before .before .before .before .before .before .before .before .names-of .ensures) (c .before .before .before .before .before .before .before .before .before .entries .ensures) (c .before .before .before .notes .ensures)))
+    (λ c. laws.inserts _ _ _ _ _ _ (c .before .before .before .before .before .before .before .before .before .before .before .before .before .before .before .before .before .before .before .before .before .before .clear .ensures) (c .before .before .before .before .before .before .before .before .before .before .before .before .before .before .before .before .before .before .before .before .before .before .before .before .before .given-of .ensures) (c .before .before .before .before .before .before .before .before .before .entries .ensures) (c .before .before .before .notes .ensures)))

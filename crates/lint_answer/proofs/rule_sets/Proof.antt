@@ -1,6 +1,7 @@
 use borrow.Author.Needs.{needs}
 use mathlib.Core.Path.{_≡_, sym, _∙_}
 use Prim.Native.Nat.{_-_}
+use Rattle.model_walk.specs.declared.Walked.{Walked}
 use lib.ListN.{getD}
 use Rattle.lint_entry.specs.Order.{fillL}
 use Rattle.lint_entry.proofs.Laws as entry
@@ -18,7 +19,10 @@ use Rattle.lint_touches.proofs.writes.Reads as writes-reads
 use Rattle.lint_walk.proofs.rule_walk.Reads as rule-walk-reads
 
 abbrev Inv-loop : tie.InvT-loop
-Inv-loop s entities rules n many reads₀ writes₀ i₀ reads writes i = (readSets s entities rules ≡ fillL (λ k. readsS s entities (getD (rules .starts) k 0) (walkW s (getD (rules .starts) k 0))) (n - i) i reads) × (writeSets s entities rules ≡ fillL (λ k. writesS s entities (walkW s (getD (rules .starts) k 0))) (n - i) i writes)
+Inv-loop s entities rules n many reads₀ writes₀ i₀ reads writes i =
+    (z y : Walked) →
+    (readSets s (record { count = many; starts = entities; end = z }) (record { count = n; starts = rules; end = y }) ≡ fillL (λ k. readsS s (record { count = many; starts = entities; end = z }) (getD rules k 0) (walkW s (getD rules k 0))) (n - i) i reads)
+    × (writeSets s (record { count = many; starts = entities; end = z }) (record { count = n; starts = rules; end = y }) ≡ fillL (λ k. writesS s (record { count = many; starts = entities; end = z }) (walkW s (getD rules k 0))) (n - i) i writes)
 
 abbrev μ-loop : tie.MeasureT-loop
 μ-loop s entities rules n many reads₀ writes₀ i₀ reads writes i = n - i
@@ -30,17 +34,17 @@ rule-sets-spec =
     Inv-loop
     μ-loop
     (λ c. search needs)
-    (λ c. (laws.reads-are _ _ _, laws.writes-are _ _ _))
+    (λ c. λ z y. (laws.reads-are _ _ _, laws.writes-are _ _ _))
     (λ c. search needs)
     (λ c. search needs)
     (λ c κs. search needs)
-    (λ c κs. (c .before .before .before .before .before .before .before .before .before .pre .0, sizes.sized _ _ (c .before .before .before .rule-walk .ensures) .0))
+    (λ c κs. (c .before .before .before .before .before .before .before .before .pre .0, sizes.sized _ _ (c .before .rule-walk .ensures) .0))
     (λ c. search needs)
     (λ c. search needs)
-    (λ c κs. (c .before .before .before .before .before .before .before .before .before .before .before .before .before .pre .0, sizes.sized _ _ (c .before .before .before .before .before .before .before .rule-walk .ensures) .0))
+    (λ c κs. (c .before .before .before .before .before .before .before .before .before .before .pre .0, sizes.sized _ _ (c .before .before .before .rule-walk .ensures) .0))
     (λ c. search needs)
     (λ c. search needs)
     (λ c. search needs)
     (λ c. search needs)
-    (λ c. (c .before .before .before .before .before .before .before .before .before .before .before .before .loop .inv .0 ∙ entry.fill-more _ _ _ _ (c .before .before .before .before .before .before .before .before .before .before .before .loop-test .taken) (laws.read-is _ _ _ (c .before .before .before .before .before .before .before .before .rule-walk .ensures) (c .before .before .before .before .reads .ensures)), c .before .before .before .before .before .before .before .before .before .before .before .before .loop .inv .1 ∙ entry.fill-more _ _ _ _ (c .before .before .before .before .before .before .before .before .before .before .before .loop-test .taken) (laws.write-is _ _ _ (c .before .before .before .before .before .before .before .before .rule-walk .ensures) (c .writes .ensures))))
-    (λ c. (sym (c .before .loop .inv .0 ∙ entry.fill-end _ _ _ _ (c .loop-test .left)), sym (c .before .loop .inv .1 ∙ entry.fill-end _ _ _ _ (c .loop-test .left)))))
+    (λ c. λ z y. (c .before .before .before .before .before .before .before .before .loop .inv z y .0 ∙ entry.fill-more _ _ _ _ (c .before .before .before .before .before .before .before .loop-test .taken) (laws.read-is _ _ _ (c .before .before .before .before .rule-walk .ensures) (c .before .before .reads .ensures)), c .before .before .before .before .before .before .before .before .loop .inv z y .1 ∙ entry.fill-more _ _ _ _ (c .before .before .before .before .before .before .before .loop-test .taken) (laws.write-is _ _ _ (c .before .before .before .before .rule-walk .ensures) (c .writes .ensures))))
+    (λ c. (sym (c .before .loop .inv _ _ .0 ∙ entry.fill-end _ _ _ _ (c .loop-test .left)), sym (c .before .loop .inv _ _ .1 ∙ entry.fill-end _ _ _ _ (c .loop-test .left)))))

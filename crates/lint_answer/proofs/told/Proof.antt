@@ -15,4 +15,4 @@ told-spec =
     (λ c κs. search needs)
     (λ c κs. search needs)
     (λ c κs. search needs)
-    (λ c. laws.told-is _ _ _ _ (c .before .before .before .before .before .before .before .first-sets .ensures) (c .before .before .before .before .before .before .rule-sets .ensures .0) (c .before .before .before .before .before .before .rule-sets .ensures .1) (c .before .before .before .before .before .undeclared-names .ensures)))
+    (λ c. laws.told-is _ _ _ _ (c .before .before .before .before .before .before .before .before .before .before .before .before .before .before .before .first-sets .ensures) (c .before .before .before .before .before .before .before .before .before .before .rule-sets .ensures .0) (c .before .before .before .before .before .before .before .before .before .before .rule-sets .ensures .1) (c .before .before .before .before .before .undeclared-names .ensures)))

@@ -8,6 +8,7 @@ use Rattle.lint_findings.specs.Entries.{itemsN}
 use Rattle.lint_findings.proofs.Laws as items
 use Rattle.lint_tests.proofs.Laws as tests
 use Rattle.lint_walk.proofs.Sizes as sizes
+use Rattle.lint_tests.specs.Given.{sectionOf}
 use Rattle.lint_entry.proofs.Laws as laws
 use Rattle.lint_entry.specs.Order.{cycleZ, cyclesItems}
 use Rattle.lint_entry.proofs.cycle_entries.Statement.{statement}
@@ -18,10 +19,10 @@ use Rattle.lint_board.proofs.push_finding.Reads as push-finding-reads
 use Rattle.lint_entry.proofs.cycle_words.Reads as cycle-words-reads
 
 abbrev Inv-loop : tie.InvT-loop
-Inv-loop s entities rules findings₀ found count out₀ i₀ findings out i = ((k : List ℕ) → pushes (cyclesItems s entities rules found) (board findings₀ k out₀) ≡ pushes (itemsN (λ k. finding (cycleZ s entities rules (getD (found .sets) k 0)) ∷ []) (count - i) i) (board findings k out)) × (length findings ≡ length findings₀)
+Inv-loop s entities rules given findings₀ found count out₀ i₀ findings out i = ((k : List ℕ) → pushes (cyclesItems s (sectionOf entities (given .entities)) (sectionOf rules (given .rules)) found) (board findings₀ k out₀) ≡ pushes (itemsN (λ k. finding (cycleZ s (sectionOf entities (given .entities)) (sectionOf rules (given .rules)) (getD (found .sets) k 0)) ∷ []) (count - i) i) (board findings k out)) × (length findings ≡ length findings₀)
 
 abbrev μ-loop : tie.MeasureT-loop
-μ-loop s entities rules findings₀ found count out₀ i₀ findings out i = count - i
+μ-loop s entities rules given findings₀ found count out₀ i₀ findings out i = count - i
 
 pub cycle-entries-spec : {M : Type 1} → statement M
 cycle-entries-spec =

@@ -1,6 +1,7 @@
 use borrow.Author.Needs.{needs}
 use mathlib.Core.Path.{_≡_, sym, _∙_}
 use Prim.Native.Nat.{_-_}
+use Rattle.model_walk.specs.declared.Walked.{Walked}
 use Rattle.lint_walk.proofs.Sizes as sizes
 use Rattle.lint_entry.proofs.Laws as laws
 use Rattle.lint_entry.specs.Order.{cycleWritesFrom, cycleWritesZ}
@@ -14,10 +15,10 @@ use Rattle.lint_touches.proofs.writes.Reads as writes-reads
 use Rattle.lint_walk.proofs.rule_walk.Reads as rule-walk-reads
 
 abbrev Inv-loop : tie.InvT-loop
-Inv-loop s set entities rules count many writes₀ i₀ writes i = cycleWritesZ s entities rules set ≡ cycleWritesFrom s entities rules set (count - i) i writes
+Inv-loop s entities rules set count many writes₀ i₀ writes i = (z y : Walked) → cycleWritesZ s (record { count = many; starts = entities; end = z }) (record { count = count; starts = rules; end = y }) set ≡ cycleWritesFrom s (record { count = many; starts = entities; end = z }) (record { count = count; starts = rules; end = y }) set (count - i) i writes
 
 abbrev μ-loop : tie.MeasureT-loop
-μ-loop s set entities rules count many writes₀ i₀ writes i = count - i
+μ-loop s entities rules set count many writes₀ i₀ writes i = count - i
 
 pub cycle-writes-spec : {M : Type 1} → statement M
 cycle-writes-spec =
@@ -26,17 +27,17 @@ cycle-writes-spec =
     Inv-loop
     μ-loop
     (λ c. search needs)
-    (λ c. laws.writes-start _ _ _ _)
+    (λ c. λ z y. laws.writes-start _ _ _ _)
     (λ c κs. search needs)
     (λ c. search needs)
     (λ c. search needs)
     (λ c κs. search needs)
-    (λ c κs. (c .before .before .before .before .before .before .before .before .before .before .before .pre .0, sizes.sized _ _ (c .before .before .before .rule-walk .ensures) .0))
+    (λ c κs. (c .before .before .before .before .before .before .before .before .before .before .before .before .pre .0, sizes.sized _ _ (c .before .rule-walk .ensures) .0))
     (λ c κs. search needs)
     (λ c. search needs)
     (λ c. search needs)
-    (λ c. c .before .before .before .before .before .before .before .before .before .before .before .loop .inv ∙ laws.writes-yes _ _ _ _ _ _ _ (c .before .before .before .before .before .before .before .before .before .before .loop-test .taken) (c .before .before .before .before .before .before .before .before .before .has .ensures) (c .before .before .before .before .before .before .before .before .if1 .taken) (c .before .before .before .before .before .rule-walk .ensures) (c .before .writes .ensures) (c .union .ensures))
+    (λ c. λ z y. c .before .before .before .before .before .before .before .before .before .loop .inv z y ∙ laws.writes-yes _ _ _ _ _ _ _ (c .before .before .before .before .before .before .before .before .loop-test .taken) (c .before .before .before .before .before .before .before .has .ensures) (c .before .before .before .before .before .before .if1 .taken) (c .before .before .before .rule-walk .ensures) (c .before .writes .ensures) (c .union .ensures))
     (λ c. search needs)
     (λ c. search needs)
-    (λ c. c .before .before .before .loop .inv ∙ laws.writes-no _ _ _ _ _ _ _ (c .before .before .loop-test .taken) (c .before .has .ensures) (c .if1 .left))
-    (λ c. sym (c .before .loop .inv ∙ laws.writes-end _ _ _ _ _ _ _ (c .loop-test .left))))
+    (λ c. λ z y. c .before .before .before .loop .inv z y ∙ laws.writes-no _ _ _ _ _ _ _ (c .before .before .loop-test .taken) (c .before .has .ensures) (c .if1 .left))
+    (λ c. sym (c .before .loop .inv _ _ ∙ laws.writes-end _ _ _ _ _ _ _ (c .loop-test .left))))

@@ -4,6 +4,7 @@ use Prim.Native.Nat.{_-_}
 use lib.ListN.{getD}
 use Rattle.lint_walk.specs.Walks.{walkW}
 use Rattle.lint_walk.proofs.Sizes as sizes
+use Rattle.lint_tests.specs.Given.{sectionOf}
 use Rattle.lint_entry.proofs.Laws as laws
 use Rattle.lint_entry.specs.Order.{fillL, rowZ, edgesZ}
 use Rattle.lint_entry.proofs.edges.Statement.{statement}
@@ -14,10 +15,10 @@ use Rattle.lint_entry.proofs.reach_row.Reads as reach-row-reads
 use Rattle.lint_walk.proofs.rule_walk.Reads as rule-walk-reads
 
 abbrev Inv-loop : tie.InvT-loop
-Inv-loop s star rules count start₀ i₀ start i = edgesZ s star rules ≡ fillL (λ i. rowZ s star rules (walkW s (getD (rules .starts) i 0))) (count - i) i start
+Inv-loop s star rules extent count start₀ i₀ start i = edgesZ s star (sectionOf rules extent) ≡ fillL (λ i. rowZ s star (sectionOf rules extent) (walkW s (getD rules i 0))) (count - i) i start
 
 abbrev μ-loop : tie.MeasureT-loop
-μ-loop s star rules count start₀ i₀ start i = count - i
+μ-loop s star rules extent count start₀ i₀ start i = count - i
 
 pub edges-spec : {M : Type 1} → statement M
 edges-spec =
@@ -30,7 +31,7 @@ edges-spec =
     (λ c. search needs)
     (λ c. search needs)
     (λ c κs. search needs)
-    (λ c κs. (c .before .before .before .before .before .before .before .pre, sizes.sized _ _ (c .before .rule-walk .ensures) .0))
+    (λ c κs. (c .before .before .before .before .before .before .before .before .pre, sizes.sized _ _ (c .before .rule-walk .ensures) .0))
     (λ c. search needs)
     (λ c. search needs)
     (λ c. search needs)

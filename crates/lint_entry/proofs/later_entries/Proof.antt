@@ -8,6 +8,7 @@ use Rattle.lint_walk.specs.Walks.{walkBy}
 use Rattle.lint_walk.proofs.Sizes as sizes
 use Rattle.lint_findings.specs.Entries.{itemsN}
 use Rattle.lint_findings.proofs.Laws as items
+use Rattle.lint_tests.specs.Given.{sectionOf, namesBy}
 use Rattle.lint_entry.proofs.Laws as laws
 use Rattle.lint_entry.specs.Order.{pairAt}
 use Rattle.lint_entry.proofs.later_entries.Statement.{statement}
@@ -18,10 +19,10 @@ use Rattle.lint_entry.proofs.pair_entries.Reads as pair-entries-reads
 use Rattle.lint_walk.proofs.rule_walk.Reads as rule-walk-reads
 
 abbrev Inv-loop : tie.InvT-loop
-Inv-loop s names i findings₀ rules count j₀ list m out₀ findings j out = ((k : List ℕ) → pushes (itemsN (pairAt s names rules i (walkBy list m)) (count - j₀) j₀) (board findings₀ k out₀) ≡ pushes (itemsN (pairAt s names rules i (walkBy list m)) (count - j) j) (board findings k out)) × (length findings ≡ length findings₀)
+Inv-loop s entities invariants rules given i findings₀ count j₀ list m out₀ findings j out = ((k : List ℕ) → pushes (itemsN (pairAt s (namesBy entities invariants given) (sectionOf rules (given .rules)) i (walkBy list m)) (count - j₀) j₀) (board findings₀ k out₀) ≡ pushes (itemsN (pairAt s (namesBy entities invariants given) (sectionOf rules (given .rules)) i (walkBy list m)) (count - j) j) (board findings k out)) × (length findings ≡ length findings₀)
 
 abbrev μ-loop : tie.MeasureT-loop
-μ-loop s names i findings₀ rules count j₀ list m out₀ findings j out = count - j
+μ-loop s entities invariants rules given i findings₀ count j₀ list m out₀ findings j out = count - j
 
 pub later-entries-spec : {M : Type 1} → statement M
 later-entries-spec =
@@ -36,7 +37,7 @@ later-entries-spec =
     (λ c. search needs)
     (λ c κs. search needs)
     (λ c. ((λ k. refl), refl))
-    (λ c κs. (c .before .before .before .before .before .before .before .before .before .before .pre .0, c .before .before .before .before .before .before .before .before .before .before .pre .2, search needs, sizes.sized _ _ (c .before .before .before .before .rule-walk .ensures) .0))
+    (λ c κs. (c .before .before .before .before .before .before .before .before .before .before .before .before .pre .0, c .before .before .before .before .before .before .before .before .before .before .before .before .pre .2, search needs, sizes.sized _ _ (c .before .before .before .before .rule-walk .ensures) .0))
     (λ c. search needs)
     (λ c. search needs)
     (λ c. ((λ k. c .before .before .before .before .before .before .loop .inv .0 k ∙ items.numbers-more _ _ _ _ (c .before .before .before .before .before .loop-test .taken) (c .before .before .pair-entries .ensures k)), search needs))

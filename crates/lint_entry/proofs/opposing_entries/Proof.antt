@@ -8,6 +8,7 @@ use Rattle.lint_findings.specs.Entries.{itemsN}
 use Rattle.lint_findings.proofs.Laws as items
 use Rattle.lint_tests.proofs.Laws as tests
 use Rattle.lint_walk.proofs.Sizes as sizes
+use Rattle.lint_tests.specs.Given.{sectionOf, namesBy}
 use Rattle.lint_entry.proofs.Laws as laws
 use Rattle.lint_entry.specs.Order.{laterItems, opposingItems}
 use Rattle.lint_entry.proofs.opposing_entries.Statement.{statement}
@@ -17,10 +18,10 @@ use Rattle.lint_entry.proofs.opposing_entries.Lts as lts
 use Rattle.lint_entry.proofs.later_entries.Reads as later-entries-reads
 
 abbrev Inv-loop : tie.InvT-loop
-Inv-loop s names rules findings₀ count out₀ i₀ findings out i = ((k : List ℕ) → pushes (opposingItems s names rules) (board findings₀ k out₀) ≡ pushes (itemsN (laterItems s names rules) (count - i) i) (board findings k out)) × (length findings ≡ length findings₀)
+Inv-loop s entities invariants rules given findings₀ count out₀ i₀ findings out i = ((k : List ℕ) → pushes (opposingItems s (namesBy entities invariants given) (sectionOf rules (given .rules))) (board findings₀ k out₀) ≡ pushes (itemsN (laterItems s (namesBy entities invariants given) (sectionOf rules (given .rules))) (count - i) i) (board findings k out)) × (length findings ≡ length findings₀)
 
 abbrev μ-loop : tie.MeasureT-loop
-μ-loop s names rules findings₀ count out₀ i₀ findings out i = count - i
+μ-loop s entities invariants rules given findings₀ count out₀ i₀ findings out i = count - i
 
 pub opposing-entries-spec : {M : Type 1} → statement M
 opposing-entries-spec =

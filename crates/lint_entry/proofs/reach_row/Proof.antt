@@ -1,10 +1,12 @@
 use borrow.Author.Needs.{needs}
-use mathlib.Core.Path.{_≡_, sym, _∙_}
+use mathlib.Core.Path.{_≡_, refl, sym, _∙_}
 use Prim.Native.Nat.{_-_}
-use lib.ListN.{getD}
+use mathlib.Core.Bool.{false}
+use lib.ListN.{getD, replicate}
 use Rattle.lint_walk.specs.Walks.{walkBy}
+use Rattle.lint_tests.specs.Given.{sectionOf}
 use Rattle.lint_entry.proofs.Laws as laws
-use Rattle.lint_entry.specs.Order.{leadsToZ, fillL, rowZ}
+use Rattle.lint_entry.specs.Order.{leadsToZ, fillL}
 use Rattle.lint_entry.proofs.reach_row.Statement.{statement}
 use Rattle.lint_entry.proofs.reach_row.Tie as tie
 use Rattle.lint_entry.proofs.reach_row.Reads as reads
@@ -12,10 +14,10 @@ use Rattle.lint_entry.proofs.reach_row.Lts as lts
 use Rattle.lint_entry.proofs.leads_to.Reads as leads-to-reads
 
 abbrev Inv-loop : tie.InvT-loop
-Inv-loop s star list count rules n row₀ j₀ row j = rowZ s star rules (walkBy list count) ≡ fillL (λ j. leadsToZ s star (walkBy list count) (getD (rules .starts) j 0)) (n - j) j row
+Inv-loop s star rules list count n row₀ j₀ row j = fillL (λ j. leadsToZ s star (walkBy list count) (getD rules j 0)) (n - 0) 0 (replicate 32 false) ≡ fillL (λ j. leadsToZ s star (walkBy list count) (getD rules j 0)) (n - j) j row
 
 abbrev μ-loop : tie.MeasureT-loop
-μ-loop s star list count rules n row₀ j₀ row j = n - j
+μ-loop s star rules list count n row₀ j₀ row j = n - j
 
 pub reach-row-spec : {M : Type 1} → statement M
 reach-row-spec =
@@ -24,7 +26,7 @@ reach-row-spec =
     Inv-loop
     μ-loop
     (λ c. search needs)
-    (λ c. laws.row-is _ _ _ _)
+    (λ c. refl)
     (λ c. search needs)
     (λ c. search needs)
     (λ c κs. search needs)
@@ -32,4 +34,4 @@ reach-row-spec =
     (λ c. search needs)
     (λ c. search needs)
     (λ c. c .before .before .before .loop .inv ∙ laws.fill-more _ _ _ _ (c .before .before .loop-test .taken) (c .leads-to .ensures))
-    (λ c. sym (c .before .loop .inv ∙ laws.fill-end _ _ _ _ (c .loop-test .left))))
+    (λ c. sym (laws.row-is _ _ (sectionOf _ _) _ ∙ c .before .loop .inv ∙ laws.fill-end _ _ _ _ (c .loop-test .left))))

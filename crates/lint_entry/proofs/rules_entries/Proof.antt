@@ -7,6 +7,7 @@ use Rattle.lint_findings.specs.Entries.{itemsN}
 use Rattle.lint_findings.proofs.Laws as items
 use Rattle.lint_tests.proofs.Laws as tests
 use Rattle.lint_walk.proofs.Sizes as sizes
+use Rattle.lint_tests.specs.Given.{sectionOf, namesBy}
 use Rattle.lint_entry.proofs.Laws as laws
 use Rattle.lint_entry.specs.Order.{ruleAt, rulesItems}
 use Rattle.lint_entry.proofs.rules_entries.Statement.{statement}
@@ -16,10 +17,10 @@ use Rattle.lint_entry.proofs.rules_entries.Lts as lts
 use Rattle.lint_entry.proofs.rule_entries.Reads as rule-entries-reads
 
 abbrev Inv-loop : tie.InvT-loop
-Inv-loop s names rules findings₀ interactions₀ count out₀ i₀ findings interactions out i = (pushes (rulesItems s names rules) (board findings₀ interactions₀ out₀) ≡ pushes (itemsN (ruleAt s names rules) (count - i) i) (board findings interactions out)) × ((length findings ≡ length findings₀) × (length interactions ≡ length interactions₀))
+Inv-loop s entities invariants rules given findings₀ interactions₀ count out₀ i₀ findings interactions out i = (pushes (rulesItems s (namesBy entities invariants given) (sectionOf rules (given .rules))) (board findings₀ interactions₀ out₀) ≡ pushes (itemsN (ruleAt s (namesBy entities invariants given) (sectionOf rules (given .rules))) (count - i) i) (board findings interactions out)) × ((length findings ≡ length findings₀) × (length interactions ≡ length interactions₀))
 
 abbrev μ-loop : tie.MeasureT-loop
-μ-loop s names rules findings₀ interactions₀ count out₀ i₀ findings interactions out i = count - i
+μ-loop s entities invariants rules given findings₀ interactions₀ count out₀ i₀ findings interactions out i = count - i
 
 pub rules-entries-spec : {M : Type 1} → statement M
 rules-entries-spec =

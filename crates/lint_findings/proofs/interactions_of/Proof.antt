@@ -4,8 +4,9 @@ use mathlib.Core.List.{List, _∷_, []}
 use Prim.Native.Nat.{ℕ, _-_}
 use lib.ListN.{length, getD}
 use Rattle.lint_board.specs.Board.{board, pushes, onlyIf, interaction}
+use Rattle.lint_tests.specs.Given.{sectionOf}
 use Rattle.lint_findings.proofs.Laws as laws
-use Rattle.lint_findings.specs.Entries.{itemsN, interactItems}
+use Rattle.lint_findings.specs.Entries.{itemsN}
 use Rattle.lint_tests.specs.Tests.{leadsZ}
 use Rattle.lint_findings.proofs.interactions_of.Statement.{statement}
 use Rattle.lint_findings.proofs.interactions_of.Tie as tie
@@ -15,10 +16,10 @@ use Rattle.lint_board.proofs.interact_if.Reads as interact-if-reads
 use Rattle.lint_tests.proofs.leads.Reads as leads-reads
 
 abbrev Inv-loop : tie.InvT-loop
-Inv-loop s from star x v e interactions₀ rules count out₀ k₀ interactions out k = ((f : List ℕ) → pushes (interactItems s from rules star x v e) (board f interactions₀ out₀) ≡ pushes (itemsN (λ k. onlyIf (leadsZ s star x v (getD (rules .starts) k 0)) (interaction (from ∷ k ∷ e ∷ []))) (count - k) k) (board f interactions out)) × (length interactions ≡ length interactions₀)
+Inv-loop s from rules star x v e interactions₀ count out₀ k₀ interactions out k = ((f : List ℕ) → pushes (itemsN (λ k. onlyIf (leadsZ s star x v (getD rules k 0)) (interaction (from ∷ k ∷ e ∷ []))) (count - 0) 0) (board f interactions₀ out₀) ≡ pushes (itemsN (λ k. onlyIf (leadsZ s star x v (getD rules k 0)) (interaction (from ∷ k ∷ e ∷ []))) (count - k) k) (board f interactions out)) × (length interactions ≡ length interactions₀)
 
 abbrev μ-loop : tie.MeasureT-loop
-μ-loop s from star x v e interactions₀ rules count out₀ k₀ interactions out k = count - k
+μ-loop s from rules star x v e interactions₀ count out₀ k₀ interactions out k = count - k
 
 pub interactions-of-spec : {M : Type 1} → statement M
 interactions-of-spec =
@@ -27,7 +28,7 @@ interactions-of-spec =
     Inv-loop
     μ-loop
     (λ c. search needs)
-    (λ c. ((λ f. laws.interact-is _ _ _ _ _ _ _ _), refl))
+    (λ c. ((λ f. refl), refl))
     (λ c. search needs)
     (λ c. search needs)
     (λ c κs. search needs)
@@ -37,4 +38,4 @@ interactions-of-spec =
     (λ c. search needs)
     (λ c. ((λ f. c .before .before .before .before .before .before .before .loop .inv .0 f ∙ laws.numbers-more _ _ _ _ (c .before .before .before .before .before .before .loop-test .taken) (laws.with-interaction _ _ (c .before .before .before .before .leads .ensures) (c .before .before .interact-if .ensures f))), search needs))
     (λ c. search needs)
-    (λ c. λ f. sym (c .before .loop .inv .0 f ∙ laws.numbers-end _ _ _ _ (c .loop-test .left))))
+    (λ c. λ f. sym (laws.interact-is _ _ (sectionOf _ _) _ _ _ _ _ ∙ c .before .loop .inv .0 f ∙ laws.numbers-end _ _ _ _ (c .loop-test .left))))

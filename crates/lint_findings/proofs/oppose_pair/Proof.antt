@@ -5,6 +5,7 @@ use Prim.Native.Nat.{ℕ, _-_}
 use lib.ListN.{length, getD}
 use Rattle.lint_walk.specs.Walks.{walkBy}
 use Rattle.lint_board.specs.Board.{board, pushes}
+use Rattle.lint_tests.specs.Given.{namesBy}
 use Rattle.lint_findings.proofs.Laws as laws
 use Rattle.lint_findings.specs.Entries.{itemsN, rowItems, pairItems}
 use Rattle.lint_findings.proofs.oppose_pair.Statement.{statement}
@@ -14,10 +15,10 @@ use Rattle.lint_findings.proofs.oppose_pair.Lts as lts
 use Rattle.lint_findings.proofs.oppose_row.Reads as oppose-row-reads
 
 abbrev Inv-loop : tie.InvT-loop
-Inv-loop s names set list m others n findings₀ out₀ k₀ findings out k = ((i : List ℕ) → pushes (pairItems s names set (walkBy list m) (walkBy others n)) (board findings₀ i out₀) ≡ pushes (itemsN (λ k. rowItems s names set (walkBy others n) (getD list k 0)) (m - k) k) (board findings i out)) × (length findings ≡ length findings₀)
+Inv-loop s entities invariants given set list m others n findings₀ out₀ k₀ findings out k = ((i : List ℕ) → pushes (pairItems s (namesBy entities invariants given) set (walkBy list m) (walkBy others n)) (board findings₀ i out₀) ≡ pushes (itemsN (λ k. rowItems s (namesBy entities invariants given) set (walkBy others n) (getD list k 0)) (m - k) k) (board findings i out)) × (length findings ≡ length findings₀)
 
 abbrev μ-loop : tie.MeasureT-loop
-μ-loop s names set list m others n findings₀ out₀ k₀ findings out k = m - k
+μ-loop s entities invariants given set list m others n findings₀ out₀ k₀ findings out k = m - k
 
 pub oppose-pair-spec : {M : Type 1} → statement M
 oppose-pair-spec =

@@ -5,6 +5,7 @@ use Prim.Native.Nat.{ℕ, _-_}
 use lib.ListN.{length, getD}
 use Rattle.lint_walk.specs.Walks.{walkBy}
 use Rattle.lint_board.specs.Board.{board, pushes}
+use Rattle.lint_tests.specs.Given.{namesBy}
 use Rattle.lint_findings.proofs.Laws as laws
 use Rattle.lint_findings.specs.Entries.{itemsN, opposeItems, rowItems}
 use Rattle.lint_findings.proofs.oppose_row.Statement.{statement}
@@ -19,10 +20,10 @@ use Rattle.lint_walk.proofs.past.Reads as past-reads
 use Rattle.lint_walk.proofs.place_at.Reads as place-at-reads
 
 abbrev Inv-loop : tie.InvT-loop
-Inv-loop s names set at list count findings₀ star x v out₀ k₀ findings out k = ((i : List ℕ) → pushes (rowItems s names set (walkBy list count) at) (board findings₀ i out₀) ≡ pushes (itemsN (λ k. opposeItems s names set at (getD list k 0)) (count - k) k) (board findings i out)) × (length findings ≡ length findings₀)
+Inv-loop s entities invariants given set at list count findings₀ star x v out₀ k₀ findings out k = ((i : List ℕ) → pushes (rowItems s (namesBy entities invariants given) set (walkBy list count) at) (board findings₀ i out₀) ≡ pushes (itemsN (λ k. opposeItems s (namesBy entities invariants given) set at (getD list k 0)) (count - k) k) (board findings i out)) × (length findings ≡ length findings₀)
 
 abbrev μ-loop : tie.MeasureT-loop
-μ-loop s names set at list count findings₀ star x v out₀ k₀ findings out k = count - k
+μ-loop s entities invariants given set at list count findings₀ star x v out₀ k₀ findings out k = count - k
 
 pub oppose-row-spec : {M : Type 1} → statement M
 oppose-row-spec =

@@ -13,7 +13,7 @@ use Rattle.lint_findings.proofs.value.Reads as value-reads
 use Rattle.lint_walk.proofs.kind_at.Reads as kind-at-reads
 use Rattle.lint_walk.proofs.past.Reads as past-reads
 use Rattle.lint_walk.proofs.place_at.Reads as place-at-reads
-use Rattle.model_check.proofs.number_of.Reads as number-of-reads
+use Rattle.model_check.proofs.first_of.Reads as first-of-reads
 
 pub write-findings-spec : {M : Type 1} → statement M
 write-findings-spec =
@@ -25,7 +25,7 @@ write-findings-spec =
     (λ c κs. search needs)
     (λ c. search needs)
     (λ c κs. search needs)
-    (λ c. laws.write-undeclared _ _ _ _ _ _ (c .before .before .before .before .before .before .before .kind-at .ensures) (c .before .before .before .before .before .before .if1 .left) (c .before .before .before .before .before .past .ensures) (c .before .before .before .before .place-at .ensures) (c .before .number-of .ensures .0) (c .if2 .taken))
+    (λ c. laws.write-undeclared _ _ _ _ _ _ (c .before .before .before .before .before .before .before .kind-at .ensures) (c .before .before .before .before .before .before .if1 .left) (c .before .before .before .before .before .past .ensures) (c .before .before .before .before .place-at .ensures) (c .before .first-of .ensures .0) (c .if2 .taken))
     (λ c κs. search needs)
     (λ c. search needs)
     (λ c κs. search needs)
@@ -35,4 +35,4 @@ write-findings-spec =
     (λ c κs. c .before .before .before .before .before .before .before .before .before .before .before .before .before .before .before .before .before .before .before .pre .2)
     (λ c. search needs)
     (λ c. search needs)
-    (λ c. laws.write-is _ _ _ _ _ _ (c .before .before .before .before .before .before .before .before .before .before .before .before .before .before .before .before .before .before .kind-at .ensures) (c .before .before .before .before .before .before .before .before .before .before .before .before .before .before .before .before .before .if1 .left) (c .before .before .before .before .before .before .before .before .before .before .before .before .before .before .before .before .past .ensures) (c .before .before .before .before .before .before .before .before .before .before .before .before .before .before .before .place-at .ensures) (c .before .before .before .before .before .before .before .before .before .before .before .before .number-of .ensures .0) (c .before .before .before .before .before .before .before .before .before .before .before .if2 .left) (c .before .before .before .before .before .before .before .before .before .before .value .ensures) (laws.with-finding _ (c .before .before .before .before .before .before .before .risky .ensures) (c .before .before .before .before .before .before .before .before .before .at-action .ensures) (c .before .before .before .before .before .before .push-if .ensures _)) (c .before .before .interactions-of .ensures _)))
+    (λ c. laws.write-is _ _ _ _ _ _ (c .before .before .before .before .before .before .before .before .before .before .before .before .before .before .before .before .before .before .kind-at .ensures) (c .before .before .before .before .before .before .before .before .before .before .before .before .before .before .before .before .before .if1 .left) (c .before .before .before .before .before .before .before .before .before .before .before .before .before .before .before .before .past .ensures) (c .before .before .before .before .before .before .before .before .before .before .before .before .before .before .before .place-at .ensures) (c .before .before .before .before .before .before .before .before .before .before .before .before .first-of .ensures .0) (c .before .before .before .before .before .before .before .before .before .before .before .if2 .left) (c .before .before .before .before .before .before .before .before .before .before .value .ensures) (laws.with-finding _ (c .before .before .before .before .before .before .before .before .risky .ensures) (c .before .before .before .before .before .before .before .before .before .at-action .ensures) (c .before .before .before .before .before .before .push-if .ensures _)) (c .before .before .interactions-of .ensures _)))

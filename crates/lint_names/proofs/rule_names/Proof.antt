@@ -4,6 +4,7 @@ use Prim.Native.Nat.{_-_}
 use Rattle.lint_walk.specs.Walks.{walkOf}
 use Rattle.lint_walk.proofs.Sizes as sizes
 use Rattle.lint_names.specs.Strange.{namesU}
+use Rattle.lint_tests.specs.Given.{sectionOf}
 use Rattle.lint_names.proofs.Laws as laws
 use Rattle.lint_names.proofs.rule_names.Statement.{statement}
 use Rattle.lint_names.proofs.rule_names.Tie as tie
@@ -14,10 +15,10 @@ use Rattle.lint_names.proofs.with_strange.Reads as with-strange-reads
 use Rattle.lint_walk.proofs.rule_walk.Reads as rule-walk-reads
 
 abbrev Inv-loop : tie.InvT-loop
-Inv-loop s entities texts i list c v₀ place₀ v place = namesU s entities (walkOf list c) i (texts - 0) 0 v₀ ≡ namesU s entities (walkOf list c) i (texts - place) place v
+Inv-loop s entities declared rules texts i list c v₀ place₀ v place = namesU s (sectionOf entities declared) (walkOf list c) i (texts - 0) 0 v₀ ≡ namesU s (sectionOf entities declared) (walkOf list c) i (texts - place) place v
 
 abbrev μ-loop : tie.MeasureT-loop
-μ-loop s entities texts i list c v₀ place₀ v place = texts - place
+μ-loop s entities declared rules texts i list c v₀ place₀ v place = texts - place
 
 pub rule-names-spec : {M : Type 1} → statement M
 rule-names-spec =

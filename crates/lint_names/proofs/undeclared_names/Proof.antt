@@ -2,6 +2,7 @@ use borrow.Author.Needs.{needs}
 use mathlib.Core.Path.{_≡_, sym, _∙_}
 use Prim.Native.Nat.{_-_}
 use Rattle.lint_names.specs.Strange.{rulesU, undeclaredU}
+use Rattle.lint_tests.specs.Given.{sectionOf}
 use Rattle.lint_names.proofs.Laws as laws
 use Rattle.lint_names.proofs.undeclared_names.Statement.{statement}
 use Rattle.lint_names.proofs.undeclared_names.Tie as tie
@@ -10,10 +11,10 @@ use Rattle.lint_names.proofs.undeclared_names.Lts as lts
 use Rattle.lint_names.proofs.rule_names.Reads as rule-names-reads
 
 abbrev Inv-loop : tie.InvT-loop
-Inv-loop s entities rules texts count u₀ i₀ u i = undeclaredU s entities rules texts ≡ rulesU s entities rules texts (count - i) i u
+Inv-loop s entities declared rules extent texts count u₀ i₀ u i = undeclaredU s (sectionOf entities declared) (sectionOf rules extent) texts ≡ rulesU s (sectionOf entities declared) (sectionOf rules extent) texts (count - i) i u
 
 abbrev μ-loop : tie.MeasureT-loop
-μ-loop s entities rules texts count u₀ i₀ u i = count - i
+μ-loop s entities declared rules extent texts count u₀ i₀ u i = count - i
 
 pub undeclared-names-spec : {M : Type 1} → statement M
 undeclared-names-spec =

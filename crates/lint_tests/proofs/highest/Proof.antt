@@ -2,6 +2,7 @@ use borrow.Author.Needs.{needs}
 use mathlib.Core.Path.{_≡_, refl, sym, _∙_}
 use Prim.Native.Nat.{_-_}
 use Rattle.lint_tests.proofs.Laws as laws
+use Rattle.model_walk.specs.declared.Walked.{Walked}
 use Rattle.lint_tests.specs.Tests.{highestFrom, highestZ}
 use Rattle.lint_tests.proofs.highest.Statement.{statement}
 use Rattle.lint_tests.proofs.highest.Tie as tie
@@ -12,10 +13,10 @@ use Rattle.lint_tests.proofs.greater.Reads as greater-reads
 use Rattle.lint_tests.proofs.tier.Reads as tier-reads
 
 abbrev Inv-loop : tie.InvT-loop
-Inv-loop s set entities count best₀ k₀ best k = highestZ s entities set ≡ highestFrom s entities set (count - k) k best
+Inv-loop s entities set count best₀ k₀ best k = (z : Walked) → highestZ s (record { count = count; starts = entities; end = z }) set ≡ highestFrom s (record { count = count; starts = entities; end = z }) set (count - k) k best
 
 abbrev μ-loop : tie.MeasureT-loop
-μ-loop s set entities count best₀ k₀ best k = count - k
+μ-loop s entities set count best₀ k₀ best k = count - k
 
 pub highest-spec : {M : Type 1} → statement M
 highest-spec =
@@ -24,7 +25,7 @@ highest-spec =
     Inv-loop
     μ-loop
     (λ c. search needs)
-    (λ c. laws.highest-start _ _ _ refl)
+    (λ c. λ z. laws.highest-start _ _ _ refl)
     (λ c κs. search needs)
     (λ c. search needs)
     (λ c. search needs)
@@ -32,8 +33,8 @@ highest-spec =
     (λ c κs. search needs)
     (λ c. search needs)
     (λ c. search needs)
-    (λ c. c .before .before .before .before .before .before .loop .inv ∙ laws.highest-yes _ _ _ _ _ _ (c .before .before .before .before .before .loop-test .taken) (c .before .before .before .before .has .ensures) (c .before .before .before .if1 .taken) (c .before .tier .ensures) (c .greater .ensures))
+    (λ c. λ z. c .before .before .before .before .before .before .loop .inv z ∙ laws.highest-yes _ _ _ _ _ _ (c .before .before .before .before .before .loop-test .taken) (c .before .before .before .before .has .ensures) (c .before .before .before .if1 .taken) (c .before .tier .ensures) (c .greater .ensures))
     (λ c. search needs)
     (λ c. search needs)
-    (λ c. c .before .before .before .loop .inv ∙ laws.highest-no _ _ _ _ _ _ (c .before .before .loop-test .taken) (c .before .has .ensures) (c .if1 .left))
-    (λ c. sym (c .before .loop .inv ∙ laws.highest-end _ _ _ _ _ _ (c .loop-test .left))))
+    (λ c. λ z. c .before .before .before .loop .inv z ∙ laws.highest-no _ _ _ _ _ _ (c .before .before .loop-test .taken) (c .before .has .ensures) (c .if1 .left))
+    (λ c. sym (c .before .loop .inv _ ∙ laws.highest-end _ _ _ _ _ _ (c .loop-test .left))))
