@@ -1,9 +1,9 @@
 // The entry `cone`: the entities and the automations of a model file on which its invariants depend.
 use cone_close::ConeSets;
 use cone_names::ConeNames;
-use lint_tests::Extent;
 use model_index::Index;
 use model_index::Status;
+use model_parts::Extent;
 use model_parts::Section;
 ghost use mathlib.Core.Path.{_≡_};
 ghost use Prim.Native.Nat.{_≤_, _<_, _+_};

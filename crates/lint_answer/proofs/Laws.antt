@@ -14,7 +14,7 @@ use Rattle.lint_walk.specs.declared.Walk.{Walk}
 use Rattle.lint_walk.specs.Walks.{walkBy, walkW}
 use Rattle.lint_touches.specs.Sets.{sectionBy, readsS, writesS}
 use Rattle.lint_touches.proofs.Laws.{reads-by, writes-by}
-use Rattle.lint_tests.specs.declared.Extent.{Extent}
+use Rattle.model_parts.specs.declared.Extent.{Extent}
 use Rattle.lint_tests.specs.declared.Given.{Given}
 use Rattle.lint_tests.specs.Given.{sectionOf, namesBy}
 use Rattle.lint_names.specs.declared.Undeclared.{Undeclared}

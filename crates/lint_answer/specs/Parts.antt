@@ -12,7 +12,7 @@ use Rattle.model_parts.specs.declared.Section.{Section}
 use Rattle.texts.specs.Texts.{text}
 use Rattle.model_order.specs.Order.{place-from}
 use Rattle.lint.specs.Memory.{Lent}
-use Rattle.lint_tests.specs.declared.Extent.{Extent}
+use Rattle.model_parts.specs.declared.Extent.{Extent}
 use Rattle.lint_tests.specs.declared.Given.{Given}
 use Rattle.lint_board.specs.declared.Out.{Out}
 use Rattle.lint_reach.specs.declared.Components.{Components}

@@ -3,10 +3,10 @@
 use lint_board::Out;
 use lint_entry::Linted;
 use lint_reach::Components;
-use lint_tests::Extent;
 use lint_tests::Given;
 use model_index::Index;
 use model_index::Status;
+use model_parts::Extent;
 ghost use mathlib.Core.Path.{_≡_};
 ghost use Prim.Native.Nat.{_≤_, _<_, _+_, _-_};
 ghost use lib.ListN.{length};

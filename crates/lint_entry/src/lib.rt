@@ -2,8 +2,8 @@
 use lint_board::Out;
 use lint_findings::About;
 use lint_reach::Components;
-use lint_tests::Extent;
 use lint_tests::Given;
+use model_parts::Extent;
 ghost use mathlib.Core.Path.{_≡_};
 ghost use mathlib.Core.List.{List};
 ghost use Prim.Native.Nat.{ℕ, _≤_, _<_, _+_, _-_};

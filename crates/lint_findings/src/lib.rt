@@ -1,7 +1,7 @@
 // The findings and interactions of each automation, in the order in which Rust adds them.
 use lint_board::Out;
-use lint_tests::Extent;
 use lint_tests::Given;
+use model_parts::Extent;
 ghost use mathlib.Core.Path.{_≡_};
 ghost use mathlib.Core.List.{List};
 ghost use Prim.Native.Nat.{ℕ, _≤_, _<_, _+_, _-_};

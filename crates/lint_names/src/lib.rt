@@ -1,5 +1,5 @@
 // The undeclared names that automations read: the entities of waits whose triggers have notes. A model has at most 64.
-use lint_tests::Extent;
+use model_parts::Extent;
 ghost use mathlib.Core.Path.{_≡_};
 ghost use Prim.Native.Nat.{_≤_, _<_, _+_, _-_};
 ghost use Rattle.lint_walk.specs.Walks.{walkBy};

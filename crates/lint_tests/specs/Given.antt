@@ -2,13 +2,14 @@
 use Prim.Native.Nat.{ℕ}
 use mathlib.Core.List.{List}
 use Rattle.model_parts.specs.declared.Section.{Section}
-use Rattle.lint_tests.specs.declared.Extent.{Extent}
+use Rattle.model_parts.specs.declared.Extent.{Extent}
+use Rattle.model_parts.specs.Parts.{section}
 use Rattle.lint_tests.specs.declared.Given.{Given}
 use Rattle.lint_tests.specs.declared.Names.{Names}
 
 -- the section that has these positions
 abbrev pub sectionOf : List ℕ → Extent → Section
-sectionOf l x = record { count = x .count; starts = l; end = x .end }
+sectionOf l x = section x l
 
 -- with the positions of entities and of invariants
 abbrev pub namesBy : (entities invariants : List ℕ) → Given → Names

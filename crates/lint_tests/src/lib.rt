@@ -1,6 +1,6 @@
 // The tests of lint, on places in the file.
+use model_parts::Extent;
 use model_parts::Section;
-use model_walk::Walked;
 ghost use mathlib.Core.Path.{_≡_};
 ghost use Prim.Native.Nat.{_≤_, _<_, _+_, _-_};
 ghost use Rattle.lint_walk.specs.Walks.{walkBy};
@@ -14,12 +14,6 @@ pub struct Names {
     pub on: u32,
     pub off: u32,
     pub star: u32,
-}
-
-// A section without the positions of its parts, which are lent: their count, and where it ends.
-pub struct Extent {
-    pub count: u32,
-    pub end: Walked,
 }
 
 // The same of a model, and of its automations, where the positions are lent.
