@@ -22,7 +22,7 @@ use Rattle.engine_places.specs.Meaning.{Tabled}
 use Rattle.engine_places.proofs.Words.{text-place}
 use Rattle.checker.specs.Judge.{Failure, prohibited-state, guard-violated, forbidden-transition, deadline-missed}
 use Rattle.checker.specs.Check as check
-use Rattle.checker_entry.specs.declared.CheckResult.{CheckResult}
+use Rattle.checker_result.specs.declared.CheckResult.{CheckResult}
 use Rattle.checker_entry.specs.Answers.{failure-words, violation-words, Shows}
 use Rattle.checker_lines.specs.Numbers.{violated-of, text-at, failure-of, source-of, violation-of}
 

@@ -5,8 +5,8 @@ use Rattle.texts.specs.Texts.{text}
 use Rattle.checker.specs.Check as check
 use Rattle.show.specs.Lines.{refused-line}
 use Rattle.checker_lines.specs.Lines.{status-line}
-use Rattle.checker_entry.specs.declared.Status.{Status}
-use Rattle.checker_entry.specs.declared.Status.the-variants as status
+use Rattle.checker_result.specs.declared.Status.{Status}
+use Rattle.checker_result.specs.declared.Status.the-variants as status
 use Rattle.checker_entry.specs.Answers.{status-as}
 use Rattle.check_lines.specs.Answer.{first-line}
 

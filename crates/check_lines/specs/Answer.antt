@@ -1,8 +1,8 @@
 -- The first line of an answer of `check`.
 use Rattle.texts.specs.Texts.{Text}
 use Rattle.checker.specs.Check as check
-use Rattle.checker_entry.specs.declared.Status.{Status}
-use Rattle.checker_entry.specs.declared.Status.the-variants.{Refused, Unknown, Violation, Incomplete, NoViolationInTrace}
+use Rattle.checker_result.specs.declared.Status.{Status}
+use Rattle.checker_result.specs.declared.Status.the-variants.{Refused, Unknown, Violation, Incomplete, NoViolationInTrace}
 use Rattle.show.specs.Lines.{refused-line}
 use Rattle.checker_lines.specs.Lines.{status-line}
 

@@ -1,12 +1,12 @@
 // The answer of `check`, printed line by line through a lent area of bytes, for `showcheck` (bare) and `showfullcheck`.
-// No contract can say what is printed; the lines are those of `checker_lines` and `engine_lines`, and their order is the
-// order of the calls here.
-use checker_entry::CheckResult;
-use checker_entry::Status;
+// No contract can say what is printed; the lines are those of `checker_lines`, `reason_lines` and `engine_lines`, and their
+// order is the order of the calls here.
 use checker_lines::Form;
-use engine_entry::Simulation;
-use engine_lines::Word;
+use checker_result::CheckResult;
+use checker_result::Status;
+use engine_summary::Simulation;
 use engine_table::Table;
+use reason_lines::Word;
 ghost use Prim.Native.Nat.{_≤_};
 ghost use Rattle.show.specs.Writing.{Written};
 ghost use Rattle.check_lines.specs.Answer.{first-line};
@@ -70,8 +70,8 @@ fn print_verdict(out: &mut [u8], n: usize, form: Form, file: &[u8], c: CheckResu
     let violated = c.violated;
     let unknowns = c.unknowns;
     let incompletes = c.incompletes;
-    let h = engine_lines::put_steps(out, n, s.steps);
-    let i = engine_lines::put_records(out, h, s.records);
+    let h = reason_lines::put_steps(out, n, s.steps);
+    let i = reason_lines::put_records(out, h, s.records);
     let j = print_violations(out, i, form, file, &violated, c.violations);
     let k = print_unknown(out, j, form, file, &unknowns, c.unknown);
     print_incomplete(out, k, form, file, &incompletes, c.incomplete)
@@ -90,7 +90,7 @@ fn print_sim_unknown(
     reasons: &[u32; 1500],
     count: usize,
 ) -> usize {
-    engine_lines::print_reasons(out, n, Word::SimUnknown, file, reasons, count)
+    reason_lines::print_reasons(out, n, Word::SimUnknown, file, reasons, count)
 }
 
 // The lines of the simulation, whose records stand in the area `a`.
@@ -100,9 +100,9 @@ fn print_simulation(out: &mut [u8], n: usize, file: &[u8], a: &[u32], s: Simulat
     let values = s.values;
     let reasons = s.reasons;
     let i = engine_lines::print_records(out, n, file, &words, a, s.records);
-    let j = engine_lines::print_finals(out, i, file, &words, &values);
+    let j = reason_lines::print_finals(out, i, file, &words, &values);
     let k = print_sim_unknown(out, j, file, &reasons, s.unknown);
-    engine_lines::print_incomplete(out, k, s.why, s.waiting)
+    reason_lines::print_incomplete(out, k, s.why, s.waiting)
 }
 
 fn print_answer(

@@ -20,7 +20,7 @@ use Rattle.engine_places.specs.Events.{EventAt}
 use Rattle.engine_entry.specs.Answers.{Ground, Grounds}
 use Rattle.engine_entry.proofs.Core.{tb}
 use Rattle.checker.specs.Check.{Check, judged, checked}
-use Rattle.checker_entry.specs.declared.CheckResult.{CheckResult}
+use Rattle.checker_result.specs.declared.CheckResult.{CheckResult}
 use Rattle.checker_entry.specs.Parts.{Checked}
 use Rattle.checker_entry.proofs.Pool.{in-pool}
 use Rattle.checker_entry.proofs.Promise as promised

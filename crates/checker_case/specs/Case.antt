@@ -15,9 +15,9 @@ use Rattle.engine_places.specs.Events.{Among, EventAt}
 use Rattle.engine_entry.specs.Answers.{Ground, Grounds}
 use Rattle.engine_entry.proofs.Core.{tb}
 use Rattle.checker.specs.Check.{Check, checked}
-use Rattle.checker_entry.specs.declared.Status.{Status}
-use Rattle.checker_entry.specs.declared.Status.the-variants as status
-use Rattle.checker_entry.specs.declared.CheckResult.{CheckResult}
+use Rattle.checker_result.specs.declared.Status.{Status}
+use Rattle.checker_result.specs.declared.Status.the-variants as status
+use Rattle.checker_result.specs.declared.CheckResult.{CheckResult}
 use Rattle.checker_entry.specs.Answers.{Shows}
 use Rattle.checker_entry.specs.Parts.{Sized, RefusedAs}
 use Rattle.checker_entry.specs.Pool.{check-pool}

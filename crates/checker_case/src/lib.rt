@@ -1,13 +1,13 @@
 // The check of a case among many: first in a small part of the lent areas, which is quick to clear, and in all of them only if
 // that part is too small. What isn't refused in the part is the same in all of them.
-use checker_entry::Judgement;
-use checker_entry::Shared;
-use checker_entry::Status;
+use checker_result::Judgement;
+use checker_result::Shared;
+use checker_result::Status;
 ghost use mathlib.Core.Path.{_≡_};
 ghost use Prim.Native.Nat.{_*_, _≤_};
 ghost use lib.ListN.{length};
 ghost use Rattle.engine_entry.specs.Answers.{ground};
-ghost use Rattle.checker_entry.specs.Answers.{result-of};
+ghost use Rattle.checker_result.specs.Result.{result-of};
 ghost use Rattle.checker_case.specs.Case.{refusedV, Part, Parted, Cased};
 
 fn is_refused(status: Status) -> bool

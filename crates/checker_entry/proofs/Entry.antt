@@ -30,8 +30,9 @@ use Rattle.engine_entry.proofs.Core.{tb}
 use Rattle.engine_entry.proofs.Entry.{events-count}
 use Rattle.checker.specs.Check as check
 use Rattle.checker.specs.Check.{checked}
-use Rattle.checker_entry.specs.declared.CheckResult.{CheckResult}
-use Rattle.checker_entry.specs.Answers.{no-check, Says, check-memory, Checks}
+use Rattle.checker_result.specs.declared.CheckResult.{CheckResult}
+use Rattle.checker_result.specs.Result.{no-check}
+use Rattle.checker_entry.specs.Answers.{Says, check-memory, Checks}
 use Rattle.checker_entry.specs.Parts.{Checked, Whole, RunsAs}
 use Rattle.checker_entry.proofs.Promise.{Promise, answers, refuses, promise, whole-shows, whole-refused}
 

@@ -27,11 +27,12 @@ use Rattle.engine_places.proofs.Truth.{Valued}
 use Rattle.engine_places.proofs.Words.{text-place}
 use Rattle.checker.specs.Check.{Violation, violation-of}
 use Rattle.checker.specs.Judge.{Reading, read-all, unknown-reasons, incomplete-reasons}
-use Rattle.checker_judge.specs.declared.Failure.{Failure}
-use Rattle.checker_judge.specs.declared.Failure.the-variants.{NoFailure, ProhibitedState, GuardViolated, ForbiddenTransition, DeadlineMissed}
-use Rattle.checker_judge.specs.declared.Reading.{Reading as Read}
-use Rattle.checker_judge.specs.Judging.{failedJ, judgeJ}
+use Rattle.checker_response.specs.declared.Failure.{Failure}
+use Rattle.checker_response.specs.declared.Failure.the-variants.{NoFailure, ProhibitedState, GuardViolated, ForbiddenTransition, DeadlineMissed}
+use Rattle.checker_response.specs.Response.{failedJ}
+use Rattle.checker_judge.specs.Judging.{judgeJ}
 use Rattle.checker_reasons.specs.Told.{renderings, unknownI, incompleteI}
+use Rattle.checker_judge.specs.declared.Reading.{Reading as Read}
 use Rattle.checker_places.specs.Meaning.{memory-of, failing-of, reading-of}
 use Rattle.checker_places.proofs.Record.{Parts, of-never, of-guard, of-transition, of-response, parts}
 use Rattle.checker_places.proofs.Judge.{Traced, judge-is}

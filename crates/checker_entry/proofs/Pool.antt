@@ -29,7 +29,7 @@ use Rattle.engine.specs.Unsupported.{unsupported}
 use Rattle.checker.specs.Check.{judged}
 use Rattle.checker.specs.Check as check
 use Rattle.checker.specs.Judge.{Memory, reason-if, read-all, unknown-reasons, incomplete-reasons}
-use Rattle.checker_entry.specs.declared.CheckResult.{CheckResult}
+use Rattle.checker_result.specs.declared.CheckResult.{CheckResult}
 use Rattle.checker_entry.specs.Pool.{invariant-pool, check-pool}
 use Rattle.checker_entry.specs.Parts.{Checked}
 use Rattle.checker_entry.proofs.Promise as promised

@@ -45,8 +45,9 @@ use Rattle.engine_places.proofs.Relation.{Worded}
 use Rattle.engine_places.specs.Events.{EventAt}
 use Rattle.engine_places.proofs.Truth.{Valued}
 use Rattle.engine_begin.proofs.Begins.{start-valued, start-cells-are}
-use Rattle.engine_entry.specs.declared.Simulation.{Simulation}
-use Rattle.engine_entry.specs.Answers.{Ground, Grounds, incomplete-of, no-simulation, Shows}
+use Rattle.engine_summary.specs.declared.Simulation.{Simulation}
+use Rattle.engine_summary.specs.Summary.{no-simulation}
+use Rattle.engine_entry.specs.Answers.{Ground, Grounds, incomplete-of, Shows}
 use Rattle.engine_entry.proofs.Core.{tb}
 use Rattle.engine_entry.proofs.Promise.{texts-here, records-here}
 use Rattle.engine_entry.proofs.Promise as simulator
@@ -56,11 +57,13 @@ use Rattle.checker.specs.Judge.{read-all, unknown-reasons, incomplete-reasons}
 use Rattle.checker_places.proofs.Judge.{Traced}
 use Rattle.checker_verdict.specs.declared.Counts.{Counts}
 use Rattle.checker_verdict.specs.Verdict.{brokenV, Gathered, firstV, Keeps}
-use Rattle.checker_entry.specs.declared.Status.the-variants as status
-use Rattle.checker_entry.specs.declared.CheckResult.{CheckResult}
-use Rattle.checker_entry.specs.Answers.{status-as, violation-words, no-check}
+use Rattle.checker_result.specs.declared.Status.the-variants as status
+use Rattle.checker_result.specs.declared.CheckResult.{CheckResult}
+use Rattle.checker_result.specs.Result.{no-check}
+use Rattle.checker_entry.specs.Answers.{status-as, violation-words}
 use Rattle.checker_entry.specs.Answers as said
-use Rattle.checker_entry.specs.Parts.{statusV, stoppedR, leftR, startV, counts, Checked, Whole, RefusedAs}
+use Rattle.checker_result.specs.Verdicts.{statusV, stoppedR, leftR, startV, counts}
+use Rattle.checker_entry.specs.Parts.{Checked, Whole, RefusedAs}
 use Rattle.checker_entry.proofs.Judged.{Agreed, agreed}
 
 module _ (f x : List ℕ) (ts : List Text) (m : Model) (tb : Tabled f x ts m) where

@@ -2,7 +2,7 @@
 use Prim.Native.Nat.{ℕ}
 use mathlib.Core.Path.{_≡_}
 use mathlib.Core.List.{List, [], _∷_, _++_}
-use lib.ListN.{length, replicate}
+use lib.ListN.{length}
 use Rattle.texts.specs.Texts.{Text}
 use Rattle.areas.specs.Areas.{area}
 use Rattle.model.specs.Answer.{Answer, answer, refused}
@@ -10,14 +10,13 @@ use Rattle.model.specs.Rewrite.{place-of}
 use Rattle.reasons.specs.Lists.{Holds}
 use Rattle.engine.specs.Memory.{Lent, entries, lent-after}
 use Rattle.engine.specs.Words.{source-words, texts-in, words-in, entry-words}
-use Rattle.engine_entry.specs.Answers.{no-simulation, simulation-of}
 use Rattle.engine_entry.specs.Answers as engine
 use Rattle.checker.specs.Check as check
 use Rattle.checker.specs.Judge as judge
-use Rattle.checker_entry.specs.declared.Status.{Status}
-use Rattle.checker_entry.specs.declared.Status.the-variants as status
-use Rattle.checker_entry.specs.declared.CheckResult.{CheckResult}
-use Rattle.checker_entry.specs.declared.Judgement.{Judgement}
+use Rattle.checker_result.specs.declared.Status.{Status}
+use Rattle.checker_result.specs.declared.Status.the-variants as status
+use Rattle.checker_result.specs.declared.CheckResult.{CheckResult}
+use Rattle.checker_result.specs.Result.{no-check}
 
 -- the status by its name in the scope
 abbrev pub status-as : check.Status → Status
@@ -48,13 +47,6 @@ pub record Shows (f : List ℕ) (r : CheckResult) (c : check.Check) : Type 0 whe
   pub unknown : Holds f (c .unknown) (r .unknown) (r .unknowns)
   pub incomplete : Holds f (c .incomplete) (r .incomplete) (r .incompletes)
   pub simulation : engine.Shows f (r .simulation) (c .simulation)
-
-unfoldable pub no-check : (number : ℕ) → CheckResult
-no-check n = record { status = status.Refused n; violations = 0; violated = replicate 256 0; unknown = 0; unknowns = replicate 2000 0; incomplete = 0; incompletes = replicate 200 0; simulation = no-simulation n }
-
--- a judgement, its lists and its reasons' words
-abbrev pub result-of : Judgement → (violated unknowns incompletes reasons : List ℕ) → CheckResult
-result-of j v u w s = record { status = j .status; violations = j .violations; violated = v; unknown = j .unknown; unknowns = u; incomplete = j .incomplete; incompletes = w; simulation = simulation-of (j .simulation) s }
 
 abbrev pub Says : (file : List ℕ) → CheckResult → Answer check.Check → Type 0
 Says f r (answer c) = Shows f r c

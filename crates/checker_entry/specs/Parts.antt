@@ -1,87 +1,19 @@
 -- What the parts of the entry promise.
-use Prim.Native.Nat.{ℕ, _+_, _*_, _≤_}
+use Prim.Native.Nat.{ℕ, _≤_}
 use mathlib.Core.Path.{_≡_}
-use mathlib.Core.Bool.{Bool}
-use mathlib.Core.List.{List, [], _∷_, map}
-use lib.Dec.{eqb}
-use lib.ListN.{length}
-use Rattle.texts.specs.Lists.{if_then_else_}
-use Rattle.records.specs.Records.{recorded}
-use Rattle.records.specs.declared.Record.{Record}
-use Rattle.reasons.specs.Lists.{listed, insertAll, Holds}
-use Rattle.reasons.specs.Reasons.{render}
-use Rattle.reasons.specs.declared.Reason.{Reason}
+use mathlib.Core.List.{List}
 use Rattle.model.specs.Answer.{answer}
 use Rattle.model.specs.Model.{Model}
 use Rattle.model.specs.Validate.{accepted}
 use Rattle.model_index.specs.declared.Index.{Index}
 use Rattle.model_index.specs.Indexed.{Indexed}
 use Rattle.engine.specs.Memory.{Lent}
-use Rattle.engine_reads.specs.Reads.{atMost, alone}
-use Rattle.engine_state.specs.declared.Cells.{Cells}
-use Rattle.engine_entry.specs.declared.Simulation.{Simulation}
-use Rattle.engine_entry.specs.declared.Summary.{Summary}
 use Rattle.engine_entry.specs.Answers.{Ground}
 use Rattle.engine_entry.specs.Parts.{Ran}
-use Rattle.checker_verdict.specs.declared.Counts.{Counts}
-use Rattle.checker_verdict.specs.Verdict.{Gathered, firstV, Keeps}
-use Rattle.checker_entry.specs.declared.Status.{Status}
-use Rattle.checker_entry.specs.declared.Status.the-variants as status
-use Rattle.checker_entry.specs.declared.CheckResult.{CheckResult}
-use Rattle.checker_entry.specs.declared.Judgement.{Judgement}
-use Rattle.checker_entry.specs.declared.Shared.{Shared}
-use Rattle.checker_entry.specs.Answers.{no-check, result-of, Checks}
-
--- at most as many records as the area holds
-pub record Fits (n len r : ℕ) : Type 0 where
-  pub most : r * 13 ≤ len
-  pub same : n * 13 ≤ len → r ≡ n
-
-unfoldable pub statusV : Counts → Status
-statusV t =
-    if eqb (t .unknown) 0 then
-    (if eqb (t .violations) 0 then (if eqb (t .incomplete) 0 then status.NoViolationInTrace else status.Incomplete) else status.Violation)
-    else status.Unknown
-
--- why a simulation is incomplete, as reasons
-unfoldable pub stoppedR : (why : ℕ) → List Reason
-stoppedR w = if eqb w 0 then [] else if eqb w 1 then alone 284 ∷ [] else alone 316 ∷ []
-
-unfoldable pub leftR : (waiting : Bool) → List Reason
-leftR b = if b then alone 338 ∷ [] else []
-
-pub record Starts (f : List ℕ) (why k : ℕ) (w : List ℕ) : Type 0 where
-  pub most : k ≤ 1
-  pub holds : Holds f (insertAll (map (render f) (stoppedR why)) []) k w
-
-pub record Ends (f : List ℕ) (waiting : Bool) (n : ℕ) (w : List ℕ) (k : ℕ) (w' : List ℕ) : Type 0 where
-  pub most : k ≤ n + 1
-  pub holds : Holds f (insertAll (map (render f) (leftR waiting)) (listed f n w)) k w'
-
--- what is gathered before the first invariant
-unfoldable pub startV : List ℕ → Simulation → Gathered
-startV f s = record {
-  violations = [];
-  unknown = insertAll (listed f (s .unknown) (s .reasons)) [];
-  incomplete = insertAll (map (render f) (leftR (s .waiting))) (insertAll (map (render f) (stoppedR (s .why))) []);
-}
-
-abbrev pub counts : CheckResult → Counts
-counts r = record { violations = r .violations; unknown = r .unknown; incomplete = r .incomplete }
-
--- the verdict on the records in the area a, whatever they are, for so many invariants at their positions
-pub record Verdict (f x starts : List ℕ) (many : ℕ) (c : Cells) (a : List ℕ) (r : CheckResult) : Type 0 where
-  pub status-is : r .status ≡ statusV (counts r)
-  pub long : length (r .violated) ≡ 256
-  pub few-unknown : r .unknown ≤ 400
-  pub few-incomplete : r .incomplete ≤ 40
-  pub holds : r .simulation .unknown ≤ 300 → (l : List Record) → length l ≡ r .simulation .records → r .simulation .records * 13 ≤ length a → a ≡ recorded (length a) l →
-      Keeps f (r .violated) (r .unknowns) (r .incompletes) (counts r) (firstV f x starts c l (atMost many 32) (startV f (r .simulation)))
-
--- the judgement of a simulation whose reasons' words are u
-pub record Judged (f x starts : List ℕ) (h : Shared) (a : List ℕ) (s : Summary) (r : Judgement) (u v us ws : List ℕ) : Type 0 where
-  pub simulation : r .simulation ≡ s
-  pub verdict : Verdict f x starts (h .invariants) (h .cells) a (result-of r v us ws u)
+use Rattle.checker_result.specs.declared.Status.the-variants as status
+use Rattle.checker_result.specs.declared.CheckResult.{CheckResult}
+use Rattle.checker_entry.specs.Answers.{Checks}
+use Rattle.checker_result.specs.Verdicts.{Answered, Verdict}
 
 -- how many reasons the answer has at most
 pub record Sized (r : CheckResult) : Type 0 where
@@ -94,11 +26,6 @@ pub record Checked (f starts : List ℕ) (many : ℕ) (g : Ground) (events : Lis
   pub ran : Ran f g events n (r .simulation) q q' a a' u u'
   pub done : r .simulation .refused ≡ 0 → Verdict f (g .table) starts many (g .cells) a' r
   pub full : (r .simulation .refused ≡ 0 → ⊥) → r .status ≡ status.Refused (r .simulation .refused)
-
--- the answer r of the check c: a refusal is nothing but its number
-pub record Answered (c r : CheckResult) : Type 0 where
-  pub done : c .simulation .refused ≡ 0 → r ≡ c
-  pub full : (c .simulation .refused ≡ 0 → ⊥) → r ≡ no-check (c .simulation .refused)
 
 pub record Whole (f starts : List ℕ) (many : ℕ) (g : Ground) (events : List ℕ) (n : ℕ) (r : CheckResult) (q q' a a' u u' : List ℕ) : Type 0 where
   pub result : CheckResult

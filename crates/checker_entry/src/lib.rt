@@ -1,178 +1,17 @@
 // The entry `check`: the verdict on a model's simulation.
-use checker_verdict::Counts;
-use engine_entry::Simulation;
-use engine_entry::Summary;
-use engine_state::Cells;
+use checker_result::CheckResult;
+use checker_result::Judgement;
+use checker_result::Shared;
+use checker_result::Status;
 use model_index::Index;
-ghost use mathlib.Core.Path.{_≡_};
-ghost use Prim.Native.Nat.{_+_, _*_, _≤_};
+ghost use Prim.Native.Nat.{_*_, _≤_};
 ghost use lib.ListN.{length};
-ghost use Rattle.checker_entry.specs.Answers.{no-check, result-of, Checks};
-ghost use Rattle.checker_entry.specs.Parts.{Fits, statusV, Starts, Ends, Judged, Answered, Checked, Whole, RunsAs};
+ghost use Rattle.checker_result.specs.Result.{result-of};
+ghost use Rattle.checker_entry.specs.Answers.{Checks};
+ghost use Rattle.checker_entry.specs.Parts.{Checked, Whole, RunsAs};
 ghost use Rattle.engine_entry.specs.Answers.{ground, lent};
 
-pub enum Status {
-    Refused(u32),
-    Unknown,
-    Violation,
-    Incomplete,
-    NoViolationInTrace,
-}
-
-// The status, or the refusal's number; then all counts and words are 0. `violated` holds the violations, eight numbers each;
-// `unknowns` and `incompletes` hold the reasons, five words each, sorted as rendered.
-pub struct CheckResult {
-    pub status: Status,
-    pub violations: usize,
-    pub violated: [u64; 256],
-    pub unknown: usize,
-    pub unknowns: [u32; 2000],
-    pub incomplete: usize,
-    pub incompletes: [u32; 200],
-    pub simulation: Simulation,
-}
-
-// A refusal: no violations, no reasons.
-pub fn refused(number: u32) -> CheckResult
-    ensures { λ r. ⌜ r ≡ no-check number ⌝ }
-{
-    let simulation = engine_entry::refused(number);
-    CheckResult {
-        status: Status::Refused(number),
-        violations: 0,
-        violated: [0u64; 256],
-        unknown: 0,
-        unknowns: [0u32; 2000],
-        incomplete: 0,
-        incompletes: [0u32; 200],
-        simulation,
-    }
-}
-
-// Unknown before violation before incomplete.
-fn status_of(t: Counts) -> Status
-    ensures { λ r. ⌜ r ≡ statusV t ⌝ }
-{
-    if t.unknown != 0 {
-        return Status::Unknown;
-    }
-    if t.violations != 0 {
-        return Status::Violation;
-    }
-    if t.incomplete != 0 {
-        return Status::Incomplete;
-    }
-    Status::NoViolationInTrace
-}
-
-// At most as many records as the area holds.
-fn fitting(n: usize, a: &[u32]) -> usize
-    ensures { λ r. ⌜ Fits n (length (now (a .entry))) r ⌝ }
-{
-    let most = a.len() / 13;
-    if most < n {
-        return most;
-    }
-    n
-}
-
-// Why the simulation stopped, as reasons.
-fn add_stopped(f: &[u8], w: &mut [u32], why: u32) -> usize
-    requires { ⌜ 5 ≤ length (now w) ⌝ }
-    ensures { λ k. ⌜ Starts (now (f .entry)) why k (now (w .exit)) ⌝ }
-{
-    if why == 0 {
-        return 0;
-    }
-    if why == 1 {
-        let space = engine_reads::by_itself(reasons::SPACE_SPENT);
-        return reasons::insert_sorted(f, w, 0, space);
-    }
-    let steps = engine_reads::by_itself(reasons::STEPS_SPENT);
-    reasons::insert_sorted(f, w, 0, steps)
-}
-
-// And that runs were left.
-fn add_waiting(f: &[u8], w: &mut [u32], n: usize, waiting: bool) -> usize
-    requires { ⌜ n * 5 + 5 ≤ length (now w) ⌝ }
-    ensures { λ k. ⌜ Ends (now (f .entry)) waiting n (now (w .entry)) k (now (w .exit)) ⌝ }
-{
-    if waiting {
-        let left = engine_reads::by_itself(reasons::RUNS_LEFT);
-        return reasons::insert_sorted(f, w, n, left);
-    }
-    n
-}
-
 // ---- a check, its lists in lent arrays
-
-// What the checks of one model share beside its table and the positions of its invariants: the values at the start, how many
-// reasons the notes give, and how many invariants there are.
-pub struct Shared {
-    pub cells: Cells,
-    pub notes: usize,
-    pub invariants: u32,
-}
-
-// A check without its lists and without the words of its reasons.
-pub struct Judgement {
-    pub status: Status,
-    pub violations: usize,
-    pub unknown: usize,
-    pub incomplete: usize,
-    pub simulation: Summary,
-}
-
-// The verdict on a simulation whose records stand in the area `a`, and the words of its reasons in `told`.
-fn verdict(
-    f: &[u8],
-    x: &[u32; 436],
-    starts: &[usize; 100],
-    shared: Shared,
-    a: &[u32],
-    s: Summary,
-    told: &[u32; 1500],
-    violated: &mut [u64; 256],
-    unknowns: &mut [u32; 2000],
-    incompletes: &mut [u32; 200],
-) -> Judgement
-    ensures { λ r. ⌜ Judged (now (f .entry)) (now (x .entry)) (now (starts .entry)) shared (now (a .entry)) s r (now (told .entry)) (now (violated .exit)) (now (unknowns .exit)) (now (incompletes .exit)) ⌝ }
-{
-    let none = [0u64; 256];
-    *violated = none;
-    let many = engine_entry::few(s.unknown);
-    let unknown = reasons::merge(f, unknowns, 0, told, many);
-    let stopped = add_stopped(f, incompletes, s.why);
-    let incomplete = add_waiting(f, incompletes, stopped, s.waiting);
-    let start = Counts {
-        violations: 0,
-        unknown,
-        incomplete,
-    };
-    let n = fitting(s.records, a);
-    let cells = shared.cells;
-    let t = checker_verdict::judge_all(
-        f,
-        x,
-        starts,
-        shared.invariants,
-        cells,
-        a,
-        n,
-        violated,
-        unknowns,
-        incompletes,
-        start,
-    );
-    let status = status_of(t);
-    Judgement {
-        status,
-        violations: t.violations,
-        unknown: t.unknown,
-        incomplete: t.incomplete,
-        simulation: s,
-    }
-}
 
 // The check of a model from its own values, with the first n of the events that stand in four words each. `reasons` holds the
 // reasons of the notes, and then those of the simulation.
@@ -217,7 +56,7 @@ pub fn check_events(
             simulation: s,
         };
     }
-    verdict(
+    checker_result::verdict(
         file,
         table,
         starts,
@@ -232,46 +71,6 @@ pub fn check_events(
 }
 
 // ---- the answer in lent arrays
-
-// A refusal is nothing but its number: the lists and the words of the reasons are cleared.
-pub fn refused_judgement(
-    number: u32,
-    reasons: &mut [u32; 1500],
-    violated: &mut [u64; 256],
-    unknowns: &mut [u32; 2000],
-    incompletes: &mut [u32; 200],
-) -> Judgement
-    ensures { λ r. ⌜ result-of r (now (violated .exit)) (now (unknowns .exit)) (now (incompletes .exit)) (now (reasons .exit)) ≡ no-check number ⌝ }
-{
-    let simulation = engine_entry::refused_summary(number, reasons);
-    *violated = [0u64; 256];
-    *unknowns = [0u32; 2000];
-    *incompletes = [0u32; 200];
-    Judgement {
-        status: Status::Refused(number),
-        violations: 0,
-        unknown: 0,
-        incomplete: 0,
-        simulation,
-    }
-}
-
-// What a check answers.
-fn settled(
-    j: Judgement,
-    reasons: &mut [u32; 1500],
-    violated: &mut [u64; 256],
-    unknowns: &mut [u32; 2000],
-    incompletes: &mut [u32; 200],
-) -> Judgement
-    ensures { λ r. ⌜ Answered (result-of j (now (violated .entry)) (now (unknowns .entry)) (now (incompletes .entry)) (now (reasons .entry))) (result-of r (now (violated .exit)) (now (unknowns .exit)) (now (incompletes .exit)) (now (reasons .exit))) ⌝ }
-{
-    let s = j.simulation;
-    if s.refused != 0 {
-        return refused_judgement(s.refused, reasons, violated, unknowns, incompletes);
-    }
-    j
-}
 
 // The check with the first n events, and its answer.
 pub fn check_settled(
@@ -307,7 +106,7 @@ pub fn check_settled(
         unknowns,
         incompletes,
     );
-    settled(j, reasons, violated, unknowns, incompletes)
+    checker_result::settled(j, reasons, violated, unknowns, incompletes)
 }
 
 // The check of an accepted model with its own values and events.
@@ -371,7 +170,7 @@ pub fn check_lent(
     let status = x.status;
     match status {
         model_index::Status::Refused(number) => {
-            refused_judgement(number, reasons, violated, unknowns, incompletes)
+            checker_result::refused_judgement(number, reasons, violated, unknowns, incompletes)
         }
         model_index::Status::Read => run(
             file,
@@ -388,33 +187,6 @@ pub fn check_lent(
 }
 
 // ---- the answer as one value
-
-pub fn with_lists(
-    j: Judgement,
-    reasons: &[u32; 1500],
-    violations: &[u64; 256],
-    unknown: &[u32; 2000],
-    incomplete: &[u32; 200],
-) -> CheckResult
-    ensures { λ r. ⌜ r ≡ result-of j (now (violations .entry)) (now (unknown .entry)) (now (incomplete .entry)) (now (reasons .entry)) ⌝ }
-{
-    let status = j.status;
-    let s = j.simulation;
-    let simulation = engine_entry::with_reasons(s, reasons);
-    let violated = *violations;
-    let unknowns = *unknown;
-    let incompletes = *incomplete;
-    CheckResult {
-        status,
-        violations: j.violations,
-        violated,
-        unknown: j.unknown,
-        unknowns,
-        incomplete: j.incomplete,
-        incompletes,
-        simulation,
-    }
-}
 
 // The check with the first n events, as one value.
 pub fn check_whole(
@@ -450,7 +222,7 @@ pub fn check_whole(
         &mut unknowns,
         &mut incompletes,
     );
-    with_lists(j, reasons, &violated, &unknowns, &incompletes)
+    checker_result::with_lists(j, reasons, &violated, &unknowns, &incompletes)
 }
 
 // The check of a model file, with lent areas of any size.
@@ -471,5 +243,5 @@ pub fn check(file: &[u8], queue: &mut [u32], records: &mut [u32], runs: &mut [u3
         &mut unknowns,
         &mut incompletes,
     );
-    with_lists(j, &reasons, &violated, &unknowns, &incompletes)
+    checker_result::with_lists(j, &reasons, &violated, &unknowns, &incompletes)
 }

@@ -18,11 +18,12 @@ use Rattle.records.specs.declared.Record.{Record}
 use Rattle.engine_reads.specs.Reads.{cap, entityOf}
 use Rattle.engine_state.specs.Machine.{storedC}
 use Rattle.engine_state.specs.declared.Cells.{Cells}
-use Rattle.checker_judge.specs.declared.Failure.{Failure}
-use Rattle.checker_judge.specs.declared.Memory.{Memory}
-use Rattle.checker_judge.specs.declared.Shown.{Shown}
+use Rattle.checker_response.specs.declared.Failure.{Failure}
+use Rattle.checker_response.specs.declared.Memory.{Memory}
+use Rattle.checker_response.specs.declared.Shown.{Shown}
 use Rattle.checker_judge.specs.declared.Reading.{Reading}
-use Rattle.checker_judge.specs.Judging.{failedJ, nothingJ, putJ, afterJ, entityJ, valueJ, setJ, readJ, turnJ, unfailedJ, readingJ, judgeJ, Turned, Judges}
+use Rattle.checker_response.specs.Response.{failedJ}
+use Rattle.checker_judge.specs.Judging.{nothingJ, putJ, afterJ, entityJ, valueJ, setJ, readJ, turnJ, unfailedJ, readingJ, judgeJ, Turned, Judges}
 
 -- ---- one record
 

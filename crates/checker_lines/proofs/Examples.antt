@@ -8,6 +8,7 @@ use Rattle.reasons.specs.Reasons.{placed}
 use Rattle.checker.specs.Judge.{prohibited-state, deadline-missed, message}
 use Rattle.checker.specs.Check.{Violation, Status, status-name}
 use Rattle.show.specs.Lines as show
+use Rattle.reason_lines.specs.Lines as reason
 use Rattle.engine_lines.specs.Lines as engine
 use Rattle.checker_lines.specs.Lines.{status-line, bare-violated, full-violated, bare-reason, full-reason, all-lines}
 
@@ -29,5 +30,5 @@ unfolding all-lines engine.all-lines show.all-lines all-lists all-texts message
 late = refl
 
 reasons : bare-reason (text "unknown") (text "1:1: a\"b") ++ full-reason (text "incomplete") (text "1:1: a\"b") ≡ text "unknown 1:1: a\"b\nincomplete \"1:1: a\\\"b\"\n"
-unfolding all-lines engine.all-lines show.all-lines all-lists
+unfolding all-lines reason.all-lines show.all-lines all-lists
 reasons = refl

@@ -18,8 +18,9 @@ use Rattle.engine_reads.specs.Reads.{atMost}
 use Rattle.checker.specs.Judge.{message, deadline-missed}
 use Rattle.show.specs.Lines.{newline, escape, quoted, dash, all-lines}
 use Rattle.show.proofs.Laws as show
-use Rattle.engine_lines.specs.Lines.{text-line, placed-if}
-use Rattle.engine_lines.proofs.Numbers.{flat-append}
+use Rattle.reason_lines.specs.Lines.{text-line}
+use Rattle.engine_lines.specs.Lines.{placed-if}
+use Rattle.reason_lines.proofs.Laws.{flat-append}
 use Rattle.checker_lines.specs.declared.Violated.{Violated}
 use Rattle.checker_lines.specs.Lines.{moment, bare-violated, full-violated, bare-reason}
 use Rattle.checker_lines.specs.Numbers.{violated-of, text-at, failure-of, source-of, violation-of}

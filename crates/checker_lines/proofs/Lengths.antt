@@ -15,7 +15,8 @@ use Rattle.engine_reads.specs.Reads.{atMost}
 use Rattle.checker.specs.Judge.{Failure, prohibited-state, guard-violated, forbidden-transition, deadline-missed, message}
 use Rattle.show.specs.Lines.{newline, quoted}
 use Rattle.show.proofs.Laws as show
-use Rattle.engine_lines.specs.Lines.{text-line, placed-if}
+use Rattle.reason_lines.specs.Lines.{text-line}
+use Rattle.engine_lines.specs.Lines.{placed-if}
 use Rattle.checker_lines.specs.declared.Violated.{Violated}
 use Rattle.checker_lines.specs.Lines.{moment, bare-violated, full-violated, bare-reason, full-reason}
 use Rattle.checker_lines.specs.Numbers.{text-at, failure-of, source-of, violation-of}

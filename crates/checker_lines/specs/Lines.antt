@@ -6,7 +6,8 @@ use Rattle.texts.specs.Texts.{Text, text, decimal}
 use Rattle.checker.specs.Judge.{message}
 use Rattle.checker.specs.Check.{Violation, Status, status-name}
 use Rattle.show.specs.Lines.{newline, quoted}
-use Rattle.engine_lines.specs.Lines.{text-line, placed-if}
+use Rattle.reason_lines.specs.Lines.{text-line}
+use Rattle.engine_lines.specs.Lines.{placed-if}
 
 unfoldable pub status-line : Status → Text
 status-line s = text "status " ++ (status-name s ++ newline)

@@ -27,11 +27,12 @@ use Rattle.engine_places.proofs.Relation.{Celled}
 use Rattle.engine_places.proofs.Writes.{stored-is}
 use Rattle.checker.specs.Judge.{after, read, reading, read-all}
 use Rattle.checker.specs.Judge as judge
-use Rattle.checker_judge.specs.Judging.{failedJ, nothingJ, putJ, afterJ, readJ, turnedJ, turnJ, readingJ, judgeJ}
-use Rattle.checker_judge.specs.declared.Failure.{Failure}
-use Rattle.checker_judge.specs.declared.Failure.the-variants.{NoFailure, ProhibitedState, GuardViolated, ForbiddenTransition, DeadlineMissed}
-use Rattle.checker_judge.specs.declared.Memory.{Memory}
-use Rattle.checker_judge.specs.declared.Shown.{Shown}
+use Rattle.checker_response.specs.Response.{failedJ}
+use Rattle.checker_judge.specs.Judging.{nothingJ, putJ, afterJ, readJ, turnedJ, turnJ, readingJ, judgeJ}
+use Rattle.checker_response.specs.declared.Failure.{Failure}
+use Rattle.checker_response.specs.declared.Failure.the-variants.{NoFailure, ProhibitedState, GuardViolated, ForbiddenTransition, DeadlineMissed}
+use Rattle.checker_response.specs.declared.Memory.{Memory}
+use Rattle.checker_response.specs.declared.Shown.{Shown}
 use Rattle.checker_judge.specs.declared.Reading.{Reading}
 use Rattle.checker_places.specs.Meaning.{failure-of, memory-of, shown-of, failing-of, reading-of}
 use Rattle.checker_places.proofs.Record.{read-is}

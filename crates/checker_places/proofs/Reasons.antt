@@ -19,7 +19,7 @@ use Rattle.engine_places.specs.Meaning.{Tabled}
 use Rattle.engine_places.proofs.Numbers.{cap-is}
 use Rattle.engine_places.proofs.Pool.{no-text, position-is}
 use Rattle.checker.specs.Judge.{reason-if, unknown-reasons, incomplete-reasons}
-use Rattle.checker_judge.specs.declared.Memory.{Memory}
+use Rattle.checker_response.specs.declared.Memory.{Memory}
 use Rattle.checker_reasons.specs.Told.{renderings, aboutI, ifI, temporalI, unknownI, incompleteI}
 use Rattle.checker_reasons.specs.declared.Told.the-variants.{One, Two}
 use Rattle.checker_places.specs.Meaning.{memory-of}

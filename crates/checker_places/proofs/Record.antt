@@ -31,9 +31,10 @@ use Rattle.engine_places.proofs.Numbers.{byte-is, two-is, four-is, later-is}
 use Rattle.engine_places.proofs.Truth.{Valued, evaluate-is, all-is}
 use Rattle.checker.specs.Judge.{is-action, is-horizon, writes, passes, fails-if, read-response, read}
 use Rattle.checker.specs.Judge as judge
-use Rattle.checker_judge.specs.Judging.{yesJ, noJ, unknownJ, failsJ, unsureJ, neverJ, writesJ, aboutJ, guardedJ, guardJ, passesJ, transitionJ, goal-at, within-at, seenJ, respondedJ, readJ}
-use Rattle.checker_judge.specs.declared.Failure.the-variants.{NoFailure, ProhibitedState, GuardViolated, ForbiddenTransition}
-use Rattle.checker_judge.specs.declared.Memory.{Memory}
+use Rattle.checker_response.specs.Response.{yesJ, noJ, unknownJ, failsJ, respondedJ}
+use Rattle.checker_judge.specs.Judging.{unsureJ, neverJ, writesJ, aboutJ, guardedJ, guardJ, passesJ, transitionJ, goal-at, within-at, seenJ, readJ}
+use Rattle.checker_response.specs.declared.Failure.the-variants.{NoFailure, ProhibitedState, GuardViolated, ForbiddenTransition}
+use Rattle.checker_response.specs.declared.Memory.{Memory}
 use Rattle.checker_places.specs.Meaning.{memory-of, shown-of}
 use Rattle.checker_places.proofs.Response.{yes-is, no-is, unknown-is, fails-is, told, responded-is}
 

@@ -13,13 +13,13 @@ use Rattle.engine_truth.specs.declared.Truth.the-variants.{Yes, No, Unknown}
 use Rattle.engine_places.specs.Meaning.{truth-of}
 use Rattle.checker.specs.Judge.{fails-if, overdue, missed, waits-after, missed-at-end, beyond, or-else}
 use Rattle.checker.specs.Judge as judge
-use Rattle.checker_judge.specs.Judging.{yesJ, noJ, unknownJ, failsJ, failedJ, or-elseJ, overdueJ, missedJ, keptJ, startedJ, begunJ, waitsJ, at-endJ, beyondJ, failureJ, memoryJ, respondedJ}
-use Rattle.checker_judge.specs.declared.Failure.{Failure}
-use Rattle.checker_judge.specs.declared.Failure.the-variants.{NoFailure, ProhibitedState, GuardViolated, ForbiddenTransition, DeadlineMissed}
-use Rattle.checker_judge.specs.declared.Wait.{Wait}
-use Rattle.checker_judge.specs.declared.Wait.the-variants.{NoWait, Until}
-use Rattle.checker_judge.specs.declared.Memory.{Memory}
-use Rattle.checker_judge.specs.declared.Seen.{Seen}
+use Rattle.checker_response.specs.Response.{yesJ, noJ, unknownJ, failsJ, failedJ, or-elseJ, overdueJ, missedJ, keptJ, startedJ, begunJ, waitsJ, at-endJ, beyondJ, failureJ, memoryJ, respondedJ}
+use Rattle.checker_response.specs.declared.Failure.{Failure}
+use Rattle.checker_response.specs.declared.Failure.the-variants.{NoFailure, ProhibitedState, GuardViolated, ForbiddenTransition, DeadlineMissed}
+use Rattle.checker_response.specs.declared.Wait.{Wait}
+use Rattle.checker_response.specs.declared.Wait.the-variants.{NoWait, Until}
+use Rattle.checker_response.specs.declared.Memory.{Memory}
+use Rattle.checker_response.specs.declared.Seen.{Seen}
 use Rattle.checker_places.specs.Meaning.{failure-of, wait-of, memory-of, shown-of}
 
 -- ---- truths and failures

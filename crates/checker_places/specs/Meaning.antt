@@ -2,12 +2,12 @@
 use Prim.Native.Nat.{ℕ}
 use mathlib.Core.Option.{Option, none, some}
 use Rattle.checker.specs.Judge as judge
-use Rattle.checker_judge.specs.declared.Failure.{Failure}
-use Rattle.checker_judge.specs.declared.Failure.the-variants.{NoFailure, ProhibitedState, GuardViolated, ForbiddenTransition, DeadlineMissed}
-use Rattle.checker_judge.specs.declared.Wait.{Wait}
-use Rattle.checker_judge.specs.declared.Wait.the-variants.{NoWait, Until}
-use Rattle.checker_judge.specs.declared.Memory.{Memory}
-use Rattle.checker_judge.specs.declared.Shown.{Shown}
+use Rattle.checker_response.specs.declared.Failure.{Failure}
+use Rattle.checker_response.specs.declared.Failure.the-variants.{NoFailure, ProhibitedState, GuardViolated, ForbiddenTransition, DeadlineMissed}
+use Rattle.checker_response.specs.declared.Wait.{Wait}
+use Rattle.checker_response.specs.declared.Wait.the-variants.{NoWait, Until}
+use Rattle.checker_response.specs.declared.Memory.{Memory}
+use Rattle.checker_response.specs.declared.Shown.{Shown}
 use Rattle.checker_judge.specs.declared.Reading.{Reading}
 use Rattle.engine_places.specs.Meaning.{where-of}
 

@@ -9,7 +9,7 @@ use Rattle.texts.specs.Texts.{Text}
 use Rattle.reasons.specs.Reasons.{render}
 use Rattle.reasons.specs.declared.Reason.{Reason}
 use Rattle.engine_reads.specs.Reads.{two, textPosition}
-use Rattle.checker_judge.specs.declared.Memory.{Memory}
+use Rattle.checker_response.specs.declared.Memory.{Memory}
 use Rattle.checker_reasons.specs.declared.Told.{Told}
 use Rattle.checker_reasons.specs.declared.Told.the-variants.{Nothing, One, Two}
 

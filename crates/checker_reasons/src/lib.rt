@@ -1,5 +1,5 @@
 // The reasons that the reading of one invariant gives, by what it kept; and a sorted list of reasons with them.
-use checker_judge::Memory;
+use checker_response::Memory;
 use engine_reads::byte_at;
 use engine_reads::capped;
 use engine_reads::text_position;

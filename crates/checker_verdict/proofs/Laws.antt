@@ -19,8 +19,9 @@ use Rattle.reasons.proofs.Listing as listing
 use Rattle.engine_reads.specs.Reads.{two, cap, atMost}
 use Rattle.engine_state.specs.declared.Cells.{Cells}
 use Rattle.checker_judge.specs.declared.Reading.{Reading}
-use Rattle.checker_judge.specs.declared.Memory.{Memory}
-use Rattle.checker_judge.specs.Judging.{failedJ, judgeJ, Judges}
+use Rattle.checker_response.specs.declared.Memory.{Memory}
+use Rattle.checker_response.specs.Response.{failedJ}
+use Rattle.checker_judge.specs.Judging.{judgeJ, Judges}
 use Rattle.checker_reasons.specs.declared.Told.{Told}
 use Rattle.checker_reasons.specs.declared.Told.the-variants.{Nothing, One, Two}
 use Rattle.checker_reasons.specs.Told.{renderings, aboutI, ifI, incompleteI, unknownI}

@@ -14,10 +14,11 @@ use Rattle.records.specs.declared.Where.the-variants.{Nowhere, From}
 use Rattle.reasons.specs.Lists.{insertAll, Holds}
 use Rattle.engine_reads.specs.Reads.{two, cap, atMost}
 use Rattle.engine_state.specs.declared.Cells.{Cells}
-use Rattle.checker_judge.specs.declared.Failure.{Failure}
-use Rattle.checker_judge.specs.declared.Failure.the-variants.{NoFailure, ProhibitedState, GuardViolated, ForbiddenTransition, DeadlineMissed}
+use Rattle.checker_response.specs.declared.Failure.{Failure}
+use Rattle.checker_response.specs.declared.Failure.the-variants.{NoFailure, ProhibitedState, GuardViolated, ForbiddenTransition, DeadlineMissed}
 use Rattle.checker_judge.specs.declared.Reading.{Reading}
-use Rattle.checker_judge.specs.Judging.{failedJ, judgeJ}
+use Rattle.checker_response.specs.Response.{failedJ}
+use Rattle.checker_judge.specs.Judging.{judgeJ}
 use Rattle.checker_reasons.specs.Told.{renderings, unknownI, incompleteI}
 use Rattle.checker_verdict.specs.declared.Counts.{Counts}
 

@@ -1,6 +1,6 @@
 // The verdict on the records of a simulation: each invariant judged, its violation and its reasons gathered.
-use checker_judge::Failure;
 use checker_judge::Reading;
+use checker_response::Failure;
 use engine_reads::two_at;
 use engine_state::Cells;
 use records::Where;
@@ -99,7 +99,7 @@ fn push_violation(v: &mut [u64], n: usize, id: u32, r: Reading) -> usize
     ensures { λ k. ⌜ Pushed (now (v .entry)) n id r (now (v .exit)) k ⌝ }
 {
     let failure = r.failure;
-    if checker_judge::failed(failure) {
+    if checker_response::failed(failure) {
         let w = numbers_of(id, r);
         let list = w.list;
         put(v, n * 8, &list);

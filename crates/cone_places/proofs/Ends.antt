@@ -6,6 +6,7 @@ use Prim.Native.Nat.{ℕ, _+_, _-_, _<_}
 use native.Mathlib.Omega.{arith}
 use native.Mathlib.Nat.{zero-add}
 use lib.ListN.{length, getD}
+use Rattle.engine.proofs.Bounds.{length-each}
 use Rattle.texts.specs.Lists.{keep, each}
 use Rattle.texts.specs.Texts.{Text, memT, sortedT}
 use Rattle.model.specs.Model.{Model}
@@ -22,7 +23,7 @@ use Rattle.lint_tests.specs.declared.Names.{Names}
 use Rattle.lint_places.specs.Numbers.{declared-set}
 use Rattle.lint_places.proofs.Lists.{rising-keep, sorted-rising, mem-keep, mem-at, found-at}
 use Rattle.lint_places.proofs.Sets.{set-members, places-at}
-use Rattle.lint_places.proofs.Stage.{Stage, no-rule, each-at, each-long}
+use Rattle.lint_places.proofs.Stage.{Stage, no-rule, each-at}
 use Rattle.lint_places.proofs.Rules.{es, names, ids}
 use Rattle.lint_places.proofs.ById.{set-is}
 use Rattle.lint_places.proofs.Strangers.{keep-texts, places-below}
@@ -41,7 +42,7 @@ module _ {s : List ℕ} {d : Names} {rs : Section} {ts : List Text} {m : Model} 
   declared t = memT t (names st)
 
   long : length (names st) ≡ length (es st)
-  long = each-long (λ e. e .name) (es st)
+  long = length-each (λ e. e .name) (es st)
 
   entities-listed : keep declared (sortedT l) ≡ each (nameAt (es st)) (members (c .entities))
   unfolding Declares nameAt
@@ -69,7 +70,7 @@ module _ {s : List ℕ} {d : Names} {rs : Section} {ts : List Text} {m : Model} 
   n = length (m .rules)
 
   ids-long : length (ids st) ≡ n
-  ids-long = each-long (λ r. r .id) (m .rules)
+  ids-long = length-each (λ r. r .id) (m .rules)
 
   members-few : members (c .automations) ≡ keep (holds (c .automations)) (places n 0)
   unfolding members

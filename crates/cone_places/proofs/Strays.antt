@@ -10,6 +10,7 @@ use native.Mathlib.Nat.{zero-add}
 use lib.Dec.{eqb, leb}
 use lib.ListN.{length, getD, replicate, length-append}
 use borrow.Author.Tests.{lt-ltb, le-leb, lt-leb, eq-eqb, ne-eqb}
+use Rattle.engine.proofs.Bounds.{length-each}
 use Rattle.texts.specs.Lists.{if_then_else_, any, keep, each, flat}
 use Rattle.texts.specs.Texts.{Text, eqT, memT, sortedT}
 use Rattle.texts.proofs.Ordering.{not-both}
@@ -29,7 +30,7 @@ use Rattle.lint_names.specs.Strange.{strangeZ, undeclaredU}
 use Rattle.lint_places.specs.Numbers.{padded, undeclared}
 use Rattle.lint_places.proofs.Lists.{rising-keep, mem-keep}
 use Rattle.lint_places.proofs.Sets.{Once, places-at}
-use Rattle.lint_places.proofs.Stage.{Stage, each-long, rule-of, rule-start, id-number}
+use Rattle.lint_places.proofs.Stage.{Stage, rule-of, rule-start, id-number}
 use Rattle.lint_places.proofs.Rules.{names, ids}
 use Rattle.lint_places.proofs.ById.{flat-each, each-numbered}
 use Rattle.lint_places.proofs.Cycled.{any-flat}
@@ -290,7 +291,7 @@ module _ {s : List ℕ} {d : Names} {rs : Section} {ts : List Text} {m : Model} 
   u-is = undeclared-packed st ascends once few
 
   same-long : (r : Automation) → length (readers-of r) ≡ length (places-of r)
-  same-long r = each-long _ (undeclared (names st) (reads-of r)) ∙ sym (each-long _ (undeclared (names st) (reads-of r)))
+  same-long r = length-each _ (undeclared (names st) (reads-of r)) ∙ sym (length-each _ (undeclared (names st) (reads-of r)))
 
   all-long : (x : List Automation) → length (flat readers-of x) ≡ length (flat places-of x)
   unfolding flat
@@ -430,7 +431,7 @@ module _ {s : List ℕ} {d : Names} {rs : Section} {ts : List Text} {m : Model} 
       omega (
         arith,
         ap length found-are,
-        each-long (λ t. place-of t ts) (keep und (sortedT l)),
+        length-each (λ t. place-of t ts) (keep und (sortedT l)),
         ap length listed,
         sorted-many taken,
         flat-fewer (holds a) (λ i. undeclared (names st) (reads-of (R i))) n 0,

@@ -14,8 +14,9 @@ use Rattle.engine.specs.Words.{texts-in, entry-words}
 use Rattle.engine.proofs.Lists.{some-eq, none-some}
 use Rattle.checker.specs.Verify as verify
 use Rattle.search_inputs.specs.Inputs.{event-words}
-use Rattle.search_entry.specs.declared.Verification.{Verification}
-use Rattle.search_entry.specs.Answers.{found-as, WitnessSays, Shows, no-verification, Says, Verifies}
+use Rattle.search_answer.specs.declared.Verification.{Verification}
+use Rattle.search_answer.specs.Whole.{no-verification}
+use Rattle.search_entry.specs.Answers.{found-as, WitnessSays, Shows, Says, Verifies}
 use Rattle.cone.specs.Demand.{witness-events, witness-incomplete}
 use Rattle.independence.proofs.Demand.{demand3}
 use Rattle.demand.specs.Returned.{Witness, Clear, VerifyReturned}

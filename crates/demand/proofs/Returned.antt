@@ -17,8 +17,9 @@ use Rattle.engine_places.proofs.Lists.{each-length, each-getD, each-at}
 use Rattle.engine_entry.specs.Answers.{incomplete-of}
 use Rattle.checker.specs.Check.{Violation, violation-of, Check, check}
 use Rattle.checker.specs.Judge.{Failing, prohibited-state}
-use Rattle.checker_entry.specs.declared.CheckResult.{CheckResult}
-use Rattle.checker_entry.specs.Answers.{violation-words, Shows, no-check, Says, Checks}
+use Rattle.checker_result.specs.declared.CheckResult.{CheckResult}
+use Rattle.checker_result.specs.Result.{no-check}
+use Rattle.checker_entry.specs.Answers.{violation-words, Shows, Says, Checks}
 use Rattle.cone.specs.Demand.{Told, told, violation-told, reading-for}
 use Rattle.independence.proofs.Demand.{demand3}
 use Rattle.demand.specs.Returned.{number-at, invariant-at, SameViolation, Complete, CheckReturned}

@@ -14,12 +14,12 @@ use Rattle.reasons.specs.Lists.{listed}
 use Rattle.engine.specs.Memory.{Lent, entries}
 use Rattle.engine.specs.Words.{texts-in, entry-words}
 use Rattle.checker.specs.Check.{Check, check}
-use Rattle.checker_entry.specs.declared.CheckResult.{CheckResult}
-use Rattle.checker_entry.specs.declared.Status.the-variants as status
+use Rattle.checker_result.specs.declared.CheckResult.{CheckResult}
+use Rattle.checker_result.specs.declared.Status.the-variants as status
 use Rattle.checker_entry.specs.Answers.{Checks}
 use Rattle.search_inputs.specs.Inputs.{event-words}
-use Rattle.search_entry.specs.declared.Found.the-variants as found
-use Rattle.search_entry.specs.declared.Verification.{Verification}
+use Rattle.search_answer.specs.declared.Found.the-variants as found
+use Rattle.search_answer.specs.declared.Verification.{Verification}
 use Rattle.search_entry.specs.Answers.{Verifies}
 use Rattle.cone.specs.Alike.{Alike, SameSearch}
 use Rattle.cone.specs.Demand.{SameCheck}

@@ -29,8 +29,9 @@ use Rattle.engine_truth.specs.declared.Effect.the-variants as effect
 use Rattle.engine_truth.specs.declared.Action.{Action}
 use Rattle.engine_state.specs.Machine.{Machine, later}
 use Rattle.engine_state.specs.Changes.{addM, uncertainM, log-actionM, next-stepM}
-use Rattle.engine_steps.specs.Writes.{updateM, setting}
-use Rattle.engine_steps.specs.Runs.{runM, put-runM, nowM, phaseR, finishM}
+use Rattle.engine_writes.specs.Writes.{updateM, setting}
+use Rattle.engine_modes.specs.Modes.{nowM}
+use Rattle.engine_steps.specs.Runs.{runM, put-runM, phaseR, finishM}
 
 unfoldable pub writtenM : List ℕ → Run → Source → (entity value : ℕ) → Machine → Machine
 writtenM x r s e v m = updateM x (setting e v 2 (Of (r .automation)) (From (s .line) (s .column))) m

@@ -2,10 +2,7 @@
 use mathlib.Core.Path.{_≡_, sym, ap, _∙_}
 use mathlib.Core.List.{List}
 use Prim.Native.Nat.{ℕ, _+_, _*_, _/_, _%_, _≤_, _<_}
-use native.Mathlib.Omega.{arith}
-use native.Mathlib.Decide.{decLt}
-use lib.ListN.{length, getD, set}
-use lib.Seq.{getD-set-same, getD-set-other}
+use lib.ListN.{getD}
 use borrow.Author.Tests.{lt-ltb, le-ltb, ne-eqb}
 use Rattle.engine_reads.specs.Reads.{two, four, cap}
 use Rattle.engine_begin.specs.Begin.{event-part, event-from, initial-at, value-from}
@@ -43,10 +40,3 @@ module _ (s l : List ℕ) (n e : ℕ) where
   pub value-out : n ≤ e → 0 ≡ value-from s l n e
   unfolding value-from
   value-out h = rw (le-ltb e n h)
-
--- the words so far, and one more, as a function of the index says
-pub one-more : (f : ℕ → ℕ) (x : List ℕ) (k v : ℕ) → ((j : ℕ) → j < k → getD x j 0 ≡ f j) → k < length x → v ≡ f k → (j : ℕ) → j < k + 1 → getD (set x k v) j 0 ≡ f j
-one-more f x k v g h e j o = elim (decLt j k) [
-  | yes l ↦ getD-set-other x k j v 0 (λ q. absurd (omega arith)) ∙ g j l
-  | no l ↦ let z : j ≡ k = omega arith in ap (λ (y : ℕ). getD (set x k v) y 0) z ∙ getD-set-same x k v 0 h ∙ e ∙ ap f (sym z)
-]

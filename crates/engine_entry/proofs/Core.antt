@@ -44,8 +44,8 @@ use Rattle.engine_begin.proofs.Begins.{start-valued, start-cells-are}
 use Rattle.engine_unsupported.specs.Rows.{RulesAt}
 use Rattle.engine_unsupported.proofs.Agrees.{unsupported-agrees}
 use Rattle.engine_entry.specs.Answers.{Ground, Grounds, incomplete-of}
-use Rattle.engine_entry.specs.Parts.{Few}
-use Rattle.engine_entry.proofs.Laws.{zeros}
+use Rattle.engine_summary.specs.Summaries.{Few}
+use Rattle.engine_summary.proofs.Laws.{zeros}
 use Rattle.engine_entry.proofs.Numbers.{area-numbers}
 
 module _ (f : List ℕ) (i : Index) (m : Model) (acc : accepted f ≡ answer m) (o : Indexed f i m) (bytes : (k : ℕ) → getD f k 0 < 256) (g : Ground) (gr : Grounds f i g) where

@@ -24,8 +24,6 @@ use Rattle.engine.specs.Unsupported.{unsupported}
 use Rattle.engine.specs.Words.{words-in, entry-words, simulate-memory}
 use Rattle.engine.proofs.Memory.{refusals}
 use Rattle.engine_reads.specs.Reads.{atMost}
-use Rattle.engine_run.specs.Run as run
-use Rattle.engine_run.specs.declared.Simulation.{Simulation as Run}
 use Rattle.engine_places.specs.Meaning.{Tabled}
 use Rattle.engine_places.proofs.Accepted.{accepted-lawful}
 use Rattle.engine_places.proofs.Numbers.{most-is}
@@ -34,9 +32,11 @@ use Rattle.engine_table.proofs.Laws as table
 use Rattle.engine_begin.specs.Begin.{EventsOf}
 use Rattle.engine_begin.proofs.Begins.{event-here}
 use Rattle.engine_entry.specs.declared.Notes.{Notes}
-use Rattle.engine_entry.specs.declared.Simulation.{Simulation}
-use Rattle.engine_entry.specs.Answers.{Ground, Grounds, no-notes, NotesSay, no-simulation, Shows, Says, lent, Simulates}
-use Rattle.engine_entry.specs.Parts.{Answered, Ran, RunsAs}
+use Rattle.engine_summary.specs.declared.Simulation.{Simulation}
+use Rattle.engine_summary.specs.Summary.{no-simulation}
+use Rattle.engine_entry.specs.Answers.{Ground, Grounds, no-notes, NotesSay, Shows, Says, lent, Simulates}
+use Rattle.engine_summary.specs.Summaries.{Answered}
+use Rattle.engine_entry.specs.Parts.{Ran, RunsAs}
 use Rattle.engine_entry.proofs.Core.{tb, notes-held}
 use Rattle.engine_entry.proofs.Promise.{records-here, Promise, answers, refuses, promise}
 

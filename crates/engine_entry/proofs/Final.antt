@@ -17,8 +17,8 @@ use Rattle.engine_places.proofs.Truth.{Valued, entities-are}
 use Rattle.engine_places.proofs.Lists.{each-length}
 use Rattle.engine_places.proofs.Words.{text-place}
 use Rattle.engine_entry.specs.Answers.{values-of}
-use Rattle.engine_entry.specs.Parts.{Firsts}
-use Rattle.engine_entry.proofs.Laws.{zeros}
+use Rattle.engine_summary.specs.Summaries.{Firsts}
+use Rattle.engine_summary.proofs.Laws.{zeros}
 
 padded : (p r vs : List ℕ) (k n : ℕ) → n ≤ 32 → length p ≡ n → k ≡ 32 - n →
     ((e : ℕ) → e < n → getD p e 0 ≡ getD vs e 0) → Firsts vs n r → r ≡ p ++ replicate k 0

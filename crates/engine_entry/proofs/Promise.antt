@@ -15,8 +15,6 @@ use Rattle.model.specs.Answer.{Answer, answer, refused}
 use Rattle.model.specs.Model.{Event, Automation, Model}
 use Rattle.model.specs.Validate.{accepted}
 use Rattle.model_index.specs.declared.Index.{Index}
-use Rattle.model_index.specs.declared.Status.the-variants as status
-use Rattle.model_index.specs.Indexed as indexed
 use Rattle.model_index.specs.Indexed.{Indexed}
 use Rattle.engine.specs.Cells.{Cell, initial-cells}
 use Rattle.engine.specs.Records.{Trace, Areas}
@@ -25,7 +23,6 @@ use Rattle.engine.specs.Simulate.{simulated}
 use Rattle.engine.specs.Words.{trace-words, texts-in, words-in}
 use Rattle.engine_reads.specs.Reads.{atMost}
 use Rattle.engine_run.specs.Run.{refusalS}
-use Rattle.engine_run.specs.Run as run
 use Rattle.engine_run.specs.declared.Simulation.{Simulation as Run}
 use Rattle.engine_places.specs.Meaning.{record-of, cells-of, pool-of, Tabled}
 use Rattle.engine.proofs.Lists.{Each}
@@ -35,10 +32,10 @@ use Rattle.engine_places.proofs.Relation.{Worded}
 use Rattle.engine_places.proofs.Simulated.{EventAt}
 use Rattle.engine_places.proofs.Truth.{entities-are}
 use Rattle.engine_places.proofs.Words.{record-area}
-use Rattle.engine_table.proofs.Laws as table
-use Rattle.engine_entry.specs.declared.Simulation.{Simulation}
+use Rattle.engine_summary.specs.declared.Simulation.{Simulation}
 use Rattle.engine_entry.specs.Answers.{Ground, Grounds, incomplete-of, values-of, Shows}
-use Rattle.engine_entry.specs.Parts.{Firsts, Ran}
+use Rattle.engine_summary.specs.Summaries.{Firsts}
+use Rattle.engine_entry.specs.Parts.{Ran}
 use Rattle.engine_entry.proofs.Core.{tb, Done, Outcome, done, full, ran}
 use Rattle.engine_entry.proofs.Final.{values-are}
 

@@ -1,7 +1,7 @@
 -- What the entries answer, by the definitions of crate `engine`: each number of the answer, and each word of the lent areas.
 use Prim.Native.Nat.{ℕ, _-_, _≤_}
 use mathlib.Core.Path.{_≡_}
-use mathlib.Core.Bool.{Bool, false}
+use mathlib.Core.Bool.{Bool}
 use mathlib.Core.List.{List, [], _∷_, _++_}
 use lib.Dec.{eqb}
 use lib.ListN.{length, replicate}
@@ -20,8 +20,8 @@ use Rattle.engine_state.specs.declared.Cells.{Cells}
 use Rattle.engine_table.specs.Table.{TableOf}
 use Rattle.engine_begin.specs.Begin.{CellsOf}
 use Rattle.engine_entry.specs.declared.Notes.{Notes}
-use Rattle.engine_entry.specs.declared.Simulation.{Simulation}
-use Rattle.engine_entry.specs.declared.Summary.{Summary}
+use Rattle.engine_summary.specs.declared.Simulation.{Simulation}
+use Rattle.engine_summary.specs.Summary.{no-simulation}
 
 -- ---- unsupported
 
@@ -56,13 +56,6 @@ pub record Shows (f : List ℕ) (r : Simulation) (s : engine.Simulation) : Type 
   pub unknown : Holds f (s .unknown) (r .unknown) (r .reasons)
   pub why : r .why ≤ 2
   pub incomplete : incomplete-of (r .why) (r .waiting) ≡ s .incomplete
-
-unfoldable pub no-simulation : (number : ℕ) → Simulation
-no-simulation n = record { refused = n; steps = 0; records = 0; horizon = 0; values = replicate 32 0; unknown = 0; reasons = replicate 1500 0; why = 0; waiting = false }
-
--- a summary and its reasons' words
-abbrev pub simulation-of : Summary → (reasons : List ℕ) → Simulation
-simulation-of s w = record { refused = s .refused; steps = s .steps; records = s .records; horizon = s .horizon; values = s .values; unknown = s .unknown; reasons = w; why = s .why; waiting = s .waiting }
 
 abbrev pub Says : (file : List ℕ) → Simulation → Answer engine.Simulation → Type 0
 Says f r (answer s) = Shows f r s

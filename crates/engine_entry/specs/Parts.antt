@@ -1,5 +1,5 @@
 -- What the parts of the entries promise.
-use Prim.Native.Nat.{ℕ, _≤_, _<_}
+use Prim.Native.Nat.{ℕ}
 use mathlib.Core.Path.{_≡_}
 use mathlib.Core.List.{List}
 use lib.ListN.{length, getD}
@@ -12,45 +12,9 @@ use Rattle.engine.specs.Memory.{Lent}
 use Rattle.engine_reads.specs.Reads.{atMost}
 use Rattle.engine_run.specs.Run as run
 use Rattle.engine_run.specs.declared.Simulation.{Simulation as Run}
-use Rattle.engine_entry.specs.declared.Simulation.{Simulation}
-use Rattle.engine_entry.specs.declared.Summary.{Summary}
-use Rattle.engine_entry.specs.Answers.{Ground, no-simulation, simulation-of, Simulates}
-
--- at most 300
-pub record Few (n r : ℕ) : Type 0 where
-  pub most : r ≤ 300
-  pub same : n ≤ 300 → r ≡ n
-
--- the first n of 32 values, then zeros
-pub record Firsts (vs : List ℕ) (n : ℕ) (r : List ℕ) : Type 0 where
-  pub long : length r ≡ 32
-  pub first : (e : ℕ) → e < n → getD r e 0 ≡ getD vs e 0
-  pub rest : (e : ℕ) → n ≤ e → e < 32 → getD r e 0 ≡ 0
-
--- the answer repeats that of the run
-pub record Repeats (s : Run) (n h : ℕ) (u : List ℕ) (r : Simulation) : Type 0 where
-  pub accepted : r .refused ≡ 0
-  pub steps : r .steps ≡ s .steps
-  pub records : r .records ≡ s .records
-  pub horizon : r .horizon ≡ h
-  pub values : Firsts (s .values) n (r .values)
-  pub unknown : r .unknown ≡ s .reasons
-  pub reasons : r .reasons ≡ u
-  pub why : r .why ≡ s .why
-  pub waiting : r .waiting ≡ s .waiting
-
-pub record ShownAs (s : Run) (n h : ℕ) (u : List ℕ) (r : Simulation) : Type 0 where
-  pub done : s .refused ≡ 0 → Repeats s n h u r
-  pub full : (s .refused ≡ 0 → ⊥) → r .refused ≡ s .refused
-
--- whatever the words of its reasons
-abbrev pub Summed : Run → (n h : ℕ) → Summary → Type 0
-Summed s n h r = (u : List ℕ) → ShownAs s n h u (simulation-of r u)
-
--- the answer r of the simulation s: a refusal is nothing but its number
-pub record Answered (s r : Simulation) : Type 0 where
-  pub done : s .refused ≡ 0 → r ≡ s
-  pub full : (s .refused ≡ 0 → ⊥) → r ≡ no-simulation (s .refused)
+use Rattle.engine_summary.specs.declared.Simulation.{Simulation}
+use Rattle.engine_entry.specs.Answers.{Ground, Simulates}
+use Rattle.engine_summary.specs.Summaries.{Few, ShownAs}
 
 -- a run from the ground g with n events, and its answer
 pub record Ran (f : List ℕ) (g : Ground) (events : List ℕ) (n : ℕ) (s : Simulation) (q q' a a' r r' : List ℕ) : Type 0 where

@@ -20,6 +20,7 @@ use Rattle.engine_places.specs.Meaning.{verdict-of, kind-of}
 use Rattle.show.specs.Lines.{escape, quoted, all-lines}
 use Rattle.show.proofs.Laws as show
 use Rattle.engine_lines.specs.Parts.{names-file, details-file, name-of, detail-begins, detail-ends}
+use Rattle.reason_lines.proofs.Laws.{flat-append}
 
 -- ---- a rule for n numbers from i on, shown at each of them
 
@@ -84,11 +85,6 @@ module _ (x : List ℕ) (ts : List Text) where
 
 abbrev Plain : Text → Type 0
 Plain t = flat escape t ≡ t
-
-pub flat-append : {A : Type 0} (g : A → Text) (s t : List A) → flat g (s ++ t) ≡ flat g s ++ flat g t
-unfolding flat
-flat-append g [] t = refl
-flat-append g (a ∷ s) t = rw (flat-append g s t) (sym (append-assoc (g a) (flat g s) (flat g t)))
 
 plain-append : (s t : Text) → Plain s → Plain t → Plain (s ++ t)
 plain-append s t p q = flat-append escape s t ∙ rw (p, q)

@@ -1,4 +1,4 @@
--- What the code takes the lines from: the file's texts by place, and the words of a record's kind.
+-- What the code takes a record's line from: the words of its kind.
 use Prim.Native.Nat.{ℕ, _<_}
 use mathlib.Core.Path.{_≡_}
 use mathlib.Core.List.{List, [], _++_}
@@ -6,22 +6,15 @@ use lib.Dec.{ltb, eqb}
 use lib.ListN.{length, getD}
 use Rattle.texts.specs.Lists.{if_then_else_}
 use Rattle.texts.specs.Texts.{Text, text, decimal}
-use Rattle.texts.specs.Places.{textAt, startFrom, textsFrom}
+use Rattle.texts.specs.Places.{textAt, startFrom}
 use Rattle.reasons.specs.Reasons.{packed}
 use Rattle.records.specs.declared.Record.{Record}
 use Rattle.records.specs.Records.{recorded}
 use Rattle.engine.specs.Truth.{truth-name}
 use Rattle.engine_places.specs.Meaning.{verdict-of, record-of}
 use Rattle.show.specs.Writing.{Written}
+use Rattle.reason_lines.specs.Parts.{texts-of}
 use Rattle.engine_lines.specs.Lines.{record-line}
-
--- the texts of the file f: the table x has their number in its word 9
-unfoldable pub texts-of : (f x : List ℕ) → List Text
-texts-of f x = textsFrom f 6 (getD x 9 0)
-
--- the text at a place
-abbrev pub text-of : (f x : List ℕ) → (place : ℕ) → Text
-text-of f x k = getD (texts-of f x) k []
 
 -- ---- a kind's words, by its number: its name, and what its detail begins with
 

@@ -1,6 +1,8 @@
-// The lines of `unsupported` and `simulate`, written behind the first n bytes of a lent area as the writers of `show` do.
+// The lines of the records of `simulate`, written behind the first n bytes of a lent area as the writers of `show` do.
 // x is the table of the file f (crate `engine_table`); texts are named by their places.
-use reasons::Reason;
+use reason_lines::LINE;
+use reason_lines::at_most;
+use reason_lines::put_place;
 use records::Change;
 use records::Record;
 use records::Rule;
@@ -8,19 +10,18 @@ use records::Where;
 use show::Source;
 ghost use mathlib.Core.Path.{_≡_};
 ghost use mathlib.Core.List.{[], _∷_, _++_};
-ghost use Prim.Native.Nat.{_+_, _*_, _≤_, _<_};
-ghost use lib.ListN.{length, getD, drop};
+ghost use Prim.Native.Nat.{_+_, _*_, _≤_};
+ghost use lib.ListN.{length, getD};
 ghost use Rattle.texts.specs.Texts.{text, decimal};
-ghost use Rattle.reasons.specs.Reasons.{render};
-ghost use Rattle.reasons.specs.Lists.{reason-of};
 ghost use Rattle.engine.specs.Truth.{truth-name};
 ghost use Rattle.engine.specs.Records.{detail};
-ghost use Rattle.engine_reads.specs.Reads.{name, word};
+ghost use Rattle.engine_reads.specs.Reads.{word};
 ghost use Rattle.engine_places.specs.Meaning.{verdict-of, kind-of, rule-of, where-of, change-of, record-of};
 ghost use Rattle.show.specs.Lines.{quoted};
 ghost use Rattle.show.specs.Writing.{Written, Kept};
-ghost use Rattle.engine_lines.specs.Lines.{number-line, text-line, steps-line, records-line, horizon-line, unsupported-line, reason-line, sim-unknown-line, halted, incomplete-of, incomplete-lines, final-line, quoted-if, placed-if, changed, record-line};
-ghost use Rattle.engine_lines.specs.Parts.{texts-of, text-of, name-of, detail-begins, detail-ends, RecordPut};
+ghost use Rattle.engine_lines.specs.Lines.{quoted-if, placed-if, changed, record-line};
+ghost use Rattle.reason_lines.specs.Parts.{texts-of, text-of};
+ghost use Rattle.engine_lines.specs.Parts.{name-of, detail-begins, detail-ends, RecordPut};
 
 // The names of the kinds 0 to 17, and what their details begin with, each behind its length.
 const NAMES: [u8; 135] =
@@ -28,139 +29,6 @@ const NAMES: [u8; 135] =
 
 const DETAILS: [u8; 210] =
     *b"\x00\x00\x00\x19modeled freshness expired\x26cancel all runs; preserve entity state\x0crestart mode\x1bsingle mode already running\x0frun max reached\x0fselected branch\x14observation boundary\x0bconditions \x00\x04run \x04run \x04run \x00\x08timeout \x09continue ";
-
-// ---- a word and a number
-
-fn put_number_line(out: &mut [u8], n: usize, word: &[u8], number: u64) -> usize
-    ensures { λ m. ⌜ Written (number-line (now (word .entry)) number) (now (out .entry)) n (now (out .exit)) m ⌝ }
-{
-    let a = show::put(out, n, word);
-    let b = show::put_byte(out, a, 32);
-    let c = show::put_number(out, b, number);
-    show::put_byte(out, c, 10)
-}
-
-pub fn put_steps(out: &mut [u8], n: usize, steps: u32) -> usize
-    ensures { λ m. ⌜ Written (steps-line steps) (now (out .entry)) n (now (out .exit)) m ⌝ }
-{
-    put_number_line(out, n, b"steps", steps as u64)
-}
-
-pub fn put_records(out: &mut [u8], n: usize, records: usize) -> usize
-    ensures { λ m. ⌜ Written (records-line records) (now (out .entry)) n (now (out .exit)) m ⌝ }
-{
-    put_number_line(out, n, b"records", records as u64)
-}
-
-pub fn put_horizon(out: &mut [u8], n: usize, horizon: u32) -> usize
-    ensures { λ m. ⌜ Written (horizon-line horizon) (now (out .entry)) n (now (out .exit)) m ⌝ }
-{
-    put_number_line(out, n, b"horizon", horizon as u64)
-}
-
-pub fn put_unsupported(out: &mut [u8], n: usize, count: usize) -> usize
-    ensures { λ m. ⌜ Written (unsupported-line count) (now (out .entry)) n (now (out .exit)) m ⌝ }
-{
-    put_number_line(out, n, b"unsupported", count as u64)
-}
-
-// ---- a word and a reason
-
-fn put_reason_line(out: &mut [u8], n: usize, word: &[u8], f: &[u8], r: Reason) -> usize
-    ensures { λ m. ⌜ Written (text-line (now (word .entry)) (render (now (f .entry)) r)) (now (out .entry)) n (now (out .exit)) m ⌝ }
-{
-    let a = show::put(out, n, word);
-    let b = show::put_byte(out, a, 32);
-    let c = show::put_quoted_reason(out, b, f, r);
-    show::put_byte(out, c, 10)
-}
-
-// The reason at i of a list of reasons, for `unsupported` and for `simulate`.
-pub fn put_reason(out: &mut [u8], n: usize, f: &[u8], a: &[u32], i: usize) -> usize
-    requires { ⌜ i * 5 + 5 ≤ length (now a) ⌝ }
-    ensures { λ m. ⌜ Written (reason-line (render (now (f .entry)) (reason-of (drop (i * 5) (now (a .entry)))))) (now (out .entry)) n (now (out .exit)) m ⌝ }
-{
-    let r = reasons::get(a, i);
-    put_reason_line(out, n, b"reason", f, r)
-}
-
-pub fn put_unknown(out: &mut [u8], n: usize, f: &[u8], a: &[u32], i: usize) -> usize
-    requires { ⌜ i * 5 + 5 ≤ length (now a) ⌝ }
-    ensures { λ m. ⌜ Written (sim-unknown-line (render (now (f .entry)) (reason-of (drop (i * 5) (now (a .entry)))))) (now (out .entry)) n (now (out .exit)) m ⌝ }
-{
-    let r = reasons::get(a, i);
-    put_reason_line(out, n, b"sim-unknown", f, r)
-}
-
-// ---- why a simulation is incomplete
-
-fn put_text_line(out: &mut [u8], n: usize, word: &[u8], t: &[u8]) -> usize
-    ensures { λ m. ⌜ Written (text-line (now (word .entry)) (now (t .entry))) (now (out .entry)) n (now (out .exit)) m ⌝ }
-{
-    let a = show::put(out, n, word);
-    let b = show::put_byte(out, a, 32);
-    let c = show::put_quoted(out, b, t);
-    show::put_byte(out, c, 10)
-}
-
-// By the number of its halt.
-fn put_halted(out: &mut [u8], n: usize, why: u32) -> usize
-    ensures { λ m. ⌜ Written (incomplete-lines (halted why)) (now (out .entry)) n (now (out .exit)) m ⌝ }
-{
-    if why == 0 {
-        return n;
-    }
-    if why == 1 {
-        return put_text_line(
-            out,
-            n,
-            b"sim-incomplete",
-            b"trace or queue budget exhausted",
-        );
-    }
-    put_text_line(out, n, b"sim-incomplete", b"step budget exhausted")
-}
-
-// By the number of its halt, and whether runs were left.
-pub fn put_incomplete(out: &mut [u8], n: usize, why: u32, waiting: bool) -> usize
-    ensures { λ m. ⌜ Written (incomplete-lines (incomplete-of why waiting)) (now (out .entry)) n (now (out .exit)) m ⌝ }
-{
-    let m = put_halted(out, n, why);
-    if waiting {
-        return put_text_line(
-            out,
-            m,
-            b"sim-incomplete",
-            b"active or queued runs beyond observation horizon",
-        );
-    }
-    m
-}
-
-// ---- texts by place
-
-// The text at a place, quoted; the empty text for a place past the last.
-fn put_place(out: &mut [u8], n: usize, f: &[u8], x: &[u32; 436], place: u32) -> usize
-    ensures { λ m. ⌜ Written (quoted (text-of (now (f .entry)) (now (x .entry)) place)) (now (out .entry)) n (now (out .exit)) m ⌝ }
-{
-    if x[9] <= place {
-        return show::put(out, n, b"\"\"");
-    }
-    let at = texts::text_start(f, 6, place);
-    show::put_quoted_text(out, n, f, at)
-}
-
-// The value of an entity at the end.
-pub fn put_final(out: &mut [u8], n: usize, f: &[u8], x: &[u32; 436], e: usize, value: u32) -> usize
-    requires { ⌜ e < 32 ⌝ }
-    ensures { λ m. ⌜ Written (final-line (text-of (now (f .entry)) (now (x .entry)) (name (now (x .entry)) e)) (text-of (now (f .entry)) (now (x .entry)) value)) (now (out .entry)) n (now (out .exit)) m ⌝ }
-{
-    let a = show::put(out, n, b"final ");
-    let b = put_place(out, a, f, x, engine_reads::name_of(x, e));
-    let c = show::put_byte(out, b, 32);
-    let d = put_place(out, c, f, x, value);
-    show::put_byte(out, d, 10)
-}
 
 // ---- the parts of a record's line
 
@@ -345,57 +213,6 @@ pub fn put_record(out: &mut [u8], n: usize, f: &[u8], x: &[u32; 436], a: &[u32],
 // ---- printing: lines behind the first n bytes of `out`, which goes to standard output first where a line may not fit.
 // The answer is where the next text goes; whoever printed last flushes. No line is cut if `out` has room for the longest one.
 
-// No line is longer, however its texts are escaped (proofs/Lengths).
-pub const LINE: usize = 4096;
-
-// Which line a reason gets.
-pub enum Word {
-    Reason,
-    SimUnknown,
-}
-
-// n, or the most if it is more.
-fn at_most(n: usize, most: usize) -> usize
-    ensures { λ r. ⌜ r ≤ most ⌝ }
-{
-    if most < n {
-        return most;
-    }
-    n
-}
-
-fn print_reason(out: &mut [u8], n: usize, word: Word, f: &[u8], a: &[u32], i: usize) -> usize
-    requires { ⌜ i * 5 + 5 ≤ length (now a) ⌝ }
-    ensures { λ m. ⌜ Kept (now (out .entry)) n (now (out .exit)) m ⌝ }
-{
-    let m = show::room(out, n, LINE);
-    match word {
-        Word::Reason => put_reason(out, m, f, a, i),
-        Word::SimUnknown => put_unknown(out, m, f, a, i),
-    }
-}
-
-// The first `count` reasons of a list, or as many as it has room for.
-pub fn print_reasons(
-    out: &mut [u8],
-    n: usize,
-    word: Word,
-    f: &[u8],
-    a: &[u32],
-    count: usize,
-) -> usize
-    ensures { λ m. ⌜ Kept (now (out .entry)) n (now (out .exit)) m ⌝ }
-{
-    let many = at_most(count, a.len() / 5);
-    let mut m = n;
-    let mut i: usize = 0;
-    while i < many {
-        m = print_reason(out, m, word, f, a, i);
-        i += 1;
-    }
-    m
-}
-
 fn print_record(out: &mut [u8], n: usize, f: &[u8], x: &[u32; 436], a: &[u32], k: usize) -> usize
     requires { ⌜ k * 13 + 13 ≤ length (now a) ⌝ }
     ensures { λ m. ⌜ Kept (now (out .entry)) n (now (out .exit)) m ⌝ }
@@ -423,33 +240,4 @@ pub fn print_records(
         k += 1;
     }
     m
-}
-
-fn print_final(out: &mut [u8], n: usize, f: &[u8], x: &[u32; 436], e: usize, value: u32) -> usize
-    requires { ⌜ e < 32 ⌝ }
-    ensures { λ m. ⌜ Kept (now (out .entry)) n (now (out .exit)) m ⌝ }
-{
-    let m = show::room(out, n, LINE);
-    put_final(out, m, f, x, e, value)
-}
-
-// The entities' values at the end, by the places of their texts.
-pub fn print_finals(out: &mut [u8], n: usize, f: &[u8], x: &[u32; 436], values: &[u32; 32]) -> usize
-    ensures { λ m. ⌜ Kept (now (out .entry)) n (now (out .exit)) m ⌝ }
-{
-    let many = engine_reads::at_most(x[0], 32);
-    let mut m = n;
-    let mut e: usize = 0;
-    while e < many {
-        m = print_final(out, m, f, x, e, values[e]);
-        e += 1;
-    }
-    m
-}
-
-pub fn print_incomplete(out: &mut [u8], n: usize, why: u32, waiting: bool) -> usize
-    ensures { λ m. ⌜ Kept (now (out .entry)) n (now (out .exit)) m ⌝ }
-{
-    let m = show::room(out, n, LINE);
-    put_incomplete(out, m, why, waiting)
 }

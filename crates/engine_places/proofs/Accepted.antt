@@ -1,13 +1,14 @@
 -- What an accepted file gives for `Tabled`: few parts, short times, checked actions, identifiers that differ, room for reasons.
 -- These are the facts about the model alone; the others are about the table's words.
-use mathlib.Core.Path.{_≡_, refl, ap, _∙_}
+use mathlib.Core.Path.{_≡_, refl, _∙_}
 use mathlib.Core.List.{List, [], _∷_, _++_}
 use mathlib.Core.Bool.{Bool, false, _||_}
-use Prim.Native.Nat.{ℕ, suc, _+_, _*_, _≤_}
+use Prim.Native.Nat.{ℕ, _+_, _*_, _≤_}
 use native.Mathlib.Omega.{arith}
 use lib.ListN.{length, length-append}
 use lib.Dec.{ltb, eqb}
 use borrow.Author.Tests.{ltb-false}
+use Rattle.engine.proofs.Bounds.{length-each}
 use Rattle.texts.specs.Lists.{each, flat}
 use Rattle.texts.specs.Texts.{Text, text, sortedT}
 use Rattle.model.specs.Answer.{answer, Verdict, accept, each-accepted}
@@ -50,18 +51,13 @@ mutual
       ∙ omega
       (arith, length-append (flat of-predicate ps) (action-reasons l), action-many l, branch-many bs, length-append (flat of-predicate ps ++ of-actions l) (of-branches bs), length-append (flat of-predicate ps) (of-actions l))
 
-each-many : {A B : Type 0} (g : A → B) (l : List A) → length (each g l) ≡ length l
-unfolding each
-each-many g [] = refl
-each-many g (x ∷ l) = ap suc (each-many g l)
-
 rule-many : (r : Automation) → length (rule-reasons r) ≡ length (of-rule r)
 unfolding rule-reasons of-rule
 rule-many r =
     let a = r .notes ++ flat of-trigger (r .triggers) ++ flat of-predicate (r .conditions) in
     length-append (each (λ t. r .id ++ text ": " ++ t) a) (action-reasons (r .actions))
     ∙ omega
-    (arith, each-many (λ t. r .id ++ text ": " ++ t) a, action-many (r .actions), length-append a (of-actions (r .actions)))
+    (arith, length-each (λ t. r .id ++ text ": " ++ t) a, action-many (r .actions), length-append a (of-actions (r .actions)))
 
 rules-many : (l : List Automation) → length (flat rule-reasons l) ≡ length (flat of-rule l)
 unfolding flat

@@ -45,9 +45,10 @@ use Rattle.engine_truth.specs.declared.Effect.{Effect as AEffect}
 use Rattle.engine_state.specs.declared.Told.{Told}
 use Rattle.engine_state.specs.Machine.{Machine, later}
 use Rattle.engine_state.specs.Changes.{logM, uncertainM, log-actionM, next-stepM}
-use Rattle.engine_steps.specs.Runs.{no-run, put-runM, nowM, phaseR, finishM}
+use Rattle.engine_modes.specs.Modes.{nowM}
+use Rattle.engine_steps.specs.Runs.{no-run, put-runM, phaseR, finishM}
 use Rattle.engine_actions.specs.Acts as acts
-use Rattle.engine_steps.specs.Writes.{setting}
+use Rattle.engine_writes.specs.Writes.{setting}
 use Rattle.engine_actions.specs.Acts.{writtenM, setM, toggledM, doubtM, flip-fromM, flip-atM, flipM, delayM, unclearM, testedM, condition-asM, conditionM, take-listM, chosenM, chooseM, waitingM, begin-waitM, give-upM, performM}
 use Rattle.engine_places.specs.Meaning.{truth-of, verdict-of, found-trigger, id-at, key-of, kind-of, work-of, item-of, run-of, wait-of, source-of, cells-of, pool-of, Column, Tabled}
 use Rattle.engine_places.specs.Events.{Declared}

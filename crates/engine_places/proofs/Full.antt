@@ -27,11 +27,12 @@ use Rattle.engine_state.specs.declared.Told.{Told}
 use Rattle.engine_state.specs.declared.Setting.{Setting}
 use Rattle.engine_state.specs.Machine.{Machine}
 use Rattle.engine_state.specs.Changes.{addM, logM, add-runM, uncertainM, log-ruleM, log-actionM, log-plainM, log-writeM, next-stepM}
-use Rattle.engine_steps.specs.Writes.{expiryM, changedM}
-use Rattle.engine_steps.specs.Runs.{release-runM, release-atM, releaseM, outM, finish-runM, finishM, wake-phaseM, wake-runM, wake-oneM, begin-runM, begin-nowM, begin-queuedM, begin-laterM, dropM, stop-startM}
-use Rattle.engine_steps.specs.Triggers.{decidedM, carry-withM, carry-outM, admitM, log-triggerM, offer-asM, offerM}
-use Rattle.engine_steps.specs.declared.Decision.{Decision}
-use Rattle.engine_steps.specs.declared.Decision.the-variants.{AlreadyRunning, MaxReached, Start, StopAndStart, WaitInLine}
+use Rattle.engine_writes.specs.Writes.{expiryM, changedM}
+use Rattle.engine_modes.specs.Modes.{begin-runM, begin-nowM, begin-queuedM, begin-laterM, dropM, stop-startM, decidedM, carry-withM, carry-outM}
+use Rattle.engine_steps.specs.Runs.{release-runM, release-atM, releaseM, outM, finish-runM, finishM, wake-phaseM, wake-runM, wake-oneM}
+use Rattle.engine_steps.specs.Triggers.{admitM, log-triggerM, offer-asM, offerM}
+use Rattle.engine_modes.specs.declared.Decision.{Decision}
+use Rattle.engine_modes.specs.declared.Decision.the-variants.{AlreadyRunning, MaxReached, Start, StopAndStart, WaitInLine}
 use Rattle.engine_actions.specs.Acts.{doubtM, unclearM, testedM}
 
 -- the machine is full with the number n

@@ -25,9 +25,10 @@ use Rattle.engine.proofs.Closed.{loop-closed}
 use Rattle.model_walk.proofs.Found.{Case, is-true, is-false, case}
 use Rattle.engine_state.specs.Machine.{Machine, put-now, put-queue}
 use Rattle.engine_process.specs.Process.{processM}
-use Rattle.engine_loop.specs.declared.Next.{Next as ANext}
-use Rattle.engine_loop.specs.declared.Next.the-variants as nexts
-use Rattle.engine_loop.specs.Loop.{next-afterM, nextM, why-nextM, whyM, turn-withM, turnM, Halt, halt, loopM}
+use Rattle.engine_queue.specs.declared.Next.{Next as ANext}
+use Rattle.engine_queue.specs.declared.Next.the-variants as nexts
+use Rattle.engine_queue.specs.Next.{next-afterM, nextM, why-nextM, whyM}
+use Rattle.engine_loop.specs.Loop.{turn-withM, turnM, Halt, halt, loopM}
 use Rattle.engine_places.specs.Meaning.{item-of, record-of, Tabled}
 use Rattle.engine_places.specs.Events.{GoodWork}
 use Rattle.engine_places.proofs.Full.{Stuck}

@@ -22,7 +22,8 @@ use Rattle.engine.specs.Simulate.{Simulation, ended, outcome, unless-full, simu
 use Rattle.engine.proofs.Lists.{Each}
 use Rattle.engine_reads.specs.Reads.{name, entities}
 use Rattle.engine_state.specs.Machine.{Machine}
-use Rattle.engine_loop.specs.Loop.{eventW, begunM, Halt, loopM, closedM}
+use Rattle.engine_queue.specs.Events.{eventW, begunM}
+use Rattle.engine_loop.specs.Loop.{Halt, loopM, closedM}
 use Rattle.engine_places.specs.Meaning.{work-of, record-of, cell-at, cells-from, cells-of, run-of, pool-of, Column, Tabled}
 use Rattle.engine_places.specs.Events.{Among, GoodWork, EventAt}
 use Rattle.engine_places.proofs.Truth.{Valued, entities-are}

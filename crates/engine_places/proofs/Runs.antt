@@ -29,10 +29,10 @@ use Rattle.engine.proofs.Closed.{c-log, c-release, c-begin}
 use Rattle.engine_reads.specs.Reads.{word}
 use Rattle.engine_state.specs.Machine.{Machine, more}
 use Rattle.engine_state.specs.Changes.{log-ruleM}
-use Rattle.engine_steps.specs.Runs.{no-run, runM, put-runM, nowM, releasedR, release-runM, release-atM, releaseM, outM, finish-runM, finishM, newRun, begin-runM, begin-nowM, begin-queuedM, begin-laterM, dropM, stop-startM}
-use Rattle.engine_steps.specs.Triggers.{decideM, decidedM, carry-withM, carry-outM}
-use Rattle.engine_steps.specs.declared.Decision.{Decision}
-use Rattle.engine_steps.specs.declared.Decision.the-variants.{AlreadyRunning, MaxReached, Start, StopAndStart, WaitInLine}
+use Rattle.engine_modes.specs.Modes.{nowM, newRun, begin-runM, begin-nowM, begin-queuedM, begin-laterM, dropM, stop-startM, decideM, decidedM, carry-withM, carry-outM}
+use Rattle.engine_steps.specs.Runs.{no-run, runM, put-runM, releasedR, release-runM, release-atM, releaseM, outM, finish-runM, finishM}
+use Rattle.engine_modes.specs.declared.Decision.{Decision}
+use Rattle.engine_modes.specs.declared.Decision.the-variants.{AlreadyRunning, MaxReached, Start, StopAndStart, WaitInLine}
 use Rattle.engine_places.specs.Meaning.{id-at, key-of, kind-of, run-of, actions-at, pool-of, mode-number, Row, Tabled}
 use Rattle.engine_places.proofs.Numbers.{more-is}
 use Rattle.engine_places.proofs.Checked.{Pass}

@@ -31,8 +31,9 @@ use Rattle.model_walk.proofs.Found.{Case, is-true, is-false, case}
 use Rattle.engine_reads.specs.Reads.{stale, entities}
 use Rattle.engine_state.specs.Machine.{Machine, put-now}
 use Rattle.engine_state.specs.Changes.{addM, logM, log-plainM}
-use Rattle.engine_steps.specs.Writes.{expiryM}
-use Rattle.engine_loop.specs.Loop.{eventW, add-eventM, add-eventsM, expiriesM, add-expiriesM, begunM, Halt, halt, loopM, horizonM, closedM}
+use Rattle.engine_writes.specs.Writes.{expiryM}
+use Rattle.engine_queue.specs.Events.{eventW, add-eventM, add-eventsM, expiriesM, add-expiriesM, begunM}
+use Rattle.engine_loop.specs.Loop.{Halt, halt, loopM, horizonM, closedM}
 use Rattle.engine_places.specs.Meaning.{kind-of, item-of, cell-at, cells-from, cells-of, run-of, pool-of, Tabled}
 use Rattle.engine_places.specs.Events.{Among}
 pub use Rattle.engine_places.specs.Events.{EventAt}

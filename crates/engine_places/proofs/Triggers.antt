@@ -38,7 +38,8 @@ use Rattle.engine_truth.specs.declared.Truth.the-variants.{Yes, No, Unknown}
 use Rattle.engine_state.specs.declared.Move.{Move}
 use Rattle.engine_state.specs.Machine.{Machine}
 use Rattle.engine_state.specs.Changes.{addM, next-stepM}
-use Rattle.engine_steps.specs.Runs.{no-run, runM, put-runM, nowM, phaseR, wake-phaseM, wake-runM, wake-oneM, wake-firstM, wakeM}
+use Rattle.engine_modes.specs.Modes.{nowM}
+use Rattle.engine_steps.specs.Runs.{no-run, runM, put-runM, phaseR, wake-phaseM, wake-runM, wake-oneM, wake-firstM, wakeM}
 use Rattle.engine_steps.specs.Triggers.{admitM, log-triggerM, offer-asM, offerM, offer-firstM, triggerM}
 use Rattle.engine_places.specs.Meaning.{truth-of, verdict-of, found-trigger, id-at, kind-of, run-of, wait-of, Row, Tabled}
 use Rattle.engine_places.proofs.Numbers.{two-is, most-is, source-is}

@@ -36,8 +36,9 @@ use Rattle.engine_truth.specs.Actions.{put-places, topA, actionA}
 use Rattle.engine_state.specs.declared.Move.{Move}
 use Rattle.engine_state.specs.Machine.{Machine, storedC}
 use Rattle.engine_state.specs.Changes.{logM, log-actionM}
-use Rattle.engine_steps.specs.Writes.{cells, move, changedM, setting}
-use Rattle.engine_steps.specs.Runs.{no-run, put-runM, nowM, phaseR, finishM}
+use Rattle.engine_writes.specs.Writes.{cells, move, changedM, setting}
+use Rattle.engine_modes.specs.Modes.{nowM}
+use Rattle.engine_steps.specs.Runs.{no-run, put-runM, phaseR, finishM}
 use Rattle.engine_actions.specs.Acts.{actM, act-nextM, go-on-runM, go-onM, going-phase, goingR, resume-runM, resume-atM, resumeM}
 use Rattle.engine_works.specs.Works.{over-onM, over-endM, wait-overM, time-phaseM, time-runM, time-atM, time-outM, expire-toM, expireM, stale-atM, go-staleM, drop-allM, externalM}
 use Rattle.engine_process.specs.Process.{processM}

@@ -31,7 +31,7 @@ use Rattle.engine_state.specs.declared.Move.{Move}
 use Rattle.engine_state.specs.declared.Setting.{Setting}
 use Rattle.engine_state.specs.Machine.{Machine, later, more, put-cells, raisedC, storedC}
 use Rattle.engine_state.specs.Changes.{saying, addM, logM, log-ruleM, log-actionM, log-plainM, log-writeM, next-stepM}
-use Rattle.engine_steps.specs.Writes.{cells, move, expiryM, changedM, writeM, update-atM, updateM}
+use Rattle.engine_writes.specs.Writes.{cells, move, expiryM, changedM, writeM, update-atM, updateM}
 use Rattle.engine_places.specs.Meaning.{id-at, key-of, work-of, item-of, record-of, rule-of, where-of, source-of, stale-of, cell-at, cells-from, cells-of, run-of, Tabled}
 use Rattle.engine_places.proofs.Numbers.{later-is, more-is}
 use Rattle.engine_places.proofs.Truth.{Sought, here, nowhere, cell-is, cell-named, name-in, put-is, entities-are, Moved}

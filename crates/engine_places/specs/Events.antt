@@ -11,7 +11,7 @@ use Rattle.queue.specs.declared.Work.the-variants as queue
 use Rattle.engine.specs.Each.{Each}
 use Rattle.engine.specs.Records.{Work}
 use Rattle.engine_reads.specs.Reads.{name}
-use Rattle.engine_loop.specs.Loop.{eventW}
+use Rattle.engine_queue.specs.Events.{eventW}
 use Rattle.engine_places.specs.Meaning.{work-of, Tabled}
 
 -- each text stands in the pool

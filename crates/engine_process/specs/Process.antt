@@ -4,7 +4,7 @@ use mathlib.Core.List.{List}
 use Rattle.queue.specs.declared.Work.{Work}
 use Rattle.queue.specs.declared.Work.the-variants as work
 use Rattle.engine_state.specs.Machine.{Machine}
-use Rattle.engine_steps.specs.Writes.{move}
+use Rattle.engine_writes.specs.Writes.{move}
 use Rattle.engine_steps.specs.Triggers.{triggerM}
 use Rattle.engine_actions.specs.Acts.{resumeM}
 use Rattle.engine_works.specs.Works.{time-outM, go-staleM, drop-allM, externalM}

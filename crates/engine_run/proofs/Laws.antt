@@ -21,7 +21,8 @@ use Rattle.engine_state.specs.declared.Cells.{Cells}
 use Rattle.engine_state.specs.declared.State.{State}
 use Rattle.engine_state.specs.Machine.{entire, machine}
 use Rattle.engine_state.specs.Steps.{Held, kept, goes, still, Moves}
-use Rattle.engine_loop.specs.Loop.{Halt, Halts, Ends, Closes, begunM, loopM}
+use Rattle.engine_queue.specs.Events.{begunM}
+use Rattle.engine_loop.specs.Loop.{Halt, Halts, Ends, Closes, loopM}
 use Rattle.engine_loop.specs.declared.Ended.{Ended}
 use Rattle.engine_run.specs.Run.{whollyM, Wholly, start-of, nothing-yet, beginning, refusalS, answerS, answerM, Answers, Simulates}
 use Rattle.engine_run.specs.declared.Simulation.{Simulation}

@@ -14,7 +14,8 @@ use Rattle.engine_state.specs.declared.Cells.{Cells}
 use Rattle.engine_state.specs.declared.State.{State}
 use Rattle.engine_state.specs.Machine.{Machine, Content, entire, machine}
 use Rattle.engine_state.specs.Steps.{Held}
-use Rattle.engine_loop.specs.Loop.{Halt, Halts, begunM, loopM, closedM}
+use Rattle.engine_queue.specs.Events.{begunM}
+use Rattle.engine_loop.specs.Loop.{Halt, Halts, loopM, closedM}
 use Rattle.engine_loop.specs.declared.Ended.{Ended}
 use Rattle.engine_run.specs.declared.Simulation.{Simulation}
 

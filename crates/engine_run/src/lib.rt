@@ -26,7 +26,7 @@ fn run_all(
     requires { ⌜ (count * 4 ≤ length (now events)) × Fits st (now q) (now a) (now r) (now u) ⌝ }
     ensures { λ e. ⌜ Wholly (now (f .entry)) (now (x .entry)) (now (events .entry)) count st e (now (q .entry)) (now (q .exit)) (now (a .entry)) (now (a .exit)) (now (r .entry)) (now (r .exit)) (now (u .entry)) (now (u .exit)) (now (values .entry)) (now (values .exit)) (now (versions .entry)) (now (versions .exit)) (now (sequences .entry)) (now (sequences .exit)) ⌝ }
 {
-    let s = engine_loop::begun(x, events, count, q, a, versions, st);
+    let s = engine_queue::begun(x, events, count, q, a, versions, st);
     let d = engine_loop::run_loop(f, x, q, a, r, u, values, versions, sequences, s);
     engine_loop::closed(x, a, d)
 }

@@ -1,49 +1,41 @@
 -- Runs in their area, and the definitions by cases.
-use Prim.Native.Nat.{ℕ, _+_, _-_, _*_, _/_, _≤_, _<_}
+use Prim.Native.Nat.{ℕ, _+_, _-_, _*_, _≤_, _<_}
 use mathlib.Core.Path.{_≡_, refl, sym, _∙_, ap, subst}
 use mathlib.Core.Bool.{Bool, true, false}
 use mathlib.Core.List.{List, _++_}
 use lib.ListN.{length, getD, take, drop, set, length-set, length-append, length-drop}
 use lib.Seq.{length-take-le}
-use borrow.Author.Tests.{eq-eqb, ne-eqb, lt-ltb, le-ltb}
+use borrow.Author.Tests.{eq-eqb, ne-eqb}
 use native.Mathlib.Numerals.{add-one}
 use native.Mathlib.Omega.{arith}
 use Rattle.areas.specs.Areas.{area}
-use Rattle.runs.specs.Lists.{placeFrom, tally, keep}
-use Rattle.runs.specs.Runs.{runWords, runAt, whole, other, Sought, Counted, Replaced, Removed, Dropped}
+use Rattle.runs.specs.Lists.{placeFrom}
+use Rattle.runs.specs.Runs.{runWords, runAt, whole, Sought, Replaced, Removed}
 use Rattle.runs.proofs.Laws as runs
 use Rattle.runs.specs.declared.Run.{Run}
 use Rattle.runs.specs.declared.Wait.{Wait}
 use Rattle.runs.specs.declared.Phase.the-variants.{Going, Waiting}
 use Rattle.runs.specs.declared.Found.{Found}
 use Rattle.reasons.specs.declared.Reason.{Reason}
-use Rattle.queue.specs.declared.Work.the-variants.{Stale}
-use Rattle.engine_reads.specs.Reads.{two, word, name, stale, entityOf, rules, atMost, aboutRule}
-use Rattle.engine_state.specs.Changes.{addM, uncertainM}
+use Rattle.engine_reads.specs.Reads.{two, word, rules, atMost, aboutRule}
+use Rattle.engine_state.specs.Changes.{uncertainM}
 use Rattle.engine_truth.specs.Truths.{matchesT, anyT, allT}
 use Rattle.engine_truth.specs.declared.Truth.{Truth}
 use Rattle.engine_truth.specs.declared.Truth.the-variants.{Yes, Unknown}
 use Rattle.engine_truth.specs.declared.Judged.{Judged}
 use Rattle.engine_state.specs.declared.State.{State}
 use Rattle.engine_state.specs.declared.Move.{Move}
-use Rattle.engine_state.specs.declared.Setting.{Setting}
-use Rattle.engine_state.specs.Machine.{Machine, Entire, entire, machine, more, later, with-active}
-use Rattle.engine_state.specs.Steps.{Running, Lent, kept, goes, Listing, still, Steps}
+use Rattle.engine_state.specs.Machine.{Machine, Entire, entire, machine, with-active}
+use Rattle.engine_state.specs.Steps.{Lent, kept, goes, Listing, still, Steps, Moves}
 use Rattle.engine_state.proofs.Laws as states
-use Rattle.engine_steps.specs.Writes.{expiryM, writeM, update-atM, updateM}
-use Rattle.engine_steps.specs.Runs.{no-run, runM, put-runM, nowM, phaseR, outM, wake-phaseM, wake-runM, wake-oneM, wake-firstM, wakeM, newRun, begin-runM, begin-nowM, begin-queuedM, begin-laterM, dropM}
-use Rattle.engine_steps.specs.Triggers.{decideM, decidedM, carry-withM, carry-outM, admitM, offer-asM, offerM, offer-firstM, triggerM}
-use Rattle.engine_steps.specs.declared.Decision.{Decision}
+use Rattle.engine_modes.specs.Modes.{nowM, carry-outM}
+use Rattle.engine_modes.proofs.Laws as modes
+use Rattle.engine_steps.specs.Runs.{no-run, runM, put-runM, phaseR, outM, wake-phaseM, wake-runM, wake-oneM, wake-firstM, wakeM}
+use Rattle.engine_steps.specs.Triggers.{admitM, offer-asM, offerM, offer-firstM, triggerM}
 
 -- ---- changes of the run area
 
-abbrev active : ℕ → Entire → Entire
-active n st = record { now = st .now; items = st .items; first = st .first; records = st .records; active = n; reasons = st .reasons; made = st .made; full = st .full; sequences = st .sequences; cells = st .cells }
-
 module _ (st : Entire) (r b : List ℕ) (h : st .active * 28 ≤ length r) (same : length b ≡ length r) where
-  held-runs : (n size : ℕ) (l l' : List Run) → Running r (st .active) size l → n ≡ length l' → b ≡ area runWords (length r) l' → Running b n size l'
-  held-runs n size l l' old many is = record { room = ap (λ i. i / 28) same ∙ old .room; many = many; is = is ∙ ap (λ i. area runWords i l') (sym same) }
-
   pub replaced : (k : ℕ) (x y : Run) → Replaced r k y b → y ≡ x → k < st .active → Steps (λ c. put-runM k x (machine st c)) st st kept kept (goes r b) still
   replaced k x y rep e lt = record {
     queue = refl;
@@ -53,7 +45,7 @@ module _ (st : Entire) (r b : List ℕ) (h : st .active * 28 ≤ length r) (same
     does = λ f q a _ u c held.
         record {
           content = states.k-runs (set (c .runs) k x) c;
-          held = record { queue = held .queue; records = held .records; runs = held-runs (st .active) (c .runSize) (c .runs) (set (c .runs) k x) (held .runs) (held .runs .many ∙ sym (length-set (c .runs) k x)) (rep .is (st .active) (c .runs) (sym (held .runs .many), held .runs .is) lt ∙ ap (λ z. area runWords (length r) (set (c .runs) k z)) e); reasons = held .reasons };
+          held = record { queue = held .queue; records = held .records; runs = modes.held-runs r b (st .active) same (st .active) (c .runSize) (c .runs) (set (c .runs) k x) (held .runs) (held .runs .many ∙ sym (length-set (c .runs) k x)) (rep .is (st .active) (c .runs) (sym (held .runs .many), held .runs .is) lt ∙ ap (λ z. area runWords (length r) (set (c .runs) k z)) e); reasons = held .reasons };
           is = refl;
         };
   }
@@ -61,7 +53,7 @@ module _ (st : Entire) (r b : List ℕ) (h : st .active * 28 ≤ length r) (same
   out-length : (l : List Run) (k : ℕ) → k < length l → length (take k l ++ drop (k + 1) l) ≡ length l - 1
   out-length l k g = length-append (take k l) (drop (k + 1) l) ∙ omega (arith, length-take-le k l (omega arith), length-drop (k + 1) l)
 
-  removed-from : (k : ℕ) → Removed r (st .active) k b → k < st .active → Steps (λ c. outM k (machine st c)) st (active (st .active - 1) st) kept kept (goes r b) still
+  removed-from : (k : ℕ) → Removed r (st .active) k b → k < st .active → Steps (λ c. outM k (machine st c)) st (modes.active (st .active - 1) st) kept kept (goes r b) still
   unfolding outM
   removed-from k rem lt = record {
     queue = refl;
@@ -73,35 +65,14 @@ module _ (st : Entire) (r b : List ℕ) (h : st .active * 28 ≤ length r) (same
         let l' = take k (c .runs) ++ drop (k + 1) (c .runs) in
         record {
           content = states.k-runs l' c;
-          held = record { queue = held .queue; records = held .records; runs = held-runs (st .active - 1) (c .runSize) (c .runs) l' old (ap (λ n. n - 1) (old .many) ∙ sym (out-length (c .runs) k (subst (λ n. k < n) (old .many) lt))) (rem .is (c .runs) (sym (old .many), old .is)); reasons = held .reasons };
-          is = refl;
-        };
-  }
-
-  dropped-from : (i left : ℕ) → Dropped i r (st .active) b left → Steps (λ c. dropM i (machine st c)) st (active left st) kept kept (goes r b) still
-  unfolding dropM
-  dropped-from i left d = record {
-    queue = refl;
-    records = refl;
-    runs = (same, omega (arith, d .room, same));
-    reasons = refl;
-    does = λ f q a _ u c held.
-        let old = held .runs in
-        record {
-          content = states.k-runs (keep (other i) (c .runs)) c;
-          held = record { queue = held .queue; records = held .records; runs = held-runs left (c .runSize) (c .runs) (keep (other i) (c .runs)) old (d .many (c .runs) (sym (old .many), old .is)) (d .is (c .runs) (sym (old .many), old .is)); reasons = held .reasons };
+          held = record { queue = held .queue; records = held .records; runs = modes.held-runs r b (st .active) same (st .active - 1) (c .runSize) (c .runs) l' old (ap (λ n. n - 1) (old .many) ∙ sym (out-length (c .runs) k (subst (λ n. k < n) (old .many) lt))) (rem .is (c .runs) (sym (old .many), old .is)); reasons = held .reasons };
           is = refl;
         };
   }
 
 module _ (st : State) (r b : List ℕ) (h : st .active * 28 ≤ length r) (same : length b ≡ length r) (s : State) where
-  pub removed : (k : ℕ) → Removed r (st .active) k b → s ≡ with-active (st .active - 1) st → k < st .active → {v n c : List ℕ} →
-      Steps (λ k'. outM k (machine (entire st v n c) k')) (entire st v n c) (entire s v n c) kept kept (goes r b) still
-  removed k rem e lt {v} {n} {c} = subst (λ z. Steps (λ k'. outM k (machine (entire st v n c) k')) (entire st v n c) (entire z v n c) kept kept (goes r b) still) (sym e) (removed-from (entire st v n c) r b h same k rem lt)
-
-  pub dropped : (i left : ℕ) → Dropped i r (st .active) b left → s ≡ with-active left st → {v n c : List ℕ} →
-      Steps (λ k. dropM i (machine (entire st v n c) k)) (entire st v n c) (entire s v n c) kept kept (goes r b) still
-  dropped i left d e {v} {n} {c} = subst (λ z. Steps (λ k. dropM i (machine (entire st v n c) k)) (entire st v n c) (entire z v n c) kept kept (goes r b) still) (sym e) (dropped-from (entire st v n c) r b h same i left d)
+  pub removed : (k : ℕ) → Removed r (st .active) k b → s ≡ with-active (st .active - 1) st → k < st .active → Moves (outM k) st s kept kept (goes r b) still kept kept kept
+  removed k rem e lt = states.moves (λ v n c. subst (λ z. Steps (λ k'. outM k (machine (entire st v n c) k')) (entire st v n c) (entire z v n c) kept kept (goes r b) still) (sym e) (removed-from (entire st v n c) r b h same k rem lt))
 
 -- ---- what is read of the run area is what the machine holds
 
@@ -115,26 +86,12 @@ module _ {st s : Entire} {Q A : Lent} {r b : List ℕ} {U : Listing} where
   with-found F {p} sought e d = states.knowing (λ c. F (placeFrom p 0 (c .runs)) (machine st c)) d (λ f q a _ u c held.
       ap (λ z. F z (machine st c)) (sym e ∙ sought .is (c .runs) (sym (held .runs .many), held .runs .is)))
 
-  pub with-count : (F : ℕ → Machine → Machine) {p : Run → Bool} {n : ℕ} → Counted p r (st .active) n → Steps (λ c. F n (machine st c)) st s Q A (goes r b) U → Steps (λ c. F (tally p (c .runs)) (machine st c)) st s Q A (goes r b) U
-  with-count F {p} counted d = states.knowing (λ c. F (tally p (c .runs)) (machine st c)) d (λ f q a _ u c held.
-      ap (λ z. F z (machine st c)) (counted .is (c .runs) (sym (held .runs .many), held .runs .is)))
+module _ {st s : State} {Q A : Lent} {r b : List ℕ} {U : Listing} {L N C : Lent} where
+  pub ran : (F : Run → Machine → Machine) {k : ℕ} {x : Run} → x ≡ runAt r k → k < st .active → Moves (F x) st s Q A (goes r b) U L N C → Moves (λ m. F (runM k m) m) st s Q A (goes r b) U L N C
+  ran F e lt d = states.moves (λ v n c. with-run F e lt (d .does v n c))
 
--- ---- writes
-
-pub expiry-goes : (x : List ℕ) (e t first second name' version : ℕ) (m : Machine) → t ≡ stale x e → (t ≡ 4294967295 → ⊥) → first ≡ later (m .now) t → second ≡ later first 1 → name' ≡ name x e → version ≡ getD (m .versions) e 0 →
-    addM second (Stale name' version) m ≡ expiryM x e m
-unfolding expiryM
-expiry-goes x e t first second name' version m et h ef es en ev = rw (← et, ne-eqb t 4294967295 h, ← ef, ← es, ← en, ← ev)
-
-module _ (x : List ℕ) (w : Setting) (e : ℕ) (m : Machine) (is : e ≡ entityOf x (w .entity)) where
-  pub update-none : 31 < e → m ≡ updateM x w m
-  unfolding updateM update-atM
-  update-none h = rw (← is, lt-ltb 31 e h)
-
-  pub update-goes : (y : ℕ) → e ≤ 31 → y ≡ more (getD (m .versions) e 0) →
-      writeM x w e (getD (m .values) e 0) (record { values = set (m .values) e (w .value); versions = set (m .versions) e y }) m ≡ updateM x w m
-  unfolding updateM update-atM
-  update-goes y h ey = rw (← is, le-ltb 31 e h) (ap (λ z. writeM x w e (getD (m .values) e 0) (record { values = set (m .values) e (w .value); versions = set (m .versions) e z }) m) ey)
+  pub found : (F : Found → Machine → Machine) {p : Run → Bool} {x y : Found} → Sought p r (st .active) x → x ≡ y → Moves (F y) st s Q A (goes r b) U L N C → Moves (λ m. F (placeFrom p 0 (m .runs)) m) st s Q A (goes r b) U L N C
+  found F sought e d = states.moves (λ v n c. with-found F sought e (d .does v n c))
 
 -- ---- runs that wake
 
@@ -165,21 +122,7 @@ pub wake-all : (f : List ℕ) (v : Move) (k : ℕ) {st s : Entire} {q q' r r' : 
 unfolding wakeM
 wake-all f v k {st} e d = states.knowing (λ c. wake-firstM f v (length (c .runs)) (machine st c)) d (λ _ q a _ u c held. ap (λ n. wake-firstM f v n (machine st c)) (e ∙ held .runs .many))
 
--- ---- runs that begin
-
-pub begin-now-is : (f x : List ℕ) (i : ℕ) (r : Run) (m : Machine) → r ≡ newRun f x i false (m .made) (m .sequences) → begin-runM i r m ≡ begin-nowM f x i m
-unfolding begin-nowM
-begin-now-is f x i r m e = ap (λ z. begin-runM i z m) e
-
-pub begin-later-is : (f x : List ℕ) (i : ℕ) (r : Run) (m : Machine) → r ≡ newRun f x i true (m .made) (m .sequences) → begin-queuedM i r m ≡ begin-laterM f x i m
-unfolding begin-laterM
-begin-later-is f x i r m e = ap (λ z. begin-queuedM i z m) e
-
 -- ---- triggers
-
-pub carry-is : (f x : List ℕ) (i n w v : ℕ) (d g : Decision) (m : Machine) → d ≡ g → d ≡ decideM w v n → w ≡ word x i 1 → v ≡ word x i 2 → decidedM f x i g m ≡ carry-withM f x i n m
-unfolding carry-withM
-carry-is f x i n w v d g m e is ew ev = ap (λ z. decidedM f x i z m) (sym e ∙ is ∙ ap (λ z. decideM z v n) ew ∙ ap (λ z. decideM (word x i 1) z n) ev)
 
 pub admit-is : (f x : List ℕ) (i : ℕ) (t g : Truth) (m : Machine) → t ≡ g → admitM f x i g m ≡ admitM f x i t m
 admit-is f x i t g m e = ap (λ z. admitM f x i z m) (sym e)

@@ -1,22 +1,21 @@
--- Runs that end, wake and begin. A run is read back with just 17 places.
+-- Runs that end and wake. A run is read back with just 17 places.
 use Prim.Native.Nat.{ℕ, zero, suc, _+_}
-use mathlib.Core.Bool.{Bool, true, false}
+use mathlib.Core.Bool.{false}
 use mathlib.Core.List.{List, [], _++_}
-use lib.ListN.{length, getD, take, drop, set, replicate}
+use lib.ListN.{length, getD, take, drop, set}
 use Rattle.texts.specs.Lists.{if_then_else_}
-use Rattle.runs.specs.Lists.{placeFrom, keep}
-use Rattle.runs.specs.Runs.{whole, inLine, other}
+use Rattle.runs.specs.Lists.{placeFrom}
+use Rattle.runs.specs.Runs.{whole, inLine}
 use Rattle.runs.specs.declared.Run.{Run}
 use Rattle.runs.specs.declared.Phase.{Phase}
 use Rattle.runs.specs.declared.Phase.the-variants.{Going, Waiting}
 use Rattle.runs.specs.declared.Found.{Found}
 use Rattle.runs.specs.declared.Found.the-variants.{At, Nothing}
-use Rattle.engine_reads.specs.Reads.{word}
 use Rattle.engine_truth.specs.Truths.{matchesT}
-use Rattle.engine_truth.specs.Actions.{listA}
 use Rattle.engine_state.specs.declared.Move.{Move}
-use Rattle.engine_state.specs.Machine.{Machine, more, put-runs}
-use Rattle.engine_state.specs.Changes.{log-ruleM, add-runM, next-stepM}
+use Rattle.engine_state.specs.Machine.{Machine, put-runs}
+use Rattle.engine_state.specs.Changes.{log-ruleM}
+use Rattle.engine_modes.specs.Modes.{nowM}
 
 abbrev pub no-run : Run
 no-run = record { automation = 0; sequence = 0; number = 0; queued = false; phase = Going; depth = 0; places = [] }
@@ -27,10 +26,6 @@ runM k m = whole (getD (m .runs) k no-run)
 
 abbrev pub put-runM : (k : ℕ) → Run → Machine → Machine
 put-runM k r m = put-runs (set (m .runs) k r) m
-
--- the run goes on at once
-abbrev pub nowM : Run → Machine → Machine
-nowM r m = next-stepM r (m .now) m
 
 abbrev pub releasedR : Run → Run
 releasedR r = record { automation = r .automation; sequence = r .sequence; number = r .number; queued = false; phase = r .phase; depth = r .depth; places = r .places }
@@ -79,28 +74,3 @@ wake-firstM f v (suc k) m = wake-oneM f v k (wake-firstM f v k m)
 
 unfoldable pub wakeM : List ℕ → Move → Machine → Machine
 wakeM f v m = wake-firstM f v (length (m .runs)) m
-
--- ---- runs that begin
-
-unfoldable pub newRun : (f x : List ℕ) → (i : ℕ) → Bool → (made : ℕ) → (sequences : List ℕ) → Run
-newRun f x i later made sequences =
-    listA f (record { automation = i; sequence = getD sequences i 0; number = more made; queued = later; phase = Going; depth = 0; places = replicate 17 0 }) (word x i 5)
-
-unfoldable pub begin-runM : (i : ℕ) → Run → Machine → Machine
-begin-runM i r m = nowM r (log-ruleM 12 (r .number) (r .automation) (add-runM i r m))
-
-unfoldable pub begin-nowM : (f x : List ℕ) → (i : ℕ) → Machine → Machine
-begin-nowM f x i m = begin-runM i (newRun f x i false (m .made) (m .sequences)) m
-
-unfoldable pub begin-queuedM : (i : ℕ) → Run → Machine → Machine
-begin-queuedM i r m = log-ruleM 13 (r .number) (r .automation) (add-runM i r m)
-
-unfoldable pub begin-laterM : (f x : List ℕ) → (i : ℕ) → Machine → Machine
-begin-laterM f x i m = begin-queuedM i (newRun f x i true (m .made) (m .sequences)) m
-
--- the automation's runs go
-unfoldable pub dropM : (automation : ℕ) → Machine → Machine
-dropM i m = put-runs (keep (other i) (m .runs)) m
-
-unfoldable pub stop-startM : (f x : List ℕ) → (i : ℕ) → Machine → Machine
-stop-startM f x i m = begin-nowM f x i (log-ruleM 5 0 i (dropM i m))

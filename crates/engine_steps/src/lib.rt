@@ -1,17 +1,12 @@
-// Steps of a simulation: writes, runs that end and wake, runs that begin, and what a change sets off.
-use engine_reads::name_of;
+// Steps of a simulation: runs that end and wake, and what a change sets off.
 use engine_reads::rule_word;
 use engine_state::Move;
-use engine_state::Setting;
 use engine_state::State;
 use engine_state::Told;
-use engine_state::add;
-use engine_state::after;
 use engine_state::log;
 use engine_state::log_rule;
 use engine_state::next_step;
 use engine_truth::Truth;
-use queue::Work;
 use records::Change;
 use records::Rule;
 use records::Where;
@@ -19,79 +14,11 @@ use runs::Found;
 use runs::Phase;
 use runs::Run;
 ghost use mathlib.Core.Path.{_≡_};
-ghost use Prim.Native.Nat.{_+_, _*_, _≤_, _<_};
+ghost use Prim.Native.Nat.{_*_, _≤_, _<_};
 ghost use lib.ListN.{length};
-ghost use Rattle.engine_state.specs.Steps.{Moves, Does, goes, kept, told, still, Fits-q, Fits-qa, Fits-qr, Fits-ar, Fits-qar, Fits};
-ghost use Rattle.engine_steps.specs.Writes.{expiryM, changedM, updateM};
-ghost use Rattle.engine_steps.specs.Runs.{releasedR, phaseR, releaseM, finishM, wake-oneM, wakeM, newRun, begin-nowM, begin-laterM, stop-startM};
-ghost use Rattle.engine_steps.specs.Triggers.{decideM, carry-outM, admitM, log-triggerM, offerM, triggerM};
-
-// ---- writes
-
-// The entity's value will be stale.
-pub fn expiry(x: &[u32; 436], q: &mut [u32], versions: &[u32; 32], st: State, e: usize) -> State
-    requires { ⌜ (e < 32) × Fits-q st (now q) ⌝ }
-    ensures { λ r. ⌜ Moves (expiryM (now (x .entry)) e) st r (goes (now (q .entry)) (now (q .exit))) kept kept still kept (goes (now (versions .entry)) (now (versions .entry))) kept ⌝ }
-{
-    let ttl = engine_reads::stale_of(x, e);
-    if ttl == 4294967295 {
-        return st;
-    }
-    let version = versions[e];
-    let entity = name_of(x, e);
-    let second = after(after(st.now, ttl), 1);
-    add(q, st, second, Work::Stale { entity, version })
-}
-
-// Word of a change goes out, if there is one.
-pub fn changed(q: &mut [u32], st: State, m: Move) -> State
-    requires { ⌜ Fits-q st (now q) ⌝ }
-    ensures { λ r. ⌜ Does (changedM m) st r (goes (now (q .entry)) (now (q .exit))) kept kept still ⌝ }
-{
-    if m.from == m.to {
-        return st;
-    }
-    add(
-        q,
-        st,
-        st.now,
-        Work::Changed {
-            entity: m.entity,
-            from: m.from,
-            to: m.to,
-        },
-    )
-}
-
-// A write, and what follows from it.
-pub fn update(
-    x: &[u32; 436],
-    q: &mut [u32],
-    a: &mut [u32],
-    values: &mut [u32; 32],
-    versions: &mut [u32; 32],
-    st: State,
-    w: Setting,
-) -> State
-    requires { ⌜ Fits-qa st (now q) (now a) ⌝ }
-    ensures { λ r. ⌜ Moves (updateM (now (x .entry)) w) st r (goes (now (q .entry)) (now (q .exit))) (goes (now (a .entry)) (now (a .exit))) kept still (goes (now (values .entry)) (now (values .exit))) (goes (now (versions .entry)) (now (versions .exit))) kept ⌝ }
-{
-    let e = engine_reads::entity_of(x, w.entity);
-    if 31 < e {
-        return st;
-    }
-    let from = values[e];
-    let m = Move {
-        entity: w.entity,
-        from,
-        to: w.value,
-    };
-    values[e] = w.value;
-    versions[e] = engine_state::more_than(versions[e]);
-    let s1 = expiry(x, q, versions, st, e);
-    let s2 = engine_state::log_write(a, s1, w, m);
-    changed(q, s2, m)
-}
+ghost use Rattle.engine_state.specs.Steps.{Moves, Does, goes, kept, told, still, Fits-qr, Fits-qar, Fits};
+ghost use Rattle.engine_steps.specs.Runs.{releasedR, phaseR, releaseM, finishM, wake-oneM, wakeM};
+ghost use Rattle.engine_steps.specs.Triggers.{admitM, log-triggerM, offerM, triggerM};
 
 // ---- runs
 
@@ -179,141 +106,6 @@ fn wake(f: &[u8], q: &mut [u32], r: &mut [u32], st: State, m: Move) -> State
     s
 }
 
-// ---- runs that begin
-
-// A run of the i-th automation, where so many runs were made.
-fn new_run(f: &[u8], x: &[u32; 436], sequences: &[u32; 32], made: u32, i: usize, later: bool) -> Run
-    requires { ⌜ i < 32 ⌝ }
-    ensures { λ r. ⌜ r ≡ newRun (now (f .entry)) (now (x .entry)) i later made (now (sequences .entry)) ⌝ }
-{
-    let sequence = sequences[i];
-    let number = engine_state::more_than(made);
-    let run = Run {
-        automation: i as u32,
-        sequence,
-        number,
-        queued: later,
-        phase: Phase::Going,
-        depth: 0,
-        places: [0u32; 17],
-    };
-    engine_truth::with_list(f, run, rule_word(x, i, 5))
-}
-
-fn begin_now(
-    f: &[u8],
-    x: &[u32; 436],
-    q: &mut [u32],
-    a: &mut [u32],
-    r: &mut [u32],
-    sequences: &mut [u32; 32],
-    st: State,
-    i: usize,
-) -> State
-    requires { ⌜ (i < 32) × Fits-qar st (now q) (now a) (now r) ⌝ }
-    ensures { λ s. ⌜ Moves (begin-nowM (now (f .entry)) (now (x .entry)) i) st s (goes (now (q .entry)) (now (q .exit))) (goes (now (a .entry)) (now (a .exit))) (goes (now (r .entry)) (now (r .exit))) still kept kept (goes (now (sequences .entry)) (now (sequences .exit))) ⌝ }
-{
-    let run = new_run(f, x, sequences, st.made, i, false);
-    let s1 = engine_state::add_run(r, sequences, st, i, run);
-    let s2 = log_rule(a, s1, 12, run.number, run.automation);
-    next_step(q, s2, run, s2.now)
-}
-
-fn begin_later(
-    f: &[u8],
-    x: &[u32; 436],
-    a: &mut [u32],
-    r: &mut [u32],
-    sequences: &mut [u32; 32],
-    st: State,
-    i: usize,
-) -> State
-    requires { ⌜ (i < 32) × Fits-ar st (now a) (now r) ⌝ }
-    ensures { λ s. ⌜ Moves (begin-laterM (now (f .entry)) (now (x .entry)) i) st s kept (goes (now (a .entry)) (now (a .exit))) (goes (now (r .entry)) (now (r .exit))) still kept kept (goes (now (sequences .entry)) (now (sequences .exit))) ⌝ }
-{
-    let run = new_run(f, x, sequences, st.made, i, true);
-    let s1 = engine_state::add_run(r, sequences, st, i, run);
-    log_rule(a, s1, 13, run.number, run.automation)
-}
-
-pub enum Decision {
-    AlreadyRunning,
-    MaxReached,
-    Start,
-    StopAndStart,
-    WaitInLine,
-}
-
-// Modes: 0 single, 1 restart, 2 queued, 3 parallel.
-fn decide(mode: u32, max: u32, running: usize) -> Decision
-    ensures { λ r. ⌜ r ≡ decideM mode max running ⌝ }
-{
-    if mode < 2 {
-        if running == 0 {
-            return Decision::Start;
-        }
-        if mode == 0 {
-            return Decision::AlreadyRunning;
-        }
-        return Decision::StopAndStart;
-    }
-    if max as usize <= running {
-        return Decision::MaxReached;
-    }
-    if mode == 3 {
-        return Decision::Start;
-    }
-    if running == 0 {
-        return Decision::Start;
-    }
-    Decision::WaitInLine
-}
-
-// The automation's runs are dropped, and one begins.
-fn stop_and_start(
-    f: &[u8],
-    x: &[u32; 436],
-    q: &mut [u32],
-    a: &mut [u32],
-    r: &mut [u32],
-    sequences: &mut [u32; 32],
-    st: State,
-    i: usize,
-) -> State
-    requires { ⌜ (i < 32) × Fits-qar st (now q) (now a) (now r) ⌝ }
-    ensures { λ s. ⌜ Moves (stop-startM (now (f .entry)) (now (x .entry)) i) st s (goes (now (q .entry)) (now (q .exit))) (goes (now (a .entry)) (now (a .exit))) (goes (now (r .entry)) (now (r .exit))) still kept kept (goes (now (sequences .entry)) (now (sequences .exit))) ⌝ }
-{
-    let left = runs::drop_runs(r, st.active, i as u32);
-    let s1 = engine_state::with_active(st, left);
-    let s2 = log_rule(a, s1, 5, 0, i as u32);
-    begin_now(f, x, q, a, r, sequences, s2, i)
-}
-
-// The automation is to run.
-fn carry_out(
-    f: &[u8],
-    x: &[u32; 436],
-    q: &mut [u32],
-    a: &mut [u32],
-    r: &mut [u32],
-    sequences: &mut [u32; 32],
-    st: State,
-    i: usize,
-) -> State
-    requires { ⌜ (i < 32) × Fits-qar st (now q) (now a) (now r) ⌝ }
-    ensures { λ s. ⌜ Moves (carry-outM (now (f .entry)) (now (x .entry)) i) st s (goes (now (q .entry)) (now (q .exit))) (goes (now (a .entry)) (now (a .exit))) (goes (now (r .entry)) (now (r .exit))) still kept kept (goes (now (sequences .entry)) (now (sequences .exit))) ⌝ }
-{
-    let running = runs::count_runs(r, st.active, i as u32);
-    let d = decide(rule_word(x, i, 1), rule_word(x, i, 2), running);
-    match d {
-        Decision::AlreadyRunning => log_rule(a, st, 6, 0, i as u32),
-        Decision::MaxReached => log_rule(a, st, 7, 0, i as u32),
-        Decision::Start => begin_now(f, x, q, a, r, sequences, st, i),
-        Decision::StopAndStart => stop_and_start(f, x, q, a, r, sequences, st, i),
-        Decision::WaitInLine => begin_later(f, x, a, r, sequences, st, i),
-    }
-}
-
 // ---- a change
 
 // The automation was triggered, and its conditions have this verdict.
@@ -336,7 +128,7 @@ fn admit(
         Truth::Yes => {
             let notes = rule_word(x, i, 7);
             if engine_reads::two_at(f, notes as usize) == 0 {
-                return carry_out(f, x, q, a, r, sequences, st, i);
+                return engine_modes::carry_out(f, x, q, a, r, sequences, st, i);
             }
             st
         }

@@ -1,10 +1,11 @@
 -- Texts added one by one while there is place: with at most 300 of them, their sorted list.
 use mathlib.Core.Path.{_≡_, refl, sym, ap, _∙_}
 use mathlib.Core.List.{List, [], _∷_, _++_}
-use Prim.Native.Nat.{suc, _+_, _≤_}
+use Prim.Native.Nat.{_+_, _≤_}
 use native.Mathlib.Omega.{arith}
 use lib.ListN.{length, length-append}
 use borrow.Author.Tests.{le-ltb}
+use Rattle.engine.proofs.Bounds.{length-each}
 use Rattle.texts.specs.Lists.{each, flat}
 use Rattle.texts.specs.Texts.{Text, text, insertT, sortedT}
 use Rattle.model.specs.Model.{Effect, toggle, delay, condition, choose, wait, Source, Actions, done, act, Branches, no-branch, branch, Automation}
@@ -13,17 +14,8 @@ use Rattle.engine.specs.Unsupported.{effect-reasons, action-reasons, branch-rea
 use Rattle.reasons.specs.Lists.{insertAll}
 use Rattle.reasons.proofs.Listing.{one-more}
 use Rattle.reasons.proofs.Sorting.{one-by-one}
-use Rattle.engine_unsupported.specs.Listing.{insertG}
-
--- each text of a list added, the first one first
-unfoldable pub addAll : List Text → List Text → List Text
-addAll [] l = l
-addAll (t ∷ ts) l = addAll ts (insertG t l)
-
-pub add-both : (a b l : List Text) → addAll b (addAll a l) ≡ addAll (a ++ b) l
-unfolding addAll
-add-both [] b l = refl
-add-both (t ∷ a) b l = add-both a b (insertG t l)
+use Rattle.engine_notes.specs.Listing.{insertG}
+use Rattle.engine_notes.proofs.Adding.{addAll}
 
 with-place : (t : Text) (l : List Text) → length l ≤ 299 → insertG t l ≡ insertT t l
 unfolding insertG
@@ -39,31 +31,7 @@ add-insert (t ∷ ts) l h =
 pub add-sorted : (ts : List Text) → length ts ≤ 300 → addAll ts [] ≡ sortedT ts
 add-sorted ts h = add-insert ts [] (omega arith) ∙ one-by-one ts
 
--- ---- lists of lists
-
-module _ {A B : Type 0} (g : A → B) where
-  pub each-both : (x y : List A) → each g x ++ each g y ≡ each g (x ++ y)
-  unfolding each
-  each-both [] y = refl
-  each-both (b ∷ x) y = ap (λ (z : List B). g b ∷ z) (each-both x y)
-
-  pub flat-one : (l : List A) → flat (λ a. g a ∷ []) l ≡ each g l
-  unfolding flat each
-  flat-one [] = refl
-  flat-one (a ∷ l) = ap (λ (z : List B). g a ∷ z) (flat-one l)
-
-  pub length-each : (l : List A) → length (each g l) ≡ length l
-  unfolding each
-  length-each [] = refl
-  length-each (a ∷ l) = ap suc (length-each l)
-
-pub flat-each : {A B C : Type 0} (g : B → C) (h : A → List B) (l : List A) →
-    flat (λ a. each g (h a)) l ≡ each g (flat h l)
-unfolding flat each
-flat-each g h [] = refl
-flat-each {A} {B} {C} g h (a ∷ l) =
-    ap (λ (y : List C). each g (h a) ++ y) (flat-each g h l)
-    ∙ each-both g (h a) (flat h l)
+-- ---- lists
 
 pub each-same : {A : Type 0} (l : List A) → each (λ a. a) l ≡ l
 unfolding each

@@ -1,80 +1,30 @@
--- The laws that the proofs of listings cite.
+-- The laws that the proofs of actions' and automations' listings cite.
 use mathlib.Core.Path.{_≡_, refl, sym, ap, _∙_}
 use mathlib.Core.List.{List}
-use mathlib.Core.Bool.{Bool, true, false}
-use Prim.Native.Nat.{ℕ, zero, suc, _+_, _-_, _*_, _≤_, _<_}
+use Prim.Native.Nat.{ℕ, zero, suc, _+_, _-_, _≤_, _<_}
 use native.Mathlib.Numerals.{sub-one}
 use native.Mathlib.Omega.{arith}
-use lib.ListN.{length, getD}
-use lib.Dec.{eqb}
-use borrow.Author.Tests.{lt-ltb, le-ltb, le-leb, lt-leb, eq-eqb, ne-eqb}
-use Rattle.texts.specs.Lists.{if_then_else_}
-use Rattle.texts.specs.Texts.{Text, insertT}
-use Rattle.model.specs.File.{Reader, u8, u16, u32}
-use Rattle.model_walk.specs.declared.Num.{Num}
-use Rattle.model_walk.specs.declared.Num.the-variants as num
-use Rattle.model_walk.specs.Walk.{found}
-use Rattle.model_walk.proofs.Laws.{is-got, is-broken}
+use lib.ListN.{getD}
+use borrow.Author.Tests.{ne-eqb}
+use Rattle.texts.specs.Texts.{Text}
+use Rattle.model.specs.File.{u8, u16, u32}
 use Rattle.reasons.specs.declared.Reason.{Reason}
 use Rattle.reasons.specs.Reasons.{render}
-use Rattle.reasons.specs.Lists.{reasons, listed, Holds}
-use Rattle.reasons.proofs.Listing.{one-more, length-listed}
-use Rattle.engine_reads.specs.Reads.{word, rules, atMost, textPosition, noteReason}
-use Rattle.engine_unsupported.specs.declared.Noted.{Noted}
+use Rattle.reasons.specs.Lists.{reasons, listed}
+use Rattle.engine_reads.specs.Reads.{word, rules, atMost, textPosition}
 use Rattle.engine_unsupported.specs.declared.Head.{Head}
-use Rattle.engine_unsupported.specs.declared.Part.{Part}
-use Rattle.engine_unsupported.specs.declared.Part.the-variants as part
-use Rattle.engine_unsupported.specs.Listing.{After, after, told, Listing, _⨾_, read, by, stay, skipped, skipL, timesL, idNote, noteOf, sourceNote, insertG, addT, addL, noteL, triggerL, predicateL, partL, partsL, no-head, headOf, sourceL, unknownL, waitL, simpleL, choiceL, effectL, actionL, actionsL, ownL, ruleL, rulesL, unsupportedL}
+use Rattle.engine_notes.specs.declared.Part.the-variants as part
+use Rattle.engine_notes.specs.Listing.{After, after, Listing, _⨾_, read, by, stay, skipL, timesL, insertG, triggerL, predicateL, partsL}
+use Rattle.engine_unsupported.specs.Listing.{sourceNote, no-head, headOf, sourceL, unknownL, waitL, simpleL, choiceL, effectL, actionL, actionsL, ownL, ruleL, rulesL, unsupportedL}
 
 -- ---- one listing after the other
 
--- the code's answer x of a number, and its case
-module _ {A : Type 0} (f : List ℕ) (p : ℕ) (r : Reader ℕ) (z : A) (k : ℕ → ℕ → A) {x : Num} (e : found x ≡ r f p) where
-  pub read-is : {v q : ℕ} → x ≡ num.Is v q → read r z k f p ≡ k v q
-  unfolding read
-  read-is h = rw (is-got e h, read)
-
-  pub read-broken : x ≡ num.Broken → read r z k f p ≡ z
-  unfolding read
-  read-broken h = rw (is-broken e h, read)
-
 module _ (f : List ℕ) (p : ℕ) (l : List Text) where
-  module _ (r : Reader ℕ) (k : ℕ → Listing) {x : Num} (e : found x ≡ r f p) where
-    pub by-is : {v q : ℕ} → x ≡ num.Is v q → by r k f p l ≡ k v f q l
-    unfolding by
-    by-is h = read-is f p r (after p l) (λ x q. k x f q l) e h
-
-    pub by-broken : x ≡ num.Broken → by r k f p l ≡ after p l
-    unfolding by
-    by-broken h = read-broken f p r (after p l) (λ x q. k x f q l) e h
-
-  -- the code's answer d of the first listing, and the area's words b
-  pub to : (k m : Listing) (d : Noted) (b : List ℕ) → told f d b ≡ k f p l →
-      (k ⨾ m) f p l ≡ m f (d .next) (listed f (d .count) b)
-  unfolding _⨾_
-  to k m d b e = ap (λ (y : After). m f (y .next) (y .list)) (sym e)
-
-  pub yes-list : {b : Bool} (k m : Listing) → b ≡ true → (if b then k else m) f p l ≡ k f p l
-  yes-list k m h = rw h
-
-  pub no-list : {b : Bool} (k m : Listing) → b ≡ false → (if b then k else m) f p l ≡ m f p l
-  no-list k m h = rw h
-
   pub assoc : (a b c : Listing) → ((a ⨾ b) ⨾ c) f p l ≡ (a ⨾ (b ⨾ c)) f p l
   unfolding _⨾_
   assoc a b c = refl
 
 module _ (k : Listing) (f : List ℕ) (p : ℕ) (l : List Text) where
-  pub times-more : (i : ℕ) → 0 < i → timesL i k f p l ≡ (k ⨾ timesL (i - 1) k) f p l
-  unfolding timesL
-  times-more zero h = absurd (omega arith)
-  times-more (suc i) h = rw (sub-one (suc i))
-
-  pub times-none : (i : ℕ) → i ≤ 0 → timesL i k f p l ≡ after p l
-  unfolding timesL stay
-  times-none zero h = refl
-  times-none (suc i) h = absurd (omega arith)
-
   pub times-then : (m : Listing) (i : ℕ) → 0 < i → (timesL i k ⨾ m) f p l ≡ (k ⨾ (timesL (i - 1) k ⨾ m)) f p l
   unfolding timesL
   times-then m zero h = absurd (omega arith)
@@ -85,106 +35,14 @@ module _ (k : Listing) (f : List ℕ) (p : ℕ) (l : List Text) where
   none-then m zero h = refl
   none-then m (suc i) h = absurd (omega arith)
 
--- ---- reasons
-
-pub id-is : (f : List ℕ) (i m a b : ℕ) → a ≡ textPosition f i → b ≡ textPosition f m →
-    record { kind = 1; first = a; second = b; line = 0; column = 0 } ≡ idNote f i m
-unfolding idNote
-id-is f i m a b e g = rw (e, g)
+-- ---- actions
 
 pub source-is : (f : List ℕ) (l c m a : ℕ) → a ≡ textPosition f m →
     record { kind = 4; first = 4294967295; second = a; line = l; column = c } ≡ sourceNote f l c m
 unfolding sourceNote
 source-is f l c m a e = rw e
 
-module _ (f : List ℕ) (i m : ℕ) {r : Reason} where
-  pub note-plain : i ≡ 65535 → r ≡ noteReason f m → r ≡ noteOf f i m
-  unfolding noteOf
-  note-plain h e = rw (eq-eqb i 65535 h) e
-
-  pub note-id : (i ≡ 65535 → ⊥) → r ≡ idNote f i m → r ≡ noteOf f i m
-  unfolding noteOf
-  note-id h e = rw (ne-eqb i 65535 h) e
-
-pub put-fits : (f a : List ℕ) (n : ℕ) (r : Reason) → n ≤ 299 → 1500 ≤ length a →
-    length (insertT (render f r) (listed f n a)) * 5 ≤ length a
-put-fits f a n r h l = omega (arith, one-more (render f r) (listed f n a), length-listed f n a)
-
-module _ (f a : List ℕ) (n : ℕ) (r : Reason) where
-  pub put-full : 299 < n → listed f n a ≡ insertG (render f r) (listed f n a)
-  unfolding insertG
-  put-full h = rw (lt-ltb 299 (length (listed f n a)) (omega (arith, length-listed f n a)))
-
-  pub put-in : {k : ℕ} {b : List ℕ} → n ≤ 299 → Holds f (insertT (render f r) (listed f n a)) k b →
-      listed f k b ≡ insertG (render f r) (listed f n a)
-  unfolding insertG
-  put-in h e = rw (le-ltb 299 (length (listed f n a)) (omega (arith, length-listed f n a))) (e .texts)
-
-module _ (f : List ℕ) (i m : ℕ) (l : List Text) where
-  pub add-none : m ≡ 65535 → l ≡ addT f i m l
-  unfolding addT
-  add-none h = rw (eq-eqb m 65535 h)
-
-  pub add-some : {r : Reason} {t : List Text} → (m ≡ 65535 → ⊥) → r ≡ noteOf f i m → t ≡ insertG (render f r) l →
-      t ≡ addT f i m l
-  unfolding addT
-  add-some h e g = rw (ne-eqb m 65535 h) (g ∙ ap (λ (y : Reason). insertG (render f y) l) e)
-
--- ---- parts that hold no list
-
-pub skip-in : (w : ℕ) (f : List ℕ) (p : ℕ) → p + w ≤ length f → p + w ≡ skipped w f p
-unfolding skipped
-skip-in w f p h = rw (le-leb (p + w) (length f) h)
-
-pub skip-out : (w : ℕ) (f : List ℕ) (p : ℕ) → length f < p + w → p ≡ skipped w f p
-unfolding skipped
-skip-out w f p h = rw (lt-leb (p + w) (length f) h)
-
-pub skip-is : (w : ℕ) (f : List ℕ) (p : ℕ) (l : List Text) {q : ℕ} → q ≡ skipped w f p → after q l ≡ skipL w f p l
-unfolding skipL
-skip-is w f p l e = rw e
-
-pub skip-then : (w : ℕ) (m : Listing) (f : List ℕ) (p : ℕ) (l : List Text) {q : ℕ} → q ≡ skipped w f p →
-    m f q l ≡ (skipL w ⨾ m) f p l
-unfolding skipL _⨾_
-skip-then w m f p l e = rw e
-
 module _ (f : List ℕ) (p : ℕ) (l : List Text) where
-  pub add-put : (i m : ℕ) {t : List Text} → t ≡ addT f i m l → addL i m f p l ≡ after p t
-  unfolding addL
-  add-put i m e = ap (after p) (sym e)
-
-  pub note-is : (i : ℕ) → noteL i f p l ≡ by u16 (addL i) f p l
-  unfolding noteL
-  note-is i = refl
-
-  pub trigger-is : (i : ℕ) → triggerL i f p l ≡ (skipL 14 ⨾ noteL i) f p l
-  unfolding triggerL
-  trigger-is i = refl
-
-  pub predicate-is : (i : ℕ) → predicateL i f p l ≡ by u8 (λ k. if eqb k 1 then noteL i else skipL 4) f p l
-  unfolding predicateL
-  predicate-is i = refl
-
-  module _ (i : ℕ) {k : Part} where
-    pub part-note : k ≡ part.Note → partL k i f p l ≡ noteL i f p l
-    unfolding partL
-    part-note h = rw h
-
-    pub part-trigger : k ≡ part.Trigger → partL k i f p l ≡ triggerL i f p l
-    unfolding partL
-    part-trigger h = rw h
-
-    pub part-predicate : k ≡ part.Predicate → partL k i f p l ≡ predicateL i f p l
-    unfolding partL
-    part-predicate h = rw h
-
-  pub parts-is : (k : Part) (i : ℕ) → partsL k i f p l ≡ by u16 (λ c. timesL c (partL k i)) f p l
-  unfolding partsL
-  parts-is k i = refl
-
-  -- ---- actions
-
   pub source-put : (a c m : ℕ) {r : Reason} {t : List Text} → r ≡ sourceNote f a c m → t ≡ insertG (render f r) l →
       sourceL a c m f p l ≡ after p t
   unfolding sourceL

@@ -1,114 +1,18 @@
--- The notes of the automations as reasons, listed from the file. A listing goes over a part of the file, from a position on,
--- with the reasons so far; it ends at a position, with the reasons after it. A part that is not there is passed over.
--- `proofs/Agrees` has, for each listing, that it adds the reasons of the part that the reader of `File` finds there.
+-- The notes of the automations as reasons, listed from the file: of actions, and of whole automations, as engine_notes has
+-- it of their other parts. `proofs/Agrees` has, for each listing, that it adds the reasons of the part that the reader of
+-- `File` finds there.
 use Prim.Native.Nat.{ℕ, zero, suc, _+_}
-use mathlib.Core.Path.{_≡_}
 use mathlib.Core.List.{List, []}
-use lib.Dec.{ltb, leb, eqb}
-use lib.ListN.{length}
+use lib.Dec.{eqb}
 use Rattle.texts.specs.Lists.{if_then_else_}
-use Rattle.texts.specs.Texts.{Text, insertT}
-use Rattle.model.specs.File.{got, broken, Reader, u8, u16, u32}
+use Rattle.texts.specs.Texts.{Text}
+use Rattle.model.specs.File.{u8, u16, u32}
 use Rattle.reasons.specs.declared.Reason.{Reason}
 use Rattle.reasons.specs.Reasons.{render}
-use Rattle.reasons.specs.Lists.{listed}
-use Rattle.engine_reads.specs.Reads.{word, rules, textPosition, noteReason}
-use Rattle.engine_unsupported.specs.declared.Noted.{Noted}
+use Rattle.engine_reads.specs.Reads.{word, rules, textPosition}
 use Rattle.engine_unsupported.specs.declared.Head.{Head}
-use Rattle.engine_unsupported.specs.declared.Part.{Part}
-use Rattle.engine_unsupported.specs.declared.Part.the-variants as part
-
--- the position after a part, and the reasons after it
-pub record After : Type 0 where
-  pub next : ℕ
-  pub list : List Text
-
-abbrev pub after : ℕ → List Text → After
-after p l = record { next = p; list = l }
-
-abbrev pub Listing : Type 0
-Listing = List ℕ → ℕ → List Text → After
-
--- what the code's answer says, with the area's words
-abbrev pub told : List ℕ → Noted → List ℕ → After
-told f r a = after (r .next) (listed f (r .count) a)
-
--- the code's answer r and the area b after it are those of a listing over the first n reasons of the area a
-abbrev pub Lists : Listing → (f : List ℕ) → (at n : ℕ) → (a : List ℕ) → Noted → (b : List ℕ) → Type 0
-Lists k f at n a r b = told f r b ≡ k f at (listed f n a)
-
--- the first k reasons of the area b are what the first n of the area a become
-abbrev pub Makes : (List Text → List Text) → (f : List ℕ) → (n : ℕ) → (a : List ℕ) → (k : ℕ) → (b : List ℕ) → Type 0
-Makes g f n a k b = listed f k b ≡ g (listed f n a)
-
-infixr 25 _⨾_
--- one listing, and then the other
-unfoldable pub _⨾_ : Listing → Listing → Listing
-_⨾_ k m f p l = m f (k f p l .next) (k f p l .list)
-
--- a number, and then what depends on it and on the position after it; z, if it isn't there
-unfoldable pub read : {A : Type 0} → Reader ℕ → A → (ℕ → ℕ → A) → List ℕ → ℕ → A
-read r z k f p = elim (r f p) [ got x q ↦ k x q | broken ↦ z ]
-
-unfoldable pub by : Reader ℕ → (ℕ → Listing) → Listing
-by r k f p l = read r (after p l) (λ x q. k x f q l) f p
-
-unfoldable pub stay : Listing
-stay f p l = after p l
-
-unfoldable pub skipped : ℕ → List ℕ → ℕ → ℕ
-skipped w f p = if leb (p + w) (length f) then p + w else p
-
--- w bytes that aren't looked at
-unfoldable pub skipL : ℕ → Listing
-skipL w f p l = after (skipped w f p) l
-
-unfoldable pub timesL : ℕ → Listing → Listing
-timesL zero k = stay
-timesL (suc i) k = k ⨾ timesL i k
-
--- ---- reasons
-
-unfoldable pub idNote : List ℕ → (id note : ℕ) → Reason
-idNote f i m = record { kind = 1; first = textPosition f i; second = textPosition f m; line = 0; column = 0 }
-
--- a note behind an automation's identifier; 65,535 stands for none
-unfoldable pub noteOf : List ℕ → (id note : ℕ) → Reason
-noteOf f i m = if eqb i 65535 then noteReason f m else idNote f i m
-
-unfoldable pub sourceNote : List ℕ → (line column note : ℕ) → Reason
-sourceNote f l c m = record { kind = 4; first = 4294967295; second = textPosition f m; line = l; column = c }
-
--- a text among the others, which ascend, while there are fewer than 300
-unfoldable pub insertG : Text → List Text → List Text
-insertG t l = if ltb 299 (length l) then l else insertT t l
-
--- a note, or 65,535 for none
-unfoldable pub addT : List ℕ → (id note : ℕ) → List Text → List Text
-addT f i m l = if eqb m 65535 then l else insertG (render f (noteOf f i m)) l
-
--- ---- parts that hold no list
-
-unfoldable pub addL : (id note : ℕ) → Listing
-addL i m f p l = after p (addT f i m l)
-
-unfoldable pub noteL : (id : ℕ) → Listing
-noteL i = by u16 (addL i)
-
-unfoldable pub triggerL : (id : ℕ) → Listing
-triggerL i = skipL 14 ⨾ noteL i
-
-unfoldable pub predicateL : (id : ℕ) → Listing
-predicateL i = by u8 (λ k. if eqb k 1 then noteL i else skipL 4)
-
-unfoldable pub partL : Part → (id : ℕ) → Listing
-partL part.Note i = noteL i
-partL part.Trigger i = triggerL i
-partL part.Predicate i = predicateL i
-
--- a count, and as many parts
-unfoldable pub partsL : Part → (id : ℕ) → Listing
-partsL k i = by u16 (λ c. timesL c (partL k i))
+use Rattle.engine_notes.specs.declared.Part.the-variants as part
+use Rattle.engine_notes.specs.Listing.{after, Listing, _⨾_, read, by, stay, skipL, timesL, insertG, triggerL, predicateL, partsL}
 
 -- ---- actions
 
@@ -119,6 +23,9 @@ no-head p = record { line = 0; column = 0; kind = 0; next = p }
 unfoldable pub headOf : List ℕ → ℕ → Head
 headOf f p =
     read u32 (no-head p) (λ l q. read u32 (no-head p) (λ c t. read u8 (no-head p) (λ k o. record { line = l; column = c; kind = k; next = o }) f t) f q) f p
+
+unfoldable pub sourceNote : List ℕ → (line column note : ℕ) → Reason
+sourceNote f l c m = record { kind = 4; first = 4294967295; second = textPosition f m; line = l; column = c }
 
 unfoldable pub sourceL : (line column note : ℕ) → Listing
 sourceL l c m f p t = after p (insertG (render f (sourceNote f l c m)) t)

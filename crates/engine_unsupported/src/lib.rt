@@ -1,19 +1,15 @@
 // The notes of the automations as reasons, sorted as they are rendered, each once. The file was read before, so that what
 // is looked for is there; a part that is not there is passed over. A file holds at most 64 notes: the area has place for 300.
+use engine_notes::Noted;
+use engine_notes::Part;
 use model_walk::Num;
 use reasons::Reason;
 ghost use mathlib.Core.Path.{_≡_};
 ghost use Prim.Native.Nat.{_≤_, _<_};
 ghost use lib.ListN.{length};
-ghost use Rattle.reasons.specs.Reasons.{render};
 ghost use Rattle.reasons.specs.Lists.{Holds};
-ghost use Rattle.engine_unsupported.specs.Listing.{idNote, noteOf, sourceNote, insertG, addT, skipped, headOf, Lists, Makes, noteL, triggerL, predicateL, partL, partsL, unknownL, waitL, simpleL, actionL, choiceL, actionsL, ownL, ruleL, unsupportedL};
-
-// How many reasons there are, and the position after what was read.
-pub struct Noted {
-    pub count: usize,
-    pub next: usize,
-}
+ghost use Rattle.engine_notes.specs.Listing.{Lists, Makes};
+ghost use Rattle.engine_unsupported.specs.Listing.{sourceNote, headOf, unknownL, waitL, simpleL, actionL, choiceL, actionsL, ownL, ruleL, unsupportedL};
 
 // What stands before an action's effect.
 pub struct Head {
@@ -21,155 +17,6 @@ pub struct Head {
     pub column: u32,
     pub kind: u32,
     pub next: usize,
-}
-
-// Parts of which an automation has lists.
-pub enum Part {
-    Note,
-    Trigger,
-    Predicate,
-}
-
-// ---- reasons
-
-fn id_note(f: &[u8], id: u32, note: u32) -> Reason
-    ensures { λ r. ⌜ r ≡ idNote (now (f .entry)) id note ⌝ }
-{
-    Reason {
-        kind: reasons::ID_NOTE,
-        first: engine_reads::text_position(f, id),
-        second: engine_reads::text_position(f, note),
-        line: 0,
-        column: 0,
-    }
-}
-
-// A note behind an automation's identifier; 65535 stands for none.
-fn note_of(f: &[u8], id: u32, note: u32) -> Reason
-    ensures { λ r. ⌜ r ≡ noteOf (now (f .entry)) id note ⌝ }
-{
-    if id == 65535 {
-        return engine_reads::note_reason(f, note);
-    }
-    id_note(f, id, note)
-}
-
-fn source_note(f: &[u8], line: u32, column: u32, note: u32) -> Reason
-    ensures { λ r. ⌜ r ≡ sourceNote (now (f .entry)) line column note ⌝ }
-{
-    Reason {
-        kind: reasons::SOURCE_NOTE,
-        first: reasons::ABSENT,
-        second: engine_reads::text_position(f, note),
-        line,
-        column,
-    }
-}
-
-// A reason among the first n, while there is place.
-fn put(f: &[u8], u: &mut [u32], n: usize, r: Reason) -> usize
-    requires { ⌜ 1500 ≤ length (now u) ⌝ }
-    ensures { λ k. ⌜ Makes (insertG (render (now (f .entry)) r)) (now (f .entry)) n (now (u .entry)) k (now (u .exit)) ⌝ }
-{
-    if 299 < n {
-        return n;
-    }
-    reasons::insert_sorted(f, u, n, r)
-}
-
-fn add_note(f: &[u8], u: &mut [u32], id: u32, note: u32, n: usize) -> usize
-    requires { ⌜ 1500 ≤ length (now u) ⌝ }
-    ensures { λ k. ⌜ Makes (addT (now (f .entry)) id note) (now (f .entry)) n (now (u .entry)) k (now (u .exit)) ⌝ }
-{
-    if note == 65535 {
-        return n;
-    }
-    let r = note_of(f, id, note);
-    put(f, u, n, r)
-}
-
-// ---- parts that hold no list
-
-// The position behind so many bytes.
-fn skip(f: &[u8], size: usize, at: usize) -> usize
-    ensures { λ r. ⌜ r ≡ skipped size (now (f .entry)) at ⌝ }
-{
-    if f.len() < size {
-        return at;
-    }
-    if f.len() - size < at {
-        return at;
-    }
-    at + size
-}
-
-fn note_at(f: &[u8], u: &mut [u32], id: u32, at: usize, n: usize) -> Noted
-    requires { ⌜ 1500 ≤ length (now u) ⌝ }
-    ensures { λ r. ⌜ Lists (noteL id) (now (f .entry)) at n (now (u .entry)) r (now (u .exit)) ⌝ }
-{
-    let x = model_walk::u16_at(f, at);
-    let Num::Is(note, next) = x else {
-        return Noted { count: n, next: at };
-    };
-    let k = add_note(f, u, id, note, n);
-    Noted { count: k, next }
-}
-
-fn trigger_note(f: &[u8], u: &mut [u32], id: u32, at: usize, n: usize) -> Noted
-    requires { ⌜ 1500 ≤ length (now u) ⌝ }
-    ensures { λ r. ⌜ Lists (triggerL id) (now (f .entry)) at n (now (u .entry)) r (now (u .exit)) ⌝ }
-{
-    let p = skip(f, 14, at);
-    note_at(f, u, id, p, n)
-}
-
-fn predicate_note(f: &[u8], u: &mut [u32], id: u32, at: usize, n: usize) -> Noted
-    requires { ⌜ 1500 ≤ length (now u) ⌝ }
-    ensures { λ r. ⌜ Lists (predicateL id) (now (f .entry)) at n (now (u .entry)) r (now (u .exit)) ⌝ }
-{
-    let x = model_walk::u8_at(f, at);
-    let Num::Is(kind, p) = x else {
-        return Noted { count: n, next: at };
-    };
-    if kind == 1 {
-        return note_at(f, u, id, p, n);
-    }
-    let q = skip(f, 4, p);
-    Noted { count: n, next: q }
-}
-
-// ---- lists of them
-
-fn part_note(f: &[u8], u: &mut [u32], part: Part, id: u32, at: usize, n: usize) -> Noted
-    requires { ⌜ 1500 ≤ length (now u) ⌝ }
-    ensures { λ r. ⌜ Lists (partL part id) (now (f .entry)) at n (now (u .entry)) r (now (u .exit)) ⌝ }
-{
-    match part {
-        Part::Note => note_at(f, u, id, at, n),
-        Part::Trigger => trigger_note(f, u, id, at, n),
-        Part::Predicate => predicate_note(f, u, id, at, n),
-    }
-}
-
-// A count, and as many parts.
-fn part_notes(f: &[u8], u: &mut [u32], part: Part, id: u32, at: usize, n: usize) -> Noted
-    requires { ⌜ 1500 ≤ length (now u) ⌝ }
-    ensures { λ r. ⌜ Lists (partsL part id) (now (f .entry)) at n (now (u .entry)) r (now (u .exit)) ⌝ }
-{
-    let x = model_walk::u16_at(f, at);
-    let Num::Is(count, start) = x else {
-        return Noted { count: n, next: at };
-    };
-    let mut left = count;
-    let mut p = start;
-    let mut k = n;
-    while 0 < left {
-        let d = part_note(f, u, part, id, p, k);
-        p = d.next;
-        k = d.count;
-        left -= 1;
-    }
-    Noted { count: k, next: p }
 }
 
 // ---- actions
@@ -212,6 +59,18 @@ fn head_at(f: &[u8], at: usize) -> Head
     }
 }
 
+fn source_note(f: &[u8], line: u32, column: u32, note: u32) -> Reason
+    ensures { λ r. ⌜ r ≡ sourceNote (now (f .entry)) line column note ⌝ }
+{
+    Reason {
+        kind: reasons::SOURCE_NOTE,
+        first: reasons::ABSENT,
+        second: engine_reads::text_position(f, note),
+        line,
+        column,
+    }
+}
+
 // The note of an unknown effect stands behind its source.
 fn unknown_note(f: &[u8], u: &mut [u32], line: u32, column: u32, at: usize, n: usize) -> Noted
     requires { ⌜ 1500 ≤ length (now u) ⌝ }
@@ -222,7 +81,7 @@ fn unknown_note(f: &[u8], u: &mut [u32], line: u32, column: u32, at: usize, n: u
         return Noted { count: n, next: at };
     };
     let r = source_note(f, line, column, note);
-    let k = put(f, u, n, r);
+    let k = engine_notes::put(f, u, n, r);
     Noted { count: k, next }
 }
 
@@ -230,10 +89,10 @@ fn wait_note(f: &[u8], u: &mut [u32], at: usize, n: usize) -> Noted
     requires { ⌜ 1500 ≤ length (now u) ⌝ }
     ensures { λ r. ⌜ Lists waitL (now (f .entry)) at n (now (u .entry)) r (now (u .exit)) ⌝ }
 {
-    let d = trigger_note(f, u, 65535, at, n);
+    let d = engine_notes::trigger_note(f, u, 65535, at, n);
     let k = d.count;
     let p = d.next;
-    let q = skip(f, 5, p);
+    let q = engine_notes::skip(f, 5, p);
     Noted { count: k, next: q }
 }
 
@@ -245,7 +104,7 @@ fn simple_note(f: &[u8], u: &mut [u32], h: Head, n: usize) -> Noted
     let kind = h.kind;
     let at = h.next;
     if kind == 3 {
-        return predicate_note(f, u, 65535, at, n);
+        return engine_notes::predicate_note(f, u, 65535, at, n);
     }
     if kind == 5 {
         return wait_note(f, u, at, n);
@@ -254,10 +113,10 @@ fn simple_note(f: &[u8], u: &mut [u32], h: Head, n: usize) -> Noted
         return unknown_note(f, u, h.line, h.column, at, n);
     }
     if kind == 1 {
-        let q = skip(f, 2, at);
+        let q = engine_notes::skip(f, 2, at);
         return Noted { count: n, next: q };
     }
-    let q = skip(f, 4, at);
+    let q = engine_notes::skip(f, 4, at);
     Noted { count: n, next: q }
 }
 
@@ -312,7 +171,7 @@ fn choice_notes(f: &[u8], u: &mut [u32], left: usize, at: usize, n: usize) -> No
     let mut p = start;
     let mut k = n;
     while 0 < i {
-        let d = part_notes(f, u, Part::Predicate, 65535, p, k);
+        let d = engine_notes::part_notes(f, u, Part::Predicate, 65535, p, k);
         let e = actions_notes(f, u, left, d.next, d.count);
         p = e.next;
         k = e.count;
@@ -332,9 +191,9 @@ fn own_notes(f: &[u8], x: &[u32; 436], u: &mut [u32], i: usize, n: usize) -> usi
     let notes = engine_reads::rule_word(x, i, 7) as usize;
     let triggers = engine_reads::rule_word(x, i, 3) as usize;
     let conditions = engine_reads::rule_word(x, i, 4) as usize;
-    let a = part_notes(f, u, Part::Note, id, notes, n);
-    let b = part_notes(f, u, Part::Trigger, id, triggers, a.count);
-    let c = part_notes(f, u, Part::Predicate, id, conditions, b.count);
+    let a = engine_notes::part_notes(f, u, Part::Note, id, notes, n);
+    let b = engine_notes::part_notes(f, u, Part::Trigger, id, triggers, a.count);
+    let c = engine_notes::part_notes(f, u, Part::Predicate, id, conditions, b.count);
     c.count
 }
 

@@ -16,7 +16,7 @@ use Rattle.engine_state.specs.declared.State.{State}
 use Rattle.engine_state.specs.Machine.{Machine, entire, machine, with-active, storedC}
 use Rattle.engine_state.specs.Steps.{kept, goes, still, Steps}
 use Rattle.engine_state.proofs.Laws as states
-use Rattle.engine_steps.specs.Writes.{cells}
+use Rattle.engine_writes.specs.Writes.{cells}
 use Rattle.engine_works.specs.Works.{over-onM, over-endM, wait-overM, time-phaseM, time-runM, expire-toM, expireM, stale-atM, go-staleM, no-runsM}
 
 module _ (k : ℕ) (r : Run) (w : Wait) (m : Machine) where

@@ -18,8 +18,9 @@ use Rattle.engine_reads.specs.Reads.{name, entityOf}
 use Rattle.engine_state.specs.declared.Cells.{Cells}
 use Rattle.engine_state.specs.Machine.{Machine, put-cells, put-runs, storedC}
 use Rattle.engine_state.specs.Changes.{log-actionM, log-plainM, log-writeM}
-use Rattle.engine_steps.specs.Writes.{cells, move, setting, changedM, updateM}
-use Rattle.engine_steps.specs.Runs.{runM, put-runM, nowM, phaseR, finishM}
+use Rattle.engine_writes.specs.Writes.{cells, move, setting, changedM, updateM}
+use Rattle.engine_modes.specs.Modes.{nowM}
+use Rattle.engine_steps.specs.Runs.{runM, put-runM, phaseR, finishM}
 
 -- the wait's time is up: the run goes on, or it ends
 unfoldable pub over-onM : (k : ℕ) → Run → Wait → Machine → Machine

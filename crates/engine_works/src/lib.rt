@@ -6,8 +6,8 @@ use engine_state::State;
 use engine_state::log_action;
 use engine_state::next_step;
 use engine_steps::finish;
-use engine_steps::update;
 use engine_steps::with_phase;
+use engine_writes::update;
 use records::Rule;
 use records::Where;
 use runs::Found;
@@ -91,7 +91,7 @@ fn expire(
         source: Where::Nowhere,
     };
     let s1 = engine_state::log_write(a, st, w, m);
-    engine_steps::changed(q, s1, m)
+    engine_writes::changed(q, s1, m)
 }
 
 pub fn go_stale(

@@ -4,20 +4,20 @@ use mathlib.Core.Path.{_≡_}
 use mathlib.Core.List.{List}
 use lib.ListN.{length}
 use Rattle.engine.specs.Memory.{Lent}
-use Rattle.engine_entry.specs.declared.Simulation.{Simulation}
+use Rattle.engine_summary.specs.declared.Simulation.{Simulation}
 use Rattle.engine_entry.specs.Answers.{Simulates}
-use Rattle.checker_entry.specs.declared.CheckResult.{CheckResult}
+use Rattle.checker_result.specs.declared.CheckResult.{CheckResult}
 use Rattle.checker_entry.specs.Answers.{Checks}
-use Rattle.search_entry.specs.declared.Verification.{Verification}
+use Rattle.search_answer.specs.declared.Verification.{Verification}
 use Rattle.search_entry.specs.Answers.{Verifies}
-use Rattle.reduce_entry.specs.declared.Minimized.{Minimized}
+use Rattle.reduce_result.specs.declared.Minimized.{Minimized}
 use Rattle.reduce_entry.specs.Answers.{Minimizes}
 use Rattle.lint.specs.Memory as lint
 use Rattle.lint_answer.specs.declared.Report.{Report}
 use Rattle.lint_answer.specs.Answers as lints
 use Rattle.cone_entry.specs.declared.ConeResult.{ConeResult}
 use Rattle.cone_entry.specs.Answers as cones
-use Rattle.fukhtsege.specs.Numbers.{refusalOf, simulationIn, checkIn, verificationIn, minimizedIn, reportIn, coneIn}
+use Rattle.answer_numbers.specs.Numbers.{refusalOf, simulationIn, checkIn, verificationIn, minimizedIn, reportIn, coneIn}
 
 -- some result r with this promise: n is its refusal, and its numbers stand in the answer
 pub record Told {A : Type 0} (Promise : A → Type 0) (refusal : A → ℕ) (numbers : A → List ℕ → List ℕ) (n : ℕ) (a a′ : List ℕ) : Type 0 where

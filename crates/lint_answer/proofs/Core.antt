@@ -9,6 +9,7 @@ use native.Mathlib.Omega.{arith}
 use lib.Dec.{eqb}
 use lib.ListN.{length, getD, take, replicate, length-replicate}
 use borrow.Author.Tests.{ne-eqb}
+use Rattle.engine.proofs.Bounds.{length-each}
 use Rattle.texts.specs.Lists.{if_then_else_, each, flat}
 use Rattle.texts.specs.Texts.{Text}
 use Rattle.model.specs.Answer.{Answer, answer, refused, _>>=_}
@@ -50,7 +51,7 @@ use Rattle.lint_places.specs.Ground.{namesOf}
 use Rattle.lint_places.specs.Numbers.{padded, stranger-places, stranger-readers}
 use Rattle.lint_places.proofs.Columns.{names-are, ids-are, bounds, texts-are, ascends, texts-once}
 use Rattle.lint_places.proofs.Agree.{agree-append, agree-numbers, agree-shaped, agree-over, agree-findings, agree-interactions}
-use Rattle.lint_places.proofs.Stage.{Stage, no-rule, each-long, nth}
+use Rattle.lint_places.proofs.Stage.{Stage, no-rule, nth}
 use Rattle.lint_places.proofs.Staged.{staged}
 use Rattle.lint_places.proofs.Rules.{names, ids, Agrees, rule-agrees}
 use Rattle.lint_places.proofs.Pairs.{opposing-agrees}
@@ -201,9 +202,9 @@ module _ (s : List ℕ) (i : Index) (m : Model) (acc : accepted s ≡ answer m) 
 
         many-components : l .found .count ≡ length (each (each (λ r. r .id)) (cycles (m .rules)))
         many-components = sym (
-            each-long (each (λ r. r .id)) (cycles (m .rules))
+            length-each (each (λ r. r .id)) (cycles (m .rules))
             ∙ ap length (cycles-listed st (l .found) (li .components))
-            ∙ each-long (λ x. flat (at-place (m .rules)) (members x)) sets
+            ∙ length-each (λ x. flat (at-place (m .rules)) (members x)) sets
             ∙ sets-long st (l .found) (li .components))
 
         undeclared-is : undeclaredU s (i .entities) (i .rules) (i .texts .count) ≡ packed (stranger-places (texts-in s) (names-in s) (ids-in s) (by-id reads-of (m .rules))) (stranger-readers (names-in s) (ids-in s) (by-id reads-of (m .rules)))
@@ -223,7 +224,7 @@ module _ (s : List ℕ) (i : Index) (m : Model) (acc : accepted s ≡ answer m) 
         shows r t = record {
           accepted = t .accepted;
           findings = t .findings ∙ h .many-findings ∙ both-long (agree-findings s (names st) (ids st) agrees);
-          interactions = t .interactions ∙ h .many-interactions ∙ ap length (agree-interactions s (names st) (ids st) agrees) ∙ each-long _ (flat interaction-in found);
+          interactions = t .interactions ∙ h .many-interactions ∙ ap length (agree-interactions s (names st) (ids st) agrees) ∙ length-each _ (flat interaction-in found);
           components = t .components ∙ many-components;
           cycles =
               t .cycles

@@ -20,9 +20,11 @@ use Rattle.lint_reach.specs.Cycles.{Cycles}
 use Rattle.lint_tests.specs.declared.Names.{Names}
 use Rattle.lint_tests.specs.Tests.{anyL, highestZ, leadsZ}
 use Rattle.lint_findings.specs.declared.About.{About}
-use Rattle.lint_findings.specs.Entries.{itemsN, valueZ, ruleItems, pairItems}
+use Rattle.lint_findings.specs.Entries.{itemsN, valueZ, ruleItems}
+use Rattle.lint_pairs.specs.Pairs.{pairItems}
 use Rattle.lint_touches.proofs.Laws.{reads-by, writes-by}
-use Rattle.lint_findings.proofs.Laws.{numbers-start, numbers-end, pair-by, rule-by}
+use Rattle.lint_findings.proofs.Laws.{numbers-start, numbers-end, rule-by}
+use Rattle.lint_pairs.proofs.Laws.{pair-by}
 use Rattle.lint_entry.specs.Order.{aboutAt, ruleAt, rulesItems, pairAt, laterItems, opposingItems, actionLeadsZ, leadsToZ, fillL, rowZ, edgesZ, cycleWritesFrom, cycleWritesZ, cycleZ, cyclesItems}
 
 module _ (s : List ℕ) where
@@ -124,9 +126,6 @@ module _ (s : List ℕ) where
   pub cycles-is : (e rules : Section) (c : Components) (x : Board) → pushes (cyclesItems s e rules c) x ≡ pushes (itemsN (λ k. finding (cycleZ s e rules (getD (c .sets) k 0)) ∷ []) (c .count - 0) 0) x
   unfolding cyclesItems
   cycles-is e rules c x = numbers-start (λ k. finding (cycleZ s e rules (getD (c .sets) k 0)) ∷ []) {n = c .count} {m = c .count} x refl
-
-pub one-finding : {w v : List ℕ} (x : Board) {y : Board} → w ≡ v → y ≡ pushes (finding w ∷ []) x → y ≡ pushes (finding v ∷ []) x
-one-finding x e f = rw (← e) f
 
 module _ {A : Type 0} (f : ℕ → A) (n k : ℕ) (l : List A) where
   pub fill-more : {a : A} → k < n → a ≡ f k → fillL f (n - k) k l ≡ fillL f (n - (k + 1)) (k + 1) (set l k a)

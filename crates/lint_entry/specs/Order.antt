@@ -20,7 +20,8 @@ use Rattle.lint_reach.specs.Sets.{holds}
 use Rattle.lint_tests.specs.declared.Names.{Names}
 use Rattle.lint_tests.specs.Tests.{anyL, highestZ, leadsZ}
 use Rattle.lint_findings.specs.declared.About.{About}
-use Rattle.lint_findings.specs.Entries.{itemsN, valueZ, ruleItems, pairItems}
+use Rattle.lint_findings.specs.Entries.{itemsN, valueZ, ruleItems}
+use Rattle.lint_pairs.specs.Pairs.{pairItems}
 
 -- n elements from the k-th on, each by its number
 unfoldable pub fillL : {A : Type 0} → (ℕ → A) → (n k : ℕ) → List A → List A

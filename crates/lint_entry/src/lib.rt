@@ -137,7 +137,7 @@ fn pair_entries(
     let mut others = [0usize; 512];
     let c = lint_walk::rule_walk(s, rules[j], &mut others);
     let set = lint_reach::with(lint_reach::with(0, i), j);
-    lint_findings::oppose_pair(
+    lint_pairs::oppose_pair(
         s,
         entities,
         invariants,

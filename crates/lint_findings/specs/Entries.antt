@@ -14,7 +14,7 @@ use Rattle.lint_walk.specs.Raw.{placeZ, numberZ, past, predicatesEnd, kindZ, co
 use Rattle.lint_walk.specs.Walks.{listEnd}
 use Rattle.lint_board.specs.Board.{Item, finding, interaction, onlyIf}
 use Rattle.lint_tests.specs.declared.Names.{Names}
-use Rattle.lint_tests.specs.Tests.{contradictoryZ, mismatchedZ, delaysZ, staleZ, tierZ, unguardedZ, leadsZ, opposedZ}
+use Rattle.lint_tests.specs.Tests.{contradictoryZ, mismatchedZ, delaysZ, staleZ, tierZ, unguardedZ, leadsZ}
 use Rattle.lint_findings.specs.declared.About.{About}
 
 -- the entries of n numbers from k on
@@ -30,10 +30,6 @@ itemsP f end (suc n) p = f p ++ itemsP f end n (end p)
 unfoldable pub aboutZ : About → (code certainty entity line column : ℕ) → List ℕ
 aboutZ a code certainty entity line column =
     code ∷ certainty ∷ a .tier ∷ entity ∷ a .set ∷ line ∷ column ∷ 0 ∷ 0 ∷ 0 ∷ 0 ∷ 0 ∷ 0 ∷ 0 ∷ []
-
--- a tier's word where Rust spells `accesssafety`
-unfoldable pub spelledZ : ℕ → ℕ
-spelledZ t = if eqb t 3 then 4 else t
 
 module _ (s : List ℕ) where
   unfoldable pub actionZ : About → (code certainty entity p : ℕ) → List ℕ
@@ -102,34 +98,3 @@ module _ (s : List ℕ) where
   -- all entries of the automation at a position
   unfoldable pub ruleItems : Names → (rules : Section) → About → (p : ℕ) → Walk → (reads writes : ℕ) → List Item
   ruleItems d rules a p w reads writes = firstItems a p w writes ++ freshItems a (d .entities) reads ++ writesItems d rules a w
-
-  -- ---- pairs: opposing_writes
-
-  unfoldable pub pairZ : Section → (set e p q : ℕ) → List ℕ
-  pairZ es set e p q =
-      8 ∷ 1 ∷ spelledZ (tierZ s (getD (es .starts) e 0)) ∷ e ∷ set ∷ numberZ s p ∷ numberZ s (past s p 4) ∷ numberZ s q ∷ numberZ s (past s q 4) ∷ 0 ∷ 0 ∷ 0 ∷ 0 ∷ 0 ∷ []
-
-  unfoldable pub opposeItems : Names → (set p q : ℕ) → List Item
-  opposeItems d set p q =
-      let x = placeZ s (past s p 9) in
-      let e = number-of (d .entities) x s in
-      if ltb 1 (kindZ s p) then []
-      else if ltb 1 (kindZ s q) then []
-      else if leb (d .entities .count) e then []
-      else onlyIf (opposedZ (d .star) x (valueZ (d .star) p) (placeZ s (past s q 9)) (valueZ (d .star) q)) (finding (pairZ (d .entities) set e p q))
-
-  -- whether the action at q writes against a write of v to x
-  unfoldable pub opposingZ : (star x v q : ℕ) → Bool
-  opposingZ star x v q = if ltb 1 (kindZ s q) then false else opposedZ star x v (placeZ s (past s q 9)) (valueZ star q)
-
-  -- the finding of two such writes, the first of them to x
-  unfoldable pub foundItems : Section → (set x p q : ℕ) → List Item
-  foundItems es set x p q =
-      let e = number-of es x s in
-      if leb (es .count) e then [] else finding (pairZ es set e p q) ∷ []
-
-  unfoldable pub rowItems : Names → (set : ℕ) → Walk → (p : ℕ) → List Item
-  rowItems d set w p = itemsN (λ k. opposeItems d set p (getD (w .list) k 0)) (w .count) 0
-
-  unfoldable pub pairItems : Names → (set : ℕ) → Walk → Walk → List Item
-  pairItems d set v w = itemsN (λ k. rowItems d set w (getD (v .list) k 0)) (v .count) 0

@@ -1,27 +1,15 @@
--- The lines of `lint`, with their newlines: what a reader of the program's output sees.
+-- The lines of `lint` on findings, interactions and components, with their newlines: what a reader of the program's output sees.
 use Prim.Native.Nat.{ℕ}
 use mathlib.Core.List.{List, [], _∷_, _++_}
-use lib.ListN.{length}
-use Rattle.texts.specs.Lists.{each, flat}
+use Rattle.texts.specs.Lists.{each}
 use Rattle.texts.specs.Texts.{Text, text, decimal}
 use Rattle.reasons.specs.Reasons.{placed}
 use Rattle.model.specs.Model.{Source}
 use Rattle.lint.specs.Findings.{Finding, Interaction, code-name, message}
 use Rattle.show.specs.Lines.{newline, quoted}
+use Rattle.lint_words.specs.Lines.{listed, quoted-list}
 
 -- ---- parts
-
--- a space before each text
-unfoldable pub spaced : List Text → Text
-spaced l = flat (λ t. 32 ∷ t) l
-
--- `N TEXT..`
-unfoldable pub listed : List Text → Text
-listed l = decimal (length l) ++ spaced l
-
--- `N "TEXT"..`
-unfoldable pub quoted-list : List Text → Text
-quoted-list l = listed (each quoted l)
 
 -- `N LINE:COLUMN..`
 unfoldable pub source-list : List Source → Text
@@ -61,11 +49,7 @@ interaction-line i =
 unfoldable pub component-line : (ids : List Text) → Text
 component-line l = text "component " ++ (quoted-list l ++ newline)
 
--- the word is `reads` or `writes`
-unfoldable pub touched-line : (word id : Text) → (entities : List Text) → Text
-touched-line w id l = w ++ (32 ∷ (quoted id ++ (32 ∷ (quoted-list l ++ newline))))
-
 -- opens the file, for proofs by computation
 unfoldable pub all-lines : Unit {0}
-unfolding spaced listed quoted-list source-list kind-part places-part counts-line finding-line interaction-line component-line touched-line
+unfolding source-list kind-part places-part counts-line finding-line interaction-line component-line
 all-lines = tt

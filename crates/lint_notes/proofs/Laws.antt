@@ -80,6 +80,3 @@ module _ (s : List ℕ) (rules : Section) where
   from-start n {b} {e} h =
       let z : n - 0 ≡ n = omega arith in
       subst (λ (k : ℕ). AllNotes s rules k 0 b e) z h
-
-pub one-finding : {w v : List ℕ} (x : Board) {y : Board} → w ≡ v → y ≡ pushes (finding w ∷ []) x → y ≡ pushes (finding v ∷ []) x
-one-finding x e f = rw (← e) f

@@ -9,6 +9,7 @@ use lib.Dec.{eqb}
 use lib.ListN.{length, getD, set, take, replicate, length-append}
 use lib.Seq.{set-append-seam}
 use borrow.Author.Tests.{ne-eqb}
+use Rattle.engine.proofs.Bounds.{length-each}
 use Rattle.texts.specs.Lists.{if_then_else_, keep, find, each, flat}
 use Rattle.texts.specs.Texts.{Text, eqT, ltT, memT}
 use Rattle.texts.proofs.Ordering.{eq-refl}
@@ -31,7 +32,7 @@ use Rattle.lint_entry.specs.Order.{fillL}
 use Rattle.lint_places.specs.Numbers.{padded, entities-of, declared-set, undeclared, stranger-places, stranger-readers}
 use Rattle.lint_places.proofs.Lists.{mem-at}
 use Rattle.lint_places.proofs.Sets.{once-at, eqb-suc, set-members, places-at}
-use Rattle.lint_places.proofs.Stage.{Stage, no-rule, each-at, each-long, writes-small, reads-small, rule-start, rule-of, rule-at, walked-at}
+use Rattle.lint_places.proofs.Stage.{Stage, no-rule, each-at, writes-small, reads-small, rule-start, rule-of, rule-at, walked-at}
 use Rattle.lint_places.proofs.Strangers.{places-below}
 use Rattle.lint_places.proofs.Cycled.{each-each, places-long}
 use Rattle.lint_places.proofs.Rules.{es, names, ids, names-once, reads-listed, writes-listed}
@@ -100,7 +101,7 @@ pub fill-padded : (g : ℕ → ℕ) (n : ℕ) → n ≤ 32 → fillL g n 0 (repl
 unfolding padded
 fill-padded g n h =
     let z : 32 ≡ n + (32 - n) = omega arith in
-    let y : length (each g (places n 0)) ≡ n = each-long g (places n 0) ∙ places-long n 0 in
+    let y : length (each g (places n 0)) ≡ n = length-each g (places n 0) ∙ places-long n 0 in
     ap (λ (m : ℕ). fillL g n 0 (replicate m 0)) z
     ∙ filled g n 0 (32 - n) [] refl
     ∙ ap (λ (m : ℕ). each g (places n 0) ++ replicate (32 - m) 0) (sym y)
@@ -152,7 +153,7 @@ flat-same f g (x ∷ l) h = ap (λ (y : List _). y ++ flat f l) (h 0 (omega arit
 module _ {s : List ℕ} {d : Names} {rs : Section} {ts : List Text} {m : Model} (st : Stage s d rs ts m) where
   pub ids-apart : (i j : ℕ) → i < length (m .rules) → j < length (m .rules) → eqT (getD (m .rules) i no-rule .id) (getD (m .rules) j no-rule .id) ≡ eqb i j
   ids-apart i j h k =
-      let n = each-long (λ r. r .id) (m .rules) in
+      let n = length-each (λ r. r .id) (m .rules) in
       ap (λ (t : Text). eqT t (getD (m .rules) j no-rule .id)) (sym (each-at (λ r. r .id) [] no-rule (m .rules) i h))
       ∙ ap (eqT (getD (ids st) i [])) (sym (each-at (λ r. r .id) [] no-rule (m .rules) j k))
       ∙ once-at (ids st) (st .ids) i j (omega arith) (omega arith)
@@ -164,7 +165,7 @@ module _ {s : List ℕ} {d : Names} {rs : Section} {ts : List Text} {m : Model} 
   pub set-is : (x : ℕ) → x < 2 ^ 32 → (n : ℕ) → n ≤ length (es st) → members x ≡ keep (holds x) (places n 0) → set-of (each (λ t. place-of t (names st)) (each (nameAt (es st)) (members x))) ≡ x
   unfolding nameAt
   set-is x h n k e =
-      let l = each-long (λ e. e .name) (es st) in
+      let l = length-each (λ e. e .name) (es st) in
       ap set-of (places-at (names st) (names-once st) (members x) (λ j b.
       let y = places-below (holds x) n 0 j (rw (← e) b) in
       let z : getD (members x) j 0 ≡ getD (keep (holds x) (places n 0)) j 0 = ap (λ (l : List ℕ). getD l j 0) e in
@@ -194,10 +195,10 @@ module _ {s : List ℕ} {d : Names} {rs : Section} {ts : List Text} {m : Model} 
     pub writes-set : declared-set (names st) (writes-of (rule-of st i)) ≡ W
     unfolding declared-set nameAt
     writes-set =
-        let l = each-long (λ e. e .name) (es st) in
+        let l = length-each (λ e. e .name) (es st) in
         ap (λ (l : List Text). set-of (each (λ t. place-of t (names st)) (keep (λ t. memT t (names st)) l))) (writes-listed st i h)
         ∙ ap (λ (l : List Text). set-of (each (λ t. place-of t (names st)) l)) (keep-every (λ t. memT t (names st)) (each (nameAt (es st)) (members W)) (λ j b.
-        let c : j < length (members W) = omega (arith, each-long (nameAt (es st)) (members W)) in
+        let c : j < length (members W) = omega (arith, length-each (nameAt (es st)) (members W)) in
         let y = places-below (holds W) (length (es st)) 0 j (rw (← below-writes) c) in
         let z : getD (members W) j 0 ≡ getD (keep (holds W) (places (length (es st)) 0)) j 0 = ap (λ (l : List ℕ). getD l j 0) below-writes in
         ap (λ (t : Text). memT t (names st)) (each-at (nameAt (es st)) [] 0 (members W) j c) ∙ mem-at (names st) (getD (members W) j 0) (omega arith)))

@@ -12,6 +12,7 @@ use lib.Dec.{eqb, ltb}
 use lib.ListN.{length, getD, take}
 use lib.Seq.{getD-take, length-take-le}
 use borrow.Author.Tests.{lt-ltb, le-ltb}
+use Rattle.engine.proofs.Bounds.{length-each}
 use Rattle.texts.specs.Lists.{if_then_else_, any, listed, keep, each, flat, through}
 use Rattle.texts.specs.Texts.{Text, memT}
 use Rattle.texts.proofs.Ordering.{not-both}
@@ -51,7 +52,7 @@ use Rattle.lint_places.proofs.Sets.{set-members, places-at}
 use Rattle.lint_places.proofs.Agree.{Stands, as-finding, agree-numbers}
 use Rattle.lint_places.proofs.Tiers.{highest-word}
 use Rattle.lint_places.proofs.Accepted.{FineA}
-use Rattle.lint_places.proofs.Stage.{Stage, no-rule, each-at, each-long, nth, rule-start, rule-of, rule-at, legal-at, walked-at}
+use Rattle.lint_places.proofs.Stage.{Stage, no-rule, each-at, nth, rule-start, rule-of, rule-at, legal-at, walked-at}
 use Rattle.lint_places.proofs.Rules.{es, names, ids, Agrees, Writes, writes, others, write-at, writes-held}
 
 -- ---- lists
@@ -135,7 +136,7 @@ places-long (suc n) k = ap suc (places-long n (k + 1))
 
 way-long : (k : ℕ) (sq : Square) → length (by-way-of k sq) ≡ length sq
 unfolding by-way-of square
-way-long k sq = each-long (λ i. each (λ j. reach.cell sq i j || reach.cell sq i k && reach.cell sq k j) (places (length sq) 0)) (places (length sq) 0) ∙ places-long (length sq) 0
+way-long k sq = length-each (λ i. each (λ j. reach.cell sq i j || reach.cell sq i k && reach.cell sq k j) (places (length sq) 0)) (places (length sq) 0) ∙ places-long (length sq) 0
 
 closed-long : (l : List ℕ) (sq : Square) → length (through by-way-of l sq) ≡ length sq
 unfolding through
@@ -230,8 +231,8 @@ module _ {s : List ℕ} {d : Names} {rs : Section} {ts : List Text} {m : Model} 
 
   copies : Copies (edgesZ s (d .star) rs) (rs .count) edges
   copies = edges-copy s (d .star) rs (omega (arith, st .rules .counts, st .lawful .few-rules)) edges
-      (each-long (λ r. each (leads-to r) (m .rules)) (m .rules) ∙ sym (st .rules .counts))
-      (λ i h. ap length (each-at (λ r. each (leads-to r) (m .rules)) [] no-rule (m .rules) i (omega (arith, st .rules .counts))) ∙ each-long (leads-to (rule-of st i)) (m .rules) ∙ sym (st .rules .counts))
+      (length-each (λ r. each (leads-to r) (m .rules)) (m .rules) ∙ sym (st .rules .counts))
+      (λ i h. ap length (each-at (λ r. each (leads-to r) (m .rules)) [] no-rule (m .rules) i (omega (arith, st .rules .counts))) ∙ length-each (leads-to (rule-of st i)) (m .rules) ∙ sym (st .rules .counts))
       (λ i j h k.
       leads-agree i j (omega (arith, st .rules .counts)) (omega (arith, st .rules .counts))
       ∙ sym (each-at (leads-to (rule-of st i)) false no-rule (m .rules) j (omega (arith, st .rules .counts)))
@@ -273,7 +274,7 @@ module _ {s : List ℕ} {d : Names} {rs : Section} {ts : List Text} {m : Model} 
     unfolding ids-set
     cycle-set = sym (
         ap (λ (l : List Text). set-of (each (λ t. place-of t (ids st)) l)) (each-each (λ r. r .id) (λ i. getD (m .rules) i no-rule) (members set) ∙ each-same (λ (i : ℕ). i < n) (λ i. getD (m .rules) i no-rule .id) (λ i. getD (ids st) i []) (λ i h. sym (each-at (λ r. r .id) [] no-rule (m .rules) i h)) (members set) below)
-        ∙ ap set-of (places-at (ids st) (st .ids) (members set) (λ j h. let b = nth (λ (i : ℕ). i < n) 0 (members set) below j h in rw (each-long (λ r. r .id) (m .rules)) b))
+        ∙ ap set-of (places-at (ids st) (st .ids) (members set) (λ j h. let b = nth (λ (i : ℕ). i < n) 0 (members set) below j h in rw (length-each (λ r. r .id) (m .rules)) b))
         ∙ set-members set small)
 
     cycle-writes : (j : ℕ) → j < length (es st) → holds (cycleWritesZ s (d .entities) rs set) j ≡ memT (nameAt (es st) j) (flat writes-of (rules-at (members set)))
@@ -318,7 +319,7 @@ module _ {s : List ℕ} {d : Names} {rs : Section} {ts : List Text} {m : Model} 
     sets-below =
         each-back (Each (λ (i : ℕ). i < n)) members sets
         (subst (Each (Each (λ (i : ℕ). i < n))) (sym components-are)
-        (subst (λ (k : ℕ). Each (Each (λ (i : ℕ). i < k)) (components (closure edges))) (closure-long edges ∙ each-long (λ r. each (leads-to r) (m .rules)) (m .rules)) (components-below (closure edges))))
+        (subst (λ (k : ℕ). Each (Each (λ (i : ℕ). i < k)) (components (closure edges))) (closure-long edges ∙ length-each (λ r. each (leads-to r) (m .rules)) (m .rules)) (components-below (closure edges))))
 
     pub cycles-listed : cycles (m .rules) ≡ each (λ x. flat (at-place (m .rules)) (members x)) sets
     unfolding cycles findings.reach

@@ -8,6 +8,7 @@ use native.Mathlib.Omega.{arith}
 use lib.ListN.{length, getD, set, replicate, length-append}
 use lib.Seq.{set-append-seam}
 use borrow.Author.Tests.{lt-ltb}
+use Rattle.engine.proofs.Bounds.{length-each}
 use Rattle.texts.specs.Lists.{if_then_else_, absent, keep, listed, each, flat}
 use Rattle.texts.specs.Texts.{Text, memT, sortedT}
 use Rattle.model.specs.Model.{Predicate, state, Trigger, Effect, toggle, delay, condition, choose, wait, Actions, done, act, Branches, no-branch, branch, Entity, Automation, Model}
@@ -28,7 +29,7 @@ use Rattle.lint_places.specs.Numbers.{padded, undeclared}
 use Rattle.lint_places.proofs.Lists.{flat-append, rising-keep, mem-keep, mem-at}
 use Rattle.lint_places.proofs.Sets.{Once}
 use Rattle.lint_places.proofs.Accepted.{Declared, FineP, FineT, Fine, FineA, Legal}
-use Rattle.lint_places.proofs.Stage.{Stage, no-rule, each-long, id-number}
+use Rattle.lint_places.proofs.Stage.{Stage, no-rule, id-number}
 use Rattle.lint_places.proofs.Strangers.{keep-append, found-places, strange-places}
 use Rattle.lint_places.proofs.Rules.{es, names, ids}
 
@@ -45,7 +46,7 @@ module _ (es : List Entity) where
   unfolding nameAt
   known y f =
       let b = f .1 .0 in
-      ap (λ (t : Text). und t) (sym (f .1 .1)) ∙ ap not (mem-at names-of (f .0) (omega (arith, each-long (λ e. e .name) es)))
+      ap (λ (t : Text). und t) (sym (f .1 .1)) ∙ ap not (mem-at names-of (f .0) (omega (arith, length-each (λ e. e .name) es)))
 
   one-known : (y : Text) → Declared es y → keep und (y ∷ []) ≡ []
   unfolding keep
@@ -236,8 +237,8 @@ module _ {s : List ℕ} {d : Names} {rs : Section} {ts : List Text} {m : Model} 
       let a = length-append (P r) (flat P rest) in
       let b = length-append l (P r) in
       let c = length-append k (Q r) in
-      let p = each-long (λ t. place-of t ts) (strangers r) in
-      let q = each-long (λ t. place-of (r .id) (ids st)) (strangers r) in
+      let p = length-each (λ t. place-of t ts) (strangers r) in
+      let q = length-each (λ t. place-of (r .id) (ids st)) (strangers r) in
       ap (rulesU s (d .entities) rs (length ts) (length rest) (i + 1)) (rule-packed i (omega arith) r z l k e (omega arith))
       ∙ rules-packed rest (i + 1) (omega arith) (λ j x. let y : i + suc j ≡ i + 1 + j = omega arith in same (suc j) (omega arith) ∙ ap (λ (j : ℕ). getD (m .rules) j no-rule) y) (l ++ P r) (k ++ Q r) (omega arith) (omega arith)
       ∙ ap (λ (y : List ℕ). packed y ((k ++ Q r) ++ flat Q rest)) (append-assoc l (P r) (flat P rest))
@@ -246,7 +247,7 @@ module _ {s : List ℕ} {d : Names} {rs : Section} {ts : List Text} {m : Model} 
   pub flat-long : (l : List Automation) → length (flat P l) ≡ length (flat strangers l)
   unfolding flat
   flat-long [] = refl
-  flat-long (r ∷ l) = omega (arith, length-append (P r) (flat P l), length-append (strangers r) (flat strangers l), each-long (λ t. place-of t ts) (strangers r), flat-long l)
+  flat-long (r ∷ l) = omega (arith, length-append (P r) (flat P l), length-append (strangers r) (flat strangers l), length-each (λ t. place-of t ts) (strangers r), flat-long l)
 
   pub few-strangers : length (flat P (m .rules)) ≤ 64
   unfolding notes-of

@@ -3,12 +3,13 @@ use mathlib.Core.Path.{_≡_, refl, sym, ap, _∙_, subst}
 use mathlib.Core.Bool.{Bool, true, false}
 use mathlib.Core.List.{List, [], _∷_, _++_, append-nil}
 use mathlib.Core.Option.{Option, none, some}
-use Prim.Native.Nat.{ℕ, zero, suc, _+_, _-_, _^_, _<_}
+use Prim.Native.Nat.{ℕ, suc, _+_, _-_, _^_, _<_}
 use native.Mathlib.Omega.{arith}
 use lib.Bits.{bitOr}
 use lib.Dec.{eqb, ltb, leb}
 use lib.ListN.{length, getD}
 use borrow.Author.Tests.{lt-ltb, le-ltb, lt-leb, eqb-true}
+use Rattle.lint_pairs.proofs.Laws.{items-none}
 use Rattle.texts.specs.Lists.{if_then_else_, listed, each, flat, through}
 use Rattle.texts.specs.Texts.{Text, text, eqT}
 use Rattle.texts.proofs.Ordering.{eq-is, eq-sym}
@@ -31,7 +32,8 @@ use Rattle.lint_tests.specs.declared.Names.{Names}
 use Rattle.lint_tests.specs.Tests.{tierZ, opposedZ}
 use Rattle.lint_tests.proofs.More.{opposed-agrees}
 use Rattle.lint_board.specs.Board.{Item, onlyIf}
-use Rattle.lint_findings.specs.Entries.{itemsN, valueZ, spelledZ, pairZ, opposeItems, rowItems, pairItems}
+use Rattle.lint_findings.specs.Entries.{itemsN, valueZ}
+use Rattle.lint_pairs.specs.Pairs.{spelledZ, pairZ, opposeItems, rowItems, pairItems}
 use Rattle.lint_entry.specs.Order.{pairAt, laterItems, opposingItems}
 use Rattle.lint_places.proofs.Lists.{flat-flat}
 use Rattle.lint_places.proofs.Agree.{as-finding, agree-append, agree-if, agree-numbers}
@@ -39,11 +41,6 @@ use Rattle.lint_places.proofs.Tiers.{entity-at, no-entity, tier-at, spe
 use Rattle.lint_places.proofs.Accepted.{FineA}
 use Rattle.lint_places.proofs.Stage.{Stage, no-rule, legal-at, walked-at, id-number, agree-actions}
 use Rattle.lint_places.proofs.Rules.{es, names, ids, Agrees, name-number, declared-number, Valued, WriteAt, Writes, writes, others, write-at}
-
-items-none : (f : ℕ → List Item) → ((k : ℕ) → f k ≡ []) → (n k : ℕ) → itemsN f n k ≡ []
-unfolding itemsN
-items-none f h zero k = refl
-items-none f h (suc n) k = rw (h k) (items-none f h n (k + 1))
 
 module _ {s : List ℕ} {d : Names} {rs : Section} {ts : List Text} {m : Model} (st : Stage s d rs ts m) where
   abbrev e : Section

@@ -12,6 +12,7 @@ use lib.Count.{ones}
 use lib.Dec.{eqb, ltb}
 use lib.ListN.{length, getD}
 use borrow.Author.Tests.{lt-ltb, le-ltb, eq-eqb, ne-eqb, lt-leb}
+use Rattle.engine.proofs.Bounds.{length-each}
 use Rattle.texts.specs.Lists.{if_then_else_, present-and, listed, is-empty, any, all, keep, each, flat}
 use Rattle.texts.specs.Texts.{Text, text, eqT, memT}
 use Rattle.texts.proofs.Ordering.{not-both, eq-is, eq-refl}
@@ -52,7 +53,7 @@ use Rattle.lint_places.proofs.Sets.{Once, set-empty, place-at}
 use Rattle.lint_places.proofs.Agree.{Stands, as-finding, as-interaction, Agree, agree-append, agree-if, agree-numbers}
 use Rattle.lint_places.proofs.Tiers.{entity-at, no-entity, tier-at, expires-at, expires-none, highest-word}
 use Rattle.lint_places.proofs.Accepted.{Declared, FineA}
-use Rattle.lint_places.proofs.Stage.{Stage, no-rule, each-long, writes-small, rule-start, rule-of, rule-at, legal-at, walked-at, id-number, agree-actions}
+use Rattle.lint_places.proofs.Stage.{Stage, no-rule, writes-small, rule-start, rule-of, rule-at, legal-at, walked-at, id-number, agree-actions}
 
 -- the entities that an action writes are declared
 written-fine : (es : List Entity) (a : Action) → FineA es a → (t : Text) → memT t (each (λ w. w .entity) (listed (write (a .source) (a .effect)))) ≡ true → Declared es t
@@ -113,12 +114,12 @@ module _ {s : List ℕ} {d : Names} {rs : Section} {ts : List Text} {m : Model} 
   pub names-once : Once (names)
   unfolding Once nameAt
   names-once i j h k =
-      let n = each-long (λ e. e .name) (es) in
+      let n = length-each (λ e. e .name) (es) in
       name-once s (e) ts (es) (st .grounds) i j (omega arith) (omega arith)
 
   pub name-number : (j : ℕ) → j < length (es) → place-of (nameAt (es) j) (names) ≡ j
   unfolding nameAt
-  name-number j h = place-at (names) names-once j (rw (each-long (λ e. e .name) (es)) h)
+  name-number j h = place-at (names) names-once j (rw (length-each (λ e. e .name) (es)) h)
 
   -- the entity that a place names is declared: its number
   pub declared-number : (x : ℕ) (t : Text) → x < length ts → t ≡ T x → (j : ℕ) → j < length (es) → nameAt (es) j ≡ t → number-of (e) x s ≡ j
@@ -372,7 +373,7 @@ module _ {s : List ℕ} {d : Names} {rs : Section} {ts : List Text} {m : Model} 
     -- ---- fanout
 
     many-writes : ones W ≡ length (writes-of r)
-    many-writes = ones-members W (writes-small s e few-entities w) ∙ sym (ap length writes-listed ∙ each-long (nameAt es) (members W))
+    many-writes = ones-members W (writes-small s e few-entities w) ∙ sym (ap length writes-listed ∙ length-each (nameAt es) (members W))
 
     fanout-agrees : Agrees (about-if (m .scenario) (ltb 8 (length (writes-of r))) r high-fanout (r .source)) (fanoutItems s a W)
     unfolding fanoutItems code-number certainty-number entity-number
@@ -393,8 +394,8 @@ module _ {s : List ℕ} {d : Names} {rs : Section} {ts : List Text} {m : Model} 
     reads-listed =
         sym (sorted-rising (keep declared (reads-of r)) (rising-keep declared (rising-sorted _)))
         ∙ names-are s e ts es (st .grounds) R (keep declared (reads-of r)) (reads-inside s e ts es (st .grounds) p w r ra wa)
-        (λ t k. let x = found-at names t (both-true (declared t) (memT t (reads-of r)) (sym (mem-keep declared t (reads-of r)) ∙ k)) in let l = x .1 .0 in (x .0, (omega (arith, each-long (λ e. e .name) es), x .1 .1)))
-        (λ j k. reads-hold s e ts es (st .grounds) p w r ra wa j k ∙ sym (mem-keep declared (nameAt es j) (reads-of r) ∙ ap (λ (b : Bool). b && memT (nameAt es j) (reads-of r)) (mem-at names j (rw (each-long (λ e. e .name) es) k))))
+        (λ t k. let x = found-at names t (both-true (declared t) (memT t (reads-of r)) (sym (mem-keep declared t (reads-of r)) ∙ k)) in let l = x .1 .0 in (x .0, (omega (arith, length-each (λ e. e .name) es), x .1 .1)))
+        (λ j k. reads-hold s e ts es (st .grounds) p w r ra wa j k ∙ sym (mem-keep declared (nameAt es j) (reads-of r) ∙ ap (λ (b : Bool). b && memT (nameAt es j) (reads-of r)) (mem-at names j (rw (length-each (λ e. e .name) es) k))))
       where
         both-true : (a b : Bool) → (a && b) ≡ true → a ≡ true
         both-true true b k = refl
@@ -406,7 +407,7 @@ module _ {s : List ℕ} {d : Names} {rs : Section} {ts : List Text} {m : Model} 
     fresh-none : (x : Text) → declared x ≡ false → fresh-entries x ≡ []
     unfolding about-if nameAt
     fresh-none x k =
-        let z = expires-none s e ts (m .scenario) (st .grounds) x (λ j l. not-at names x k j (rw (each-long (λ e. e .name) es) l)) in
+        let z = expires-none s e ts (m .scenario) (st .grounds) x (λ j l. not-at names x k j (rw (length-each (λ e. e .name) es) l)) in
         rw z
 
     abbrev fresh-items : ℕ → List Item

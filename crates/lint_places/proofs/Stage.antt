@@ -11,6 +11,7 @@ use lib.ListN.{length, getD}
 use lib.Pow.{pow-lt, pow-pos}
 use lib.Seq.{getD-take}
 use borrow.Author.Tests.{ltb-true}
+use Rattle.engine.proofs.Bounds.{length-each}
 use Rattle.texts.specs.Lists.{if_then_else_, each, flat}
 use Rattle.texts.specs.Texts.{Text, text, eqT}
 use Rattle.model.specs.Model.{Entity, single, done, Automation, Model}
@@ -58,11 +59,6 @@ unfolding each
 each-at f b d [] j h = absurd (omega arith)
 each-at f b d (x ∷ l) zero h = refl
 each-at f b d (x ∷ l) (suc j) h = each-at f b d l j (omega arith)
-
-pub each-long : {A B : Type 0} (f : A → B) (l : List A) → length (each f l) ≡ length l
-unfolding each
-each-long f [] = refl
-each-long f (x ∷ l) = ap suc (each-long f l)
 
 pub nth : {A : Type 0} (P : A → Type 0) (d : A) (l : List A) → Each P l → (j : ℕ) → j < length l → P (getD l j d)
 nth P d [] f j h = absurd (omega arith)
@@ -157,7 +153,7 @@ module _ {s : List ℕ} {d : Names} {rs : Section} {ts : List Text} {m : Model} 
   pub id-number : (i : ℕ) → i < length (m .rules) → place-of (rule-of i .id) (each (λ r. r .id) (m .rules)) ≡ i
   id-number i h =
       ap (λ (t : Text). place-of t (each (λ r. r .id) (m .rules))) (sym (each-at (λ r. r .id) [] no-rule (m .rules) i h))
-      ∙ place-at (each (λ r. r .id) (m .rules)) (st .ids) i (rw (each-long (λ r. r .id) (m .rules)) h)
+      ∙ place-at (each (λ r. r .id) (m .rules)) (st .ids) i (rw (length-each (λ r. r .id) (m .rules)) h)
 
 -- ---- the items of an automation's actions
 

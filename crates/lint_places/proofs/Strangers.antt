@@ -10,6 +10,7 @@ use lib.Dec.{eqb, leb}
 use lib.ListN.{length, getD}
 use lib.Seq.{getD-take}
 use borrow.Author.Tests.{le-leb, lt-leb}
+use Rattle.engine.proofs.Bounds.{length-each}
 use Rattle.texts.specs.Lists.{if_then_else_, absent, any, keep, each, flat}
 use Rattle.texts.specs.Texts.{Text, eqT, memT}
 use Rattle.texts.proofs.Ordering.{not-both, eq-is, eq-sym}
@@ -36,7 +37,7 @@ use Rattle.lint_places.specs.Numbers.{undeclared}
 use Rattle.lint_places.proofs.Lists.{rising-keep, mem-keep, mem-at, not-at, found-at}
 use Rattle.lint_places.proofs.Sets.{Once, places-at}
 use Rattle.lint_places.proofs.Accepted.{Declared, FineP, FineT, Fine, FineA, Legal}
-use Rattle.lint_places.proofs.Stage.{Stage, no-rule, each-long, legal-at, walked-at}
+use Rattle.lint_places.proofs.Stage.{Stage, no-rule, legal-at, walked-at}
 use Rattle.lint_places.proofs.Rules.{es, names}
 use Rattle.lint_places.proofs.Cycled.{any-flat, any-over}
 
@@ -97,7 +98,7 @@ module _ {s : List ℕ} {d : Names} {rs : Section} {ts : List Text} {m : Model} 
   unfolding nameAt
   fine-not x y h f =
       let b = f .1 .0 in
-      eq-sym x y ∙ ap (λ (t : Text). eqT t x) (sym (f .1 .1)) ∙ not-at (names st) x h (f .0) (omega (arith, each-long (λ e. e .name) (es st)))
+      eq-sym x y ∙ ap (λ (t : Text). eqT t x) (sym (f .1 .1)) ∙ not-at (names st) x h (f .0) (omega (arith, length-each (λ e. e .name) (es st)))
 
   pub one-not : (x y : Text) → Strange x → Declared (es st) y → memT x (y ∷ []) ≡ false
   one-not x y h f = mem-cons x y [] ∙ ap (λ (b : Bool). b || memT x []) (fine-not x y h f) ∙ mem-none x
@@ -129,7 +130,7 @@ module _ {s : List ℕ} {d : Names} {rs : Section} {ts : List Text} {m : Model} 
   number-is t h = cases (case (memT (T t) (names st)))
     where
       long : length (names st) ≡ length (es st)
-      long = each-long (λ e. e .name) (es st)
+      long = length-each (λ e. e .name) (es st)
 
       cases : Case (memT (T t) (names st)) → leb (d .entities .count) (number-of (d .entities) t s) ≡ not (memT (T t) (names st))
       cases (is-true b) =

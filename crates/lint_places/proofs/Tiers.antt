@@ -25,7 +25,7 @@ use Rattle.lint_touches.proofs.Agrees.{Grounds, name-once}
 use Rattle.lint_touches.proofs.Rising.{mem-cons, mem-none}
 use Rattle.lint_tests.specs.Tests.{tierZ, staleZ, greaterZ, highestFrom, highestZ}
 use Rattle.lint_tests.proofs.More.{entity-agrees}
-use Rattle.lint_findings.specs.Entries.{spelledZ}
+use Rattle.lint_pairs.specs.Pairs.{spelledZ}
 use Rattle.lint_places.proofs.Lists.{either}
 
 -- ---- the greatest of some numbers

@@ -1,6 +1,6 @@
 -- `closed` is reach by one or more steps.
 use mathlib.Core.Path.{_≡_, refl, sym, ap, _∙_}
-use mathlib.Core.Bool.{Bool, true, false}
+use mathlib.Core.Bool.{Bool, true, false, true≢false}
 use mathlib.Core.Logic.{_⊎_, inl, inr, ⊎-elim}
 use mathlib.Core.List.{List, []}
 use Prim.Native.Nat.{ℕ, zero, suc, _+_, _≤_, _<_}
@@ -91,9 +91,9 @@ Rows : Square → ℕ → ℕ → Square → Type 0
 Rows x k i y = (a b : ℕ) → a < i → cell x a k ≡ true → cell x k b ≡ true → cell y a b ≡ true
 
 never : {C : Type 0} {b : Bool} → b ≡ true → b ≡ false → C
-never p q = let w : _≡_ {A = ℕ} 0 1 = cc in absurd (omega arith)
+never p q = absurd (true≢false (sym p ∙ q))
 
-below : {C : Type 0} (a i : ℕ) → a < i + 1 → (a < i → C) → (a ≡ i → C) → C
+pub below : {C : Type 0} (a i : ℕ) → a < i + 1 → (a < i → C) → (a ≡ i → C) → C
 below a i h f g = same? a i g (λ n. f (omega (arith, n)))
 
 module _ (x : Square) (s : Full x) (k : ℕ) (hk : k < 32) where

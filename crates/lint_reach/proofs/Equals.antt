@@ -20,6 +20,7 @@ use Rattle.lint_reach.specs.Steps.{Square, cell}
 use Rattle.lint_reach.specs.Paths.{Reaches, edge, joined, Closes}
 use Rattle.lint_reach.specs.Sets.{holds, members}
 use Rattle.lint_reach.specs.Cycles.{bothS, componentS, startsS, componentsFrom, componentsS, Copies}
+use Rattle.lint_reach.proofs.Closure.{below}
 use Rattle.lint_reach.proofs.Bits.{Three, less, same, more, three, holds-or, holds-none, keep-same, collect-inside, collect-members}
 
 cell-is : (sq : Square) (i j : ℕ) → lint.cell sq i j ≡ cell sq i j
@@ -172,9 +173,6 @@ record Closing (n : ℕ) (e : Square) (k : ℕ) (y : Square) : Type 0 where
   keeps : (a b : ℕ) → cell e a b ≡ true → cell y a b ≡ true
   sound : (a b : ℕ) → cell y a b ≡ true → Reaches e a b
   joins : (m a b : ℕ) → m < k → cell y a m ≡ true → cell y m b ≡ true → cell y a b ≡ true
-
-below : {C : Type 0} (a i : ℕ) → a < i + 1 → (a < i → C) → (a ≡ i → C) → C
-below a i h f g = elim (decLt a i) [ yes k ↦ f k | no k ↦ g (omega arith) ]
 
 stage : (n : ℕ) (e : Square) (k : ℕ) (x : Square) → Closing n e k x → Closing n e (k + 1) (by-way-of k x)
 stage n e k x p =

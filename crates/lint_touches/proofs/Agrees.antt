@@ -11,6 +11,7 @@ use native.Mathlib.Decide.{decLt}
 use lib.Dec.{eqb, ltb}
 use lib.ListN.{length, getD}
 use borrow.Author.Tests.{lt-ltb, le-ltb, eq-eqb, ne-eqb, eqb-true}
+use Rattle.engine.proofs.Bounds.{length-each}
 use Rattle.texts.specs.Lists.{if_then_else_, absent, listed, keep, each, flat}
 use Rattle.texts.specs.Texts.{Text, eqT, memT, sortedT}
 use mathlib.Core.Logic.{_⊎_, inl, inr}
@@ -59,11 +60,6 @@ each-at f d [] j h = absurd (omega arith)
 each-at f d (x ∷ l) zero h = refl
 each-at f d (x ∷ l) (suc j) h = each-at f d l j (omega arith)
 
-pub each-many : {A B : Type 0} (f : A → B) (l : List A) → length (each f l) ≡ length l
-unfolding each
-each-many f [] = refl
-each-many f (x ∷ l) = ap suc (each-many f l)
-
 pub each-append : {A B : Type 0} (f : A → B) (l m : List A) → each f (l ++ m) ≡ each f l ++ each f m
 unfolding each
 each-append f [] m = refl
@@ -106,9 +102,9 @@ module _ (s : List ℕ) (e : Section) (ts : List Text) (es : List Entity) (g : G
   pub name-once : (i j : ℕ) → i < length es → j < length es → eqT (nameAt es i) (nameAt es j) ≡ eqb i j
   unfolding nameAt
   name-once i j h k = elim (decLt i j) [
-    | yes l ↦ eq-no (rising-before (each (λ e. e .name) es) (g .rising) i j l (rw (each-many (λ e. e .name) es) k)) ∙ sym (ne-eqb i j (λ z. omega arith))
+    | yes l ↦ eq-no (rising-before (each (λ e. e .name) es) (g .rising) i j l (rw (length-each (λ e. e .name) es) k)) ∙ sym (ne-eqb i j (λ z. omega arith))
     | no l ↦ elim (decLt j i) [
-      | yes m ↦ no-eq (rising-before (each (λ e. e .name) es) (g .rising) j i m (rw (each-many (λ e. e .name) es) h)) ∙ sym (ne-eqb i j (λ z. omega arith))
+      | yes m ↦ no-eq (rising-before (each (λ e. e .name) es) (g .rising) j i m (rw (length-each (λ e. e .name) es) h)) ∙ sym (ne-eqb i j (λ z. omega arith))
       | no m ↦ let z : i ≡ j = omega arith in is-eq (ap (λ (n : ℕ). getD (each (λ e. e .name) es) n []) z) ∙ sym (eq-eqb i j z)
     ]
   ]
@@ -438,7 +434,7 @@ module _ (s : List ℕ) (e : Section) (ts : List Text) (es : List Entity) (g : G
   above-names set (suc n) i j h k = cases (holds set i) (above-names set n (i + 1) j (omega arith) (omega arith))
     where
       cases : (b : Bool) → Above (nameAt es j) (each (nameAt es) (keep (holds set) (places n (i + 1)))) → Above (nameAt es j) (each (nameAt es) (if b then i ∷ keep (holds set) (places n (i + 1)) else keep (holds set) (places n (i + 1))))
-      cases true ih = over-one (rising-before (each (λ e. e .name) es) (g .rising) j i h (rw (each-many (λ e. e .name) es) (omega arith))) ih
+      cases true ih = over-one (rising-before (each (λ e. e .name) es) (g .rising) j i h (rw (length-each (λ e. e .name) es) (omega arith))) ih
       cases false ih = ih
 
   pub rising-names : (set n i : ℕ) → i + n ≤ length es → Rising (each (nameAt es) (keep (holds set) (places n i)))

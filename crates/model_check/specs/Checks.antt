@@ -52,10 +52,6 @@ timesC (suc i) k = k ⨾ timesC i k
 abbrev pub dayC : (number : ℕ) → Check
 dayC k = by u32 (λ x. refuse-if k (ltb day x))
 
--- one action more; 17: more than 512
-unfoldable pub countC : Check
-countC s p n = if ltb n 512 then checked.To p (n + 1) else checked.Refused 17
-
 -- ---- places
 
 -- the place at p is x
@@ -141,35 +137,3 @@ module _ (d : Declaration) where
 
   unfoldable pub triggersC : ℕ → Check
   triggersC c = timesC c triggerC
-
-  unfoldable pub toggleC : Check
-  toggleC = by u16 (λ x. valueC x (d .on) ⨾ valueC x (d .off))
-
-  unfoldable pub waitC : Check
-  waitC = triggerC ⨾ dayC 19 ⨾ skipC 1
-
-  -- ---- actions
-
-  -- what follows the kind k of an effect that holds no list
-  unfoldable pub simpleC : ℕ → Check
-  simpleC k =
-      if eqb k 0 then pairC
-      else if eqb k 1 then toggleC
-      else if eqb k 2 then dayC 18
-      else if eqb k 3 then predicateC
-      else if eqb k 5 then waitC
-      else skipC 2
-
-  abbrev pub branchC : Check → Check
-  branchC inner = predicatesC ⨾ inner
-
-  abbrev pub choiceC : Check → Check
-  choiceC inner = by u16 (λ c. timesC c (branchC inner) ⨾ inner)
-
-  abbrev pub actionC : Check → Check
-  actionC inner = (countC ⨾ skipC 8) ⨾ by u8 (λ k. if eqb k 4 then choiceC inner else simpleC k)
-
-  -- a list of actions below which lists may stand `left` deep; 16: none may stand here
-  unfoldable pub actionsC : (left : ℕ) → Check
-  actionsC zero = refuse 16
-  actionsC (suc left) = by u16 (λ c. timesC c (actionC (actionsC left)))

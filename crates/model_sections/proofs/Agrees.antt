@@ -27,9 +27,11 @@ use Rattle.model_index.specs.declared.Status.the-variants as status
 use Rattle.model_index.specs.Indexed.{Holds}
 use Rattle.model_check.specs.declared.Checked.{Checked}
 use Rattle.model_check.specs.declared.Checked.the-variants as checked
-use Rattle.model_check.specs.Checks.{Declaration, and-then, _⨾_, stay, skipC, dayC, place-is, among, valueC, pairC, predicateC, predicatesC, triggersC, actionsC}
+use Rattle.model_check.specs.Checks.{Declaration, and-then, _⨾_, stay, skipC, dayC, place-is, among, valueC, pairC, predicateC, predicatesC, triggersC}
+use Rattle.model_actions.specs.Actions.{actionsC}
 use Rattle.model_check.proofs.Laws as checks
-use Rattle.model_check.proofs.Agrees.{after, after-same, and-bind, and-assoc, eqb-sym, or-is, by-got, next, next-and, skip-wide, skip-then, stays, Grounded, among-agrees, value-agrees, pair-agrees, predicate-agrees, predicates-agree, triggers-agree, actions-agree, day-agrees}
+use Rattle.model_check.proofs.Agrees.{after, after-same, and-bind, and-assoc, eqb-sym, or-is, by-got, next, next-and, skip-wide, skip-then, stays, Grounded, among-agrees, value-agrees, pair-agrees, predicate-agrees, predicates-agree, triggers-agree, day-agrees}
+use Rattle.model_actions.proofs.Agrees.{actions-agree}
 use Rattle.model_sections.specs.declared.Part.{Part}
 use Rattle.model_sections.specs.declared.Part.the-variants as part
 use Rattle.model_sections.specs.Sections.{bad-place, any-bad, doubled, bad-domain, stale-bad, entity-ofC, entity-restC, entityC, inputC, eventC, seconds-bad, gaps-bad, id-is, seen, bad-id, conditionsC, guardC, transitionC, responseC, invariant-ofC, invariantC, bad-counts, listsC, rule-listsC, rule-ofC, ruleC, partC, partsC}

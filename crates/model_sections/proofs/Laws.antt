@@ -19,7 +19,8 @@ use Rattle.model_walk.specs.Walk.{found}
 use Rattle.model_walk.proofs.Laws.{is-got, is-broken}
 use Rattle.model_check.specs.declared.Checked.{Checked}
 use Rattle.model_check.specs.declared.Checked.the-variants as checked
-use Rattle.model_check.specs.Checks.{Declaration, and-then, _⨾_, by, stay, skipC, dayC, place-is, among, valueC, pairC, predicateC, predicatesC, triggersC, actionsC}
+use Rattle.model_check.specs.Checks.{Declaration, and-then, _⨾_, by, stay, skipC, dayC, place-is, among, valueC, pairC, predicateC, predicatesC, triggersC}
+use Rattle.model_actions.specs.Actions.{actionsC}
 use Rattle.model_check.proofs.Laws as checks
 use Rattle.model_sections.specs.declared.Part.{Part}
 use Rattle.model_sections.specs.declared.Part.the-variants as part
@@ -38,12 +39,6 @@ pub or-false : {a b : Bool} → a ≡ false → b ≡ false → (a || b) ≡ fal
 or-false h k = rw (h, k)
 
 -- a test that is no longer in doubt, with the answer that it picks
-pub yes-if : {A : Type 0} {b : Bool} (x y : A) → b ≡ true → (if b then x else y) ≡ x
-yes-if x y h = rw h
-
-pub no-if : {A : Type 0} {b : Bool} (x y : A) → b ≡ false → (if b then x else y) ≡ y
-no-if x y h = rw h
-
 -- ---- texts
 
 empty-text : (t : Text) → length t ≡ 0 → bad-length t ≡ true

@@ -12,7 +12,8 @@ use Rattle.model.specs.File.{got, broken, u8, u16, u32}
 use Rattle.model.specs.Validate.{day, bad-length}
 use Rattle.model_check.specs.declared.Checked.{Checked}
 use Rattle.model_check.specs.declared.Checked.the-variants as checked
-use Rattle.model_check.specs.Checks.{Declaration, Check, and-then, _⨾_, by, stay, skipC, dayC, place-is, among, valueC, pairC, predicateC, predicatesC, triggersC, actionsC}
+use Rattle.model_check.specs.Checks.{Declaration, Check, and-then, _⨾_, by, stay, skipC, dayC, place-is, among, valueC, pairC, predicateC, predicatesC, triggersC}
+use Rattle.model_actions.specs.Actions.{actionsC}
 use Rattle.model_sections.specs.declared.Part.{Part}
 use Rattle.model_sections.specs.declared.Part.the-variants as part
 

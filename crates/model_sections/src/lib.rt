@@ -457,7 +457,7 @@ fn lists_check(
     let Checked::To(q, l) = b else {
         return b;
     };
-    model_check::actions_check(s, d, entities, 17, q, l)
+    model_actions::actions_check(s, d, entities, 17, q, l)
 }
 
 // What stands from the triggers' count on. A trigger has 16 bytes.

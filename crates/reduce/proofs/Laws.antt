@@ -9,8 +9,8 @@ use native.Mathlib.Omega.{arith}
 use lib.Dec.{ltb}
 use lib.ListN.{getD}
 use borrow.Author.Tests.{lt-ltb, le-ltb, eq-eqb, ne-eqb}
-use Rattle.checker_entry.specs.declared.Status.{Status}
-use Rattle.checker_entry.specs.declared.Status.the-variants as status
+use Rattle.checker_result.specs.declared.Status.{Status}
+use Rattle.checker_result.specs.declared.Status.the-variants as status
 use Rattle.reduce.specs.declared.Reduced.{Reduced}
 use Rattle.reduce.specs.Parts.{among, is-violation, fewV, violatesV, Stops, passed, GoesOn, Tried}
 

@@ -25,7 +25,7 @@ use Rattle.engine_entry.proofs.Promise.{texts-here}
 use Rattle.checker.specs.Check.{Check, checked}
 use Rattle.checker.specs.Minimize.{remove, violates, reduce}
 use Rattle.checker.specs.Minimize as minimize
-use Rattle.checker_entry.specs.declared.CheckResult.{CheckResult}
+use Rattle.checker_result.specs.declared.CheckResult.{CheckResult}
 use Rattle.checker_case.specs.Case.{Tells, answers, refuses, Cased}
 use Rattle.reduce.specs.declared.Reduced.{Reduced}
 use Rattle.reduce.specs.Events.{Left}

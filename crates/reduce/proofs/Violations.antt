@@ -42,7 +42,7 @@ use Rattle.checker.specs.Judge.{
   deadline-missed,
 }
 use Rattle.checker.specs.Minimize.{violates}
-use Rattle.checker_entry.specs.declared.CheckResult.{CheckResult}
+use Rattle.checker_result.specs.declared.CheckResult.{CheckResult}
 use Rattle.checker_entry.specs.Answers.{status-as, failure-words, violation-words, Shows}
 use Rattle.checker_entry.proofs.Judged.{named}
 use Rattle.reduce.specs.Parts.{among, is-violation, fewV, violatesV}

@@ -20,8 +20,8 @@ use Rattle.engine_begin.specs.declared.Events.{Events}
 use Rattle.engine_entry.specs.Answers.{Ground, Grounds}
 use Rattle.checker.specs.Minimize.{reduce}
 use Rattle.checker.specs.Minimize as minimize
-use Rattle.checker_entry.specs.declared.Status.{Status}
-use Rattle.checker_entry.specs.declared.Status.the-variants as status
+use Rattle.checker_result.specs.declared.Status.{Status}
+use Rattle.checker_result.specs.declared.Status.the-variants as status
 use Rattle.reduce.specs.declared.Reduced.{Reduced}
 use Rattle.reduce.specs.Events.{Left}
 

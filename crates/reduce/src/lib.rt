@@ -1,7 +1,7 @@
 // The reduction of a violating model's events: each is left out in turn, for good if the violation stays.
-use checker_entry::Judgement;
-use checker_entry::Shared;
-use checker_entry::Status;
+use checker_result::Judgement;
+use checker_result::Shared;
+use checker_result::Status;
 use engine_begin::Events;
 use engine_entry::Base;
 use model_index::Index;

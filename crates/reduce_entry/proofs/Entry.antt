@@ -34,8 +34,9 @@ use Rattle.checker.specs.Verify.{short-of-room}
 use Rattle.reduce.specs.Events.{Left}
 use Rattle.reduce.specs.Parts.{sizes}
 use Rattle.reduce.proofs.Words.{own-left}
-use Rattle.reduce_entry.specs.declared.Minimized.{Minimized}
-use Rattle.reduce_entry.specs.Answers.{no-reduction, Says, last-trace, output-after, Minimizes}
+use Rattle.reduce_result.specs.declared.Minimized.{Minimized}
+use Rattle.reduce_result.specs.Result.{no-reduction}
+use Rattle.reduce_entry.specs.Answers.{Says, last-trace, output-after, Minimizes}
 use Rattle.reduce_entry.specs.Parts.{Outcome, answers, refuses, Accepted, Given, ReducesAll, RunsAs}
 use Rattle.reduce_entry.proofs.File.{small-file}
 

@@ -18,7 +18,7 @@ use Rattle.model_rewrite.proofs.Opened.{opened}
 use Rattle.model_rewrite.proofs.WithEvents.{some-events}
 use Rattle.engine.proofs.Validated.{accepted-decoded}
 use Rattle.reduce.specs.Events.{Left}
-use Rattle.reduce_entry.specs.Parts.{Room}
+use Rattle.reduce_result.specs.Last.{Room}
 
 none-such : Event
 none-such = record { at = 0; input = Input.restart }

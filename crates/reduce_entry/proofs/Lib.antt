@@ -1,4 +1,3 @@
-pub mod Laws
 -- the file with the events that are left
 pub mod File
 -- the reduction and the entry, by the definition

@@ -31,7 +31,7 @@ use Rattle.checker.specs.Check.{Check, checked, Violation}
 use Rattle.checker.specs.Check as check
 use Rattle.checker.specs.Minimize.{reduce, target-of, minimized, reduced-file}
 use Rattle.checker.specs.Minimize as checker
-use Rattle.checker_entry.specs.declared.CheckResult.{CheckResult}
+use Rattle.checker_result.specs.declared.CheckResult.{CheckResult}
 use Rattle.checker_entry.specs.Answers as shown
 use Rattle.checker_entry.specs.Parts.{Checked}
 use Rattle.checker_entry.proofs.Promise as promised
@@ -43,22 +43,11 @@ use Rattle.reduce.specs.Parts.{is-violation, sizes, from, Ends, Reduces}
 use Rattle.reduce.specs.Parts as parts
 use Rattle.reduce.proofs.Violations.{none-such, Fair, checked-fair, violation-is, Target, target-is}
 use Rattle.reduce.proofs.Words.{left-at}
-use Rattle.reduce_entry.specs.declared.Minimized.{Minimized}
-use Rattle.reduce_entry.specs.Answers.{Shows, no-reduction}
-use Rattle.reduce_entry.specs.Parts.{
-  Cleared,
-  Ready,
-  Repeats,
-  Finished,
-  Outcome,
-  answers,
-  refuses,
-  reduced-to,
-  Given,
-  Aimed,
-  ReducesTo,
-  ReducesAll,
-}
+use Rattle.reduce_result.specs.declared.Minimized.{Minimized}
+use Rattle.reduce_result.specs.Result.{no-reduction}
+use Rattle.reduce_entry.specs.Answers.{Shows}
+use Rattle.reduce_result.specs.Last.{Cleared, Ready, Repeats, Finished}
+use Rattle.reduce_entry.specs.Parts.{Outcome, answers, refuses, reduced-to, Given, Aimed, ReducesTo, ReducesAll}
 use Rattle.reduce_entry.proofs.File.{file-is, file-fits}
 
 no-event : Event

@@ -2,9 +2,8 @@
 -- and each byte of the output.
 use Prim.Native.Nat.{ℕ, _<_}
 use mathlib.Core.Path.{_≡_}
-use mathlib.Core.Bool.{false}
 use mathlib.Core.List.{List, _++_}
-use lib.ListN.{length, getD, drop, replicate}
+use lib.ListN.{length, getD, drop}
 use Rattle.model.specs.Answer.{Answer, answer, refused}
 use Rattle.model.specs.Model.{Event}
 use Rattle.model.specs.Rewrite.{place-of}
@@ -13,10 +12,10 @@ use Rattle.engine.specs.Records.{Trace}
 use Rattle.engine.specs.Words.{texts-in, words-in, entry-words}
 use Rattle.checker.specs.Minimize.{minimize, reduced-file}
 use Rattle.checker.specs.Minimize as checker
-use Rattle.checker_entry.specs.Answers.{no-check}
 use Rattle.checker_entry.specs.Answers as check
 use Rattle.model.specs.Events.{EventWords}
-use Rattle.reduce_entry.specs.declared.Minimized.{Minimized}
+use Rattle.reduce_result.specs.declared.Minimized.{Minimized}
+use Rattle.reduce_result.specs.Result.{no-reduction}
 
 -- The answer says what the definition's reduction says. The places of an event that doesn't set are left free, and so are
 -- the words behind the last event.
@@ -30,19 +29,6 @@ pub record Shows (f : List ℕ) (r : Minimized) (d : checker.Minimized) : Type 0
   pub words : (e : Event) (k : ℕ) → k < length (d .events) → EventWords (texts-in f) (r .words) k (getD (d .events) k e)
   pub written : r .written ≡ length (reduced-file f d)
   pub check : check.Shows f (r .check) (d .check)
-
-unfoldable pub no-reduction : (number : ℕ) → Minimized
-no-reduction n = record {
-  refused = n;
-  invariant = 0;
-  originals = 0;
-  attempts = 0;
-  minimal = false;
-  events = 0;
-  words = replicate 400 0;
-  written = 0;
-  check = no-check n;
-}
 
 abbrev pub Says : (file : List ℕ) → Minimized → Answer checker.Minimized → Type 0
 Says f r (answer d) = Shows f r d

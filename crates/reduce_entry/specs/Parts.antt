@@ -1,5 +1,5 @@
 -- What the parts of the entry promise.
-use Prim.Native.Nat.{ℕ, _+_, _*_, _≤_, _<_}
+use Prim.Native.Nat.{ℕ, _+_, _≤_, _<_}
 use mathlib.Core.Path.{_≡_}
 use mathlib.Core.List.{List, [], _++_}
 use mathlib.Core.Logic.{_⊎_}
@@ -12,8 +12,6 @@ use Rattle.model.specs.Model.{Event, Model}
 use Rattle.model.specs.Validate.{accepted}
 use Rattle.model_index.specs.declared.Index.{Index}
 use Rattle.model_index.specs.Indexed.{Indexed}
-use Rattle.model_rewrite.specs.Span.{spanW}
-use Rattle.model_rewrite.specs.Written.{file-with, Wrote}
 use Rattle.engine.specs.Cells.{initial-cells}
 use Rattle.engine.specs.Memory.{Lent}
 use Rattle.engine.specs.Records.{Areas}
@@ -23,59 +21,11 @@ use Rattle.engine_entry.specs.Answers.{Ground, Grounds}
 use Rattle.checker.specs.Check.{checked}
 use Rattle.checker.specs.Minimize.{reduce, minimized, reduced-file}
 use Rattle.checker.specs.Minimize as checker
-use Rattle.checker_entry.specs.declared.CheckResult.{CheckResult}
-use Rattle.checker_entry.specs.Parts.{Checked}
-use Rattle.reduce.specs.declared.Reduced.{Reduced}
 use Rattle.reduce.specs.Events.{Left}
 use Rattle.reduce.specs.Parts.{Begun, sizes}
-use Rattle.reduce_entry.specs.declared.Minimized.{Minimized}
-use Rattle.reduce_entry.specs.Answers.{Shows, no-reduction, last-trace, Minimizes}
-
--- the three areas as zeros
-pub record Cleared (q q' a a' u u' : List ℕ) : Type 0 where
-  pub queue : q' ≡ replicate (length q) 0
-  pub records : a' ≡ replicate (length a) 0
-  pub runs : u' ≡ replicate (length u) 0
-
--- a place as a word
-abbrev pub Placed : (n r : ℕ) → Type 0
-Placed n r = n ≤ 65535 → r ≡ n
-
--- ---- the last check
-
--- the output has room for the file with the first n events
-pub record Room (f l : List ℕ) (n : ℕ) (o : List ℕ) : Type 0 where
-  pub ordered : spanW f .start ≤ spanW f .end
-  pub inside : spanW f .end ≤ length f
-  pub words : n * 4 ≤ length l
-  pub fits : length (file-with f (spanW f) l n) ≤ length o
-
-pub record Ready (f : List ℕ) (x : Reduced) (o : List ℕ) : Type 0 where
-  pub room : Room f (x .words) (x .count) o
-  pub long : length (x .words) ≡ 400
-
--- the answer repeats what was reduced, and the output holds the file with the events that are left
-pub record Repeats (f : List ℕ) (target n : ℕ) (x : Reduced) (c : CheckResult) (r : Minimized) (o o' : List ℕ) : Type 0 where
-  pub accepted : r .refused ≡ 0
-  pub invariant : Placed target (r .invariant)
-  pub originals : r .originals ≡ n
-  pub attempts : r .attempts ≡ x .attempts
-  pub minimal : r .minimal ≡ eqb (x .reached) (x .count)
-  pub events : r .events ≡ x .count
-  pub words : r .words ≡ x .words
-  pub check : r .check ≡ c
-  pub wrote : Wrote (file-with f (spanW f) (x .words) (x .count)) (r .written) o o'
-
-pub record Refused (number : ℕ) (r : Minimized) (o o' : List ℕ) : Type 0 where
-  pub answer-is : r ≡ no-reduction number
-  pub output : o' ≡ o
-
-pub record Finished (f : List ℕ) (i : Index) (g : Ground) (target n : ℕ) (x : Reduced) (r : Minimized)
-    (q q' a a' u u' o o' : List ℕ) : Type 0 where
-  pub check : CheckResult
-  pub checks : Checked f (i .invariants .starts) (i .invariants .count) g (x .words) (x .count) check q q' a a' u u'
-  pub done : check .simulation .refused ≡ 0 → Repeats f target n x check r o o'
-  pub full : (check .simulation .refused ≡ 0 → ⊥) → Refused (check .simulation .refused) r o o'
+use Rattle.reduce_result.specs.declared.Minimized.{Minimized}
+use Rattle.reduce_result.specs.Result.{no-reduction}
+use Rattle.reduce_entry.specs.Answers.{Shows, last-trace, Minimizes}
 
 -- ---- by the definition
 

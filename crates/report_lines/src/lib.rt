@@ -1,5 +1,5 @@
 // The answer of `lint`, printed line by line through a lent area of bytes. No contract can say what is printed; the lines are
-// those of `lint_lines`, and their order is the order of the calls here.
+// those of `lint_lines` and `lint_reads_lines`, and their order is the order of the calls here.
 use lint_answer::Report;
 use model_index::Index;
 ghost use Prim.Native.Nat.{_≤_};
@@ -72,8 +72,8 @@ fn print_touched(
     let mut left: u32 = 32;
     while 0 < left {
         m = show::room(out, m, LINE);
-        m = lint_lines::put_touched(out, m, f, index, r, from, writes);
-        from = lint_lines::next_from(f, index, from);
+        m = lint_reads_lines::put_touched(out, m, f, index, r, from, writes);
+        from = lint_reads_lines::next_from(f, index, from);
         left -= 1;
     }
     m

@@ -25,8 +25,8 @@ use Rattle.checker.specs.Check.{Check, is-violation, checked}
 use Rattle.checker.specs.Check as check
 use Rattle.checker.specs.Verify as verify
 use Rattle.checker.specs.Verify.{after-case, out-of-budget, try-case}
-use Rattle.checker_entry.specs.declared.CheckResult.{CheckResult}
-use Rattle.checker_entry.specs.declared.Status.{Status}
+use Rattle.checker_result.specs.declared.CheckResult.{CheckResult}
+use Rattle.checker_result.specs.declared.Status.{Status}
 use Rattle.checker_entry.specs.Answers.{status-as}
 use Rattle.checker_entry.specs.Answers as said
 use Rattle.checker_entry.specs.Parts.{RefusedAs}
@@ -35,8 +35,8 @@ use Rattle.checker_entry.proofs.Pool.{few-in-pool, among-both, mem-first}
 use Rattle.checker_case.specs.Case.{Tells, answers, refuses, Cased}
 use Rattle.search_inputs.specs.declared.Placed.{Placed}
 use Rattle.search_inputs.proofs.Means.{Fine, asc, fine-here, input-accepted, event-at-here}
-use Rattle.search.specs.declared.Search.{Search}
-use Rattle.search.specs.Parts.{refusalV, violatesV, refusedS, Spends, Found, Other, Gathers}
+use Rattle.search_cases.specs.declared.Search.{Search}
+use Rattle.search_cases.specs.Parts.{refusalV, violatesV, refusedS, Spends, Found, Other, Gathers}
 use Rattle.search.specs.Meaning.{none-such, cells-of, sizes, search-pool, Entire, Setting, PlacedAs, WitnessIs, Held, Outcome}
 use Rattle.search.proofs.Sorted.{sorted-few, sorted-again, sorted-both, sorted-one, sorted-none}
 use Rattle.search.proofs.Budget.{few-steps}

@@ -1,5 +1,4 @@
 pub mod Walk
-pub mod Laws
 pub mod Sorted
 pub mod Budget
 pub mod Cases

@@ -23,8 +23,8 @@ use Rattle.checker.specs.Verify.{last-at, unless-stopped}
 use Rattle.search_inputs.specs.declared.Placed.{Placed}
 use Rattle.search_inputs.specs.Inputs.{input-words, event-words, gap-words, lastV, placing}
 use Rattle.search_inputs.proofs.Means.{input-size, event-size, gap-size}
-use Rattle.search.specs.declared.Search.{Search}
-use Rattle.search.specs.Parts.{nextAt, Nexts}
+use Rattle.search_cases.specs.declared.Search.{Search}
+use Rattle.search_cases.specs.Parts.{nextAt, Nexts}
 use Rattle.search.specs.Meaning.{
   none-such,
   cells-of,
@@ -42,7 +42,7 @@ use Rattle.search.specs.Meaning.{
   step,
 }
 use Rattle.search.specs.Contracts.{Tries, Visits, Walks, Depths, Deepens}
-use Rattle.search.proofs.Laws.{gap-below, input-below}
+use Rattle.search_cases.proofs.Laws.{gap-below, input-below}
 use Rattle.search.proofs.Walk.{walk-same, guarded-late, guarded-stopped, guarded-in, visit-walk, deepen-walk}
 
 -- ---- the events placed

@@ -6,7 +6,7 @@ use mathlib.Core.List.{List, []}
 use Rattle.model.specs.Model.{Event}
 use Rattle.checker.specs.Verify as verify
 use Rattle.search_inputs.specs.declared.Placed.{Placed}
-use Rattle.search.specs.declared.Search.{Search}
+use Rattle.search_cases.specs.declared.Search.{Search}
 use Rattle.search.specs.Meaning.{Entire, cells-of, sizes, Setting, PlacedAs, Held, Outcome, walked, guarded, step}
 
 module _ (f : List ℕ) (p : Entire) where

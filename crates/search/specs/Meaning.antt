@@ -26,8 +26,8 @@ use Rattle.search_inputs.specs.declared.Alphabet.{Alphabet}
 use Rattle.search_inputs.specs.declared.Gaps.{Gaps}
 use Rattle.search_inputs.specs.declared.Placed.{Placed}
 use Rattle.search_inputs.specs.Inputs.{input-words, event-words, gap-words}
-use Rattle.search.specs.declared.Plan.{Plan}
-use Rattle.search.specs.declared.Search.{Search}
+use Rattle.search_cases.specs.declared.Plan.{Plan}
+use Rattle.search_cases.specs.declared.Search.{Search}
 
 abbrev pub none-such : Event
 none-such = record { at = 0; input = Input.restart }

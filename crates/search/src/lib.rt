@@ -1,214 +1,14 @@
 // The bounded search for a violation: each list of events up to a depth, by depth, from the alphabet and the gaps.
-use checker_entry::Shared;
-use checker_entry::Status;
-use engine_state::Cells;
-use model_index::Index;
-use search_inputs::Alphabet;
-use search_inputs::Gaps;
+use search_cases::Plan;
+use search_cases::Search;
 use search_inputs::Placed;
-ghost use mathlib.Core.Path.{_≡_};
 ghost use Prim.Native.Nat.{_+_, _*_, _≤_, _<_};
 ghost use lib.ListN.{length};
-ghost use Rattle.engine_reads.specs.Reads.{cap};
-ghost use Rattle.search.specs.Parts.{AtMost, limitV, Plans, Fitted, Shaped, refusalV, violatesV, refusedS, Spends, Found, Other, Gathers, Nexts, Begins};
+ghost use Rattle.search_cases.specs.Parts.{Fitted, Shaped};
 ghost use Rattle.search.specs.Meaning.{entire};
 ghost use Rattle.search.specs.Contracts.{Tries, Visits, Deepens};
 
-// What all cases share beside the arrays that are lent: the start, what is chosen from, the horizon and the most cases.
-pub struct Plan {
-    pub shared: Shared,
-    pub alphabet: Alphabet,
-    pub gaps: Gaps,
-    pub horizon: u32,
-    pub cases: u32,
-}
-
-// How far a search has come. `refused` is 0 or the number of the case that was refused; `reasons` counts the reasons, which
-// stand in a lent area of words. With `found`, the witness's events are `witness`.
-pub struct Search {
-    pub refused: u32,
-    pub cases: u32,
-    pub steps: u32,
-    pub reasons: usize,
-    pub found: bool,
-    pub shortest: bool,
-    pub stopped: bool,
-    pub witness: Placed,
-}
-
-// ---- numbers with a bound
-
-fn at_most(n: u32, most: u32) -> u32
-    ensures { λ r. ⌜ AtMost n most r ⌝ }
-{
-    if most < n {
-        return most;
-    }
-    n
-}
-
-pub fn few(n: usize, most: usize) -> usize
-    ensures { λ r. ⌜ AtMost n most r ⌝ }
-{
-    if most < n {
-        return most;
-    }
-    n
-}
-
-// ---- what a search goes by
-
-// A limit of the model.
-pub fn limit(file: &[u8], limits: usize, k: usize) -> u32
-    requires { ⌜ k ≤ 12 ⌝ }
-    ensures { λ r. ⌜ r ≡ limitV (now (file .entry)) limits k ⌝ }
-{
-    let p = engine_reads::capped(limits) as usize;
-    engine_reads::four_at(file, p + k)
-}
-
-// From the values at the start, and so many reasons of the notes.
-pub fn planned(file: &[u8], index: Index, cells: Cells, notes: usize) -> Plan
-    ensures { λ p. ⌜ Plans (now (file .entry)) index cells notes p ⌝ }
-{
-    let invariants = index.invariants;
-    let shared = Shared {
-        cells,
-        notes,
-        invariants: invariants.count,
-    };
-    let alphabet = search_inputs::alphabet_of(file, index);
-    let gaps = search_inputs::gaps_of(file, index);
-    let horizon = limit(file, index.limits, 0);
-    let cases = at_most(limit(file, index.limits, 12), 2000);
-    Plan {
-        shared,
-        alphabet,
-        gaps,
-        horizon,
-        cases,
-    }
-}
-
 // ---- a case
-
-fn refusal(status: Status) -> u32
-    ensures { λ r. ⌜ r ≡ refusalV status ⌝ }
-{
-    match status {
-        Status::Refused(number) => number,
-        Status::Unknown => 0,
-        Status::Violation => 0,
-        Status::Incomplete => 0,
-        Status::NoViolationInTrace => 0,
-    }
-}
-
-fn violates(status: Status) -> bool
-    ensures { λ r. ⌜ r ≡ violatesV status ⌝ }
-{
-    match status {
-        Status::Refused(_) => false,
-        Status::Unknown => false,
-        Status::Violation => true,
-        Status::Incomplete => false,
-        Status::NoViolationInTrace => false,
-    }
-}
-
-// A case was refused.
-fn refused_case(o: Search, number: u32) -> Search
-    ensures { λ r. ⌜ r ≡ refusedS o number ⌝ }
-{
-    let witness = o.witness;
-    Search {
-        refused: number,
-        cases: o.cases,
-        steps: o.steps,
-        reasons: o.reasons,
-        found: o.found,
-        shortest: o.shortest,
-        stopped: true,
-        witness,
-    }
-}
-
-// The budget is spent: no case more.
-fn spent(f: &[u8], o: Search, w: &mut [u32]) -> Search
-    requires { ⌜ length (now w) ≡ 4000 ⌝ }
-    ensures { λ r. ⌜ Spends (now (f .entry)) o (now (w .entry)) r (now (w .exit)) ⌝ }
-{
-    let witness = o.witness;
-    let n = few(o.reasons, 400);
-    let why = engine_reads::by_itself(reasons::SEARCH_SPENT);
-    let count = reasons::insert_sorted(f, w, n, why);
-    Search {
-        refused: o.refused,
-        cases: o.cases,
-        steps: o.steps,
-        reasons: count,
-        found: o.found,
-        shortest: o.shortest,
-        stopped: true,
-        witness,
-    }
-}
-
-// A violation: the search ends with these events as the witness.
-fn found_case(o: Search, placed: Placed, steps: u32) -> Search
-    requires { ⌜ (o .cases < 2000) × (o .steps < 200000) ⌝ }
-    ensures { λ r. ⌜ Found o placed steps r ⌝ }
-{
-    Search {
-        refused: o.refused,
-        cases: o.cases + 1,
-        steps: o.steps + at_most(steps, 10000),
-        reasons: o.reasons,
-        found: true,
-        shortest: o.reasons == 0,
-        stopped: true,
-        witness: placed,
-    }
-}
-
-// The reasons of a check among the others.
-fn gather(
-    f: &[u8],
-    w: &mut [u32],
-    n: usize,
-    unknown: usize,
-    unknowns: &[u32; 2000],
-    incomplete: usize,
-    incompletes: &[u32; 200],
-) -> usize
-    requires { ⌜ length (now w) ≡ 4000 ⌝ }
-    ensures { λ r. ⌜ Gathers (now (f .entry)) n unknown (now (unknowns .entry)) incomplete (now (incompletes .entry)) (now (w .entry)) r (now (w .exit)) ⌝ }
-{
-    let k = few(n, 400);
-    let many = few(unknown, 400);
-    let first = reasons::merge(f, w, k, unknowns, many);
-    let j = few(first, 400);
-    let more = few(incomplete, 40);
-    reasons::merge(f, w, j, incompletes, more)
-}
-
-// No violation: the search goes on, with the reasons of this case.
-fn other_case(o: Search, count: usize, steps: u32) -> Search
-    requires { ⌜ (o .cases < 2000) × (o .steps < 200000) ⌝ }
-    ensures { λ r. ⌜ Other o count steps r ⌝ }
-{
-    let witness = o.witness;
-    Search {
-        refused: o.refused,
-        cases: o.cases + 1,
-        steps: o.steps + at_most(steps, 10000),
-        reasons: count,
-        found: o.found,
-        shortest: o.shortest,
-        stopped: false,
-        witness,
-    }
-}
 
 // The check with the events placed so far, unless the budget is spent.
 fn try_case(
@@ -232,10 +32,10 @@ fn try_case(
     ensures { λ r. ⌜ Tries (now (file .entry)) (entire p (now (table .entry)) (now (starts .entry)) (now (notes .entry))) placed o (now (w .entry)) r (now (w .exit)) (length (now (queue .entry))) (length (now (records .entry))) (length (now (runs .entry))) ⌝ }
 {
     if p.cases <= o.cases {
-        return spent(file, o, w);
+        return search_cases::spent(file, o, w);
     }
     if 200000 <= o.steps {
-        return spent(file, o, w);
+        return search_cases::spent(file, o, w);
     }
     let shared = p.shared;
     let events = placed.words;
@@ -258,14 +58,14 @@ fn try_case(
     );
     let status = c.status;
     let simulation = c.simulation;
-    let number = refusal(status);
+    let number = search_cases::refusal(status);
     if number != 0 {
-        return refused_case(o, number);
+        return search_cases::refused_case(o, number);
     }
-    if violates(status) {
-        return found_case(o, placed, simulation.steps);
+    if search_cases::violates(status) {
+        return search_cases::found_case(o, placed, simulation.steps);
     }
-    let count = gather(
+    let count = search_cases::gather(
         file,
         w,
         o.reasons,
@@ -274,31 +74,10 @@ fn try_case(
         c.incomplete,
         incompletes,
     );
-    other_case(o, count, simulation.steps)
+    search_cases::other_case(o, count, simulation.steps)
 }
 
 // ---- the search
-
-// A gap behind a second.
-fn later(last: u32, gap: u32) -> u32
-    ensures { λ r. ⌜ r ≡ cap (last + gap) ⌝ }
-{
-    engine_reads::capped(last as usize + gap as usize)
-}
-
-// The events placed so far and the k-th of the pairs of a gap and an input.
-fn next_events(p: Plan, placed: Placed, k: usize) -> Placed
-    requires { ⌜ (k < p .gaps .count * p .alphabet .count) × Shaped p placed 1 4000 ⌝ }
-    ensures { λ r. ⌜ Nexts (p .gaps) (p .alphabet) placed k r ⌝ }
-{
-    let alphabet = p.alphabet;
-    let gaps = p.gaps;
-    let inputs = alphabet.count;
-    let seconds = gaps.seconds;
-    let last = search_inputs::last_at(placed);
-    let at = later(last, seconds[k / inputs]);
-    search_inputs::place(placed, at, alphabet, k % inputs)
-}
 
 // `remaining` more events are placed, and then the case is checked.
 fn visit(
@@ -353,7 +132,7 @@ fn visit(
     let mut s = o;
     let mut k: usize = 0;
     while k < pairs {
-        let next = next_events(p, placed, k);
+        let next = search_cases::next_events(p, placed, k);
         s = visit(
             file,
             table,
@@ -466,26 +245,4 @@ pub fn search_depths(
         &mut unknowns,
         &mut incompletes,
     )
-}
-
-// Before the first case: the reasons of the automations' notes, so many.
-pub fn begun(f: &[u8], notes: &[u32; 1500], n: usize, w: &mut [u32]) -> Search
-    requires { ⌜ length (now w) ≡ 4000 ⌝ }
-    ensures { λ r. ⌜ Begins (now (f .entry)) n (now (notes .entry)) r (now (w .exit)) ⌝ }
-{
-    let many = few(n, 300);
-    let count = reasons::merge(f, w, 0, notes, many);
-    Search {
-        refused: 0,
-        cases: 0,
-        steps: 0,
-        reasons: count,
-        found: false,
-        shortest: false,
-        stopped: false,
-        witness: Placed {
-            count: 0,
-            words: [0u32; 20],
-        },
-    }
 }

@@ -29,13 +29,14 @@ use Rattle.engine_entry.specs.Answers.{ground, Grounds}
 use Rattle.checker.specs.Verify as verify
 use Rattle.checker.specs.Verify.{searched, verified, short-of-room}
 use Rattle.search_inputs.proofs.Lawful.{accepted-searchable}
-use Rattle.search.specs.declared.Plan.{Plan}
-use Rattle.search.specs.declared.Search.{Search}
-use Rattle.search.specs.Parts.{limitV, Plans, Begins}
+use Rattle.search_cases.specs.declared.Plan.{Plan}
+use Rattle.search_cases.specs.declared.Search.{Search}
+use Rattle.search_cases.specs.Parts.{limitV, Plans, Begins}
 use Rattle.search.specs.Meaning.{cells-of, sizes, Entire, entire, Setting, Outcome}
 use Rattle.search.specs.Contracts.{Deepens}
-use Rattle.search_entry.specs.declared.Verification.{Verification}
-use Rattle.search_entry.specs.Answers.{no-verification, Says, witness-trace, output-after, Gives, Verifies}
+use Rattle.search_answer.specs.declared.Verification.{Verification}
+use Rattle.search_answer.specs.Whole.{no-verification}
+use Rattle.search_entry.specs.Answers.{Says, witness-trace, output-after, Gives, Verifies}
 use Rattle.search_entry.specs.Parts.{Reached, Ending, Ends, Accepted, Runs, Admits}
 use Rattle.search_entry.proofs.Start.{limits-are, setting, start-of, start-held}
 

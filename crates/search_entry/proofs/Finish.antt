@@ -19,35 +19,16 @@ use Rattle.engine_entry.proofs.Promise.{texts-here}
 use Rattle.checker.specs.Verify as verify
 use Rattle.checker.specs.Verify.{found-of, verification-of, witness-file}
 use Rattle.search_inputs.specs.Inputs.{input-words, event-words}
-use Rattle.search.specs.declared.Search.{Search}
-use Rattle.search.specs.Parts.{limitV}
+use Rattle.search_cases.specs.declared.Search.{Search}
+use Rattle.search_cases.specs.Parts.{limitV}
 use Rattle.search.specs.Meaning.{Entire, Setting, Witnessed, Held, Outcome}
 use Rattle.search.proofs.Cases.{few-reasons}
 use Rattle.search.proofs.Sorted.{sorted-again}
-use Rattle.search_entry.specs.declared.Verification.{Verification}
-use Rattle.search_entry.specs.Answers.{
-  found-as,
-  NoWitness,
-  Witnesses,
-  WitnessSays,
-  Shows,
-  no-verification,
-  witness-trace,
-  output-after,
-}
-use Rattle.search_entry.specs.Parts.{
-  statusV,
-  WithCheck,
-  Told,
-  without,
-  Writable,
-  Written,
-  Writes,
-  Reached,
-  answer-of,
-  Ending,
-  Ends,
-}
+use Rattle.search_answer.specs.declared.Verification.{Verification}
+use Rattle.search_answer.specs.Whole.{no-verification}
+use Rattle.search_entry.specs.Answers.{found-as, NoWitness, Witnesses, WitnessSays, Shows, witness-trace, output-after}
+use Rattle.search_answer.specs.Told.{statusV, WithCheck, Told, without}
+use Rattle.search_entry.specs.Parts.{Writable, Written, Writes, Reached, answer-of, Ending, Ends}
 use Rattle.search_entry.proofs.Start.{limits-are}
 
 -- ---- the status

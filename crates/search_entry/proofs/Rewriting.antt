@@ -19,7 +19,7 @@ use Rattle.engine.specs.Words.{words-in}
 use Rattle.engine.proofs.Validated.{accepted-decoded}
 use Rattle.engine_entry.specs.Answers.{lent}
 use Rattle.checker.specs.Check.{Check, checked}
-use Rattle.checker_entry.specs.declared.CheckResult.{CheckResult}
+use Rattle.checker_result.specs.declared.CheckResult.{CheckResult}
 use Rattle.checker_entry.specs.Answers as said
 use Rattle.checker_entry.specs.Parts.{Checked, Whole}
 use Rattle.checker_entry.proofs.Promise.{Promise, answers, refuses, promise, whole-shows}

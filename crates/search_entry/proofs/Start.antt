@@ -30,9 +30,9 @@ use Rattle.checker.specs.Verify as verify
 use Rattle.checker_entry.proofs.Pool.{notes-among}
 use Rattle.search_inputs.proofs.Lawful.{Searchable, accepted-searchable}
 use Rattle.search_inputs.proofs.Means.{alphabet-is, gaps-are}
-use Rattle.search.specs.declared.Plan.{Plan}
-use Rattle.search.specs.declared.Search.{Search}
-use Rattle.search.specs.Parts.{limitV, Plans, Fitted, Begins}
+use Rattle.search_cases.specs.declared.Plan.{Plan}
+use Rattle.search_cases.specs.declared.Search.{Search}
+use Rattle.search_cases.specs.Parts.{limitV, Plans, Fitted, Begins}
 use Rattle.search.specs.Meaning.{cells-of, Entire, entire, Setting, Held}
 use Rattle.search.proofs.Cases.{widen}
 

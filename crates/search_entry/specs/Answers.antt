@@ -2,7 +2,6 @@
 -- byte of the output.
 use Prim.Native.Nat.{ℕ}
 use mathlib.Core.Path.{_≡_}
-use mathlib.Core.Bool.{false}
 use mathlib.Core.List.{List, [], _++_}
 use mathlib.Core.Option.{Option, none, some}
 use lib.ListN.{length, drop, replicate}
@@ -14,14 +13,13 @@ use Rattle.engine.specs.Memory.{Lent, entries, lent-after}
 use Rattle.engine.specs.Records.{Trace}
 use Rattle.engine.specs.Words.{texts-in, words-in, entry-words}
 use Rattle.checker.specs.Verify as verify
-use Rattle.checker_entry.specs.declared.CheckResult.{CheckResult}
-use Rattle.checker_entry.specs.Answers.{no-check}
+use Rattle.checker_result.specs.Result.{no-check}
 use Rattle.checker_entry.specs.Answers as check
 use Rattle.search_inputs.specs.Inputs.{input-words, event-words, gap-words}
-use Rattle.search_entry.specs.declared.Found.{Found}
-use Rattle.search_entry.specs.declared.Found.the-variants as found
-use Rattle.search_entry.specs.declared.Searched.{Searched}
-use Rattle.search_entry.specs.declared.Verification.{Verification}
+use Rattle.search_answer.specs.declared.Found.{Found}
+use Rattle.search_answer.specs.declared.Found.the-variants as found
+use Rattle.search_answer.specs.declared.Verification.{Verification}
+use Rattle.search_answer.specs.Whole.{no-verification}
 
 -- the status by its name in the scope
 abbrev pub found-as : verify.Found → Found
@@ -66,55 +64,6 @@ pub record Shows (f : List ℕ) (r : Verification) (v : verify.Verification) : T
   pub reasons : Holds f (v .reasons) (r .reasons) (r .told)
   pub shortest : r .shortest ≡ v .shortest
   pub witness : WitnessSays f r (v .witness)
-
--- an answer, its lists, and those of its check
-abbrev pub whole-of : Searched → (told violated unknowns incompletes reasons : List ℕ) → Verification
-whole-of x t v us ws s = record {
-  status = x .status;
-  cases = x .cases;
-  total = x .total;
-  depth = x .depth;
-  horizon = x .horizon;
-  most = x .most;
-  steps = x .steps;
-  alphabet = x .alphabet;
-  inputs = x .inputs;
-  gaps = x .gaps;
-  seconds = x .seconds;
-  reasons = x .reasons;
-  told = t;
-  shortest = x .shortest;
-  events = x .events;
-  words = x .words;
-  written = x .written;
-  check = check.result-of (x .check) v us ws s;
-}
-
--- an answer that says no more than its number, with a check beside it
-abbrev pub unverified : (number : ℕ) → CheckResult → Verification
-unverified n c = record {
-  status = found.Refused n;
-  cases = 0;
-  total = 0;
-  depth = 0;
-  horizon = 0;
-  most = 0;
-  steps = 0;
-  alphabet = 0;
-  inputs = replicate 36 0;
-  gaps = 0;
-  seconds = replicate 4 0;
-  reasons = 0;
-  told = replicate 2000 0;
-  shortest = false;
-  events = 0;
-  words = replicate 20 0;
-  written = 0;
-  check = c;
-}
-
-unfoldable pub no-verification : (number : ℕ) → Verification
-no-verification n = unverified n (no-check 0)
 
 abbrev pub Says : (file : List ℕ) → Verification → Answer verify.Verification → Type 0
 Says f r (answer v) = Shows f r v

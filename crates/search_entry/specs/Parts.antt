@@ -1,13 +1,9 @@
 -- What the parts of the entry promise.
 use Prim.Native.Nat.{ℕ, _+_, _≤_}
 use mathlib.Core.Path.{_≡_}
-use mathlib.Core.Bool.{Bool}
 use mathlib.Core.List.{List, []}
-use lib.Dec.{eqb}
 use lib.ListN.{length, replicate}
-use Rattle.texts.specs.Lists.{if_then_else_}
 use Rattle.areas.specs.Areas.{area}
-use Rattle.reasons.specs.Lists.{listed, insertAll, Holds}
 use Rattle.model.specs.Answer.{Answer, answer, refused, _>>=_}
 use Rattle.model.specs.Model.{Event, Model}
 use Rattle.model.specs.Rewrite.{rewritten}
@@ -20,59 +16,15 @@ use Rattle.engine.specs.Records.{Trace}
 use Rattle.engine.specs.Words.{words-in}
 use Rattle.checker.specs.Check.{Check, checked}
 use Rattle.checker.specs.Verify as verify
-use Rattle.checker_entry.specs.declared.CheckResult.{CheckResult}
 use Rattle.checker_entry.specs.Answers as check
-use Rattle.search_inputs.specs.declared.Alphabet.{Alphabet}
-use Rattle.search_inputs.specs.declared.Gaps.{Gaps}
 use Rattle.search_inputs.specs.declared.Placed.{Placed}
-use Rattle.search.specs.declared.Search.{Search}
-use Rattle.search.specs.Parts.{limitV}
+use Rattle.search_cases.specs.declared.Search.{Search}
 use Rattle.search.specs.Meaning.{cells-of, sizes, Entire, Setting, PlacedAs, Outcome}
-use Rattle.search_entry.specs.declared.Found.{Found}
-use Rattle.search_entry.specs.declared.Found.the-variants as found
-use Rattle.search_entry.specs.declared.Verification.{Verification}
-use Rattle.search_entry.specs.declared.Witness.{Witness}
+use Rattle.search_answer.specs.declared.Verification.{Verification}
 use Rattle.search_entry.specs.Answers.{Says, witness-trace, output-after, Verifies}
-
-unfoldable pub statusV : (found : Bool) → (reasons : ℕ) → Found
-statusV b n = if b then found.Counterexample else if eqb n 0 then found.NoCounterexampleWithinBounds else found.Inconclusive
-
--- a witness with the whole of its check
-pub record WithCheck : Type 0 where
-  pub events : ℕ
-  pub words : List ℕ
-  pub written : ℕ
-  pub check : CheckResult
-
-abbrev pub with-check : Witness → CheckResult → WithCheck
-with-check x c = record { events = x .events; words = x .words; written = x .written; check = c }
-
--- an answer that repeats what it is made of
-pub record Told (f : List ℕ) (limits : ℕ) (is : Alphabet) (gs : Gaps) (h : ℕ) (o : Search) (w : List ℕ) (x : WithCheck)
-    (r : Verification) : Type 0 where
-  pub status-is : r .status ≡ statusV (o .found) (r .reasons)
-  pub cases : r .cases ≡ o .cases
-  pub total : r .total ≡ o .steps
-  pub depth : r .depth ≡ limitV f limits 8
-  pub horizon : r .horizon ≡ h
-  pub most : r .most ≡ limitV f limits 12
-  pub steps : r .steps ≡ limitV f limits 4
-  pub alphabet : r .alphabet ≡ is .count
-  pub inputs : r .inputs ≡ is .words
-  pub gaps : r .gaps ≡ gs .count
-  pub seconds : r .seconds ≡ gs .seconds
-  pub shortest : r .shortest ≡ o .shortest
-  pub events : r .events ≡ x .events
-  pub words : r .words ≡ x .words
-  pub written : r .written ≡ x .written
-  pub check : r .check ≡ x .check
-  pub reasons : o .reasons ≤ 400 → Holds f (insertAll (listed f (o .reasons) w) []) (r .reasons) (r .told)
+use Rattle.search_answer.specs.Told.{WithCheck}
 
 -- ---- the witness
-
--- no witness
-unfoldable pub without : WithCheck
-without = record { events = 0; words = replicate 20 0; written = 0; check = check.no-check 0 }
 
 -- its events, and room for its file
 pub record Writable (f : List ℕ) (p : Entire) (placed : Placed) (q a u o : ℕ) : Type 0 where

@@ -1,11 +1,11 @@
 // The answer of `minimize`, and what the lines of `verify` share with it, printed line by line through a lent area of bytes.
 // No contract can say what is printed; the order of the lines is the order of the calls here.
 use checker_lines::Form;
-use reduce_entry::Minimized;
+use reduce_result::Minimized;
 ghost use mathlib.Core.Path.{_≡_};
 ghost use Prim.Native.Nat.{_+_, _*_, _≤_};
 ghost use lib.ListN.{length};
-ghost use Rattle.engine_lines.specs.Lines.{number-line};
+ghost use Rattle.reason_lines.specs.Lines.{number-line};
 ghost use Rattle.show.specs.Lines.{quoted};
 ghost use Rattle.show.specs.Writing.{Written};
 ghost use Rattle.search_lines.specs.Lines.{input-text, event-line, text-at, input-of, event-of, answer-line, invariant-line};

@@ -1,8 +1,8 @@
 // The answers of `unsupported` and `simulate`, printed line by line through a lent area of bytes.
-// No contract can say what is printed; the lines are those of `engine_lines`, and their order is the order of the calls here.
-// None is lost if `out` has room for the longest one (`Kept`).
-use engine_lines::Word;
+// No contract can say what is printed; the lines are those of `reason_lines` and `engine_lines`, and their order is the order of
+// the calls here. None is lost if `out` has room for the longest one (`Kept`).
 use engine_table::Table;
+use reason_lines::Word;
 ghost use Prim.Native.Nat.{_≤_};
 ghost use Rattle.show.specs.Writing.{Kept};
 
@@ -16,15 +16,15 @@ pub const RUNS: usize = 512;
 fn print_refused(out: &mut [u8], n: usize, number: u32) -> usize
     ensures { λ m. ⌜ Kept (now (out .entry)) n (now (out .exit)) m ⌝ }
 {
-    let m = show::room(out, n, engine_lines::LINE);
+    let m = show::room(out, n, reason_lines::LINE);
     show::put_refused(out, m, number)
 }
 
 fn print_count(out: &mut [u8], n: usize, count: usize) -> usize
     ensures { λ m. ⌜ Kept (now (out .entry)) n (now (out .exit)) m ⌝ }
 {
-    let m = show::room(out, n, engine_lines::LINE);
-    engine_lines::put_unsupported(out, m, count)
+    let m = show::room(out, n, reason_lines::LINE);
+    reason_lines::put_unsupported(out, m, count)
 }
 
 pub fn print_unsupported(out: &mut [u8], n: usize, file: &[u8]) -> usize
@@ -36,7 +36,7 @@ pub fn print_unsupported(out: &mut [u8], n: usize, file: &[u8]) -> usize
     }
     let reasons = r.reasons;
     let m = print_count(out, n, r.count);
-    engine_lines::print_reasons(out, m, Word::Reason, file, &reasons, r.count)
+    reason_lines::print_reasons(out, m, Word::Reason, file, &reasons, r.count)
 }
 
 // The table of an accepted file.
@@ -59,16 +59,16 @@ fn print_places(
     let t = table(file);
     let words = t.words;
     let m = engine_lines::print_records(out, n, file, &words, a, records);
-    engine_lines::print_finals(out, m, file, &words, values)
+    reason_lines::print_finals(out, m, file, &words, values)
 }
 
 fn print_numbers(out: &mut [u8], n: usize, steps: u32, records: usize, horizon: u32) -> usize
     ensures { λ m. ⌜ Kept (now (out .entry)) n (now (out .exit)) m ⌝ }
 {
-    let m = show::room(out, n, engine_lines::LINE);
-    let a = engine_lines::put_steps(out, m, steps);
-    let b = engine_lines::put_records(out, a, records);
-    engine_lines::put_horizon(out, b, horizon)
+    let m = show::room(out, n, reason_lines::LINE);
+    let a = reason_lines::put_steps(out, m, steps);
+    let b = reason_lines::put_records(out, a, records);
+    reason_lines::put_horizon(out, b, horizon)
 }
 
 fn print_unknown(
@@ -80,7 +80,7 @@ fn print_unknown(
 ) -> usize
     ensures { λ m. ⌜ Kept (now (out .entry)) n (now (out .exit)) m ⌝ }
 {
-    engine_lines::print_reasons(out, n, Word::SimUnknown, file, reasons, count)
+    reason_lines::print_reasons(out, n, Word::SimUnknown, file, reasons, count)
 }
 
 // `simulate` with these lent areas.
@@ -103,7 +103,7 @@ fn print_lent(
     let m = print_numbers(out, n, s.steps, s.records, s.horizon);
     let k = print_places(out, m, file, a, s.records, &values);
     let l = print_unknown(out, k, file, &reasons, s.unknown);
-    engine_lines::print_incomplete(out, l, s.why, s.waiting)
+    reason_lines::print_incomplete(out, l, s.why, s.waiting)
 }
 
 // `simulate` with areas of so many entries.

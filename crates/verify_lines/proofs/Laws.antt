@@ -5,8 +5,8 @@ use Prim.Native.Nat.{ℕ}
 use Rattle.texts.specs.Texts.{Text, text, decimal}
 use Rattle.checker.specs.Verify as verify
 use Rattle.show.specs.Lines.{newline, refused-line}
-use Rattle.search_entry.specs.declared.Found.{Found}
-use Rattle.search_entry.specs.declared.Found.the-variants as found
+use Rattle.search_answer.specs.declared.Found.{Found}
+use Rattle.search_answer.specs.declared.Found.the-variants as found
 use Rattle.verify_lines.specs.Lines.{found-line, first-line, bound, bounds-line}
 
 module _ (s : Found) where

@@ -3,8 +3,8 @@ use Prim.Native.Nat.{ℕ}
 use mathlib.Core.List.{_++_}
 use Rattle.texts.specs.Texts.{Text, text, decimal}
 use Rattle.checker.specs.Verify as verify
-use Rattle.search_entry.specs.declared.Found.{Found}
-use Rattle.search_entry.specs.declared.Found.the-variants.{Refused, NoCounterexampleWithinBounds, Counterexample, Inconclusive}
+use Rattle.search_answer.specs.declared.Found.{Found}
+use Rattle.search_answer.specs.declared.Found.the-variants.{Refused, NoCounterexampleWithinBounds, Counterexample, Inconclusive}
 use Rattle.show.specs.Lines.{newline, refused-line}
 
 unfoldable pub found-line : verify.Found → Text

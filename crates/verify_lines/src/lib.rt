@@ -1,9 +1,9 @@
 // The answer of `verify`, printed line by line through a lent area of bytes.
 // No contract can say what is printed; the order of the lines is the order of the calls here.
 use checker_lines::Form;
-use engine_lines::Word;
-use search_entry::Found;
-use search_entry::Verification;
+use reason_lines::Word;
+use search_answer::Found;
+use search_answer::Verification;
 use search_lines::Printed;
 ghost use Prim.Native.Nat.{_+_, _*_, _≤_};
 ghost use lib.ListN.{length};
@@ -99,7 +99,7 @@ fn print_gaps(out: &mut [u8], n: usize, gaps: &[u32], count: usize) -> usize {
 }
 
 fn print_told(out: &mut [u8], n: usize, file: &[u8], told: &[u32; 2000], count: usize) -> usize {
-    engine_lines::print_reasons(out, n, Word::Reason, file, told, count)
+    reason_lines::print_reasons(out, n, Word::Reason, file, told, count)
 }
 
 // The settings and the reasons.

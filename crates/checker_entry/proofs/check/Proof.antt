@@ -2,10 +2,6 @@ use borrow.Author.Needs.{needs}
 use Rattle.checker_entry.proofs.Laws as laws
 use Rattle.checker_entry.proofs.check.Statement.{statement}
 use Rattle.checker_entry.proofs.check.Tie as tie
-use Rattle.checker_entry.proofs.check.Reads as reads
-use Rattle.checker_entry.proofs.check.Lts as lts
-use Rattle.checker_entry.proofs.check_lent.Reads as check-lent-reads
-use Rattle.checker_entry.proofs.with_lists.Reads as with-lists-reads
 
 pub check-spec : {M : Type 1} → statement M
 check-spec =

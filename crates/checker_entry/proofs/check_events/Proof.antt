@@ -2,10 +2,6 @@ use borrow.Author.Needs.{needs}
 use Rattle.checker_entry.proofs.Laws as laws
 use Rattle.checker_entry.proofs.check_events.Statement.{statement}
 use Rattle.checker_entry.proofs.check_events.Tie as tie
-use Rattle.checker_entry.proofs.check_events.Reads as reads
-use Rattle.checker_entry.proofs.check_events.Lts as lts
-use Rattle.checker_entry.proofs.verdict.Reads as verdict-reads
-use Rattle.engine_entry.proofs.run_events.Reads as run-events-reads
 
 pub check-events-spec : {M : Type 1} → statement M
 check-events-spec =

@@ -1,11 +1,6 @@
 use borrow.Author.Needs.{needs}
-use Rattle.checker_entry.proofs.Laws as laws
 use Rattle.checker_entry.proofs.check_settled.Statement.{statement}
 use Rattle.checker_entry.proofs.check_settled.Tie as tie
-use Rattle.checker_entry.proofs.check_settled.Reads as reads
-use Rattle.checker_entry.proofs.check_settled.Lts as lts
-use Rattle.checker_entry.proofs.check_events.Reads as check-events-reads
-use Rattle.checker_entry.proofs.settled.Reads as settled-reads
 
 pub check-settled-spec : {M : Type 1} → statement M
 check-settled-spec =

@@ -2,10 +2,6 @@ use borrow.Author.Needs.{needs}
 use Rattle.checker_entry.proofs.Laws as laws
 use Rattle.checker_entry.proofs.check_whole.Statement.{statement}
 use Rattle.checker_entry.proofs.check_whole.Tie as tie
-use Rattle.checker_entry.proofs.check_whole.Reads as reads
-use Rattle.checker_entry.proofs.check_whole.Lts as lts
-use Rattle.checker_entry.proofs.check_settled.Reads as check-settled-reads
-use Rattle.checker_entry.proofs.with_lists.Reads as with-lists-reads
 
 pub check-whole-spec : {M : Type 1} → statement M
 check-whole-spec =

@@ -3,12 +3,6 @@ use native.Mathlib.Omega.{arith}
 use Rattle.checker_entry.proofs.Entry as entry
 use Rattle.checker_entry.proofs.run.Statement.{statement}
 use Rattle.checker_entry.proofs.run.Tie as tie
-use Rattle.checker_entry.proofs.run.Reads as reads
-use Rattle.checker_entry.proofs.run.Lts as lts
-use Rattle.checker_entry.proofs.check_settled.Reads as check-settled-reads
-use Rattle.engine_begin.proofs.events_of.Reads as events-of-reads
-use Rattle.engine_entry.proofs.prepared.Reads as prepared-reads
-use Rattle.engine_reads.proofs.at_most.Reads as at-most-reads
 
 pub run-spec : {M : Type 1} → statement M
 run-spec =

@@ -7,7 +7,7 @@ use Rattle.checker_verdict.proofs.push_violation.Statement.{statement}
 use Rattle.checker_verdict.proofs.push_violation.Tie as tie
 use Rattle.checker_verdict.proofs.push_violation.Reads as reads
 use Rattle.checker_verdict.proofs.push_violation.Lts as lts
-use Rattle.checker_judge.proofs.failed.Reads as failed-reads
+use Rattle.checker_response.proofs.failed.Reads as failed-reads
 use Rattle.checker_verdict.proofs.numbers_of.Reads as numbers-of-reads
 use Rattle.checker_verdict.proofs.put.Reads as put-reads
 

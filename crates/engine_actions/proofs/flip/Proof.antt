@@ -3,9 +3,9 @@ use Rattle.engine_state.proofs.Laws.{none, one, two, same, wide}
 use Rattle.engine_state.proofs.Laws as states
 use Rattle.engine_steps.proofs.Laws as steps
 use Rattle.engine_actions.proofs.Laws as laws
-use Rattle.engine_steps.proofs.Wholes as wholes
-use Rattle.engine_steps.proofs.Wholes.{apart, shared}
-use Rattle.engine_steps.specs.Runs.{nowM}
+use Rattle.engine_modes.proofs.Wholes as wholes
+use Rattle.engine_modes.proofs.Wholes.{apart, shared}
+use Rattle.engine_modes.specs.Modes.{nowM}
 use borrow.Author.Needs.{needs}
 use Rattle.engine_actions.proofs.flip.Statement.{statement}
 use Rattle.engine_actions.proofs.flip.Tie as tie

@@ -3,7 +3,7 @@ use Rattle.engine_state.proofs.Laws.{none, one, two}
 use Rattle.engine_state.proofs.Laws as states
 use Rattle.engine_steps.proofs.Laws as steps
 use Rattle.engine_actions.specs.Acts.{take-listM}
-use Rattle.engine_steps.specs.Runs.{nowM}
+use Rattle.engine_modes.specs.Modes.{nowM}
 use Rattle.engine_state.specs.Changes.{log-actionM}
 use borrow.Author.Needs.{needs}
 use Rattle.engine_actions.proofs.take_list.Statement.{statement}

@@ -1,8 +1,8 @@
 use Rattle.engine_state.proofs.Laws.{same, wide}
 use Rattle.engine_steps.proofs.Laws as steps
 use Rattle.engine_actions.proofs.Laws as laws
-use Rattle.engine_steps.proofs.Wholes as wholes
-use Rattle.engine_steps.proofs.Wholes.{apart}
+use Rattle.engine_modes.proofs.Wholes as wholes
+use Rattle.engine_modes.proofs.Wholes.{apart}
 use Rattle.engine_actions.specs.Acts.{testedM}
 use borrow.Author.Needs.{needs}
 use Rattle.engine_actions.proofs.tested.Statement.{statement}

@@ -5,7 +5,7 @@ use Rattle.engine_actions.proofs.write.Statement.{statement}
 use Rattle.engine_actions.proofs.write.Tie as tie
 use Rattle.engine_actions.proofs.write.Reads as reads
 use Rattle.engine_actions.proofs.write.Lts as lts
-use Rattle.engine_steps.proofs.update.Reads as update-reads
+use Rattle.engine_writes.proofs.update.Reads as update-reads
 
 returns : tie.Need-returns
 unfolding writtenM

@@ -3,14 +3,10 @@ use mathlib.Core.Path.{_≡_, _∙_}
 use native.Mathlib.Omega.{arith}
 use Prim.Native.Nat.{ℕ, _-_, _*_, _≤_, _<_}
 use lib.ListN.{length, getD, length-replicate, length-set}
-use Rattle.engine_begin.proofs.Laws as laws
+use Rattle.engine_table.proofs.Laws as table
 use Rattle.engine_begin.specs.Begin.{event-from}
 use Rattle.engine_begin.proofs.events_of.Statement.{statement}
 use Rattle.engine_begin.proofs.events_of.Tie as tie
-use Rattle.engine_begin.proofs.events_of.Reads as reads
-use Rattle.engine_begin.proofs.events_of.Lts as lts
-use Rattle.engine_begin.proofs.event_word.Reads as event-word-reads
-use Rattle.engine_reads.proofs.at_most.Reads as at-most-reads
 
 abbrev Inv-loop : tie.InvT-loop
 Inv-loop s starts n words₀ k₀ words k = ((j : ℕ) → j < k → getD words j 0 ≡ event-from s starts j) × ((length words ≡ 400) × (k ≤ n * 4))
@@ -32,5 +28,5 @@ events-of-spec =
     (λ c. omega (arith, c .before .before .before .before .at-most .ensures .1, c .before .before .loop-test .taken, c .before .before .before .loop .inv .1 .0))
     (λ c. search needs)
     (λ c. search needs)
-    (λ c. (laws.one-more (event-from _ _) (c .before .before .before .loop .words) (c .before .before .before .loop .k) (c .event-word .result) (c .before .before .before .loop .inv .0) (omega (arith, c .before .before .before .loop .inv .1 .0, c .before .before .loop-test .taken, c .before .before .before .before .at-most .ensures .1)) (c .event-word .ensures), (length-set (c .before .before .before .loop .words) (c .before .before .before .loop .k) (c .event-word .result) ∙ c .before .before .before .loop .inv .1 .0, omega (arith, c .before .before .loop-test .taken))))
+    (λ c. (table.one-more (event-from _ _) (c .before .before .before .loop .words) (c .before .before .before .loop .k) (c .event-word .result) (c .before .before .before .loop .inv .0) (omega (arith, c .before .before .before .loop .inv .1 .0, c .before .before .loop-test .taken, c .before .before .before .before .at-most .ensures .1)) (c .event-word .ensures), (length-set (c .before .before .before .loop .words) (c .before .before .before .loop .k) (c .event-word .result) ∙ c .before .before .before .loop .inv .1 .0, omega (arith, c .before .before .loop-test .taken))))
     (λ c. record { long = c .before .loop .inv .1 .0; words = λ k h. c .before .loop .inv .0 k (omega (arith, c .loop-test .left, c .before .before .at-most .ensures .0, h)) }))

@@ -2,8 +2,6 @@ use mathlib.Core.Path.{refl}
 use Rattle.engine_entry.specs.Answers.{no-notes}
 use Rattle.engine_entry.proofs.refused_notes.Statement.{statement}
 use Rattle.engine_entry.proofs.refused_notes.Tie as tie
-use Rattle.engine_entry.proofs.refused_notes.Reads as reads
-use Rattle.engine_entry.proofs.refused_notes.Lts as lts
 
 returns : tie.Need-returns
 unfolding no-notes

@@ -2,12 +2,6 @@ use borrow.Author.Needs.{needs}
 use Rattle.engine_entry.proofs.Laws as laws
 use Rattle.engine_entry.proofs.run_events.Statement.{statement}
 use Rattle.engine_entry.proofs.run_events.Tie as tie
-use Rattle.engine_entry.proofs.run_events.Reads as reads
-use Rattle.engine_entry.proofs.run_events.Lts as lts
-use Rattle.engine_entry.proofs.few.Reads as few-reads
-use Rattle.engine_entry.proofs.summed.Reads as summed-reads
-use Rattle.engine_reads.proofs.at_most.Reads as at-most-reads
-use Rattle.engine_run.proofs.simulated.Reads as simulated-reads
 
 pub run-events-spec : {M : Type 1} → statement M
 run-events-spec =

@@ -2,10 +2,6 @@ use borrow.Author.Needs.{needs}
 use Rattle.engine_entry.proofs.Laws as laws
 use Rattle.engine_entry.proofs.simulate.Statement.{statement}
 use Rattle.engine_entry.proofs.simulate.Tie as tie
-use Rattle.engine_entry.proofs.simulate.Reads as reads
-use Rattle.engine_entry.proofs.simulate.Lts as lts
-use Rattle.engine_entry.proofs.simulate_lent.Reads as simulate-lent-reads
-use Rattle.engine_entry.proofs.with_reasons.Reads as with-reasons-reads
 
 returns : tie.Need-returns
 returns c = laws.simulates-as (c .with-reasons .ensures) (c .before .before .before .before .before .before .before .before .simulate-lent .ensures)

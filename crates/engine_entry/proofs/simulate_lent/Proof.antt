@@ -2,11 +2,6 @@ use borrow.Author.Needs.{needs}
 use Rattle.engine_entry.proofs.Entry as entry
 use Rattle.engine_entry.proofs.simulate_lent.Statement.{statement}
 use Rattle.engine_entry.proofs.simulate_lent.Tie as tie
-use Rattle.engine_entry.proofs.simulate_lent.Reads as reads
-use Rattle.engine_entry.proofs.simulate_lent.Lts as lts
-use Rattle.engine_entry.proofs.refused_summary.Reads as refused-summary-reads
-use Rattle.engine_entry.proofs.run.Reads as run-reads
-use Rattle.model_validate.proofs.accept.Reads as accept-reads
 
 pub simulate-lent-spec : {M : Type 1} → statement M
 simulate-lent-spec =

@@ -3,11 +3,6 @@ use native.Mathlib.Omega.{arith}
 use Rattle.engine_entry.proofs.Entry as entry
 use Rattle.engine_entry.proofs.unsupported.Statement.{statement}
 use Rattle.engine_entry.proofs.unsupported.Tie as tie
-use Rattle.engine_entry.proofs.unsupported.Reads as reads
-use Rattle.engine_entry.proofs.unsupported.Lts as lts
-use Rattle.engine_entry.proofs.prepared.Reads as prepared-reads
-use Rattle.engine_entry.proofs.refused_notes.Reads as refused-notes-reads
-use Rattle.model_validate.proofs.accept.Reads as accept-reads
 
 pub unsupported-spec : {M : Type 1} → statement M
 unsupported-spec =

@@ -1,5 +1,5 @@
 use borrow.Author.Needs.{needs}
-use Rattle.engine_lines.specs.Parts.{texts-of}
+use Rattle.reason_lines.specs.Parts.{texts-of}
 use Rattle.show.proofs.Laws as show
 use Rattle.engine_lines.proofs.Laws as laws
 use Rattle.engine_lines.proofs.put_change.Statement.{statement}

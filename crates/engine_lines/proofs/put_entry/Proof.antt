@@ -1,6 +1,6 @@
 use borrow.Author.Needs.{needs}
 use mathlib.Core.Path.{_∙_}
-use Rattle.engine_lines.specs.Parts.{texts-of}
+use Rattle.reason_lines.specs.Parts.{texts-of}
 use Rattle.show.proofs.Laws as show
 use Rattle.engine_lines.proofs.Laws as laws
 use Rattle.engine_lines.proofs.put_entry.Statement.{statement}

@@ -3,7 +3,7 @@ use mathlib.Core.Path.{ap}
 use Rattle.records.specs.declared.Record.{Record}
 use Rattle.engine_places.specs.Meaning.{record-of}
 use Rattle.engine_lines.specs.Lines.{record-line}
-use Rattle.engine_lines.specs.Parts.{texts-of}
+use Rattle.reason_lines.specs.Parts.{texts-of}
 use Rattle.show.proofs.Laws as show
 use Rattle.engine_lines.proofs.put_record.Statement.{statement}
 use Rattle.engine_lines.proofs.put_record.Tie as tie

@@ -1,16 +1,11 @@
 use native.Mathlib.Omega.{arith}
 use Rattle.engine_state.proofs.Laws.{none, two}
 use Rattle.engine_state.proofs.Laws as states
-use Rattle.engine_loop.proofs.Laws as laws
 use Rattle.engine_loop.specs.Loop.{horizonM}
 use Rattle.engine_state.specs.Changes.{log-plainM}
 use borrow.Author.Needs.{needs}
 use Rattle.engine_loop.proofs.horizon_reached.Statement.{statement}
 use Rattle.engine_loop.proofs.horizon_reached.Tie as tie
-use Rattle.engine_loop.proofs.horizon_reached.Reads as reads
-use Rattle.engine_loop.proofs.horizon_reached.Lts as lts
-use Rattle.engine_loop.proofs.at_now.Reads as at-now-reads
-use Rattle.engine_state.proofs.log_plain.Reads as log-plain-reads
 
 returns : tie.Need-returns
 unfolding horizonM

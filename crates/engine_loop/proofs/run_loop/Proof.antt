@@ -8,10 +8,6 @@ use Rattle.engine_loop.proofs.Laws as laws
 use Rattle.engine_loop.proofs.Laws.{Looped}
 use Rattle.engine_loop.proofs.run_loop.Statement.{statement}
 use Rattle.engine_loop.proofs.run_loop.Tie as tie
-use Rattle.engine_loop.proofs.run_loop.Reads as reads
-use Rattle.engine_loop.proofs.run_loop.Lts as lts
-use Rattle.engine_loop.proofs.turn.Reads as turn-reads
-use Rattle.engine_loop.proofs.why_stop.Reads as why-stop-reads
 
 abbrev Inv-loop : tie.InvT-loop
 Inv-loop f x q₀ a₀ r₀ u₀ v₀ n₀ c₀ s₀ left₀ why₀ q a r u v n c s left why = Looped f x s₀ s q₀ q a₀ a r₀ r u₀ u v₀ v n₀ n c₀ c left why

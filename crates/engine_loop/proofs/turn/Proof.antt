@@ -8,11 +8,6 @@ use Rattle.engine_process.specs.Process.{processM}
 use borrow.Author.Needs.{needs}
 use Rattle.engine_loop.proofs.turn.Statement.{statement}
 use Rattle.engine_loop.proofs.turn.Tie as tie
-use Rattle.engine_loop.proofs.turn.Reads as reads
-use Rattle.engine_loop.proofs.turn.Lts as lts
-use Rattle.engine_process.proofs.process.Reads as process-reads
-use Rattle.engine_loop.proofs.at_second.Reads as at-second-reads
-use Rattle.queue.proofs.take.Reads as take-reads
 
 returns-3 : tie.Need-returns-3
 unfolding turnM turn-withM

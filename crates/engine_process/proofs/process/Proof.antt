@@ -1,8 +1,8 @@
 use Rattle.engine_state.proofs.Laws.{same, wide}
 use Rattle.engine_steps.proofs.Laws as steps
 use Rattle.engine_process.proofs.Laws as laws
-use Rattle.engine_steps.proofs.Wholes as wholes
-use Rattle.engine_steps.proofs.Wholes.{lent, shared}
+use Rattle.engine_modes.proofs.Wholes as wholes
+use Rattle.engine_modes.proofs.Wholes.{lent, shared}
 use Rattle.engine_process.specs.Process.{processM}
 use borrow.Author.Needs.{needs}
 use Rattle.engine_process.proofs.process.Statement.{statement}

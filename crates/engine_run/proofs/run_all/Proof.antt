@@ -4,11 +4,6 @@ use Rattle.engine_run.proofs.Laws as laws
 use borrow.Author.Needs.{needs}
 use Rattle.engine_run.proofs.run_all.Statement.{statement}
 use Rattle.engine_run.proofs.run_all.Tie as tie
-use Rattle.engine_run.proofs.run_all.Reads as reads
-use Rattle.engine_run.proofs.run_all.Lts as lts
-use Rattle.engine_loop.proofs.begun.Reads as begun-reads
-use Rattle.engine_loop.proofs.closed.Reads as closed-reads
-use Rattle.engine_loop.proofs.run_loop.Reads as run-loop-reads
 
 pub run-all-spec : {M : Type 1} → statement M
 run-all-spec =

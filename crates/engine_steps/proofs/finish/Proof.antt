@@ -2,9 +2,10 @@ use mathlib.Core.Path.{ap}
 use native.Mathlib.Omega.{arith}
 use Rattle.engine_state.proofs.Laws.{none, one, two, both}
 use Rattle.engine_state.proofs.Laws as states
+use Rattle.engine_modes.proofs.Laws as modes
+use Rattle.engine_modes.proofs.Wholes as wholes
 use Rattle.engine_steps.proofs.Laws as laws
-use Rattle.engine_steps.specs.Runs.{finish-runM, finishM, releaseM}
-use Rattle.engine_state.specs.Changes.{log-ruleM}
+use Rattle.engine_steps.specs.Runs.{finish-runM, finishM}
 use borrow.Author.Needs.{needs}
 use Rattle.engine_steps.proofs.finish.Statement.{statement}
 use Rattle.engine_steps.proofs.finish.Tie as tie
@@ -18,7 +19,7 @@ use Rattle.runs.proofs.take_run.Reads as take-run-reads
 
 returns : tie.Need-returns
 unfolding finishM finish-runM
-returns c = states.moves (λ v n s. laws.with-run (finish-runM _) (c .before .before .before .before .before .before .before .before .before .before .before .before .before .before .before .before .run-at .ensures) (omega (arith, c .before .before .before .before .before .before .before .before .before .before .before .before .before .before .before .before .before .before .before .before .before .pre)) (states.follow (releaseM _) (states.follow (log-ruleM 14 _ _) (laws.removed _ _ _ (omega (arith, c .before .before .before .before .before .before .before .before .before .before .before .before .before .before .before .before .before .before .before .before .before .pre)) (search needs) _ _ (c .before .before .before .before .before .before .before .before .before .before .before .before .before .before .take-run .ensures) (c .before .before .before .before .before .before .before .before .before .before .before .with-active .ensures) (omega (arith, c .before .before .before .before .before .before .before .before .before .before .before .before .before .before .before .before .before .before .before .before .before .pre))) (c .before .before .before .before .before .before .before .before .before .log-rule .ensures .does _ _ _) none two one none) (c .before .before .before .before .release .ensures .does _ _ _) two one both none))
+returns c = laws.ran (finish-runM _) (c .before .before .before .before .before .before .before .before .before .before .before .before .before .before .before .before .run-at .ensures) (c .before .before .before .before .before .before .before .before .before .before .before .before .before .before .before .before .before .before .before .before .before .pre .0) (wholes.next (wholes.next (laws.removed _ _ _ (c .before .before .before .before .before .before .before .before .before .before .before .before .before .before .before .before .before .before .before .before .before .pre .1 .1 .1) (search needs) _ _ (c .before .before .before .before .before .before .before .before .before .before .before .before .before .before .take-run .ensures) (c .before .before .before .before .before .before .before .before .before .before .before .with-active .ensures) (c .before .before .before .before .before .before .before .before .before .before .before .before .before .before .before .before .before .before .before .before .before .pre .0)) (c .before .before .before .before .before .before .before .before .before .log-rule .ensures) none two one none none none none) (c .before .before .before .before .release .ensures) two one both none none none none)
 
 pub finish-spec : {M : Type 1} → statement M
 finish-spec =
@@ -28,7 +29,7 @@ finish-spec =
     (λ c κs. search needs)
     (λ c. search needs)
     (λ c κs. search needs)
-    (λ c κs. omega (arith, c .before .before .before .before .before .before .before .before .before .before .before .pre, ap (λ s. s .records) (c .before .with-active .ensures)))
+    (λ c κs. modes.fits-as 13 _ (ap (λ s. s .records) (c .before .with-active .ensures)) (c .before .before .before .before .before .before .before .before .before .before .before .pre .1 .1 .0))
     (λ c κs. (omega (arith, c .before .before .before .before .before .before .before .before .before .before .before .before .before .before .before .before .pre, ap (λ s. s .items) (c .before .before .before .before .before .before .with-active .ensures), ap (λ s. s .first) (c .before .before .before .before .before .before .with-active .ensures), c .before .before .before .before .log-rule .ensures .queue), omega (arith, c .before .before .before .before .before .before .before .before .before .before .before .before .before .before .before .before .pre, ap (λ s. s .active) (c .before .before .before .before .before .before .with-active .ensures), c .before .before .before .before .log-rule .ensures .runs)))
     (λ c. search needs)
     (λ c. search needs)

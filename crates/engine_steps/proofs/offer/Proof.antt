@@ -1,8 +1,10 @@
-use native.Mathlib.Omega.{arith}
-use Rattle.engine_state.proofs.Laws.{two, both, same}
+use Rattle.engine_state.proofs.Laws.{none, two, both, same}
 use Rattle.engine_state.proofs.Laws as states
+use Rattle.engine_modes.proofs.Laws as modes
+use Rattle.engine_modes.proofs.Wholes as wholes
+use Rattle.engine_modes.proofs.Wholes.{apart, lent, shared}
 use Rattle.engine_steps.proofs.Laws as laws
-use Rattle.engine_steps.specs.Triggers.{offer-asM, admitM}
+use Rattle.engine_steps.specs.Triggers.{offer-asM}
 use borrow.Author.Needs.{needs}
 use Rattle.engine_steps.proofs.offer.Statement.{statement}
 use Rattle.engine_steps.proofs.offer.Tie as tie
@@ -16,7 +18,7 @@ use Rattle.engine_truth.proofs.evaluate_all.Reads as evaluate-all-reads
 
 returns : tie.Need-returns
 unfolding offer-asM
-returns c = states.moves (λ v n s. states.renamed _ (states.follow (admitM _ _ _ _) (c .before .before .before .before .before .before .before .before .before .before .before .before .before .before .before .before .log-trigger .ensures .does _ _ _) (c .before .before .before .before .before .before .before .before .admit .ensures .does _ _ s) two both two two) (λ k. laws.offer-yes _ _ _ _ _ _ _ (c .before .before .before .before .before .before .before .before .before .before .before .before .before .before .before .before .before .before .before .before .before .before .rule-word .ensures) (c .before .before .before .before .before .before .before .before .before .before .before .before .before .before .before .before .before .before .before .before .before .any-matches .ensures) _ _ (c .before .before .before .before .before .before .before .before .before .before .before .before .before .before .before .before .before .before .before .before .if1 .taken) (c .before .before .before .before .before .before .before .before .before .before .before .before .before .before .before .before .before .before .evaluate-all .ensures) (c .before .before .before .before .before .before .before .before .before .before .before .before .before .before .before .before .before .before .before .rule-word2 .ensures)))
+returns c = wholes.part (wholes.next (c .before .before .before .before .before .before .before .before .before .before .before .before .before .before .before .before .log-trigger .ensures) (c .before .before .before .before .before .before .before .before .admit .ensures) two both two two none none two) same same same same lent apart shared (λ v n s k. laws.offer-yes _ _ _ _ _ _ _ (c .before .before .before .before .before .before .before .before .before .before .before .before .before .before .before .before .before .before .before .before .before .before .rule-word .ensures) (c .before .before .before .before .before .before .before .before .before .before .before .before .before .before .before .before .before .before .before .before .before .any-matches .ensures) _ _ (c .before .before .before .before .before .before .before .before .before .before .before .before .before .before .before .before .before .before .before .before .if1 .taken) (c .before .before .before .before .before .before .before .before .before .before .before .before .before .before .before .before .before .before .evaluate-all .ensures) (c .before .before .before .before .before .before .before .before .before .before .before .before .before .before .before .before .before .before .before .rule-word2 .ensures))
 
 pub offer-spec : {M : Type 1} → statement M
 offer-spec =
@@ -27,10 +29,10 @@ offer-spec =
     (λ c κs. search needs)
     (λ c κs. search needs)
     (λ c κs. search needs)
-    (λ c κs. (omega (arith, c .before .before .before .before .before .before .before .before .before .before .before .before .before .before .before .before .before .before .before .pre), (omega (arith, c .before .before .before .before .before .before .before .before .before .before .before .before .before .before .before .before .before .before .before .pre, c .before .before .before .before .before .before .before .log-trigger .ensures .queue), (omega (arith, c .before .before .before .before .before .before .before .before .before .before .before .before .before .before .before .before .before .before .before .pre, c .before .before .before .before .before .before .before .log-trigger .ensures .records), (omega (arith, c .before .before .before .before .before .before .before .before .before .before .before .before .before .before .before .before .before .before .before .pre, c .before .before .before .before .before .before .before .log-trigger .ensures .runs), (omega (arith, c .before .before .before .before .before .before .before .before .before .before .before .before .before .before .before .before .before .before .before .pre, c .before .before .before .before .before .before .before .log-trigger .ensures .reasons), omega (arith, c .before .before .before .before .before .before .before .before .before .before .before .before .before .before .before .before .before .before .before .pre)))))))
+    (λ c κs. (c .before .before .before .before .before .before .before .before .before .before .before .before .before .before .before .before .before .before .before .pre .0, (modes.fits-as 5 _ (c .before .before .before .before .before .before .before .log-trigger .ensures .queue) (c .before .before .before .before .before .before .before .before .before .before .before .before .before .before .before .before .before .before .before .pre .1 .0), (c .before .before .before .before .before .before .before .log-trigger .ensures .records .1, (modes.fits-as 28 _ (c .before .before .before .before .before .before .before .log-trigger .ensures .runs) (c .before .before .before .before .before .before .before .before .before .before .before .before .before .before .before .before .before .before .before .pre .1 .1 .1 .0), (modes.fits-as 5 _ (c .before .before .before .before .before .before .before .log-trigger .ensures .reasons) (c .before .before .before .before .before .before .before .before .before .before .before .before .before .before .before .before .before .before .before .pre .1 .1 .1 .1 .0), c .before .before .before .before .before .before .before .before .before .before .before .before .before .before .before .before .before .before .before .pre .1 .1 .1 .1 .1))))))
     (λ c. search needs)
     (λ c. search needs)
     (λ c. search needs)
     (λ c. search needs)
     returns
-    (λ c. states.moves (λ v n s. states.stay (λ k. laws.offer-no _ _ _ _ _ _ _ (c .before .before .rule-word .ensures) (c .before .any-matches .ensures) (c .if1 .left)) (same (omega (arith, c .before .before .before .before .before .before .before .before .pre))) (same (omega (arith, c .before .before .before .before .before .before .before .before .pre))) (same (omega (arith, c .before .before .before .before .before .before .before .before .pre))) (same (omega (arith, c .before .before .before .before .before .before .before .before .pre))))))
+    (λ c. states.moves (λ v n s. states.stay (λ k. laws.offer-no _ _ _ _ _ _ _ (c .before .before .rule-word .ensures) (c .before .any-matches .ensures) (c .if1 .left)) (same (c .before .before .before .before .before .before .before .before .pre .1 .0)) (same (c .before .before .before .before .before .before .before .before .pre .1 .1 .0)) (same (c .before .before .before .before .before .before .before .before .pre .1 .1 .1 .0)) (same (c .before .before .before .before .before .before .before .before .pre .1 .1 .1 .1 .0)))))

@@ -1,11 +1,14 @@
 use borrow.Author.Needs.{needs}
 use native.Mathlib.Omega.{arith}
-use Rattle.engine_state.proofs.Laws.{two, both, same}
+use Rattle.engine_state.proofs.Laws.{none, two, both, same}
 use Rattle.engine_state.proofs.Laws as states
+use Rattle.engine_modes.proofs.Laws as modes
+use Rattle.engine_modes.proofs.Wholes as wholes
 use Rattle.engine_steps.proofs.Laws as laws
 use Prim.Native.Nat.{_≤_, _-_}
+use mathlib.Core.Path.{sym, subst}
 use lib.ListN.{length}
-use Rattle.engine_steps.specs.Triggers.{offerM, offer-firstM}
+use Rattle.engine_steps.specs.Triggers.{offer-firstM}
 use Rattle.engine_state.specs.Steps.{Moves, goes, kept, told}
 use Rattle.engine_steps.proofs.trigger.Statement.{statement}
 use Rattle.engine_steps.proofs.trigger.Tie as tie
@@ -30,13 +33,13 @@ trigger-spec =
     (λ c. search needs)
     (λ c κs. search needs)
     (λ c κs. search needs)
-    (λ c. (states.moves (λ v n s. states.stay (λ k. laws.offer-none _ _ _ _) (same (omega (arith, c .before .before .before .before .wake .ensures .queue))) (same (omega (arith, c .before .before .before .before .before .before .before .before .before .before .before .before .before .before .pre, c .before .before .before .before .wake .ensures .records))) (same (omega (arith, c .before .before .before .before .wake .ensures .runs))) (same (omega (arith, c .before .before .before .before .before .before .before .before .before .before .before .before .before .before .pre, c .before .before .before .before .wake .ensures .reasons)))), (omega arith, omega (arith, c .before .before .before .before .before .before .before .before .before .before .before .before .before .before .pre))))
-    (λ c κs. (omega (arith, c .before .before .before .before .before .before .before .before .before .before .before .before .before .before .at-most .ensures), (omega (arith, c .before .before .before .before .before .before .loop .inv .0 .queue), (omega (arith, c .before .before .before .before .before .before .loop .inv .0 .records), (omega (arith, c .before .before .before .before .before .before .loop .inv .0 .runs), (omega (arith, c .before .before .before .before .before .before .loop .inv .0 .reasons), omega arith))))))
+    (λ c. (states.moves (λ v n s. states.stay (λ k. laws.offer-none _ _ _ _) (same (c .before .before .before .before .wake .ensures .queue .1)) (same (modes.fits-as 13 _ (c .before .before .before .before .wake .ensures .records) (c .before .before .before .before .before .before .before .before .before .before .before .before .before .before .pre .1 .0))) (same (c .before .before .before .before .wake .ensures .runs .1)) (same (modes.fits-as 5 _ (c .before .before .before .before .wake .ensures .reasons) (c .before .before .before .before .before .before .before .before .before .before .before .before .before .before .pre .1 .1 .1 .0)))), (omega arith, c .before .before .before .before .before .before .before .before .before .before .before .before .before .before .pre .1 .1 .1 .1)))
+    (λ c κs. (omega (arith, c .before .before .before .before .before .before .before .before .before .before .before .before .before .before .at-most .ensures), (c .before .before .before .before .before .before .loop .inv .0 .queue .1, (c .before .before .before .before .before .before .loop .inv .0 .records .1, (c .before .before .before .before .before .before .loop .inv .0 .runs .1, (c .before .before .before .before .before .before .loop .inv .0 .reasons .1, c .before .before .before .before .before .before .loop .inv .1 .1))))))
     (λ c. omega (arith, c .before .before .before .before .before .before .before .before .before .before .before .before .before .before .loop-test .taken, c .before .before .before .before .before .before .before .before .before .before .before .before .before .before .before .before .before .before .before .before .before .before .before .at-most .ensures))
     (λ c. search needs)
-    (λ c. (states.moves (λ v n s. states.renamed _ (states.follow (offerM _ _ _ _) (c .before .before .before .before .before .before .before .before .before .before .before .before .before .before .before .loop .inv .0 .does v _ s) (c .before .before .before .before .before .before .before .before .offer .ensures .does v _ s) both both both both) (λ k. laws.offer-more _ _ _ _ _)), (omega arith, omega (arith, c .before .before .before .before .before .before .before .before .before .before .before .before .before .before .before .loop .inv, c .before .before .before .before .before .before .before .before .offer .ensures .reasons))))
+    (λ c. (wholes.named (wholes.next (c .before .before .before .before .before .before .before .before .before .before .before .before .before .before .before .loop .inv .0) (c .before .before .before .before .before .before .before .before .offer .ensures) both both both both both none both) (λ v n s k. laws.offer-more _ _ _ _ _), (omega arith, subst (λ z. 1500 ≤ z) (sym (c .before .before .before .before .before .before .before .before .offer .ensures .reasons .0)) (c .before .before .before .before .before .before .before .before .before .before .before .before .before .before .before .loop .inv .1 .1))))
     (λ c. search needs)
     (λ c. search needs)
     (λ c. search needs)
     (λ c. search needs)
-    (λ c. states.moves (λ v n s. states.renamed _ (states.follow (offer-firstM _ _ _ _) (c .before .before .before .before .before .before .wake .ensures .does _ _ _) (c .before .loop .inv .0 .does v _ s) both two both two) (λ k. laws.trigger-is _ _ _ _ _ _ (omega arith) (c .before .before .before .before .before .before .before .before .before .at-most .ensures .0)))))
+    (λ c. wholes.named (wholes.next (c .before .before .before .before .before .before .wake .ensures) (c .before .loop .inv .0) both two both two two none two) (λ v n s k. laws.trigger-is _ _ _ _ _ _ (omega arith) (c .before .before .before .before .before .before .before .before .before .at-most .ensures .0))))

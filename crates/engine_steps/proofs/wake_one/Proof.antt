@@ -3,7 +3,8 @@ use native.Mathlib.Omega.{arith}
 use Rattle.engine_state.proofs.Laws.{none, one, two, same}
 use Rattle.engine_state.proofs.Laws as states
 use Rattle.engine_steps.proofs.Laws as laws
-use Rattle.engine_steps.specs.Runs.{wake-runM, wake-oneM, nowM}
+use Rattle.engine_steps.specs.Runs.{wake-runM, wake-oneM}
+use Rattle.engine_modes.specs.Modes.{nowM}
 use borrow.Author.Needs.{needs}
 use Rattle.engine_steps.proofs.wake_one.Statement.{statement}
 use Rattle.engine_steps.proofs.wake_one.Tie as tie
@@ -18,15 +19,15 @@ use Rattle.runs.proofs.run_at.Reads as run-at-reads
 
 returns : tie.Need-returns
 unfolding wake-oneM
-returns c = (states.moves (λ v n s. laws.with-run (wake-runM _ _ _) refl (omega (arith, c .before .before .before .before .before .before .before .pre)) (states.stay (λ k. laws.wake-going _ _ _ _ _ (sym (c .before .before .phase-at .ensures) ∙ c .enum-told .given .1)) (same (omega (arith, c .before .before .before .before .before .before .before .pre))) none (same (omega (arith, c .before .before .before .before .before .before .before .pre))) none)), refl)
+returns c = (states.moves (λ v n s. laws.with-run (wake-runM _ _ _) refl (c .before .before .before .before .before .before .before .pre .0) (states.stay (λ k. laws.wake-going _ _ _ _ _ (sym (c .before .before .phase-at .ensures) ∙ c .enum-told .given .1)) (same (c .before .before .before .before .before .before .before .pre .1 .0)) none (same (c .before .before .before .before .before .before .before .pre .1 .1)) none)), refl)
 
 returns-2 : tie.Need-returns-2
 unfolding wake-oneM
-returns-2 c = (states.moves (λ v n s. laws.with-run (wake-runM _ _ _) (c .before .before .before .before .before .before .before .before .before .run-at .ensures) (omega (arith, c .before .before .before .before .before .before .before .before .before .before .before .before .before .before .before .before .before .before .before .before .before .pre)) (states.renamed _ (states.follow (nowM _) (laws.replaced _ _ _ (omega (arith, c .before .before .before .before .before .before .before .before .before .before .before .before .before .before .before .before .before .before .before .before .before .pre)) (search needs) _ _ _ (c .before .before .before .before .before .before .put-run .ensures) (c .before .before .before .before .before .before .before .before .with-phase .ensures) (omega (arith, c .before .before .before .before .before .before .before .before .before .before .before .before .before .before .before .before .before .before .before .before .before .pre))) (c .before .before .next-step .ensures .does _ _ _) two none one none) (λ k. laws.wake-yes _ _ _ _ _ _ _ (ap (λ z. z .phase) (c .before .before .before .before .before .before .before .before .before .run-at .ensures) ∙ sym (c .before .before .before .before .before .before .before .before .before .before .before .before .before .before .before .before .phase-at .ensures) ∙ c .before .before .before .before .before .before .before .before .before .before .before .before .before .before .phase .given .1) (c .before .before .before .before .before .before .before .before .before .before .before .before .matches .ensures) (c .before .before .before .before .before .before .before .before .before .before .before .if1 .taken)))), c .before .before .next-step .ensures .runs)
+returns-2 c = (states.moves (λ v n s. laws.with-run (wake-runM _ _ _) (c .before .before .before .before .before .before .before .before .before .run-at .ensures) (c .before .before .before .before .before .before .before .before .before .before .before .before .before .before .before .before .before .before .before .before .before .pre .0) (states.renamed _ (states.follow (nowM _) (laws.replaced _ _ _ (c .before .before .before .before .before .before .before .before .before .before .before .before .before .before .before .before .before .before .before .before .before .pre .1 .1) (search needs) _ _ _ (c .before .before .before .before .before .before .put-run .ensures) (c .before .before .before .before .before .before .before .before .with-phase .ensures) (c .before .before .before .before .before .before .before .before .before .before .before .before .before .before .before .before .before .before .before .before .before .pre .0)) (c .before .before .next-step .ensures .does _ _ _) two none one none) (λ k. laws.wake-yes _ _ _ _ _ _ _ (ap (λ z. z .phase) (c .before .before .before .before .before .before .before .before .before .run-at .ensures) ∙ sym (c .before .before .before .before .before .before .before .before .before .before .before .before .before .before .before .before .phase-at .ensures) ∙ c .before .before .before .before .before .before .before .before .before .before .before .before .before .before .phase .given .1) (c .before .before .before .before .before .before .before .before .before .before .before .before .matches .ensures) (c .before .before .before .before .before .before .before .before .before .before .before .if1 .taken)))), c .before .before .next-step .ensures .runs)
 
 returns-3 : tie.Need-returns-3
 unfolding wake-oneM
-returns-3 c = (states.moves (λ v n s. laws.with-run (wake-runM _ _ _) refl (omega (arith, c .before .before .before .before .before .before .before .before .before .before .pre)) (states.stay (λ k. laws.wake-no _ _ _ _ _ _ _ (sym (c .before .before .before .before .before .phase-at .ensures) ∙ c .before .before .before .phase .given .1) (c .before .matches .ensures) (c .if1 .left)) (same (omega (arith, c .before .before .before .before .before .before .before .before .before .before .pre))) none (same (omega (arith, c .before .before .before .before .before .before .before .before .before .before .pre))) none)), refl)
+returns-3 c = (states.moves (λ v n s. laws.with-run (wake-runM _ _ _) refl (c .before .before .before .before .before .before .before .before .before .before .pre .0) (states.stay (λ k. laws.wake-no _ _ _ _ _ _ _ (sym (c .before .before .before .before .before .phase-at .ensures) ∙ c .before .before .before .phase .given .1) (c .before .matches .ensures) (c .if1 .left)) (same (c .before .before .before .before .before .before .before .before .before .before .pre .1 .0)) none (same (c .before .before .before .before .before .before .before .before .before .before .pre .1 .1)) none)), refl)
 
 pub wake-one-spec : {M : Type 1} → statement M
 wake-one-spec =

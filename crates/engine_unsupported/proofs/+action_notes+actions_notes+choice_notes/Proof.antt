@@ -1,10 +1,12 @@
 use borrow.Author.Needs.{needs}
 use mathlib.Core.Path.{_≡_, refl, sym, _∙_}
+use Rattle.engine_notes.proofs.Laws as notes
 use Rattle.engine_unsupported.proofs.Laws as laws
 use Prim.Native.Nat.{_+_, _-_}
 use lib.ListN.{length}
 use Rattle.reasons.specs.Lists.{listed}
-use Rattle.engine_unsupported.specs.Listing.{_⨾_, timesL, actionL, actionsL, choiceL, branchL}
+use Rattle.engine_notes.specs.Listing.{_⨾_, timesL}
+use Rattle.engine_unsupported.specs.Listing.{actionL, actionsL, choiceL, branchL}
 use Prim.Native.Nat.{ℕ, _<_}
 use borrow.Fn.Kinds.{In}
 use borrow.Fn.PlainCycle.{Measures, is, falls, and}
@@ -18,7 +20,7 @@ use Rattle.engine_unsupported.proofs.choice_notes.Reads as choice-notes
 use Rattle.engine_unsupported.proofs.choice_notes.Kinds as choice-notes-kinds
 use Rattle.engine_unsupported.proofs.+action_notes+actions_notes+choice_notes.Lts-choice_notes as choice-notes-lts
 use Rattle.engine_unsupported.proofs.head_at.Reads as head-at-reads
-use Rattle.engine_unsupported.proofs.part_notes.Reads as part-notes-reads
+use Rattle.engine_notes.proofs.part_notes.Reads as part-notes-reads
 use Rattle.engine_unsupported.proofs.simple_note.Reads as simple-note-reads
 use Rattle.model_walk.proofs.u16_at.Reads as u16-at-reads
 use Rattle.engine_unsupported.proofs.+action_notes+actions_notes+choice_notes.{statement}
@@ -114,15 +116,15 @@ pub +action-notes+actions-notes+choice-notes-spec : {M : Type 1} → statement M
     (λ c κs. search needs)
     (λ c. search needs)
     (λ c. search needs)
-    (λ c. sym (laws.actions-more _ _ _ _ (c .before .before .before .if1 .left) ∙ laws.by-broken _ _ _ _ _ (c .before .before .u16-at .ensures) (c .enum-told .given .1)))
-    (λ c. (refl, laws.actions-more _ _ _ _ (c .before .before .before .before .if1 .left) ∙ laws.by-is _ _ _ _ _ (c .before .before .before .u16-at .ensures) (c .before .x .given .1)))
+    (λ c. sym (laws.actions-more _ _ _ _ (c .before .before .before .if1 .left) ∙ notes.by-broken _ _ _ _ _ (c .before .before .u16-at .ensures) (c .enum-told .given .1)))
+    (λ c. (refl, laws.actions-more _ _ _ _ (c .before .before .before .before .if1 .left) ∙ notes.by-is _ _ _ _ _ (c .before .before .before .u16-at .ensures) (c .before .x .given .1)))
     (λ c. search needs)
     (λ c κs. search needs)
     (λ c. search needs)
     (λ c. search needs)
-    (λ c. (search needs, c .before .before .before .before .before .loop .inv .1 ∙ laws.times-more _ _ _ _ _ (c .before .before .before .before .loop-test .taken) ∙ laws.to _ _ _ _ _ _ _ (c .before .before .action-notes .ensures)))
+    (λ c. (search needs, c .before .before .before .before .before .loop .inv .1 ∙ notes.times-more _ _ _ _ _ (c .before .before .before .before .loop-test .taken) ∙ notes.to _ _ _ _ _ _ _ (c .before .before .action-notes .ensures)))
     (λ c. search needs)
-    (λ c. sym (c .before .loop .inv .1 ∙ laws.times-none _ _ _ _ _ (c .loop-test .left))))
+    (λ c. sym (c .before .loop .inv .1 ∙ notes.times-none _ _ _ _ _ (c .loop-test .left))))
     λ t. choice-notes-lts.spec (
       u16-at-reads.Asked,
       u16-at-reads.Learnt,
@@ -138,13 +140,13 @@ pub +action-notes+actions-notes+choice-notes-spec : {M : Type 1} → statement M
     (λ c κs. search needs)
     (λ c. search needs)
     (λ c. search needs)
-    (λ c. sym (laws.by-broken _ _ _ _ _ (c .before .before .u16-at .ensures) (c .enum-told .given .1)))
-    (λ c. (refl, laws.by-is _ _ _ _ _ (c .before .before .before .u16-at .ensures) (c .before .x .given .1)))
+    (λ c. sym (notes.by-broken _ _ _ _ _ (c .before .before .u16-at .ensures) (c .enum-told .given .1)))
+    (λ c. (refl, notes.by-is _ _ _ _ _ (c .before .before .before .u16-at .ensures) (c .before .x .given .1)))
     (λ c κs. search needs)
     (λ c κs. search needs)
     (λ c. search needs)
     (λ c. search needs)
-    (λ c. (search needs, c .before .before .before .before .before .before .before .before .before .loop .inv .1 ∙ laws.times-then _ _ _ _ _ _ (c .before .before .before .before .before .before .before .before .loop-test .taken) ∙ laws.assoc _ _ _ _ _ _ ∙ laws.to _ _ _ _ _ _ _ (c .before .before .before .before .before .before .part-notes .ensures) ∙ laws.to _ _ _ _ _ _ _ (c .before .before .actions-notes .ensures)))
+    (λ c. (search needs, c .before .before .before .before .before .before .before .before .before .loop .inv .1 ∙ laws.times-then _ _ _ _ _ _ (c .before .before .before .before .before .before .before .before .loop-test .taken) ∙ laws.assoc _ _ _ _ _ _ ∙ notes.to _ _ _ _ _ _ _ (c .before .before .before .before .before .before .part-notes .ensures) ∙ notes.to _ _ _ _ _ _ _ (c .before .before .actions-notes .ensures)))
     (λ c κs. search needs)
     (λ c. search needs)
     (λ c. (c .before .before .actions-notes2 .ensures) ∙ sym (c .before .before .before .before .before .loop .inv .1 ∙ laws.none-then _ _ _ _ _ _ (c .before .before .before .before .loop-test .left)))

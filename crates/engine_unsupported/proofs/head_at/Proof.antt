@@ -1,4 +1,5 @@
 use mathlib.Core.Path.{sym, _∙_}
+use Rattle.engine_notes.proofs.Laws as notes
 use Rattle.engine_unsupported.proofs.Laws as laws
 use borrow.Author.Needs.{needs}
 use Rattle.engine_unsupported.proofs.head_at.Statement.{statement}
@@ -15,13 +16,13 @@ head-at-spec =
     (λ c κs. search needs)
     (λ c. search needs)
     (λ c. search needs)
-    (λ c. sym (laws.head-is _ _ ∙ laws.read-broken _ _ _ _ _ (c .before .before .u32-at .ensures) (c .enum-told .given .1)))
+    (λ c. sym (laws.head-is _ _ ∙ notes.read-broken _ _ _ _ _ (c .before .before .u32-at .ensures) (c .enum-told .given .1)))
     (λ c κs. search needs)
     (λ c. search needs)
     (λ c. search needs)
-    (λ c. sym (laws.head-is _ _ ∙ laws.read-is _ _ _ _ _ (c .before .before .before .before .before .before .u32-at .ensures) (c .before .before .before .before .x .given .1) ∙ laws.read-broken _ _ _ _ _ (c .before .before .u32-at2 .ensures) (c .enum-told2 .given .1)))
+    (λ c. sym (laws.head-is _ _ ∙ notes.read-is _ _ _ _ _ (c .before .before .before .before .before .before .u32-at .ensures) (c .before .before .before .before .x .given .1) ∙ notes.read-broken _ _ _ _ _ (c .before .before .u32-at2 .ensures) (c .enum-told2 .given .1)))
     (λ c κs. search needs)
     (λ c. search needs)
     (λ c. search needs)
-    (λ c. sym (laws.head-is _ _ ∙ laws.read-is _ _ _ _ _ (c .before .before .before .before .before .before .before .before .before .before .u32-at .ensures) (c .before .before .before .before .before .before .before .before .x .given .1) ∙ laws.read-is _ _ _ _ _ (c .before .before .before .before .before .before .u32-at2 .ensures) (c .before .before .before .before .y .given .1) ∙ laws.read-broken _ _ _ _ _ (c .before .before .u8-at .ensures) (c .enum-told3 .given .1)))
-    (λ c. sym (laws.head-is _ _ ∙ laws.read-is _ _ _ _ _ (c .before .before .before .before .before .before .before .before .before .before .before .u32-at .ensures) (c .before .before .before .before .before .before .before .before .before .x .given .1) ∙ laws.read-is _ _ _ _ _ (c .before .before .before .before .before .before .before .u32-at2 .ensures) (c .before .before .before .before .before .y .given .1) ∙ laws.read-is _ _ _ _ _ (c .before .before .before .u8-at .ensures) (c .before .z .given .1))))
+    (λ c. sym (laws.head-is _ _ ∙ notes.read-is _ _ _ _ _ (c .before .before .before .before .before .before .before .before .before .before .u32-at .ensures) (c .before .before .before .before .before .before .before .before .x .given .1) ∙ notes.read-is _ _ _ _ _ (c .before .before .before .before .before .before .u32-at2 .ensures) (c .before .before .before .before .y .given .1) ∙ notes.read-broken _ _ _ _ _ (c .before .before .u8-at .ensures) (c .enum-told3 .given .1)))
+    (λ c. sym (laws.head-is _ _ ∙ notes.read-is _ _ _ _ _ (c .before .before .before .before .before .before .before .before .before .before .before .u32-at .ensures) (c .before .before .before .before .before .before .before .before .before .x .given .1) ∙ notes.read-is _ _ _ _ _ (c .before .before .before .before .before .before .before .u32-at2 .ensures) (c .before .before .before .before .before .y .given .1) ∙ notes.read-is _ _ _ _ _ (c .before .before .before .u8-at .ensures) (c .before .z .given .1))))

@@ -1,12 +1,13 @@
 use mathlib.Core.Path.{sym, _∙_}
+use Rattle.engine_notes.proofs.Laws as notes
 use Rattle.engine_unsupported.proofs.Laws as laws
 use borrow.Author.Needs.{needs}
 use Rattle.engine_unsupported.proofs.simple_note.Statement.{statement}
 use Rattle.engine_unsupported.proofs.simple_note.Tie as tie
 use Rattle.engine_unsupported.proofs.simple_note.Reads as reads
 use Rattle.engine_unsupported.proofs.simple_note.Lts as lts
-use Rattle.engine_unsupported.proofs.predicate_note.Reads as predicate-note-reads
-use Rattle.engine_unsupported.proofs.skip.Reads as skip-reads
+use Rattle.engine_notes.proofs.predicate_note.Reads as predicate-note-reads
+use Rattle.engine_notes.proofs.skip.Reads as skip-reads
 use Rattle.engine_unsupported.proofs.unknown_note.Reads as unknown-note-reads
 use Rattle.engine_unsupported.proofs.wait_note.Reads as wait-note-reads
 
@@ -24,6 +25,6 @@ simple-note-spec =
     (λ c. search needs)
     (λ c. (c .before .before .unknown-note .ensures) ∙ sym (laws.simple-6 _ _ _ _ (c .before .before .before .before .if3 .taken)))
     (λ c κs. search needs)
-    (λ c. laws.skip-is _ _ _ _ (c .skip .ensures) ∙ sym (laws.simple-1 _ _ _ _ (c .before .if4 .taken)))
+    (λ c. notes.skip-is _ _ _ _ (c .skip .ensures) ∙ sym (laws.simple-1 _ _ _ _ (c .before .if4 .taken)))
     (λ c κs. search needs)
-    (λ c. laws.skip-is _ _ _ _ (c .skip2 .ensures) ∙ sym (laws.simple-else _ _ _ _ (c .before .before .before .before .if1 .left) (c .before .before .before .if2 .left) (c .before .before .if3 .left) (c .before .if4 .left))))
+    (λ c. notes.skip-is _ _ _ _ (c .skip2 .ensures) ∙ sym (laws.simple-else _ _ _ _ (c .before .before .before .before .if1 .left) (c .before .before .before .if2 .left) (c .before .before .if3 .left) (c .before .if4 .left))))

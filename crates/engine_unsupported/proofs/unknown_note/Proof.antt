@@ -1,11 +1,12 @@
 use mathlib.Core.Path.{sym, _∙_}
+use Rattle.engine_notes.proofs.Laws as notes
 use Rattle.engine_unsupported.proofs.Laws as laws
 use borrow.Author.Needs.{needs}
 use Rattle.engine_unsupported.proofs.unknown_note.Statement.{statement}
 use Rattle.engine_unsupported.proofs.unknown_note.Tie as tie
 use Rattle.engine_unsupported.proofs.unknown_note.Reads as reads
 use Rattle.engine_unsupported.proofs.unknown_note.Lts as lts
-use Rattle.engine_unsupported.proofs.put.Reads as put-reads
+use Rattle.engine_notes.proofs.put.Reads as put-reads
 use Rattle.engine_unsupported.proofs.source_note.Reads as source-note-reads
 use Rattle.model_walk.proofs.u16_at.Reads as u16-at-reads
 
@@ -16,8 +17,8 @@ unknown-note-spec =
     (λ c κs. search needs)
     (λ c. search needs)
     (λ c. search needs)
-    (λ c. sym (laws.unknown-is _ _ _ _ _ ∙ laws.by-broken _ _ _ _ _ (c .before .before .u16-at .ensures) (c .enum-told .given .1)))
+    (λ c. sym (laws.unknown-is _ _ _ _ _ ∙ notes.by-broken _ _ _ _ _ (c .before .before .u16-at .ensures) (c .enum-told .given .1)))
     (λ c κs. search needs)
     (λ c κs. search needs)
     (λ c. search needs)
-    (λ c. sym (laws.unknown-is _ _ _ _ _ ∙ laws.by-is _ _ _ _ _ (c .before .before .before .before .before .before .before .before .u16-at .ensures) (c .before .before .before .before .before .before .x .given .1) ∙ laws.source-put _ _ _ _ _ _ (c .before .before .before .before .source-note .ensures) (c .before .before .put .ensures))))
+    (λ c. sym (laws.unknown-is _ _ _ _ _ ∙ notes.by-is _ _ _ _ _ (c .before .before .before .before .before .before .before .before .u16-at .ensures) (c .before .before .before .before .before .before .x .given .1) ∙ laws.source-put _ _ _ _ _ _ (c .before .before .before .before .source-note .ensures) (c .before .before .put .ensures))))

@@ -4,7 +4,7 @@ use Rattle.engine_state.proofs.Laws as states
 use Rattle.engine_steps.proofs.Laws as steps
 use Rattle.engine_works.proofs.Laws as laws
 use Rattle.engine_works.specs.Works.{expire-toM}
-use Rattle.engine_steps.specs.Writes.{changedM}
+use Rattle.engine_writes.specs.Writes.{changedM}
 use Rattle.engine_state.specs.Changes.{log-writeM}
 use borrow.Author.Needs.{needs}
 use Rattle.engine_works.proofs.expire.Statement.{statement}
@@ -13,7 +13,7 @@ use Rattle.engine_works.proofs.expire.Reads as reads
 use Rattle.engine_works.proofs.expire.Lts as lts
 use Rattle.engine_reads.proofs.name_of.Reads as name-of-reads
 use Rattle.engine_state.proofs.log_write.Reads as log-write-reads
-use Rattle.engine_steps.proofs.changed.Reads as changed-reads
+use Rattle.engine_writes.proofs.changed.Reads as changed-reads
 
 returns : tie.Need-returns
 unfolding expire-toM

@@ -5,7 +5,7 @@ use Rattle.engine_works.proofs.external.Statement.{statement}
 use Rattle.engine_works.proofs.external.Tie as tie
 use Rattle.engine_works.proofs.external.Reads as reads
 use Rattle.engine_works.proofs.external.Lts as lts
-use Rattle.engine_steps.proofs.update.Reads as update-reads
+use Rattle.engine_writes.proofs.update.Reads as update-reads
 
 returns : tie.Need-returns
 unfolding externalM

@@ -4,7 +4,8 @@ use Rattle.engine_state.proofs.Laws as states
 use Rattle.engine_steps.proofs.Laws as steps
 use Rattle.engine_works.proofs.Laws as laws
 use Rattle.engine_works.specs.Works.{over-onM, over-endM}
-use Rattle.engine_steps.specs.Runs.{put-runM, nowM, finishM}
+use Rattle.engine_modes.specs.Modes.{nowM}
+use Rattle.engine_steps.specs.Runs.{put-runM, finishM}
 use borrow.Author.Needs.{needs}
 use Rattle.engine_works.proofs.wait_over.Statement.{statement}
 use Rattle.engine_works.proofs.wait_over.Tie as tie

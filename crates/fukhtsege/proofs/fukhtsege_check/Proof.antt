@@ -4,10 +4,6 @@ use native.Mathlib.Omega.{arith}
 use Rattle.fukhtsege.proofs.Laws as laws
 use Rattle.fukhtsege.proofs.fukhtsege_check.Statement.{statement}
 use Rattle.fukhtsege.proofs.fukhtsege_check.Tie as tie
-use Rattle.fukhtsege.proofs.fukhtsege_check.Reads as reads
-use Rattle.fukhtsege.proofs.fukhtsege_check.Lts as lts
-use Rattle.checker_entry.proofs.check_lent.Reads as check-lent-reads
-use Rattle.fukhtsege.proofs.put_check.Reads as put-check-reads
 
 pub fukhtsege-check-spec : {M : Type 1} → statement M
 fukhtsege-check-spec =

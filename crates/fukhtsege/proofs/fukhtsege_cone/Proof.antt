@@ -4,10 +4,6 @@ use native.Mathlib.Omega.{arith}
 use Rattle.fukhtsege.proofs.Laws as laws
 use Rattle.fukhtsege.proofs.fukhtsege_cone.Statement.{statement}
 use Rattle.fukhtsege.proofs.fukhtsege_cone.Tie as tie
-use Rattle.fukhtsege.proofs.fukhtsege_cone.Reads as reads
-use Rattle.fukhtsege.proofs.fukhtsege_cone.Lts as lts
-use Rattle.cone_entry.proofs.cone.Reads as cone-reads
-use Rattle.fukhtsege.proofs.put_cone.Reads as put-cone-reads
 
 pub fukhtsege-cone-spec : {M : Type 1} → statement M
 fukhtsege-cone-spec =

@@ -4,10 +4,6 @@ use native.Mathlib.Omega.{arith}
 use Rattle.fukhtsege.proofs.Laws as laws
 use Rattle.fukhtsege.proofs.fukhtsege_lint.Statement.{statement}
 use Rattle.fukhtsege.proofs.fukhtsege_lint.Tie as tie
-use Rattle.fukhtsege.proofs.fukhtsege_lint.Reads as reads
-use Rattle.fukhtsege.proofs.fukhtsege_lint.Lts as lts
-use Rattle.fukhtsege.proofs.put_report.Reads as put-report-reads
-use Rattle.lint_answer.proofs.lint.Reads as lint-reads
 
 pub fukhtsege-lint-spec : {M : Type 1} → statement M
 fukhtsege-lint-spec =

@@ -4,10 +4,6 @@ use native.Mathlib.Omega.{arith}
 use Rattle.fukhtsege.proofs.Laws as laws
 use Rattle.fukhtsege.proofs.fukhtsege_minimize.Statement.{statement}
 use Rattle.fukhtsege.proofs.fukhtsege_minimize.Tie as tie
-use Rattle.fukhtsege.proofs.fukhtsege_minimize.Reads as reads
-use Rattle.fukhtsege.proofs.fukhtsege_minimize.Lts as lts
-use Rattle.fukhtsege.proofs.put_minimized.Reads as put-minimized-reads
-use Rattle.reduce_entry.proofs.minimize.Reads as minimize-reads
 
 pub fukhtsege-minimize-spec : {M : Type 1} → statement M
 fukhtsege-minimize-spec =

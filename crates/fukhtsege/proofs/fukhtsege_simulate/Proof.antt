@@ -4,10 +4,6 @@ use native.Mathlib.Omega.{arith}
 use Rattle.fukhtsege.proofs.Laws as laws
 use Rattle.fukhtsege.proofs.fukhtsege_simulate.Statement.{statement}
 use Rattle.fukhtsege.proofs.fukhtsege_simulate.Tie as tie
-use Rattle.fukhtsege.proofs.fukhtsege_simulate.Reads as reads
-use Rattle.fukhtsege.proofs.fukhtsege_simulate.Lts as lts
-use Rattle.engine_entry.proofs.simulate_lent.Reads as simulate-lent-reads
-use Rattle.fukhtsege.proofs.put_simulation.Reads as put-simulation-reads
 
 pub fukhtsege-simulate-spec : {M : Type 1} → statement M
 fukhtsege-simulate-spec =

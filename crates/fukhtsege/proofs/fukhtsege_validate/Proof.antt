@@ -1,11 +1,8 @@
 use borrow.Author.Needs.{needs}
 use mathlib.Core.Path.{sym, ap, _∙_}
-use Rattle.fukhtsege.specs.Numbers.{validityNumber}
+use Rattle.answer_numbers.specs.Numbers.{validityNumber}
 use Rattle.fukhtsege.proofs.fukhtsege_validate.Statement.{statement}
 use Rattle.fukhtsege.proofs.fukhtsege_validate.Tie as tie
-use Rattle.fukhtsege.proofs.fukhtsege_validate.Reads as reads
-use Rattle.fukhtsege.proofs.fukhtsege_validate.Lts as lts
-use Rattle.model_validate.proofs.validate.Reads as validate-reads
 
 pub fukhtsege-validate-spec : {M : Type 1} → statement M
 fukhtsege-validate-spec =

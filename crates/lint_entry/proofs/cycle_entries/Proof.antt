@@ -6,17 +6,11 @@ use lib.ListN.{length, getD}
 use Rattle.lint_board.specs.Board.{board, pushes, finding}
 use Rattle.lint_findings.specs.Entries.{itemsN}
 use Rattle.lint_findings.proofs.Laws as items
-use Rattle.lint_tests.proofs.Laws as tests
-use Rattle.lint_walk.proofs.Sizes as sizes
 use Rattle.lint_tests.specs.Given.{sectionOf}
 use Rattle.lint_entry.proofs.Laws as laws
 use Rattle.lint_entry.specs.Order.{cycleZ, cyclesItems}
 use Rattle.lint_entry.proofs.cycle_entries.Statement.{statement}
 use Rattle.lint_entry.proofs.cycle_entries.Tie as tie
-use Rattle.lint_entry.proofs.cycle_entries.Reads as reads
-use Rattle.lint_entry.proofs.cycle_entries.Lts as lts
-use Rattle.lint_board.proofs.push_finding.Reads as push-finding-reads
-use Rattle.lint_entry.proofs.cycle_words.Reads as cycle-words-reads
 
 abbrev Inv-loop : tie.InvT-loop
 Inv-loop s entities rules given findings₀ found count out₀ i₀ findings out i = ((k : List ℕ) → pushes (cyclesItems s (sectionOf entities (given .entities)) (sectionOf rules (given .rules)) found) (board findings₀ k out₀) ≡ pushes (itemsN (λ k. finding (cycleZ s (sectionOf entities (given .entities)) (sectionOf rules (given .rules)) (getD (found .sets) k 0)) ∷ []) (count - i) i) (board findings k out)) × (length findings ≡ length findings₀)
@@ -37,6 +31,6 @@ cycle-entries-spec =
     (λ c κs. search needs)
     (λ c. search needs)
     (λ c. search needs)
-    (λ c. ((λ k. c .before .before .before .before .before .before .before .loop .inv .0 k ∙ items.numbers-more _ _ _ _ (c .before .before .before .before .before .before .loop-test .taken) (laws.one-finding _ (c .before .before .before .cycle-words .ensures) (c .before .before .push-finding .ensures k))), search needs))
+    (λ c. ((λ k. c .before .before .before .before .before .before .before .loop .inv .0 k ∙ items.numbers-more _ _ _ _ (c .before .before .before .before .before .before .loop-test .taken) (items.one-finding _ (c .before .before .before .cycle-words .ensures) (c .before .before .push-finding .ensures k))), search needs))
     (λ c. search needs)
     (λ c. λ k. sym (c .before .loop .inv .0 k ∙ items.numbers-end _ _ _ _ (c .loop-test .left))))

@@ -5,7 +5,7 @@ use Rattle.lint_entry.proofs.pair_entries.Statement.{statement}
 use Rattle.lint_entry.proofs.pair_entries.Tie as tie
 use Rattle.lint_entry.proofs.pair_entries.Reads as reads
 use Rattle.lint_entry.proofs.pair_entries.Lts as lts
-use Rattle.lint_findings.proofs.oppose_pair.Reads as oppose-pair-reads
+use Rattle.lint_pairs.proofs.oppose_pair.Reads as oppose-pair-reads
 use Rattle.lint_reach.proofs.with.Reads as with-reads
 use Rattle.lint_walk.proofs.rule_walk.Reads as rule-walk-reads
 

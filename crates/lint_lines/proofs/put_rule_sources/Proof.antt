@@ -3,8 +3,8 @@ use mathlib.Core.Path.{_∙_}
 use Prim.Native.Nat.{ℕ, _-_, _≤_}
 use Rattle.texts.specs.Lists.{each}
 use Rattle.lint_reach.specs.Sets.{holds, members}
-use Rattle.lint_lines.specs.Lines.{spaced}
-use Rattle.lint_lines.proofs.Loops as loops
+use Rattle.lint_words.specs.Lines.{spaced}
+use Rattle.lint_words.proofs.Loops as loops
 use Rattle.reasons.specs.Reasons.{placed}
 use Rattle.lint_lines.specs.Numbers.{rule-source}
 use Rattle.show.proofs.Laws as show

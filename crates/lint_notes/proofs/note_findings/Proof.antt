@@ -10,10 +10,6 @@ use Rattle.lint_notes.specs.Notes.{noteZ, noteItems}
 use Rattle.lint_notes.proofs.Laws as laws
 use Rattle.lint_notes.proofs.note_findings.Statement.{statement}
 use Rattle.lint_notes.proofs.note_findings.Tie as tie
-use Rattle.lint_notes.proofs.note_findings.Reads as reads
-use Rattle.lint_notes.proofs.note_findings.Lts as lts
-use Rattle.lint_board.proofs.push_finding.Reads as push-finding-reads
-use Rattle.lint_notes.proofs.note_words.Reads as note-words-reads
 
 abbrev Inv-loop : tie.InvT-loop
 Inv-loop set line column reasons count findings₀ out₀ j₀ findings out j = ((k : List ℕ) → pushes (noteItems set line column reasons count) (board findings₀ k out₀) ≡ pushes (itemsN (λ j. finding (noteZ set line column reasons j) ∷ []) (count - j) j) (board findings k out)) × (length findings ≡ length findings₀)
@@ -32,6 +28,6 @@ note-findings-spec =
     (λ c κs. search needs)
     (λ c. search needs)
     (λ c. search needs)
-    (λ c. ((λ k. c .before .before .before .before .before .before .loop .inv .0 k ∙ items.numbers-more _ _ _ _ (c .before .before .before .before .before .loop-test .taken) (laws.one-finding _ (c .before .before .before .note-words .ensures) (c .before .before .push-finding .ensures k))), search needs))
+    (λ c. ((λ k. c .before .before .before .before .before .before .loop .inv .0 k ∙ items.numbers-more _ _ _ _ (c .before .before .before .before .before .loop-test .taken) (items.one-finding _ (c .before .before .before .note-words .ensures) (c .before .before .push-finding .ensures k))), search needs))
     (λ c. search needs)
     (λ c. λ k. sym (c .before .loop .inv .0 k ∙ items.numbers-end _ _ _ _ (c .loop-test .left))))

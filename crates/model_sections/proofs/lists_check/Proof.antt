@@ -6,7 +6,7 @@ use Rattle.model_sections.proofs.lists_check.Statement.{statement}
 use Rattle.model_sections.proofs.lists_check.Tie as tie
 use Rattle.model_sections.proofs.lists_check.Reads as reads
 use Rattle.model_sections.proofs.lists_check.Lts as lts
-use Rattle.model_check.proofs.actions_check.Reads as actions-check-reads
+use Rattle.model_actions.proofs.actions_check.Reads as actions-check-reads
 use Rattle.model_check.proofs.predicates_check.Reads as predicates-check-reads
 use Rattle.model_check.proofs.triggers_check.Reads as triggers-check-reads
 

@@ -2,17 +2,10 @@ use borrow.Author.Needs.{needs}
 use native.Mathlib.Omega.{arith}
 use mathlib.Core.Path.{sym, ap, _∙_}
 use Rattle.checker_entry.proofs.Promise.{whole-done, whole-full}
-use Rattle.reduce_entry.specs.Answers.{no-reduction}
+use Rattle.reduce_result.specs.Result.{no-reduction}
 use Rattle.reduce_entry.proofs.Outcome as outcome
 use Rattle.reduce_entry.proofs.first_check.Statement.{statement}
 use Rattle.reduce_entry.proofs.first_check.Tie as tie
-use Rattle.reduce_entry.proofs.first_check.Reads as reads
-use Rattle.reduce_entry.proofs.first_check.Lts as lts
-use Rattle.reduce.proofs.is_violation.Reads as is-violation-reads
-use Rattle.reduce_entry.proofs.check_of.Reads as check-of-reads
-use Rattle.reduce_entry.proofs.clear.Reads as clear-reads
-use Rattle.reduce_entry.proofs.reduction.Reads as reduction-reads
-use Rattle.reduce_entry.proofs.refused.Reads as refused-reads
 
 pub first-check-spec : {M : Type 1} → statement M
 first-check-spec =

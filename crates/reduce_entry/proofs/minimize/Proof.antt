@@ -2,11 +2,6 @@ use Rattle.reduce_entry.proofs.Entry as entry
 use borrow.Author.Needs.{needs}
 use Rattle.reduce_entry.proofs.minimize.Statement.{statement}
 use Rattle.reduce_entry.proofs.minimize.Tie as tie
-use Rattle.reduce_entry.proofs.minimize.Reads as reads
-use Rattle.reduce_entry.proofs.minimize.Lts as lts
-use Rattle.model_validate.proofs.accept.Reads as accept-reads
-use Rattle.reduce_entry.proofs.refused.Reads as refused-reads
-use Rattle.reduce_entry.proofs.run.Reads as run-reads
 
 pub minimize-spec : {M : Type 1} → statement M
 minimize-spec =

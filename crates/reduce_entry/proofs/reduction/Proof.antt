@@ -3,12 +3,6 @@ use native.Mathlib.Omega.{arith}
 use Rattle.reduce_entry.proofs.Outcome as outcome
 use Rattle.reduce_entry.proofs.reduction.Statement.{statement}
 use Rattle.reduce_entry.proofs.reduction.Tie as tie
-use Rattle.reduce_entry.proofs.reduction.Reads as reads
-use Rattle.reduce_entry.proofs.reduction.Lts as lts
-use Rattle.reduce.proofs.reduce_events.Reads as reduce-events-reads
-use Rattle.reduce_entry.proofs.clear.Reads as clear-reads
-use Rattle.reduce_entry.proofs.last_check.Reads as last-check-reads
-use Rattle.reduce_entry.proofs.refused.Reads as refused-reads
 
 pub reduction-spec : {M : Type 1} → statement M
 reduction-spec =

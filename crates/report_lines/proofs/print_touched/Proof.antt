@@ -5,8 +5,8 @@ use Rattle.report_lines.proofs.print_touched.Statement.{statement}
 use Rattle.report_lines.proofs.print_touched.Tie as tie
 use Rattle.report_lines.proofs.print_touched.Reads as reads
 use Rattle.report_lines.proofs.print_touched.Lts as lts
-use Rattle.lint_lines.proofs.next_from.Reads as next-from-reads
-use Rattle.lint_lines.proofs.put_touched.Reads as put-touched-reads
+use Rattle.lint_reads_lines.proofs.next_from.Reads as next-from-reads
+use Rattle.lint_reads_lines.proofs.put_touched.Reads as put-touched-reads
 use Rattle.show.proofs.room.Reads as room-reads
 
 abbrev Inv-loop : tie.InvT-loop

@@ -4,7 +4,7 @@ use native.Mathlib.Omega.{arith}
 use lib.ListN.{length}
 use borrow.Author.Needs.{needs}
 use Rattle.search.proofs.Visits as visits
-use Rattle.search.proofs.Laws as laws
+use Rattle.search_cases.proofs.Laws as laws
 use Rattle.search.specs.Meaning.{entire}
 use Rattle.search.specs.Contracts.{Walks}
 use Prim.Native.Nat.{ℕ, _<_}
@@ -13,7 +13,7 @@ use borrow.Fn.PlainCycle.{Measures, is, falls, and}
 use Rattle.search.proofs.visit.Reads as visit
 use Rattle.search.proofs.visit.Kinds as visit-kinds
 use Rattle.search.proofs.+visit.Lts-visit as visit-lts
-use Rattle.search.proofs.next_events.Reads as next-events-reads
+use Rattle.search_cases.proofs.next_events.Reads as next-events-reads
 use Rattle.search.proofs.try_case.Reads as try-case-reads
 use Rattle.search_inputs.proofs.last_at.Reads as last-at-reads
 use Rattle.search.proofs.+visit.{statement}

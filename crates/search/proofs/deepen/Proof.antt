@@ -4,14 +4,11 @@ use native.Mathlib.Omega.{arith}
 use lib.ListN.{length, length-replicate}
 use borrow.Author.Needs.{needs}
 use Rattle.search.proofs.Visits as visits
-use Rattle.search.proofs.Laws as laws
+use Rattle.search_cases.proofs.Laws as laws
 use Rattle.search.specs.Meaning.{entire}
 use Rattle.search.specs.Contracts.{Depths}
 use Rattle.search.proofs.deepen.Statement.{statement}
 use Rattle.search.proofs.deepen.Tie as tie
-use Rattle.search.proofs.deepen.Reads as reads
-use Rattle.search.proofs.deepen.Lts as lts
-use Rattle.search.proofs.visit.Reads as visit-reads
 
 abbrev Inv-loop : tie.InvT-loop
 Inv-loop file table starts notes p depth queue₀ records₀ runs₀ w₀ reasons₀ violated₀ unknowns₀ incompletes₀ none s₀ d₀ queue records runs w reasons violated unknowns incompletes s d = (length queue ≡ length queue₀) × ((length records ≡ length records₀) × ((length runs ≡ length runs₀) × ((length w ≡ length w₀) × ((d ≤ depth + 1) × Depths file (entire p table starts notes) d s₀ w₀ s w (length queue₀) (length records₀) (length runs₀)))))

@@ -3,16 +3,6 @@ use Rattle.search.proofs.Cases as cases
 use borrow.Author.Needs.{needs}
 use Rattle.search.proofs.try_case.Statement.{statement}
 use Rattle.search.proofs.try_case.Tie as tie
-use Rattle.search.proofs.try_case.Reads as reads
-use Rattle.search.proofs.try_case.Lts as lts
-use Rattle.checker_case.proofs.check_case.Reads as check-case-reads
-use Rattle.search.proofs.found_case.Reads as found-case-reads
-use Rattle.search.proofs.gather.Reads as gather-reads
-use Rattle.search.proofs.other_case.Reads as other-case-reads
-use Rattle.search.proofs.refusal.Reads as refusal-reads
-use Rattle.search.proofs.refused_case.Reads as refused-case-reads
-use Rattle.search.proofs.spent.Reads as spent-reads
-use Rattle.search.proofs.violates.Reads as violates-reads
 
 pub try-case-spec : {M : Type 1} → statement M
 try-case-spec =

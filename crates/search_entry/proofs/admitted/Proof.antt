@@ -3,10 +3,6 @@ use native.Mathlib.Omega.{arith}
 use borrow.Author.Needs.{needs}
 use Rattle.search_entry.proofs.admitted.Statement.{statement}
 use Rattle.search_entry.proofs.admitted.Tie as tie
-use Rattle.search_entry.proofs.admitted.Reads as reads
-use Rattle.search_entry.proofs.admitted.Lts as lts
-use Rattle.search_entry.proofs.refused.Reads as refused-reads
-use Rattle.search_entry.proofs.run.Reads as run-reads
 
 -- src/lib.rt:244:9
 refused-requires : tie.Need-refused-requires

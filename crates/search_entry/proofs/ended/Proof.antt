@@ -2,13 +2,6 @@ use Rattle.search_entry.proofs.Finish as finish
 use borrow.Author.Needs.{needs}
 use Rattle.search_entry.proofs.ended.Statement.{statement}
 use Rattle.search_entry.proofs.ended.Tie as tie
-use Rattle.search_entry.proofs.ended.Reads as reads
-use Rattle.search_entry.proofs.ended.Lts as lts
-use Rattle.search_entry.proofs.clear.Reads as clear-reads
-use Rattle.search_entry.proofs.no_witness.Reads as no-witness-reads
-use Rattle.search_entry.proofs.refused.Reads as refused-reads
-use Rattle.search_entry.proofs.told_of.Reads as told-of-reads
-use Rattle.search_entry.proofs.witness_of.Reads as witness-of-reads
 
 pub ended-spec : {M : Type 1} → statement M
 ended-spec =

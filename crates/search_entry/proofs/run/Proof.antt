@@ -8,15 +8,6 @@ use Rattle.engine_reads.specs.Reads.{atMost}
 use borrow.Author.Needs.{needs}
 use Rattle.search_entry.proofs.run.Statement.{statement}
 use Rattle.search_entry.proofs.run.Tie as tie
-use Rattle.search_entry.proofs.run.Reads as reads
-use Rattle.search_entry.proofs.run.Lts as lts
-use Rattle.engine_reads.proofs.at_most.Reads as at-most-reads
-use Rattle.search.proofs.begun.Reads as begun-reads
-use Rattle.search.proofs.search_depths.Reads as search-depths-reads
-use Rattle.engine_entry.proofs.prepared.Reads as prepared-reads
-use Rattle.search.proofs.limit.Reads as limit-reads
-use Rattle.search.proofs.planned.Reads as planned-reads
-use Rattle.search_entry.proofs.ended.Reads as ended-reads
 
 pub run-spec : {M : Type 1} → statement M
 run-spec =

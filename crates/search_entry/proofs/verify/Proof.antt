@@ -2,10 +2,6 @@ use borrow.Author.Needs.{needs}
 use Rattle.search_entry.proofs.Laws as laws
 use Rattle.search_entry.proofs.verify.Statement.{statement}
 use Rattle.search_entry.proofs.verify.Tie as tie
-use Rattle.search_entry.proofs.verify.Reads as reads
-use Rattle.search_entry.proofs.verify.Lts as lts
-use Rattle.search_entry.proofs.verify_lent.Reads as verify-lent-reads
-use Rattle.search_entry.proofs.with_lists.Reads as with-lists-reads
 
 pub verify-spec : {M : Type 1} → statement M
 verify-spec =

@@ -2,11 +2,6 @@ use Rattle.search_entry.proofs.Entry as entry
 use borrow.Author.Needs.{needs}
 use Rattle.search_entry.proofs.verify_lent.Statement.{statement}
 use Rattle.search_entry.proofs.verify_lent.Tie as tie
-use Rattle.search_entry.proofs.verify_lent.Reads as reads
-use Rattle.search_entry.proofs.verify_lent.Lts as lts
-use Rattle.model_validate.proofs.accept.Reads as accept-reads
-use Rattle.search_entry.proofs.admitted.Reads as admitted-reads
-use Rattle.search_entry.proofs.refused.Reads as refused-reads
 
 -- src/lib.rt:265:9
 accept-requires : tie.Need-accept-requires

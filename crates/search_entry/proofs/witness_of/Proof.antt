@@ -3,11 +3,6 @@ use mathlib.Core.Path.{refl, sym}
 use borrow.Author.Needs.{needs}
 use Rattle.search_entry.proofs.witness_of.Statement.{statement}
 use Rattle.search_entry.proofs.witness_of.Tie as tie
-use Rattle.search_entry.proofs.witness_of.Reads as reads
-use Rattle.search_entry.proofs.witness_of.Lts as lts
-use Rattle.checker_entry.proofs.check_settled.Reads as check-settled-reads
-use Rattle.model_rewrite.proofs.events_in.Reads as events-in-reads
-use Rattle.model_rewrite.proofs.rewrite.Reads as rewrite-reads
 
 pub witness-of-spec : {M : Type 1} → statement M
 witness-of-spec =

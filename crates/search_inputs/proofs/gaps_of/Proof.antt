@@ -2,7 +2,7 @@ use Prim.Native.Nat.{ℕ, _-_, _≤_, _<_}
 use mathlib.Core.Path.{_≡_, _∙_}
 use native.Mathlib.Omega.{arith}
 use lib.ListN.{length, getD, length-replicate, length-set}
-use Rattle.engine_begin.proofs.Laws as begin
+use Rattle.engine_table.proofs.Laws as table
 use Rattle.search_inputs.specs.Inputs.{gap-word}
 use borrow.Author.Needs.{needs}
 use Rattle.search_inputs.proofs.gaps_of.Statement.{statement}
@@ -31,5 +31,5 @@ gaps-of-spec =
     (λ c. search needs)
     (λ c. search needs)
     (λ c. search needs)
-    (λ c. (begin.one-more (gap-word _ _) (c .before .before .loop .seconds) (c .before .before .loop .k) (c .gap-word .result) (c .before .before .loop .inv .0) (omega (arith, c .before .before .loop .inv .1 .0, c .before .loop-test .taken)) (c .gap-word .ensures), (length-set (c .before .before .loop .seconds) (c .before .before .loop .k) (c .gap-word .result) ∙ c .before .before .loop .inv .1 .0, omega arith)))
+    (λ c. (table.one-more (gap-word _ _) (c .before .before .loop .seconds) (c .before .before .loop .k) (c .gap-word .result) (c .before .before .loop .inv .0) (omega (arith, c .before .before .loop .inv .1 .0, c .before .loop-test .taken)) (c .gap-word .ensures), (length-set (c .before .before .loop .seconds) (c .before .before .loop .k) (c .gap-word .result) ∙ c .before .before .loop .inv .1 .0, omega arith)))
     (λ c. record { count = c .before .before .at-most .ensures .0; long = c .before .loop .inv .1 .0; seconds = λ k h. c .before .loop .inv .0 k (omega (arith, c .loop-test .left)) }))

@@ -1,6 +1,6 @@
 use Rattle.show.proofs.Laws as show
 use Rattle.search_lines.proofs.Laws as laws
-use Rattle.engine_lines.proofs.Laws as lines
+use Rattle.reason_lines.proofs.Laws as lines
 use borrow.Author.Needs.{needs}
 use Rattle.search_lines.proofs.put_number_line.Statement.{statement}
 use Rattle.search_lines.proofs.put_number_line.Tie as tie

@@ -2,7 +2,7 @@ use native.Mathlib.Omega.{arith}
 use borrow.Author.Needs.{needs}
 use Rattle.texts.specs.Texts.{text}
 use Rattle.show.proofs.Laws as show
-use Rattle.engine_lines.proofs.Lengths as lengths
+use Rattle.reason_lines.proofs.Lengths as lengths
 use Rattle.simulate_lines.proofs.print_count.Statement.{statement}
 use Rattle.simulate_lines.proofs.print_count.Tie as tie
 

@@ -1,6 +1,6 @@
 use borrow.Author.Needs.{needs}
 use Rattle.show.proofs.Laws as show
-use Rattle.engine_lines.proofs.Lengths as lengths
+use Rattle.reason_lines.proofs.Lengths as lengths
 use Rattle.simulate_lines.proofs.print_numbers.Statement.{statement}
 use Rattle.simulate_lines.proofs.print_numbers.Tie as tie
 

@@ -1,0 +1,21 @@
+use Rattle.checker_response.specs.Response.{startedJ}
+use borrow.Author.Needs.{needs}
+use Rattle.checker_response.proofs.started.Statement.{statement}
+use Rattle.checker_response.proofs.started.Tie as tie
+
+returns : tie.Need-returns
+unfolding startedJ
+returns c = rw (c .enum-told .given .1)
+
+returns-2 : tie.Need-returns-2
+unfolding startedJ
+returns-2 c = rw (c .before .w .given .1)
+
+pub started-spec : {M : Type 1} → statement M
+started-spec =
+    tie.close
+    (tie.spec
+    (λ c. search needs)
+    (λ c. search needs)
+    returns
+    returns-2)

@@ -1,0 +1,76 @@
+use Rattle.engine_state.proofs.Laws.{none, same, wide}
+use Rattle.engine_modes.proofs.Laws as laws
+use Rattle.engine_modes.proofs.Wholes as wholes
+use Rattle.engine_modes.proofs.Wholes.{apart, lent, shared}
+use Rattle.engine_modes.specs.Modes.{carry-outM, carry-withM, decidedM}
+use borrow.Author.Needs.{needs}
+use Rattle.engine_modes.proofs.carry_out.Statement.{statement}
+use Rattle.engine_modes.proofs.carry_out.Tie as tie
+use Rattle.engine_modes.proofs.carry_out.Reads as reads
+use Rattle.engine_modes.proofs.carry_out.Lts as lts
+use Rattle.engine_reads.proofs.rule_word.Reads as rule-word-reads
+use Rattle.engine_state.proofs.log_rule.Reads as log-rule-reads
+use Rattle.engine_modes.proofs.begin_later.Reads as begin-later-reads
+use Rattle.engine_modes.proofs.begin_now.Reads as begin-now-reads
+use Rattle.engine_modes.proofs.decide.Reads as decide-reads
+use Rattle.engine_modes.proofs.stop_and_start.Reads as stop-and-start-reads
+use Rattle.runs.proofs.count_runs.Reads as count-runs-reads
+
+returns : tie.Need-returns
+unfolding carry-outM decidedM
+returns c = wholes.counted (carry-withM _ _ _) (c .before .before .before .before .before .before .before .before .before .count-runs .ensures) (wholes.part (c .before .before .log-rule .ensures) (wide (c .before .before .before .before .before .before .before .before .before .before .before .before .before .before .before .pre .1 .0)) same (wide (c .before .before .before .before .before .before .before .before .before .before .before .before .before .before .before .pre .1 .1 .1)) none apart apart lent (λ v n s k. laws.carry-is _ _ _ _ _ _ _ _ _ (c .before .before .before .before .enum-told .given .1) (c .before .before .before .before .before .before .decide .ensures) (c .before .before .before .before .before .before .before .before .rule-word .ensures) (c .before .before .before .before .before .before .before .rule-word2 .ensures)))
+
+returns-2 : tie.Need-returns-2
+unfolding carry-outM decidedM
+returns-2 c = wholes.counted (carry-withM _ _ _) (c .before .before .before .before .before .before .before .before .before .count-runs .ensures) (wholes.part (c .before .before .log-rule2 .ensures) (wide (c .before .before .before .before .before .before .before .before .before .before .before .before .before .before .before .pre .1 .0)) same (wide (c .before .before .before .before .before .before .before .before .before .before .before .before .before .before .before .pre .1 .1 .1)) none apart apart lent (λ v n s k. laws.carry-is _ _ _ _ _ _ _ _ _ (c .before .before .before .before .enum-told2 .given .1) (c .before .before .before .before .before .before .decide .ensures) (c .before .before .before .before .before .before .before .before .rule-word .ensures) (c .before .before .before .before .before .before .before .rule-word2 .ensures)))
+
+returns-3 : tie.Need-returns-3
+unfolding carry-outM decidedM
+returns-3 c = wholes.counted (carry-withM _ _ _) (c .before .before .before .before .before .before .before .before .before .before .before .before .before .before .before .before .count-runs .ensures) (wholes.part (c .before .before .before .before .before .before .begin-now .ensures) same same same none apart apart shared (λ v n s k. laws.carry-is _ _ _ _ _ _ _ _ _ (c .before .before .before .before .before .before .before .before .before .before .before .enum-told3 .given .1) (c .before .before .before .before .before .before .before .before .before .before .before .before .before .decide .ensures) (c .before .before .before .before .before .before .before .before .before .before .before .before .before .before .before .rule-word .ensures) (c .before .before .before .before .before .before .before .before .before .before .before .before .before .before .rule-word2 .ensures)))
+
+returns-4 : tie.Need-returns-4
+unfolding carry-outM decidedM
+returns-4 c = wholes.counted (carry-withM _ _ _) (c .before .before .before .before .before .before .before .before .before .before .before .before .before .before .before .before .count-runs .ensures) (wholes.part (c .before .before .before .before .before .before .stop-and-start .ensures) same same same none apart apart shared (λ v n s k. laws.carry-is _ _ _ _ _ _ _ _ _ (c .before .before .before .before .before .before .before .before .before .before .before .enum-told4 .given .1) (c .before .before .before .before .before .before .before .before .before .before .before .before .before .decide .ensures) (c .before .before .before .before .before .before .before .before .before .before .before .before .before .before .before .rule-word .ensures) (c .before .before .before .before .before .before .before .before .before .before .before .before .before .before .rule-word2 .ensures)))
+
+returns-5 : tie.Need-returns-5
+unfolding carry-outM decidedM
+returns-5 c = wholes.counted (carry-withM _ _ _) (c .before .before .before .before .before .before .before .before .before .before .before .before .before .count-runs .ensures) (wholes.part (c .before .before .before .before .begin-later .ensures) (wide (c .before .before .before .before .before .before .before .before .before .before .before .before .before .before .before .before .before .before .before .pre .1 .0)) same same none apart apart shared (λ v n s k. laws.carry-is _ _ _ _ _ _ _ _ _ (c .before .before .before .before .before .before .before .before .enum-told5 .given .1) (c .before .before .before .before .before .before .before .before .before .before .decide .ensures) (c .before .before .before .before .before .before .before .before .before .before .before .before .rule-word .ensures) (c .before .before .before .before .before .before .before .before .before .before .before .rule-word2 .ensures)))
+
+pub carry-out-spec : {M : Type 1} → statement M
+carry-out-spec =
+    tie.close
+    (tie.spec
+    (λ c. search needs)
+    (λ c κs. search needs)
+    (λ c κs. search needs)
+    (λ c κs. search needs)
+    (λ c κs. search needs)
+    (λ c. search needs)
+    (λ c. search needs)
+    (λ c κs. search needs)
+    (λ c. search needs)
+    (λ c. search needs)
+    (λ c κs. search needs)
+    (λ c. search needs)
+    (λ c κs. search needs)
+    (λ c. search needs)
+    (λ c κs. search needs)
+    (λ c. search needs)
+    (λ c κs. search needs)
+    (λ c. search needs)
+    (λ c. search needs)
+    returns
+    (λ c. search needs)
+    (λ c. search needs)
+    returns-2
+    (λ c. search needs)
+    (λ c. search needs)
+    (λ c. search needs)
+    returns-3
+    (λ c. search needs)
+    (λ c. search needs)
+    (λ c. search needs)
+    returns-4
+    (λ c. search needs)
+    (λ c. search needs)
+    returns-5)

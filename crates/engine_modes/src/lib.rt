@@ -1,0 +1,144 @@
+// Runs that begin, as an automation's mode decides.
+use engine_reads::rule_word;
+use engine_state::State;
+use engine_state::log_rule;
+use engine_state::next_step;
+use runs::Phase;
+use runs::Run;
+ghost use mathlib.Core.Path.{_≡_};
+ghost use Prim.Native.Nat.{_<_};
+ghost use Rattle.engine_state.specs.Steps.{Moves, goes, kept, still, Fits-ar, Fits-qar};
+ghost use Rattle.engine_modes.specs.Modes.{newRun, begin-nowM, begin-laterM, stop-startM, decideM, carry-outM};
+
+// A run of the i-th automation, where so many runs were made.
+fn new_run(f: &[u8], x: &[u32; 436], sequences: &[u32; 32], made: u32, i: usize, later: bool) -> Run
+    requires { ⌜ i < 32 ⌝ }
+    ensures { λ r. ⌜ r ≡ newRun (now (f .entry)) (now (x .entry)) i later made (now (sequences .entry)) ⌝ }
+{
+    let sequence = sequences[i];
+    let number = engine_state::more_than(made);
+    let run = Run {
+        automation: i as u32,
+        sequence,
+        number,
+        queued: later,
+        phase: Phase::Going,
+        depth: 0,
+        places: [0u32; 17],
+    };
+    engine_truth::with_list(f, run, rule_word(x, i, 5))
+}
+
+fn begin_now(
+    f: &[u8],
+    x: &[u32; 436],
+    q: &mut [u32],
+    a: &mut [u32],
+    r: &mut [u32],
+    sequences: &mut [u32; 32],
+    st: State,
+    i: usize,
+) -> State
+    requires { ⌜ (i < 32) × Fits-qar st (now q) (now a) (now r) ⌝ }
+    ensures { λ s. ⌜ Moves (begin-nowM (now (f .entry)) (now (x .entry)) i) st s (goes (now (q .entry)) (now (q .exit))) (goes (now (a .entry)) (now (a .exit))) (goes (now (r .entry)) (now (r .exit))) still kept kept (goes (now (sequences .entry)) (now (sequences .exit))) ⌝ }
+{
+    let run = new_run(f, x, sequences, st.made, i, false);
+    let s1 = engine_state::add_run(r, sequences, st, i, run);
+    let s2 = log_rule(a, s1, 12, run.number, run.automation);
+    next_step(q, s2, run, s2.now)
+}
+
+fn begin_later(
+    f: &[u8],
+    x: &[u32; 436],
+    a: &mut [u32],
+    r: &mut [u32],
+    sequences: &mut [u32; 32],
+    st: State,
+    i: usize,
+) -> State
+    requires { ⌜ (i < 32) × Fits-ar st (now a) (now r) ⌝ }
+    ensures { λ s. ⌜ Moves (begin-laterM (now (f .entry)) (now (x .entry)) i) st s kept (goes (now (a .entry)) (now (a .exit))) (goes (now (r .entry)) (now (r .exit))) still kept kept (goes (now (sequences .entry)) (now (sequences .exit))) ⌝ }
+{
+    let run = new_run(f, x, sequences, st.made, i, true);
+    let s1 = engine_state::add_run(r, sequences, st, i, run);
+    log_rule(a, s1, 13, run.number, run.automation)
+}
+
+pub enum Decision {
+    AlreadyRunning,
+    MaxReached,
+    Start,
+    StopAndStart,
+    WaitInLine,
+}
+
+// Modes: 0 single, 1 restart, 2 queued, 3 parallel.
+fn decide(mode: u32, max: u32, running: usize) -> Decision
+    ensures { λ r. ⌜ r ≡ decideM mode max running ⌝ }
+{
+    if mode < 2 {
+        if running == 0 {
+            return Decision::Start;
+        }
+        if mode == 0 {
+            return Decision::AlreadyRunning;
+        }
+        return Decision::StopAndStart;
+    }
+    if max as usize <= running {
+        return Decision::MaxReached;
+    }
+    if mode == 3 {
+        return Decision::Start;
+    }
+    if running == 0 {
+        return Decision::Start;
+    }
+    Decision::WaitInLine
+}
+
+// The automation's runs are dropped, and one begins.
+fn stop_and_start(
+    f: &[u8],
+    x: &[u32; 436],
+    q: &mut [u32],
+    a: &mut [u32],
+    r: &mut [u32],
+    sequences: &mut [u32; 32],
+    st: State,
+    i: usize,
+) -> State
+    requires { ⌜ (i < 32) × Fits-qar st (now q) (now a) (now r) ⌝ }
+    ensures { λ s. ⌜ Moves (stop-startM (now (f .entry)) (now (x .entry)) i) st s (goes (now (q .entry)) (now (q .exit))) (goes (now (a .entry)) (now (a .exit))) (goes (now (r .entry)) (now (r .exit))) still kept kept (goes (now (sequences .entry)) (now (sequences .exit))) ⌝ }
+{
+    let left = runs::drop_runs(r, st.active, i as u32);
+    let s1 = engine_state::with_active(st, left);
+    let s2 = log_rule(a, s1, 5, 0, i as u32);
+    begin_now(f, x, q, a, r, sequences, s2, i)
+}
+
+// The automation is to run.
+pub fn carry_out(
+    f: &[u8],
+    x: &[u32; 436],
+    q: &mut [u32],
+    a: &mut [u32],
+    r: &mut [u32],
+    sequences: &mut [u32; 32],
+    st: State,
+    i: usize,
+) -> State
+    requires { ⌜ (i < 32) × Fits-qar st (now q) (now a) (now r) ⌝ }
+    ensures { λ s. ⌜ Moves (carry-outM (now (f .entry)) (now (x .entry)) i) st s (goes (now (q .entry)) (now (q .exit))) (goes (now (a .entry)) (now (a .exit))) (goes (now (r .entry)) (now (r .exit))) still kept kept (goes (now (sequences .entry)) (now (sequences .exit))) ⌝ }
+{
+    let running = runs::count_runs(r, st.active, i as u32);
+    let d = decide(rule_word(x, i, 1), rule_word(x, i, 2), running);
+    match d {
+        Decision::AlreadyRunning => log_rule(a, st, 6, 0, i as u32),
+        Decision::MaxReached => log_rule(a, st, 7, 0, i as u32),
+        Decision::Start => begin_now(f, x, q, a, r, sequences, st, i),
+        Decision::StopAndStart => stop_and_start(f, x, q, a, r, sequences, st, i),
+        Decision::WaitInLine => begin_later(f, x, a, r, sequences, st, i),
+    }
+}

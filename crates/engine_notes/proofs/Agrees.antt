@@ -1,0 +1,228 @@
+-- Each listing adds the reasons of the part that the reader of `File` finds at its position.
+use mathlib.Core.Path.{_≡_, refl, sym, ap, _∙_}
+use mathlib.Core.List.{List, [], _∷_, _++_, append-nil, append-assoc}
+use mathlib.Core.Option.{Option, none, some}
+use Prim.Native.Nat.{ℕ, zero, suc, _+_, _≤_, _<_}
+use native.Mathlib.Omega.{arith}
+use native.Mathlib.Decide.{decLt}
+use lib.ListN.{length, getD}
+use lib.Dec.{eqb}
+use borrow.Author.Tests.{lt-ltb, le-ltb, ne-eqb}
+use Rattle.texts.specs.Lists.{if_then_else_, listed, each, flat}
+use Rattle.texts.specs.Texts.{Text, text}
+use Rattle.texts.specs.Places.{textAt, startFrom}
+use Rattle.model.specs.Model.{Predicate, state, Trigger}
+use Rattle.model.specs.File.{_>>=_ as _>>=ᵣ_}
+use Rattle.model.specs.File.{got, Reader, give, refuse, u8, u16, times, counted, place, predicate, trigger}
+use Rattle.model.specs.Notes.{of-predicate, of-trigger}
+use Rattle.model_walk.specs.Walk.{found}
+use Rattle.model_walk.specs.declared.Num.the-variants as num
+use Rattle.model_walk.proofs.Found.{bound, given, Wide, wide-sum, u16-wide, source-wide, counted-found, Kind, kind-found, place-found, Value?, Place?, trigger-found}
+use Rattle.model_walk.proofs.Found as found
+use Rattle.reasons.specs.Reasons.{words, body, render}
+use Rattle.engine_reads.specs.Reads.{cap, textPosition, noteReason}
+use Rattle.engine_notes.specs.declared.Part.the-variants as part
+use Rattle.engine_notes.specs.Listing.{After, after, Listing, _⨾_, by, stay, skipL, timesL, idNote, noteOf, addT, addL, noteL, triggerL, predicateL, partL, partsL}
+use Rattle.engine_notes.proofs.Laws as laws
+use Rattle.engine_notes.proofs.Adding.{addAll, add-both, flat-one, flat-each}
+
+-- ---- one listing after the other
+
+module _ (f : List ℕ) (p : ℕ) (l : List Text) where
+  pub by-got : (r : Reader ℕ) (k : ℕ → Listing) {v q : ℕ} → r f p ≡ got v q → by r k f p l ≡ k v f q l
+  unfolding found
+  by-got r k {v} {q} e = laws.by-is f p l r k {x = num.Is v q} (sym e) refl
+
+  pub next : (k m : Listing) {q : ℕ} {t : List Text} → k f p l ≡ after q t → (k ⨾ m) f p l ≡ m f q t
+  unfolding _⨾_
+  next k m e = ap (λ (y : After). m f (y .next) (y .list)) e
+
+  pub skips : (w : ℕ) {q : ℕ} → Wide w f p q → skipL w f p l ≡ after q l
+  unfolding skipL
+  skips w h = ap (λ (y : ℕ). after y l) (sym (laws.skip-in w f p (h .inside)) ∙ sym (h .ends))
+
+pub after-same : (q : ℕ) {a b : List Text} → a ≡ b → after q a ≡ after q b
+after-same q e = ap (after q) e
+
+-- ---- texts
+
+past : (f : List ℕ) (at : ℕ) → length f ≤ at → getD f at 0 ≡ 0
+past [] zero h = refl
+past [] (suc at) h = refl
+past (x ∷ f) zero h = absurd (omega arith)
+past (x ∷ f) (suc at) h = past f at (omega arith)
+
+text-past : (f : List ℕ) (at : ℕ) → length f ≤ at → textAt f at ≡ []
+unfolding textAt
+text-past f at h = rw (past f at h)
+
+words-0 : words 0 ≡ []
+unfolding words textAt
+words-0 = refl
+
+words-1 : words 1 ≡ text ": "
+unfolding words textAt
+words-1 = refl
+
+-- where the reader finds a value, the listing adds the value's reasons and ends where the reader ends
+abbrev pub Adds : (f : List ℕ) {A : Type 0} → Reader A → (A → List Text) → Listing → Type 0
+Adds f {A} r h k = (p : ℕ) (l : List Text) (a : A) (q : ℕ) → r f p ≡ got a q → k f p l ≡ after q (addAll (h a) l)
+
+-- the notes of an identifier are rendered so
+abbrev pub Renders : (f : List ℕ) → (ts : List Text) → ℕ → (Text → Text) → Type 0
+Renders f ts i g = (m : ℕ) → m < length ts → render f (noteOf f i m) ≡ g (getD ts m [])
+
+-- the file f, with the texts ts
+module _ (f : List ℕ) (ts : List Text) (size : length f ≤ 32768) (few : length ts ≤ 65535)
+    (text-at : (k : ℕ) → k < length ts → textAt f (startFrom f 6 k) ≡ getD ts k []) where
+  abbrev T : ℕ → Text
+  T k = getD ts k []
+
+  pub nothing : textAt f 4294967295 ≡ []
+  nothing = text-past f 4294967295 (omega arith)
+
+  cap-text : (p : ℕ) → textAt f (cap p) ≡ textAt f p
+  unfolding cap
+  cap-text p = elim (decLt 4294967295 p) [
+    | yes h ↦ rw (lt-ltb 4294967295 p h) (nothing ∙ sym (text-past f p (omega arith)))
+    | no h ↦ rw (le-ltb 4294967295 p (omega arith))
+  ]
+
+  pub position-text : (k : ℕ) → k < length ts → textAt f (textPosition f k) ≡ T k
+  unfolding textPosition
+  position-text k h = rw (le-ltb 65535 k (omega arith)) (cap-text (startFrom f 6 k) ∙ text-at k h)
+
+  pub plain-note : (m : ℕ) → m < length ts → render f (noteOf f 65535 m) ≡ T m
+  unfolding noteOf noteReason render body
+  plain-note m h = rw (position-text m h, words-0, nothing) (append-nil (T m))
+
+  id-text : (i m : ℕ) → i < length ts → m < length ts → render f (idNote f i m) ≡ T i ++ (text ": " ++ T m)
+  unfolding idNote render body
+  id-text i m g h = rw (position-text i g, words-1, position-text m h)
+
+  pub id-note : (i m : ℕ) → i < length ts → m < length ts → render f (noteOf f i m) ≡ T i ++ text ": " ++ T m
+  id-note i m g h =
+      ap (render f) (sym (laws.note-id f i m (λ e. omega arith) refl))
+      ∙ id-text i m g h
+      ∙ sym (append-assoc (T i) (text ": ") (T m))
+
+  pub place-wide : (p : ℕ) {t : Text} {q : ℕ} → place ts f p ≡ got t q → Wide 2 f p q
+  place-wide p e = u16-wide f p (place-found ts e .is-place)
+
+  -- ---- parts that hold no list: a note m of a part is rendered as g of its text
+  module _ (i : ℕ) (g : Text → Text) (is : Renders f ts i g) where
+    added : (m : ℕ) (l : List Text) → m < length ts → addT f i m l ≡ addAll (g (T m) ∷ []) l
+    unfolding addT addAll
+    added m l h = rw (ne-eqb m 65535 (λ e. absurd (omega arith)), is m h)
+
+    note-agrees : Adds f (place ts) (λ t. g t ∷ []) (noteL i)
+    unfolding noteL addL
+    note-agrees p l t q e =
+        let a = place-found ts e in
+        by-got f p l u16 (addL i) (a .is-place)
+        ∙ after-same q (added (a .at) l (a .is-in) ∙ ap (λ (y : Text). addAll (g y ∷ []) l) (sym (a .is-text)))
+
+    value-agrees : (m : ℕ) (o : Option Text) (l : List Text) → Value? ts m o → addT f i m l ≡ addAll (each g (listed o)) l
+    unfolding each listed addAll
+    value-agrees m none l (found.absent h) = sym (laws.add-none f i m l h)
+    value-agrees m (some t) l (found.present h k) = added m l k
+
+    note?-agrees : (p : ℕ) (l : List Text) (o : Option Text) (q : ℕ) → Place? ts f p o q →
+        noteL i f p l ≡ after q (addAll (each g (listed o)) l)
+    unfolding noteL addL
+    note?-agrees p l o q a =
+        by-got f p l u16 (addL i) (a .is-place)
+        ∙ after-same q (value-agrees (a .at) o l (a .is-value))
+
+    pub trigger-agrees : Adds f (trigger ts) (λ t. each g (of-trigger t)) (triggerL i)
+    unfolding triggerL of-trigger
+    trigger-agrees p l t q e =
+        let a = trigger-found ts e in
+        let to = wide-sum (u16-wide f (a .at-to) (a .to-at .is-place)) (source-wide f (a .at-source) (a .source-at)) in
+        let from = wide-sum (u16-wide f (a .at-from) (a .from-at .is-place)) to in
+        let w = wide-sum (u16-wide f p (a .entity-at .is-place)) from in
+        next f p l (skipL 14) (noteL i) (skips f p l 14 w) ∙ note?-agrees (a .at-note) l (t .note) q (a .note-at)
+
+    state-adds : (x v : Text) (l : List Text) → l ≡ addAll (each g (of-predicate (state x v))) l
+    unfolding each of-predicate addAll
+    state-adds x v l = refl
+
+    unknown-adds : (t : Text) (l : List Text) →
+        addAll (g t ∷ []) l ≡ addAll (each g (of-predicate (Predicate.unknown t))) l
+    unfolding each of-predicate
+    unknown-adds t l = refl
+
+    pub predicate-agrees : Adds f (predicate ts) (λ a. each g (of-predicate a)) (predicateL i)
+    unfolding predicate predicateL
+    predicate-agrees p l a q e =
+        by-got f p l u8 (λ k. if eqb k 1 then noteL i else skipL 4) (k .is-kind)
+        ∙ cases (k .kind) (k .holds)
+      where
+        pairs : List (Reader Predicate)
+        pairs =
+            (place ts >>=ᵣ λ x. place ts >>=ᵣ λ v. give (state x v)) ∷ (place ts >>=ᵣ λ r. give (Predicate.unknown r)) ∷ []
+
+        k : Kind pairs f p a q
+        k = kind-found pairs e
+
+        o : ℕ
+        o = k .next
+
+        cases : (n : ℕ) → getD pairs n refuse f o ≡ got a q →
+            (if eqb n 1 then noteL i else skipL 4) f o l ≡ after q (addAll (each g (of-predicate a)) l)
+        cases zero h =
+            let x = bound (place ts) _ h in
+            let v = bound (place ts) _ (x .rest) in
+            let z = given _ _ _ (v .rest) in
+            let w = wide-sum (place-wide o (x .first)) (place-wide (x .next) (v .first ∙ ap (got (v .value)) (z .1))) in
+            skips f o l 4 w
+            ∙ after-same q (state-adds (x .value) (v .value) l)
+            ∙ ap (λ (y : Predicate). after q (addAll (each g (of-predicate y)) l)) (z .0)
+        cases (suc zero) h =
+            let x = bound (place ts) _ h in
+            let z = given _ _ _ (x .rest) in
+            note-agrees o l (x .value) q (x .first ∙ ap (got (x .value)) (z .1))
+            ∙ after-same q (unknown-adds (x .value) l)
+            ∙ ap (λ (y : Predicate). after q (addAll (each g (of-predicate y)) l)) (z .0)
+        cases (suc (suc n)) h = absurd (found.refused f o h)
+
+  -- ---- lists
+  module _ {A : Type 0} (r : Reader A) (h : A → List Text) (k : Listing) (one : Adds f r h k) where
+    times-agree : (c : ℕ) → Adds f (times c r) (flat h) (timesL c k)
+    unfolding times timesL stay flat addAll
+    times-agree zero p l xs q e =
+        let z = given _ _ _ e in
+        ap (λ (x : ℕ). after x l) (z .1) ∙ ap (λ (y : List A). after q (addAll (flat h y) l)) (z .0)
+    times-agree (suc c) p l xs q e =
+        let x = bound r _ e in
+        let y = bound (times c r) _ (x .rest) in
+        let z = given _ _ _ (y .rest) in
+        next f p l k (timesL c k) (one p l (x .value) (x .next) (x .first))
+        ∙ times-agree c (x .next) (addAll (h (x .value)) l) (y .value) q (y .first ∙ ap (got (y .value)) (z .1))
+        ∙ after-same q (add-both (h (x .value)) (flat h (y .value)) l)
+        ∙ ap (λ (y : List A). after q (addAll (flat h y) l)) (z .0)
+
+    counted-agrees : Adds f (counted r) (flat h) (by u16 (λ c. timesL c k))
+    counted-agrees p l xs q e =
+        let c = counted-found r e in
+        by-got f p l u16 (λ c. timesL c k) (c .is-count) ∙ times-agree (c .count) (c .start) l xs q (c .are-values)
+
+  -- lists of parts behind an identifier
+  module _ (i : ℕ) (g : Text → Text) (is : Renders f ts i g) where
+    pub notes-agree : Adds f (counted (place ts)) (each g) (partsL part.Note i)
+    unfolding partsL partL
+    notes-agree p l xs q e =
+        counted-agrees (place ts) (λ t. g t ∷ []) (noteL i) (note-agrees i g is) p l xs q e
+        ∙ after-same q (ap (λ (y : List Text). addAll y l) (flat-one g xs))
+
+    pub triggers-agree : Adds f (counted (trigger ts)) (λ xs. each g (flat of-trigger xs)) (partsL part.Trigger i)
+    unfolding partsL partL
+    triggers-agree p l xs q e =
+        counted-agrees (trigger ts) (λ t. each g (of-trigger t)) (triggerL i) (trigger-agrees i g is) p l xs q e
+        ∙ after-same q (ap (λ (y : List Text). addAll y l) (flat-each g of-trigger xs))
+
+    pub predicates-agree : Adds f (counted (predicate ts)) (λ xs. each g (flat of-predicate xs)) (partsL part.Predicate i)
+    unfolding partsL partL
+    predicates-agree p l xs q e =
+        counted-agrees (predicate ts) (λ t. each g (of-predicate t)) (predicateL i) (predicate-agrees i g is) p l xs q e
+        ∙ after-same q (ap (λ (y : List Text). addAll y l) (flat-each g of-predicate xs))

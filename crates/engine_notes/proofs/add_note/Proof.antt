@@ -1,0 +1,11 @@
+use Rattle.engine_notes.proofs.Laws as laws
+use borrow.Author.Needs.{needs}
+use Rattle.engine_notes.proofs.add_note.Statement.{statement}
+use Rattle.engine_notes.proofs.add_note.Tie as tie
+use Rattle.engine_notes.proofs.add_note.Reads as reads
+use Rattle.engine_notes.proofs.add_note.Lts as lts
+use Rattle.engine_notes.proofs.note_of.Reads as note-of-reads
+use Rattle.engine_notes.proofs.put.Reads as put-reads
+
+pub add-note-spec : {M : Type 1} → statement M
+add-note-spec = tie.close (tie.spec (λ c. laws.add-none _ _ _ _ (c .if1 .taken)) (λ c κs. search needs) (λ c κs. search needs) (λ c. search needs) (λ c. laws.add-some _ _ _ _ (c .before .before .before .before .before .if1 .left) (c .before .before .before .before .note-of .ensures) (c .before .before .put .ensures)))

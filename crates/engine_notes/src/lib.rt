@@ -1,0 +1,152 @@
+// The notes of parts that hold no list of actions as reasons, sorted as they are rendered, each once. The file was read
+// before, so that what is looked for is there; a part that is not there is passed over. The area has place for 300.
+use model_walk::Num;
+use reasons::Reason;
+ghost use mathlib.Core.Path.{_≡_};
+ghost use Prim.Native.Nat.{_≤_};
+ghost use lib.ListN.{length};
+ghost use Rattle.reasons.specs.Reasons.{render};
+ghost use Rattle.engine_notes.specs.Listing.{idNote, noteOf, insertG, addT, skipped, Lists, Makes, noteL, triggerL, predicateL, partL, partsL};
+
+// How many reasons there are, and the position after what was read.
+pub struct Noted {
+    pub count: usize,
+    pub next: usize,
+}
+
+// Parts of which an automation has lists.
+pub enum Part {
+    Note,
+    Trigger,
+    Predicate,
+}
+
+// ---- reasons
+
+fn id_note(f: &[u8], id: u32, note: u32) -> Reason
+    ensures { λ r. ⌜ r ≡ idNote (now (f .entry)) id note ⌝ }
+{
+    Reason {
+        kind: reasons::ID_NOTE,
+        first: engine_reads::text_position(f, id),
+        second: engine_reads::text_position(f, note),
+        line: 0,
+        column: 0,
+    }
+}
+
+// A note behind an automation's identifier; 65535 stands for none.
+fn note_of(f: &[u8], id: u32, note: u32) -> Reason
+    ensures { λ r. ⌜ r ≡ noteOf (now (f .entry)) id note ⌝ }
+{
+    if id == 65535 {
+        return engine_reads::note_reason(f, note);
+    }
+    id_note(f, id, note)
+}
+
+// A reason among the first n, while there is place.
+pub fn put(f: &[u8], u: &mut [u32], n: usize, r: Reason) -> usize
+    requires { ⌜ 1500 ≤ length (now u) ⌝ }
+    ensures { λ k. ⌜ Makes (insertG (render (now (f .entry)) r)) (now (f .entry)) n (now (u .entry)) k (now (u .exit)) ⌝ }
+{
+    if 299 < n {
+        return n;
+    }
+    reasons::insert_sorted(f, u, n, r)
+}
+
+fn add_note(f: &[u8], u: &mut [u32], id: u32, note: u32, n: usize) -> usize
+    requires { ⌜ 1500 ≤ length (now u) ⌝ }
+    ensures { λ k. ⌜ Makes (addT (now (f .entry)) id note) (now (f .entry)) n (now (u .entry)) k (now (u .exit)) ⌝ }
+{
+    if note == 65535 {
+        return n;
+    }
+    let r = note_of(f, id, note);
+    put(f, u, n, r)
+}
+
+// ---- parts that hold no list
+
+// The position behind so many bytes.
+pub fn skip(f: &[u8], size: usize, at: usize) -> usize
+    ensures { λ r. ⌜ r ≡ skipped size (now (f .entry)) at ⌝ }
+{
+    if f.len() < size {
+        return at;
+    }
+    if f.len() - size < at {
+        return at;
+    }
+    at + size
+}
+
+fn note_at(f: &[u8], u: &mut [u32], id: u32, at: usize, n: usize) -> Noted
+    requires { ⌜ 1500 ≤ length (now u) ⌝ }
+    ensures { λ r. ⌜ Lists (noteL id) (now (f .entry)) at n (now (u .entry)) r (now (u .exit)) ⌝ }
+{
+    let x = model_walk::u16_at(f, at);
+    let Num::Is(note, next) = x else {
+        return Noted { count: n, next: at };
+    };
+    let k = add_note(f, u, id, note, n);
+    Noted { count: k, next }
+}
+
+pub fn trigger_note(f: &[u8], u: &mut [u32], id: u32, at: usize, n: usize) -> Noted
+    requires { ⌜ 1500 ≤ length (now u) ⌝ }
+    ensures { λ r. ⌜ Lists (triggerL id) (now (f .entry)) at n (now (u .entry)) r (now (u .exit)) ⌝ }
+{
+    let p = skip(f, 14, at);
+    note_at(f, u, id, p, n)
+}
+
+pub fn predicate_note(f: &[u8], u: &mut [u32], id: u32, at: usize, n: usize) -> Noted
+    requires { ⌜ 1500 ≤ length (now u) ⌝ }
+    ensures { λ r. ⌜ Lists (predicateL id) (now (f .entry)) at n (now (u .entry)) r (now (u .exit)) ⌝ }
+{
+    let x = model_walk::u8_at(f, at);
+    let Num::Is(kind, p) = x else {
+        return Noted { count: n, next: at };
+    };
+    if kind == 1 {
+        return note_at(f, u, id, p, n);
+    }
+    let q = skip(f, 4, p);
+    Noted { count: n, next: q }
+}
+
+// ---- lists of them
+
+fn part_note(f: &[u8], u: &mut [u32], part: Part, id: u32, at: usize, n: usize) -> Noted
+    requires { ⌜ 1500 ≤ length (now u) ⌝ }
+    ensures { λ r. ⌜ Lists (partL part id) (now (f .entry)) at n (now (u .entry)) r (now (u .exit)) ⌝ }
+{
+    match part {
+        Part::Note => note_at(f, u, id, at, n),
+        Part::Trigger => trigger_note(f, u, id, at, n),
+        Part::Predicate => predicate_note(f, u, id, at, n),
+    }
+}
+
+// A count, and as many parts.
+pub fn part_notes(f: &[u8], u: &mut [u32], part: Part, id: u32, at: usize, n: usize) -> Noted
+    requires { ⌜ 1500 ≤ length (now u) ⌝ }
+    ensures { λ r. ⌜ Lists (partsL part id) (now (f .entry)) at n (now (u .entry)) r (now (u .exit)) ⌝ }
+{
+    let x = model_walk::u16_at(f, at);
+    let Num::Is(count, start) = x else {
+        return Noted { count: n, next: at };
+    };
+    let mut left = count;
+    let mut p = start;
+    let mut k = n;
+    while 0 < left {
+        let d = part_note(f, u, part, id, p, k);
+        p = d.next;
+        k = d.count;
+        left -= 1;
+    }
+    Noted { count: k, next: p }
+}

@@ -1,0 +1,144 @@
+// The answer of `simulate`, from what a run tells.
+ghost use mathlib.Core.Path.{_≡_};
+ghost use Prim.Native.Nat.{_*_, _≤_};
+ghost use Rattle.engine_summary.specs.Summary.{no-simulation, simulation-of};
+ghost use Rattle.engine_summary.specs.Summaries.{Few, Firsts, Summed, Answered};
+
+// ---- simulate
+
+// `refused` is 0 or the refusal's number; then the rest is 0. As many `records` stand in the record area. `values` are the
+// places of the entities' values at the end, `unknown` counts the reasons in `reasons`. `why` is 0, or 1 if records or items
+// were spent, 2 if steps were; `waiting`: runs were left.
+pub struct Simulation {
+    pub refused: u32,
+    pub steps: u32,
+    pub records: usize,
+    pub horizon: u32,
+    pub values: [u32; 32],
+    pub unknown: usize,
+    pub reasons: [u32; 1500],
+    pub why: u32,
+    pub waiting: bool,
+}
+
+pub fn refused(number: u32) -> Simulation
+    ensures { λ r. ⌜ r ≡ no-simulation number ⌝ }
+{
+    Simulation {
+        refused: number,
+        steps: 0,
+        records: 0,
+        horizon: 0,
+        values: [0u32; 32],
+        unknown: 0,
+        reasons: [0u32; 1500],
+        why: 0,
+        waiting: false,
+    }
+}
+
+pub struct Values {
+    pub places: [u32; 32],
+}
+
+// The first n values, then zeros.
+fn first_values(values: [u32; 32], n: usize) -> Values
+    requires { ⌜ n ≤ 32 ⌝ }
+    ensures { λ r. ⌜ Firsts values n (r .places) ⌝ }
+{
+    let mut places = [0u32; 32];
+    let mut e: usize = 0;
+    while e < n {
+        places[e] = values[e];
+        e += 1;
+    }
+    Values { places }
+}
+
+// A simulation without the words of its reasons.
+pub struct Summary {
+    pub refused: u32,
+    pub steps: u32,
+    pub records: usize,
+    pub horizon: u32,
+    pub values: [u32; 32],
+    pub unknown: usize,
+    pub why: u32,
+    pub waiting: bool,
+}
+
+// The simulation of a model with so many entities and this horizon.
+pub fn summed(s: engine_run::Simulation, entities: usize, horizon: u32) -> Summary
+    requires { ⌜ entities ≤ 32 ⌝ }
+    ensures { λ r. ⌜ Summed s entities horizon r ⌝ }
+{
+    let all = s.values;
+    let v = first_values(all, entities);
+    let values = v.places;
+    Summary {
+        refused: s.refused,
+        steps: s.steps,
+        records: s.records,
+        horizon,
+        values,
+        unknown: s.reasons,
+        why: s.why,
+        waiting: s.waiting,
+    }
+}
+
+// A refusal is nothing but its number; the words of the reasons are cleared.
+pub fn refused_summary(number: u32, words: &mut [u32; 1500]) -> Summary
+    ensures { λ r. ⌜ simulation-of r (now (words .exit)) ≡ no-simulation number ⌝ }
+{
+    *words = [0u32; 1500];
+    Summary {
+        refused: number,
+        steps: 0,
+        records: 0,
+        horizon: 0,
+        values: [0u32; 32],
+        unknown: 0,
+        why: 0,
+        waiting: false,
+    }
+}
+
+// What a simulation answers.
+pub fn settled(b: Summary, words: &mut [u32; 1500]) -> Summary
+    ensures { λ r. ⌜ Answered (simulation-of b (now (words .entry))) (simulation-of r (now (words .exit))) ⌝ }
+{
+    if b.refused != 0 {
+        return refused_summary(b.refused, words);
+    }
+    b
+}
+
+// The answer as one value, with the words of its reasons.
+pub fn with_reasons(b: Summary, words: &[u32; 1500]) -> Simulation
+    ensures { λ r. ⌜ r ≡ simulation-of b (now (words .entry)) ⌝ }
+{
+    let values = b.values;
+    let reasons = *words;
+    Simulation {
+        refused: b.refused,
+        steps: b.steps,
+        records: b.records,
+        horizon: b.horizon,
+        values,
+        unknown: b.unknown,
+        reasons,
+        why: b.why,
+        waiting: b.waiting,
+    }
+}
+
+// At most 300.
+pub fn few(n: usize) -> usize
+    ensures { λ r. ⌜ Few n r ⌝ }
+{
+    if 300 < n {
+        return 300;
+    }
+    n
+}

@@ -1,0 +1,181 @@
+// The findings of pairs of automations: writes of two automations against each other, in the order in which Rust adds them.
+use lint_board::Out;
+use lint_tests::Given;
+use model_parts::Extent;
+ghost use mathlib.Core.Path.{_≡_};
+ghost use mathlib.Core.List.{List};
+ghost use Prim.Native.Nat.{ℕ, _≤_, _<_};
+ghost use Rattle.lint_walk.specs.Walks.{walkBy};
+ghost use Rattle.lint_board.specs.Board.{board, pushes};
+ghost use Rattle.lint_tests.specs.Given.{sectionOf, namesBy};
+ghost use Rattle.lint_pairs.specs.Pairs.{spelledZ, pairZ, opposingZ, foundItems, rowItems, pairItems};
+
+// The tier's word where Rust spells `accesssafety`.
+fn spelled(tier: u32) -> u32
+    ensures { λ r. ⌜ r ≡ spelledZ tier ⌝ }
+{
+    if tier == 3 {
+        return 4;
+    }
+    tier
+}
+
+// The words of opposing writes at two positions, to the entity with the number e.
+fn pair_words(
+    s: &[u8],
+    entities: &[usize; 100],
+    extent: Extent,
+    set: u32,
+    e: usize,
+    at: usize,
+    other: usize,
+) -> [u32; 14]
+    requires { ⌜ e < 100 ⌝ }
+    ensures { λ w. ⌜ w ≡ pairZ (now (s .entry)) (sectionOf (now (entities .entry)) extent) set e at other ⌝ }
+{
+    let tier = spelled(lint_tests::tier(s, entities[e]));
+    let line = lint_walk::number_at(s, at);
+    let column = lint_walk::number_at(s, lint_walk::past(s, at, 4));
+    let line2 = lint_walk::number_at(s, other);
+    let column2 = lint_walk::number_at(s, lint_walk::past(s, other, 4));
+    [
+        8,
+        1,
+        tier,
+        e as u32,
+        set,
+        line,
+        column,
+        line2,
+        column2,
+        0,
+        0,
+        0,
+        0,
+        0,
+    ]
+}
+
+// Whether the action at a position writes against a write of v to the entity x.
+fn opposing(s: &[u8], star: u32, x: u32, v: u32, other: usize) -> bool
+    ensures { λ r. ⌜ r ≡ opposingZ (now (s .entry)) star x v other ⌝ }
+{
+    if 1 < lint_walk::kind_at(s, other) {
+        return false;
+    }
+    let y = lint_walk::place_at(s, lint_walk::past(s, other, 9));
+    if x != y {
+        return false;
+    }
+    lint_tests::opposed(star, x, v, y, lint_findings::value(s, star, other))
+}
+
+// Two writes against each other, at two positions, the first of them to the entity x: a finding if it is declared.
+fn oppose(
+    s: &[u8],
+    entities: &[usize; 100],
+    extent: Extent,
+    set: u32,
+    x: u32,
+    at: usize,
+    other: usize,
+    findings: &mut [u32],
+    o: Out,
+) -> Out
+    requires { ⌜ extent .count ≤ 32 ⌝ }
+    ensures { λ r. ⌜ ((i : List ℕ) → board (now (findings .exit)) i r ≡ pushes (foundItems (now (s .entry)) (sectionOf (now (entities .entry)) extent) set x at other) (board (now (findings .entry)) i o)) ⌝ }
+{
+    let count = extent.count as usize;
+    let e = model_check::first_of(s, entities, extent.count, x);
+    if count <= e {
+        return o;
+    }
+    lint_board::push_finding(
+        findings,
+        o,
+        pair_words(s, entities, extent, set, e, at, other),
+    )
+}
+
+// The action at a position against each of another automation, the first `count` of `list`.
+fn oppose_row(
+    s: &[u8],
+    entities: &[usize; 100],
+    invariants: &[usize; 100],
+    given: Given,
+    set: u32,
+    at: usize,
+    list: &[usize; 512],
+    count: usize,
+    findings: &mut [u32],
+    o: Out,
+) -> Out
+    requires { ⌜ (given .entities .count ≤ 32) × (count ≤ 512) ⌝ }
+    ensures { λ r. ⌜ ((i : List ℕ) → board (now (findings .exit)) i r ≡ pushes (rowItems (now (s .entry)) (namesBy (now (entities .entry)) (now (invariants .entry)) given) set (walkBy (now (list .entry)) count) at) (board (now (findings .entry)) i o)) ⌝ }
+{
+    if 1 < lint_walk::kind_at(s, at) {
+        return o;
+    }
+    let star = given.star;
+    let x = lint_walk::place_at(s, lint_walk::past(s, at, 9));
+    let v = lint_findings::value(s, star, at);
+    let mut out = o;
+    let mut k: usize = 0;
+    while k < count {
+        let other = list[k];
+        if opposing(s, star, x, v, other) {
+            out = oppose(
+                s,
+                entities,
+                given.entities,
+                set,
+                x,
+                at,
+                other,
+                findings,
+                out,
+            );
+            k += 1;
+        } else {
+            k += 1;
+        }
+    }
+    out
+}
+
+// Each action of one automation against each of another: the first m of one list, the first n of the other.
+pub fn oppose_pair(
+    s: &[u8],
+    entities: &[usize; 100],
+    invariants: &[usize; 100],
+    given: Given,
+    set: u32,
+    list: &[usize; 512],
+    m: usize,
+    others: &[usize; 512],
+    n: usize,
+    findings: &mut [u32],
+    o: Out,
+) -> Out
+    requires { ⌜ (given .entities .count ≤ 32) × (m ≤ 512) × (n ≤ 512) ⌝ }
+    ensures { λ r. ⌜ ((i : List ℕ) → board (now (findings .exit)) i r ≡ pushes (pairItems (now (s .entry)) (namesBy (now (entities .entry)) (now (invariants .entry)) given) set (walkBy (now (list .entry)) m) (walkBy (now (others .entry)) n)) (board (now (findings .entry)) i o)) ⌝ }
+{
+    let mut out = o;
+    let mut k: usize = 0;
+    while k < m {
+        out = oppose_row(
+            s,
+            entities,
+            invariants,
+            given,
+            set,
+            list[k],
+            others,
+            n,
+            findings,
+            out,
+        );
+        k += 1;
+    }
+    out
+}

@@ -1,0 +1,35 @@
+use borrow.Author.Needs.{needs}
+use mathlib.Core.Path.{_∙_}
+use Prim.Native.Nat.{ℕ, _-_, _≤_}
+use Rattle.texts.specs.Lists.{each}
+use Rattle.lint_reach.specs.Sets.{holds, members}
+use Rattle.lint_words.specs.Lines.{spaced}
+use Rattle.lint_words.proofs.Loops as loops
+use Rattle.show.specs.Lines.{quoted}
+use Rattle.lint_words.specs.Numbers.{name-of}
+use Rattle.show.proofs.Laws as show
+use Rattle.lint_words.proofs.Laws as laws
+use Rattle.lint_words.proofs.put_members.Statement.{statement}
+use Rattle.lint_words.proofs.put_members.Tie as tie
+
+abbrev Inv-loop : tie.InvT-loop
+Inv-loop out₀ n f section set many m₀ i₀ out m i = loops.Part (spaced (each (λ (j : ℕ). quoted (name-of f section j)) (members set))) (spaced (each (λ (j : ℕ). quoted (name-of f section j)) (loops.from-on 32 (holds set) i))) out₀ m₀ out m × (i ≤ 32)
+
+abbrev μ-loop : tie.MeasureT-loop
+μ-loop out₀ n f section set many m₀ i₀ out m i = 32 - i
+
+pub put-members-spec : {M : Type 1} → statement M
+put-members-spec =
+    tie.close
+    (tie.spec
+    Inv-loop
+    μ-loop
+    (λ c κs. search needs)
+    (λ c κs. search needs)
+    (λ c. (loops.begun (loops.members-begun _ _), search needs))
+    (λ c κs. search needs)
+    (λ c. search needs)
+    (λ c. search needs)
+    (λ c. (loops.further (loops.turn 32 (holds (c .before .before .before .before .before .before .before .before .before .before .before .before .before .args .set)) _ (c .before .before .before .before .before .loop .i) (c .before .before .before .before .loop-test .taken)) (c .before .before .before .before .before .loop .inv .0) (c .before .before .put-member .ensures), search needs))
+    (λ c. c .before .loop .inv .0 .written .same ∙ c .before .before .before .before .put-number .ensures .same)
+    (λ c. show.is (laws.names-listed _ _ _ _ (c .before .before .before .before .before .long .ensures) (search needs)) (show.both (c .before .before .before .before .put-number .ensures) (loops.finished (loops.end 32 _ _ _ (c .loop-test .left)) (c .before .loop .inv .0)))))

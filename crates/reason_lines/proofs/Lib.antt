@@ -1,0 +1,4 @@
+pub mod Laws
+pub mod Texts
+pub mod Lengths
+pub mod Examples

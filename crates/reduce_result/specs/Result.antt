@@ -1,0 +1,20 @@
+-- The answer of `minimize` to a refusal.
+use Prim.Native.Nat.{ℕ}
+use mathlib.Core.Bool.{false}
+use lib.ListN.{replicate}
+use Rattle.model.specs.Answer.{refused}
+use Rattle.checker_result.specs.Result.{no-check}
+use Rattle.reduce_result.specs.declared.Minimized.{Minimized}
+
+unfoldable pub no-reduction : (number : ℕ) → Minimized
+no-reduction n = record {
+  refused = n;
+  invariant = 0;
+  originals = 0;
+  attempts = 0;
+  minimal = false;
+  events = 0;
+  words = replicate 400 0;
+  written = 0;
+  check = no-check n;
+}

@@ -1,0 +1,141 @@
+// The answer of `minimize`: the check of the events that are left, and the file with them.
+use checker_result::CheckResult;
+use checker_result::Shared;
+use engine_entry::Base;
+use model_index::Index;
+use reduce::Reduced;
+ghost use mathlib.Core.Path.{_≡_};
+ghost use Prim.Native.Nat.{_*_, _≤_};
+ghost use lib.ListN.{length};
+ghost use Rattle.engine_entry.specs.Answers.{ground};
+ghost use Rattle.checker_entry.specs.Parts.{Whole};
+ghost use Rattle.reduce_result.specs.Result.{no-reduction};
+ghost use Rattle.reduce_result.specs.Last.{Cleared, Placed, Ready, Finished};
+
+// `refused` is 0 or the refusal's number; then the rest is 0. `invariant` is the place of the identifier among the texts,
+// the first `events` events in `words` are left, four words each, and so many bytes are `written` to the output.
+pub struct Minimized {
+    pub refused: u32,
+    pub invariant: u32,
+    pub originals: usize,
+    pub attempts: u32,
+    pub minimal: bool,
+    pub events: usize,
+    pub words: [u32; 400],
+    pub written: usize,
+    pub check: CheckResult,
+}
+
+pub fn refused(number: u32) -> Minimized
+    ensures { λ r. ⌜ r ≡ no-reduction number ⌝ }
+{
+    let check = checker_result::refused(number);
+    Minimized {
+        refused: number,
+        invariant: 0,
+        originals: 0,
+        attempts: 0,
+        minimal: false,
+        events: 0,
+        words: [0u32; 400],
+        written: 0,
+        check,
+    }
+}
+
+pub fn clear(queue: &mut [u32], records: &mut [u32], runs: &mut [u32])
+    ensures { λ _. ⌜ Cleared (now (queue .entry)) (now (queue .exit)) (now (records .entry)) (now (records .exit)) (now (runs .entry)) (now (runs .exit)) ⌝ }
+{
+    areas::clear_all(queue);
+    areas::clear_all(records);
+    areas::clear_all(runs);
+}
+
+// A place among the texts as a word.
+fn place(n: u64) -> u32
+    ensures { λ r. ⌜ Placed n r ⌝ }
+{
+    if 65535 < n {
+        return 65535;
+    }
+    n as u32
+}
+
+// The check of the first n of the events that stand in four words each. `notes` holds the reasons of the notes.
+pub fn check_of(
+    file: &[u8],
+    index: Index,
+    b: Base,
+    notes: &[u32; 1500],
+    words: &[u32],
+    n: usize,
+    queue: &mut [u32],
+    records: &mut [u32],
+    runs: &mut [u32],
+) -> CheckResult
+    requires { ⌜ n * 4 ≤ length (now words) ⌝ }
+    ensures { λ r. ⌜ Whole (now (file .entry)) (index .invariants .starts) (index .invariants .count) (ground (b .table) (b .cells) (b .count) (now (notes .entry))) (now (words .entry)) n r (now (queue .entry)) (now (queue .exit)) (now (records .entry)) (now (records .exit)) (now (runs .entry)) (now (runs .exit)) ⌝ }
+{
+    let table = b.table;
+    let cells = b.cells;
+    let invariants = index.invariants;
+    let starts = invariants.starts;
+    let shared = Shared {
+        cells,
+        notes: b.count,
+        invariants: invariants.count,
+    };
+    let mut reasons = *notes;
+    checker_entry::check_whole(
+        file,
+        &table,
+        &starts,
+        shared,
+        words,
+        n,
+        queue,
+        records,
+        runs,
+        &mut reasons,
+    )
+}
+
+// The check of the events that are left, and the file with them.
+pub fn last_check(
+    file: &[u8],
+    index: Index,
+    b: Base,
+    notes: &[u32; 1500],
+    target: u64,
+    originals: usize,
+    r: Reduced,
+    queue: &mut [u32],
+    records: &mut [u32],
+    runs: &mut [u32],
+    output: &mut [u8],
+) -> Minimized
+    requires { ⌜ Ready (now file) r (now output) ⌝ }
+    ensures { λ e. ⌜ Finished (now (file .entry)) index (ground (b .table) (b .cells) (b .count) (now (notes .entry))) target originals r e (now (queue .entry)) (now (queue .exit)) (now (records .entry)) (now (records .exit)) (now (runs .entry)) (now (runs .exit)) (now (output .entry)) (now (output .exit)) ⌝ }
+{
+    let words = r.words;
+    let check = check_of(file, index, b, notes, &words, r.count, queue, records, runs);
+    let s = check.simulation;
+    if s.refused != 0 {
+        return refused(s.refused);
+    }
+    let span = model_rewrite::events_in(file);
+    let written = model_rewrite::rewrite(file, span, &words, r.count, output);
+    let invariant = place(target);
+    let minimal = r.reached == r.count;
+    Minimized {
+        refused: 0,
+        invariant,
+        originals,
+        attempts: r.attempts,
+        minimal,
+        events: r.count,
+        words,
+        written,
+        check,
+    }
+}

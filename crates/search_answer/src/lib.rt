@@ -1,0 +1,231 @@
+// The answer of `verify`, from a search and its witness.
+use checker_result::CheckResult;
+use checker_result::Judgement;
+use search_cases::Plan;
+use search_cases::Search;
+ghost use mathlib.Core.Path.{_≡_};
+ghost use mathlib.Core.List.{List};
+ghost use Prim.Native.Nat.{ℕ};
+ghost use lib.ListN.{length, replicate};
+ghost use Rattle.checker_result.specs.Result.{result-of};
+ghost use Rattle.search_answer.specs.Whole.{whole-of, no-verification};
+ghost use Rattle.search_answer.specs.Told.{statusV, with-check, without, Told};
+
+pub enum Found {
+    Refused(u32),
+    NoCounterexampleWithinBounds,
+    Counterexample,
+    Inconclusive,
+}
+
+// The status, or the refusal's number; then all else is 0. The settings are the model's: `inputs` are the alphabet, three
+// words each, `seconds` the gaps. `told` are the reasons, five words each, sorted as rendered. With a counterexample,
+// `words` are the witness's events, four words each, `written` the bytes of its file, `check` its check.
+pub struct Verification {
+    pub status: Found,
+    pub cases: u32,
+    pub total: u32,
+    pub depth: u32,
+    pub horizon: u32,
+    pub most: u32,
+    pub steps: u32,
+    pub alphabet: usize,
+    pub inputs: [u32; 36],
+    pub gaps: usize,
+    pub seconds: [u32; 4],
+    pub reasons: usize,
+    pub told: [u32; 2000],
+    pub shortest: bool,
+    pub events: usize,
+    pub words: [u32; 20],
+    pub written: usize,
+    pub check: CheckResult,
+}
+
+// A verification without its lists: `told`, and those of the check.
+pub struct Searched {
+    pub status: Found,
+    pub cases: u32,
+    pub total: u32,
+    pub depth: u32,
+    pub horizon: u32,
+    pub most: u32,
+    pub steps: u32,
+    pub alphabet: usize,
+    pub inputs: [u32; 36],
+    pub gaps: usize,
+    pub seconds: [u32; 4],
+    pub reasons: usize,
+    pub shortest: bool,
+    pub events: usize,
+    pub words: [u32; 20],
+    pub written: usize,
+    pub check: Judgement,
+}
+
+// A refusal is nothing but its number; all lists are cleared.
+pub fn refused(
+    number: u32,
+    told: &mut [u32; 2000],
+    reasons: &mut [u32; 1500],
+    violated: &mut [u64; 256],
+    unknowns: &mut [u32; 2000],
+    incompletes: &mut [u32; 200],
+) -> Searched
+    ensures { λ r. ⌜ whole-of r (now (told .exit)) (now (violated .exit)) (now (unknowns .exit)) (now (incompletes .exit)) (now (reasons .exit)) ≡ no-verification number ⌝ }
+{
+    let check = checker_result::refused_judgement(0, reasons, violated, unknowns, incompletes);
+    *told = [0u32; 2000];
+    Searched {
+        status: Found::Refused(number),
+        cases: 0,
+        total: 0,
+        depth: 0,
+        horizon: 0,
+        most: 0,
+        steps: 0,
+        alphabet: 0,
+        inputs: [0u32; 36],
+        gaps: 0,
+        seconds: [0u32; 4],
+        reasons: 0,
+        shortest: false,
+        events: 0,
+        words: [0u32; 20],
+        written: 0,
+        check,
+    }
+}
+
+// ---- the witness
+
+// A witness's events, the bytes of its file, and its check without the lists.
+pub struct Witness {
+    pub events: usize,
+    pub words: [u32; 20],
+    pub written: usize,
+    pub check: Judgement,
+}
+
+pub fn no_witness(
+    reasons: &mut [u32; 1500],
+    violated: &mut [u64; 256],
+    unknowns: &mut [u32; 2000],
+    incompletes: &mut [u32; 200],
+) -> Witness
+    ensures { λ r. ⌜ with-check r (result-of (r .check) (now (violated .exit)) (now (unknowns .exit)) (now (incompletes .exit)) (now (reasons .exit))) ≡ without ⌝ }
+{
+    let check = checker_result::refused_judgement(0, reasons, violated, unknowns, incompletes);
+    Witness {
+        events: 0,
+        words: [0u32; 20],
+        written: 0,
+        check,
+    }
+}
+
+// ---- the answer
+
+fn status_of(found: bool, reasons: usize) -> Found
+    ensures { λ r. ⌜ r ≡ statusV found reasons ⌝ }
+{
+    if found {
+        return Found::Counterexample;
+    }
+    if reasons == 0 {
+        return Found::NoCounterexampleWithinBounds;
+    }
+    Found::Inconclusive
+}
+
+// The answer of a search whose reasons stand in w, without the lists of the witness's check.
+pub fn told_of(
+    file: &[u8],
+    limits: usize,
+    p: Plan,
+    o: Search,
+    w: &[u32],
+    x: Witness,
+    told: &mut [u32; 2000],
+) -> Searched
+    requires { ⌜ length (now w) ≡ 4000 ⌝ }
+    ensures { λ r. ⌜ ((v us ws s : List ℕ) → Told (now (file .entry)) limits (p .alphabet) (p .gaps) (p .horizon) o (now (w .entry)) (with-check x (result-of (x .check) v us ws s)) (whole-of r (now (told .exit)) v us ws s)) ⌝ }
+{
+    let alphabet = p.alphabet;
+    let inputs = alphabet.words;
+    let gaps = p.gaps;
+    let seconds = gaps.seconds;
+    let words = x.words;
+    let check = x.check;
+    let many = search_cases::few(o.reasons, 400);
+    let reasons = reasons::merge(file, told, 0, w, many);
+    let status = status_of(o.found, reasons);
+    Searched {
+        status,
+        cases: o.cases,
+        total: o.steps,
+        depth: search_cases::limit(file, limits, 8),
+        horizon: p.horizon,
+        most: search_cases::limit(file, limits, 12),
+        steps: search_cases::limit(file, limits, 4),
+        alphabet: alphabet.count,
+        inputs,
+        gaps: gaps.count,
+        seconds,
+        reasons,
+        shortest: o.shortest,
+        events: x.events,
+        words,
+        written: x.written,
+        check,
+    }
+}
+
+pub fn clear(queue: &mut [u32], records: &mut [u32], runs: &mut [u32])
+    ensures { λ _. ⌜ (now (queue .exit) ≡ replicate (length (now (queue .entry))) 0) × ((now (records .exit) ≡ replicate (length (now (records .entry))) 0) × (now (runs .exit) ≡ replicate (length (now (runs .entry))) 0)) ⌝ }
+{
+    areas::clear_all(queue);
+    areas::clear_all(records);
+    areas::clear_all(runs);
+}
+
+// ---- the answer as one value
+
+pub fn with_lists(
+    x: Searched,
+    list: &[u32; 2000],
+    reasons: &[u32; 1500],
+    violated: &[u64; 256],
+    unknowns: &[u32; 2000],
+    incompletes: &[u32; 200],
+) -> Verification
+    ensures { λ r. ⌜ r ≡ whole-of x (now (list .entry)) (now (violated .entry)) (now (unknowns .entry)) (now (incompletes .entry)) (now (reasons .entry)) ⌝ }
+{
+    let status = x.status;
+    let j = x.check;
+    let check = checker_result::with_lists(j, reasons, violated, unknowns, incompletes);
+    let inputs = x.inputs;
+    let seconds = x.seconds;
+    let words = x.words;
+    let told = *list;
+    Verification {
+        status,
+        cases: x.cases,
+        total: x.total,
+        depth: x.depth,
+        horizon: x.horizon,
+        most: x.most,
+        steps: x.steps,
+        alphabet: x.alphabet,
+        inputs,
+        gaps: x.gaps,
+        seconds,
+        reasons: x.reasons,
+        told,
+        shortest: x.shortest,
+        events: x.events,
+        words,
+        written: x.written,
+        check,
+    }
+}

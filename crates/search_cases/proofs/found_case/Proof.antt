@@ -1,0 +1,24 @@
+use Prim.Native.Nat.{ℕ, _+_}
+use mathlib.Core.Path.{refl, ap}
+use borrow.Author.Needs.{needs}
+use Rattle.search_cases.proofs.found_case.Statement.{statement}
+use Rattle.search_cases.proofs.found_case.Tie as tie
+
+-- src/lib.rt:159:16
+add-t4 : tie.Need-add-t4
+add-t4 c = search needs
+
+-- src/lib.rt:160:26
+at-most-requires : tie.Need-at-most-requires
+at-most-requires c κs = search needs
+
+-- src/lib.rt:160:16
+add-t6 : tie.Need-add-t6
+add-t6 c = search needs
+
+-- src/lib.rt:153:1
+returns : tie.Need-returns
+returns c = record { refused = refl; cases = refl; steps = λ h. ap (λ (y : ℕ). c .before .before .before .before .args .o .steps + y) (c .before .before .at-most .ensures .same h); reasons = refl; found = refl; shortest = refl; stopped = refl; witness = refl }
+
+pub found-case-spec : {M : Type 1} → statement M
+found-case-spec = tie.close (tie.spec add-t4 at-most-requires add-t6 returns)

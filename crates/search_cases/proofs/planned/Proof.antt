@@ -1,0 +1,17 @@
+use Prim.Native.Nat.{ℕ}
+use mathlib.Core.Path.{refl, subst}
+use Rattle.search_cases.specs.Parts.{AtMost}
+use borrow.Author.Needs.{needs}
+use Rattle.search_cases.proofs.planned.Statement.{statement}
+use Rattle.search_cases.proofs.planned.Tie as tie
+
+pub planned-spec : {M : Type 1} → statement M
+planned-spec =
+    tie.close
+    (tie.spec
+    (λ c κs. search needs)
+    (λ c κs. search needs)
+    (λ c κs. search needs)
+    (λ c κs. search needs)
+    (λ c κs. search needs)
+    (λ c. record { cells = refl; notes-are = refl; invariants = refl; alphabet = c .before .before .before .before .alphabet-of .ensures; gaps = c .before .before .before .gaps-of .ensures; horizon = c .before .before .limit .ensures; cases = subst (λ (y : ℕ). AtMost y 2000 (c .at-most .result)) (c .before .limit2 .ensures) (c .at-most .ensures) }))

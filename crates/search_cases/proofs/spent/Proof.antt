@@ -1,0 +1,31 @@
+use Rattle.search_cases.proofs.Laws as laws
+use native.Mathlib.Omega.{arith}
+use mathlib.Core.Path.{refl}
+use Rattle.checker_result.proofs.Laws as entry
+use borrow.Author.Needs.{needs}
+use Rattle.search_cases.proofs.spent.Statement.{statement}
+use Rattle.search_cases.proofs.spent.Tie as tie
+
+-- src/lib.rt:136:9
+few-requires : tie.Need-few-requires
+few-requires c κs = search needs
+
+-- src/lib.rt:137:9
+by-itself-requires : tie.Need-by-itself-requires
+by-itself-requires c κs = search needs
+
+-- src/lib.rt:138:9
+insert-sorted-requires : tie.Need-insert-sorted-requires
+insert-sorted-requires c κs = entry.insert-room _ _ _ _ (omega (arith, c .before .before .few .ensures .most, c .before .before .before .before .before .before .pre))
+
+-- src/lib.rt:131:1
+same-length : tie.Need-same-length
+same-length c = search needs
+
+-- src/lib.rt:131:1
+returns : tie.Need-returns
+returns c = record { refused = refl; cases = refl; steps = refl; found = refl; shortest = refl; stopped = refl; witness = refl; reasons = laws.spent-reasons _ _ (c .before .before .before .before .before .few .ensures) (c .before .before .before .before .by-itself .ensures) (c .before .before .insert-sorted .ensures) }
+
+pub spent-spec : {M : Type 1} → statement M
+spent-spec =
+    tie.close (tie.spec few-requires by-itself-requires insert-sorted-requires same-length returns)
