@@ -1,9 +1,14 @@
 -- The laws of a run of steps.
-use mathlib.Core.Path.{_≡_}
-use Prim.Native.Nat.{ℕ, suc, _+_, _-_, _≤_, _<_}
+use mathlib.Core.Path.{_≡_, refl, ap, _∙_}
+use Prim.Native.Nat.{ℕ, zero, suc, _+_, _-_, _≤_, _<_}
 use native.Mathlib.Omega.{arith}
-use mathlib.Core.Bool.{Bool, true, false}
-use Rattle.lint_reach.specs.Steps.{Square, steps, when}
+use mathlib.Core.Bool.{Bool, true, false, true≢false}
+use native.Mathlib.Numerals.{add-one}
+use native.Mathlib.Decide.{decLt}
+use mathlib.Core.List.{List, []}
+use lib.ListN.{getD}
+use Rattle.texts.specs.Lists.{if_then_else_}
+use Rattle.lint_reach.specs.Steps.{Square, cell, when, leadsS, steps, stepJ, stepI, stepK}
 
 -- the next step, where i of n are done
 pub more : (f : ℕ → Square → Square) (n i : ℕ) (r : Square) → i < n → steps f (n - i) i r ≡ steps f (n - (i + 1)) (i + 1) (f i r)
@@ -23,3 +28,46 @@ when-true b x y e = rw e
 
 pub when-false : (b : Bool) (x y : Square) → b ≡ false → when b x y ≡ y
 when-false b x y e = rw e
+
+-- ---- a place that leads nowhere
+
+pub leads-none : (row : List Bool) → false ≡ leadsS row 0
+unfolding leadsS
+leads-none row = refl
+
+pub leads-here : (row : List Bool) (j : ℕ) → getD row j false ≡ true → true ≡ leadsS row (j + 1)
+unfolding leadsS
+leads-here row j e = rw (add-one j, e)
+
+pub leads-on : (row : List Bool) (j : ℕ) {b : Bool} → getD row j false ≡ false → b ≡ leadsS row j → b ≡ leadsS row (j + 1)
+unfolding leadsS
+leads-on row j e h = rw (add-one j, e) h
+
+module _ (r : Square) (k : ℕ) where
+  below : (n : ℕ) → leadsS (getD r k []) n ≡ false → (j : ℕ) → j < n → cell r k j ≡ false
+  unfolding leadsS
+  below zero h j l = absurd (omega arith)
+  below (suc n) h j l = cases (cell r k n) refl h (λ g m. below n g j m)
+    where
+      cases : (b : Bool) → cell r k n ≡ b → (if b then true else leadsS (getD r k []) n) ≡ false → (leadsS (getD r k []) n ≡ false → j < n → cell r k j ≡ false) → cell r k j ≡ false
+      cases true e g f = absurd (true≢false g)
+      cases false e g f = elim (decLt j n) [ yes m ↦ f g m | no m ↦ let z : j ≡ n = omega arith in ap (cell r k) z ∙ e ]
+
+  module _ (h : (j : ℕ) → j < 32 → cell r k j ≡ false) where
+    row-stays : (i n a : ℕ) → n + a ≤ 32 → steps (stepJ k i) n a r ≡ r
+    unfolding steps
+    row-stays i zero a l = refl
+    row-stays i (suc n) a l = rw (h a (omega arith)) (row-stays i n (a + 1) (omega arith))
+
+    same-when : (b : Bool) {x : Square} → x ≡ r → when b x r ≡ r
+    same-when true e = e
+    same-when false e = refl
+
+    square-stays : (n a : ℕ) → steps (stepI k) n a r ≡ r
+    unfolding steps
+    square-stays zero a = refl
+    square-stays (suc n) a = ap (steps (stepI k) n (a + 1)) (same-when (cell r a k) (row-stays a 32 0 (omega arith))) ∙ square-stays n (a + 1)
+
+  -- it adds no way
+  pub idle : leadsS (getD r k []) 32 ≡ false → stepK k r ≡ r
+  idle e = square-stays (below 32 e) 32 0

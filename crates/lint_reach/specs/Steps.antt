@@ -3,6 +3,7 @@ use Prim.Native.Nat.{ℕ, zero, suc, _+_}
 use mathlib.Core.List.{List, []}
 use mathlib.Core.Bool.{Bool, true, false}
 use lib.ListN.{getD, set}
+use Rattle.texts.specs.Lists.{if_then_else_}
 
 abbrev pub Square : Type 0
 Square = List (List Bool)
@@ -16,6 +17,11 @@ put r i j = set r i (set (getD r i []) j true)
 abbrev pub when : Bool → Square → Square → Square
 when true a b = a
 when false a b = b
+
+-- whether a row leads to a place below n
+unfoldable pub leadsS : List Bool → (n : ℕ) → Bool
+leadsS row zero = false
+leadsS row (suc j) = if getD row j false then true else leadsS row j
 
 -- n steps from a on
 unfoldable pub steps : (ℕ → Square → Square) → ℕ → ℕ → Square → Square

@@ -5,6 +5,7 @@ ghost use lib.Bits.{bitOr};
 ghost use lib.Count.{ones};
 ghost use lib.Dec.{ltb};
 ghost use Rattle.lint_reach.specs.Sets.{holds, withS};
+ghost use Rattle.lint_reach.specs.Steps.{leadsS};
 ghost use Rattle.lint_reach.specs.Paths.{Full, Closes};
 ghost use lib.ListN.{length, take};
 ghost use Rattle.lint_reach.specs.Cycles.{bothS, componentS, startsS, nextS, componentsS, Cycles};
@@ -46,7 +47,22 @@ pub fn many(set: u32) -> bool
 
 // ---- reach
 
-// A cell says yes exactly where there is a way of one or more steps.
+// Whether a row leads anywhere.
+fn leads(row: [bool; 32]) -> bool
+    ensures { λ r. ⌜ r ≡ leadsS row 32 ⌝ }
+{
+    let mut some = false;
+    let mut j: usize = 0;
+    while j < 32 {
+        if row[j] {
+            some = true;
+        }
+        j += 1;
+    }
+    some
+}
+
+// A cell says yes exactly where there is a way of one or more steps. A place that leads nowhere adds none.
 pub fn close(start: [[bool; 32]; 32]) -> [[bool; 32]; 32]
     requires { ⌜ Full start ⌝ }
     ensures { λ r. ⌜ Closes start r ⌝ }
@@ -54,18 +70,21 @@ pub fn close(start: [[bool; 32]; 32]) -> [[bool; 32]; 32]
     let mut reach = start;
     let mut k: usize = 0;
     while k < 32 {
-        let mut i: usize = 0;
-        while i < 32 {
-            if reach[i][k] {
-                let mut j: usize = 0;
-                while j < 32 {
-                    if reach[k][j] {
-                        reach[i][j] = true;
+        let row = reach[k];
+        if leads(row) {
+            let mut i: usize = 0;
+            while i < 32 {
+                if reach[i][k] {
+                    let mut j: usize = 0;
+                    while j < 32 {
+                        if reach[k][j] {
+                            reach[i][j] = true;
+                        }
+                        j += 1;
                     }
-                    j += 1;
                 }
+                i += 1;
             }
-            i += 1;
         }
         k += 1;
     }
