@@ -59,7 +59,7 @@ use Rattle.engine.proofs.Runs.{Fit}
 use Rattle.engine.proofs.Keeps.{Kept, Only, Knows, known-in, k-wake, k-offer, process-keeps, begun-keeps}
 use Rattle.engine.proofs.Modes.{all-known}
 use Rattle.engine.proofs.Validated.{accepted-passed, few-parts}
-use Rattle.engine.proofs.Distinct.{bind-inv, and-inv, when-inv, or-no′, Fresh, only-one, accepted-fresh}
+use Rattle.engine.proofs.Distinct.{bind-inv, and-inv, when-inv, or-no′, Fresh, each-at, only-one, accepted-fresh}
 use Rattle.engine.proofs.Bounds
 
 -- ---- an accepted model's sizes
@@ -112,6 +112,11 @@ accepted-sizes file m e =
       events = f .events;
       few = rules-small (m .scenario .entities) [] (m .rules) 0 (p .actions) (p .rules);
     }
+
+-- so each automation may have a run
+pub accepted-max : (file : List ℕ) (m : Model) → accepted file ≡ answer m → {a : Automation} → List·Memᴰ a (m .rules)
+    → 1 ≤ a .max
+accepted-max file m e i = (each-at Small ((accepted-sizes file m e) .few) i) .0
 
 -- ---- all runs together
 
@@ -177,7 +182,7 @@ nobody = record {
   notes = [];
 }
 
-somebody : (rules : List Automation) → Fresh [] rules → (a : Automation) × Only a rules
+pub somebody : (rules : List Automation) → Fresh [] rules → (a : Automation) × Only a rules
 somebody [] f = (nobody, tt)
 somebody (r ∷ l) f = (r, only-one [] {l = r ∷ l} f (List·Memᴰ·head refl))
 

@@ -5,11 +5,13 @@ pub mod Lists
 pub mod Runs
 -- what an accepted file has passed
 pub mod Validated
--- the modes: the invariant, the page's statements, accepted files, and that no queued run is left behind
+-- the modes: how many runs, accepted files, and what is queued for each run
 pub mod Keeps
 pub mod Modes
 pub mod Distinct
-pub mod Alive
+pub mod Steps
+pub mod Due
+pub mod Moments
 -- what all primitive changes keep, a simulation keeps
 pub mod Closed
 -- lent memory by refusal number
@@ -17,3 +19,5 @@ pub mod Memory
 -- how many entries the areas need
 pub mod Bounds
 pub mod Enough
+-- the page on modes, of a simulation
+pub mod Page

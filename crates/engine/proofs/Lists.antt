@@ -1,14 +1,14 @@
 -- Laws on tests and on lists: how many pass a test, and what holds of each, after the list is filtered or changed.
 -- Every change that the engine makes to its runs is one of `keep`, `each` and an element put at the end.
 use Prim.Native.Nat.{ℕ, suc, _+_, _≤_}
-use mathlib.Core.Path.{_≡_, refl, sym, ap, subst}
+use mathlib.Core.Path.{_≡_, refl, sym, ap, _∙_, subst}
 use mathlib.Core.Bool.{Bool, true, false, not, _&&_, _||_, true≢false, false≢true}
 use mathlib.Core.List.{List, [], _∷_, _++_}
 use mathlib.Core.Option.{Option, none, some}
 use native.Mathlib.Omega.{arith}
 use lib.ListN.{length}
 use lib.Dec.{eqb, leb, T, leb→le, le→leb, eqb→eq, eqb-refl, nleb→lt}
-use Rattle.texts.specs.Lists.{if_then_else_, keep, find, tally, each}
+use Rattle.texts.specs.Lists.{if_then_else_, any, keep, find, tally, each}
 use Rattle.texts.specs.Texts.{Text, eqT, ltT, insertT, sortedT}
 pub use Rattle.engine.specs.Each.{Each}
 
@@ -134,6 +134,20 @@ module _ {A : Type 0} where
   tally-end p [] x = omega arith
   tally-end p (y ∷ l) x = omega (arith, tally-end p l x)
 
+  pub tally-append : (p : A → Bool) (l m : List A) → tally p (l ++ m) ≡ tally p l + tally p m
+  unfolding tally
+  tally-append p [] m = omega arith
+  tally-append p (x ∷ l) m = omega (arith, tally-append p l m)
+
+  pub some-pass : (p : A → Bool) (l : List A) → any p l ≡ true → 1 ≤ tally p l
+  unfolding any tally
+  some-pass p [] e = absurd (false≢true e)
+  some-pass p (x ∷ l) e = go (case (p x)) (some-pass p l)
+    where
+      go : Case (p x) → (any p l ≡ true → 1 ≤ tally p l) → 1 ≤ one (p x) + tally p l
+      go (is-true a) h = omega (arith, ap one a)
+      go (is-false a) h = omega (arith, h (rw a at e))
+
   pub tally-found : (p q : A → Bool) (l : List A) (x : A) → find q l ≡ some x → p x ≡ true → 1 ≤ tally p l
   unfolding tally find
   tally-found p q [] x e h = absurd (none-some e)
@@ -179,6 +193,47 @@ module _ {A : Type 0} where
       go true e = ap {B = List A} (λ t. x ∷ t) e
       go false e = e
 
+  -- a test that lets through what passes another
+  pub keep-in : (p q : A → Bool) → ((x : A) → p x ≡ true → q x ≡ true) → (l : List A) → keep p (keep q l) ≡ keep p l
+  unfolding keep
+  keep-in p q h [] = refl
+  keep-in p q h (x ∷ l) = go (case (q x)) (case (p x)) (keep-in p q h l)
+    where
+      go : Case (q x) → Case (p x) → keep p (keep q l) ≡ keep p l → keep p (keep q (x ∷ l)) ≡ keep p (x ∷ l)
+      go (is-true a) (is-true b) e = rw (a, b, e)
+      go (is-true a) (is-false b) e = rw (a, b, e)
+      go (is-false a) (is-true b) e = absurd (true≢false (sym (h x b) ∙ a))
+      go (is-false a) (is-false b) e = rw (a, b, e)
+
+  -- what passes the test isn't changed
+  pub keep-same : (p : A → Bool) (f : A → A) → ((x : A) → p (f x) ≡ p x) → ((x : A) → p x ≡ true → f x ≡ x)
+      → (l : List A) → keep p (each f l) ≡ keep p l
+  unfolding keep each
+  keep-same p f h s [] = refl
+  keep-same p f h s (x ∷ l) = go (case (p x)) (keep-same p f h s l)
+    where
+      go : Case (p x) → keep p (each f l) ≡ keep p l → keep p (each f (x ∷ l)) ≡ keep p (x ∷ l)
+      go (is-true a) e = rw (h x, a, e, s x a)
+      go (is-false a) e = rw (h x, a, e)
+
+  pub find-keep : (p q : A → Bool) (l : List A) → find q (keep p l) ≡ find (λ x. p x && q x) l
+  unfolding keep find
+  find-keep p q [] = refl
+  find-keep p q (x ∷ l) = go (case (p x)) (find-keep p q l)
+    where
+      go : Case (p x) → find q (keep p l) ≡ find (λ x. p x && q x) l
+          → find q (keep p (x ∷ l)) ≡ find (λ x. p x && q x) (x ∷ l)
+      go (is-true a) e = rw (a, e)
+      go (is-false a) e = rw (a, e)
+
+  pub kept-none : (p : A → Bool) (l : List A) → keep p l ≡ [] → tally p l ≡ 0
+  kept-none p l e =
+      tally-same p (λ x. p x && p x) (λ x. by (p x)) l ∙ sym (tally-keep p p l) ∙ ap (tally p) e ∙ (unfold tally in refl)
+    where
+      by : (b : Bool) → b ≡ b && b
+      by true = refl
+      by false = refl
+
   -- ---- what holds of each
 
   pub each-keep : (P : A → Type 0) (p : A → Bool) (l : List A) → Each P l → Each P (keep p l)
@@ -186,10 +241,24 @@ module _ {A : Type 0} where
   each-keep P p [] h = tt
   each-keep P p (x ∷ l) h = if-prop (Each P) (p x) (λ a. (h .0, each-keep P p l (h .1))) (λ a. each-keep P p l (h .1))
 
-  pub each-to : (P Q : A → Type 0) (f : A → A) → ((x : A) → P x → Q (f x)) → (l : List A) → Each P l → Each Q (each f l)
-  unfolding each
-  each-to P Q f h [] k = tt
-  each-to P Q f h (x ∷ l) k = (h x (k .0), each-to P Q f h l (k .1))
+  -- what holds of those that pass the test
+  pub each-sift : (P Q : A → Type 0) (p : A → Bool) → ((x : A) → p x ≡ true → P x → Q x) → (l : List A) → Each P l
+      → Each Q (keep p l)
+  unfolding keep
+  each-sift P Q p h [] k = tt
+  each-sift P Q p h (x ∷ l) k =
+      if-prop (Each Q) (p x) (λ a. (h x a (k .0), each-sift P Q p h l (k .1))) (λ a. each-sift P Q p h l (k .1))
+
+  pub each-less : (P : A → Type 0) (p q : A → Bool) (l : List A) → Each P (keep p l) → Each P (keep p (keep q l))
+  unfolding keep
+  each-less P p q [] k = tt
+  each-less P p q (x ∷ l) k = go (case (q x)) (case (p x)) (each-less P p q l)
+    where
+      go : Case (q x) → Case (p x) → (Each P (keep p l) → Each P (keep p (keep q l))) → Each P (keep p (keep q (x ∷ l)))
+      go (is-true a) (is-true b) f = let h : P x × Each P (keep p l) = rw b at k in rw (a, b) (h .0, f (h .1))
+      go (is-true a) (is-false b) f = rw (a, b) (f (rw b at k))
+      go (is-false a) (is-true b) f = let h : P x × Each P (keep p l) = rw b at k in rw a (f (h .1))
+      go (is-false a) (is-false b) f = rw a (f (rw b at k))
 
   pub each-weak : (P Q : A → Type 0) → ((x : A) → P x → Q x) → (l : List A) → Each P l → Each Q l
   each-weak P Q h [] k = tt
@@ -242,12 +311,32 @@ module _ {A : Type 0} where
   tally-never q h (x ∷ l) = rw (h x, tally-never q h l)
 
 module _ {A B : Type 0} where
+  pub each-to : (P : A → Type 0) (Q : B → Type 0) (f : A → B) → ((x : A) → P x → Q (f x)) → (l : List A) → Each P l
+      → Each Q (each f l)
+  unfolding each
+  each-to P Q f h [] k = tt
+  each-to P Q f h (x ∷ l) k = (h x (k .0), each-to P Q f h l (k .1))
+
+  pub keep-each : (p : B → Bool) (q : A → Bool) (f : A → B) → ((x : A) → p (f x) ≡ q x) → (l : List A)
+      → keep p (each f l) ≡ each f (keep q l)
+  unfolding keep each
+  keep-each p q f h [] = refl
+  keep-each p q f h (x ∷ l) = go (case (q x)) (keep-each p q f h l)
+    where
+      go : Case (q x) → keep p (each f l) ≡ each f (keep q l) → keep p (each f (x ∷ l)) ≡ each f (keep q (x ∷ l))
+      go (is-true a) e = rw (h x, a, e)
+      go (is-false a) e = rw (h x, a, e)
+
   pub tally-each : (p : B → Bool) (f : A → B) (l : List A) → tally p (each f l) ≡ tally (λ x. p (f x)) l
   unfolding tally each
   tally-each p f [] = refl
   tally-each p f (x ∷ l) = ap (λ (n : ℕ). one (p (f x)) + n) (tally-each p f l)
 
 -- what holds of each of two lists
+pub each-join : {A : Type 0} (P : A → Type 0) (l m : List A) → Each P l → Each P m → Each P (l ++ m)
+each-join P [] m h k = k
+each-join P (x ∷ l) m h k = (h .0, each-join P l m (h .1) k)
+
 pub each-split : {A : Type 0} (P : A → Type 0) (l m : List A) → Each P (l ++ m) → Each P l × Each P m
 each-split P [] m h = (tt, h)
 each-split P (x ∷ l) m h = let r = each-split P l m (h .1) in ((h .0, r .0), r .1)

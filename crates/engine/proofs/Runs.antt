@@ -1,15 +1,16 @@
 -- The engine's runs: an automation's runs stand in the order in which they were made, each under a key of its own,
 -- and a queued run doesn't wait. What `keep`, `store` and a new run do to this, and to how many runs execute.
 use Prim.Native.Nat.{_+_, _≤_, _<_}
-use mathlib.Core.Path.{_≡_, refl, sym, ap, _∙_, subst}
-use mathlib.Core.Bool.{Bool, true, false, not, _&&_, true≢false}
+use mathlib.Core.Path.{_≡_, refl, sym, ap, _∙_}
+use mathlib.Core.Bool.{Bool, true, false, not, _&&_}
 use mathlib.Core.List.{List, [], _∷_, _++_}
-use mathlib.Core.Option.{some}
 use native.Mathlib.Omega.{arith}
 use lib.Dec.{eqb}
-use Rattle.texts.specs.Lists.{absent, keep, find, tally, each}
+use Rattle.texts.specs.Lists.{absent, keep, tally, each}
 use Rattle.texts.specs.Texts.{Text, eqT}
 use Rattle.engine.specs.Records.{Key, Run}
+use Rattle.engine.specs.Page.{same-key}
+pub use Rattle.engine.specs.Page.{Later, InOrder}
 use Rattle.engine.specs.Engine.{is-run, of-rule, other-run, of-other-rule, executing, in-place}
 use Rattle.engine.proofs.Lists.{
   Case,
@@ -23,7 +24,6 @@ use Rattle.engine.proofs.Lists.{
   eqb-same,
   eqT-eq,
   eqT-same,
-  some-eq,
   one,
   tally-sums,
   tally-le,
@@ -35,36 +35,35 @@ use Rattle.engine.proofs.Lists.{
   Each,
   each-keep,
   each-to,
-  each-weak,
   each-end,
 }
 
 -- ---- keys
 
-pub key-is : (k : Key) (r : Run) → is-run k r ≡ true → r .key ≡ k
-unfolding is-run
-key-is k r e =
-    let p : r .key .rule ≡ k .rule = eqT-eq _ _ (and-l _ (eqb (r .key .sequence) (k .sequence)) e) in
-    let q : r .key .sequence ≡ k .sequence = eqb-eq _ _ (and-r (eqT (r .key .rule) (k .rule)) _ e) in
+pub keys-eq : (j k : Key) → same-key j k ≡ true → j ≡ k
+unfolding same-key
+keys-eq j k e =
+    let p : j .rule ≡ k .rule = eqT-eq _ _ (and-l _ (eqb (j .sequence) (k .sequence)) e) in
+    let q : j .sequence ≡ k .sequence = eqb-eq _ _ (and-r (eqT (j .rule) (k .rule)) _ e) in
     λ i. record { rule = p i; sequence = q i }
 
+pub keys-same : (k : Key) → same-key k k ≡ true
+unfolding same-key
+keys-same k = rw (eqT-same (k .rule), eqb-same (k .sequence))
+
+pub key-is : (k : Key) (r : Run) → is-run k r ≡ true → r .key ≡ k
+unfolding is-run same-key
+key-is k r e = keys-eq (r .key) k e
+
 pub own-key : (r : Run) → is-run (r .key) r ≡ true
-unfolding is-run
-own-key r = rw (eqT-same (r .key .rule), eqb-same (r .key .sequence))
+unfolding is-run same-key
+own-key r = keys-same (r .key)
 
 pub kept-key : (r x : Run) → (in-place r x) .key ≡ x .key
 unfolding in-place
 kept-key r x = if-prop (λ (y : Run). y .key ≡ x .key) (is-run (r .key) x) (λ a. sym (key-is (r .key) x a)) (λ a. refl)
 
 -- ---- order
-
--- y was made after x, if both are of one automation
-abbrev pub Later : Run → Run → Type 0
-Later x y = x .key .rule ≡ y .key .rule → x .key .sequence < y .key .sequence
-
-abbrev pub InOrder : List Run → Type 0
-InOrder [] = Unit {0}
-InOrder (x ∷ l) = Each (Later x) l × InOrder l
 
 pub order-keep : (p : Run → Bool) (l : List Run) → InOrder l → InOrder (keep p l)
 unfolding keep
@@ -82,50 +81,27 @@ pub order-end : (l : List Run) (x : Run) → InOrder l → Each (λ y. Later y x
 order-end [] x h k = (tt, tt)
 order-end (y ∷ l) x h k = (each-end (Later y) l x (h .0) (k .0), order-end l x (h .1) (k .1))
 
+-- a later run has another key
+pub later-differs : (k : Key) (x y : Run) → is-run k x ≡ true → Later x y → is-run k y ≡ false
+later-differs k x y a g = by (case (is-run k y))
+  where
+    by : Case (is-run k y) → is-run k y ≡ false
+    by (is-false b) = b
+    by (is-true b) =
+        let same : x .key ≡ y .key = key-is k x a ∙ sym (key-is k y b) in
+        let e : x .key .sequence ≡ y .key .sequence = ap (λ (z : Key). z .sequence) same in
+        let less : x .key .sequence < y .key .sequence = g (ap (λ (z : Key). z .rule) same) in
+        absurd (omega arith)
+
 -- a key names at most one run
 pub once : (k : Key) (l : List Run) → InOrder l → tally (is-run k) l ≤ 1
 unfolding tally
 once k [] h = omega arith
 once k (x ∷ l) h = go (case (is-run k x)) (once k l (h .1))
   where
-    differs : is-run k x ≡ true → (y : Run) → Later x y → is-run k y ≡ false
-    differs a y g = by (case (is-run k y))
-      where
-        by : Case (is-run k y) → is-run k y ≡ false
-        by (is-false b) = b
-        by (is-true b) =
-            let same : x .key ≡ y .key = key-is k x a ∙ sym (key-is k y b) in
-            let e : x .key .sequence ≡ y .key .sequence = ap (λ (z : Key). z .sequence) same in
-            let less : x .key .sequence < y .key .sequence = g (ap (λ (z : Key). z .rule) same) in
-            absurd (omega arith)
-
     go : Case (is-run k x) → tally (is-run k) l ≤ 1 → tally (is-run k) (x ∷ l) ≤ 1
-    go (is-true a) n = omega (arith, tally-none (Later x) (is-run k) (differs a) l (h .0), ap one a)
+    go (is-true a) n = omega (arith, tally-none (Later x) (is-run k) (λ y g. later-differs k x y a g) l (h .0), ap one a)
     go (is-false a) n = omega (arith, ap one a)
-
--- the first of an automation's runs that pass a test was made first of them
-pub first-made : (q : Run → Bool) (id : Text) → ((x : Run) → q x ≡ true → x .key .rule ≡ id) → (l : List Run)
-    → InOrder l
-    → (r : Run) → find q l ≡ some r → Each (λ x. q x ≡ true → r .key .sequence ≤ x .key .sequence) l
-unfolding find
-first-made q id h [] k r e = tt
-first-made q id h (y ∷ l) k r e = go (case (q y)) (λ d. first-made q id h l (k .1) r d)
-  where
-    Least : Run → Type 0
-    Least x = q x ≡ true → r .key .sequence ≤ x .key .sequence
-
-    go : Case (q y) → (find q l ≡ some r → Each Least l) → Least y × Each Least l
-    go (is-true a) f =
-        let same : y ≡ r = some-eq (simp a at e) in
-        subst (λ (z : Run). (q y ≡ true → z .key .sequence ≤ y .key .sequence) × Each
-        (λ x. q x ≡ true → z .key .sequence ≤ x .key .sequence) l)
-        same (
-          λ b. omega arith,
-          each-weak (Later y) _
-              (λ x g b. let less : y .key .sequence < x .key .sequence = g (h y a ∙ sym (h x b)) in omega arith) l
-              (k .0),
-        )
-    go (is-false a) f = (λ b. absurd (true≢false (sym b ∙ a)), f (simp a at e))
 
 -- ---- a run's own state
 

@@ -12,3 +12,4 @@ pub mod Simulate
 pub mod Memory
 pub mod Words
 pub mod Bounds
+pub mod Page
