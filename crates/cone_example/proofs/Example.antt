@@ -18,8 +18,8 @@ use Rattle.checker.specs.Check.{Check, check, all-check}
 use Rattle.checker.specs.Judge.{Failure, prohibited-state, guard-violated, forbidden-transition, deadline-missed}
 use Rattle.checker.specs.Verify.{Verification, verify, all-verify}
 use Rattle.cone.specs.Cone.{cone-of, all-cone}
-use Rattle.cone.specs.Alike.{Alike, SameSearch, input-in, cone-declarations, cone-automations, cone-events, all-alike}
-use Rattle.cone.specs.Demand.{witness-incomplete, SameCheck, SameVerification, all-demand}
+use Rattle.independence.specs.Alike.{Alike, SameSearch, input-in, cone-declarations, cone-automations, cone-events, all-alike}
+use Rattle.independence.specs.Demand.{witness-incomplete, SameCheck, SameVerification, all-demand}
 use Rattle.independence.proofs.Demand.{demand3}
 use Rattle.cone_example.specs.Files.{first, second, all-files}
 use borrow.Author.Tests.{not-true}

@@ -12,24 +12,24 @@ use Rattle.engine.specs.Words.{source-words}
 use Rattle.checker.specs.Check.{Violation}
 use Rattle.checker.specs.Judge.{Failure, prohibited-state, guard-violated, forbidden-transition, deadline-missed}
 use Rattle.checker_entry.specs.Answers.{failure-words, violation-words}
-use Rattle.cone.specs.Demand.{Told, failed, missed, told}
+use Rattle.cone_judge.specs.Told.{Told, failed, missed, told}
 
 -- ---- what is told, as numbers
 
+abbrev kind-of : Told → ℕ
+kind-of (failed y a s) = getD (failure-words y) 0 0
+kind-of (missed d) = 4
+
 abbrev deadline-of : Told → ℕ
-deadline-of (failed a s) = 0
+deadline-of (failed y a s) = 0
 deadline-of (missed d) = d
 
-abbrev late-of : Told → ℕ
-late-of (failed a s) = 0
-late-of (missed d) = 1
-
 abbrev second-of : Told → ℕ
-second-of (failed a s) = a
+second-of (failed y a s) = a
 second-of (missed d) = 0
 
 abbrev source-of : Told → List ℕ
-source-of (failed a s) = source-words s
+source-of (failed y a s) = source-words s
 source-of (missed d) = []
 
 -- ---- a violation's numbers
@@ -40,9 +40,8 @@ row p a i y s = (p ∷ a ∷ i ∷ []) ++ (failure-words y ++ source-words s)
 record Row (p a i : ℕ) (y : Failure) (s : Option Source) : Type 0 where
   size : length (row p a i y s) ≡ 8
   place : getD (row p a i y s) 0 0 ≡ p
+  kind : getD (row p a i y s) 3 0 ≡ kind-of (told y a s)
   deadline : getD (row p a i y s) 4 0 ≡ deadline-of (told y a s)
-  late : getD (row p a i y s) 3 0 ≡ 4 → late-of (told y a s) ≡ 1
-  late-back : late-of (told y a s) ≡ 1 → getD (row p a i y s) 3 0 ≡ 4
   second : (getD (row p a i y s) 3 0 ≡ 4 → ⊥) → getD (row p a i y s) 1 0 ≡ second-of (told y a s)
   source : (getD (row p a i y s) 3 0 ≡ 4 → ⊥) → (j : ℕ) →
       getD (row p a i y s) (suc (suc (suc (suc (suc j))))) 0 ≡ getD (source-of (told y a s)) j 0
@@ -57,36 +56,32 @@ unfolding told
 row-is p a i prohibited-state s = record {
   size = omega (arith, three s);
   place = refl;
+  kind = refl;
   deadline = refl;
-  late = λ e. absurd (omega arith);
-  late-back = λ e. absurd (omega arith);
   second = λ e. refl;
   source = λ e j. refl;
 }
 row-is p a i guard-violated s = record {
   size = omega (arith, three s);
   place = refl;
+  kind = refl;
   deadline = refl;
-  late = λ e. absurd (omega arith);
-  late-back = λ e. absurd (omega arith);
   second = λ e. refl;
   source = λ e j. refl;
 }
 row-is p a i forbidden-transition s = record {
   size = omega (arith, three s);
   place = refl;
+  kind = refl;
   deadline = refl;
-  late = λ e. absurd (omega arith);
-  late-back = λ e. absurd (omega arith);
   second = λ e. refl;
   source = λ e j. refl;
 }
 row-is p a i (deadline-missed d) s = record {
   size = omega (arith, three s);
   place = refl;
+  kind = refl;
   deadline = refl;
-  late = λ e. refl;
-  late-back = λ e. refl;
   second = λ e. absurd (e refl);
   source = λ e j. absurd (e refl);
 }
@@ -110,13 +105,12 @@ module _ (ts ts′ : List Text) (v v′ : Violation) (same : told (v .failure) (
   unfolding violation-words
   same-deadline = x .deadline ∙ ap deadline-of same ∙ sym (y .deadline)
 
-  pub same-missed : getD words 3 0 ≡ 4 → getD words′ 3 0 ≡ 4
+  pub same-kind : getD words 3 0 ≡ getD words′ 3 0
   unfolding violation-words
-  same-missed e = y .late-back (sym (ap late-of same) ∙ x .late e)
+  same-kind = x .kind ∙ ap kind-of same ∙ sym (y .kind)
 
   other : (getD words 3 0 ≡ 4 → ⊥) → getD words′ 3 0 ≡ 4 → ⊥
-  unfolding violation-words
-  other n e = n (x .late-back (ap late-of same ∙ y .late e))
+  other n e = n (same-kind ∙ e)
 
   pub same-second : (getD words 3 0 ≡ 4 → ⊥) → getD words 1 0 ≡ getD words′ 1 0
   unfolding violation-words

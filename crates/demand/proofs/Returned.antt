@@ -20,7 +20,8 @@ use Rattle.checker.specs.Judge.{Failing, prohibited-state}
 use Rattle.checker_result.specs.declared.CheckResult.{CheckResult}
 use Rattle.checker_result.specs.Result.{no-check}
 use Rattle.checker_entry.specs.Answers.{violation-words, Shows, Says, Checks}
-use Rattle.cone.specs.Demand.{Told, told, violation-told, reading-for}
+use Rattle.cone_judge.specs.Told.{Told, told, violation-told}
+use Rattle.independence.specs.Demand.{reading-for}
 use Rattle.independence.proofs.Demand.{demand3}
 use Rattle.demand.specs.Returned.{number-at, invariant-at, SameViolation, Complete, CheckReturned}
 use Rattle.demand.proofs.Places.{In, at-place, invariant-in}
@@ -116,8 +117,8 @@ module _ (f f′ : List ℕ) (r r′ : CheckResult) (c c′ : Check) (x : Shows 
     unfolding violation-told
     same-violation = record {
       invariant = names ∙ ap (λ (p : Text × Told). p .0) alike ∙ sym names′;
+      kind = word 3 (omega arith) ∙ numbers.same-kind (texts-in f) (texts-in f′) v v′ tells ∙ sym (word′ 3 (omega arith));
       deadline = word 4 (omega arith) ∙ numbers.same-deadline (texts-in f) (texts-in f′) v v′ tells ∙ sym (word′ 4 (omega arith));
-      missed = λ e. word′ 3 (omega arith) ∙ numbers.same-missed (texts-in f) (texts-in f′) v v′ tells (sym (word 3 (omega arith)) ∙ e);
       second = λ n. word 1 (omega arith) ∙ numbers.same-second (texts-in f) (texts-in f′) v v′ tells (not-missed n) ∙ sym (word′ 1 (omega arith));
       source = λ n j o.
           let e : 5 + j ≡ suc (suc (suc (suc (suc j)))) = omega arith in

@@ -21,8 +21,8 @@ use Rattle.search_inputs.specs.Inputs.{event-words}
 use Rattle.search_answer.specs.declared.Found.the-variants as found
 use Rattle.search_answer.specs.declared.Verification.{Verification}
 use Rattle.search_entry.specs.Answers.{Verifies}
-use Rattle.cone.specs.Alike.{Alike, SameSearch}
-use Rattle.cone.specs.Demand.{SameCheck}
+use Rattle.independence.specs.Alike.{Alike, SameSearch}
+use Rattle.independence.specs.Demand.{SameCheck}
 
 -- the j-th of the eight numbers of an answer's k-th violation (docs/FORMAT.md)
 abbrev pub number-at : CheckResult → (k j : ℕ) → ℕ
@@ -32,12 +32,13 @@ number-at r k j = getD (r .violated) (k * 8 + j) 0
 abbrev pub invariant-at : (file : List ℕ) → CheckResult → (k : ℕ) → Text
 invariant-at f r k = getD (texts-in f) (number-at r k 0) []
 
--- The two answers' k-th violations are of one invariant. A missed response (number 4) has the same deadline, any other
--- failure the same second (number 1) and source (numbers 5 to 7). The record's index (number 2) may differ.
+-- The two answers' k-th violations are of one invariant and of one kind (number 3). A missed response (kind 4) has the same
+-- deadline (number 4), any other failure the same second (number 1) and source (numbers 5 to 7). The record's index
+-- (number 2) may differ.
 pub record SameViolation (f f′ : List ℕ) (r r′ : CheckResult) (k : ℕ) : Type 0 where
   pub invariant : invariant-at f r k ≡ invariant-at f′ r′ k
+  pub kind : number-at r k 3 ≡ number-at r′ k 3
   pub deadline : number-at r k 4 ≡ number-at r′ k 4
-  pub missed : number-at r k 3 ≡ 4 → number-at r′ k 3 ≡ 4
   pub second : (number-at r k 3 ≡ 4 → ⊥) → number-at r k 1 ≡ number-at r′ k 1
   pub source : (number-at r k 3 ≡ 4 → ⊥) → (j : ℕ) → j < 3 → number-at r k (5 + j) ≡ number-at r′ k (5 + j)
 

@@ -1,4 +1,4 @@
--- Two accepted models that are alike, as Alike.antt of the crate cone says it: they have one cone, and inside it the same
+-- Two accepted models that are alike, as Alike.antt of specs says it: they have one cone, and inside it the same
 -- automations, cells and events. That is all that the engine's part of the proof asks of them (`inside-of-alike`,
 -- `events-same`).
 use mathlib.Core.Bool.{Bool}
@@ -9,7 +9,7 @@ use Rattle.texts.specs.Texts.{Text, memT}
 use Rattle.model.specs.Model.{Entity, Input, reload, Event, Model}
 use Rattle.engine.specs.Cells.{initial-cells}
 use Rattle.cone.specs.Cone.{Cone, cone-of}
-use Rattle.cone.specs.Alike.{
+use Rattle.independence.specs.Alike.{
   Alike,
   entity-in,
   automation-in,
@@ -19,19 +19,19 @@ use Rattle.cone.specs.Alike.{
   cone-automations,
   cone-events,
 }
-use Rattle.independence.proofs.Base.{keep-each, keep-same, every-yes, Every}
-use Rattle.independence.proofs.View
-use Rattle.independence.proofs.Steps
-use Rattle.independence.proofs.Check.{Inside, cone-event}
+use Rattle.cone_engine.proofs.Base.{keep-each, keep-same, every-yes, Every}
+use Rattle.cone_engine.proofs.View
+use Rattle.cone_engine.proofs.Steps
+use Rattle.cone_judge.proofs.Check.{Inside, cone-event}
 use Rattle.engine.proofs.Distinct.{Fresh}
-use Rattle.independence.proofs.Closure.{in-entities, in-automations, cone-good, cone-named, autos}
+use Rattle.cone_engine.proofs.Closure.{in-entities, in-automations, cone-good, cone-named, autos}
 
 keep-ext : {A : Type 0} (p q : A → Bool) → ((x : A) → p x ≡ q x) → (l : List A) → keep p l ≡ keep q l
 keep-ext p q h l = keep-same p q l (every-yes l) h
 
 module _ (m m′ : Model) (a : Alike m m′) where
   same-cone : cone-of m ≡ cone-of m′
-  unfolding cone-automations
+  unfolding cone-automations automation-in
   same-cone =
       let u : (cone-of m) .automations ≡ (cone-of m′) .automations = autos m
       ∙ ap (each (λ r. r .id)) (a .same-automations) ∙ sym (autos m′) in

@@ -1,4 +1,4 @@
--- Demand 3, as Demand.antt of the crate cone states it (`demand3`): two whole model files, each with lent areas of any
+-- Demand 3, as Demand.antt of specs states it (`demand3`): two whole model files, each with lent areas of any
 -- sizes. `demand3-strong` needs less: neither the bound on cases nor where the alphabet's entities lie matters.
 use Prim.Native.Nat.{ℕ}
 use mathlib.Core.List.{List, []}
@@ -10,11 +10,11 @@ use Rattle.engine.specs.Cells.{Cell, initial-cells}
 use Rattle.engine.specs.Records.{Areas}
 use Rattle.checker.specs.Check.{checked, check}
 use Rattle.checker.specs.Verify.{Verification, verified, verify}
-use Rattle.cone.specs.Alike.{Alike}
-use Rattle.cone.specs.Demand.{reading-for, about-all, witness-incomplete, SameCheck, SameVerification, CheckClaim, Demand3}
-use Rattle.independence.proofs.Check.{Inside, Common, check-same}
+use Rattle.independence.specs.Alike.{Alike}
+use Rattle.independence.specs.Demand.{reading-for, about-all, witness-incomplete, SameCheck, SameVerification, CheckClaim, Demand3}
+use Rattle.cone_judge.proofs.Check.{Inside, Common, check-same}
 use Rattle.engine.proofs.Distinct.{and-inv, accepted-fresh}
-use Rattle.independence.proofs.Closure.{in-entities, in-automations}
+use Rattle.cone_engine.proofs.Closure.{in-entities, in-automations}
 use Rattle.independence.proofs.Alike.{inside-of-alike, events-same}
 use Rattle.independence.proofs.Readings.{of-checked}
 use Rattle.independence.proofs.Search.{verified-same}
@@ -29,11 +29,17 @@ pub record Sought (m m′ : Model) : Type 0 where
   pub alphabet : m .scenario .alphabet ≡ m′ .scenario .alphabet
   pub gaps : m .scenario .gaps ≡ m′ .scenario .gaps
 
+abbrev start : Model → List Cell
+start m = initial-cells (m .scenario .entities)
+
+-- what `verify` answers is the search of the model
+pub verify-is : (areas : Areas) (output : ℕ) (file : List ℕ) (m : Model) (v : Verification) → accepted file ≡ answer m
+    → verify areas output file ≡ answer v → verified areas m (start m) ≡ answer v
+unfolding verify
+verify-is areas output file m v q e = and-inv _ _ v (and-inv _ _ v (sym (bind-is (accepted file) m _ q) ∙ e))
+
 module _ (file file′ : List ℕ) (m m′ : Model) (p : accepted file ≡ answer m) (p′ : accepted file′ ≡ answer m′)
     (a : Alike m m′) where
-  abbrev start : Model → List Cell
-  start m = initial-cells (m .scenario .entities)
-
   inside : Inside (in-entities m) (in-automations m) m m′ (start m) (start m′)
   inside = inside-of-alike m m′ a (accepted-fresh file m p) (accepted-fresh file′ m′ p′)
 
@@ -60,11 +66,6 @@ module _ (file file′ : List ℕ) (m m′ : Model) (p : accepted file ≡ answe
         readings = of-checked areas m (m .scenario .events) c q;
         readings′ = of-checked areas′ m′ (m′ .scenario .events) c′ q′;
       }
-
-  verify-is : (areas : Areas) (output : ℕ) (file : List ℕ) (m : Model) (v : Verification) → accepted file ≡ answer m
-      → verify areas output file ≡ answer v → verified areas m (start m) ≡ answer v
-  unfolding verify
-  verify-is areas output file m v q e = and-inv _ _ v (and-inv _ _ v (sym (bind-is (accepted file) m _ q) ∙ e))
 
   verify-claim : Sought m m′ → (areas areas′ : Areas) (output output′ : ℕ) (v v′ : Verification)
       → verify areas output file ≡ answer v → verify areas′ output′ file′ ≡ answer v′

@@ -12,10 +12,10 @@ use Rattle.engine.specs.Records.{Areas}
 use Rattle.engine.specs.Simulate.{Simulation}
 use Rattle.checker.specs.Judge.{unknown-reasons}
 use Rattle.checker.specs.Check.{Check, judged, checked}
-use Rattle.cone.specs.Demand.{reading-for, OfReadings}
-use Rattle.independence.proofs.Base.{and-i, or-l, or-r, any-append, any-sorted}
-use Rattle.independence.proofs.Check.{simulation-of, checked-is}
-use Rattle.independence.proofs.Closure.{mem-append, all-mem}
+use Rattle.independence.specs.Demand.{reading-for, OfReadings}
+use Rattle.cone_engine.proofs.Base.{and-i, or-l, or-r, any-append, any-sorted}
+use Rattle.cone_judge.proofs.Check.{simulation-of, checked-is}
+use Rattle.cone_engine.proofs.Closure.{mem-append, all-mem}
 
 module _ {A : Type 0} (f : A → List Text) (us : List Text) where
   -- what one element gives is in the whole list

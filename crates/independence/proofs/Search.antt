@@ -33,11 +33,12 @@ use Rattle.checker.specs.Verify.{
   verification-of,
   verified,
 }
-use Rattle.cone.specs.Demand.{violation-told, witness-events, witness-incomplete, SameVerification}
-use Rattle.independence.proofs.Base.{none-some}
-use Rattle.independence.proofs.Slice.{cons-nil}
+use Rattle.cone_judge.specs.Told.{violation-told}
+use Rattle.independence.specs.Demand.{witness-events, witness-incomplete, SameVerification}
+use Rattle.cone_engine.proofs.Base.{none-some}
+use Rattle.cone_engine.proofs.Slice.{cons-nil}
 use Rattle.engine.proofs.Distinct.{answer-eq, bind-inv}
-use Rattle.independence.proofs.Check.{nil-l, nil-r, nil-sorted, checked-is}
+use Rattle.cone_judge.proofs.Check.{nil-l, nil-r, nil-sorted, checked-is}
 
 -- what a witness leaves open, and its events
 unfoldable left-open : Option Witness → List Text

@@ -10,7 +10,7 @@ use lib.Dec.{leb}
 use Rattle.texts.specs.Lists.{if_then_else_, keep}
 use Rattle.engine.specs.Records.{Item}
 use Rattle.engine.specs.Engine.{sooner, pop}
-use Rattle.independence.proofs.Base.{
+use Rattle.cone_engine.proofs.Base.{
   keep-in,
   keep-out,
   cons-eq,

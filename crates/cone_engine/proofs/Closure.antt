@@ -25,7 +25,6 @@ use Rattle.lint.specs.Touches.{
   writes-of,
   toggles-of,
 }
-use Rattle.cone.specs.Alike.{automation-in}
 use Rattle.cone.specs.Cone.{
   Cone,
   names,
@@ -41,7 +40,7 @@ use Rattle.cone.specs.Cone.{
   Closed,
   ConeIsLeast,
 }
-use Rattle.independence.proofs.Base.{
+use Rattle.cone_engine.proofs.Base.{
   Case,
   is-true,
   is-false,
@@ -71,7 +70,7 @@ use Rattle.independence.proofs.Base.{
   keep-each,
 }
 use Rattle.engine.proofs.Distinct.{Fresh, accepted-fresh}
-use Rattle.independence.proofs.Steps
+use Rattle.cone_engine.proofs.Steps
 
 -- ---- membership
 
@@ -475,10 +474,10 @@ unfolding keep
 keep-among p q [] h = refl
 keep-among p q (x ∷ l) h = rw (h x here, keep-among p q l (λ r a. h r (later a)))
 
-pub autos : (m : Model) → (cone-of m) .automations ≡ ids (keep (automation-in (cone-of m)) (m .rules))
+pub autos : (m : Model) → (cone-of m) .automations ≡ ids (keep (λ r. memT (r .id) ((cone-of m) .automations)) (m .rules))
 autos m = listed-by m ∙ ap (each (λ r. r .id))
-    (keep-among (λ r. memT (r .id) ((shut-of m) .automations)) (automation-in (cone-of m)) (m .rules)
-    (λ r a. unfold automation-in in (sym (mem-rule m r a))))
+    (keep-among (λ r. memT (r .id) ((shut-of m) .automations)) (λ r. memT (r .id) ((cone-of m) .automations)) (m .rules)
+    (λ r a. sym (mem-rule m r a)))
   where
     listed-by : (m : Model) → (cone-of m) .automations ≡ ids
         (keep (λ r. memT (r .id) ((shut-of m) .automations)) (m .rules))

@@ -26,7 +26,7 @@ use Rattle.engine.specs.Engine.{
   change-of,
 }
 use Rattle.lint.specs.Touches.{predicate-reads}
-use Rattle.independence.proofs.Base.{
+use Rattle.cone_engine.proofs.Base.{
   Case,
   is-true,
   is-false,

@@ -7,53 +7,18 @@ use mathlib.Core.Option.{Option, none, some}
 use Rattle.texts.specs.Lists.{all, each, flat}
 use Rattle.texts.specs.Texts.{Text, memT}
 use Rattle.model.specs.Answer.{answer}
-use Rattle.model.specs.Model.{Source, Event, Invariant, Model}
+use Rattle.model.specs.Model.{Event, Invariant, Model}
 use Rattle.model.specs.Validate.{accepted}
 use Rattle.engine.specs.Cells.{initial-cells}
 use Rattle.engine.specs.Records.{Areas}
 use Rattle.engine.specs.Simulate.{Simulation}
-use Rattle.checker.specs.Judge.{
-  Failure,
-  prohibited-state,
-  guard-violated,
-  forbidden-transition,
-  deadline-missed,
-  Reading,
-  read-all,
-  unknown-reasons,
-}
-use Rattle.checker.specs.Check.{Violation, Check, violation-of, check}
+use Rattle.checker.specs.Judge.{Reading, read-all, unknown-reasons}
+use Rattle.checker.specs.Check.{Check, violation-of, check}
 use Rattle.checker.specs.Verify.{Verification, verify}
-use Rattle.cone.specs.Alike.{Alike, SameSearch}
+use Rattle.cone_judge.specs.Told.{About, about, violation-told, all-told}
+use Rattle.independence.specs.Alike.{Alike, SameSearch}
 
--- ---- what is told of a failure, and of an invariant
-
--- the second and the source; of a missed response the deadline instead
-pub data Told : Type 0 where
-  failed : (at : ℕ) (source : Option Source) → Told
-  missed : (deadline : ℕ) → Told
-
-unfoldable pub told : Failure → (at : ℕ) → Option Source → Told
-told prohibited-state at src = failed at src
-told guard-violated at src = failed at src
-told forbidden-transition at src = failed at src
-told (deadline-missed d) at src = missed d
-
--- the unknown reasons count unless it's a failed response
-pub data About : Type 0 where
-  holds : (unknown : List Text) → About
-  fails : (at : ℕ) (source : Option Source) (unknown : List Text) → About
-  late : (deadline : ℕ) → About
-
-unfoldable pub about-failing : Told → (unknown : List Text) → About
-about-failing (failed at src) us = fails at src us
-about-failing (missed d) us = late d
-
-unfoldable pub about : Invariant → Reading → About
-about i r = elim (r .failing) [
-  | none ↦ holds (unknown-reasons i (r .memory))
-  | some f ↦ about-failing (told (f .failure) (f .at) (f .source)) (unknown-reasons i (r .memory))
-]
+-- ---- what a check and a search tell
 
 -- what reading the records of the model's simulation for the invariant gives
 unfoldable pub reading-for : Model → Simulation → Invariant → Reading
@@ -62,11 +27,6 @@ reading-for m sim i = read-all i (initial-cells (m .scenario .entities)) (sim .t
 -- of each invariant, by the model's simulation
 unfoldable pub about-all : Model → Simulation → List About
 about-all m sim = each (λ i. about i (reading-for m sim i)) (m .scenario .invariants)
-
--- ---- what a check and a search return of it
-
-unfoldable pub violation-told : Violation → Text × Told
-violation-told v = (v .invariant, told (v .failure) (v .at) (v .source))
 
 unfoldable pub witness-events : Verification → Option (List Event)
 witness-events v = elim (v .witness) [ none ↦ none | some w ↦ some (w .events) ]
@@ -119,5 +79,5 @@ Demand3 =
 
 -- opens the file, for proofs by computation
 unfoldable pub all-demand : Unit {0}
-unfolding told about-failing about reading-for about-all violation-told witness-events witness-incomplete
+unfolding all-told reading-for about-all witness-events witness-incomplete
 all-demand = tt

@@ -14,7 +14,7 @@ use Rattle.engine.specs.Records.{Run, Item, Engine}
 use Rattle.engine.specs.Changes.{with-queue}
 use Rattle.engine.specs.Reasons.{space-spent, steps-spent}
 use Rattle.engine.specs.Engine.{pop, process, Next, stop, exhausted, take, next-of, Ended, loop}
-use Rattle.independence.proofs.Base.{
+use Rattle.cone_engine.proofs.Base.{
   keep-again,
   keep-each,
   each-each,
@@ -28,11 +28,11 @@ use Rattle.independence.proofs.Base.{
   some-eq,
   none-some,
 }
-use Rattle.independence.proofs.Queue.{Taken, late, late-le, pop-empty, pop-least, pop-late, pop-in, pop-out}
-use Rattle.independence.proofs.View
-use Rattle.independence.proofs.View.{bare}
-use Rattle.independence.proofs.Steps
-use Rattle.independence.proofs.Good
+use Rattle.cone_engine.proofs.Queue.{Taken, late, late-le, pop-empty, pop-least, pop-late, pop-in, pop-out}
+use Rattle.cone_engine.proofs.View
+use Rattle.cone_engine.proofs.View.{bare}
+use Rattle.cone_engine.proofs.Steps
+use Rattle.cone_engine.proofs.Good
 
 pub cons-nil : {A : Type 0} {x : A} {l : List A} → x ∷ l ≡ [] → ⊥
 cons-nil {A} e = false≢true (ap isNil e)

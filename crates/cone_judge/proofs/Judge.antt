@@ -41,8 +41,8 @@ use Rattle.checker.specs.Judge.{
   read-all,
 }
 use Rattle.cone.specs.Cone.{names}
-use Rattle.cone.specs.Demand.{told, About, late, about-failing, about}
-use Rattle.independence.proofs.Base.{
+use Rattle.cone_judge.specs.Told.{told, About, late, about-failing, about}
+use Rattle.cone_engine.proofs.Base.{
   Case,
   is-true,
   is-false,
@@ -62,9 +62,9 @@ use Rattle.independence.proofs.Base.{
   all-l,
   all-r,
 }
-use Rattle.independence.proofs.View
-use Rattle.independence.proofs.View.{boundary}
-use Rattle.independence.proofs.Tidy.{Rising, headed, fair}
+use Rattle.cone_engine.proofs.View
+use Rattle.cone_engine.proofs.View.{boundary}
+use Rattle.cone_engine.proofs.Tidy.{Rising, headed, fair}
 
 -- the last record is a boundary
 unfoldable pub ends : List Trace → Bool
@@ -334,7 +334,7 @@ module _ (inE inA : Text → Bool) where
           ∙ ap (reading i k′ (keepC c) m) (sym (keep-in kept t l q)))
         where
           again : (l : List Cell) → keepC l ≡ keepC (keepC l)
-          again l = sym (Rattle.independence.proofs.Base.keep-again (View.cone-cell inE inA) l)
+          again l = sym (Rattle.cone_engine.proofs.Base.keep-again (View.cone-cell inE inA) l)
 
           side : next k′ t (keepC (after t c)) (keep kept l) (read i c (after t c) t m) ≡ next k′ t
               (after t (keepC c)) (keep kept l) (read i (keepC c) (after t (keepC c)) t m)
@@ -603,7 +603,7 @@ module _ (inE inA : Text → Bool) where
 
     names-in : all inE (names R) ≡ true
     unfolding names
-    names-in = Rattle.independence.proofs.Base.all-i inE (predicate-reads p) (predicate-reads q) hp hq
+    names-in = Rattle.cone_engine.proofs.Base.all-i inE (predicate-reads p) (predicate-reads q) hp hq
 
     is-shown : (b c : List Cell) (t : Trace) (m : Memory)
         → read R b c t m ≡ shown-response (evaluate p c) (evaluate q c) (evaluate q b) n t m
@@ -692,7 +692,7 @@ module _ (inE inA : Text → Bool) where
     settled-to w w′ g g′ m x y s = rw (← x, ← y) s
 
     again : (c : List Cell) → keepC c ≡ keepC (keepC c)
-    again c = sym (Rattle.independence.proofs.Base.keep-again (View.cone-cell inE inA) c)
+    again c = sym (Rattle.cone_engine.proofs.Base.keep-again (View.cone-cell inE inA) c)
 
     response-list : (l : List Trace) (h a : ℕ) (k k′ : ℕ) (c : List Cell) (m : Memory) → Rising a l h → ends l ≡ true
         → Every fair l → Settled (evaluate p c) (evaluate q c) m

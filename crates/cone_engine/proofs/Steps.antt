@@ -104,7 +104,7 @@ use Rattle.engine.specs.Engine.{
 }
 use Rattle.lint.specs.Touches
 use Rattle.lint.specs.Touches.{Action, within, walk, conditions-of, Write, toggles, predicate-reads, effect-reads}
-use Rattle.independence.proofs.Base.{
+use Rattle.cone_engine.proofs.Base.{
   Case,
   is-true,
   is-false,
@@ -126,8 +126,8 @@ use Rattle.independence.proofs.Base.{
   any-none,
   all-every,
 }
-use Rattle.independence.proofs.View
-use Rattle.independence.proofs.View.{boundary, bare, renum, Found, neither, both}
+use Rattle.cone_engine.proofs.View
+use Rattle.cone_engine.proofs.View.{boundary, bare, renum, Found, neither, both}
 
 module _ (inE inA : Text → Bool) where
   abbrev pub Like : Engine → Engine → Type 0

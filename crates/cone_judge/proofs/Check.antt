@@ -20,19 +20,19 @@ use Rattle.engine.proofs.Distinct.{answer-eq, refused-answer, bind-inv}
 use Rattle.checker.specs.Judge.{Failing, Reading, read-all, unknown-reasons}
 use Rattle.checker.specs.Check.{Check, violation-of, judged, checked}
 use Rattle.cone.specs.Cone.{names}
-use Rattle.cone.specs.Demand.{Told, failed, missed, told, About, holds, fails, late, about-failing, about, violation-told}
-use Rattle.independence.proofs.Base.{keep-append, keep-flat, each-flat, Every, every-end, le-leb}
-use Rattle.independence.proofs.Queue
-use Rattle.independence.proofs.View
-use Rattle.independence.proofs.View.{boundary}
-use Rattle.independence.proofs.Steps
-use Rattle.independence.proofs.Good
-use Rattle.independence.proofs.Slice
-use Rattle.independence.proofs.Slice.{cons-nil}
-use Rattle.independence.proofs.Tidy
-use Rattle.independence.proofs.Tidy.{Tidy, Rising, headed, fair, rising-end, headed-end, tidy-loop}
-use Rattle.independence.proofs.Judge
-use Rattle.independence.proofs.Judge.{ends, ends-end}
+use Rattle.cone_judge.specs.Told.{Told, failed, missed, told, About, holds, fails, late, about-failing, about, violation-told}
+use Rattle.cone_engine.proofs.Base.{keep-append, keep-flat, each-flat, Every, every-end, le-leb}
+use Rattle.cone_engine.proofs.Queue
+use Rattle.cone_engine.proofs.View
+use Rattle.cone_engine.proofs.View.{boundary}
+use Rattle.cone_engine.proofs.Steps
+use Rattle.cone_engine.proofs.Good
+use Rattle.cone_engine.proofs.Slice
+use Rattle.cone_engine.proofs.Slice.{cons-nil}
+use Rattle.cone_engine.proofs.Tidy
+use Rattle.cone_engine.proofs.Tidy.{Tidy, Rising, headed, fair, rising-end, headed-end, tidy-loop}
+use Rattle.cone_judge.proofs.Judge
+use Rattle.cone_judge.proofs.Judge.{ends, ends-end}
 
 -- ---- lists that are empty
 
@@ -178,7 +178,7 @@ module _ (inE inA : Text → Bool) where
       (flat (expiry 0) cells) (flat (expiry 0) cells′) (stale cells ∙ ap (flat (expiry 0)) p ∙ sym (stale cells′))
     where
       side : (l : List Event) → keep (View.cone-item inE inA) (each event-item l) ≡ each event-item (keep cone-event l)
-      side l = Rattle.independence.proofs.Base.keep-each event-item (View.cone-item inE inA) cone-event
+      side l = Rattle.cone_engine.proofs.Base.keep-each event-item (View.cone-item inE inA) cone-event
           (λ v. unfold View.cone-item View.cone-work event-item cone-event in refl) l
 
       stale : (l : List Cell) → keep (View.cone-item inE inA) (flat (expiry 0) l) ≡ flat (expiry 0)
@@ -250,7 +250,7 @@ module _ (inE inA : Text → Bool) where
     -- what a check returns of each invariant
     unfoldable told-of : Invariant → About → List (Text × Told)
     told-of i (holds us) = []
-    told-of i (fails at src us) = (id-of i, failed at src) ∷ []
+    told-of i (fails y at src us) = (id-of i, failed y at src) ∷ []
     told-of i (late d) = (id-of i, missed d) ∷ []
 
     told-is : (i : Invariant) (r : Reading) → each violation-told (violation-of i (r .failing)) ≡ told-of i (about i r)
@@ -258,7 +258,7 @@ module _ (inE inA : Text → Bool) where
     told-is i r = go (r .failing)
       where
         by : (x : Told) (us : List Text) → (id-of i, x) ∷ [] ≡ told-of i (about-failing x us)
-        by (failed at src) us = unfold about-failing told-of in refl
+        by (failed y at src) us = unfold about-failing told-of in refl
         by (missed d) us = unfold about-failing told-of in refl
 
         go : (o : Option Failing) → each violation-told (violation-of i o)

@@ -87,10 +87,10 @@ use Rattle.engine.specs.Engine.{
   Ended,
   loop,
 }
-use Rattle.independence.proofs.Base.{Every, every-end, if-prop, leb-le, le-leb, gt-leb}
-use Rattle.independence.proofs.Queue.{late, pop-least, pop-late, pop-rest}
-use Rattle.independence.proofs.View.{boundary}
-use Rattle.independence.proofs.Slice.{Goes, stops, spent, takes, goes}
+use Rattle.cone_engine.proofs.Base.{Every, every-end, if-prop, leb-le, le-leb, gt-leb}
+use Rattle.cone_engine.proofs.Queue.{late, pop-least, pop-late, pop-rest}
+use Rattle.cone_engine.proofs.View.{boundary}
+use Rattle.cone_engine.proofs.Slice.{Goes, stops, spent, takes, goes}
 
 -- seconds never fall, and end at the last
 abbrev pub Rising : ℕ → List Trace → ℕ → Type 0

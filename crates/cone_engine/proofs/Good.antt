@@ -85,7 +85,7 @@ use Rattle.engine.specs.Engine.{
   process,
 }
 use Rattle.lint.specs.Touches.{Action, within, walk, within-branches, effect-reads}
-use Rattle.independence.proofs.Base.{
+use Rattle.cone_engine.proofs.Base.{
   and-l,
   and-r,
   and-i,
@@ -102,8 +102,8 @@ use Rattle.independence.proofs.Base.{
   all-r,
   all-i,
 }
-use Rattle.independence.proofs.View
-use Rattle.independence.proofs.Steps
+use Rattle.cone_engine.proofs.View
+use Rattle.cone_engine.proofs.Steps
 
 then-walk : (a b : Actions) → walk (a then b) ≡ walk a ++ walk b
 unfolding _then_ walk
