@@ -2,7 +2,11 @@
 pub mod Places
 -- a violation's numbers
 pub mod Numbers
--- the theorem of what check returns
+-- a witness's events are made of the alphabet's inputs
+pub mod Chosen
+-- what check returns
 pub mod Returned
--- the theorem of what verify returns
+-- what verify returns
 pub mod Found
+-- the theorem
+pub mod Demand

@@ -1,4 +1,5 @@
--- A text of the file stands at its place. The identifiers of an accepted model's invariants are texts of the file.
+-- A text of the file stands at its place. The identifiers of an accepted model's invariants are texts of the file, and so are
+-- the texts of its alphabet.
 use Prim.Native.Nat.{ℕ, zero, suc, _+_, _<_}
 use mathlib.Core.Path.{_≡_, sym, ap, _∙_, subst}
 use mathlib.Core.Bool.{true, false}
@@ -8,7 +9,8 @@ use lib.ListN.{length, getD}
 use Rattle.texts.specs.Lists.{if_then_else_}
 use Rattle.texts.specs.Texts.{Text, eqT}
 use Rattle.model.specs.Answer.{answer, refused}
-use Rattle.model.specs.Model.{Invariant, id-of, Model}
+use Rattle.model.specs.Events.{InputWords}
+use Rattle.model.specs.Model.{Input, Invariant, id-of, Model}
 use Rattle.model.specs.File.{got, refuse, u32, counted, place, predicate, invariant, invariant-kinds}
 use Rattle.model.specs.File.{_>>=_ as _>>=ᵣ_}
 use Rattle.model.specs.Rewrite.{place-of}
@@ -19,9 +21,11 @@ use Rattle.model_index.specs.Index.{readW}
 use Rattle.model_index.specs.Indexed.{Indexed, Says}
 use Rattle.model_index.proofs.Whole.{whole}
 use Rattle.engine.specs.Words.{texts-in}
-use Rattle.engine.proofs.Lists.{Case, is-true, is-false, case, eqT-eq, eqT-same}
+use Rattle.engine.proofs.Lists.{Each, Case, is-true, is-false, case, eqT-eq, eqT-same}
 use Rattle.engine.proofs.Validated.{accepted-decoded}
 use Rattle.engine_places.proofs.Accepted.{accepted-lawful}
+use Rattle.search_inputs.specs.Inputs.{input-words}
+use Rattle.search_inputs.proofs.Means.{fine-here}
 
 -- the text is one of the list
 pub record In (t : Text) (ts : List Text) : Type 0 where
@@ -88,6 +92,18 @@ module _ (ts : List Text) (s : List ℕ) where
           subst (λ (y : Invariant). In (id-of y) ts) (given _ _ _ (w .rest) .0) (in-place _ (i .first))
       by (suc (suc (suc (suc i)))) h = absurd (found.refused s (k .next) h)
 
+-- ---- the alphabet
+
+-- an input's texts stand at the places that its words name
+abbrev pub Stands : (texts : List Text) → Input → Type 0
+Stands ts i = InputWords ts (getD (input-words ts i) 0 0) (getD (input-words ts i) 1 0) (getD (input-words ts i) 2 0) i
+
+all-of : {A : Type 0} (P : A → Type 0) (d : A) (l : List A) → ((k : ℕ) → k < length l → P (getD l k d)) → Each P l
+all-of P d [] h = tt
+all-of P d (x ∷ l) h = (h 0 (omega arith), all-of P d l (λ k o. h (suc k) (omega arith)))
+
+-- ---- of an accepted file
+
 module _ (f : List ℕ) (m : Model) (acc : accepted f ≡ answer m) where
   indexed : Indexed f (readW f .index) m
   indexed = subst (Says f (readW f)) (accepted-decoded f m acc) (whole f) .1
@@ -102,3 +118,8 @@ module _ (f : List ℕ) (m : Model) (acc : accepted f ≡ answer m) where
       let few = accepted-lawful f m acc .few-invariants in
       let x = indexed .invariants .stand d k (omega arith) h in
       subst (In (id-of (getD (m .scenario .invariants) k d))) texts-are (id-in (indexed .ts) f _ _ (x .0) (x .1))
+
+  pub alphabet-stands : Each (Stands (texts-in f)) (m .scenario .alphabet)
+  alphabet-stands = all-of (Stands (texts-in f)) Input.restart (m .scenario .alphabet)
+      (λ k h. subst (λ (ts : List Text). Stands ts (getD (m .scenario .alphabet) k Input.restart)) texts-are
+      (fine-here f (readW f .index) m acc indexed Input.restart k h))

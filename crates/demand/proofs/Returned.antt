@@ -9,7 +9,8 @@ use Rattle.texts.specs.Lists.{each, flat}
 use Rattle.texts.specs.Texts.{Text}
 use Rattle.areas.proofs.Laws as areas
 use Rattle.model.specs.Answer.{Answer, answer, refused}
-use Rattle.model.specs.Model.{Invariant, id-of}
+use Rattle.model.specs.Model.{Invariant, id-of, Model}
+use Rattle.model.specs.Validate.{accepted}
 use Rattle.engine.specs.Memory.{Lent, entries}
 use Rattle.engine.specs.Words.{texts-in, entry-words}
 use Rattle.engine.proofs.Lists.{Each}
@@ -21,9 +22,10 @@ use Rattle.checker_result.specs.declared.CheckResult.{CheckResult}
 use Rattle.checker_result.specs.Result.{no-check}
 use Rattle.checker_entry.specs.Answers.{violation-words, Shows, Says, Checks}
 use Rattle.cone_judge.specs.Told.{Told, told, violation-told}
+use Rattle.independence.specs.Alike.{Alike}
 use Rattle.independence.specs.Demand.{reading-for}
 use Rattle.independence.proofs.Demand.{demand3}
-use Rattle.demand.specs.Returned.{number-at, invariant-at, SameViolation, Complete, CheckReturned}
+use Rattle.demand.specs.Returned.{number-at, invariant-at, SameViolation, SameReturned, Complete}
 use Rattle.demand.proofs.Places.{In, at-place, invariant-in}
 use Rattle.demand.proofs.Numbers as numbers
 
@@ -129,7 +131,9 @@ module _ (f f′ : List ℕ) (r r′ : CheckResult) (c c′ : Check) (x : Shows 
 
 -- ---- the theorem
 
-pub check-returned : CheckReturned
+pub check-returned : (f f′ : List ℕ) (m m′ : Model) → accepted f ≡ answer m → accepted f′ ≡ answer m′ → Alike m m′
+    → (r r′ : CheckResult) (before after before′ after′ : Lent) → Checks f r before after → Checks f′ r′ before′ after′
+    → Complete r → Complete r′ → SameReturned m m′ f f′ before before′ r r′
 check-returned f f′ m m′ p p′ alike r r′ before after before′ after′ ch ch′ done done′ =
     let a = answered f r before after ch done in
     let b = answered f′ r′ before′ after′ ch′ done′ in

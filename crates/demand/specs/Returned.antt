@@ -1,14 +1,13 @@
--- Demand 3 of what `check` and `verify` return. An answer names texts by their places in its own file, so two answers are compared by the
--- texts at those places.
+-- Demand 3 of what `check` and `verify` return. An answer names texts by their places in its own file, so two answers are
+-- compared by the texts at those places.
 use Prim.Native.Nat.{ℕ, _+_, _*_, _<_}
 use mathlib.Core.Path.{_≡_}
 use mathlib.Core.Bool.{false}
 use mathlib.Core.List.{List, []}
-use lib.ListN.{length, getD}
+use lib.ListN.{getD}
 use Rattle.texts.specs.Texts.{Text}
-use Rattle.areas.specs.Areas.{area}
 use Rattle.model.specs.Answer.{answer}
-use Rattle.model.specs.Model.{Event, Model}
+use Rattle.model.specs.Model.{Model}
 use Rattle.model.specs.Validate.{accepted}
 use Rattle.reasons.specs.Lists.{listed}
 use Rattle.engine.specs.Memory.{Lent, entries}
@@ -17,7 +16,6 @@ use Rattle.checker.specs.Check.{Check, check}
 use Rattle.checker_result.specs.declared.CheckResult.{CheckResult}
 use Rattle.checker_result.specs.declared.Status.the-variants as status
 use Rattle.checker_entry.specs.Answers.{Checks}
-use Rattle.search_inputs.specs.Inputs.{event-words}
 use Rattle.search_answer.specs.declared.Found.the-variants as found
 use Rattle.search_answer.specs.declared.Verification.{Verification}
 use Rattle.search_entry.specs.Answers.{Verifies}
@@ -63,27 +61,30 @@ pub record Complete (r : CheckResult) : Type 0 where
   pub stopped : r .simulation .why ≡ 0
   pub waiting : r .simulation .waiting ≡ false
 
--- Two whole files, each with any lent areas: whatever `check` returns, as its contract has it.
-abbrev pub CheckReturned : Type 0
-CheckReturned =
-    (f f′ : List ℕ) (m m′ : Model) → accepted f ≡ answer m → accepted f′ ≡ answer m′ → Alike m m′
-    → (r r′ : CheckResult) (before after before′ after′ : Lent) → Checks f r before after → Checks f′ r′ before′ after′
-    → Complete r → Complete r′ → SameReturned m m′ f f′ before before′ r r′
-
 -- ---- what `verify` returns
 
--- the answer's witness has these events, each by its four words (docs/FORMAT.md); none if there is no witness
-pub record Witness (f : List ℕ) (r : Verification) (vs : List Event) : Type 0 where
-  pub count : r .events ≡ length vs
-  pub words : r .words ≡ area (event-words (texts-in f)) 20 vs
+-- the j-th of the four words of the k-th event of an answer's witness (docs/FORMAT.md)
+abbrev pub event-word : Verification → (k j : ℕ) → ℕ
+event-word r k j = getD (r .words) (k * 4 + j) 0
+
+-- the text that it names
+abbrev pub event-text : (file : List ℕ) → Verification → (k j : ℕ) → Text
+event-text f r k j = getD (texts-in f) (event-word r k j) []
+
+-- The two witnesses' k-th events are at one second (word 0) and of one kind (word 1). If they set (kind 0), they set one
+-- entity (word 2) to one value (word 3).
+pub record SameEvent (f f′ : List ℕ) (r r′ : Verification) (k : ℕ) : Type 0 where
+  pub second : event-word r k 0 ≡ event-word r′ k 0
+  pub kind : event-word r k 1 ≡ event-word r′ k 1
+  pub entity : event-word r k 1 ≡ 0 → event-text f r k 2 ≡ event-text f′ r′ k 2
+  pub value : event-word r k 1 ≡ 0 → event-text f r k 3 ≡ event-text f′ r′ k 3
 
 pub record SameFound (f f′ : List ℕ) (r r′ : Verification) : Type 0 where
   pub status : r .status ≡ r′ .status
   pub cases : r .cases ≡ r′ .cases
-  -- the same events, each answer with the places of its own file
-  pub events : List Event
-  pub witness : Witness f r events
-  pub witness′ : Witness f′ r′ events
+  -- the witnesses' events; none without a witness
+  pub count : r .events ≡ r′ .events
+  pub events : (k : ℕ) → k < r .events → SameEvent f f′ r r′ k
 
 -- the answer isn't refused, lists no reason, and its witness's check, if there is one, has no incomplete reason
 pub record Clear (r : Verification) : Type 0 where
@@ -91,10 +92,19 @@ pub record Clear (r : Verification) : Type 0 where
   pub reasons : r .reasons ≡ 0
   pub complete : r .check .incomplete ≡ 0
 
--- Two whole files with the same search settings, each with any lent areas and output: whatever `verify` returns.
-abbrev pub VerifyReturned : Type 0
-VerifyReturned =
-    (f f′ : List ℕ) (m m′ : Model) → accepted f ≡ answer m → accepted f′ ≡ answer m′ → Alike m m′ → SameSearch m m′
-    → (r r′ : Verification) (before after before′ after′ : Lent) (o o₁ o′ o₁′ : List ℕ)
-    → Verifies f r before after o o₁ → Verifies f′ r′ before′ after′ o′ o₁′
-    → Clear r → Clear r′ → SameFound f f′ r r′
+-- ---- the claim: two whole files, each with any lent areas and output
+
+pub record Returned (f f′ : List ℕ) (m m′ : Model) : Type 0 where
+  -- whatever `check` returns, as its contract has it
+  pub checks : (r r′ : CheckResult) (before after before′ after′ : Lent)
+      → Checks f r before after → Checks f′ r′ before′ after′
+      → Complete r → Complete r′ → SameReturned m m′ f f′ before before′ r r′
+  -- whatever `verify` returns, if the search settings are the same
+  pub searches : SameSearch m m′ → (r r′ : Verification) (before after before′ after′ : Lent) (o o₁ o′ o₁′ : List ℕ)
+      → Verifies f r before after o o₁ → Verifies f′ r′ before′ after′ o′ o₁′
+      → Clear r → Clear r′ → SameFound f f′ r r′
+
+-- to be proved
+abbrev pub Demand3Returned : Type 0
+Demand3Returned =
+    (f f′ : List ℕ) (m m′ : Model) → accepted f ≡ answer m → accepted f′ ≡ answer m′ → Alike m m′ → Returned f f′ m m′
