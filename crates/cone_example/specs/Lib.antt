@@ -1,2 +1,6 @@
--- two model files, byte by byte
-pub mod Files
+-- parts of a model file
+pub mod Parts
+-- two files in which an invariant of each kind fails
+pub mod EachKind
+-- two files with an unknown reason, a restart, a wait and toggles
+pub mod Stale

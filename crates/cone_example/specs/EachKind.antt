@@ -1,46 +1,11 @@
 -- Two model files about a door that a lamp unlocks. Inside the cone they agree: the door, the lamp, the automation
 -- `lampdoor`, the event `lamp on` at second 5, one invariant of each kind. Outside it nothing agrees: the first has a fan
 -- that the lamp switches, the second a radio that turns itself down. Their texts differ, and so do the places of the texts
--- they share.
+-- they share. They are those of examples/cone/kinds.
 use Prim.Native.Nat.{ℕ}
-use mathlib.Core.List.{List, [], _∷_, _++_}
-use lib.ListN.{length}
-use Rattle.texts.specs.Texts.{Text, text}
-
--- ---- parts of a file: numbers below 256, a text, an absent place
-
-abbrev two : ℕ → List ℕ
-two n = n ∷ 0 ∷ []
-
-abbrev four : ℕ → List ℕ
-four n = n ∷ 0 ∷ 0 ∷ 0 ∷ []
-
-abbrev sized : Text → List ℕ
-sized t = length t ∷ t
-
-abbrev absent : List ℕ
-absent = 255 ∷ 255 ∷ []
-
--- an entity with two values that never goes stale; tier 1 is comfort
-unfoldable pub entity : (name first second initial : ℕ) → List ℕ
-entity x v w i = two x ++ two 2 ++ two v ++ two w ++ two i ++ 1 ∷ absent ++ absent
-
--- at a second an entity gets a value
-unfoldable pub event : (at name value : ℕ) → List ℕ
-event t x v = four t ++ 0 ∷ two x ++ two v
-
--- one automation: a trigger on an entity's change to a value, no condition, actions, its source, no note
-unfoldable pub automation : (id mode entity to : ℕ) → (count : ℕ) → (actions : List ℕ) → (line : ℕ) → List ℕ
-automation i m x v n as′ line =
-    two i ++ m ∷ four 1 ++ two 1 ++ two x ++ absent ++ two v ++ four line ++ four 1 ++ absent ++ two 0
-    ++ two n ++ as′ ++ four line ++ four 1 ++ two 0
-
--- an action that sets an entity, and one that waits
-unfoldable pub sets : (line column name value : ℕ) → List ℕ
-sets l c x v = four l ++ four c ++ 0 ∷ two x ++ two v
-
-unfoldable pub delays : (line column seconds : ℕ) → List ℕ
-delays l c n = four l ++ four c ++ 2 ∷ four n
+use mathlib.Core.List.{List, _∷_, _++_}
+use Rattle.texts.specs.Texts.{text}
+use Rattle.cone_example.specs.Parts.{two, four, sized, never-stale, entity, event, automation, sets, delays, settings, all-parts}
 
 -- Invariants of the four kinds. Never `nodoor`: the door is unlocked. Guard `door`: it is unlocked only while the lamp is off.
 -- Transition `lamp`: from off to on is forbidden. Response `lampdoor`: when the lamp is on, it is off within 2 seconds.
@@ -51,10 +16,6 @@ invariants i d u l o f r =
     ++ 1 ∷ two d ++ two d ++ two u ++ two 1 ++ 0 ∷ two l ++ two f
     ++ 2 ∷ two l ++ two l ++ two f ++ two o
     ++ 3 ∷ two r ++ 0 ∷ two l ++ two o ++ 0 ∷ two l ++ two f ++ four 2
-
--- the alphabet is `lamp on`, the only gap is 1; horizon 10, so many steps, search depth 1, 100 cases
-unfoldable pub settings : (lamp on steps : ℕ) → List ℕ
-settings l o n = two 1 ++ 0 ∷ two l ++ two o ++ two 1 ++ four 1 ++ four 10 ++ four n ++ four 1 ++ four 100
 
 -- ---- the first file: places cool 0, door 1, fan 2, home 3, lamp 4, lampdoor 5, locked 6, nodoor 7, off 8, on 9,
 -- unavailable 10, unknown 11, unlocked 12
@@ -68,9 +29,9 @@ first-texts =
 unfoldable pub first : List ℕ
 first =
     four 1 ++ first-texts ++ two 3
-    ++ two 3 ++ entity 1 6 12 6 ++ entity 2 8 9 8 ++ entity 4 8 9 8
+    ++ two 3 ++ entity 1 6 12 6 never-stale ++ entity 2 8 9 8 never-stale ++ entity 4 8 9 8 never-stale
     ++ two 2 ++ event 2 2 9 ++ event 5 4 9
-    ++ invariants 7 1 12 4 9 8 5 ++ settings 4 9 100
+    ++ invariants 7 1 12 4 9 8 5 ++ settings 4 9 10 100
     ++ two 2 ++ automation 0 0 4 9 1 (sets 2 5 2 8) 2 ++ automation 5 0 4 9 1 (sets 7 3 1 12) 6
 
 -- ---- the second file: places apple 0, door 1, lamp 2, lampdoor 3, locked 4, loud 5, nodoor 6, off 7, on 8, other 9,
@@ -86,12 +47,12 @@ second-texts =
 unfoldable pub second : List ℕ
 second =
     four 1 ++ second-texts ++ two 9
-    ++ two 3 ++ entity 1 4 15 4 ++ entity 2 7 8 7 ++ entity 12 5 11 11
+    ++ two 3 ++ entity 1 4 15 4 never-stale ++ entity 2 7 8 7 never-stale ++ entity 12 5 11 11 never-stale
     ++ two 3 ++ event 3 12 5 ++ event 5 2 8 ++ event 7 12 11
-    ++ invariants 6 1 15 2 8 7 3 ++ settings 2 8 200
+    ++ invariants 6 1 15 2 8 7 3 ++ settings 2 8 10 200
     ++ two 2 ++ automation 3 0 2 8 1 (sets 7 3 1 15) 6 ++ automation 10 1 12 5 2 (delays 9 1 1 ++ sets 10 1 12 11) 8
 
 -- opens the file, for proofs by computation
-unfoldable pub all-files : Unit {0}
-unfolding entity event automation sets delays invariants settings first-texts first second-texts second
-all-files = tt
+unfoldable pub all-each-kind : Unit {0}
+unfolding all-parts invariants first-texts first second-texts second
+all-each-kind = tt

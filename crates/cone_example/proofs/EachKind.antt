@@ -1,0 +1,101 @@
+-- Demand 3 is about something: two files that differ in their texts, entities, automations and events outside the cone meet
+-- all premises of its part on checks and of its part on searches. In both checks an invariant of each kind fails, at the same
+-- second from the same source; both searches find the same witness.
+use Prim.Native.Nat.{ℕ}
+use mathlib.Core.List.{List, [], _∷_}
+use mathlib.Core.Option.{Option, none, some}
+use mathlib.Core.Bool.{true}
+use mathlib.Core.Path.{_≡_, refl}
+use Rattle.texts.specs.Texts.{Text, text}
+use Rattle.model.specs.Model.{Source, Input}
+use Rattle.model.specs.Answer.{answer}
+use Rattle.model.specs.Validate.{accepted, all-checks}
+use Rattle.checker.specs.Judge.{Failure, prohibited-state, guard-violated, forbidden-transition, deadline-missed}
+use Rattle.checker.specs.Check.{Violation, Status, check, all-check}
+use Rattle.checker.specs.Verify.{counterexample, verify, all-verify}
+use Rattle.cone.specs.Cone.{all-cone}
+use Rattle.cone_judge.specs.Told.{About, fails, late}
+use Rattle.independence.specs.Alike.{all-alike}
+use Rattle.independence.specs.Demand.{all-demand}
+use Rattle.cone_example.specs.EachKind.{first, second, all-each-kind}
+use Rattle.cone_example.proofs.Premises.{plenty, answered, counts, Verdict, Outcome, whole-verdict, whole-outcome, abouts, shared, settings, inputs-inside, Met, meet}
+
+abbrev at-7-3 : Option Source
+at-7-3 = some (record { line = 7; column = 3 })
+
+abbrev violation : (invariant : Text) (at index : ℕ) → Option Source → Failure → Violation
+violation id t i s y = record { invariant = id; at = t; index = i; source = s; failure = y }
+
+-- what the check of each file tells, with the indices of the records that fail the invariants
+abbrev told : (door lamp end : ℕ) → Verdict
+told i j k = (
+  Status.violation,
+  (
+    violation (text "nodoor") 5 i at-7-3 prohibited-state
+        ∷ violation (text "door") 5 i at-7-3 guard-violated
+        ∷ violation (text "lamp") 5 j none forbidden-transition
+        ∷ violation (text "lampdoor") 10 k none (deadline-missed 7)
+        ∷ [],
+    [],
+  ),
+)
+
+-- of each invariant, the same in both
+abbrev each-told : List About
+each-told =
+    fails prohibited-state 5 at-7-3 [] ∷ fails guard-violated 5 at-7-3 [] ∷ fails forbidden-transition 5 none [] ∷ late 7 ∷ []
+
+abbrev found : Outcome
+found = (counterexample, (2, some (record { at = 1; input = Input.set (text "lamp") (text "on") } ∷ [])))
+
+first-sizes : answered counts (accepted first) ≡ answer (2 ∷ 1 ∷ 2 ∷ 1 ∷ [])
+unfolding all-checks all-cone all-alike all-each-kind answered counts
+first-sizes = refl
+
+first-checked : answered whole-verdict (check plenty first) ≡ answer ([], told 8 2 11)
+unfolding all-check all-each-kind answered plenty
+first-checked = refl
+
+first-told : abouts first ≡ answer each-told
+unfolding all-check all-demand all-each-kind answered plenty abouts
+first-told = refl
+
+first-verified : answered whole-outcome (verify plenty 1000 first) ≡ answer ([], ([], found))
+unfolding all-verify all-demand all-each-kind answered plenty
+first-verified = refl
+
+second-sizes : answered counts (accepted second) ≡ answer (2 ∷ 1 ∷ 3 ∷ 1 ∷ [])
+unfolding all-checks all-cone all-alike all-each-kind answered counts
+second-sizes = refl
+
+second-checked : answered whole-verdict (check plenty second) ≡ answer ([], told 10 7 13)
+unfolding all-check all-each-kind answered plenty
+second-checked = refl
+
+second-told : abouts second ≡ answer each-told
+unfolding all-check all-demand all-each-kind answered plenty abouts
+second-told = refl
+
+second-verified : answered whole-outcome (verify plenty 1000 second) ≡ answer ([], ([], found))
+unfolding all-verify all-demand all-each-kind answered plenty
+second-verified = refl
+
+-- ---- both
+
+same-shared : answered shared (accepted first) ≡ answered shared (accepted second)
+unfolding all-checks all-cone all-alike all-each-kind answered
+same-shared = refl
+
+same-settings : answered settings (accepted first) ≡ answered settings (accepted second)
+unfolding all-checks all-each-kind answered
+same-settings = refl
+
+inside : answered inputs-inside (accepted first) ≡ answer true
+unfolding all-checks all-cone all-alike all-each-kind answered
+inside = refl
+
+pub met : Met first second (2 ∷ 1 ∷ 2 ∷ 1 ∷ []) (2 ∷ 1 ∷ 3 ∷ 1 ∷ []) (told 8 2 11) (told 10 7 13) each-told found
+met = meet
+    (record { accepts = first-sizes; checks = first-checked; tells = first-told; verifies = first-verified })
+    (record { accepts = second-sizes; checks = second-checked; tells = second-told; verifies = second-verified })
+    (record { cones = same-shared; searches = same-settings; inside = inside })
