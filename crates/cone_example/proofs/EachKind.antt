@@ -1,6 +1,6 @@
--- Demand 3 is about something: two files that differ in their texts, entities, automations and events outside the cone meet
--- all premises of its part on checks and of its part on searches. In both checks an invariant of each kind fails, at the same
--- second from the same source; both searches find the same witness.
+-- Demand 3 is about something: two files that differ in their texts, entities, automations and events outside the cone
+-- meet all premises of its part on checks and of its part on searches. In both checks an invariant of each kind fails, at
+-- the same second from the same source; both searches find the same witness.
 use Prim.Native.Nat.{ℕ}
 use mathlib.Core.List.{List, [], _∷_}
 use mathlib.Core.Option.{Option, none, some}
@@ -18,7 +18,21 @@ use Rattle.cone_judge.specs.Told.{About, fails, late}
 use Rattle.independence.specs.Alike.{all-alike}
 use Rattle.independence.specs.Demand.{all-demand}
 use Rattle.cone_example.specs.EachKind.{first, second, all-each-kind}
-use Rattle.cone_example.proofs.Premises.{plenty, answered, counts, Verdict, Outcome, whole-verdict, whole-outcome, abouts, shared, settings, inputs-inside, Met, meet}
+use Rattle.cone_example.proofs.Premises.{
+  plenty,
+  answered,
+  counts,
+  Verdict,
+  Outcome,
+  whole-verdict,
+  whole-outcome,
+  abouts,
+  shared,
+  settings,
+  inputs-inside,
+  Met,
+  meet,
+}
 
 abbrev at-7-3 : Option Source
 at-7-3 = some (record { line = 7; column = 3 })
@@ -43,7 +57,11 @@ told i j k = (
 -- of each invariant, the same in both
 abbrev each-told : List About
 each-told =
-    fails prohibited-state 5 at-7-3 [] ∷ fails guard-violated 5 at-7-3 [] ∷ fails forbidden-transition 5 none [] ∷ late 7 ∷ []
+    fails prohibited-state 5 at-7-3 []
+    ∷ fails guard-violated 5 at-7-3 []
+    ∷ fails forbidden-transition 5 none []
+    ∷ late 7
+    ∷ []
 
 abbrev found : Outcome
 found = (counterexample, (2, some (record { at = 1; input = Input.set (text "lamp") (text "on") } ∷ [])))

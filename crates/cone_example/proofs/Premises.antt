@@ -72,8 +72,11 @@ abbrev pub whole-outcome : Verification → List Text × (List Text × Outcome)
 whole-outcome v = (v .reasons, (witness-incomplete v, outcome v))
 
 -- of each invariant of the file, by its check
+abbrev pub about-by : (file : List ℕ) → Model → Answer (List About)
+about-by file m = answered (λ c. about-all m (c .simulation)) (check plenty file)
+
 unfoldable pub abouts : (file : List ℕ) → Answer (List About)
-abouts file = accepted file >>= λ m. answered (λ c. about-all m (c .simulation)) (check plenty file)
+abouts file = accepted file >>= about-by file
 
 -- what is computed of a file
 pub record Computed (file sizes : List ℕ) (told : Verdict) (each : List About) (end : Outcome) : Type 0 where
@@ -114,8 +117,7 @@ one {file} {sizes} {told} {each} {end} k =
       complete = ap (λ (x : List Text × Verdict). x .0) (c .1 .1);
       tells = ap (λ (x : List Text × Verdict). x .1) (c .1 .1);
       about = told-by (λ d. about-all (p .0) (d .simulation)) (check plenty file) (c .0) (c .1 .0)
-          (sym (ap (λ (x : Answer Model). x >>= λ m. answered (λ d. about-all m (d .simulation)) (check plenty file)) (p .1 .0))
-          ∙ k .tells);
+          (sym (ap (λ (x : Answer Model). x >>= about-by file) (p .1 .0)) ∙ k .tells);
       v = v .0;
       verifies = v .1 .0;
       no-reason = ap (λ (x : List Text × (List Text × Outcome)). x .0) (v .1 .1);

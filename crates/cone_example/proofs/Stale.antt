@@ -1,5 +1,5 @@
 -- A second pair that meets all premises of demand 3. An invariant holds and has an unknown reason, because a sensor's value
--- went stale; another fails at a toggle. There are a restart, which ends a wait, and inside and outside the cone other events.
+-- went stale; another fails at a toggle; a restart ends a wait.
 use Prim.Native.Nat.{ℕ}
 use mathlib.Core.List.{List, [], _∷_}
 use mathlib.Core.Option.{some}
@@ -17,7 +17,21 @@ use Rattle.cone_judge.specs.Told.{About, holds, fails}
 use Rattle.independence.specs.Alike.{all-alike}
 use Rattle.independence.specs.Demand.{all-demand}
 use Rattle.cone_example.specs.Stale.{first, second, all-stale}
-use Rattle.cone_example.proofs.Premises.{plenty, answered, counts, Verdict, Outcome, whole-verdict, whole-outcome, abouts, shared, settings, inputs-inside, Met, meet}
+use Rattle.cone_example.proofs.Premises.{
+  plenty,
+  answered,
+  counts,
+  Verdict,
+  Outcome,
+  whole-verdict,
+  whole-outcome,
+  abouts,
+  shared,
+  settings,
+  inputs-inside,
+  Met,
+  meet,
+}
 
 -- what the check of each file tells, with the index of the record that fails `bell`
 abbrev told : (bell : ℕ) → Verdict

@@ -5,10 +5,22 @@
 use Prim.Native.Nat.{ℕ}
 use mathlib.Core.List.{List, _∷_, _++_}
 use Rattle.texts.specs.Texts.{text}
-use Rattle.cone_example.specs.Parts.{two, four, sized, never-stale, entity, event, automation, sets, delays, settings, all-parts}
+use Rattle.cone_example.specs.Parts.{
+  two,
+  four,
+  sized,
+  never-stale,
+  entity,
+  event,
+  automation,
+  sets,
+  delays,
+  settings,
+  all-parts,
+}
 
--- Invariants of the four kinds. Never `nodoor`: the door is unlocked. Guard `door`: it is unlocked only while the lamp is off.
--- Transition `lamp`: from off to on is forbidden. Response `lampdoor`: when the lamp is on, it is off within 2 seconds.
+-- Invariants of the four kinds. Never `nodoor`: the door is unlocked. Guard `door`: it is unlocked only while the lamp is
+-- off. Transition `lamp`: from off to on is forbidden. Response `lampdoor`: when the lamp is on, it is off within 2 seconds.
 unfoldable pub invariants : (nodoor door unlocked lamp on off lampdoor : ℕ) → List ℕ
 invariants i d u l o f r =
     two 4

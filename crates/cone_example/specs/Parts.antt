@@ -1,4 +1,4 @@
--- Parts of a model file, byte by byte (docs/FORMAT.md): numbers below 256, a text, an absent place, and what is made of them.
+-- Parts of a model file (docs/FORMAT.md): numbers below 256, a text, an absent place, and what is made of them.
 use Prim.Native.Nat.{ℕ}
 use mathlib.Core.List.{List, [], _∷_, _++_}
 use lib.ListN.{length}

@@ -1,9 +1,9 @@
--- Two model files about a bell that the door rings. Inside the cone they agree: the bell, the door, a sensor whose value goes
--- stale at second 6, the automation `ring`, which toggles the bell, waits until the door is off and toggles it back, the
--- door's events at 1, 3 and 7 and the restart at 8, which ends the second wait. `quiet` says that the bell is never on while
--- the sensor is; `bell` forbids that it goes on. Outside the cone they differ: in the first the door switches a lamp on,
--- in the second the bell toggles it a second later, and there is a blind. Their texts differ, and so do the places of the
--- texts they share. They are those of examples/cone/stale.
+-- Two model files about a bell that the door rings. Inside the cone they agree: the bell, the door, a sensor whose value
+-- goes stale at second 6, the automation `ring`, which toggles the bell, waits until the door is off and toggles it back,
+-- the door's events at 1, 3 and 7 and the restart at 8, which ends the second wait. `quiet` says that the bell is never on
+-- while the sensor is; `bell` forbids that it goes on. Outside the cone they differ: in the first the door switches a lamp
+-- on, in the second the bell toggles it a second later, and there is a blind. Their texts differ, and so do the places of
+-- the texts they share. They are those of examples/cone/stale.
 use Prim.Native.Nat.{ℕ}
 use mathlib.Core.List.{List, _∷_, _++_}
 use Rattle.texts.specs.Texts.{text}
@@ -34,8 +34,8 @@ invariants q b s f o =
 unfoldable pub ring : (id bell door off on : ℕ) → List ℕ
 ring i b d f o = automation i 0 d o 3 (toggles 7 3 b ++ waits 8 3 d f 4 ++ toggles 9 3 b) 6
 
--- ---- the first file: places bell 0, door 1, glow 2, home 3, lamp 4, off 5, on 6, quiet 7, ring 8, sensor 9, unavailable 10,
--- unknown 11
+-- ---- the first file: places bell 0, door 1, glow 2, home 3, lamp 4, off 5, on 6, quiet 7, ring 8, sensor 9,
+-- unavailable 10, unknown 11
 
 unfoldable pub first-texts : List ℕ
 first-texts =

@@ -1,5 +1,5 @@
--- A text of the file stands at its place. The identifiers of an accepted model's invariants are texts of the file, and so are
--- the texts of its alphabet.
+-- A text of the file stands at its place. The identifiers of an accepted model's invariants are texts of the file, and so
+-- are the texts of its alphabet.
 use Prim.Native.Nat.{ℕ, zero, suc, _+_, _<_}
 use mathlib.Core.Path.{_≡_, sym, ap, _∙_, subst}
 use mathlib.Core.Bool.{true, false}

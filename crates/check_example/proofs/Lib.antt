@@ -1,0 +1,2 @@
+-- the scope's example of showcheck
+pub mod ShowCheck
