@@ -41,18 +41,18 @@ abbrev violation : (invariant : Text) (at index : ℕ) → Option Source → Fai
 violation id t i s y = record { invariant = id; at = t; index = i; source = s; failure = y }
 
 -- what the check of each file tells, with the indices of the records that fail the invariants
-abbrev told : (door lamp end : ℕ) → Verdict
-told i j k = (
-  Status.violation,
-  (
-    violation (text "nodoor") 5 i at-7-3 prohibited-state
-        ∷ violation (text "door") 5 i at-7-3 guard-violated
-        ∷ violation (text "lamp") 5 j none forbidden-transition
-        ∷ violation (text "lampdoor") 10 k none (deadline-missed 7)
-        ∷ [],
-    [],
-  ),
-)
+abbrev told : (steps records : ℕ) → (door lamp end : ℕ) → Verdict
+told n m i j k = record {
+  status = Status.violation;
+  steps = n;
+  records = m;
+  violations = violation (text "nodoor") 5 i at-7-3 prohibited-state
+      ∷ violation (text "door") 5 i at-7-3 guard-violated
+      ∷ violation (text "lamp") 5 j none forbidden-transition
+      ∷ violation (text "lampdoor") 10 k none (deadline-missed 7)
+      ∷ [];
+  unknown = [];
+}
 
 -- of each invariant, the same in both
 abbrev each-told : List About
@@ -64,13 +64,17 @@ each-told =
     ∷ []
 
 abbrev found : Outcome
-found = (counterexample, (2, some (record { at = 1; input = Input.set (text "lamp") (text "on") } ∷ [])))
+found = record {
+  status = counterexample;
+  cases = 2;
+  events = some (record { at = 1; input = Input.set (text "lamp") (text "on") } ∷ []);
+}
 
 first-sizes : answered counts (accepted first) ≡ answer (2 ∷ 1 ∷ 2 ∷ 1 ∷ [])
 unfolding all-checks all-cone all-alike all-each-kind answered counts
 first-sizes = refl
 
-first-checked : answered whole-verdict (check plenty first) ≡ answer ([], told 8 2 11)
+first-checked : answered whole-verdict (check plenty first) ≡ answer ([], told 10 12 8 2 11)
 unfolding all-check all-each-kind answered plenty
 first-checked = refl
 
@@ -86,7 +90,7 @@ second-sizes : answered counts (accepted second) ≡ answer (2 ∷ 1 ∷ 3 ∷ 1
 unfolding all-checks all-cone all-alike all-each-kind answered counts
 second-sizes = refl
 
-second-checked : answered whole-verdict (check plenty second) ≡ answer ([], told 10 7 13)
+second-checked : answered whole-verdict (check plenty second) ≡ answer ([], told 12 14 10 7 13)
 unfolding all-check all-each-kind answered plenty
 second-checked = refl
 
@@ -112,7 +116,7 @@ inside : answered inputs-inside (accepted first) ≡ answer true
 unfolding all-checks all-cone all-alike all-each-kind answered
 inside = refl
 
-pub met : Met first second (2 ∷ 1 ∷ 2 ∷ 1 ∷ []) (2 ∷ 1 ∷ 3 ∷ 1 ∷ []) (told 8 2 11) (told 10 7 13) each-told found
+pub met : Met first second (2 ∷ 1 ∷ 2 ∷ 1 ∷ []) (2 ∷ 1 ∷ 3 ∷ 1 ∷ []) (told 10 12 8 2 11) (told 12 14 10 7 13) each-told found
 met = meet
     (record { accepts = first-sizes; checks = first-checked; tells = first-told; verifies = first-verified })
     (record { accepts = second-sizes; checks = second-checked; tells = second-told; verifies = second-verified })

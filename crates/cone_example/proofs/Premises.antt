@@ -52,17 +52,29 @@ counts m =
     length (m .rules) ∷ length (cone-automations m) ∷ length (m .scenario .events) ∷ length (cone-events m) ∷ []
 
 -- what a check tells, and what a search finds
-abbrev pub Verdict : Type 0
-Verdict = Status × (List Violation × List Text)
+pub record Verdict : Type 0 where
+  pub status : Status
+  pub steps : ℕ
+  pub records : ℕ
+  pub violations : List Violation
+  pub unknown : List Text
 
 abbrev pub verdict : Check → Verdict
-verdict c = (c .status, (c .violations, c .unknown))
+verdict c = record {
+  status = c .status;
+  steps = c .simulation .steps;
+  records = length (c .simulation .trace);
+  violations = c .violations;
+  unknown = c .unknown;
+}
 
-abbrev pub Outcome : Type 0
-Outcome = Found × (ℕ × Option (List Event))
+pub record Outcome : Type 0 where
+  pub status : Found
+  pub cases : ℕ
+  pub events : Option (List Event)
 
 abbrev pub outcome : Verification → Outcome
-outcome v = (v .status, (v .cases, witness-events v))
+outcome v = record { status = v .status; cases = v .cases; events = witness-events v }
 
 -- with the reasons that must not be there
 abbrev pub whole-verdict : Check → List Text × Verdict

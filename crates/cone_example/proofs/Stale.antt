@@ -34,20 +34,20 @@ use Rattle.cone_example.proofs.Premises.{
 }
 
 -- what the check of each file tells, with the index of the record that fails `bell`
-abbrev told : (bell : ℕ) → Verdict
-told i = (
-  Status.unknown,
-  (
-    record {
-      invariant = text "bell";
-      at = 1;
-      index = i;
-      source = some (record { line = 7; column = 3 });
-      failure = forbidden-transition;
-    } ∷ [],
-    text "quiet: unknown state predicate" ∷ [],
-  ),
-)
+abbrev told : (steps records : ℕ) → (bell : ℕ) → Verdict
+told n m i = record {
+  status = Status.unknown;
+  steps = n;
+  records = m;
+  violations = record {
+    invariant = text "bell";
+    at = 1;
+    index = i;
+    source = some (record { line = 7; column = 3 });
+    failure = forbidden-transition;
+  } ∷ [];
+  unknown = text "quiet: unknown state predicate" ∷ [];
+}
 
 -- of each invariant, the same in both: `quiet` holds, with a reason
 abbrev each-told : List About
@@ -57,13 +57,17 @@ each-told =
     ∷ []
 
 abbrev found : Outcome
-found = (counterexample, (2, some (record { at = 1; input = Input.set (text "door") (text "on") } ∷ [])))
+found = record {
+  status = counterexample;
+  cases = 2;
+  events = some (record { at = 1; input = Input.set (text "door") (text "on") } ∷ []);
+}
 
 first-sizes : answered counts (accepted first) ≡ answer (2 ∷ 1 ∷ 5 ∷ 4 ∷ [])
 unfolding all-checks all-cone all-alike all-stale answered counts
 first-sizes = refl
 
-first-checked : answered whole-verdict (check plenty first) ≡ answer ([], told 7)
+first-checked : answered whole-verdict (check plenty first) ≡ answer ([], told 28 26 7)
 unfolding all-check all-stale answered plenty
 first-checked = refl
 
@@ -79,7 +83,7 @@ second-sizes : answered counts (accepted second) ≡ answer (2 ∷ 1 ∷ 6 ∷ 4
 unfolding all-checks all-cone all-alike all-stale answered counts
 second-sizes = refl
 
-second-checked : answered whole-verdict (check plenty second) ≡ answer ([], told 4)
+second-checked : answered whole-verdict (check plenty second) ≡ answer ([], told 29 27 4)
 unfolding all-check all-stale answered plenty
 second-checked = refl
 
@@ -105,7 +109,7 @@ inside : answered inputs-inside (accepted first) ≡ answer true
 unfolding all-checks all-cone all-alike all-stale answered
 inside = refl
 
-pub met : Met first second (2 ∷ 1 ∷ 5 ∷ 4 ∷ []) (2 ∷ 1 ∷ 6 ∷ 4 ∷ []) (told 7) (told 4) each-told found
+pub met : Met first second (2 ∷ 1 ∷ 5 ∷ 4 ∷ []) (2 ∷ 1 ∷ 6 ∷ 4 ∷ []) (told 28 26 7) (told 29 27 4) each-told found
 met = meet
     (record { accepts = first-sizes; checks = first-checked; tells = first-told; verifies = first-verified })
     (record { accepts = second-sizes; checks = second-checked; tells = second-told; verifies = second-verified })
