@@ -128,6 +128,8 @@ use Rattle.engine.specs.Page.{
   waits-in-line,
   next-in-line,
   Grown,
+  acting,
+  Stepped,
   Worked,
   goes-on,
   ends,
@@ -445,6 +447,25 @@ nothing-left : (now : ℕ) (rules : List Automation) (k : Key) (e : Engine) → 
 unfolding process resume time-out if-some is-run same-key
 nothing-left now rules k e p = (rw p, rw p)
 
+steps-as : (now : ℕ) (rules : List Automation) (k : Key) (r : Run) (e : Engine) → find (is-the k) (e .runs) ≡ some r
+    → Stepped now r e (process now rules (Work.resume k) e)
+unfolding process resume if-some step is-run same-key acting go-on
+steps-as now rules k r e p = record {
+  acts = λ h source effect rest q. rw (p, idle (r .queued) (absent (r .waiting)) h, q);
+  ends = λ h q. rw (p, idle (r .queued) (absent (r .waiting)) h, q);
+  rests = λ h. rw (p, busy (r .queued) (absent (r .waiting)) h);
+}
+  where
+    idle : (b c : Bool) → not b && c ≡ true → b || not c ≡ false
+    idle false true h = refl
+    idle false false h = absurd (false≢true h)
+    idle true c h = absurd (false≢true h)
+
+    busy : (b c : Bool) → not b && c ≡ false → b || not c ≡ true
+    busy false true h = absurd (false≢true (sym h))
+    busy false false h = refl
+    busy true c h = refl
+
 -- records and runs made are only added
 growing : (t : List Trace) (made : List Text) → Closed (λ e. Grown t (e .trace) × Grown made (e .made))
 unfolding with-cells add append with-runs add-run uncertain with-queue
@@ -602,6 +623,7 @@ module _ (file : List ℕ) (m : Model) (ok : accepted file ≡ answer m) (areas 
     offered = λ i now x from to s. offered now _ (accepted-max file m ok i) x from to s;
     unasked = λ now w z others. no-conditions now (m .rules) others w z here;
     unmade = λ now w z. no-run-made now (m .rules) w z here;
+    stepped = λ now k r p. steps-as now (m .rules) k r here p;
     step-alone = λ now k. unfold process in ((h-resume k (here .runs) (here .made) now here (refl, refl)) .0);
     timeout-alone = λ now k. unfold process in ((h-time-out k (here .runs) (here .made) now here (refl, refl)) .0);
     acts-at-once = λ i l p z.

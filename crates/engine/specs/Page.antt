@@ -11,7 +11,22 @@ use lib.Dec.{eqb}
 use lib.ListN.{length}
 use Rattle.texts.specs.Lists.{if_then_else_, _▸_, absent, present-and, any, keep, find, tally, each, through}
 use Rattle.texts.specs.Texts.{Text, eqT}
-use Rattle.model.specs.Model.{Mode, single, queued, parallel, Automation, Input, reload, Event, Model}
+use Rattle.model.specs.Model.{
+  Source,
+  Effect,
+  Actions,
+  done,
+  act,
+  Mode,
+  single,
+  queued,
+  parallel,
+  Automation,
+  Input,
+  reload,
+  Event,
+  Model,
+}
 use Rattle.engine.specs.Each.{Each}
 use Rattle.engine.specs.Cells.{Cell}
 use Rattle.engine.specs.Kleene.{Yes, No, Unknown}
@@ -20,7 +35,7 @@ use Rattle.engine.specs.Reasons.{unknown-trigger-condition}
 use Rattle.engine.specs.Unsupported.{unsupported}
 use Rattle.engine.specs.Records.{Key, Waiting, Run, Work, Item, Kind, Trace, Areas, Engine}
 use Rattle.engine.specs.Changes.{add, append, with-runs, add-run, uncertain, with-queue}
-use Rattle.engine.specs.Engine.{wake, offer, process, pop, stop, exhausted, take, next-of, loop, begun}
+use Rattle.engine.specs.Engine.{left, store, finish, wake, offer, perform, process, pop, stop, exhausted, take, next-of, loop, begun}
 use Rattle.engine.specs.Simulate.{ended}
 
 -- ---- the moments of a simulation
@@ -265,6 +280,14 @@ pub data Worked (k : Key) (before after : List Run) : Type 0 where
   goes-on : keep (is-another k) after ≡ keep (is-another k) before → Worked k before after
   ends : after ≡ next-in-line (k .rule) (keep (is-another k) before) → Worked k before after
 
+-- the step of a run: if it executes and doesn't wait, it carries out its next action and has those behind it left, or it ends
+-- if there is none; otherwise nothing happens
+pub record Stepped (now : ℕ) (r : Run) (e after : Engine) : Type 0 where
+  pub acts : acting r ≡ true → (source : Source) (effect : Effect) (rest : Actions) → r .actions ≡ act source effect rest
+      → after ≡ (e ▸ store (left rest r) ▸ perform now effect source (left rest r))
+  pub ends : acting r ≡ true → r .actions ≡ done → after ≡ finish now r e
+  pub rests : acting r ≡ false → after ≡ e
+
 -- ---- the page
 
 pub record Page (m : Model) (e : Engine) : Type 0 where
@@ -272,7 +295,7 @@ pub record Page (m : Model) (e : Engine) : Type 0 where
   pub standing : {a : Automation} → List·Memᴰ a (m .rules) → Standing a e
   -- runs stand in the order in which they were made
   pub order : InOrder (e .runs)
-  -- a run that executes does act: what is queued for it
+  -- what is queued for a run: its next step, its timeout, or nothing
   pub due : Each (Due (e .queue)) (e .runs)
   -- no key is used again, so that what was queued for a run that has ended moves no later run
   pub given : Each (λ r. Given (e .made) (r .key)) (e .runs)
@@ -290,6 +313,9 @@ pub record Page (m : Model) (e : Engine) : Type 0 where
   pub unasked : (now : ℕ) (w : Work) → NoChange w → (others : List Automation)
       → process now (m .rules) w e ≡ process now others w e
   pub unmade : (now : ℕ) (w : Work) → NoChange w → (process now (m .rules) w e) .made ≡ e .made
+  -- a run that executes does act, in the order of its actions
+  pub stepped : (now : ℕ) (k : Key) (r : Run) → find (is-the k) (e .runs) ≡ some r
+      → Stepped now r e (process now (m .rules) (Work.resume k) e)
   -- a run's step or timeout touches no other run, but the next in line as the run ends
   pub step-alone : (now : ℕ) (k : Key) → Worked k (e .runs) ((process now (m .rules) (Work.resume k) e) .runs)
   pub timeout-alone : (now : ℕ) (k : Key) → Worked k (e .runs) ((process now (m .rules) (Work.timeout k) e) .runs)
