@@ -13,14 +13,13 @@ use Rattle.areas.proofs.Laws as areas
 use Rattle.queue.proofs.Laws as queue
 use Rattle.records.specs.Records.{recordWords}
 use Rattle.runs.specs.Runs.{runWords}
-use Rattle.runs.specs.declared.Run.{Run}
 use Rattle.reasons.specs.Lists.{Holds, listed}
 use Rattle.reasons.proofs.Listing as listing
-use Rattle.runs.proofs.Laws as runs
 use Rattle.engine_state.specs.declared.Cells.{Cells}
 use Rattle.engine_state.specs.declared.State.{State}
 use Rattle.engine_state.specs.Machine.{entire, machine}
 use Rattle.engine_state.specs.Steps.{Held, kept, goes, still, Moves}
+use Rattle.engine_works.proofs.Laws.{none-of-runs}
 use Rattle.engine_queue.specs.Events.{begunM}
 use Rattle.engine_loop.specs.Loop.{Halt, Halts, Ends, Closes, loopM}
 use Rattle.engine_loop.specs.declared.Ended.{Ended}
@@ -76,13 +75,6 @@ told-is {v = v} {total = total} {e = e} p g z =
 
 pub zero-length : (n : ℕ) (y : List ℕ) → y ≡ replicate n 0 → length y ≡ n
 zero-length n y e = ap length e ∙ length-replicate n 0
-
-none-of-runs : (a b : List ℕ) (n : ℕ) (l : List Run) → length l ≡ n → a ≡ area runWords (length a) l → n * 28 ≤ length a → b ≡ cleared a 0 (n * 28) → b ≡ replicate (length a) 0
-none-of-runs a b n l e is h c =
-    let z : length a - 0 ≡ length a = omega arith in
-    c ∙ ap (λ y. cleared y 0 (n * 28)) is
-    ∙ ap (λ i. cleared (area runWords i l) 0 (n * 28)) (sym z)
-    ∙ areas.none-left runWords 28 runs.sized 0 (length a) n l e (omega arith)
 
 pub tenth : (n : ℕ) → n / 10 * 5 ≤ n
 tenth n = omega arith

@@ -1,16 +1,18 @@
 -- The other work, by cases.
-use Prim.Native.Nat.{ℕ, _/_, _≤_, _<_}
+use Prim.Native.Nat.{ℕ, _-_, _*_, _/_, _≤_, _<_}
 use mathlib.Core.Path.{_≡_, refl, sym, _∙_, ap, subst}
 use mathlib.Core.Bool.{true, false}
 use mathlib.Core.List.{List, []}
 use lib.ListN.{length, getD, replicate}
 use borrow.Author.Tests.{eq-eqb, ne-eqb, lt-ltb, le-ltb}
 use native.Mathlib.Omega.{arith}
+use Rattle.areas.specs.Areas.{area, cleared}
 use Rattle.areas.proofs.Laws as areas
 use Rattle.runs.specs.Runs.{runWords}
 use Rattle.runs.specs.declared.Run.{Run}
 use Rattle.runs.specs.declared.Wait.{Wait}
 use Rattle.runs.specs.declared.Phase.the-variants.{Going, Waiting}
+use Rattle.runs.proofs.Laws as runs
 use Rattle.engine_reads.specs.Reads.{name, entityOf}
 use Rattle.engine_state.specs.declared.State.{State}
 use Rattle.engine_state.specs.Machine.{Machine, entire, machine, with-active, storedC}
@@ -62,17 +64,39 @@ module _ (x : List ℕ) (e v i : ℕ) (m : Machine) (is : i ≡ entityOf x e) wh
     unfolding go-staleM stale-atM
     stale-goes g u = rw (← is, le-ltb 31 i h, eq-eqb (getD (m .versions) i 0) v g, ne-eqb (getD (m .values) i 0) (getD x 6 0) u)
 
-pub cleared : (st s : State) (r b : List ℕ) → b ≡ replicate (length r) 0 → s ≡ with-active 0 st → length b ≡ length r → {v n c : List ℕ} →
+-- an area from which all its runs were cleared is zeros
+pub none-of-runs : (a b : List ℕ) (n : ℕ) (l : List Run) → length l ≡ n → a ≡ area runWords (length a) l → n * 28 ≤ length a
+    → b ≡ cleared a 0 (n * 28) → b ≡ replicate (length a) 0
+none-of-runs a b n l e is h c =
+    let z : length a - 0 ≡ length a = omega arith in
+    c ∙ ap (λ y. cleared y 0 (n * 28)) is
+    ∙ ap (λ i. cleared (area runWords i l) 0 (n * 28)) (sym z)
+    ∙ areas.none-left runWords 28 runs.sized 0 (length a) n l e (omega arith)
+
+pub no-runs : (st s : State) (r b : List ℕ) → st .active * 28 ≤ length r → b ≡ cleared r 0 (st .active * 28)
+    → s ≡ with-active 0 st → length b ≡ length r → {v n c : List ℕ} →
     Steps (λ k. no-runsM (machine (entire st v n c) k)) (entire st v n c) (entire s v n c) kept kept (goes r b) still
-cleared st s r b e g same {v} {n} {c = l} = subst (λ z. Steps (λ c. no-runsM (machine (entire st v n l) c)) (entire st v n l) (entire z v n l) kept kept (goes r b) still) (sym g) (record {
-  queue = refl;
-  records = refl;
-  runs = (same, omega arith);
-  reasons = refl;
-  does = λ f q a _ u c held.
-      record {
-        content = states.k-runs [] c;
-        held = record { queue = held .queue; records = held .records; runs = record { room = ap (λ i. i / 28) same ∙ held .runs .room; many = refl; is = e ∙ ap (λ i. replicate i 0) (sym same) ∙ sym (areas.area-none runWords (length b)) }; reasons = held .reasons };
-        is = refl;
-      };
-})
+no-runs st s r b h e g same {v} {n} {c = l} =
+    subst (λ z. Steps (λ c. no-runsM (machine (entire st v n l) c)) (entire st v n l) (entire z v n l) kept kept (goes r b) still)
+    (sym g) (record {
+      queue = refl;
+      records = refl;
+      runs = (same, omega arith);
+      reasons = refl;
+      does = λ f q a _ u c held.
+          let zeros = none-of-runs r b (st .active) (c .runs) (sym (held .runs .many)) (held .runs .is) h e in
+          record {
+            content = states.k-runs [] c;
+            held = record {
+              queue = held .queue;
+              records = held .records;
+              runs = record {
+                room = ap (λ i. i / 28) same ∙ held .runs .room;
+                many = refl;
+                is = zeros ∙ ap (λ i. replicate i 0) (sym same) ∙ sym (areas.area-none runWords (length b));
+              };
+              reasons = held .reasons;
+            };
+            is = refl;
+          };
+    })

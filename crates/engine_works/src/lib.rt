@@ -120,11 +120,13 @@ pub fn go_stale(
     expire(x, q, a, values, st, e)
 }
 
+// All runs go; behind them the area is zeros already.
 pub fn drop_all(a: &mut [u32], r: &mut [u32], st: State) -> State
     requires { ⌜ Fits-ar st (now a) (now r) ⌝ }
     ensures { λ t. ⌜ Does (drop-allM) st t kept (goes (now (a .entry)) (now (a .exit))) (goes (now (r .entry)) (now (r .exit))) still ⌝ }
 {
-    areas::clear_all(r);
+    let n = st.active;
+    areas::clear(r, 0, n * 28);
     let s1 = engine_state::with_active(st, 0);
     engine_state::log_plain(a, s1, 4)
 }
