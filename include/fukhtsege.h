@@ -30,6 +30,10 @@
 /* The output has room enough with so many bytes more than the file. */
 #define FUKHTSEGE_OUTPUT_MORE 45
 
+/* unsupported: 0 count, 1 to 3 zeros; then the reasons, five numbers each */
+#define FUKHTSEGE_UNSUPPORTED_REASONS 4
+#define FUKHTSEGE_UNSUPPORTED_NUMBERS 1504
+
 /* simulate: 0 steps, 1 records, 2 horizon, 3 unknown, 4 why, 5 waiting (1 or 0), 6 and 7 zeros; then */
 #define FUKHTSEGE_SIMULATE_VALUES 8
 #define FUKHTSEGE_SIMULATE_REASONS 40
@@ -76,6 +80,8 @@ extern "C" {
 #endif
 
 uint32_t fukhtsege_validate(const uint8_t *file, size_t file_len);
+
+uint32_t fukhtsege_unsupported(const uint8_t *file, size_t file_len, uint64_t *answer, size_t answer_len);
 
 uint32_t fukhtsege_simulate(const uint8_t *file, size_t file_len, uint32_t *queue, size_t queue_len, uint32_t *records,
                             size_t records_len, uint32_t *runs, size_t runs_len, uint64_t *answer, size_t answer_len);

@@ -5,6 +5,7 @@ use mathlib.Core.List.{List, [], _∷_}
 use Rattle.areas.specs.Areas.{written}
 use Rattle.model_validate.specs.declared.Validity.{Validity}
 use Rattle.model_validate.specs.declared.Validity.the-variants as validity
+use Rattle.engine_entry.specs.declared.Notes.{Notes}
 use Rattle.engine_summary.specs.declared.Simulation.{Simulation}
 use Rattle.checker_result.specs.declared.Status.{Status}
 use Rattle.checker_result.specs.declared.Status.the-variants as status
@@ -25,6 +26,14 @@ flagOf false = 0
 abbrev pub validityNumber : Validity → ℕ
 validityNumber validity.Accepted = 0
 validityNumber (validity.Refused n) = n
+
+-- ---- unsupported
+
+unfoldable pub laidNotes : (head reasons a : List ℕ) → List ℕ
+laidNotes head reasons a = written (written a 0 head) 4 reasons
+
+unfoldable pub notesIn : Notes → List ℕ → List ℕ
+notesIn r a = laidNotes (r .count ∷ 0 ∷ 0 ∷ 0 ∷ []) (r .reasons) a
 
 -- ---- simulate
 

@@ -3,6 +3,7 @@ use checker_result::CheckResult;
 use checker_result::Judgement;
 use checker_result::Status;
 use cone_entry::ConeResult;
+use engine_entry::Notes;
 use engine_summary::Summary;
 use lint_answer::Report;
 use reduce_result::Minimized;
@@ -15,7 +16,7 @@ ghost use Rattle.areas.specs.Areas.{written};
 ghost use Rattle.engine_summary.specs.Summary.{simulation-of};
 ghost use Rattle.checker_result.specs.Result.{result-of};
 ghost use Rattle.search_answer.specs.Whole.{whole-of};
-ghost use Rattle.answer_numbers.specs.Numbers.{flagOf, statusNumber, foundNumber, refusalOf, laidSimulation, laidCheck, laidSearch, laidReduction, laidReport, laidCone, simulationIn, checkIn, searchIn, verificationIn, minimizedIn, reportIn, coneIn};
+ghost use Rattle.answer_numbers.specs.Numbers.{flagOf, statusNumber, foundNumber, refusalOf, laidNotes, laidSimulation, laidCheck, laidSearch, laidReduction, laidReport, laidCone, notesIn, simulationIn, checkIn, searchIn, verificationIn, minimizedIn, reportIn, coneIn};
 
 // ---- numbers
 
@@ -51,6 +52,24 @@ fn flag(b: bool) -> u64
     ensures { λ r. ⌜ r ≡ flagOf b ⌝ }
 {
     if b { 1 } else { 0 }
+}
+
+// ---- unsupported
+
+fn lay_notes(out: &mut [u64], head: &[u64; 4], reasons: &[u32; 1500])
+    requires { ⌜ 1504 ≤ length (now out) ⌝ }
+    ensures { λ _. ⌜ now (out .exit) ≡ laidNotes (now (head .entry)) (now (reasons .entry)) (now (out .entry)) ⌝ }
+{
+    put_numbers(out, 0, head);
+    put_words(out, 4, reasons);
+}
+
+pub fn put_notes(out: &mut [u64], r: Notes)
+    requires { ⌜ 1504 ≤ length (now out) ⌝ }
+    ensures { λ _. ⌜ now (out .exit) ≡ notesIn r (now (out .entry)) ⌝ }
+{
+    let head = [r.count as u64, 0, 0, 0];
+    lay_notes(out, &head, &r.reasons);
 }
 
 // ---- simulate

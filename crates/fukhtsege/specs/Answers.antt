@@ -5,7 +5,9 @@ use mathlib.Core.List.{List}
 use lib.ListN.{length}
 use Rattle.engine.specs.Memory.{Lent}
 use Rattle.engine_summary.specs.declared.Simulation.{Simulation}
-use Rattle.engine_entry.specs.Answers.{Simulates}
+use Rattle.engine.specs.Simulate.{unsupported-of}
+use Rattle.engine_entry.specs.declared.Notes.{Notes}
+use Rattle.engine_entry.specs.Answers.{NotesSay, Simulates}
 use Rattle.checker_result.specs.declared.CheckResult.{CheckResult}
 use Rattle.checker_entry.specs.Answers.{Checks}
 use Rattle.search_answer.specs.declared.Verification.{Verification}
@@ -17,7 +19,7 @@ use Rattle.lint_answer.specs.declared.Report.{Report}
 use Rattle.lint_answer.specs.Answers as lints
 use Rattle.cone_entry.specs.declared.ConeResult.{ConeResult}
 use Rattle.cone_entry.specs.Answers as cones
-use Rattle.answer_numbers.specs.Numbers.{refusalOf, simulationIn, checkIn, verificationIn, minimizedIn, reportIn, coneIn}
+use Rattle.answer_numbers.specs.Numbers.{refusalOf, notesIn, simulationIn, checkIn, verificationIn, minimizedIn, reportIn, coneIn}
 
 -- some result r with this promise: n is its refusal, and its numbers stand in the answer
 pub record Told {A : Type 0} (Promise : A → Type 0) (refusal : A → ℕ) (numbers : A → List ℕ → List ℕ) (n : ℕ) (a a′ : List ℕ) : Type 0 where
@@ -30,6 +32,10 @@ pub record Told {A : Type 0} (Promise : A → Type 0) (refusal : A → ℕ) (num
 pub record Entry {A : Type 0} (size : ℕ) (Kept : Type 0) (Promise : A → Type 0) (refusal : A → ℕ) (numbers : A → List ℕ → List ℕ) (n : ℕ) (a a′ : List ℕ) : Type 0 where
   pub short : length a < size → (n ≡ 47) × (Kept × (a′ ≡ a))
   pub told : size ≤ length a → Told Promise refusal numbers n a a′
+
+abbrev pub ListsC : (file : List ℕ) → ℕ → (a a′ : List ℕ) → Type 0
+ListsC f n a a′ =
+    Entry 1504 (Unit {0}) (λ (r : Notes). NotesSay f r (unsupported-of f)) (λ (r : Notes). r .refused) notesIn n a a′
 
 abbrev pub SimulatesC : (file : List ℕ) → ℕ → (before after : Lent) → (a a′ : List ℕ) → Type 0
 SimulatesC f n before after a a′ =

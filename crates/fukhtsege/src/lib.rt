@@ -6,7 +6,7 @@ ghost use Rattle.engine_entry.specs.Answers.{lent};
 ghost use Rattle.lint.specs.Memory as lint;
 ghost use Rattle.model_validate.specs.Answers.{validated};
 ghost use Rattle.answer_numbers.specs.Numbers.{validityNumber};
-ghost use Rattle.fukhtsege.specs.Answers.{SimulatesC, ChecksC, VerifiesC, MinimizesC, LintsC, ConesC};
+ghost use Rattle.fukhtsege.specs.Answers.{ListsC, SimulatesC, ChecksC, VerifiesC, MinimizesC, LintsC, ConesC};
 
 // The result if the answer is too short.
 pub const SHORT_ANSWER: u32 = 47;
@@ -22,6 +22,20 @@ pub extern "C" fn fukhtsege_validate(file: &[u8]) -> u32
         Validity::Accepted => 0,
         Validity::Refused(number) => number,
     }
+}
+
+// ---- unsupported
+
+#[no_mangle]
+pub extern "C" fn fukhtsege_unsupported(file: &[u8], answer: &mut [u64]) -> u32
+    ensures { λ n. ⌜ ListsC (now (file .entry)) n (now (answer .entry)) (now (answer .exit)) ⌝ }
+{
+    if answer.len() < 1504 {
+        return SHORT_ANSWER;
+    }
+    let r = engine_entry::unsupported(file);
+    answer_numbers::put_notes(answer, r);
+    r.refused
 }
 
 // ---- simulate
