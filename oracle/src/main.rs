@@ -13,6 +13,7 @@ mod pairs;
 mod random;
 mod sample;
 mod selftest;
+mod small_areas;
 
 /// The reference as it is, and what is built on it.
 #[path = "."]
@@ -49,6 +50,7 @@ const USAGE: &str = "usage:
   oracle example                           the model file of the scope's example
   oracle full-file [LENGTH]                a valid model file of LENGTH bytes (32768)
   oracle sample ENTRY DIR                  writes DIR/ENTRY.batch and DIR/ENTRY.expected
+  oracle sample-areas ENTRY DIR            writes DIR/ENTRY-areas.batch and DIR/ENTRY-areas.expected
   oracle compare [--keep DIR] PROGRAM ENTRY N [SEED] [--file] [--areas | --holds N,..]
   oracle compare-all [--keep DIR] --programs DIR MINUTES [SEED]
                                            compares all programs for so many minutes
@@ -97,14 +99,15 @@ fn main() {
         ["full-file"] => put(full_file(LONGEST_FILE)),
         ["full-file", length] => put(full_file(number(length) as usize)),
         ["sample", entry, folder] => {
-            std::fs::create_dir_all(folder).expect("making the folder");
             let models = sample::models(known(entry));
-            let write = |ending: &str, content: &[u8]| {
-                std::fs::write(format!("{folder}/{entry}.{ending}"), content).expect("writing");
-            };
-            write("batch", &sample::batch(&models));
-            write("expected", sample::expected(entry, &models).as_bytes());
+            write_sample(folder, entry, &sample::batch(&models), &sample::expected(entry, &models));
             put(format!("{entry}: {} models\n", models.len()));
+        }
+        ["sample-areas", entry, folder] => {
+            let cases = small_areas::cases(known(entry));
+            let name = format!("{entry}-areas");
+            write_sample(folder, &name, &small_areas::batch(&cases), &small_areas::expected(&cases));
+            put(format!("{name}: {} models\n", cases.len()));
         }
         ["compare", ref rest @ ..] => compare_command(rest),
         ["compare-all", ref rest @ ..] => compare_all_command(rest),
@@ -184,6 +187,13 @@ fn compare_all_command(words: &[&str]) {
     if !compare_all::compare_all(programs, minutes * 60.0, seed, keep) {
         std::process::exit(1);
     }
+}
+
+/// A batch and its expected lines.
+fn write_sample(folder: &str, name: &str, batch: &[u8], expected: &str) {
+    std::fs::create_dir_all(folder).expect("making the folder");
+    std::fs::write(format!("{folder}/{name}.batch"), batch).expect("writing");
+    std::fs::write(format!("{folder}/{name}.expected"), expected).expect("writing");
 }
 
 fn usage() -> ! {

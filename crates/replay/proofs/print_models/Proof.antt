@@ -4,10 +4,10 @@ use Rattle.replay.proofs.print_models.Statement.{statement}
 use Rattle.replay.proofs.print_models.Tie as tie
 
 abbrev Inv-loop : tie.InvT-loop
-Inv-loop fd entry k₀ k = Unit {0}
+Inv-loop fd entry sized k₀ k = Unit {0}
 
 abbrev μ-loop : tie.MeasureT-loop
-μ-loop fd entry k₀ k = 4294967295 - k
+μ-loop fd entry sized k₀ k = 4294967295 - k
 
 pub print-models-spec : {M : Type 1} → statement M
 print-models-spec =
