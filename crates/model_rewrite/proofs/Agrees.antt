@@ -11,13 +11,13 @@ use Rattle.texts.specs.Lists.{flat}
 use Rattle.texts.specs.Texts.{Text}
 use Rattle.model.specs.Answer.{answer}
 use Rattle.model.specs.Model.{Model, Entity, Event, Input, reload}
-use Rattle.model.specs.File.{got, Reader, times, counted, one-text, texts, place, entity, entities, event, events, head, ascending, decode}
+use Rattle.model.specs.File.{got, Reader, u8, times, counted, one-text, texts, place, entity, entities, event, events, head, ascending, decode}
 use Rattle.model.specs.Events.{InputWords, EventWords}
 use Rattle.model.specs.Rewrite.{bytes2, bytes4, place-of, input-bytes, event-bytes, events-bytes, rewritten}
 use Rattle.model.proofs.Places.{place-first}
 use Rattle.model_walk.specs.declared.Walked.the-variants as walked
 use Rattle.model_walk.specs.Walk.{capped, seen, Walk, placeW}
-use Rattle.model_walk.proofs.Found.{bound, given, required, counted-found}
+use Rattle.model_walk.proofs.Found.{bound, given, required, counted-found, u8-wide}
 use Rattle.model_walk.proofs.Sees.{Sees, quiet, sees-counted, sees-place}
 use Rattle.model_parts.specs.Parts.{partW, sectionW, textW, entityW, eventW}
 use Rattle.model_parts.specs.Stand.{Reads}
@@ -29,8 +29,8 @@ use Rattle.model_index.specs.Indexed.{Indexed}
 use Rattle.model_index.proofs.Whole.{and-true}
 use Rattle.model_rewrite.specs.declared.Span.{Span}
 use Rattle.model_rewrite.specs.Span.{behind, bodyW, spanW}
-use Rattle.model_rewrite.specs.Written.{event-start, two-places, event-of, event-at, first-events, section-bytes, file-with, Wrote}
-use Rattle.model_rewrite.proofs.Spelled.{Spelled, local-counted, local-event, local-head}
+use Rattle.model_rewrite.specs.Written.{event-start, two-places, event-of, event-at, first-events, section-bytes, file-with, EventFits, Room, Wrote}
+use Rattle.model_rewrite.proofs.Spelled.{Spelled, local-u8, local-times, local-place, local-entities, local-counted, local-event, local-head}
 use Rattle.model_rewrite.proofs.Opened.{Opened, opened, Headed, headed}
 
 -- ---- places of texts
@@ -42,6 +42,28 @@ place-is ts a k h =
     (λ j o. same-place ts a k j h (omega arith) ∙ ne-eqb k j (λ e. absurd (omega arith)))
 
 -- ---- events
+
+-- the numbers of events that stand as words fit their bytes
+pub event-fits : (ts : List Text) → length ts ≤ 65536 → (l : List ℕ) (k : ℕ) (v : Event) → EventWords ts l k v →
+    EventFits l k
+event-fits ts few l k v w = cases (v .input) (w .input)
+  where
+    plain : (n : ℕ) → n < 3 → getD l (k * 4 + 1) 0 ≡ suc n → EventFits l k
+    plain n h y = record {
+      kind = omega (arith, y);
+      entity = λ z. absurd (omega (arith, y, z));
+      value = λ z. absurd (omega (arith, y, z));
+    }
+
+    cases : (i : Input) → InputWords ts (getD l (k * 4 + 1) 0) (getD l (k * 4 + 2) 0) (getD l (k * 4 + 3) 0) i →
+        EventFits l k
+    cases (Input.set a b) y = record {
+      kind = omega (arith, y .0);
+      entity = λ z. omega (arith, y .1 .0 .0);
+      value = λ z. omega (arith, y .1 .1 .0);
+    }
+    cases Input.restart y = plain 0 (omega arith) y
+    cases reload y = plain 1 (omega arith) y
 
 module _ (ts : List Text) (asc : ascending ts ≡ true) where
   input-agrees : (s k e v : ℕ) (i : Input) → InputWords ts k e v i → event-of s k e v ≡ bytes4 s ++ input-bytes ts i
@@ -120,6 +142,23 @@ place-end : (ts : List Text) (s : List ℕ) (p : ℕ) {t : Text} {q : ℕ} → p
 unfolding seen capped
 place-end ts s p h = sees-place ts 0 s p ∙ ap (seen quiet 0) h
 
+-- ---- how many texts there are
+-- each value takes a byte or more
+grows : {A : Type 0} (r : Reader A) (s : List ℕ) → ((p : ℕ) (a : A) (q : ℕ) → r s p ≡ got a q → p + 1 ≤ q) → (n p : ℕ) (l : List A) (q : ℕ) → times n r s p ≡ got l q → p + n ≤ q
+unfolding times
+grows r s f zero p l q e = omega (arith, given s p [] e .1)
+grows r s f (suc n) p l q e =
+    let x = bound r _ e in
+    let y = bound (times n r) _ (x .rest) in
+    omega (arith, f p (x .value) (x .next) (x .first), grows r s f n (x .next) (y .value) (y .next) (y .first), given _ _ _ (y .rest) .1)
+
+text-grows : (s : List ℕ) (p : ℕ) (t : Text) (q : ℕ) → one-text s p ≡ got t q → p + 1 ≤ q
+unfolding one-text
+text-grows s p t q e =
+    let x = bound u8 _ e in
+    let y = bound (times (x .value) u8) _ (x .rest) in
+    omega (arith, u8-wide s p (x .first) .ends, local-times u8 local-u8 (x .value) s (x .next) (y .value) (y .next) (y .first) .ends, required _ _ _ _ (y .rest) .1 .1)
+
 module _ (f : List ℕ) (m : Model) (o : Opened f m) where
   abbrev ts : List Text
   ts = o .h .texts
@@ -161,6 +200,16 @@ module _ (f : List ℕ) (m : Model) (o : Opened f m) where
   pub end-inside : o .end ≤ length f
   end-inside = within events-part start-inside
 
+  few-texts : length ts ≤ 65536
+  few-texts =
+      let h = parted in
+      let c = counted-found one-text (texts-found f 4 (h .are-texts) .0) in
+      let n = times-length one-text f (c .count) (c .start) ts (h .at-title) (c .are-values) in
+      let g = grows one-text f (text-grows f) (c .count) (c .start) ts (h .at-title) (c .are-values) in
+      let t = local-place ts f (h .at-title) (o .h .title) (h .at-entities) (h .is-title) .ends in
+      let e = local-entities ts f (h .at-entities) (o .h .entities) (o .start) (h .are-entities) .ends in
+      omega (arith, n, g, t, e, start-inside, o .small)
+
   pub rewritten-is : (vs : List Event) → rewritten f vs ≡ take (o .start) f ++ events-bytes ts vs ++ drop (o .end) f
   unfolding rewritten
   rewritten-is vs = rw (o .is-head, rewritten) (rw (o .are-events, rewritten))
@@ -182,15 +231,25 @@ module _ (f : List ℕ) (m : Model) (i : Index) (dec : decode f ≡ answer m) (x
       let w = subst (λ (ts : List Text). (k : ℕ) → k < length vs → EventWords ts l k (getD vs k d)) t ws in
       rw (span-agrees f m o, section-agrees (o .h .texts) (head-ascends f m o) l d vs w) (sym (rewritten-is f m o vs))
 
+  few : length (x .ts) ≤ 65536
+  few = let o = opened f m dec in omega (arith, ap length (same-texts f m o (x .ts) (x .all-texts)), few-texts f m o)
+
   module _ {s : Span} {n : ℕ} (is-span : s ≡ spanW f) (many : n ≡ length vs) where
     -- what `rewrite` asks for holds where the new file has room
-    pub asked : (o : List ℕ) → n * 4 ≤ length l → length (rewritten f vs) ≤ length o →
-        (s .start ≤ s .end) × ((s .end ≤ length f) × ((n * 4 ≤ length l) × (length (file-with f s l n) ≤ length o)))
-    asked o h r =
+    pub asked : (o : List ℕ) → n * 4 ≤ length l → n < 65536 → length (rewritten f vs) ≤ length o → Room f s l n o
+    asked o h c r =
         let y = opened f m dec in
-        let w : length (file-with f s l n) ≤ length o = rw (is-span, many, file-agrees) r in
         let p : (s .start ≤ s .end) × (s .end ≤ length f) = rw (is-span, span-agrees f m y) (omega (arith, events-part f m y .ends), end-inside f m y) in
-        (p .0, (p .1, (h, w)))
+        record {
+          ordered = p .0;
+          inside = p .1;
+          events = record {
+            words = h;
+            count = c;
+            each = λ k b. event-fits (x .ts) few l k (getD vs k d) (ws k (omega (arith, many)));
+          };
+          room = rw (is-span, many, file-agrees) r;
+        }
 
     pub told : {r : ℕ} {o e : List ℕ} → Wrote (file-with f s l n) r o e → Wrote (rewritten f vs) r o e
     told {r} {o} {e} w = subst (λ (b : List ℕ). Wrote b r o e) (rw (is-span, many) file-agrees) w

@@ -56,13 +56,14 @@ wrote-length {b} {r} {o} w h = ap length (w .is-out) ∙ length-append b (drop (
 
 -- ---- single bytes
 
-pub two : (o : List ℕ) (n : ℕ) → 2 ≤ length o → set (set o 0 (n % 256)) 1 (n / 256 % 256) ≡ bytes2 n ++ drop 2 o
+pub two : (o : List ℕ) (n : ℕ) → 2 ≤ length o → set (set o 0 (n % 256)) 1 (n / 256) ≡ bytes2 n ++ drop 2 o
 unfolding bytes2
 two [] n h = absurd (omega arith)
 two (x ∷ []) n h = absurd (omega arith)
 two (x ∷ y ∷ o) n h = refl
 
-pub four : (o : List ℕ) (e v : ℕ) → 4 ≤ length o → set (set (set (set o 0 (e % 256)) 1 (e / 256 % 256)) 2 (v % 256)) 3 (v / 256 % 256) ≡ two-places e v ++ drop 4 o
+pub four : (o : List ℕ) (e v : ℕ) → 4 ≤ length o →
+    set (set (set (set o 0 (e % 256)) 1 (e / 256)) 2 (v % 256)) 3 (v / 256) ≡ two-places e v ++ drop 4 o
 unfolding bytes2 two-places
 four [] e v h = absurd (omega arith)
 four (_ ∷ []) e v h = absurd (omega arith)
@@ -70,7 +71,9 @@ four (_ ∷ _ ∷ []) e v h = absurd (omega arith)
 four (_ ∷ _ ∷ _ ∷ []) e v h = absurd (omega arith)
 four (a ∷ b ∷ c ∷ d ∷ o) e v h = refl
 
-pub five : (o : List ℕ) (s k : ℕ) → 5 ≤ length o → set (set (set (set (set o 0 (s % 256)) 1 (s / 256 % 256)) 2 (s / 65536 % 256)) 3 (s / 65536 / 256 % 256)) 4 (k % 256) ≡ event-start s k ++ drop 5 o
+pub five : (o : List ℕ) (s k : ℕ) → 5 ≤ length o →
+    set (set (set (set (set o 0 (s % 65536 % 256)) 1 (s % 65536 / 256)) 2 (s / 65536 % 256)) 3 (s / 65536 / 256)) 4 k
+    ≡ event-start s k ++ drop 5 o
 unfolding bytes2 bytes4 event-start
 five [] s k h = absurd (omega arith)
 five (_ ∷ []) s k h = absurd (omega arith)

@@ -12,50 +12,15 @@ use Rattle.texts.specs.Lists.{flat}
 use Rattle.texts.specs.Texts.{Text}
 use Rattle.model.specs.Answer.{Answer, answer}
 use Rattle.model.specs.Notes.{notes-of}
-use Rattle.model.specs.Model.{Model, Event, Input, reload}
-use Rattle.model.specs.File.{got, Reader, _>>=_, give, refuse, require, u8, u16, u32, times, counted, kinds, one-text, texts, place, limits, input, event, events, Head, head, ascending, model, decoded, decode, input-kinds}
+use Rattle.model.specs.Model.{Model, Event, Input, reload, with-events}
+use Rattle.model.specs.File.{got, Reader, _>>=_, give, refuse, require, u8, u16, u32, times, counted, kinds, texts, place, input, event, events, Head, head, ascending, model, decoded, decode, input-kinds}
 use Rattle.model.specs.Events.{Some, no-more, skip, keep}
 use Rattle.model.specs.Rewrite.{bytes2, bytes4, place-of, input-bytes, event-bytes, events-bytes, rewritten}
-use Rattle.model_walk.proofs.Found.{bound, given, refused, required, kind-found, counted-found, place-found, u8-wide, u16-wide, u32-wide}
+use Rattle.model_walk.proofs.Found.{bound, given, refused, kind-found, counted-found, place-found, u8-wide, u16-wide, u32-wide}
 use Rattle.model_parts.specs.Stand.{Reads}
-use Rattle.model_rewrite.proofs.Spelled.{
-  Spells,
-  Spelled,
-  Local,
-  spells-give,
-  spells-bind,
-  spells-last,
-  spells-require,
-  spells-u8,
-  local-u8,
-  local-u32,
-  local-times,
-  local-place,
-  local-entities,
-  local-counted,
-  local-input,
-  local-invariant,
-  local-limits,
-  local-automation,
-}
+use Rattle.model_rewrite.proofs.Spelled.{Spells, Spelled, Local, spells-give, spells-bind, spells-last, spells-require, spells-u8, local-u32, local-counted, local-input, local-invariant, local-limits, local-automation}
 use Rattle.model_rewrite.proofs.Opened.{Opened, opened, after, model-is}
-use Rattle.model_rewrite.proofs.Agrees.{place-is, times-length, texts-found, parted, head-ascends, first-part, start-inside, end-inside, rewritten-is, same-texts}
-
--- the model with other events
-abbrev pub with-events : List Event → Model → Model
-with-events vs m = record {
-  scenario = record {
-    version = m .scenario .version;
-    title = m .scenario .title;
-    entities = m .scenario .entities;
-    events = vs;
-    invariants = m .scenario .invariants;
-    alphabet = m .scenario .alphabet;
-    gaps = m .scenario .gaps;
-    limits = m .scenario .limits;
-  };
-  rules = m .rules;
-}
+use Rattle.model_rewrite.proofs.Agrees.{place-is, head-ascends, first-part, start-inside, end-inside, rewritten-is, same-texts}
 
 -- ---- what can be written
 
@@ -70,36 +35,35 @@ FitsInput ts (Input.set x v) = Among ts x × Among ts v
 FitsInput ts Input.restart = Unit {0}
 FitsInput ts reload = Unit {0}
 
-pub record Fits (ts : List Text) (v : Event) : Type 0 where
-  pub second : v .at < 4294967296
-  pub input : FitsInput ts (v .input)
+-- each event names texts of these
+abbrev pub AllFit : List Text → List Event → Type 0
+AllFit ts [] = Unit {0}
+AllFit ts (v ∷ vs) = FitsInput ts (v .input) × AllFit ts vs
 
--- ---- the bytes of events are read back
+-- ---- the bytes of events are read back, whatever the numbers
 
--- two bytes are the number's remainder
-spells-low : (n : ℕ) → Spells u16 (n % 256 + 256 * (n / 256 % 256)) (bytes2 n)
+pub spells-u16 : (n : ℕ) → Spells u16 n (bytes2 n)
 unfolding u16 bytes2
-spells-low n = spells-bind u8 _ (n % 256 ∷ []) (n / 256 % 256 ∷ []) (spells-u8 (n % 256)) (spells-last u8 (λ b. n % 256 + 256 * b) (n / 256 % 256 ∷ []) (spells-u8 (n / 256 % 256)))
+spells-u16 n =
+    let e : n % 256 + 256 * (n / 256) ≡ n = omega arith in
+    subst (λ (x : ℕ). Spells u16 x (n % 256 ∷ n / 256 ∷ [])) e
+    (spells-bind u8 _ (n % 256 ∷ []) (n / 256 ∷ []) (spells-u8 (n % 256))
+    (spells-last u8 (λ b. n % 256 + 256 * b) (n / 256 ∷ []) (spells-u8 (n / 256))))
 
-spells-u16 : (n : ℕ) → n < 65536 → Spells u16 n (bytes2 n)
-spells-u16 n h =
-    let e : n % 256 + 256 * (n / 256 % 256) ≡ n = omega arith in
-    subst (λ (x : ℕ). Spells u16 x (bytes2 n)) e (spells-low n)
-
-spells-u32 : (n : ℕ) → n < 4294967296 → Spells u32 n (bytes4 n)
+pub spells-u32 : (n : ℕ) → Spells u32 n (bytes4 n)
 unfolding u32 bytes4
-spells-u32 n h =
-    let d : n / 65536 ≡ n / 256 / 256 = omega arith in
-    let e : n % 256 + 256 * (n / 256 % 256) + 65536 * (n / 65536) ≡ n = omega arith in
-    subst (λ (x : ℕ). Spells u32 x (bytes2 n ++ bytes2 (n / 65536))) e
-    (spells-bind u16 _ (bytes2 n) (bytes2 (n / 65536)) (spells-low n) (spells-last u16 (λ b. n % 256 + 256 * (n / 256 % 256) + 65536 * b) (bytes2 (n / 65536)) (spells-u16 (n / 65536) (omega arith))))
+spells-u32 n =
+    let e : n % 65536 + 65536 * (n / 65536) ≡ n = omega arith in
+    subst (λ (x : ℕ). Spells u32 x (bytes2 (n % 65536) ++ bytes2 (n / 65536))) e
+    (spells-bind u16 _ (bytes2 (n % 65536)) (bytes2 (n / 65536)) (spells-u16 (n % 65536))
+    (spells-last u16 (λ b. n % 65536 + 65536 * b) (bytes2 (n / 65536)) (spells-u16 (n / 65536))))
 
-module _ (ts : List Text) (asc : ascending ts ≡ true) (few : length ts ≤ 65536) where
+module _ (ts : List Text) (asc : ascending ts ≡ true) where
   spells-place : (t : Text) → Among ts t → Spells (place ts) t (bytes2 (place-of t ts))
   unfolding place
   spells-place t a =
       let p : place-of t ts ≡ a .at = ap (λ (u : Text). place-of u ts) (a .is-text) ∙ place-is ts asc (a .at) (a .inside) in
-      let s = spells-bind u16 (λ p. require (ltb p (length ts)) (getD ts p [])) (bytes2 (a .at)) [] (spells-u16 (a .at) (omega (arith, a .inside))) (spells-require (ltb (a .at) (length ts)) (getD ts (a .at) []) (lt-ltb (a .at) (length ts) (a .inside))) in
+      let s = spells-bind u16 (λ p. require (ltb p (length ts)) (getD ts p [])) (bytes2 (a .at)) [] (spells-u16 (a .at)) (spells-require (ltb (a .at) (length ts)) (getD ts (a .at) []) (lt-ltb (a .at) (length ts) (a .inside))) in
       rw (p, a .is-text) (rw append-nil at s)
 
   spells-input : (i : Input) → FitsInput ts i → Spells (input ts) i (input-bytes ts i)
@@ -110,22 +74,23 @@ module _ (ts : List Text) (asc : ascending ts ≡ true) (few : length ts ≤ 655
   spells-input Input.restart h = spells-bind u8 _ (1 ∷ []) [] (spells-u8 1) (spells-give Input.restart)
   spells-input reload h = spells-bind u8 _ (2 ∷ []) [] (spells-u8 2) (spells-give reload)
 
-  spells-event : (v : Event) → Fits ts v → Spells (event ts) v (event-bytes ts v)
+  spells-event : (v : Event) → FitsInput ts (v .input) → Spells (event ts) v (event-bytes ts v)
   unfolding event event-bytes
   spells-event v h =
-      spells-bind u32 _ (bytes4 (v .at)) (input-bytes ts (v .input)) (spells-u32 (v .at) (h .second))
-      (spells-last (input ts) (λ i. record { at = v .at; input = i }) (input-bytes ts (v .input)) (spells-input (v .input) (h .input)))
+      spells-bind u32 _ (bytes4 (v .at)) (input-bytes ts (v .input)) (spells-u32 (v .at))
+      (spells-last (input ts) (λ i. record { at = v .at; input = i }) (input-bytes ts (v .input)) (spells-input (v .input) h))
 
-  spells-times : (d : Event) (vs : List Event) → ((k : ℕ) → k < length vs → Fits ts (getD vs k d)) → Spells (times (length vs) (event ts)) vs (flat (event-bytes ts) vs)
+  spells-times : (vs : List Event) → AllFit ts vs → Spells (times (length vs) (event ts)) vs (flat (event-bytes ts) vs)
   unfolding times flat
-  spells-times d [] h = spells-give []
-  spells-times d (v ∷ vs) h =
-      spells-bind (event ts) _ (event-bytes ts v) (flat (event-bytes ts) vs) (spells-event v (h 0 (omega arith)))
-      (spells-last (times (length vs) (event ts)) (λ l. v ∷ l) (flat (event-bytes ts) vs) (spells-times d vs (λ k o. h (suc k) (omega arith))))
+  spells-times [] h = spells-give []
+  spells-times (v ∷ vs) h =
+      spells-bind (event ts) _ (event-bytes ts v) (flat (event-bytes ts) vs) (spells-event v (h .0))
+      (spells-last (times (length vs) (event ts)) (λ l. v ∷ l) (flat (event-bytes ts) vs) (spells-times vs (h .1)))
 
-  spells-events : (d : Event) (vs : List Event) → ((k : ℕ) → k < length vs → Fits ts (getD vs k d)) → length vs ≤ 65535 → Spells (counted (event ts)) vs (events-bytes ts vs)
+  spells-events : (vs : List Event) → AllFit ts vs → Spells (counted (event ts)) vs (events-bytes ts vs)
   unfolding counted events-bytes
-  spells-events d vs h n = spells-bind u16 _ (bytes2 (length vs)) (flat (event-bytes ts) vs) (spells-u16 (length vs) (omega arith)) (spells-times d vs h)
+  spells-events vs h =
+      spells-bind u16 _ (bytes2 (length vs)) (flat (event-bytes ts) vs) (spells-u16 (length vs)) (spells-times vs h)
 
 -- ---- what follows the events is read as before
 
@@ -165,37 +130,9 @@ after-twin h old vs =
     twin-bind _ _ _ _ (local-counted _ (local-automation (h .texts))) λ rs.
     twin-give _ _
 
--- ---- how many texts there are
-
--- each value takes a byte or more
-grows : {A : Type 0} (r : Reader A) (s : List ℕ) → ((p : ℕ) (a : A) (q : ℕ) → r s p ≡ got a q → p + 1 ≤ q) → (n p : ℕ) (l : List A) (q : ℕ) → times n r s p ≡ got l q → p + n ≤ q
-unfolding times
-grows r s f zero p l q e = omega (arith, given s p [] e .1)
-grows r s f (suc n) p l q e =
-    let x = bound r _ e in
-    let y = bound (times n r) _ (x .rest) in
-    omega (arith, f p (x .value) (x .next) (x .first), grows r s f n (x .next) (y .value) (y .next) (y .first), given _ _ _ (y .rest) .1)
-
-text-grows : (s : List ℕ) (p : ℕ) (t : Text) (q : ℕ) → one-text s p ≡ got t q → p + 1 ≤ q
-unfolding one-text
-text-grows s p t q e =
-    let x = bound u8 _ e in
-    let y = bound (times (x .value) u8) _ (x .rest) in
-    omega (arith, u8-wide s p (x .first) .ends, local-times u8 local-u8 (x .value) s (x .next) (y .value) (y .next) (y .first) .ends, required _ _ _ _ (y .rest) .1 .1)
-
 module _ (f : List ℕ) (m : Model) (o : Opened f m) where
   abbrev ts : List Text
   ts = o .h .texts
-
-  few-texts : length ts ≤ 65536
-  few-texts =
-      let h = parted f m o in
-      let c = counted-found one-text (texts-found f 4 (h .are-texts) .0) in
-      let n = times-length one-text f (c .count) (c .start) ts (h .at-title) (c .are-values) in
-      let g = grows one-text f (text-grows f) (c .count) (c .start) ts (h .at-title) (c .are-values) in
-      let t = local-place ts f (h .at-title) (o .h .title) (h .at-entities) (h .is-title) .ends in
-      let e = local-entities ts f (h .at-entities) (o .h .entities) (o .start) (h .are-entities) .ends in
-      omega (arith, n, g, t, e, start-inside f m o, o .small)
 
   -- ---- the file with other events is read back
 
@@ -220,12 +157,12 @@ module _ (f : List ℕ) (m : Model) (o : Opened f m) where
         ∙ append-assoc (take (o .start) f) (events-bytes ts vs) (drop (o .end) f)
         ∙ rw (start-bytes, rest-bytes)
 
-    module _ (d : Event) (fits : (k : ℕ) → k < length vs → Fits ts (getD vs k d)) (many : length vs ≤ 65535) where
+    module _ (fit : AllFit ts vs) where
       new-spelled : Spells (head >>= λ h. events h >>= λ evs. after h evs) (with-events vs m) (first-part f m o .bytes ++ (events-bytes ts vs ++ rest-part .bytes))
       unfolding events
       new-spelled =
           spells-bind head _ (first-part f m o .bytes) (events-bytes ts vs ++ rest-part .bytes) (first-part f m o .spells)
-          (spells-bind (counted (event ts)) (λ evs. after (o .h) evs) (events-bytes ts vs) (rest-part .bytes) (spells-events ts (head-ascends f m o) few-texts d vs fits many) (rest-part .spells))
+          (spells-bind (counted (event ts)) (λ evs. after (o .h) evs) (events-bytes ts vs) (rest-part .bytes) (spells-events ts (head-ascends f m o) vs fit) (rest-part .spells))
 
       new-model : model (rewritten f vs) 0 ≡ got (with-events vs m) (length (rewritten f vs))
       new-model =
@@ -238,15 +175,14 @@ unfolding notes-of
 notes-same vs m = refl
 
 -- a file's notes stay, so that the new file decodes if it is not too long
-pub decodes : (f : List ℕ) (m : Model) → decode f ≡ answer m → (ts : List Text) → Reads texts f 4 ts → (d : Event) (vs : List Event) →
-    ((k : ℕ) → k < length vs → Fits ts (getD vs k d)) → length vs ≤ 65535 → length (rewritten f vs) ≤ 32768 →
-    decode (rewritten f vs) ≡ answer (with-events vs m)
+pub decodes : (f : List ℕ) (m : Model) → decode f ≡ answer m → (ts : List Text) → Reads texts f 4 ts → (vs : List Event) →
+    AllFit ts vs → length (rewritten f vs) ≤ 32768 → decode (rewritten f vs) ≡ answer (with-events vs m)
 unfolding decode decoded
-decodes f m dec ts r d vs fits many h =
+decodes f m dec ts r vs fit h =
     let o = opened f m dec in
-    let w = subst (λ (l : List Text). (k : ℕ) → k < length vs → Fits l (getD vs k d)) (same-texts f m o ts r) fits in
+    let w = subst (λ (l : List Text). AllFit l vs) (same-texts f m o ts r) fit in
     let n : length (notes-of (with-events vs m)) ≤ 64 = rw notes-same (o .few-notes) in
-    rw (le-ltb 32768 (length (rewritten f vs)) h, new-model f m o vs d w many, decoded)
+    rw (le-ltb 32768 (length (rewritten f vs)) h, new-model f m o vs w, decoded)
     (rw (le-ltb 64 (length (notes-of (with-events vs m))) n, le-ltb (length (rewritten f vs)) (length (rewritten f vs)) (omega arith)))
 
 -- a longer one is not read

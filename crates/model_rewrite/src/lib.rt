@@ -3,11 +3,12 @@ use model_parts::Part;
 use model_walk::Walked;
 ghost use mathlib.Core.Path.{_≡_};
 ghost use mathlib.Core.List.{_++_};
-ghost use Prim.Native.Nat.{_+_, _*_, _≤_};
+ghost use Prim.Native.Nat.{_+_, _*_, _≤_, _<_};
 ghost use lib.ListN.{length, drop};
 ghost use Rattle.model.specs.Rewrite.{bytes2};
 ghost use Rattle.model_rewrite.specs.Span.{spanW, bodyW, nowhere};
-ghost use Rattle.model_rewrite.specs.Written.{event-start, two-places, event-at, first-events, section-bytes, file-with, Wrote};
+ghost use Rattle.model_rewrite.specs.Written.{event-start, two-places, event-at, first-events, section-bytes, file-with};
+ghost use Rattle.model_rewrite.specs.Written.{EventFits, EventsFit, Room, Wrote};
 
 // The events section of a file: its count stands at `start`, and it ends before `end`.
 pub struct Span {
@@ -68,30 +69,30 @@ fn copy(s: &[u8], out: &mut [u8])
 
 // An event's second and its kind.
 fn write_start(second: u32, kind: u32, out: &mut [u8])
-    requires { ⌜ 5 ≤ length (now out) ⌝ }
+    requires { ⌜ (kind < 256) × (5 ≤ length (now out)) ⌝ }
     ensures { λ _. ⌜ now (out .exit) ≡ event-start second kind ++ drop 5 (now (out .entry)) ⌝ }
 {
-    out[0] = (second % 256) as u8;
-    out[1] = (second / 256 % 256) as u8;
+    out[0] = (second % 65536 % 256) as u8;
+    out[1] = (second % 65536 / 256) as u8;
     out[2] = (second / 65536 % 256) as u8;
-    out[3] = (second / 65536 / 256 % 256) as u8;
-    out[4] = (kind % 256) as u8;
+    out[3] = (second / 65536 / 256) as u8;
+    out[4] = kind as u8;
 }
 
 // The places of an entity and of a value.
 fn write_places(entity: u32, value: u32, out: &mut [u8])
-    requires { ⌜ 4 ≤ length (now out) ⌝ }
+    requires { ⌜ (entity < 65536) × ((value < 65536) × (4 ≤ length (now out))) ⌝ }
     ensures { λ _. ⌜ now (out .exit) ≡ two-places entity value ++ drop 4 (now (out .entry)) ⌝ }
 {
     out[0] = (entity % 256) as u8;
-    out[1] = (entity / 256 % 256) as u8;
+    out[1] = (entity / 256) as u8;
     out[2] = (value % 256) as u8;
-    out[3] = (value / 256 % 256) as u8;
+    out[3] = (value / 256) as u8;
 }
 
 // The k-th event. Only an event that sets has places.
 fn write_event(events: &[u32], k: usize, out: &mut [u8]) -> usize
-    requires { ⌜ (k * 4 + 4 ≤ length (now events)) × (length (event-at (now events) k) ≤ length (now out)) ⌝ }
+    requires { ⌜ (k * 4 + 4 ≤ length (now events)) × (EventFits (now events) k × (length (event-at (now events) k) ≤ length (now out))) ⌝ }
     ensures { λ r. ⌜ Wrote (event-at (now (events .entry)) k) r (now (out .entry)) (now (out .exit)) ⌝ }
 {
     let second = events[k * 4];
@@ -108,7 +109,7 @@ fn write_event(events: &[u32], k: usize, out: &mut [u8]) -> usize
 
 // The first n events.
 fn write_each(events: &[u32], n: usize, out: &mut [u8]) -> usize
-    requires { ⌜ (n * 4 ≤ length (now events)) × (length (first-events (now events) n) ≤ length (now out)) ⌝ }
+    requires { ⌜ EventsFit (now events) n × (length (first-events (now events) n) ≤ length (now out)) ⌝ }
     ensures { λ r. ⌜ Wrote (first-events (now (events .entry)) n) r (now (out .entry)) (now (out .exit)) ⌝ }
 {
     let mut at: usize = 0;
@@ -121,16 +122,16 @@ fn write_each(events: &[u32], n: usize, out: &mut [u8]) -> usize
 }
 
 fn write_count(n: usize, out: &mut [u8])
-    requires { ⌜ 2 ≤ length (now out) ⌝ }
+    requires { ⌜ (n < 65536) × (2 ≤ length (now out)) ⌝ }
     ensures { λ _. ⌜ now (out .exit) ≡ bytes2 n ++ drop 2 (now (out .entry)) ⌝ }
 {
     out[0] = (n % 256) as u8;
-    out[1] = (n / 256 % 256) as u8;
+    out[1] = (n / 256) as u8;
 }
 
 // The events section: the count of n events in two bytes, then the events.
 pub fn write_events(events: &[u32], n: usize, out: &mut [u8]) -> usize
-    requires { ⌜ (n * 4 ≤ length (now events)) × (length (section-bytes (now events) n) ≤ length (now out)) ⌝ }
+    requires { ⌜ EventsFit (now events) n × (length (section-bytes (now events) n) ≤ length (now out)) ⌝ }
     ensures { λ r. ⌜ Wrote (section-bytes (now (events .entry)) n) r (now (out .entry)) (now (out .exit)) ⌝ }
 {
     write_count(n, out);
@@ -140,7 +141,7 @@ pub fn write_events(events: &[u32], n: usize, out: &mut [u8]) -> usize
 
 // The file with n events in place of its own, whose section stands at `place`. The answer is the new length.
 pub fn rewrite(file: &[u8], place: Span, events: &[u32], n: usize, out: &mut [u8]) -> usize
-    requires { ⌜ (place .start ≤ place .end) × ((place .end ≤ length (now file)) × ((n * 4 ≤ length (now events)) × (length (file-with (now file) place (now events) n) ≤ length (now out)))) ⌝ }
+    requires { ⌜ Room (now file) place (now events) n (now out) ⌝ }
     ensures { λ r. ⌜ Wrote (file-with (now (file .entry)) place (now (events .entry)) n) r (now (out .entry)) (now (out .exit)) ⌝ }
 {
     let start = place.start;

@@ -1,5 +1,5 @@
 -- The file with some of a model's events: the rewriter's bytes are the definition's, and there is room for them.
-use Prim.Native.Nat.{ℕ, _*_, _≤_}
+use Prim.Native.Nat.{ℕ, _*_, _≤_, _<_}
 use mathlib.Core.Path.{_≡_, refl, ap, _∙_}
 use mathlib.Core.List.{List}
 use native.Mathlib.Omega.{arith}
@@ -12,13 +12,12 @@ use Rattle.model.specs.Validate.{accepted}
 use Rattle.model_index.specs.declared.Index.{Index}
 use Rattle.model_index.specs.Indexed.{Indexed}
 use Rattle.model_rewrite.specs.Span.{spanW}
-use Rattle.model_rewrite.specs.Written.{file-with}
+use Rattle.model_rewrite.specs.Written.{file-with, Room}
 use Rattle.model_rewrite.proofs.Agrees.{file-agrees, asked}
 use Rattle.model_rewrite.proofs.Opened.{opened}
 use Rattle.model_rewrite.proofs.WithEvents.{some-events}
 use Rattle.engine.proofs.Validated.{accepted-decoded}
 use Rattle.reduce.specs.Events.{Left}
-use Rattle.reduce_result.specs.Last.{Room}
 
 none-such : Event
 none-such = record { at = 0; input = Input.restart }
@@ -34,8 +33,7 @@ module _ (f : List ℕ) (i : Index) (m : Model) (acc : accepted f ≡ answer m) 
   pub file-is : file-with f (spanW f) w n ≡ rewritten f vs
   file-is = ap (file-with f (spanW f) w) (left .many) ∙ file-agrees f m i dec x w none-such vs (left .held none-such)
 
-  pub file-fits : (o : List ℕ) → n * 4 ≤ length w → length f ≤ length o → Room f w n o
-  file-fits o h r =
-      let a = asked f m i dec x w none-such vs (left .held none-such) {s = spanW f} {n = n} refl (left .many) o h
-      (omega (arith, some-events f m dec vs (left .some))) in
-      record { ordered = a .0; inside = a .1 .0; words = a .1 .1 .0; fits = a .1 .1 .1 }
+  pub file-fits : (o : List ℕ) → n * 4 ≤ length w → n < 65536 → length f ≤ length o → Room f (spanW f) w n o
+  file-fits o h c r =
+      asked f m i dec x w none-such vs (left .held none-such) {s = spanW f} {n = n} refl (left .many) o h c
+      (omega (arith, some-events f m dec vs (left .some)))

@@ -144,7 +144,8 @@ ready {f} {i} {g} {target} {e} {n} {x} {q} {a} {u} red {o} am z =
         → Ready f x o
     by (parts.Ends.full lo hi y) = absurd (omega (arith, z))
     by (parts.done d vs left y) = record {
-      room = file-fits f i m acc ix (x .words) (x .count) vs left o (omega (arith, red .few, red .long)) (am .given .room);
+      room = file-fits f i m acc ix (x .words) (x .count) vs left o (omega (arith, red .few, red .long))
+          (omega (arith, red .few)) (am .given .room);
       long = red .long;
     }
 

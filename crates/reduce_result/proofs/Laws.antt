@@ -1,13 +1,13 @@
 -- Laws for the small functions.
-use Prim.Native.Nat.{ℕ, _≤_}
+use Prim.Native.Nat.{ℕ}
 use mathlib.Core.Path.{_≡_, refl, sym, ap, subst, _∙_}
 use mathlib.Core.Bool.{false}
 use mathlib.Core.List.{List}
 use lib.Dec.{eqb}
-use lib.ListN.{length, replicate}
+use lib.ListN.{replicate}
 use Rattle.model_rewrite.specs.declared.Span.{Span}
 use Rattle.model_rewrite.specs.Span.{spanW}
-use Rattle.model_rewrite.specs.Written.{file-with, Wrote}
+use Rattle.model_rewrite.specs.Written.{file-with, Room, Wrote}
 use Rattle.model_index.specs.declared.Index.{Index}
 use Rattle.engine_entry.specs.Answers.{Ground}
 use Rattle.checker_result.specs.declared.CheckResult.{CheckResult}
@@ -17,7 +17,7 @@ use Rattle.checker_entry.proofs.Promise.{whole-done, whole-full}
 use Rattle.reduce.specs.declared.Reduced.{Reduced}
 use Rattle.reduce_result.specs.declared.Minimized.{Minimized}
 use Rattle.reduce_result.specs.Result.{no-reduction}
-use Rattle.reduce_result.specs.Last.{Placed, Room, Finished}
+use Rattle.reduce_result.specs.Last.{Placed, Finished}
 
 pub refused-is : (n : ℕ) {c : CheckResult} → c ≡ no-check n →
     record {
@@ -37,10 +37,8 @@ refused-is n e = rw e
 -- ---- the last check
 
 -- what the rewriter asks for
-pub asked-here : {f l o : List ℕ} {n : ℕ} → Room f l n o → {s : Span} → s ≡ spanW f →
-    (s .start ≤ s .end) × ((s .end ≤ length f)
-    × ((Prim.Native.Nat._*_ n 4 ≤ length l) × (length (file-with f s l n) ≤ length o)))
-asked-here r e = rw e (r .ordered, (r .inside, (r .words, r .fits)))
+pub asked-here : {f l o : List ℕ} {n : ℕ} → Room f (spanW f) l n o → {s : Span} → s ≡ spanW f → Room f s l n o
+asked-here {f} {l} {o} {n} r e = subst (λ (s : Span). Room f s l n o) (sym e) r
 
 module _ {f : List ℕ} {i : Index} {g : Ground} {target n : ℕ} {x : Reduced} {c : CheckResult} {q q' a a' u u' : List ℕ}
     (wh : Whole f (i .invariants .starts) (i .invariants .count) g (x .words) (x .count) c q q' a a' u u') where

@@ -1,5 +1,5 @@
 -- The last check of a reduction, and the file that it writes.
-use Prim.Native.Nat.{ℕ, _*_, _≤_}
+use Prim.Native.Nat.{ℕ, _≤_}
 use mathlib.Core.Path.{_≡_}
 use mathlib.Core.List.{List}
 use lib.Dec.{eqb}
@@ -8,7 +8,7 @@ use Rattle.model.specs.Answer.{refused}
 use Rattle.model.specs.Validate.{accepted}
 use Rattle.model_index.specs.declared.Index.{Index}
 use Rattle.model_rewrite.specs.Span.{spanW}
-use Rattle.model_rewrite.specs.Written.{file-with, Wrote}
+use Rattle.model_rewrite.specs.Written.{file-with, Room, Wrote}
 use Rattle.engine_entry.specs.Answers.{Ground}
 use Rattle.checker_result.specs.declared.CheckResult.{CheckResult}
 use Rattle.checker_entry.specs.Parts.{Checked}
@@ -28,15 +28,9 @@ Placed n r = n ≤ 65535 → r ≡ n
 
 -- ---- the last check
 
--- the output has room for the file with the first n events
-pub record Room (f l : List ℕ) (n : ℕ) (o : List ℕ) : Type 0 where
-  pub ordered : spanW f .start ≤ spanW f .end
-  pub inside : spanW f .end ≤ length f
-  pub words : n * 4 ≤ length l
-  pub fits : length (file-with f (spanW f) l n) ≤ length o
-
+-- the output has room for the file with the events that are left
 pub record Ready (f : List ℕ) (x : Reduced) (o : List ℕ) : Type 0 where
-  pub room : Room f (x .words) (x .count) o
+  pub room : Room f (spanW f) (x .words) (x .count) o
   pub long : length (x .words) ≡ 400
 
 -- the answer repeats what was reduced, and the output holds the file with the events that are left

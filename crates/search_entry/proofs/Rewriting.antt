@@ -11,7 +11,7 @@ use Rattle.model.specs.Model.{Input, Event}
 use Rattle.model.specs.File.{decode}
 use Rattle.model_rewrite.specs.declared.Span.{Span}
 use Rattle.model_rewrite.specs.Span.{spanW}
-use Rattle.model_rewrite.specs.Written.{file-with, Wrote}
+use Rattle.model_rewrite.specs.Written.{file-with, Room, Wrote}
 use Rattle.model.specs.Events.{EventWords}
 use Rattle.model_rewrite.proofs.Agrees.{asked, told}
 use Rattle.model_rewrite.proofs.WithEvents.{few-events}
@@ -59,13 +59,11 @@ module _ {f : List ℕ} {p : Entire} {placed : Placed} {q a u o : ℕ} (h : Writ
   check-asks = omega (arith, five, long)
 
   pub write-asks : {s : Span} → s ≡ spanW f → (out : List ℕ) → length out ≡ o →
-      (s .start ≤ s .end) × ((s .end ≤ length f)
-      × ((placed .count * 4 ≤ length (placed .words))
-      × (length (file-with f s (placed .words) (placed .count)) ≤ length out)))
+      Room f s (placed .words) (placed .count) out
   write-asks e out l =
       asked f (x .m) (x .index) (decoded x) (x .indexed) (placed .words) none-such (h .events)
       (words-at x (h .events) placed (h .placed-as)) e (h .placed-as .count) out check-asks
-      (omega (arith, few-events f (x .m) (decoded x) (h .events) (h .few), h .room, l))
+      (omega (arith, five)) (omega (arith, few-events f (x .m) (decoded x) (h .events) (h .few), h .room, l))
 
 pub writes-so : {f : List ℕ} {p : Entire} (placed : Placed) {c : CheckResult} {q q' a a' u u' : List ℕ} →
     Whole f (p .starts) (p .invariants) (p .ground) (placed .words) (placed .count) c q q' a a' u u' → {s : Span} → s ≡ spanW f →

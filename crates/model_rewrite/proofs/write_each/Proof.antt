@@ -24,7 +24,7 @@ write-each-spec =
     (λ c. let o = c .before .loop in let a = c .before .before .before .before .args in let h = laws.next-size (a .events .now) (a .n) (o .k) (c .loop-test .taken) in let s = o .inv .1 .1 .is-size in omega arith)
     (λ c. let o = c .before .loop in let a = c .before .before .before .before .args in let h = laws.next-size (a .events .now) (a .n) (o .k) (c .loop-test .taken) in let s = o .inv .1 .1 .is-size in search needs)
     (λ c. search needs)
-    (λ c κs. let o = c .before .before .loop in let a = c .before .before .before .before .before .args in let h = laws.next-size (a .events .now) (a .n) (o .k) (c .before .loop-test .taken) in let s = o .inv .1 .1 .is-size in (omega arith, simp (length-take, length-drop) (omega arith)))
+    (λ c κs. let o = c .before .before .loop in let a = c .before .before .before .before .before .args in let h = laws.next-size (a .events .now) (a .n) (o .k) (c .before .loop-test .taken) in let s = o .inv .1 .1 .is-size in (omega arith, (c .before .before .before .before .before .pre .0 .each (o .k) (c .before .loop-test .taken), simp (length-take, length-drop) (omega arith))))
     (λ c. let o = c .before .before .before .before .before .loop in let a = c .before .before .before .before .before .before .before .before .args in let h = laws.next-size (a .events .now) (a .n) (o .k) (c .before .before .before .before .loop-test .taken) in let s = o .inv .1 .1 .is-size in omega (arith, c .before .before .write-event .ensures .is-size))
     (λ c. search needs)
     (λ c. search needs)

@@ -9,7 +9,7 @@ last-check-spec =
     tie.close
     (tie.spec
     (λ c. omega (arith, c .before .before .before .before .before .before .before .pre .long))
-    (λ c κs. c .before .before .before .before .before .before .before .before .before .before .pre .room .words)
+    (λ c κs. c .before .before .before .before .before .before .before .before .before .before .pre .room .events .words)
     (λ c κs. search needs)
     (λ c. search needs)
     (λ c. search needs)
