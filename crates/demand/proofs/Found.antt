@@ -16,8 +16,8 @@ use Rattle.engine.specs.Words.{texts-in, entry-words}
 use Rattle.engine.proofs.Lists.{Each, some-eq, none-some}
 use Rattle.engine_places.proofs.Lists.{each-getD}
 use Rattle.checker.specs.Verify as verify
-use Rattle.search_inputs.specs.Inputs.{input-words, event-words}
-use Rattle.search_inputs.proofs.Means.{event-size}
+use Rattle.model.specs.Events.{input-words, event-words}
+use Rattle.model.proofs.Events.{event-size}
 use Rattle.search_answer.specs.declared.Verification.{Verification}
 use Rattle.search_answer.specs.Whole.{no-verification}
 use Rattle.search_entry.specs.Answers.{found-as, WitnessSays, Shows, Says, Verifies}

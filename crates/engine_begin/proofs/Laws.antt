@@ -1,28 +1,49 @@
 -- The laws that the proofs of this crate's functions cite.
-use mathlib.Core.Path.{_≡_, sym, ap, _∙_}
+use mathlib.Core.Path.{_≡_, refl, sym, ap, _∙_}
 use mathlib.Core.List.{List}
-use Prim.Native.Nat.{ℕ, _+_, _*_, _/_, _%_, _≤_, _<_}
-use lib.ListN.{getD}
-use borrow.Author.Tests.{lt-ltb, le-ltb, ne-eqb}
+use Prim.Native.Nat.{ℕ, zero, suc, _+_, _-_, _*_, _/_, _%_, _≤_, _<_}
+use native.Mathlib.Omega.{arith}
+use lib.ListN.{getD, set, replicate}
+use lib.Seq.{getD-set-other}
+use borrow.Author.Tests.{lt-ltb, le-ltb, eq-eqb, ne-eqb}
 use Rattle.engine_reads.specs.Reads.{two, four, cap}
-use Rattle.engine_begin.specs.Begin.{event-part, event-from, initial-at, value-from}
+use Rattle.engine_begin.specs.Begin.{input-part, event-part, event-from, initial-at, value-from}
+
+module _ (s : List ℕ) (p j : ℕ) {kind : ℕ} (is-kind : kind ≡ getD s p 0) where
+  pub part-kind : j ≡ 0 → kind ≡ input-part s p j
+  unfolding input-part
+  part-kind e = is-kind ∙ rw (eq-eqb j 0 e)
+
+  pub part-none : (j ≡ 0 → ⊥) → (kind ≡ 0 → ⊥) → 0 ≡ input-part s p j
+  unfolding input-part
+  part-none a b = rw (ne-eqb j 0 a, ← is-kind, ne-eqb kind 0 b)
+
+  pub part-entity : kind ≡ 0 → j ≡ 1 → {r : ℕ} → r ≡ two s (p + 1) → r ≡ input-part s p j
+  unfolding input-part
+  part-entity b e {r} h = h ∙ rw (← is-kind, eq-eqb kind 0 b, e)
+
+  pub part-value : (j ≡ 0 → ⊥) → kind ≡ 0 → (j ≡ 1 → ⊥) → {r : ℕ} → r ≡ two s (p + 3) → r ≡ input-part s p j
+  unfolding input-part
+  part-value a b c {r} h = h ∙ rw (ne-eqb j 0 a, ← is-kind, eq-eqb kind 0 b, ne-eqb j 1 c)
 
 module _ (s : List ℕ) (p j : ℕ) where
-  pub part-0 : j ≡ 0 → event-part s p j ≡ four s p
+  pub part-second : j ≡ 0 → event-part s p j ≡ four s p
   unfolding event-part
-  part-0 e = rw e
+  part-second e = rw e
 
-  pub part-1 : j ≡ 1 → event-part s p j ≡ getD s (p + 4) 0
+  pub part-input : (j ≡ 0 → ⊥) → event-part s p j ≡ input-part s (p + 4) (j - 1)
   unfolding event-part
-  part-1 e = rw e
+  part-input e = rw (ne-eqb _ _ e)
 
-  pub part-2 : j ≡ 2 → event-part s p j ≡ two s (p + 5)
-  unfolding event-part
-  part-2 e = rw e
+-- the words behind k are zeros still after one at k is set
+pub zeros-behind : (x : List ℕ) (k v : ℕ) → ((j : ℕ) → k ≤ j → getD x j 0 ≡ 0) →
+    (j : ℕ) → k + 1 ≤ j → getD (set x k v) j 0 ≡ 0
+zeros-behind x k v g j h = getD-set-other x k j v 0 (λ e. absurd (omega (arith, e))) ∙ g j (omega arith)
 
-  pub part-else : (j ≡ 0 → ⊥) → (j ≡ 1 → ⊥) → (j ≡ 2 → ⊥) → event-part s p j ≡ two s (p + 7)
-  unfolding event-part
-  part-else a b c = rw (ne-eqb _ _ a, ne-eqb _ _ b, ne-eqb _ _ c)
+pub zeros : (n e : ℕ) → _≡_ {A = ℕ} (getD (replicate n 0) e 0) 0
+zeros zero e = refl
+zeros (suc n) zero = refl
+zeros (suc n) (suc e) = zeros n e
 
 pub word-is : (s l : List ℕ) (k : ℕ) {p r : ℕ} → p ≡ cap (getD l (k / 4) 0) → r ≡ event-part s p (k % 4) → r ≡ event-from s l k
 unfolding event-from

@@ -3,11 +3,29 @@ use engine_state::Cells;
 use model_index::Index;
 ghost use mathlib.Core.Path.{_≡_};
 ghost use Prim.Native.Nat.{_≤_, _<_};
-ghost use Rattle.engine_begin.specs.Begin.{event-part, event-from, EventsOf, initial-at, value-from, CellsOf};
+ghost use Rattle.engine_begin.specs.Begin.{input-part, event-part, event-from, EventsOf, initial-at, value-from, CellsOf};
 
 // Events of four words: a second, a kind, an entity and a value.
 pub struct Events {
     pub words: [u32; 400],
+}
+
+// A word of the input at a position. Only an input that sets has places.
+pub fn input_part(s: &[u8], p: usize, j: usize) -> u32
+    requires { ⌜ p ≤ 4294967299 ⌝ }
+    ensures { λ r. ⌜ r ≡ input-part (now (s .entry)) p j ⌝ }
+{
+    let kind = engine_reads::byte_at(s, p);
+    if j == 0 {
+        return kind;
+    }
+    if kind != 0 {
+        return 0;
+    }
+    if j == 1 {
+        return engine_reads::two_at(s, p + 1);
+    }
+    engine_reads::two_at(s, p + 3)
 }
 
 // A word of the event at a position.
@@ -18,13 +36,7 @@ fn event_part(s: &[u8], p: usize, j: usize) -> u32
     if j == 0 {
         return engine_reads::four_at(s, p);
     }
-    if j == 1 {
-        return engine_reads::byte_at(s, p + 4);
-    }
-    if j == 2 {
-        return engine_reads::two_at(s, p + 5);
-    }
-    engine_reads::two_at(s, p + 7)
+    input_part(s, p + 4, j - 1)
 }
 
 // The k-th word of the events that stand at these positions.

@@ -126,7 +126,7 @@ module _ {f starts : List ℕ} {many : ℕ} {g : Ground} (target : ℕ) (r : Red
 
     left-rest : Left m (o .ts) w (r .count - 1) rest
     left-rest = left-without (o .ts) m (r .words) (r .count) (r .reached) (open-so .inside) (open-so .few)
-        (open-so .long) w without vs left
+        w without vs left
 
     evs : (j : ℕ) → j < length rest → EventAt f x (o .ts) m t w j (getD rest j none-such)
     evs j h = left-at f x i m acc o t w (r .count - 1) rest left-rest none-such j h

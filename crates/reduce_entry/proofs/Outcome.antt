@@ -37,7 +37,7 @@ use Rattle.checker_entry.specs.Parts.{Checked}
 use Rattle.checker_entry.proofs.Promise as promised
 use Rattle.checker_entry.proofs.Promise.{Promise, promise}
 use Rattle.reduce.specs.declared.Reduced.{Reduced}
-use Rattle.model.specs.Events.{EventWords}
+use Rattle.model.specs.Events.{event-words}
 use Rattle.reduce.specs.Events.{Left}
 use Rattle.reduce.specs.Parts.{is-violation, sizes, from, Ends, Reduces}
 use Rattle.reduce.specs.Parts as parts
@@ -218,8 +218,7 @@ module _ {f : List ℕ} {i : Index} {g : Ground} {target : ℕ} {e : Events} {n 
           attempts = p .attempts;
           minimal = p .minimal ∙ ap (eqb (x .reached)) (kept .many);
           events = p .events ∙ kept .many;
-          words = λ d k h. subst (λ (l : List ℕ). EventWords (texts-in f) l k (getD ws k d)) (sym (p .words))
-              (subst (λ (ts : List Text). EventWords ts (x .words) k (getD ws k d)) (sym here) (kept .held d k h));
+          words = p .words ∙ kept .held ∙ ap (λ (ts : List Text). area (event-words ts) 400 ws) (sym here);
           written = p .wrote .is-size ∙ ap length bytes-are;
           check = subst (λ (y : CheckResult). shown.Shows f y c) (sym (p .check)) s;
         }

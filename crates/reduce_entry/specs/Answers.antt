@@ -1,11 +1,11 @@
 -- What `minimize` answers, by the definitions of crate `checker`: each number of the answer, each word of the lent areas,
 -- and each byte of the output.
-use Prim.Native.Nat.{ℕ, _<_}
+use Prim.Native.Nat.{ℕ}
 use mathlib.Core.Path.{_≡_}
 use mathlib.Core.List.{List, _++_}
-use lib.ListN.{length, getD, drop}
+use lib.ListN.{length, drop}
+use Rattle.areas.specs.Areas.{area}
 use Rattle.model.specs.Answer.{Answer, answer, refused}
-use Rattle.model.specs.Model.{Event}
 use Rattle.model.specs.Rewrite.{place-of}
 use Rattle.engine.specs.Memory.{Lent, entries, lent-after}
 use Rattle.engine.specs.Records.{Trace}
@@ -13,12 +13,11 @@ use Rattle.engine.specs.Words.{texts-in, words-in, entry-words}
 use Rattle.checker.specs.Minimize.{minimize, reduced-file}
 use Rattle.checker.specs.Minimize as checker
 use Rattle.checker_entry.specs.Answers as check
-use Rattle.model.specs.Events.{EventWords}
+use Rattle.model.specs.Events.{event-words}
 use Rattle.reduce_result.specs.declared.Minimized.{Minimized}
 use Rattle.reduce_result.specs.Result.{no-reduction}
 
--- The answer says what the definition's reduction says. The places of an event that doesn't set are left free, and so are
--- the words behind the last event.
+-- the answer says what the definition's reduction says
 pub record Shows (f : List ℕ) (r : Minimized) (d : checker.Minimized) : Type 0 where
   pub accepted : r .refused ≡ 0
   pub invariant : r .invariant ≡ place-of (d .invariant) (texts-in f)
@@ -26,7 +25,7 @@ pub record Shows (f : List ℕ) (r : Minimized) (d : checker.Minimized) : Type 0
   pub attempts : r .attempts ≡ d .attempts
   pub minimal : r .minimal ≡ d .deletion-minimal
   pub events : r .events ≡ length (d .events)
-  pub words : (e : Event) (k : ℕ) → k < length (d .events) → EventWords (texts-in f) (r .words) k (getD (d .events) k e)
+  pub words : r .words ≡ area (event-words (texts-in f)) 400 (d .events)
   pub written : r .written ≡ length (reduced-file f d)
   pub check : check.Shows f (r .check) (d .check)
 

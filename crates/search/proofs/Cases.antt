@@ -34,7 +34,8 @@ use Rattle.checker_entry.specs.Pool.{check-pool}
 use Rattle.checker_entry.proofs.Pool.{few-in-pool, among-both, mem-first}
 use Rattle.checker_case.specs.Case.{Tells, answers, refuses, Cased}
 use Rattle.search_inputs.specs.declared.Placed.{Placed}
-use Rattle.search_inputs.proofs.Means.{Fine, asc, fine-here, input-accepted, event-at-here}
+use Rattle.engine_begin.proofs.Begins.{Fine}
+use Rattle.search_inputs.proofs.Means.{fine-here, input-accepted, event-at-here}
 use Rattle.search_cases.specs.declared.Search.{Search}
 use Rattle.search_cases.specs.Parts.{refusalV, violatesV, refusedS, Spends, Found, Other, Gathers}
 use Rattle.search.specs.Meaning.{none-such, cells-of, sizes, search-pool, Entire, Setting, PlacedAs, WitnessIs, Held, Outcome}
@@ -168,7 +169,7 @@ module _ {f : List ℕ} {p : Entire} {q a u : ℕ} (x : Setting f p q a u) where
       let c = ps .chosen j h in
       event-at-here f (x .index) m (x .is-accepted) (x .indexed) (placed .words) none-such vs (ps .words) j h
       (p .ground .table) table
-      (subst (Fine f (x .indexed .ts) (asc f (x .index) m (x .is-accepted) (x .indexed))) (sym (c .is))
+      (subst (Fine (x .indexed .ts)) (sym (c .is))
       (fine-here f (x .index) m (x .is-accepted) (x .indexed) Input.restart (c .place) (c .inside)))
       (subst (λ (i : Input). check-input (m .scenario .entities) i ≡ accept) (sym (c .is))
       (input-accepted f (x .index) m (x .is-accepted) (x .indexed) Input.restart (c .place) (c .inside)))

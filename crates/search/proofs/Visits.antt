@@ -21,8 +21,10 @@ use Rattle.engine_places.proofs.Numbers.{cap-is}
 use Rattle.checker.specs.Verify as verify
 use Rattle.checker.specs.Verify.{last-at, unless-stopped}
 use Rattle.search_inputs.specs.declared.Placed.{Placed}
-use Rattle.search_inputs.specs.Inputs.{input-words, event-words, gap-words, lastV, placing}
-use Rattle.search_inputs.proofs.Means.{input-size, event-size, gap-size}
+use Rattle.model.specs.Events.{input-words, event-words}
+use Rattle.model.proofs.Events.{input-size, event-size}
+use Rattle.search_inputs.specs.Inputs.{gap-words, lastV, placing}
+use Rattle.search_inputs.proofs.Means.{gap-size}
 use Rattle.search_cases.specs.declared.Search.{Search}
 use Rattle.search_cases.specs.Parts.{nextAt, Nexts}
 use Rattle.search.specs.Meaning.{

@@ -25,7 +25,8 @@ use Rattle.checker_entry.specs.Pool.{check-pool}
 use Rattle.search_inputs.specs.declared.Alphabet.{Alphabet}
 use Rattle.search_inputs.specs.declared.Gaps.{Gaps}
 use Rattle.search_inputs.specs.declared.Placed.{Placed}
-use Rattle.search_inputs.specs.Inputs.{input-words, event-words, gap-words}
+use Rattle.model.specs.Events.{input-words, event-words}
+use Rattle.search_inputs.specs.Inputs.{gap-words}
 use Rattle.search_cases.specs.declared.Plan.{Plan}
 use Rattle.search_cases.specs.declared.Search.{Search}
 

@@ -18,7 +18,7 @@ use Rattle.engine.specs.Words.{texts-in, words-in}
 use Rattle.engine_entry.proofs.Promise.{texts-here}
 use Rattle.checker.specs.Verify as verify
 use Rattle.checker.specs.Verify.{found-of, verification-of, witness-file}
-use Rattle.search_inputs.specs.Inputs.{input-words, event-words}
+use Rattle.model.specs.Events.{input-words, event-words}
 use Rattle.search_cases.specs.declared.Search.{Search}
 use Rattle.search_cases.specs.Parts.{limitV}
 use Rattle.search.specs.Meaning.{Entire, Setting, Witnessed, Held, Outcome}

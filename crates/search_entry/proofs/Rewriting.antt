@@ -12,7 +12,9 @@ use Rattle.model.specs.File.{decode}
 use Rattle.model_rewrite.specs.declared.Span.{Span}
 use Rattle.model_rewrite.specs.Span.{spanW}
 use Rattle.model_rewrite.specs.Written.{file-with, Room, Wrote}
-use Rattle.model.specs.Events.{EventWords}
+use Rattle.model.specs.Events.{event-words, EventWords}
+use Rattle.model.proofs.Events.{event-size}
+use Rattle.engine_begin.proofs.Begins.{Fine, event-words-here}
 use Rattle.model_rewrite.proofs.Agrees.{asked, told}
 use Rattle.model_rewrite.proofs.WithEvents.{few-events}
 use Rattle.engine.specs.Words.{words-in}
@@ -24,8 +26,7 @@ use Rattle.checker_entry.specs.Answers as said
 use Rattle.checker_entry.specs.Parts.{Checked, Whole}
 use Rattle.checker_entry.proofs.Promise.{Promise, answers, refuses, promise, whole-shows}
 use Rattle.search_inputs.specs.declared.Placed.{Placed}
-use Rattle.search_inputs.specs.Inputs.{event-words}
-use Rattle.search_inputs.proofs.Means.{Fine, asc, fine-here, event-size, event-words-here}
+use Rattle.search_inputs.proofs.Means.{fine-here}
 use Rattle.search.specs.Meaning.{none-such, cells-of, sizes, Entire, Setting, PlacedAs}
 use Rattle.search.proofs.Cases.{events-at}
 use Rattle.search_entry.specs.Parts.{Writable, Written, Writes}
@@ -38,8 +39,8 @@ module _ {f : List ℕ} {p : Entire} {q a u : ℕ} (x : Setting f p q a u) where
       EventWords (x .indexed .ts) (placed .words) j (getD vs j none-such)
   words-at vs placed ps j h =
       let c = ps .chosen j h in
-      event-words-here f (x .index) (x .m) (x .is-accepted) (x .indexed) (placed .words) none-such vs (ps .words) j h
-      (subst (Fine f (x .indexed .ts) (asc f (x .index) (x .m) (x .is-accepted) (x .indexed))) (sym (c .is))
+      event-words-here (x .indexed .ts) (placed .words) none-such vs 20 (ps .words) j h
+      (subst (Fine (x .indexed .ts)) (sym (c .is))
       (fine-here f (x .index) (x .m) (x .is-accepted) (x .indexed) Input.restart (c .place) (c .inside)))
 
 module _ {f : List ℕ} {p : Entire} {placed : Placed} {q a u o : ℕ} (h : Writable f p placed q a u o) where

@@ -15,7 +15,8 @@ use Rattle.engine.specs.Words.{texts-in, words-in, entry-words}
 use Rattle.checker.specs.Verify as verify
 use Rattle.checker_result.specs.Result.{no-check}
 use Rattle.checker_entry.specs.Answers as check
-use Rattle.search_inputs.specs.Inputs.{input-words, event-words, gap-words}
+use Rattle.model.specs.Events.{input-words, event-words}
+use Rattle.search_inputs.specs.Inputs.{gap-words}
 use Rattle.search_answer.specs.declared.Found.{Found}
 use Rattle.search_answer.specs.declared.Found.the-variants as found
 use Rattle.search_answer.specs.declared.Verification.{Verification}

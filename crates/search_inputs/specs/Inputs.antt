@@ -5,35 +5,20 @@ use mathlib.Core.List.{List, [], _∷_}
 use lib.Dec.{ltb, eqb}
 use lib.ListN.{length, getD}
 use Rattle.texts.specs.Lists.{if_then_else_}
-use Rattle.texts.specs.Texts.{Text}
 use Rattle.areas.specs.Areas.{written}
-use Rattle.model.specs.Model.{Input, reload, Event}
-use Rattle.model.specs.Rewrite.{place-of}
 use Rattle.model_index.specs.declared.Index.{Index}
-use Rattle.engine_reads.specs.Reads.{two, four, cap, atMost}
+use Rattle.engine_reads.specs.Reads.{four, cap, atMost}
+use Rattle.engine_begin.specs.Begin.{input-part}
 use Rattle.search_inputs.specs.declared.Alphabet.{Alphabet}
 use Rattle.search_inputs.specs.declared.Gaps.{Gaps}
 use Rattle.search_inputs.specs.declared.Placed.{Placed}
 
--- ---- by the definition: an input's three words, an event's four, a gap's one
-
-unfoldable pub input-words : (texts : List Text) → Input → List ℕ
-input-words ts (Input.set x v) = 0 ∷ place-of x ts ∷ place-of v ts ∷ []
-input-words ts Input.restart = 1 ∷ 0 ∷ 0 ∷ []
-input-words ts reload = 2 ∷ 0 ∷ 0 ∷ []
-
-unfoldable pub event-words : (texts : List Text) → Event → List ℕ
-event-words ts e = e .at ∷ input-words ts (e .input)
+-- ---- by the definition: a gap's one word
 
 unfoldable pub gap-words : ℕ → List ℕ
 gap-words g = g ∷ []
 
 -- ---- as the code reads them
-
-unfoldable pub input-part : List ℕ → (p j : ℕ) → ℕ
-input-part s p j =
-    if eqb j 0 then getD s p 0 else
-    if eqb (getD s p 0) 0 then (if eqb j 1 then two s (p + 1) else two s (p + 3)) else 0
 
 unfoldable pub input-word : List ℕ → Index → (k : ℕ) → ℕ
 input-word s i k =

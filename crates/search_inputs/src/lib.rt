@@ -3,7 +3,7 @@ use model_index::Index;
 ghost use mathlib.Core.Path.{_≡_};
 ghost use Prim.Native.Nat.{_≤_, _<_};
 ghost use lib.ListN.{length};
-ghost use Rattle.search_inputs.specs.Inputs.{input-part, input-word, AlphabetOf, gap-word, GapsOf, lastV, Placing};
+ghost use Rattle.search_inputs.specs.Inputs.{input-word, AlphabetOf, gap-word, GapsOf, lastV, Placing};
 
 // Three words an input: a kind (0 sets, 1 restarts, 2 reloads), the place of an entity and the place of a value.
 pub struct Alphabet {
@@ -24,24 +24,7 @@ pub struct Placed {
 
 // ---- the inputs
 
-// A word of the input at a position. Only an input that sets has places.
-fn input_part(s: &[u8], p: usize, j: usize) -> u32
-    requires { ⌜ p ≤ 4294967295 ⌝ }
-    ensures { λ r. ⌜ r ≡ input-part (now (s .entry)) p j ⌝ }
-{
-    let kind = engine_reads::byte_at(s, p);
-    if j == 0 {
-        return kind;
-    }
-    if kind != 0 {
-        return 0;
-    }
-    if j == 1 {
-        return engine_reads::two_at(s, p + 1);
-    }
-    engine_reads::two_at(s, p + 3)
-}
-
+// A word of the first twelve inputs.
 fn input_word(s: &[u8], index: Index, k: usize) -> u32
     requires { ⌜ k < 36 ⌝ }
     ensures { λ r. ⌜ r ≡ input-word (now (s .entry)) index k ⌝ }
@@ -50,7 +33,7 @@ fn input_word(s: &[u8], index: Index, k: usize) -> u32
     let count = alphabet.count as usize;
     if k / 3 < count {
         let p = engine_reads::capped(alphabet.starts[k / 3]) as usize;
-        return input_part(s, p, k % 3);
+        return engine_begin::input_part(s, p, k % 3);
     }
     0
 }

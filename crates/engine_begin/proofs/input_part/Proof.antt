@@ -1,9 +1,9 @@
-use Rattle.search_inputs.proofs.Laws as laws
+use Rattle.engine_begin.proofs.Laws as laws
 use borrow.Author.Needs.{needs}
-use Rattle.search_inputs.proofs.input_part.Statement.{statement}
-use Rattle.search_inputs.proofs.input_part.Tie as tie
-use Rattle.search_inputs.proofs.input_part.Reads as reads
-use Rattle.search_inputs.proofs.input_part.Lts as lts
+use Rattle.engine_begin.proofs.input_part.Statement.{statement}
+use Rattle.engine_begin.proofs.input_part.Tie as tie
+use Rattle.engine_begin.proofs.input_part.Reads as reads
+use Rattle.engine_begin.proofs.input_part.Lts as lts
 use Rattle.engine_reads.proofs.byte_at.Reads as byte-at-reads
 use Rattle.engine_reads.proofs.two_at.Reads as two-at-reads
 
