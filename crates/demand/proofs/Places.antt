@@ -1,7 +1,7 @@
 -- A text of the file stands at its place. The identifiers of an accepted model's invariants are texts of the file, and so
 -- are the texts of its alphabet.
 use Prim.Native.Nat.{ℕ, zero, suc, _+_, _<_}
-use mathlib.Core.Path.{_≡_, sym, ap, _∙_, subst}
+use mathlib.Core.Path.{_≡_, refl, sym, ap, _∙_, subst}
 use mathlib.Core.Bool.{true, false}
 use mathlib.Core.List.{List, [], _∷_}
 use native.Mathlib.Omega.{arith}
@@ -19,7 +19,7 @@ use Rattle.model_walk.proofs.Found.{bound, given, Kind, kind-found, place-found
 use Rattle.model_walk.proofs.Found as found
 use Rattle.model_index.specs.Index.{readW}
 use Rattle.model_index.specs.Indexed.{Indexed, Says}
-use Rattle.model_index.proofs.Whole.{whole}
+use Rattle.model_index.proofs.Whole.{says}
 use Rattle.engine.specs.Words.{texts-in}
 use Rattle.engine.proofs.Lists.{Each, Case, is-true, is-false, case, eqT-eq, eqT-same}
 use Rattle.engine.proofs.Validated.{accepted-decoded}
@@ -106,7 +106,7 @@ all-of P d (x ∷ l) h = (h 0 (omega arith), all-of P d l (λ k o. h (suc k) (om
 
 module _ (f : List ℕ) (m : Model) (acc : accepted f ≡ answer m) where
   indexed : Indexed f (readW f .index) m
-  indexed = subst (Says f (readW f)) (accepted-decoded f m acc) (whole f) .1
+  indexed = subst (Says f (readW f)) (accepted-decoded f m acc) (says f refl) .indexed
 
   texts-are : indexed .ts ≡ texts-in f
   unfolding texts-in

@@ -10,7 +10,7 @@ use lib.Dec.{ltb}
 use borrow.Author.Tests.{lt-ltb, le-ltb}
 use Rattle.texts.specs.Lists.{if_then_else_, flat, each}
 use Rattle.texts.specs.Texts.{Text}
-use Rattle.model.specs.Answer.{answer, refused}
+use Rattle.model.specs.Answer.{Answer, answer, refused}
 use Rattle.model.specs.Model.{Model, Entity, Event, Input, Invariant}
 use Rattle.model.specs.Notes.{of-invariant, of-rule, notes-of}
 use Rattle.model.specs.File.{
@@ -97,22 +97,27 @@ module _ {A : Type 0} (w : A → ℕ) (r : Reader A) (k : Walk) (e : Sees w r k)
 
 -- ---- one reader, and then the others
 
+-- a file is read to the index of the model, or it is refused
+abbrev Finds : List ℕ → File → Answer Model → Type 0
+Finds s r (answer m) = (r .status ≡ status.Read) × Indexed s (r .index) m
+Finds s r (refused n) = r ≡ refusedW n
+
 module _ (s : List ℕ) (size : ℕ) where
   module _ {A : Type 0} (v : A → ℕ) (n : ℕ) (r : Reader A) (p : ℕ) (k : A → Reader Model) where
     pub on-bind : (w : Walked) → w ≡ seen v n (r s p) → (f : ℕ → ℕ → File) →
-        ((a : A) (q : ℕ) → r s p ≡ got a q → Says s (f q (capped (n + v a))) (decoded (k a s q) size)) →
-        Says s (on w f) (decoded ((r >>= k) s p) size)
+        ((a : A) (q : ℕ) → r s p ≡ got a q → Finds s (f q (capped (n + v a))) (decoded (k a s q) size)) →
+        Finds s (on w f) (decoded ((r >>= k) s p) size)
     unfolding on seen decoded
     on-bind w e f h = cases (r s p) refl
       where
-        cases : (g : Got A) → r s p ≡ g → Says s (on w f) (decoded ((r >>= k) s p) size)
-        cases (got a q) d = subst (λ (x : File). Says s x (decoded ((r >>= k) s p) size)) (sym (ap (λ (y : Walked). on y f) (e ∙ ap (seen v n) d))) (subst (λ (y : Got Model). Says s (f q (capped (n + v a))) (decoded y size)) (sym (bind-got r k d)) (h a q d))
-        cases broken d = subst (λ (x : File). Says s x (decoded ((r >>= k) s p) size)) (sym (ap (λ (y : Walked). on y f) (e ∙ ap (seen v n) d))) (subst (λ (y : Got Model). Says s (refusedW 30) (decoded y size)) (sym (bind-broken r k d)) refl)
+        cases : (g : Got A) → r s p ≡ g → Finds s (on w f) (decoded ((r >>= k) s p) size)
+        cases (got a q) d = subst (λ (x : File). Finds s x (decoded ((r >>= k) s p) size)) (sym (ap (λ (y : Walked). on y f) (e ∙ ap (seen v n) d))) (subst (λ (y : Got Model). Finds s (f q (capped (n + v a))) (decoded y size)) (sym (bind-got r k d)) (h a q d))
+        cases broken d = subst (λ (x : File). Finds s x (decoded ((r >>= k) s p) size)) (sym (ap (λ (y : Walked). on y f) (e ∙ ap (seen v n) d))) (subst (λ (y : Got Model). Finds s (refusedW 30) (decoded y size)) (sym (bind-broken r k d)) refl)
 
   -- a section: its reader is a count and its parts
   pub sec-bind : {A : Type 0} (v : A → ℕ) (u : List A → ℕ) → u [] ≡ 0 → ((x : A) (l : List A) → u (x ∷ l) ≡ v x + u l) → (r : Reader A) (j : Walk) → Sees v r j → (n p : ℕ) (k : List A → Reader Model) (f : Section → ℕ → ℕ → File) →
-      ((l : List A) (q : ℕ) → Holds r s (sectionW j s p (capped n)) l → Says s (f (sectionW j s p (capped n)) q (capped (n + u l))) (decoded (k l s q) size)) →
-      Says s (on-section (sectionW j s p (capped n)) f) (decoded ((counted r >>= k) s p) size)
+      ((l : List A) (q : ℕ) → Holds r s (sectionW j s p (capped n)) l → Finds s (f (sectionW j s p (capped n)) q (capped (n + u l))) (decoded (k l s q) size)) →
+      Finds s (on-section (sectionW j s p (capped n)) f) (decoded ((counted r >>= k) s p) size)
   unfolding on-section
   sec-bind v u z c r j e n p k f h =
       on-bind u n (counted r) p k (sectionW j s p (capped n) .end) (section-ends j s p (capped n) ∙ sees-counted v u z c r j e n s p) (f (sectionW j s p (capped n))) (λ l q d. h l q (holds v r j e s p n d))
@@ -190,11 +195,11 @@ capped-test n = elim (decLt 64 n) [
 ]
 
 -- the end of the file
-ends : (s : List ℕ) (p n : ℕ) (i : Index) (m : Model) → n ≡ length (notes-of m) → Indexed s i m → Says s (closed s p (capped n) i) (decoded (got m p) (length s))
+ends : (s : List ℕ) (p n : ℕ) (i : Index) (m : Model) → n ≡ length (notes-of m) → Indexed s i m → Finds s (closed s p (capped n) i) (decoded (got m p) (length s))
 unfolding closed decoded
 ends s p n i m e x = rw (capped-test n, e) (cases (ltb 64 (length (notes-of m))) (ltb p (length s)))
   where
-    cases : (a b : Bool) → Says s (if a then refusedW 30 else if b then refusedW 31 else record { status = status.Read; index = i }) (if a then refused 30 else if b then refused 31 else answer m)
+    cases : (a b : Bool) → Finds s (if a then refusedW 30 else if b then refusedW 31 else record { status = status.Read; index = i }) (if a then refused 30 else if b then refused 31 else answer m)
     cases true b = refl
     cases false true = refl
     cases false false = (refl, x)
@@ -240,10 +245,10 @@ after h =
 
 module _ (s : List ℕ) (ts : List Text) (v at : ℕ) (x : Section) where
   body-says : ascending ts ≡ true → x .count ≡ length ts → Reads texts s 4 ts → Holds one-text s x ts →
-      Says s (bodyW s v x at) (decoded ((place ts >>= λ t. entities ts >>= λ es. after (record { version = v; texts = ts; title = t; entities = es })) s at) (length s))
+      Finds s (bodyW s v x at) (decoded ((place ts >>= λ t. entities ts >>= λ es. after (record { version = v; texts = ts; title = t; entities = es })) s at) (length s))
   unfolding partW given capped after events give
   body-says asc e rt ht =
-      subst (λ (y : File). Says s y (decoded ((place ts >>= λ t. entities ts >>= λ es. after (record { version = v; texts = ts; title = t; entities = es })) s at) (length s))) (sym (body-with (length ts) s v x at e)) (
+      subst (λ (y : File). Finds s y (decoded ((place ts >>= λ t. entities ts >>= λ es. after (record { version = v; texts = ts; title = t; entities = es })) s at) (length s))) (sym (body-with (length ts) s v x at e)) (
       on-bind s (length s) quiet 0 (place ts) at _ _ (sees-place ts 0 s at) _ λ t p₀ at-title.
       on-bind s (length s) quiet 0 (entities ts) p₀ _ _ (sees-entities ts asc s p₀) _ λ es p₁ are-entities.
       sec-bind s (length s) quiet quiet refl (λ x l. refl) (event ts) (eventW (length ts)) (sees-event ts) 0 p₁ _ _ λ evs p₂ h-events.
@@ -339,21 +344,21 @@ text-holds s p e = holds quiet one-text textW sees-text s p 0 (texts-passed s p 
 texts-ascend : (s : List ℕ) (p : ℕ) {ts : List Text} {q : ℕ} → texts s p ≡ got ts q → ascending ts ≡ true
 texts-ascend s p {ts} e = and-true (ascending ts) (has-fixed ts) (texts-passed s p e .holds)
 
-small : (s : List ℕ) → length s ≤ 32768 → Says s (readW s) (decoded (model s 0) (length s))
+small : (s : List ℕ) → length s ≤ 32768 → Finds s (readW s) (decoded (model s 0) (length s))
 unfolding decoded
-small s h = subst (λ (y : Got Model). Says s (readW s) (decoded y (length s))) (sym (model-flat s 0)) (cases (u32 s 0) refl)
+small s h = subst (λ (y : Got Model). Finds s (readW s) (decoded y (length s))) (sym (model-flat s 0)) (cases (u32 s 0) refl)
   where
-    cases : (g : Got ℕ) → u32 s 0 ≡ g → Says s (readW s) (decoded ((u32 >>= λ v. flat₁ v) s 0) (length s))
+    cases : (g : Got ℕ) → u32 s 0 ≡ g → Finds s (readW s) (decoded ((u32 >>= λ v. flat₁ v) s 0) (length s))
     cases (got v p) e =
-        subst (λ (y : File). Says s y (decoded ((u32 >>= λ v. flat₁ v) s 0) (length s))) (sym (read-on s e h))
-        (subst (λ (y : Got Model). Says s (on (textsW s p) (λ p₁ n₁. bodyW s v (sectionW (partW 0 part.Text) s p 0) p₁)) (decoded y (length s))) (sym (bind-got u32 (λ v. flat₁ v) e))
+        subst (λ (y : File). Finds s y (decoded ((u32 >>= λ v. flat₁ v) s 0) (length s))) (sym (read-on s e h))
+        (subst (λ (y : Got Model). Finds s (on (textsW s p) (λ p₁ n₁. bodyW s v (sectionW (partW 0 part.Text) s p 0) p₁)) (decoded y (length s))) (sym (bind-got u32 (λ v. flat₁ v) e))
         (on-bind s (length s) quiet 0 texts p (λ ts. flat₂ v ts) (textsW s p) (sees-texts s p) (λ p₁ n₁. bodyW s v (sectionW (partW 0 part.Text) s p 0) p₁)
         (λ ts q d. body-says s ts v q (sectionW (partW 0 part.Text) s p 0) (texts-ascend s p d) (text-holds s p d .counts) (q, ap (texts s) (sym (u32-next s e)) ∙ d) (text-holds s p d))))
     cases broken e =
-        subst (λ (y : File). Says s y (decoded ((u32 >>= λ v. flat₁ v) s 0) (length s))) (sym (read-short s e h))
-        (subst (λ (y : Got Model). Says s (refusedW 30) (decoded y (length s))) (sym (bind-broken u32 (λ v. flat₁ v) e)) refl)
+        subst (λ (y : File). Finds s y (decoded ((u32 >>= λ v. flat₁ v) s 0) (length s))) (sym (read-short s e h))
+        (subst (λ (y : Got Model). Finds s (refusedW 30) (decoded y (length s))) (sym (bind-broken u32 (λ v. flat₁ v) e)) refl)
 
-pub whole : (s : List ℕ) → Says s (readW s) (decode s)
+whole : (s : List ℕ) → Finds s (readW s) (decode s)
 unfolding decode
 whole s = elim (decLt 32768 (length s)) [
   | yes h ↦ rw (lt-ltb 32768 (length s) h) (laws.too-long s h)
@@ -361,4 +366,8 @@ whole s = elim (decLt 32768 (length s)) [
 ]
 
 pub says : (s : List ℕ) {r : File} → r ≡ readW s → Says s r (decode s)
-says s e = subst (λ (y : File). Says s y (decode s)) (sym e) (whole s)
+says s {r} e = by (decode s) (subst (λ (y : File). Finds s y (decode s)) (sym e) (whole s))
+  where
+    by : (a : Answer Model) → Finds s r a → Says s r a
+    by (answer m) (d, i) = record { whole = e; is-read = d; indexed = i }
+    by (refused n) d = d

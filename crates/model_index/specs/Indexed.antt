@@ -15,7 +15,7 @@ use Rattle.model.specs.File.{Reader}
 use Rattle.model_index.specs.declared.File.{File}
 use Rattle.model_index.specs.declared.Status.the-variants as status
 use Rattle.model_index.specs.declared.Index.{Index}
-use Rattle.model_index.specs.Index.{refusedW}
+use Rattle.model_index.specs.Index.{refusedW, readW}
 
 -- the section's parts are these values: as many, and the first hundred of them at its positions
 pub record Holds {A : Type 0} (r : Reader A) (s : List ℕ) (x : Section) (l : List A) : Type 0 where
@@ -38,7 +38,14 @@ pub record Indexed (s : List ℕ) (i : Index) (m : Model) : Type 0 where
   pub limits-at : Reads limits s (i .limits) (m .scenario .limits)
   pub rules : Holds (automation ts) s (i .rules) (m .rules)
 
--- the answer for a file that decodes to a model, or that is refused
+-- the answer for a file that decodes to a model: all that the walk over the file finds, with the ends of the sections and
+-- the zeros behind the last positions, and its index is the model's
+pub record Read (s : List ℕ) (r : File) (m : Model) : Type 0 where
+  pub whole : r ≡ readW s
+  pub is-read : r .status ≡ status.Read
+  pub indexed : Indexed s (r .index) m
+
+-- or for one that is refused
 abbrev pub Says : List ℕ → File → Answer Model → Type 0
-Says s r (answer m) = (r .status ≡ status.Read) × Indexed s (r .index) m
+Says s r (answer m) = Read s r m
 Says s r (refused n) = r ≡ refusedW n

@@ -242,7 +242,7 @@ module _ (s : List ℕ) (file : File) where
   stays-refused says e = cases (decode s) says
     where
       cases : (a : Answer Model) → Says s file a → Says s file (a >>= validate)
-      cases (answer m) h = absurd (read-or-not (h .0) e)
+      cases (answer m) h = absurd (read-or-not (h .is-read) e)
       cases (refused k) h = h
 
   module _ (r : file .status ≡ status.Read) {x : Checked} (e : x ≡ indexC (file .index) s) where
@@ -255,7 +255,7 @@ module _ (s : List ℕ) (file : File) where
     is-accepted says h = cases (decode s) says
       where
         cases : (a : Answer Model) → Says s file a → Says s file (a >>= validate)
-        cases (answer m) y = subst (Says s file) (sym (ap (outcome m) h) ∙ verdict m (y .1)) y
+        cases (answer m) y = subst (Says s file) (sym (ap (outcome m) h) ∙ verdict m (y .indexed)) y
         cases (refused k) y = absurd (read-or-not r (refused-status k y))
 
     pub is-refused : Says s file (decode s) → {k : ℕ} → x ≡ checked.Refused k → {f : File} → f ≡ refusedW k → Says s f (accepted s)
@@ -263,7 +263,7 @@ module _ (s : List ℕ) (file : File) where
     is-refused says {k} h {f} o = cases (decode s) says
       where
         cases : (a : Answer Model) → Says s file a → Says s f (a >>= validate)
-        cases (answer m) y = subst (Says s f) (sym (ap (outcome m) h) ∙ verdict m (y .1)) o
+        cases (answer m) y = subst (Says s f) (sym (ap (outcome m) h) ∙ verdict m (y .indexed)) o
         cases (refused i) y = absurd (read-or-not r (refused-status i y))
 
   -- the entry `validate`, from the status
@@ -280,7 +280,7 @@ module _ (s : List ℕ) (file : File) where
   valid-refused says {k} e = cases (accepted s) says
     where
       cases : (a : Answer Model) → Says s file a → validity.Refused k ≡ validity-of a
-      cases (answer m) h = absurd (read-or-not (h .0) e)
+      cases (answer m) h = absurd (read-or-not (h .is-read) e)
       cases (refused i) h = let z : status.Refused k ≡ status.Refused i = sym e ∙ refused-status i h in (cc)
 
   -- the model of a file that was accepted, or the number that refuses it: what every entry goes on from
@@ -290,14 +290,14 @@ module _ (s : List ℕ) (file : File) where
     where
       cases : (a : Answer Model) → accepted s ≡ a → Says s file a →
           (m : Model) × ((accepted s ≡ answer m) × Indexed s (file .index) m)
-      cases (answer m) z h = (m, (z, h .1))
+      cases (answer m) z h = (m, (z, h .indexed))
       cases (refused k) z h = absurd (read-or-not e (refused-status k h))
 
   pub accept-refused : Says s file (accepted s) → {k : ℕ} → file .status ≡ status.Refused k → accepted s ≡ refused k
   accept-refused says {k} e = cases (accepted s) refl says
     where
       cases : (a : Answer Model) → accepted s ≡ a → Says s file a → accepted s ≡ refused k
-      cases (answer m) z h = absurd (read-or-not (h .0) e)
+      cases (answer m) z h = absurd (read-or-not (h .is-read) e)
       cases (refused i) z h =
           let y : status.Refused k ≡ status.Refused i = sym e ∙ refused-status i h in
           let same : k ≡ i = cc in
