@@ -1,1 +1,3 @@
 pub mod Some
+pub mod Candidates
+pub mod Visits

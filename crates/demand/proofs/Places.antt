@@ -24,7 +24,7 @@ use Rattle.engine.specs.Words.{texts-in}
 use Rattle.engine.proofs.Lists.{Each, Case, is-true, is-false, case, eqT-eq, eqT-same}
 use Rattle.engine.proofs.Validated.{accepted-decoded}
 use Rattle.engine_places.proofs.Accepted.{accepted-lawful}
-use Rattle.search_inputs.specs.Inputs.{input-words}
+use Rattle.model.specs.Events.{input-words}
 use Rattle.search_inputs.proofs.Means.{fine-here}
 
 -- the text is one of the list
