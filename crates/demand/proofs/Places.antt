@@ -9,7 +9,7 @@ use lib.ListN.{length, getD}
 use Rattle.texts.specs.Lists.{if_then_else_}
 use Rattle.texts.specs.Texts.{Text, eqT}
 use Rattle.model.specs.Answer.{answer, refused}
-use Rattle.model.specs.Events.{InputWords}
+use Rattle.model.specs.Events.{input-words, InputWords}
 use Rattle.model.specs.Model.{Input, Invariant, id-of, Model}
 use Rattle.model.specs.File.{got, refuse, u32, counted, place, predicate, invariant, invariant-kinds}
 use Rattle.model.specs.File.{_>>=_ as _>>=ᵣ_}
@@ -24,7 +24,6 @@ use Rattle.engine.specs.Words.{texts-in}
 use Rattle.engine.proofs.Lists.{Each, Case, is-true, is-false, case, eqT-eq, eqT-same}
 use Rattle.engine.proofs.Validated.{accepted-decoded}
 use Rattle.engine_places.proofs.Accepted.{accepted-lawful}
-use Rattle.model.specs.Events.{input-words}
 use Rattle.search_inputs.proofs.Means.{fine-here}
 
 -- the text is one of the list
