@@ -1,11 +1,12 @@
 -- The values after a record; the reading of the records from an index on: its end, a record that fails, one that doesn't.
-use Prim.Native.Nat.{ℕ, _+_, _≤_, _<_}
+use Prim.Native.Nat.{ℕ, zero, suc, _+_, _≤_, _<_}
 use mathlib.Core.Path.{_≡_, refl, sym, ap, _∙_}
-use mathlib.Core.Bool.{Bool, true, false}
+use mathlib.Core.Bool.{Bool, true, false, not, false≢true}
 use mathlib.Core.List.{List, _∷_}
 use native.Mathlib.Omega.{arith}
 use native.Mathlib.Numerals.{add-one}
-use lib.Dec.{ltb}
+use lib.Dec.{ltb, eqb}
+use borrow.Author.Tests.{eqb-false}
 use lib.ListN.{length, getD, set, drop, drop-of-length-le}
 use lib.Seq.{drop-cons}
 use Rattle.texts.specs.Lists.{if_then_else_}
@@ -23,7 +24,11 @@ use Rattle.checker_response.specs.declared.Memory.{Memory}
 use Rattle.checker_response.specs.declared.Shown.{Shown}
 use Rattle.checker_judge.specs.declared.Reading.{Reading}
 use Rattle.checker_response.specs.Response.{failedJ}
-use Rattle.checker_judge.specs.Judging.{nothingJ, putJ, afterJ, entityJ, valueJ, setJ, readJ, turnJ, unfailedJ, readingJ, judgeJ, Turned, Judges}
+use Rattle.checker_judge.specs.Judging.{nothingJ, putJ, afterJ, entityJ, valueJ, setJ, readJ, Turn, turnJ, unfailedJ, readingJ, judgeJ, Judges}
+use Rattle.checker_judge.specs.Names.{named-in, touchesN, pendingN, overN}
+use Rattle.checker_judge.specs.Turns.{Agree, nothing-new, Fresh, Follows, Turned}
+use Rattle.checker_judge.proofs.Named.{agree-over, agree-set}
+use Rattle.checker_judge.proofs.Quiet.{unchanged, read-same, read-unchanged, fresh-after}
 
 -- ---- one record
 
@@ -42,74 +47,141 @@ after-values x (Write e b v) c = cases (ltb (entityOf x e) 32)
 pub agree : (vs ws present after : List ℕ) (e v : ℕ) → vs ≡ ws → present ≡ setJ ws e v → after ≡ setJ vs e v → after ≡ present
 agree vs ws present after e v alike put put-too = put-too ∙ ap (λ (us : List ℕ). setJ us e v) alike ∙ sym put
 
-pub turns : (f x : List ℕ) (at : ℕ) (vs present after : List ℕ) (m : Memory) (a : List ℕ) (k : ℕ) (r : Record) (e v : ℕ) (s : Shown) →
-    after ≡ present → after ≡ setJ vs e v → Got a k r → e ≡ entityJ x (r .change) → v ≡ valueJ (r .change) →
-    s ≡ readJ f x at vs present r m →
-    Turned f x at vs m a k (record { failure = s .failure; index = k; second = r .second; source = r .source; memory = s .memory }) after
-unfolding turnJ
-turns f x at vs present after m a k r e v s alike put got he hv hs = record {
-  is = λ c l d w h o.
-      let z : afterJ x (r .change) c .values ≡ present = after-values x (r .change) c ∙ rw (w, ← he, ← hv) (sym put ∙ alike) in
-      rw (← (got .is l d h o)) (rw (z, w, ← hs), alike ∙ sym z);
-}
+module _ (f x : List ℕ) (at : ℕ) (named : List Bool) (is-named : named ≡ named-in f at) (vs : List ℕ) (m : Memory) (a : List ℕ)
+    (k : ℕ) (r : Record) (got : Got a k r) where
+  -- the record is read
+  pub turns : (present after : List ℕ) (e v : ℕ) (s : Shown) → after ≡ present → after ≡ setJ vs e v
+      → e ≡ entityJ x (r .change) → v ≡ valueJ (r .change) → s ≡ readJ f x at vs present r m →
+      Turned f x at named vs m a k
+      (record { failure = s .failure; index = k; second = r .second; source = r .source; memory = s .memory }) after
+  unfolding turnJ
+  turns present after e v s alike put he hv hs = record {
+    is = λ c l d w fresh h o.
+        let values : afterJ x (r .change) c .values ≡ setJ (c .values) e v = after-values x (r .change) c ∙ rw (he, hv) refl in
+        let agree : Agree x named (afterJ x (r .change) c .values) after =
+        rw (values, put) (agree-set x named (c .values) vs e v w) in
+        let read : readJ f x at (c .values) (afterJ x (r .change) c .values) r m ≡ s =
+        read-same f x at (c .values) vs (afterJ x (r .change) c .values) present r m
+        (rw is-named at w) (rw (is-named, alike) at agree) ∙ sym hs in
+        rw (← (got .is l d h o), read) (record {
+          memory = refl;
+          failed = refl;
+          told = λ y. refl;
+          agree = agree;
+          fresh = λ y. rw (hs, alike) (fresh-after f x at vs present r m (rw hs at y));
+        });
+  }
+
+  -- the record is passed over
+  pub turns-over : overN named m (r .change) k ≡ true → Turned f x at named vs m a k (unfailedJ m) vs
+  unfolding turnJ overN failedJ
+  turns-over over = record {
+    is = λ c l d w fresh h o.
+        let parts = over-parts (eqb k 0) (pendingN (m .wait)) (touchesN named (r .change)) over in
+        let again : Fresh f x at vs m = fresh (positive k (eqb-false k 0 (parts .0))) in
+        let agree = agree-over x named c vs (r .change) (parts .1 .1) w in
+        let read : readJ f x at (c .values) (afterJ x (r .change) c .values) r m ≡ nothing-new m =
+        read-unchanged f x at (c .values) (afterJ x (r .change) c .values) r m (rw is-named at (parts .1 .1))
+        ∙ read-same f x at (c .values) vs (afterJ x (r .change) c .values) vs (unchanged r) m
+        (rw is-named at w) (rw is-named at agree)
+        ∙ again .still (parts .1 .0) (unchanged r) refl in
+        rw (← (got .is l d h o), read) (record {
+          memory = refl;
+          failed = refl;
+          told = λ y. absurd (false≢true y);
+          agree = agree;
+          fresh = λ y. again;
+        });
+  }
+    where
+      over-parts : (first waits touches : Bool) → (if first then false else if waits then false else not touches) ≡ true
+          → (first ≡ false) × ((waits ≡ false) × (touches ≡ false))
+      over-parts true waits touches h = absurd (false≢true h)
+      over-parts false true touches h = absurd (false≢true h)
+      over-parts false false true h = absurd (false≢true h)
+      over-parts false false false h = (refl, (refl, refl))
+
+      positive : (n : ℕ) → (n ≡ 0 → ⊥) → 0 < n
+      positive zero h = absurd (h refl)
+      positive (suc n) h = omega arith
 
 -- ---- all records
 
 no-record : Record
 no-record = record { second = 0; kind = 0; detail = 0; number = 0; rule = NoRule; source = Nowhere; change = NoChange }
 
--- at the index k: some cells with the values vs, from which the rest is read
-pub record Rest (f x : List ℕ) (at : ℕ) (cells : Cells) (l : List Record) (p : ℕ) (vs : List ℕ) (m : Memory) (k : ℕ) : Type 0 where
+-- at the index k: some cells that agree with the values vs, from which the rest is read
+pub record Rest (f x : List ℕ) (at : ℕ) (cells : Cells) (l : List Record) (p : ℕ) (named : List Bool) (vs : List ℕ) (m : Memory)
+    (k : ℕ) : Type 0 where
   pub current : Cells
-  pub valued : current .values ≡ vs
+  pub valued : Agree x named (current .values) vs
+  pub fresh : 0 < k → Fresh f x p vs m
   pub is : judgeJ f x at cells l ≡ readingJ f x p current m k (drop k l)
 
 -- what the reading of a whole area says, at the index k, from any cells with the values us
-abbrev pub From : (f x : List ℕ) (at : ℕ) (us a : List ℕ) (n p : ℕ) (vs : List ℕ) (m : Memory) (k : ℕ) → Type 0
-From f x at us a n p vs m k =
-    (cells : Cells) → cells .values ≡ us → (l : List Record) → length l ≡ n → a ≡ recorded (length a) l → Rest f x at cells l p vs m k
+abbrev pub From : (f x : List ℕ) (at : ℕ) (us a : List ℕ) (n p : ℕ) (named : List Bool) (vs : List ℕ) (m : Memory) (k : ℕ) → Type 0
+From f x at us a n p named vs m k =
+    (cells : Cells) → cells .values ≡ us → (l : List Record) → length l ≡ n → a ≡ recorded (length a) l
+    → Rest f x at cells l p named vs m k
 
-module _ (f x : List ℕ) (at : ℕ) (us a : List ℕ) (n p : ℕ) where
-  pub starts : (m : Memory) → p ≡ cap at → m ≡ nothingJ → From f x at us a n p us m 0
+module _ (f x : List ℕ) (at : ℕ) (us a : List ℕ) (n p : ℕ) (named : List Bool) where
+  pub starts : (m : Memory) → p ≡ cap at → m ≡ nothingJ → From f x at us a n p named us m 0
   unfolding judgeJ
-  starts m e g cells w l h o = record { current = cells; valued = w; is = rw (e, g) }
+  starts m e g cells w l h o = record {
+    current = cells;
+    valued = record { long = ap length w; same = λ id _. ap (λ (vs : List ℕ). getD vs (entityOf x id) 0) w };
+    fresh = λ z. absurd (omega (arith, z));
+    is = rw (e, g);
+  }
 
-  module _ (vs : List ℕ) (m : Memory) (k : ℕ) (inv : From f x at us a n p vs m k) where
+  module _ (vs : List ℕ) (m : Memory) (k : ℕ) (inv : From f x at us a n p named vs m k) where
     pub ends : (cells : Cells) → cells .values ≡ us → (r : Reading) → n ≤ k → r ≡ unfailedJ m → Judges f x at cells a n r
     unfolding readingJ
-    ends cells w r h e = record { is = λ l g o. let y : length l ≤ k = omega arith in e ∙ sym (inv cells w l g o .is ∙ rw (drop-of-length-le l y)) }
+    ends cells w r h e = record {
+      is = λ l g o. let y : length l ≤ k = omega arith in e ∙ sym (inv cells w l g o .is ∙ rw (drop-of-length-le l y));
+    }
 
-    module _ (r : Reading) (after : List ℕ) (h : k < n) (is : Turned f x p vs m a k r after) (b : Bool) (e : Failure) (named : e ≡ r .failure) (test : b ≡ failedJ e) where
-      turned : (c : Cells) → c .values ≡ vs → (l : List Record) → length l ≡ n → a ≡ recorded (length a) l →
-          (r ≡ turnJ f x p c m k (getD l k no-record) .reading) × (after ≡ turnJ f x p c m k (getD l k no-record) .cells .values)
-      turned c w l g o = is .is c l no-record w (omega arith) o
-
-      tested : (c : Cells) → c .values ≡ vs → (l : List Record) → length l ≡ n → a ≡ recorded (length a) l →
-          b ≡ failedJ (turnJ f x p c m k (getD l k no-record) .reading .failure)
-      tested c w l g o = test ∙ ap failedJ (named ∙ ap (λ (u : Reading). u .failure) (turned c w l g o .0))
+    module _ (r : Reading) (after : List ℕ) (h : k < n) (is : Turned f x p named vs m a k r after) (b : Bool) (e : Failure)
+        (told : e ≡ r .failure) (test : b ≡ failedJ e) where
+      tests : b ≡ failedJ (r .failure)
+      tests = test ∙ ap failedJ told
 
       split : (l : List Record) → length l ≡ n → drop k l ≡ getD l k no-record ∷ drop (k + 1) l
       split l g = rw (add-one k) (drop-cons l k no-record (omega arith))
 
+      module _ (cells : Cells) (w : cells .values ≡ us) (l : List Record) (g : length l ≡ n) (o : a ≡ recorded (length a) l) where
+        rest : Rest f x at cells l p named vs m k
+        rest = inv cells w l g o
+
+        turn : Turn
+        turn = turnJ f x p (rest .current) m k (getD l k no-record)
+
+        follows : Follows f x p named turn r after
+        unfolding turn
+        follows = is .is (rest .current) l no-record (rest .valued) (rest .fresh) (omega arith) o
+
+        failed : failedJ (turn .reading .failure) ≡ b
+        failed = sym (tests ∙ follows .failed)
+
       pub fails : (cells : Cells) → cells .values ≡ us → b ≡ true → Judges f x at cells a n r
-      unfolding readingJ
+      unfolding readingJ turn
       fails cells w y = record {
         is = λ l g o.
-            let s = inv cells w l g o in
-            sym (s .is ∙ rw (split l g, sym (tested (s .current) (s .valued) l g o) ∙ y, readingJ) (sym (turned (s .current) (s .valued) l g o .0)));
+            sym (rest cells w l g o .is ∙ rw (split l g, failed cells w l g o ∙ y, readingJ)
+            (sym (follows cells w l g o .told (sym tests ∙ y))));
       }
 
-      pub goes : b ≡ false → From f x at us a n p after (r .memory) (k + 1)
-      unfolding readingJ
+      pub goes : b ≡ false → From f x at us a n p named after (r .memory) (k + 1)
+      unfolding readingJ turn
       goes y cells w l g o =
-          let s = inv cells w l g o in
-          let t = turned (s .current) (s .valued) l g o in
-          let next = turnJ f x p (s .current) m k (getD l k no-record) .cells in
+          let t = turn cells w l g o in
+          let now = follows cells w l g o in
           record {
-            current = next;
-            valued = sym (t .1);
+            current = t .cells;
+            valued = now .agree;
+            fresh = λ _. now .fresh (sym tests ∙ y);
             is =
-                s .is
-                ∙ rw (split l g, sym (tested (s .current) (s .valued) l g o) ∙ y, readingJ)
-                (ap (λ (u : Reading). readingJ f x p next (u .memory) (k + 1) (drop (k + 1) l)) (sym (t .0)));
+                rest cells w l g o .is
+                ∙ rw (split l g, failed cells w l g o ∙ y, readingJ)
+                (ap (λ (u : Memory). readingJ f x p (t .cells) u (k + 1) (drop (k + 1) l)) (sym (now .memory)));
           }

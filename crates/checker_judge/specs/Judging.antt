@@ -1,6 +1,6 @@
 -- The judging of one invariant, on places: the invariant at a position of the file f, with the table x, over records and
 -- the values by entity number. It goes as checker's Judge does for texts.
-use Prim.Native.Nat.{ℕ, _+_, _<_}
+use Prim.Native.Nat.{ℕ, _+_}
 use mathlib.Core.Path.{_≡_}
 use mathlib.Core.Bool.{Bool, true, false, _&&_, _||_}
 use mathlib.Core.List.{List, [], _∷_}
@@ -148,10 +148,6 @@ unfoldable pub judgeJ : (f x : List ℕ) → (at : ℕ) → Cells → List Recor
 judgeJ f x at c l = readingJ f x (cap at) c nothingJ 0 l
 
 -- ---- over the record area a, whatever records it holds
-
--- the record at k, from any cells with the values vs: its reading, and the values after it
-pub record Turned (f x : List ℕ) (at : ℕ) (vs : List ℕ) (m : Memory) (a : List ℕ) (k : ℕ) (r : Reading) (after : List ℕ) : Type 0 where
-  pub is : (c : Cells) (l : List Record) (d : Record) → c .values ≡ vs → k < length l → a ≡ recorded (length a) l → (r ≡ turnJ f x at c m k (getD l k d) .reading) × (after ≡ turnJ f x at c m k (getD l k d) .cells .values)
 
 pub record Judges (f x : List ℕ) (at : ℕ) (c : Cells) (a : List ℕ) (n : ℕ) (r : Reading) : Type 0 where
   pub is : (l : List Record) → length l ≡ n → a ≡ recorded (length a) l → r ≡ judgeJ f x at c l

@@ -30,7 +30,9 @@ ghost use Prim.Native.Nat.{_*_, _+_, _≤_};
 ghost use lib.ListN.{length};
 ghost use Rattle.engine_truth.specs.Truths.{sizeT};
 ghost use Rattle.engine_state.specs.Machine.{later};
-ghost use Rattle.checker_judge.specs.Judging.{nothingJ, unsureJ, entityJ, valueJ, setJ, neverJ, writesJ, aboutJ, guardedJ, guardJ, passesJ, transitionJ, seenJ, readJ, unfailedJ, Turned, Judges};
+ghost use Rattle.checker_judge.specs.Judging.{nothingJ, unsureJ, entityJ, valueJ, setJ, neverJ, writesJ, aboutJ, guardedJ, guardJ, passesJ, transitionJ, seenJ, readJ, unfailedJ, Judges};
+ghost use Rattle.checker_judge.specs.Names.{withN, predicateN, listN, namesN, named-in, touchesN, pendingN, overN};
+ghost use Rattle.checker_judge.specs.Turns.{Turned};
 
 // The failing record: its index, its second, its source; without a failure these are 0 and none.
 pub struct Reading {
@@ -237,25 +239,118 @@ fn read(
     responded(seen_at(f, x, at, before, present), r.second, r.kind == 9, m)
 }
 
+// ---- the entities that an invariant names
+
+// An entity's cell is the one at its place's remainder.
+fn name(id: u32, named: &mut [bool; 64])
+    ensures { λ _. ⌜ now (named .exit) ≡ withN id (now (named .entry)) ⌝ }
+{
+    named[(id % 64) as usize] = true;
+}
+
+fn name_predicate(f: &[u8], at: u32, named: &mut [bool; 64])
+    ensures { λ _. ⌜ now (named .exit) ≡ predicateN (now (f .entry)) at (now (named .entry)) ⌝ }
+{
+    if byte_at(f, at as usize) == 1 {
+        return;
+    }
+    name(two_at(f, at as usize + 1), named);
+}
+
+fn name_list(f: &[u8], at: u32, named: &mut [bool; 64])
+    ensures { λ _. ⌜ now (named .exit) ≡ listN (now (f .entry)) at (now (named .entry)) ⌝ }
+{
+    let mut left = two_at(f, at as usize);
+    let mut p = after(at, 2);
+    while 0 < left {
+        name_predicate(f, p, named);
+        p = after_predicate(f, p);
+        left -= 1;
+    }
+}
+
+fn name_all(f: &[u8], at: u32, named: &mut [bool; 64])
+    ensures { λ _. ⌜ now (named .exit) ≡ namesN (now (f .entry)) at (now (named .entry)) ⌝ }
+{
+    let kind = byte_at(f, at as usize);
+    if kind == 0 {
+        name_list(f, after(at, 3), named);
+        return;
+    }
+    if kind == 1 {
+        name(two_at(f, at as usize + 3), named);
+        name_list(f, after(at, 7), named);
+        return;
+    }
+    if kind == 2 {
+        name(two_at(f, at as usize + 3), named);
+        return;
+    }
+    let p = after(at, 3);
+    name_predicate(f, p, named);
+    name_predicate(f, after_predicate(f, p), named);
+}
+
 // ---- all records
 
-// The record at k. Both arrays hold the values before it, and then the values after it.
+fn touches(named: &[bool; 64], change: Change) -> bool
+    ensures { λ r. ⌜ r ≡ touchesN (now (named .entry)) change ⌝ }
+{
+    match change {
+        Change::NoChange => false,
+        Change::Write {
+            entity,
+            before: _,
+            after: _,
+        } => named[(entity % 64) as usize],
+    }
+}
+
+fn pending(wait: Wait) -> bool
+    ensures { λ r. ⌜ r ≡ pendingN wait ⌝ }
+{
+    match wait {
+        Wait::NoWait => false,
+        Wait::Until(_) => true,
+    }
+}
+
+// Whether nothing new is to be read at the record at k.
+fn passes_over(named: &[bool; 64], m: Memory, change: Change, k: usize) -> bool
+    ensures { λ r. ⌜ r ≡ overN (now (named .entry)) m change k ⌝ }
+{
+    if k == 0 {
+        return false;
+    }
+    let wait = m.wait;
+    if pending(wait) {
+        return false;
+    }
+    !touches(named, change)
+}
+
+// The record at k. Both arrays hold the values before it, and then the values after it; of entities that aren't named they
+// may hold older ones.
 fn next_turn(
     f: &[u8],
     x: &[u32; 436],
     at: u32,
+    named: &[bool; 64],
     before: &mut [u32; 32],
     present: &mut [u32; 32],
     m: Memory,
     a: &[u32],
     k: usize,
 ) -> Reading
-    requires { ⌜ (k * 13 + 13 ≤ length (now a)) × (now before ≡ now present) ⌝ }
+    requires { ⌜ (k * 13 + 13 ≤ length (now a)) × ((now before ≡ now present) × (now named ≡ named-in (now f) at)) ⌝ }
     ensures same { λ _. ⌜ now (before .exit) ≡ now (present .exit) ⌝ }
-    ensures turned { λ r. ⌜ Turned (now (f .entry)) (now (x .entry)) at (now (before .entry)) m (now (a .entry)) k r (now (before .exit)) ⌝ }
+    ensures turned { λ r. ⌜ Turned (now (f .entry)) (now (x .entry)) at (now (named .entry)) (now (before .entry)) m (now (a .entry)) k r (now (before .exit)) ⌝ }
 {
     let r = records::get_record(a, k);
     let change = r.change;
+    if passes_over(named, m, change, k) {
+        return unfailed(m);
+    }
     let source = r.source;
     let e = entity_in(x, change);
     let value = value_in(change);
@@ -304,6 +399,8 @@ pub fn judge(f: &[u8], x: &[u32; 436], at: usize, cells: Cells, a: &[u32], n: us
     ensures { λ r. ⌜ Judges (now (f .entry)) (now (x .entry)) at cells (now (a .entry)) n r ⌝ }
 {
     let p = engine_reads::capped(at);
+    let mut named = [false; 64];
+    name_all(f, p, &mut named);
     let mut before = cells.values;
     let mut present = cells.values;
     let mut m = nothing_yet();
@@ -312,7 +409,7 @@ pub fn judge(f: &[u8], x: &[u32; 436], at: usize, cells: Cells, a: &[u32], n: us
         if n <= k {
             break unfailed(m);
         }
-        let shown = next_turn(f, x, p, &mut before, &mut present, m, a, k);
+        let shown = next_turn(f, x, p, &named, &mut before, &mut present, m, a, k);
         let failure = shown.failure;
         if failed(failure) {
             break shown;

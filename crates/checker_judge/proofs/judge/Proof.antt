@@ -2,15 +2,41 @@ use borrow.Author.Needs.{needs}
 use mathlib.Core.Path.{_≡_, refl}
 use Prim.Native.Nat.{_-_}
 use native.Mathlib.Omega.{arith}
+use Rattle.checker_judge.specs.Names.{named-in}
 use Rattle.checker_judge.proofs.Laws as laws
 use Rattle.checker_judge.proofs.judge.Statement.{statement}
 use Rattle.checker_judge.proofs.judge.Tie as tie
 
 abbrev Inv-loop : tie.InvT-loop
-Inv-loop f x at a n p before₀ present₀ m₀ k₀ before present m k = laws.From f x at before₀ a n p before m k × (before ≡ present)
+Inv-loop f x at a n p named before₀ present₀ m₀ k₀ before present m k =
+    laws.From f x at before₀ a n p named before m k × ((before ≡ present) × (named ≡ named-in f p))
 
 abbrev μ-loop : tie.MeasureT-loop
-μ-loop f x at a n p before₀ present₀ m₀ k₀ before present m k = n - k
+μ-loop f x at a n p named before₀ present₀ m₀ k₀ before present m k = n - k
+
+loop-holds : tie.Need-loop-holds Inv-loop μ-loop
+loop-holds c = (
+  laws.starts _ _ _ _ _ _ _ _ _ (c .before .before .before .before .before .capped .ensures) (c .nothing-yet .ensures),
+  (refl, c .before .before .before .name-all .ensures),
+)
+
+next-turn-requires : tie.Need-next-turn-requires Inv-loop μ-loop
+next-turn-requires c κs = (omega (arith, c .before .before .before .before .before .before .before .before .before .before .before .before .before .pre), c .before .before .before .before .loop .inv .1)
+
+loop-again : tie.Need-loop-again Inv-loop μ-loop
+loop-again c = (
+  laws.goes _ _ _ _ _ _ _ _ _ _ _ (c .before .before .before .before .before .before .before .before .loop .inv .0) _ _ (c .before .before .before .before .before .before .before .if1 .left) (c .before .before .before .next-turn .ensures .1) _ _ refl (c .before .before .failed .ensures)
+      (c .before .if2 .left),
+  (c .before .before .before .next-turn .ensures .0, c .before .before .before .before .before .before .before .before .loop .inv .1 .1),
+)
+
+returns : tie.Need-returns Inv-loop μ-loop
+returns c = laws.ends _ _ _ _ _ _ _ _ _ _ _ (c .before .before .loop .inv .0) _ refl _ (c .before .if1 .taken) (c .unfailed .ensures)
+
+returns-2 : tie.Need-returns-2 Inv-loop μ-loop
+returns-2 c =
+    laws.fails _ _ _ _ _ _ _ _ _ _ _ (c .before .before .before .before .before .before .before .loop .inv .0) _ _ (c .before .before .before .before .before .before .if1 .left) (c .before .before .next-turn .ensures .1) _ _ refl (c .before .failed .ensures)
+    _ refl (c .if2 .taken)
 
 pub judge-spec : {M : Type 1} → statement M
 judge-spec =
@@ -20,12 +46,13 @@ judge-spec =
     μ-loop
     (λ c κs. search needs)
     (λ c κs. search needs)
-    (λ c. (laws.starts _ _ _ _ _ _ _ _ (c .before .before .before .capped .ensures) (c .nothing-yet .ensures), refl))
     (λ c κs. search needs)
-    (λ c κs. (omega (arith, c .before .before .before .before .before .before .before .before .before .before .pre), c .before .before .before .loop .inv .1))
+    loop-holds
     (λ c κs. search needs)
-    (λ c. search needs)
-    (λ c. search needs)
-    (λ c. (laws.goes _ _ _ _ _ _ _ _ _ _ (c .before .before .before .before .before .before .before .loop .inv .0) _ _ (c .before .before .before .before .before .before .if1 .left) (c .before .before .before .next-turn .ensures .1) _ _ refl (c .before .before .failed .ensures) (c .before .if2 .left), c .before .before .before .next-turn .ensures .0))
-    (λ c. laws.ends _ _ _ _ _ _ _ _ _ _ (c .before .before .loop .inv .0) _ refl _ (c .before .if1 .taken) (c .unfailed .ensures))
-    (λ c. laws.fails _ _ _ _ _ _ _ _ _ _ (c .before .before .before .before .before .before .loop .inv .0) _ _ (c .before .before .before .before .before .if1 .left) (c .before .before .next-turn .ensures .1) _ _ refl (c .before .failed .ensures) _ refl (c .if2 .taken)))
+    next-turn-requires
+    (λ c κs. search needs)
+    (λ c. omega (arith, c .before .before .before .before .before .before .before .if1 .left, c .before .before .before .before .before .before .before .before .before .before .before .before .before .before .before .before .before .fits))
+    (λ c. omega (arith, c .before .before .before .before .before .before .before .if1 .left))
+    loop-again
+    returns
+    returns-2)
