@@ -30,6 +30,31 @@
 /* The output has room enough with so many bytes more than the file. */
 #define FUKHTSEGE_OUTPUT_MORE 45
 
+/* A reason is five numbers: kind, first, second, line, column. `first` and `second` are positions of texts in the file, or
+ * FUKHTSEGE_ABSENT: the byte at a position is the text's length, and as many bytes behind it are the text. The reason reads:
+ * first text, words of the kind, second text; FUKHTSEGE_SOURCE_NOTE has LINE:COLUMN in front. A text that the kind doesn't
+ * have is absent, and line and column are 0 but for FUKHTSEGE_SOURCE_NOTE. */
+#define FUKHTSEGE_REASON_NUMBERS 5
+#define FUKHTSEGE_ABSENT 4294967295u
+/* The kinds: the texts that each has, and its words. */
+#define FUKHTSEGE_NOTE 0                  /* first, the note: no words */
+#define FUKHTSEGE_ID_NOTE 1               /* first, the automation, and second, the note: ": " */
+#define FUKHTSEGE_SOURCE_NOTE 2           /* second, the note, and line and column: ": " */
+#define FUKHTSEGE_TRIGGER_CONDITION 3     /* first, the automation: ": unknown trigger condition" */
+#define FUKHTSEGE_TOGGLE 4                /* first, the automation: ": toggle of unknown state" */
+#define FUKHTSEGE_CHOOSE_CONDITION 5      /* first, the automation: ": unknown choose condition" */
+#define FUKHTSEGE_ACTION_CONDITION 6      /* first, the automation: ": unknown action condition" */
+#define FUKHTSEGE_WAIT 7                  /* no text: "unsupported wait trigger" */
+#define FUKHTSEGE_STATE_PREDICATE 8       /* first, the invariant: ": unknown state predicate" */
+#define FUKHTSEGE_ACTION_GUARD 9          /* first, the invariant: ": unknown action guard" */
+#define FUKHTSEGE_RESPONSE_AT_DEADLINE 10 /* first, the invariant: ": unknown response at deadline" */
+#define FUKHTSEGE_TEMPORAL_PREDICATE 11   /* first, the invariant: ": unknown temporal predicate" */
+#define FUKHTSEGE_BEYOND_HORIZON 12       /* first, the invariant: ": response deadline beyond horizon" */
+#define FUKHTSEGE_SPACE_SPENT 13          /* no text: "trace or queue budget exhausted" */
+#define FUKHTSEGE_STEPS_SPENT 14          /* no text: "step budget exhausted" */
+#define FUKHTSEGE_RUNS_LEFT 15            /* no text: "active or queued runs beyond observation horizon" */
+#define FUKHTSEGE_SEARCH_SPENT 16         /* no text: "search budget exhausted" */
+
 /* unsupported: 0 count, 1 to 3 zeros; then the reasons, five numbers each */
 #define FUKHTSEGE_UNSUPPORTED_REASONS 4
 #define FUKHTSEGE_UNSUPPORTED_NUMBERS 1504

@@ -9,7 +9,6 @@ use lib.ListN.{length, getD, take, replicate, length-replicate}
 use lib.Seq.{take-all}
 use borrow.Author.Tests.{ne-eqb, eqb-true, eqb-false}
 use Rattle.texts.specs.Lists.{if_then_else_, is-empty, each, flat}
-use Rattle.texts.specs.Places.{textAt}
 use Rattle.texts.specs.Texts.{Text, sortedT}
 use Rattle.areas.specs.Areas.{area}
 use Rattle.areas.specs.Areas as areas
@@ -17,6 +16,7 @@ use Rattle.areas.proofs.Laws.{area-length}
 use Rattle.records.specs.Records.{recordWords, recorded}
 use Rattle.records.specs.declared.Record.{Record}
 use Rattle.records.proofs.Laws.{sized}
+use Rattle.reasons.specs.Kinds as kinds
 use Rattle.reasons.specs.Lists.{insertAll, Holds}
 use Rattle.reasons.specs.Reasons.{render, body, words}
 use Rattle.reasons.proofs.Sorting.{merged, one-by-one, either-way}
@@ -67,25 +67,25 @@ use Rattle.checker_entry.specs.Parts.{Checked, Whole, RefusedAs}
 use Rattle.checker_entry.proofs.Judged.{Agreed, agreed}
 
 module _ (f x : List ℕ) (ts : List Text) (m : Model) (tb : Tabled f x ts m) where
-  alone-is : (k : ℕ) (t : Text) → eqb k 4 ≡ false → words k ≡ t → render f (alone k) ≡ t
+  alone-is : (k : ℕ) (t : Text) → eqb k kinds.source-note ≡ false → words k ≡ t → render f (alone k) ≡ t
   unfolding render body alone
   alone-is k t n e = rw (n, no-text f x ts m tb, e) (append-nil t)
 
   -- why a simulation is incomplete
   stopped-is : (w : ℕ) → map (render f) (stoppedR w) ≡ (if eqb w 0 then [] else if eqb w 1 then space-spent ∷ [] else steps-spent ∷ [])
-  unfolding stoppedR words textAt space-spent steps-spent
+  unfolding stoppedR words space-spent steps-spent
   stopped-is w = by (eqb w 0) (eqb w 1)
     where
       by : (a b : Bool) →
-          map (render f) (if a then [] else if b then alone 284 ∷ [] else alone 316 ∷ [])
+          map (render f) (if a then [] else if b then alone kinds.space-spent ∷ [] else alone kinds.steps-spent ∷ [])
           ≡ (if a then [] else if b then space-spent ∷ [] else steps-spent ∷ [])
       by true b = refl
-      by false true = ap (λ (t : Text). t ∷ []) (alone-is 284 space-spent refl refl)
-      by false false = ap (λ (t : Text). t ∷ []) (alone-is 316 steps-spent refl refl)
+      by false true = ap (λ (t : Text). t ∷ []) (alone-is kinds.space-spent space-spent refl refl)
+      by false false = ap (λ (t : Text). t ∷ []) (alone-is kinds.steps-spent steps-spent refl refl)
 
   left-is : (b : Bool) → map (render f) (leftR b) ≡ (if b then runs-left ∷ [] else [])
-  unfolding leftR words textAt runs-left
-  left-is true = ap (λ (t : Text). t ∷ []) (alone-is 338 runs-left refl refl)
+  unfolding leftR words runs-left
+  left-is true = ap (λ (t : Text). t ∷ []) (alone-is kinds.runs-left runs-left refl refl)
   left-is false = refl
 
   own-reasons : (w : ℕ) (b : Bool) → insertAll (map (render f) (leftR b)) (insertAll (map (render f) (stoppedR w)) []) ≡ sortedT (incomplete-of w b)

@@ -7,11 +7,11 @@ use native.Mathlib.Omega.{arith}
 use lib.Dec.{eqb}
 use lib.ListN.{length, getD}
 use Rattle.texts.specs.Lists.{if_then_else_}
-use Rattle.texts.specs.Places.{textAt}
 use Rattle.texts.specs.Texts.{Text, text}
 use Rattle.model.specs.Model.{Invariant, id-of, Model}
 use Rattle.model.specs.File.{invariant}
 use Rattle.model_parts.specs.Stand.{Reads}
+use Rattle.reasons.specs.Kinds as kinds
 use Rattle.reasons.specs.Reasons.{render, body, words}
 use Rattle.reasons.specs.declared.Reason.{Reason}
 use Rattle.engine_reads.specs.Reads.{two, cap}
@@ -48,7 +48,7 @@ module _ (f x : List ℕ) (ts : List Text) (mo : Model) (tb : Tabled f x ts mo) 
   abbrev T : ℕ → Text
   T v = getD ts v []
 
-  about-is : (at k : ℕ) (t : Text) → two f (at + 1) < length ts → eqb k 4 ≡ false → words k ≡ t →
+  about-is : (at k : ℕ) (t : Text) → two f (at + 1) < length ts → eqb k kinds.source-note ≡ false → words k ≡ t →
       render f (aboutI f at k) ≡ T (two f (at + 1)) ++ t
   unfolding render body aboutI
   about-is at k t h n e =
@@ -56,25 +56,25 @@ module _ (f x : List ℕ) (ts : List Text) (mo : Model) (tb : Tabled f x ts mo) 
       (ap (λ (y : Text). T (two f (at + 1)) ++ y) (append-nil t))
 
   module _ (at : ℕ) (h : two f (at + 1) < length ts) where
-    state-reason : render f (aboutI f at 140) ≡ T (two f (at + 1)) ++ text ": unknown state predicate"
-    unfolding words textAt
-    state-reason = about-is at 140 (text ": unknown state predicate") h refl refl
+    state-reason : render f (aboutI f at kinds.state-predicate) ≡ T (two f (at + 1)) ++ text ": unknown state predicate"
+    unfolding words
+    state-reason = about-is at kinds.state-predicate (text ": unknown state predicate") h refl refl
 
-    guard-reason : render f (aboutI f at 166) ≡ T (two f (at + 1)) ++ text ": unknown action guard"
-    unfolding words textAt
-    guard-reason = about-is at 166 (text ": unknown action guard") h refl refl
+    guard-reason : render f (aboutI f at kinds.action-guard) ≡ T (two f (at + 1)) ++ text ": unknown action guard"
+    unfolding words
+    guard-reason = about-is at kinds.action-guard (text ": unknown action guard") h refl refl
 
-    late-reason : render f (aboutI f at 189) ≡ T (two f (at + 1)) ++ text ": unknown response at deadline"
-    unfolding words textAt
-    late-reason = about-is at 189 (text ": unknown response at deadline") h refl refl
+    late-reason : render f (aboutI f at kinds.response-at-deadline) ≡ T (two f (at + 1)) ++ text ": unknown response at deadline"
+    unfolding words
+    late-reason = about-is at kinds.response-at-deadline (text ": unknown response at deadline") h refl refl
 
-    temporal-reason : render f (aboutI f at 220) ≡ T (two f (at + 1)) ++ text ": unknown temporal predicate"
-    unfolding words textAt
-    temporal-reason = about-is at 220 (text ": unknown temporal predicate") h refl refl
+    temporal-reason : render f (aboutI f at kinds.temporal-predicate) ≡ T (two f (at + 1)) ++ text ": unknown temporal predicate"
+    unfolding words
+    temporal-reason = about-is at kinds.temporal-predicate (text ": unknown temporal predicate") h refl refl
 
-    horizon-reason : render f (aboutI f at 249) ≡ T (two f (at + 1)) ++ text ": response deadline beyond horizon"
-    unfolding words textAt
-    horizon-reason = about-is at 249 (text ": response deadline beyond horizon") h refl refl
+    horizon-reason : render f (aboutI f at kinds.beyond-horizon) ≡ T (two f (at + 1)) ++ text ": response deadline beyond horizon"
+    unfolding words
+    horizon-reason = about-is at kinds.beyond-horizon (text ": response deadline beyond horizon") h refl refl
 
   module _ (at : ℕ) (m : Memory) where
     unknown-by : (i : Invariant) → Parts f x ts mo tb at i → renderings f (unknownI f at m) ≡ unknown-reasons i (memory-of m)

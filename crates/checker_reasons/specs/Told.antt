@@ -6,6 +6,7 @@ use lib.Dec.{eqb}
 use lib.ListN.{getD}
 use Rattle.texts.specs.Lists.{if_then_else_}
 use Rattle.texts.specs.Texts.{Text}
+use Rattle.reasons.specs.Kinds as kinds
 use Rattle.reasons.specs.Reasons.{render}
 use Rattle.reasons.specs.declared.Reason.{Reason}
 use Rattle.engine_reads.specs.Reads.{two, textPosition}
@@ -34,11 +35,11 @@ temporalI m late predicate = if m .unclear then (if m .unknown then Two late pre
 -- state predicate, action guard; response at deadline and temporal predicate
 unfoldable pub unknownI : List ℕ → (at : ℕ) → Memory → Told
 unknownI f at m =
-    if eqb (getD f at 0) 0 then ifI (m .unknown) (aboutI f at 140)
-    else if eqb (getD f at 0) 1 then ifI (m .unknown) (aboutI f at 166)
+    if eqb (getD f at 0) 0 then ifI (m .unknown) (aboutI f at kinds.state-predicate)
+    else if eqb (getD f at 0) 1 then ifI (m .unknown) (aboutI f at kinds.action-guard)
     else if eqb (getD f at 0) 2 then Nothing
-    else temporalI m (aboutI f at 189) (aboutI f at 220)
+    else temporalI m (aboutI f at kinds.response-at-deadline) (aboutI f at kinds.temporal-predicate)
 
 -- response deadline beyond horizon
 unfoldable pub incompleteI : List ℕ → (at : ℕ) → Memory → Told
-incompleteI f at m = ifI (m .beyond) (aboutI f at 249)
+incompleteI f at m = ifI (m .beyond) (aboutI f at kinds.beyond-horizon)

@@ -8,6 +8,7 @@ use lib.ListN.{length, replicate, length-replicate}
 use borrow.Author.Tests.{eq-eqb, ne-eqb}
 use Rattle.texts.specs.Texts.{Text, insertT}
 use Rattle.areas.proofs.Laws as areas
+use Rattle.reasons.specs.Kinds as kinds
 use Rattle.reasons.specs.Lists.{reasons, listed, insertAll, Holds}
 use Rattle.reasons.specs.Reasons.{render}
 use Rattle.reasons.specs.declared.Reason.{Reason}
@@ -70,12 +71,12 @@ module _ (f : List ℕ) (why : ℕ) where
     holds = rw e h;
   }
 
-  pub starts-space : (why ≡ 0 → ⊥) → why ≡ 1 → {r : Reason} → r ≡ alone 284 → (w w' : List ℕ) {k : ℕ} →
+  pub starts-space : (why ≡ 0 → ⊥) → why ≡ 1 → {r : Reason} → r ≡ alone kinds.space-spent → (w w' : List ℕ) {k : ℕ} →
       Holds f (insertT (render f r) (listed f 0 w)) k w' → Starts f why k w'
   unfolding stoppedR
   starts-space z o {r} e w w' {k} h = starts-one w w' k r (rw (ne-eqb why 0 z, eq-eqb why 1 o, e)) h
 
-  pub starts-steps : (why ≡ 0 → ⊥) → (why ≡ 1 → ⊥) → {r : Reason} → r ≡ alone 316 → (w w' : List ℕ) {k : ℕ} →
+  pub starts-steps : (why ≡ 0 → ⊥) → (why ≡ 1 → ⊥) → {r : Reason} → r ≡ alone kinds.steps-spent → (w w' : List ℕ) {k : ℕ} →
       Holds f (insertT (render f r) (listed f 0 w)) k w' → Starts f why k w'
   unfolding stoppedR
   starts-steps z o {r} e w w' {k} h = starts-one w w' k r (rw (ne-eqb why 0 z, ne-eqb why 1 o, e)) h
@@ -85,7 +86,7 @@ module _ (f : List ℕ) (n : ℕ) (w : List ℕ) where
   unfolding leftR insertAll
   ends-none e = record { most = omega arith; holds = rw e (record { many = sym (listing.length-listed f n w); texts = refl }) }
 
-  pub ends-one : {b : Bool} → b ≡ true → {r : Reason} → r ≡ alone 338 → {w' : List ℕ} {k : ℕ} →
+  pub ends-one : {b : Bool} → b ≡ true → {r : Reason} → r ≡ alone kinds.runs-left → {w' : List ℕ} {k : ℕ} →
       Holds f (insertT (render f r) (listed f n w)) k w' → Ends f b n w k w'
   unfolding leftR insertAll
   ends-one e {r} a {w'} {k} h = record {

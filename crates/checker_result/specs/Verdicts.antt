@@ -8,6 +8,7 @@ use lib.ListN.{length}
 use Rattle.texts.specs.Lists.{if_then_else_}
 use Rattle.records.specs.Records.{recorded}
 use Rattle.records.specs.declared.Record.{Record}
+use Rattle.reasons.specs.Kinds as kinds
 use Rattle.reasons.specs.Lists.{listed, insertAll, Holds}
 use Rattle.reasons.specs.Reasons.{render}
 use Rattle.reasons.specs.declared.Reason.{Reason}
@@ -37,10 +38,10 @@ statusV t =
 
 -- why a simulation is incomplete, as reasons
 unfoldable pub stoppedR : (why : ℕ) → List Reason
-stoppedR w = if eqb w 0 then [] else if eqb w 1 then alone 284 ∷ [] else alone 316 ∷ []
+stoppedR w = if eqb w 0 then [] else if eqb w 1 then alone kinds.space-spent ∷ [] else alone kinds.steps-spent ∷ []
 
 unfoldable pub leftR : (waiting : Bool) → List Reason
-leftR b = if b then alone 338 ∷ [] else []
+leftR b = if b then alone kinds.runs-left ∷ [] else []
 
 pub record Starts (f : List ℕ) (why k : ℕ) (w : List ℕ) : Type 0 where
   pub most : k ≤ 1

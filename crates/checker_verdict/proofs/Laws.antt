@@ -14,6 +14,7 @@ use Rattle.records.specs.Records.{recorded}
 use Rattle.records.specs.declared.Record.{Record}
 use Rattle.records.specs.declared.Where.{Where}
 use Rattle.records.specs.declared.Where.the-variants.{From}
+use Rattle.reasons.specs.Kinds as kinds
 use Rattle.reasons.specs.Lists.{listed, insertAll, Holds}
 use Rattle.reasons.proofs.Listing as listing
 use Rattle.engine_reads.specs.Reads.{two, cap, atMost}
@@ -75,7 +76,7 @@ one-told : (f : List ℕ) (at : ℕ) (m : Memory) → length (renderings f (inco
 unfolding renderings incompleteI ifI
 one-told f at m = by (m .beyond)
   where
-    by : (b : Bool) → length (renderings f (if b then One (aboutI f at 249) else Nothing)) ≤ 1
+    by : (b : Bool) → length (renderings f (if b then One (aboutI f at kinds.beyond-horizon) else Nothing)) ≤ 1
     by true = omega arith
     by false = omega arith
 

@@ -8,6 +8,7 @@ use lib.ListN.{getD}
 use borrow.Author.Tests.{eq-eqb, ne-eqb, lt-ltb, le-ltb}
 use Rattle.runs.specs.declared.Run.{Run}
 use Rattle.runs.specs.declared.Source.{Source}
+use Rattle.reasons.specs.Kinds as kinds
 use Rattle.reasons.specs.declared.Reason.{Reason}
 use Rattle.engine_reads.specs.Reads.{two, four, atMost, entityOf, aboutRule, alone, noteReason}
 use Rattle.engine_truth.specs.Truths.{numberT, undecidedT, evaluateT, selectT}
@@ -29,7 +30,7 @@ module _ (f x : List ℕ) (r : Run) (s : Source) (e i : ℕ) (m : Machine) (is :
   flip-none h = rw (← is, lt-ltb 31 i h)
 
   module _ (b : Bool) (h : i ≤ 31) (eb : b ≡ undecidedT x (getD (m .values) i 0)) where
-    pub flip-unknown : b ≡ true → nowM r (doubtM f x r 35 m) ≡ flipM f x r s e m
+    pub flip-unknown : b ≡ true → nowM r (doubtM f x r kinds.toggle m) ≡ flipM f x r s e m
     unfolding flipM flip-atM flip-fromM
     flip-unknown t = rw (← is, le-ltb 31 i h, ← eb, t)
 
@@ -52,7 +53,7 @@ unfolding chooseM
 choose-is f x k r s at b g m e h = ap (λ z. chosenM f x k r s z m) (sym e ∙ h)
 
 module _ (f : List ℕ) (k : ℕ) (r : Run) (s : Source) (at n : ℕ) (m : Machine) (en : n ≡ two f (at + 14)) where
-  pub wait-note : (why : Reason) → (n ≡ 65535 → ⊥) → why ≡ alone 115 → finishM k (uncertainM f why m) ≡ begin-waitM f k r s at m
+  pub wait-note : (why : Reason) → (n ≡ 65535 → ⊥) → why ≡ alone kinds.wait → finishM k (uncertainM f why m) ≡ begin-waitM f k r s at m
   unfolding begin-waitM
   wait-note why h e = rw (← en, ne-eqb n 65535 h) (ap (λ z. finishM k (uncertainM f z m)) e)
 

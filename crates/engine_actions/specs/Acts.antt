@@ -32,6 +32,7 @@ use Rattle.engine_state.specs.Changes.{addM, uncertainM, log-actionM, next-step
 use Rattle.engine_writes.specs.Writes.{updateM, setting}
 use Rattle.engine_modes.specs.Modes.{nowM}
 use Rattle.engine_steps.specs.Runs.{runM, put-runM, phaseR, finishM}
+use Rattle.reasons.specs.Kinds as kinds
 
 unfoldable pub writtenM : List ℕ → Run → Source → (entity value : ℕ) → Machine → Machine
 writtenM x r s e v m = updateM x (setting e v 2 (Of (r .automation)) (From (s .line) (s .column))) m
@@ -48,7 +49,7 @@ unfoldable pub doubtM : (f x : List ℕ) → Run → (kind : ℕ) → Machine �
 doubtM f x r kind m = uncertainM f (aboutRule f x (atMost (r .automation) 31) kind) m
 
 unfoldable pub flip-fromM : (f x : List ℕ) → Run → Source → (entity old : ℕ) → Machine → Machine
-flip-fromM f x r s e old m = if undecidedT x old then nowM r (doubtM f x r 35 m) else setM x r s e (toggledM x old) m
+flip-fromM f x r s e old m = if undecidedT x old then nowM r (doubtM f x r kinds.toggle m) else setM x r s e (toggledM x old) m
 
 unfoldable pub flip-atM : (f x : List ℕ) → Run → Source → (entity place : ℕ) → Machine → Machine
 flip-atM f x r s e i m = if ltb 31 i then m else flip-fromM f x r s e (getD (m .values) i 0) m
@@ -70,7 +71,7 @@ unclearM f x k r kind m = finishM k (doubtM f x r kind m)
 unfoldable pub testedM : (f x : List ℕ) → (k : ℕ) → Run → Truth → Machine → Machine
 testedM f x k r Yes m = nowM r m
 testedM f x k r No m = finishM k m
-testedM f x k r Unknown m = unclearM f x k r 88 m
+testedM f x k r Unknown m = unclearM f x k r kinds.action-condition m
 
 unfoldable pub condition-asM : (f x : List ℕ) → (k : ℕ) → Run → Source → Truth → Machine → Machine
 condition-asM f x k r s t m = testedM f x k r t (log-actionM 11 (numberT t) s r m)
@@ -83,8 +84,8 @@ take-listM f k r s at m = nowM r (log-actionM 8 0 s r (put-runM k (listA f r at)
 
 unfoldable pub chosenM : (f x : List ℕ) → (k : ℕ) → Run → Source → Branch → Machine → Machine
 chosenM f x k r s (Take p) m = take-listM f k r s p m
-chosenM f x k r s Unclear m = unclearM f x k r 61 m
-chosenM f x k r s (Skip p) m = unclearM f x k r 61 m
+chosenM f x k r s Unclear m = unclearM f x k r kinds.choose-condition m
+chosenM f x k r s (Skip p) m = unclearM f x k r kinds.choose-condition m
 
 unfoldable pub chooseM : (f x : List ℕ) → (k : ℕ) → Run → Source → (at : ℕ) → Machine → Machine
 chooseM f x k r s at m = chosenM f x k r s (selectT f x (m .values) at) m
@@ -100,7 +101,7 @@ unfoldable pub begin-waitM : (f : List ℕ) → (k : ℕ) → Run → Source →
 begin-waitM f k r s at m =
     if eqb (two f (at + 14)) 65535 then
     waitingM k r s (four f (at + 16)) (later (m .now) (four f (at + 16))) (wait at (later (m .now) (four f (at + 16))) (eqb (getD f (at + 20) 0) 1) s) m
-    else finishM k (uncertainM f (alone 115) m)
+    else finishM k (uncertainM f (alone kinds.wait) m)
 
 unfoldable pub give-upM : (f : List ℕ) → (k : ℕ) → Run → Source → (reason : ℕ) → Machine → Machine
 give-upM f k r s n m = finishM k (log-actionM 18 n s r (uncertainM f (noteReason f n) m))

@@ -19,6 +19,7 @@ use Rattle.model_walk.specs.Walk.{found}
 use Rattle.model_walk.specs.declared.Num.the-variants as num
 use Rattle.model_walk.proofs.Found.{bound, given, Wide, wide-sum, u16-wide, source-wide, counted-found, Kind, kind-found, place-found, Value?, Place?, trigger-found}
 use Rattle.model_walk.proofs.Found as found
+use Rattle.reasons.specs.Kinds as kinds
 use Rattle.reasons.specs.Reasons.{words, body, render}
 use Rattle.engine_reads.specs.Reads.{cap, textPosition, noteReason}
 use Rattle.engine_notes.specs.declared.Part.the-variants as part
@@ -56,13 +57,13 @@ text-past : (f : List ℕ) (at : ℕ) → length f ≤ at → textAt f at ≡ []
 unfolding textAt
 text-past f at h = rw (past f at h)
 
-words-0 : words 0 ≡ []
-unfolding words textAt
-words-0 = refl
+note-words : words kinds.note ≡ []
+unfolding words
+note-words = refl
 
-words-1 : words 1 ≡ text ": "
-unfolding words textAt
-words-1 = refl
+id-words : words kinds.id-note ≡ text ": "
+unfolding words
+id-words = refl
 
 -- where the reader finds a value, the listing adds the value's reasons and ends where the reader ends
 abbrev pub Adds : (f : List ℕ) {A : Type 0} → Reader A → (A → List Text) → Listing → Type 0
@@ -94,11 +95,11 @@ module _ (f : List ℕ) (ts : List Text) (size : length f ≤ 32768) (few : leng
 
   pub plain-note : (m : ℕ) → m < length ts → render f (noteOf f 65535 m) ≡ T m
   unfolding noteOf noteReason render body
-  plain-note m h = rw (position-text m h, words-0, nothing) (append-nil (T m))
+  plain-note m h = rw (position-text m h, note-words, nothing) (append-nil (T m))
 
   id-text : (i m : ℕ) → i < length ts → m < length ts → render f (idNote f i m) ≡ T i ++ (text ": " ++ T m)
   unfolding idNote render body
-  id-text i m g h = rw (position-text i g, words-1, position-text m h)
+  id-text i m g h = rw (position-text i g, id-words, position-text m h)
 
   pub id-note : (i m : ℕ) → i < length ts → m < length ts → render f (noteOf f i m) ≡ T i ++ text ": " ++ T m
   id-note i m g h =

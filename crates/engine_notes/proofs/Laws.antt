@@ -15,6 +15,7 @@ use Rattle.model_walk.specs.declared.Num.{Num}
 use Rattle.model_walk.specs.declared.Num.the-variants as num
 use Rattle.model_walk.specs.Walk.{found}
 use Rattle.model_walk.proofs.Laws.{is-got, is-broken}
+use Rattle.reasons.specs.Kinds as kinds
 use Rattle.reasons.specs.declared.Reason.{Reason}
 use Rattle.reasons.specs.Reasons.{render}
 use Rattle.reasons.specs.Lists.{listed, Holds}
@@ -73,7 +74,7 @@ module _ (k : Listing) (f : List ℕ) (p : ℕ) (l : List Text) where
 -- ---- reasons
 
 pub id-is : (f : List ℕ) (i m a b : ℕ) → a ≡ textPosition f i → b ≡ textPosition f m →
-    record { kind = 1; first = a; second = b; line = 0; column = 0 } ≡ idNote f i m
+    record { kind = kinds.id-note; first = a; second = b; line = 0; column = 0 } ≡ idNote f i m
 unfolding idNote
 id-is f i m a b e g = rw (e, g)
 

@@ -9,6 +9,7 @@ use lib.ListN.{length}
 use Rattle.texts.specs.Lists.{if_then_else_}
 use Rattle.texts.specs.Texts.{Text, insertT}
 use Rattle.model.specs.File.{got, broken, Reader, u8, u16}
+use Rattle.reasons.specs.Kinds as kinds
 use Rattle.reasons.specs.declared.Reason.{Reason}
 use Rattle.reasons.specs.Reasons.{render}
 use Rattle.reasons.specs.Lists.{listed}
@@ -69,7 +70,7 @@ timesL (suc i) k = k ⨾ timesL i k
 -- ---- reasons
 
 unfoldable pub idNote : List ℕ → (id note : ℕ) → Reason
-idNote f i m = record { kind = 1; first = textPosition f i; second = textPosition f m; line = 0; column = 0 }
+idNote f i m = record { kind = kinds.id-note; first = textPosition f i; second = textPosition f m; line = 0; column = 0 }
 
 -- a note behind an automation's identifier; 65,535 stands for none
 unfoldable pub noteOf : List ℕ → (id note : ℕ) → Reason

@@ -25,6 +25,7 @@ use Rattle.records.specs.declared.Change.{Change as AChange}
 use Rattle.runs.specs.declared.Run.{Run as ARun}
 use Rattle.runs.specs.declared.Source.{Source as ASource}
 use Rattle.runs.specs.declared.Phase.the-variants as phase
+use Rattle.reasons.specs.Kinds as kinds
 use Rattle.reasons.specs.declared.Reason.{Reason}
 use Rattle.reasons.specs.Reasons.{render}
 use Rattle.engine.specs.Truth.{evaluate}
@@ -286,7 +287,7 @@ module _ (f x : List ℕ) (ts : List Text) (mo : Model) (tb : Tabled f x ts mo) 
               S now room (flipM f x r s (name x j) m) (add (next-step now (R r)) (flip now (T (name x j)) src (R r) e))
           by (is-true b) =
               rw (z, le-ltb 31 j (omega (arith, tb .few-entities)), v, b, sym u ∙ b)
-              (going-on low (live (doubt-is (weaker f x ts mo tb (omega arith) l) low 35 (toggle-of-unknown (id-at x ts (r .automation))) (toggle-reason f x ts mo tb (r .automation) low) (pool-is f x ts mo tb (r .automation) low .toggle))))
+              (going-on low (live (doubt-is (weaker f x ts mo tb (omega arith) l) low kinds.toggle (toggle-of-unknown (id-at x ts (r .automation))) (toggle-reason f x ts mo tb (r .automation) low) (pool-is f x ts mo tb (r .automation) low .toggle))))
           by (is-false b) =
               rw
               (z, le-ltb 31 j (omega (arith, tb .few-entities)), v, b, sym u ∙ b, ← turned old (l .cells .valued .in-texts j h))
@@ -309,7 +310,7 @@ module _ (f x : List ℕ) (ts : List Text) (mo : Model) (tb : Tabled f x ts mo) 
       tested-is l w Yes = going-on low (live l)
       tested-is l w No = finish-is f x ts mo tb l k r (keyed w)
       tested-is l w Unknown =
-          unclear-is l w low 88 (unknown-action-condition (id-at x ts (r .automation)))
+          unclear-is l w low kinds.action-condition (unknown-action-condition (id-at x ts (r .automation)))
           (action-reason f x ts mo tb (r .automation) low) (pool-is f x ts mo tb (r .automation) low .action)
 
       condition-is : {room : ℕ} {m : Machine} {e : Engine} → L now room m e → Here k r m → (at : ℕ) (p : Predicate) (q : ℕ) →
@@ -347,10 +348,10 @@ module _ (f x : List ℕ) (ts : List Text) (mo : Model) (tb : Tabled f x ts mo) 
       passed d vs ns ok (branch ps a bs) h = (h .0, passed d vs ns ok bs (h .1))
 
       none-is : {room : ℕ} {m : Machine} {e : Engine} → L now room m e → Here k r m →
-          S now room (unclearM f x k r 61 m) (chosen now none src (R r) e)
+          S now room (unclearM f x k r kinds.choose-condition m) (chosen now none src (R r) e)
       unfolding chosen run-of key-of
       none-is l w =
-          unclear-is l w low 61 (unknown-choose-condition (id-at x ts (r .automation)))
+          unclear-is l w low kinds.choose-condition (unknown-choose-condition (id-at x ts (r .automation)))
           (choose-reason f x ts mo tb (r .automation) low) (pool-is f x ts mo tb (r .automation) low .choose)
 
       choose-is : {room : ℕ} {m : Machine} {e : Engine} → L now room m e → Here k r m →
@@ -410,7 +411,7 @@ module _ (f x : List ℕ) (ts : List Text) (mo : Model) (tb : Tabled f x ts mo) 
           by (is-true b) = rw (note ∙ b, b, i, j, late) (waiting-is l w g at t q n c h)
           by (is-false b) =
               rw (note ∙ b, b)
-              (finish-is f x ts mo tb (uncertain-is f x ts mo tb l (alone 115) unsupported-wait (wait-reason f x ts mo tb) (wait-in mo)) k r (keyed (still-here w (uncertain-runs f (alone 115) m))))
+              (finish-is f x ts mo tb (uncertain-is f x ts mo tb l (alone kinds.wait) unsupported-wait (wait-reason f x ts mo tb) (wait-in mo)) k r (keyed (still-here w (uncertain-runs f (alone kinds.wait) m))))
 
       give-up-is : {room : ℕ} {m : Machine} {e : Engine} → L now room m e → Here k r m → (n : ℕ) → n < length ts →
           memT (T n) pl ≡ true →

@@ -17,6 +17,7 @@ use Rattle.runs.specs.declared.Phase.{Phase}
 use Rattle.runs.specs.declared.Phase.the-variants.{Going, Waiting}
 use Rattle.runs.specs.declared.Found.{Found}
 use Rattle.runs.specs.declared.Found.the-variants.{At, Nothing}
+use Rattle.reasons.specs.Kinds as kinds
 use Rattle.reasons.specs.declared.Reason.{Reason}
 use Rattle.engine_truth.specs.Truths.{matchesT, anyT}
 use Rattle.engine_truth.specs.declared.Truth.{Truth}
@@ -178,4 +179,4 @@ module _ (n : ℕ) (z : n ≡ 0 → ⊥) where
   unfolding testedM
   s-tested f x k r Yes m p = s-next _ _ m p
   s-tested f x k r No m p = s-finish k m p
-  s-tested f x k r Unknown m p = s-unclear f x k r 88 m p
+  s-tested f x k r Unknown m p = s-unclear f x k r kinds.action-condition m p

@@ -13,6 +13,7 @@ use Rattle.texts.specs.Texts.{Text, text, eqT, memT}
 use Rattle.texts.specs.Places.{textAt, startFrom}
 use Rattle.model.specs.Model.{Automation, Model}
 use Rattle.model.specs.Notes.{of-actions}
+use Rattle.reasons.specs.Kinds as kinds
 use Rattle.reasons.specs.Reasons.{render, body, words}
 use Rattle.engine.specs.Reasons.{unknown-trigger-condition, toggle-of-unknown, unknown-action-condition, unknown-choose-condition, unsupported-wait}
 use Rattle.engine.specs.Unsupported.{unsupported}
@@ -126,11 +127,11 @@ module _ (f x : List ℕ) (ts : List Text) (mo : Model) (tb : Tabled f x ts mo) 
       (tb .text-at k h)
 
   pub note-is : (k : ℕ) → k < length ts → render f (noteReason f k) ≡ getD ts k []
-  unfolding render body noteReason words textAt
+  unfolding render body noteReason words
   note-is k h = rw (no-text, position-is k h) (append-nil (getD ts k []))
 
   -- a reason about an automation
-  about-is : (i k : ℕ) (t : Text) → i < length (mo .rules) → eqb k 4 ≡ false → words k ≡ t →
+  about-is : (i k : ℕ) (t : Text) → i < length (mo .rules) → eqb k kinds.source-note ≡ false → words k ≡ t →
       render f (aboutRule f x i k) ≡ id-at x ts i ++ t
   unfolding render body aboutRule id-at
   about-is i k t h n e =
@@ -138,26 +139,26 @@ module _ (f x : List ℕ) (ts : List Text) (mo : Model) (tb : Tabled f x ts mo) 
       (ap (λ (y : Text). getD ts (word x i 0) [] ++ y) (append-nil t))
 
   module _ (i : ℕ) (h : i < length (mo .rules)) where
-    pub trigger-reason : render f (aboutRule f x i 7) ≡ unknown-trigger-condition (id-at x ts i)
-    unfolding unknown-trigger-condition words textAt
-    trigger-reason = about-is i 7 (text ": unknown trigger condition") h refl refl
+    pub trigger-reason : render f (aboutRule f x i kinds.trigger-condition) ≡ unknown-trigger-condition (id-at x ts i)
+    unfolding unknown-trigger-condition words
+    trigger-reason = about-is i kinds.trigger-condition (text ": unknown trigger condition") h refl refl
 
-    pub toggle-reason : render f (aboutRule f x i 35) ≡ toggle-of-unknown (id-at x ts i)
-    unfolding toggle-of-unknown words textAt
-    toggle-reason = about-is i 35 (text ": toggle of unknown state") h refl refl
+    pub toggle-reason : render f (aboutRule f x i kinds.toggle) ≡ toggle-of-unknown (id-at x ts i)
+    unfolding toggle-of-unknown words
+    toggle-reason = about-is i kinds.toggle (text ": toggle of unknown state") h refl refl
 
-    pub choose-reason : render f (aboutRule f x i 61) ≡ unknown-choose-condition (id-at x ts i)
-    unfolding unknown-choose-condition words textAt
-    choose-reason = about-is i 61 (text ": unknown choose condition") h refl refl
+    pub choose-reason : render f (aboutRule f x i kinds.choose-condition) ≡ unknown-choose-condition (id-at x ts i)
+    unfolding unknown-choose-condition words
+    choose-reason = about-is i kinds.choose-condition (text ": unknown choose condition") h refl refl
 
-    pub action-reason : render f (aboutRule f x i 88) ≡ unknown-action-condition (id-at x ts i)
-    unfolding unknown-action-condition words textAt
-    action-reason = about-is i 88 (text ": unknown action condition") h refl refl
+    pub action-reason : render f (aboutRule f x i kinds.action-condition) ≡ unknown-action-condition (id-at x ts i)
+    unfolding unknown-action-condition words
+    action-reason = about-is i kinds.action-condition (text ": unknown action condition") h refl refl
 
-  wait-words : words 115 ≡ text "unsupported wait trigger"
-  unfolding words textAt
+  wait-words : words kinds.wait ≡ text "unsupported wait trigger"
+  unfolding words
   wait-words = refl
 
-  pub wait-reason : render f (alone 115) ≡ unsupported-wait
+  pub wait-reason : render f (alone kinds.wait) ≡ unsupported-wait
   unfolding render body alone unsupported-wait
   wait-reason = rw (no-text, wait-words)

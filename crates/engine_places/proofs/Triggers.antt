@@ -52,6 +52,7 @@ use Rattle.engine_places.proofs.Pool.{pool-is, trigger-reason}
 use Rattle.engine_places.proofs.Writes.{Over, log-at-is, now-is}
 use Rattle.engine_places.proofs.Runs.{row, id-is, run-good, run-is, carry-is}
 use Rattle.engine_places.proofs.Lists as lists
+use Rattle.reasons.specs.Kinds as kinds
 
 -- ---- the queue and the runs don't meet
 
@@ -252,7 +253,7 @@ module _ (f x : List ℕ) (ts : List Text) (mo : Model) (tb : Tabled f x ts mo) 
     admit-is l No = live (weaker f x ts mo tb (omega arith) l)
     admit-is {room} {m} {e} l Unknown =
         rw (id-is f x ts mo tb i h)
-        (live (uncertain-is f x ts mo tb (weaker f x ts mo tb (omega arith) l) (aboutRule f x i 7) (unknown-trigger-condition (id-at x ts i)) (trigger-reason f x ts mo tb i h) (pool-is f x ts mo tb i h .trigger)))
+        (live (uncertain-is f x ts mo tb (weaker f x ts mo tb (omega arith) l) (aboutRule f x i kinds.trigger-condition) (unknown-trigger-condition (id-at x ts i)) (trigger-reason f x ts mo tb i h) (pool-is f x ts mo tb i h .trigger)))
 
     triggering : (t : Truth) → Tells f x ts mo tb 10 (numberT t) (Kind.trigger (truth-of t))
     unfolding kind-of verdict-of kind-number detail-number truth-number

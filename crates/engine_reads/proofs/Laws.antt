@@ -8,6 +8,7 @@ use native.Mathlib.Omega.{arith}
 use Rattle.texts.specs.Places.{startFrom}
 use Rattle.runs.specs.Runs.{placeWord}
 use Rattle.engine_reads.specs.Reads.{two, four, cap, atMost, name, word, entities, entityFrom, entityOf, textPosition, aboutRule, alone, noteReason, listWord}
+use Rattle.reasons.specs.Kinds as kinds
 
 past : (f : List ℕ) (at : ℕ) → length f ≤ at → getD f at 0 ≡ 0
 past [] zero h = refl
@@ -95,6 +96,6 @@ pub alone-is : (k : ℕ) → record { kind = k; first = 4294967295; second = 429
 unfolding alone
 alone-is k = refl
 
-pub note-is : (f : List ℕ) (p w : ℕ) → w ≡ textPosition f p → record { kind = 0; first = w; second = 4294967295; line = 0; column = 0 } ≡ noteReason f p
+pub note-is : (f : List ℕ) (p w : ℕ) → w ≡ textPosition f p → record { kind = kinds.note; first = w; second = 4294967295; line = 0; column = 0 } ≡ noteReason f p
 unfolding noteReason
 note-is f p w e = rw e

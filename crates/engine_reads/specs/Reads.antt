@@ -7,6 +7,7 @@ use lib.ListN.{getD}
 use Rattle.texts.specs.Lists.{if_then_else_}
 use Rattle.texts.specs.Places.{startFrom}
 use Rattle.runs.specs.Runs.{placeWord}
+use Rattle.reasons.specs.Kinds as kinds
 use Rattle.reasons.specs.declared.Reason.{Reason}
 
 -- two bytes and four, the lowest first; a byte past the end is 0
@@ -66,4 +67,4 @@ unfoldable pub alone : (kind : ℕ) → Reason
 alone k = record { kind = k; first = 4294967295; second = 4294967295; line = 0; column = 0 }
 
 unfoldable pub noteReason : List ℕ → (place : ℕ) → Reason
-noteReason f p = record { kind = 0; first = textPosition f p; second = 4294967295; line = 0; column = 0 }
+noteReason f p = record { kind = kinds.note; first = textPosition f p; second = 4294967295; line = 0; column = 0 }

@@ -16,6 +16,7 @@ use Rattle.runs.specs.declared.Run.{Run}
 use Rattle.runs.specs.declared.Wait.{Wait}
 use Rattle.runs.specs.declared.Phase.the-variants.{Going, Waiting}
 use Rattle.runs.specs.declared.Found.{Found}
+use Rattle.reasons.specs.Kinds as kinds
 use Rattle.reasons.specs.declared.Reason.{Reason}
 use Rattle.engine_reads.specs.Reads.{two, word, rules, atMost, aboutRule}
 use Rattle.engine_state.specs.Changes.{uncertainM}
@@ -127,7 +128,7 @@ wake-all f v k {st} e d = states.knowing (λ c. wake-firstM f v (length (c .runs
 pub admit-is : (f x : List ℕ) (i : ℕ) (t g : Truth) (m : Machine) → t ≡ g → admitM f x i g m ≡ admitM f x i t m
 admit-is f x i t g m e = ap (λ z. admitM f x i z m) (sym e)
 
-pub admit-unknown : (f x : List ℕ) (i : ℕ) (r : Reason) (m : Machine) → r ≡ aboutRule f x i 7 → uncertainM f r m ≡ admitM f x i Unknown m
+pub admit-unknown : (f x : List ℕ) (i : ℕ) (r : Reason) (m : Machine) → r ≡ aboutRule f x i kinds.trigger-condition → uncertainM f r m ≡ admitM f x i Unknown m
 unfolding admitM
 admit-unknown f x i r m e = ap (λ z. uncertainM f z m) e
 

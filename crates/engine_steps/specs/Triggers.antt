@@ -15,12 +15,13 @@ use Rattle.engine_state.specs.Machine.{Machine}
 use Rattle.engine_state.specs.Changes.{saying, logM, uncertainM}
 use Rattle.engine_modes.specs.Modes.{carry-outM}
 use Rattle.engine_steps.specs.Runs.{wakeM}
+use Rattle.reasons.specs.Kinds as kinds
 
 -- an automation with notes doesn't run
 unfoldable pub admitM : (f x : List ℕ) → (i : ℕ) → Truth → Machine → Machine
 admitM f x i Yes m = if eqb (two f (word x i 7)) 0 then carry-outM f x i m else m
 admitM f x i No m = m
-admitM f x i Unknown m = uncertainM f (aboutRule f x i 7) m
+admitM f x i Unknown m = uncertainM f (aboutRule f x i kinds.trigger-condition) m
 
 unfoldable pub log-triggerM : (f x : List ℕ) → (i : ℕ) → Truth → Machine → Machine
 log-triggerM f x i t m = logM (saying 10 (numberT t)) (Of i) (From (four f (word x i 6)) (four f (word x i 6 + 4))) NoChange m

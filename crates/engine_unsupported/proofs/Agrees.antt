@@ -16,6 +16,7 @@ use Rattle.model_walk.proofs.Found.{bound, given, Wide, wide-sum, u32-wide, kin
 use Rattle.model_walk.proofs.Found as found
 use Rattle.model_walk.proofs.Sees.{sees-flag}
 use Rattle.engine.specs.Unsupported.{placed, effect-reasons, action-reasons, branch-reasons, rule-reasons, unsupported}
+use Rattle.reasons.specs.Kinds as kinds
 use Rattle.reasons.specs.Reasons.{words, body, render}
 use Rattle.reasons.specs.Reasons as reasons
 use Rattle.engine_reads.specs.Reads.{word, atMost, rules}
@@ -36,9 +37,9 @@ read-got : {A : Type 0} (f : List ℕ) (p : ℕ) (r : Reader ℕ) (z : A) (k : �
 unfolding found
 read-got f p r z k {v} {q} e = notes.read-is f p r z k {x = num.Is v q} (sym e) refl
 
-words-4 : words 4 ≡ text ": "
-unfolding words textAt
-words-4 = refl
+source-words : words kinds.source-note ≡ text ": "
+unfolding words
+source-words = refl
 
 -- the file f, with the texts ts
 module _ (f : List ℕ) (ts : List Text) (size : length f ≤ 32768) (few : length ts ≤ 65535)
@@ -50,7 +51,7 @@ module _ (f : List ℕ) (ts : List Text) (size : length f ≤ 32768) (few : leng
   source-text : (s : Source) (m : ℕ) → m < length ts →
       render f (sourceNote f (s .line) (s .column) m) ≡ reasons.placed (s .line) (s .column) ++ (text ": " ++ getD ts m [])
   unfolding sourceNote render body
-  source-text s m h = rw (nothing f ts size few text-at, words-4, position-text f ts size few text-at m h)
+  source-text s m h = rw (nothing f ts size few text-at, source-words, position-text f ts size few text-at m h)
 
   source-note : (s : Source) (m : ℕ) → m < length ts →
       render f (sourceNote f (s .line) (s .column) m) ≡ placed s ++ text ": " ++ getD ts m []

@@ -8,6 +8,7 @@ use lib.ListN.{getD}
 use borrow.Author.Tests.{ne-eqb}
 use Rattle.texts.specs.Texts.{Text}
 use Rattle.model.specs.File.{u8, u16, u32}
+use Rattle.reasons.specs.Kinds as kinds
 use Rattle.reasons.specs.declared.Reason.{Reason}
 use Rattle.reasons.specs.Reasons.{render}
 use Rattle.reasons.specs.Lists.{reasons, listed}
@@ -38,7 +39,7 @@ module _ (k : Listing) (f : List ℕ) (p : ℕ) (l : List Text) where
 -- ---- actions
 
 pub source-is : (f : List ℕ) (l c m a : ℕ) → a ≡ textPosition f m →
-    record { kind = 4; first = 4294967295; second = a; line = l; column = c } ≡ sourceNote f l c m
+    record { kind = kinds.source-note; first = 4294967295; second = a; line = l; column = c } ≡ sourceNote f l c m
 unfolding sourceNote
 source-is f l c m a e = rw e
 

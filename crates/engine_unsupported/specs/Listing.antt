@@ -7,6 +7,7 @@ use lib.Dec.{eqb}
 use Rattle.texts.specs.Lists.{if_then_else_}
 use Rattle.texts.specs.Texts.{Text}
 use Rattle.model.specs.File.{u8, u16, u32}
+use Rattle.reasons.specs.Kinds as kinds
 use Rattle.reasons.specs.declared.Reason.{Reason}
 use Rattle.reasons.specs.Reasons.{render}
 use Rattle.engine_reads.specs.Reads.{word, rules, textPosition}
@@ -25,7 +26,7 @@ headOf f p =
     read u32 (no-head p) (λ l q. read u32 (no-head p) (λ c t. read u8 (no-head p) (λ k o. record { line = l; column = c; kind = k; next = o }) f t) f q) f p
 
 unfoldable pub sourceNote : List ℕ → (line column note : ℕ) → Reason
-sourceNote f l c m = record { kind = 4; first = 4294967295; second = textPosition f m; line = l; column = c }
+sourceNote f l c m = record { kind = kinds.source-note; first = 4294967295; second = textPosition f m; line = l; column = c }
 
 unfoldable pub sourceL : (line column note : ℕ) → Listing
 sourceL l c m f p t = after p (insertG (render f (sourceNote f l c m)) t)

@@ -10,6 +10,7 @@ use Rattle.texts.specs.Texts.{Text, decimal}
 use Rattle.texts.specs.Places.{textAt, seek}
 use Rattle.texts.specs.declared.Seek.the-variants.{Here, Left}
 use Rattle.texts.proofs.Laws.{seek-here, seek-left, seek-in}
+use Rattle.reasons.specs.Kinds.{source-note}
 use Rattle.reasons.specs.Reasons.{words, placed, body, render}
 use Rattle.reasons.specs.declared.Reason.{Reason}
 
@@ -36,13 +37,13 @@ module _ (line column i : ℕ) where
       next (suc j) z = ap (seek (decimal column)) (sub-one (suc j))
 
 module _ (f : List ℕ) (r : Reason) where
-  pub with-source : r .kind ≡ 4 → render f r ≡ placed (r .line) (r .column) ++ body f r
+  pub with-source : r .kind ≡ source-note → render f r ≡ placed (r .line) (r .column) ++ body f r
   unfolding render
-  with-source e = rw (eq-eqb (r .kind) 4 e)
+  with-source e = rw (eq-eqb (r .kind) source-note e)
 
-  pub without : (r .kind ≡ 4 → ⊥) → render f r ≡ body f r
+  pub without : (r .kind ≡ source-note → ⊥) → render f r ≡ body f r
   unfolding render
-  without e = rw (ne-eqb (r .kind) 4 e)
+  without e = rw (ne-eqb (r .kind) source-note e)
 
   pub first-byte : (i b : ℕ) → Here b ≡ seek (textAt f (r .first)) i → Here b ≡ seek (body f r) i
   unfolding body
@@ -60,12 +61,12 @@ module _ (f : List ℕ) (r : Reason) where
   unfolding body
   body-length x y z p q s = simp length-append (omega arith)
 
-  pub source-length : (x y n : ℕ) → r .kind ≡ 4 → x ≡ length (decimal (r .line)) → y ≡ length (decimal (r .column)) → n ≡ length (body f r) → x + 1 + y + n ≡ length (render f r)
+  pub source-length : (x y n : ℕ) → r .kind ≡ source-note → x ≡ length (decimal (r .line)) → y ≡ length (decimal (r .column)) → n ≡ length (body f r) → x + 1 + y + n ≡ length (render f r)
   unfolding placed
   source-length x y n e p q s = rw (with-source e) (simp length-append (omega arith))
 
-  pub source-byte : (i b : ℕ) → r .kind ≡ 4 → Here b ≡ seek (placed (r .line) (r .column)) i → Here b ≡ seek (render f r) i
+  pub source-byte : (i b : ℕ) → r .kind ≡ source-note → Here b ≡ seek (placed (r .line) (r .column)) i → Here b ≡ seek (render f r) i
   source-byte i b e g = rw (with-source e) (seek-here (placed (r .line) (r .column)) (body f r) i b g)
 
-  pub past-source : (i j : ℕ) → r .kind ≡ 4 → Left j ≡ seek (placed (r .line) (r .column)) i → seek (body f r) j ≡ seek (render f r) i
+  pub past-source : (i j : ℕ) → r .kind ≡ source-note → Left j ≡ seek (placed (r .line) (r .column)) i → seek (body f r) j ≡ seek (render f r) i
   past-source i j e g = rw (with-source e) (seek-left (placed (r .line) (r .column)) (body f r) i j g)

@@ -6,48 +6,71 @@ ghost use mathlib.Core.List.{_∷_, _++_};
 ghost use Prim.Native.Nat.{_+_, _-_, _*_, _≤_, _<_};
 ghost use lib.ListN.{length, getD, drop, take};
 ghost use Rattle.texts.specs.Texts.{decimal, eqT, orderT, memT, insertT};
-ghost use Rattle.texts.specs.Places.{seek};
-ghost use Rattle.reasons.specs.Reasons.{words, placed, body, render};
+ghost use Rattle.texts.specs.Places.{textAt, seek};
+ghost use Rattle.reasons.specs.Reasons.{words-file, words, placed, body, render};
 ghost use Rattle.reasons.specs.Lists.{reason-of, reasons, listed, pushT, insertAll, Goes, Holds};
 
-// The kinds: where their words stand in WORDS.
+// The kinds, numbered; a new kind goes to the end.
 pub const NOTE: u32 = 0;
 
 pub const ID_NOTE: u32 = 1;
 
-pub const SOURCE_NOTE: u32 = 4;
+pub const SOURCE_NOTE: u32 = 2;
 
-pub const TRIGGER_CONDITION: u32 = 7;
+pub const TRIGGER_CONDITION: u32 = 3;
 
-pub const TOGGLE: u32 = 35;
+pub const TOGGLE: u32 = 4;
 
-pub const CHOOSE_CONDITION: u32 = 61;
+pub const CHOOSE_CONDITION: u32 = 5;
 
-pub const ACTION_CONDITION: u32 = 88;
+pub const ACTION_CONDITION: u32 = 6;
 
-pub const WAIT: u32 = 115;
+pub const WAIT: u32 = 7;
 
-pub const STATE_PREDICATE: u32 = 140;
+pub const STATE_PREDICATE: u32 = 8;
 
-pub const ACTION_GUARD: u32 = 166;
+pub const ACTION_GUARD: u32 = 9;
 
-pub const RESPONSE_AT_DEADLINE: u32 = 189;
+pub const RESPONSE_AT_DEADLINE: u32 = 10;
 
-pub const TEMPORAL_PREDICATE: u32 = 220;
+pub const TEMPORAL_PREDICATE: u32 = 11;
 
-pub const BEYOND_HORIZON: u32 = 249;
+pub const BEYOND_HORIZON: u32 = 12;
 
-pub const SPACE_SPENT: u32 = 284;
+pub const SPACE_SPENT: u32 = 13;
 
-pub const STEPS_SPENT: u32 = 316;
+pub const STEPS_SPENT: u32 = 14;
 
-pub const RUNS_LEFT: u32 = 338;
+pub const RUNS_LEFT: u32 = 15;
 
-pub const SEARCH_SPENT: u32 = 387;
+pub const SEARCH_SPENT: u32 = 16;
 
-// The fixed words of the kinds, each behind its length.
+// How many kinds there are.
+pub const KINDS: usize = 17;
+
+// The fixed words of the kinds, each behind its length, and where those of each kind start.
 const WORDS: [u8; 411] =
     *b"\x00\x02: \x02: \x1b: unknown trigger condition\x19: toggle of unknown state\x1a: unknown choose condition\x1a: unknown action condition\x18unsupported wait trigger\x19: unknown state predicate\x16: unknown action guard\x1e: unknown response at deadline\x1c: unknown temporal predicate\x22: response deadline beyond horizon\x1ftrace or queue budget exhausted\x15step budget exhausted\x30active or queued runs beyond observation horizon\x17search budget exhausted";
+
+const STARTS: [usize; KINDS] = [
+    0,
+    1,
+    4,
+    7,
+    35,
+    61,
+    88,
+    115,
+    140,
+    166,
+    189,
+    220,
+    249,
+    284,
+    316,
+    338,
+    387,
+];
 
 // The position of a text that is not there: past the end of every file.
 pub const ABSENT: u32 = 4294967295;
@@ -118,16 +141,27 @@ fn source_seek(line: u32, column: u32, i: usize) -> Seek
     }
 }
 
+// Where the words of a kind start; those of a number past the last kind are empty, as NOTE's.
+fn words_start(kind: u32) -> usize
+    ensures { λ r. ⌜ textAt words-file r ≡ words kind ⌝ }
+{
+    let k = kind as usize;
+    if k < KINDS {
+        return STARTS[k];
+    }
+    0
+}
+
 fn words_seek(kind: u32, i: usize) -> Seek
     ensures { λ r. ⌜ r ≡ seek (words kind) i ⌝ }
 {
-    texts::text_seek(&WORDS, kind as usize, i)
+    texts::text_seek(&WORDS, words_start(kind), i)
 }
 
 fn words_len(kind: u32) -> usize
     ensures { λ r. ⌜ (r ≡ length (words kind)) × (r < 256) ⌝ }
 {
-    texts::text_len(&WORDS, kind as usize)
+    texts::text_len(&WORDS, words_start(kind))
 }
 
 fn body_seek(f: &[u8], r: Reason, i: usize) -> Seek

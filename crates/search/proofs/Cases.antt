@@ -9,8 +9,8 @@ use lib.Dec.{leb}
 use lib.ListN.{length, getD}
 use borrow.Author.Tests.{le-leb, lt-leb}
 use Rattle.texts.specs.Lists.{is-empty}
-use Rattle.texts.specs.Places.{textAt}
 use Rattle.texts.specs.Texts.{Text, text, insertT, sortedT}
+use Rattle.reasons.specs.Kinds as kinds
 use Rattle.reasons.specs.Lists.{listed, insertAll, Holds}
 use Rattle.reasons.specs.Reasons.{render, body, words}
 use Rattle.model.specs.Answer.{Answer, answer, refused, _>>=_, accept}
@@ -54,8 +54,8 @@ module _ {f : List ℕ} {p : Entire} {q a u : ℕ} (x : Setting f p q a u) where
   abbrev pub table : Tabled f (p .ground .table) (x .indexed .ts) m
   table = tb f (x .index) m (x .is-accepted) (x .indexed) (x .bytes) (p .ground) (x .grounds)
 
-  pub spent-is : render f (alone 387) ≡ spent-text
-  unfolding render body alone words textAt
+  pub spent-is : render f (alone kinds.search-spent) ≡ spent-text
+  unfolding render body alone words
   spent-is = rw (no-text f (p .ground .table) (x .indexed .ts) m table) refl
 
   pub pool-few : length (search-pool m) ≤ 400
@@ -145,7 +145,7 @@ module _ {f : List ℕ} {p : Entire} {q a u : ℕ} (x : Setting f p q a u) where
         told : Holds f (sortedT (s .reasons ++ spent-text ∷ [])) (r .reasons) w'
         told =
             subst (λ (l : List Text). Holds f l (r .reasons) w')
-            (ap (λ (l : List Text). insertT (render f (alone 387)) l) (h .reasons .texts)
+            (ap (λ (l : List Text). insertT (render f (alone kinds.search-spent)) l) (h .reasons .texts)
             ∙ ap (λ (t : Text). insertT t (sortedT (s .reasons))) spent-is ∙ sorted-one (s .reasons) spent-text)
             (k .reasons (few-reasons s o w h))
 

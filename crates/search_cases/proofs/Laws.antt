@@ -6,6 +6,7 @@ use native.Mathlib.Omega.{arith}
 use native.Mathlib.Nat.{mul-zero, mul-le-mul, mod-lt, div-lt-iff-lt-mul}
 use lib.ListN.{length, getD}
 use Rattle.texts.specs.Texts.{Text, insertT}
+use Rattle.reasons.specs.Kinds as kinds
 use Rattle.reasons.specs.Lists.{reasons, listed, insertAll, Holds}
 use Rattle.reasons.specs.Reasons.{render}
 use Rattle.reasons.specs.declared.Reason.{Reason}
@@ -40,11 +41,11 @@ merge-room f b m a n h o l = (
   ),
 )
 
-pub spent-reasons : (f w : List ℕ) {w' : List ℕ} {k n r : ℕ} {y : Reason} → AtMost k 400 n → y ≡ alone 387 →
+pub spent-reasons : (f w : List ℕ) {w' : List ℕ} {k n r : ℕ} {y : Reason} → AtMost k 400 n → y ≡ alone kinds.search-spent →
     Holds f (insertT (render f y) (listed f n w)) r w' → k ≤ 400
-    → Holds f (insertT (render f (alone 387)) (listed f k w)) r w'
+    → Holds f (insertT (render f (alone kinds.search-spent)) (listed f k w)) r w'
 spent-reasons f w {w'} {k} {n} {r} a e h o =
-    subst (λ (j : ℕ). Holds f (insertT (render f (alone 387)) (listed f j w)) r w') (a .same o)
+    subst (λ (j : ℕ). Holds f (insertT (render f (alone kinds.search-spent)) (listed f j w)) r w') (a .same o)
     (subst (λ (z : Reason). Holds f (insertT (render f z) (listed f n w)) r w') e h)
 
 pub gathers-is : (f w : List ℕ) (n : ℕ) {un inc : ℕ} (us ws : List ℕ) {k many first j more r : ℕ} {w₁ w₂ : List ℕ} → AtMost n 400 k

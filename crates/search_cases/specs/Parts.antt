@@ -6,6 +6,7 @@ use mathlib.Core.List.{List, []}
 use lib.Dec.{eqb}
 use lib.ListN.{length, getD}
 use Rattle.texts.specs.Texts.{insertT}
+use Rattle.reasons.specs.Kinds as kinds
 use Rattle.reasons.specs.Lists.{listed, insertAll, Holds}
 use Rattle.reasons.specs.Reasons.{render}
 use Rattle.model_index.specs.declared.Index.{Index}
@@ -89,7 +90,7 @@ pub record Spends (f : List ℕ) (o : Search) (w : List ℕ) (r : Search) (w' : 
   pub shortest : r .shortest ≡ o .shortest
   pub stopped : r .stopped ≡ true
   pub witness : r .witness ≡ o .witness
-  pub reasons : o .reasons ≤ 400 → Holds f (insertT (render f (alone 387)) (listed f (o .reasons) w)) (r .reasons) w'
+  pub reasons : o .reasons ≤ 400 → Holds f (insertT (render f (alone kinds.search-spent)) (listed f (o .reasons) w)) (r .reasons) w'
 
 -- a case was checked: a violation, or its reasons were gathered
 pub record Found (o : Search) (placed : Placed) (took : ℕ) (r : Search) : Type 0 where
