@@ -11,7 +11,7 @@ use Rattle.texts.specs.Texts.{Text}
 use Rattle.areas.specs.Areas.{area}
 use Rattle.areas.proofs.Laws as areas
 use Rattle.reasons.specs.Reasons.{render}
-use Rattle.reasons.specs.Lists.{reason-of, listed, Holds}
+use Rattle.reasons.specs.Lists.{reason-of, listed, Reported}
 use Rattle.reasons.proofs.Listing as listing
 use Rattle.model.specs.Model.{Source, Model}
 use Rattle.model.specs.Rewrite.{place-of}
@@ -98,7 +98,7 @@ module _ (f x : List ℕ) (ts : List Text) (m : Model) (tb : Tabled f x ts m) wh
 -- ---- reasons
 
 -- the reason at k of an answer's list is the definition's
-pub reason-is : {f : List ℕ} {l : List Text} {n : ℕ} {a : List ℕ} → Holds f l n a → (k : ℕ) → k < length l → render f (reason-of (drop (k * 5) a)) ≡ getD l k []
+pub reason-is : {f : List ℕ} {l : List Text} {n : ℕ} {a : List ℕ} → Reported f l n a → (k : ℕ) → k < length l → render f (reason-of (drop (k * 5) a)) ≡ getD l k []
 reason-is {f} {l} {n} {a} h k o =
     let t : Text = render f (reason-of (drop (k * 5) a)) in
     let e : drop k l ≡ t ∷ drop (k + 1) (listed f n a) = ap (drop k) (sym (h .texts)) ∙ listing.next f n a k (omega (arith, h .many)) in

@@ -26,7 +26,7 @@ use Rattle.engine_places.specs.Events.{EventAt}
 use Rattle.engine_begin.specs.Begin.{EventsOf}
 use Rattle.engine_begin.proofs.Begins.{event-here}
 use Rattle.engine_entry.specs.Answers.{Ground, Grounds, lent}
-use Rattle.engine_entry.proofs.Core.{tb}
+use Rattle.engine_entry.proofs.Core.{tb, queue-clear, runs-clear}
 use Rattle.engine_entry.proofs.Entry.{events-count}
 use Rattle.checker.specs.Check as check
 use Rattle.checker.specs.Check.{checked}
@@ -76,11 +76,11 @@ module _ (f : List ℕ) (i : Index) (m : Model) (acc : accepted f ≡ answer m) 
         by : Promise f i m acc o bytes g gr v none-such events evs all-events ch → Checks f r (lent q a u) (lent q' a' u')
         by (answers c e k z) = record {
           says = subst (Says f r) (sym (check-law sizes ∙ e)) (whole-shows wh c k);
-          memory = rw (ch .ran .does .queue, ch .ran .does .runs, z) (sym (ap after (check-law sizes ∙ e)));
+          memory = rw (queue-clear f i m acc o bytes g gr (ch .ran), runs-clear f i m acc o bytes g gr (ch .ran), z) (sym (ap after (check-law sizes ∙ e)));
         }
         by (refuses k lo hi e is z) = record {
           says = subst (Says f r) (sym (check-law sizes ∙ e)) (whole-refused wh k lo is);
-          memory = rw (ch .ran .does .queue, ch .ran .does .runs, z) (sym (ap after (check-law sizes ∙ e) ∙ refusals (words-in f) (λ (b : check.Check). b .simulation .trace) (lent q a u) .areas k lo hi));
+          memory = rw (queue-clear f i m acc o bytes g gr (ch .ran), runs-clear f i m acc o bytes g gr (ch .ran), z) (sym (ap after (check-law sizes ∙ e) ∙ refusals (words-in f) (λ (b : check.Check). b .simulation .trace) (lent q a u) .areas k lo hi));
         }
 
 -- ---- the entry

@@ -19,6 +19,7 @@ use Rattle.records.proofs.Laws.{sized}
 use Rattle.reasons.specs.Kinds as kinds
 use Rattle.reasons.specs.Lists.{insertAll, Holds}
 use Rattle.reasons.specs.Reasons.{render, body, words}
+use Rattle.reasons.proofs.Listing.{reported}
 use Rattle.reasons.proofs.Sorting.{merged, one-by-one, either-way}
 use Rattle.model.specs.Answer.{Answer, answer, refused, _>>=_}
 use Rattle.model.specs.Model.{Event, Invariant, Model}
@@ -40,7 +41,7 @@ use Rattle.engine_places.specs.Meaning.{cells-of, record-of, Tabled}
 use Rattle.engine_places.proofs.Accepted.{accepted-lawful}
 use Rattle.engine_places.proofs.Lists.{each-imp}
 use Rattle.engine_places.proofs.Numbers.{most-is}
-use Rattle.engine_places.proofs.Pool.{no-text}
+use Rattle.engine_places.proofs.Pool.{has-text, no-text}
 use Rattle.engine_places.proofs.Relation.{Worded}
 use Rattle.engine_places.specs.Events.{EventAt}
 use Rattle.engine_places.proofs.Truth.{Valued}
@@ -207,8 +208,8 @@ module _ (f : List ℕ) (i : Index) (m : Model) (acc : accepted f ≡ answer m) 
               ∙ ap (λ (n : ℕ). areas.words brokenV (all .violations) ++ replicate (n - length (areas.words brokenV (all .violations))) 0) long
               ∙ ap (λ (y : List ℕ). y ++ replicate (256 - length y) 0) (e .violations ∙ ap (areas.words (violation-words (o .ts))) violations-are)
               ∙ ap (λ (ts : List Text). areas.words (violation-words ts) (verdict .violations) ++ replicate (256 - length (areas.words (violation-words ts) (verdict .violations))) 0) (sym (texts-here f i m acc o bytes g gr));
-          unknown = hu;
-          incomplete = hw;
+          unknown = reported (has-text f x (o .ts) m t) hu;
+          incomplete = reported (has-text f x (o .ts) m t) hw;
           simulation = subst (λ (y : Simulation). Shows f y sim) (sym re) shows;
         }
 
@@ -253,7 +254,7 @@ module _ (f : List ℕ) (i : Index) (m : Model) (acc : accepted f ≡ answer m) 
         let rep : a' ≡ recorded (length a') (k .records) = k .area-is ∙ ap (λ (y : ℕ). area recordWords y (k .records)) (sym long) in
         answers (judged is cells sim) (answer-law sim e)
         (verdict-shows s sim (k .shows) (k .records) (k .trace) (k .words) r (w .status-is) refl (w .long)
-        (w .holds (omega (arith, k .shows .unknown .many, k .few)) (k .records) (sym (k .count)) (omega (arith, k .count, room, long)) rep))
+        (w .holds (omega (arith, k .shows .unknown .many, k .few)) (λ h. k .shows .unknown .clean) (k .records) (sym (k .count)) (omega (arith, k .count, room, long)) rep))
         (k .area-is ∙ records-here f i m acc o bytes g gr (length a) (k .records) (sim .trace) (k .words) (k .trace))
 
     pub promise : Promise

@@ -7,7 +7,7 @@ use Rattle.texts.specs.Texts.{Text}
 use Rattle.areas.specs.Areas.{area}
 use Rattle.model.specs.Answer.{Answer, answer, refused}
 use Rattle.model.specs.Rewrite.{place-of}
-use Rattle.reasons.specs.Lists.{Holds}
+use Rattle.reasons.specs.Lists.{Reported}
 use Rattle.engine.specs.Memory.{Lent, entries, lent-after}
 use Rattle.engine.specs.Words.{source-words, texts-in, words-in, entry-words}
 use Rattle.engine_entry.specs.Answers as engine
@@ -38,14 +38,14 @@ unfoldable pub violation-words : (texts : List Text) → check.Violation → Lis
 violation-words ts v =
     (place-of (v .invariant) ts ∷ v .at ∷ v .index ∷ []) ++ (failure-words (v .failure) ++ source-words (v .source))
 
--- The answer says what the definition's check says. Which of two reasons with the same rendering stands there is left free,
--- and so are the words behind the last reason.
+-- The answer says what the definition's check says; each reason can be read, and zeros stand behind the last. Which of two
+-- reasons with the same rendering stands there is left free.
 pub record Shows (f : List ℕ) (r : CheckResult) (c : check.Check) : Type 0 where
   pub status-is : r .status ≡ status-as (c .status)
   pub violations : r .violations ≡ length (c .violations)
   pub violated : r .violated ≡ area (violation-words (texts-in f)) 256 (c .violations)
-  pub unknown : Holds f (c .unknown) (r .unknown) (r .unknowns)
-  pub incomplete : Holds f (c .incomplete) (r .incomplete) (r .incompletes)
+  pub unknown : Reported f (c .unknown) (r .unknown) (r .unknowns)
+  pub incomplete : Reported f (c .incomplete) (r .incomplete) (r .incompletes)
   pub simulation : engine.Shows f (r .simulation) (c .simulation)
 
 abbrev pub Says : (file : List ℕ) → CheckResult → Answer check.Check → Type 0

@@ -9,9 +9,10 @@ use reasons::insert_sorted;
 ghost use mathlib.Core.Path.{_≡_};
 ghost use Prim.Native.Nat.{_*_, _≤_};
 ghost use lib.ListN.{length};
-ghost use Rattle.reasons.specs.Lists.{listed, insertAll, Holds};
+ghost use Rattle.reasons.specs.Readable.{AllReadable};
+ghost use Rattle.reasons.specs.Lists.{listed, insertAll, Grows};
 ghost use Rattle.engine_reads.specs.Reads.{cap};
-ghost use Rattle.checker_reasons.specs.Told.{renderings, aboutI, ifI, temporalI, unknownI, incompleteI};
+ghost use Rattle.checker_reasons.specs.Told.{list-of, renderings, aboutI, ifI, temporalI, unknownI, incompleteI};
 
 // An invariant gives at most two.
 pub enum Told {
@@ -83,7 +84,7 @@ pub fn incomplete_reasons(f: &[u8], at: usize, m: Memory) -> Told
 // The reasons among the first n of an area, which ascend as rendered; the answer is how many there are then.
 pub fn insert_told(f: &[u8], a: &mut [u32], n: usize, t: Told) -> usize
     requires { ⌜ length (insertAll (renderings (now f) t) (listed (now f) n (now a))) * 5 ≤ length (now a) ⌝ }
-    ensures { λ k. ⌜ Holds (now (f .entry)) (insertAll (renderings (now (f .entry)) t) (listed (now (f .entry)) n (now (a .entry)))) k (now (a .exit)) ⌝ }
+    ensures { λ k. ⌜ Grows (now (f .entry)) (AllReadable (now (f .entry)) (list-of t)) (insertAll (renderings (now (f .entry)) t) (listed (now (f .entry)) n (now (a .entry)))) n (now (a .entry)) k (now (a .exit)) ⌝ }
 {
     match t {
         Told::Nothing => n,

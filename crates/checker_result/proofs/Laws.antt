@@ -9,11 +9,16 @@ use borrow.Author.Tests.{eq-eqb, ne-eqb}
 use Rattle.texts.specs.Texts.{Text, insertT}
 use Rattle.areas.proofs.Laws as areas
 use Rattle.reasons.specs.Kinds as kinds
-use Rattle.reasons.specs.Lists.{reasons, listed, insertAll, Holds}
+use Rattle.reasons.specs.Kinds.{NoText}
+use Rattle.reasons.specs.Readable.{Readable}
+use Rattle.reasons.specs.Lists.{reasons, listed, insertAll, Clean, Holds, Grows}
 use Rattle.reasons.specs.Reasons.{render}
 use Rattle.reasons.specs.declared.Reason.{Reason}
 use Rattle.reasons.proofs.Listing as listing
+use Rattle.reasons.proofs.Listing.{grows-none, grown}
+use Rattle.reasons.proofs.Cleaning.{zeros, holds-zeros}
 use Rattle.engine_reads.specs.Reads.{alone}
+use Rattle.engine_reads.proofs.Readable.{alone-readable}
 use Rattle.engine_summary.specs.declared.Simulation.{Simulation}
 use Rattle.engine_summary.specs.declared.Summary.{Summary}
 use Rattle.engine_summary.specs.Summary.{no-simulation, simulation-of}
@@ -60,38 +65,41 @@ pub insert-room : (f a : List ℕ) (n : ℕ) (r : Reason) → n * 5 + 5 ≤ leng
 insert-room f a n r h = omega (arith, h, listing.one-more (render f r) (listed f n a), listing.length-listed f n a)
 
 module _ (f : List ℕ) (why : ℕ) where
-  pub starts-none : why ≡ 0 → (w : List ℕ) → Starts f why 0 w
-  unfolding stoppedR insertAll reasons
-  starts-none z w = record { most = omega arith; holds = rw (eq-eqb why 0 z) (record { many = refl; texts = refl }) }
+  pub starts-none : why ≡ 0 → (w : List ℕ) → Starts f why w 0 w
+  unfolding stoppedR insertAll
+  starts-none z w = record { most = omega arith; grows = rw (eq-eqb why 0 z) (grows-none f refl) }
 
-  starts-one : (w w' : List ℕ) (k : ℕ) (r : Reason) → stoppedR why ≡ r ∷ [] → Holds f (insertT (render f r) (listed f 0 w)) k w' → Starts f why k w'
-  unfolding insertAll reasons
-  starts-one w w' k r e h = record {
-    most = omega (arith, h .many, listing.one-more (render f r) []);
-    holds = rw e h;
+  starts-one : (w w' : List ℕ) (k : ℕ) {r : Reason} {y : ℕ} → stoppedR why ≡ r ∷ [] → r ≡ alone y → NoText y →
+      Grows f (Readable f r) (insertT (render f r) (listed f 0 w)) 0 w k w' → Starts f why w k w'
+  unfolding insertAll
+  starts-one w w' k {r} e a o h = record {
+    most = omega (arith, h .many, listing.one-more (render f r) (listed f 0 w), listing.length-listed f 0 w);
+    grows = rw e (record { many = h .many; texts = h .texts; clean = λ u c. h .clean (alone-readable a o) c });
   }
 
   pub starts-space : (why ≡ 0 → ⊥) → why ≡ 1 → {r : Reason} → r ≡ alone kinds.space-spent → (w w' : List ℕ) {k : ℕ} →
-      Holds f (insertT (render f r) (listed f 0 w)) k w' → Starts f why k w'
+      Grows f (Readable f r) (insertT (render f r) (listed f 0 w)) 0 w k w' → Starts f why w k w'
   unfolding stoppedR
-  starts-space z o {r} e w w' {k} h = starts-one w w' k r (rw (ne-eqb why 0 z, eq-eqb why 1 o, e)) h
+  starts-space z o {r} e w w' {k} h =
+      starts-one w w' k (rw (ne-eqb why 0 z, eq-eqb why 1 o, e)) e (record { known = omega arith; is = refl }) h
 
   pub starts-steps : (why ≡ 0 → ⊥) → (why ≡ 1 → ⊥) → {r : Reason} → r ≡ alone kinds.steps-spent → (w w' : List ℕ) {k : ℕ} →
-      Holds f (insertT (render f r) (listed f 0 w)) k w' → Starts f why k w'
+      Grows f (Readable f r) (insertT (render f r) (listed f 0 w)) 0 w k w' → Starts f why w k w'
   unfolding stoppedR
-  starts-steps z o {r} e w w' {k} h = starts-one w w' k r (rw (ne-eqb why 0 z, ne-eqb why 1 o, e)) h
+  starts-steps z o {r} e w w' {k} h =
+      starts-one w w' k (rw (ne-eqb why 0 z, ne-eqb why 1 o, e)) e (record { known = omega arith; is = refl }) h
 
 module _ (f : List ℕ) (n : ℕ) (w : List ℕ) where
   pub ends-none : {b : Bool} → b ≡ false → Ends f b n w n w
   unfolding leftR insertAll
-  ends-none e = record { most = omega arith; holds = rw e (record { many = sym (listing.length-listed f n w); texts = refl }) }
+  ends-none e = record { most = omega arith; grows = rw e (grows-none f refl) }
 
   pub ends-one : {b : Bool} → b ≡ true → {r : Reason} → r ≡ alone kinds.runs-left → {w' : List ℕ} {k : ℕ} →
-      Holds f (insertT (render f r) (listed f n w)) k w' → Ends f b n w k w'
+      Grows f (Readable f r) (insertT (render f r) (listed f n w)) n w k w' → Ends f b n w k w'
   unfolding leftR insertAll
   ends-one e {r} a {w'} {k} h = record {
     most = omega (arith, h .many, listing.one-more (render f r) (listed f n w), listing.length-listed f n w);
-    holds = rw e (rw (← a) h);
+    grows = rw e (rw (← a) (record { many = h .many; texts = h .texts; clean = λ u c. h .clean (alone-readable a (record { known = omega arith; is = refl })) c }));
   }
 
 -- ---- the verdict
@@ -105,28 +113,31 @@ module _ (f : List ℕ) (m : ℕ) (b a : List ℕ) where
       (m * 5 ≤ length b) × (length (insertAll (listed f m b) (listed f 0 a)) * 5 ≤ length a)
   merge-room h lb la = (omega (arith, h, lb), omega (arith, h, la, merged-few))
 
-  pub merged-most : m ≤ 300 → {k : ℕ} {a' : List ℕ} → Holds f (insertAll (listed f m b) (listed f 0 a)) k a' → k ≤ 300
+  pub merged-most : m ≤ 300 → {k : ℕ} {R : Type 0} {a' : List ℕ} → Grows f R (insertAll (listed f m b) (listed f 0 a)) 0 a k a' → k ≤ 300
   merged-most h e = omega (arith, h, e .many, merged-few)
 
 module _ {f x starts : List ℕ} {h : Shared} {a : List ℕ} (s : Summary) {told : List ℕ} where
-  pub judged-is : {many : ℕ} → Few (s .unknown) many → (u₀ : List ℕ) {u₁ : List ℕ} {k : ℕ} → Holds f (insertAll (listed f many told) (listed f 0 u₀)) k u₁ →
-      {w₁ w₂ : List ℕ} {j i : ℕ} → Starts f (s .why) j w₁ → Ends f (s .waiting) j w₁ i w₂ → {n : ℕ} → Fits (s .records) (length a) n →
+  pub judged-is : {many : ℕ} → Few (s .unknown) many → {u₁ : List ℕ} {k : ℕ} →
+      Grows f (Clean f many told) (insertAll (listed f many told) (listed f 0 (replicate 2000 0))) 0 (replicate 2000 0) k u₁ →
+      {w₁ w₂ : List ℕ} {j i : ℕ} → Starts f (s .why) (replicate 200 0) j w₁ → Ends f (s .waiting) j w₁ i w₂ → {n : ℕ} → Fits (s .records) (length a) n →
       {t : Counts} {v' u₂ w₃ : List ℕ} → GathersAll f x starts (h .invariants) (h .cells) a n (record { violations = 0; unknown = k; incomplete = i }) t (replicate 256 0) v' u₁ u₂ w₂ w₃ →
       {y : Status} → y ≡ statusV t →
       Judged f x starts h a s (record { status = y; violations = t .violations; unknown = t .unknown; incomplete = t .incomplete; simulation = s }) told v' u₂ w₃
   unfolding startV reasons
-  judged-is {many} few u₀ {u₁} {k} merged {w₁} {w₂} {j} {i} st en {n} fi {t} {v'} {u₂} {w₃} all {y} e = record {
+  judged-is {many} few {u₁} {k} merged {w₁} {w₂} {j} {i} st en {n} fi {t} {v'} {u₂} {w₃} all {y} e = record {
     simulation = refl;
     verdict = record {
       status-is = e;
       long = all .long-v ∙ length-replicate {A = ℕ} 256 0;
-      few-unknown = omega (arith, all .most-unknown, merged-most f many told u₀ (few .most) merged);
+      few-unknown = omega (arith, all .most-unknown, merged-most f many told (replicate 2000 0) (few .most) merged);
       few-incomplete = omega (arith, all .most-incomplete, st .most, en .most);
-      holds = λ ok l long roomy rep. all .does l (long ∙ sym (fi .same roomy)) rep (startV f (simulation-of s told)) (record {
+      holds = λ ok clean l long roomy rep. all .does l (long ∙ sym (fi .same roomy)) rep (startV f (simulation-of s told)) (record {
         violations = sym (areas.area-none brokenV 256) ∙ ap (λ (q : ℕ). Rattle.areas.specs.Areas.area brokenV q []) (sym (length-replicate {A = ℕ} 256 0));
         many = refl;
-        unknown = subst (λ (q : ℕ). Holds f (insertAll (listed f q told) []) k u₁) (few .same ok) merged;
-        incomplete = subst (λ (q : List Text). Holds f (insertAll (map (render f) (leftR (s .waiting))) q) i w₂) (st .holds .texts) (en .holds);
+        unknown = subst (λ (q : ℕ). Holds f (insertAll (listed f q told) []) k u₁) (few .same ok)
+            (grown f (insertAll (listed f many told)) merged (λ h. subst (λ (q : ℕ). Clean f q told) (sym (few .same ok)) (clean h)) (holds-zeros f (zeros 2000)));
+        incomplete = grown f (insertAll (map (render f) (leftR (s .waiting)))) (en .grows) (λ h. tt)
+            (grown f (insertAll (map (render f) (stoppedR (s .why)))) (st .grows) (λ h. tt) (holds-zeros f (zeros 200)));
       });
     };
   }

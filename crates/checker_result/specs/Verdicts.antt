@@ -9,7 +9,8 @@ use Rattle.texts.specs.Lists.{if_then_else_}
 use Rattle.records.specs.Records.{recorded}
 use Rattle.records.specs.declared.Record.{Record}
 use Rattle.reasons.specs.Kinds as kinds
-use Rattle.reasons.specs.Lists.{listed, insertAll, Holds}
+use Rattle.reasons.specs.Readable.{HasText}
+use Rattle.reasons.specs.Lists.{listed, insertAll, Clean, Grows}
 use Rattle.reasons.specs.Reasons.{render}
 use Rattle.reasons.specs.declared.Reason.{Reason}
 use Rattle.engine_reads.specs.Reads.{atMost, alone}
@@ -43,13 +44,13 @@ stoppedR w = if eqb w 0 then [] else if eqb w 1 then alone kinds.space-spent ∷
 unfoldable pub leftR : (waiting : Bool) → List Reason
 leftR b = if b then alone kinds.runs-left ∷ [] else []
 
-pub record Starts (f : List ℕ) (why k : ℕ) (w : List ℕ) : Type 0 where
+pub record Starts (f : List ℕ) (why : ℕ) (w : List ℕ) (k : ℕ) (w' : List ℕ) : Type 0 where
   pub most : k ≤ 1
-  pub holds : Holds f (insertAll (map (render f) (stoppedR why)) []) k w
+  pub grows : Grows f (Unit {0}) (insertAll (map (render f) (stoppedR why)) (listed f 0 w)) 0 w k w'
 
 pub record Ends (f : List ℕ) (waiting : Bool) (n : ℕ) (w : List ℕ) (k : ℕ) (w' : List ℕ) : Type 0 where
   pub most : k ≤ n + 1
-  pub holds : Holds f (insertAll (map (render f) (leftR waiting)) (listed f n w)) k w'
+  pub grows : Grows f (Unit {0}) (insertAll (map (render f) (leftR waiting)) (listed f n w)) n w k w'
 
 -- what is gathered before the first invariant
 unfoldable pub startV : List ℕ → Simulation → Gathered
@@ -68,7 +69,8 @@ pub record Verdict (f x starts : List ℕ) (many : ℕ) (c : Cells) (a : List �
   pub long : length (r .violated) ≡ 256
   pub few-unknown : r .unknown ≤ 400
   pub few-incomplete : r .incomplete ≤ 40
-  pub holds : r .simulation .unknown ≤ 300 → (l : List Record) → length l ≡ r .simulation .records → r .simulation .records * 13 ≤ length a → a ≡ recorded (length a) l →
+  pub holds : r .simulation .unknown ≤ 300 → (HasText f → Clean f (r .simulation .unknown) (r .simulation .reasons)) →
+      (l : List Record) → length l ≡ r .simulation .records → r .simulation .records * 13 ≤ length a → a ≡ recorded (length a) l →
       Keeps f (r .violated) (r .unknowns) (r .incompletes) (counts r) (firstV f x starts c l (atMost many 32) (startV f (r .simulation)))
 
 -- the judgement of a simulation whose reasons' words are u

@@ -77,7 +77,7 @@ fn fitting(n: usize, a: &[u32]) -> usize
 // Why the simulation stopped, as reasons.
 fn add_stopped(f: &[u8], w: &mut [u32], why: u32) -> usize
     requires { ⌜ 5 ≤ length (now w) ⌝ }
-    ensures { λ k. ⌜ Starts (now (f .entry)) why k (now (w .exit)) ⌝ }
+    ensures { λ k. ⌜ Starts (now (f .entry)) why (now (w .entry)) k (now (w .exit)) ⌝ }
 {
     if why == 0 {
         return 0;
@@ -138,6 +138,8 @@ pub fn verdict(
 {
     let none = [0u64; 256];
     *violated = none;
+    *unknowns = [0u32; 2000];
+    *incompletes = [0u32; 200];
     let many = engine_summary::few(s.unknown);
     let unknown = reasons::merge(f, unknowns, 0, told, many);
     let stopped = add_stopped(f, incompletes, s.why);

@@ -15,8 +15,10 @@ use Rattle.records.specs.declared.Record.{Record}
 use Rattle.records.specs.declared.Where.{Where}
 use Rattle.records.specs.declared.Where.the-variants.{From}
 use Rattle.reasons.specs.Kinds as kinds
-use Rattle.reasons.specs.Lists.{listed, insertAll, Holds}
+use Rattle.reasons.specs.Readable.{AllReadable}
+use Rattle.reasons.specs.Lists.{listed, insertAll, Holds, Grows}
 use Rattle.reasons.proofs.Listing as listing
+use Rattle.reasons.proofs.Listing.{grown}
 use Rattle.engine_reads.specs.Reads.{two, cap, atMost}
 use Rattle.engine_state.specs.declared.Cells.{Cells}
 use Rattle.checker_judge.specs.declared.Reading.{Reading}
@@ -25,7 +27,8 @@ use Rattle.checker_response.specs.Response.{failedJ}
 use Rattle.checker_judge.specs.Judging.{judgeJ, Judges}
 use Rattle.checker_reasons.specs.declared.Told.{Told}
 use Rattle.checker_reasons.specs.declared.Told.the-variants.{Nothing, One, Two}
-use Rattle.checker_reasons.specs.Told.{renderings, aboutI, ifI, incompleteI, unknownI}
+use Rattle.checker_reasons.specs.Told.{list-of, renderings, aboutI, ifI, incompleteI, unknownI}
+use Rattle.checker_reasons.proofs.Laws.{unknown-readable, incomplete-readable}
 use Rattle.checker_verdict.specs.declared.Counts.{Counts}
 use Rattle.checker_verdict.specs.Verdict.{failure-number, failure-deadline, sourceV, numbersV, Broken, brokenV, violatedV, Pushed, Gathered, oneV, firstV, Keeps, Changes, Gathers}
 
@@ -101,8 +104,10 @@ lack-room f a n at m {t} e h =
 
 module _ {f x : List ℕ} {at : ℕ} {c : Cells} {a : List ℕ} {n : ℕ} {s : Counts} {v v' u u' w w' : List ℕ} (r : Reading) where
   pub gathers-one : Judges f x at c a n r → {p id k d e : ℕ} → p ≡ cap at → id ≡ two f (p + 1) → Pushed v (s .violations) id r v' k →
-      {t : Told} → t ≡ unknownI f (cap at) (r .memory) → Holds f (insertAll (renderings f t) (listed f (s .unknown) u)) d u' →
-      {y : Told} → y ≡ incompleteI f (cap at) (r .memory) → Holds f (insertAll (renderings f y) (listed f (s .incomplete) w)) e w' →
+      {t : Told} → t ≡ unknownI f (cap at) (r .memory) →
+      Grows f (AllReadable f (list-of t)) (insertAll (renderings f t) (listed f (s .unknown) u)) (s .unknown) u d u' →
+      {y : Told} → y ≡ incompleteI f (cap at) (r .memory) →
+      Grows f (AllReadable f (list-of y)) (insertAll (renderings f y) (listed f (s .incomplete) w)) (s .incomplete) w e w' →
       length v' ≡ length v → length u' ≡ length u → length w' ≡ length w →
       Gathers f x at c a n s (record { violations = k; unknown = d; incomplete = e }) v v' u u' w w'
   unfolding oneV
@@ -128,8 +133,10 @@ module _ {f x : List ℕ} {at : ℕ} {c : Cells} {a : List ℕ} {n : ℕ} {s : C
           record {
             violations = b .0 ∙ ap (λ (q : List Broken). area brokenV (length v) (g .violations ++ q)) o ∙ ap (λ (q : ℕ). area brokenV q (g .violations ++ violatedV (two f (cap at + 1)) (judgeJ f x at c l))) (sym lv);
             many = b .1 ∙ ap (λ (q : List Broken). length (g .violations ++ q)) o;
-            unknown = subst (λ (q : List Text). Holds f q d u') (ap (λ (q : List Text). insertAll q (listed f (s .unknown) u)) tu ∙ ap (insertAll (renderings f (unknownI f (cap at) (judgeJ f x at c l .memory)))) (keeps .unknown .texts)) du;
-            incomplete = subst (λ (q : List Text). Holds f q e w') (ap (λ (q : List Text). insertAll q (listed f (s .incomplete) w)) tw ∙ ap (insertAll (renderings f (incompleteI f (cap at) (judgeJ f x at c l .memory)))) (keeps .incomplete .texts)) dw;
+            unknown = subst (λ (q : List Text). Holds f (insertAll q (g .unknown)) d u') tu
+                (grown f (insertAll (renderings f t)) du (λ h. subst (λ (z : Told). AllReadable f (list-of z)) (sym te) (unknown-readable f h (cap at) (r .memory))) (keeps .unknown));
+            incomplete = subst (λ (q : List Text). Holds f (insertAll q (g .incomplete)) e w') tw
+                (grown f (insertAll (renderings f y)) dw (λ h. subst (λ (z : Told). AllReadable f (list-of z)) (sym ye) (incomplete-readable f h (cap at) (r .memory))) (keeps .incomplete));
           }
 
 -- ---- one invariant after the other

@@ -25,6 +25,7 @@ use runs::Source;
 use runs::Wait;
 ghost use mathlib.Core.Path.{_≡_};
 ghost use Prim.Native.Nat.{_<_};
+ghost use Rattle.reasons.specs.Kinds.{OneText};
 ghost use Rattle.engine_state.specs.Steps.{Moves, Does, goes, kept, told, still, Fits-qa, Fits-qar, Fits-qau, Fits};
 ghost use Rattle.engine_actions.specs.Acts.{writtenM, setM, toggledM, flipM, delayM, unclearM, testedM, conditionM, take-listM, chooseM, begin-waitM, give-upM};
 
@@ -139,7 +140,7 @@ fn unclear(
     run: Run,
     kind: u32,
 ) -> State
-    requires { ⌜ (k < st .active) × Fits st (now q) (now a) (now r) (now u) ⌝ }
+    requires { ⌜ OneText kind × ((k < st .active) × Fits st (now q) (now a) (now r) (now u)) ⌝ }
     ensures { λ t. ⌜ Does (unclearM (now (f .entry)) (now (x .entry)) k run kind) st t (goes (now (q .entry)) (now (q .exit))) (goes (now (a .entry)) (now (a .exit))) (goes (now (r .entry)) (now (r .exit))) (told (now (f .entry)) (now (u .entry)) (now (u .exit))) ⌝ }
 {
     let i = at_most(run.automation, 31);

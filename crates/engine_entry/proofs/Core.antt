@@ -44,6 +44,8 @@ use Rattle.engine_begin.proofs.Begins.{start-valued, start-cells-are}
 use Rattle.engine_unsupported.specs.Rows.{RulesAt}
 use Rattle.engine_unsupported.proofs.Agrees.{unsupported-agrees}
 use Rattle.engine_entry.specs.Answers.{Ground, Grounds, incomplete-of}
+use Rattle.engine_entry.specs.Parts.{Ran}
+use Rattle.engine_summary.specs.declared.Simulation.{Simulation}
 use Rattle.engine_summary.specs.Summaries.{Few}
 use Rattle.engine_summary.proofs.Laws.{zeros}
 use Rattle.engine_entry.proofs.Numbers.{area-numbers}
@@ -70,6 +72,7 @@ module _ (f : List ℕ) (i : Index) (m : Model) (acc : accepted f ≡ answer m) 
   rules-at = record {
     size = tb .size;
     few-texts = tb .few-texts;
+    counted = tb .counted;
     text-at = tb .text-at;
     automations = tb .automations;
     few-automations = tb .few-automations;
@@ -86,6 +89,17 @@ module _ (f : List ℕ) (i : Index) (m : Model) (acc : accepted f ≡ answer m) 
   few-notes : g .count ≤ 300
   unfolding pool-of
   few-notes = omega (arith, notes-held .many, tb .few-reasons, length-append notes (unsupported-wait ∷ flat rule-pool (m .rules)))
+
+  pub held-as : {count : ℕ} → Few (g .count) count → Holds f notes count (g .reasons)
+  held-as few = subst (λ (j : ℕ). Holds f notes j (g .reasons)) (sym (few .same few-notes)) notes-held
+
+  -- after a run the areas of queue and runs are zeros
+  module _ {v : List ℕ} {n : ℕ} {s : Simulation} {q q' a a' r r' : List ℕ} (ran-so : Ran f g v n s q q' a a' r r') where
+    pub queue-clear : q' ≡ replicate (length q) 0
+    queue-clear = ran-so .does .queue notes (held-as (ran-so .few))
+
+    pub runs-clear : r' ≡ replicate (length r) 0
+    runs-clear = ran-so .does .runs notes (held-as (ran-so .few))
 
   -- ---- the machine at the start
 
@@ -191,11 +205,8 @@ module _ (f : List ℕ) (i : Index) (m : Model) (acc : accepted f ≡ answer m) 
         run.Simulates f x l n (g .cells) count s q q' a a' r r' (g .reasons) u' → Outcome
     ran {n} {count} many few does = by halted
       where
-        held : Holds f notes count (g .reasons)
-        held = subst (λ (j : ℕ). Holds f notes j (g .reasons)) (sym (few .same few-notes)) notes-held
-
         told : Answers f x s a a' u' halt
-        told = (subst (λ (j : ℕ). run.Simulates f x l j (g .cells) count s q q' a a' r r' (g .reasons) u') many does) .does notes held
+        told = (subst (λ (j : ℕ). run.Simulates f x l j (g .cells) count s q q' a a' r r' (g .reasons) u') many does) .does notes (held-as few)
 
         by : Answered f x ts m tb halt (simulated sizes m cells vs) → Outcome
         by (shows z e w k) = done _ e (shown-done halt told z w k)

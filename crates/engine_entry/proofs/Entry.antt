@@ -24,9 +24,11 @@ use Rattle.engine.specs.Unsupported.{unsupported}
 use Rattle.engine.specs.Words.{words-in, entry-words, simulate-memory}
 use Rattle.engine.proofs.Memory.{refusals}
 use Rattle.engine_reads.specs.Reads.{atMost}
+use Rattle.reasons.proofs.Listing.{reported}
 use Rattle.engine_places.specs.Meaning.{Tabled}
 use Rattle.engine_places.proofs.Accepted.{accepted-lawful}
 use Rattle.engine_places.proofs.Numbers.{most-is}
+use Rattle.engine_places.proofs.Pool.{has-text}
 use Rattle.engine_places.proofs.Simulated.{EventAt}
 use Rattle.engine_table.proofs.Laws as table
 use Rattle.engine_begin.specs.Begin.{EventsOf}
@@ -37,7 +39,7 @@ use Rattle.engine_summary.specs.Summary.{no-simulation}
 use Rattle.engine_entry.specs.Answers.{Ground, Grounds, no-notes, NotesSay, Shows, Says, lent, Simulates}
 use Rattle.engine_summary.specs.Summaries.{Answered}
 use Rattle.engine_entry.specs.Parts.{Ran, RunsAs}
-use Rattle.engine_entry.proofs.Core.{tb, notes-held}
+use Rattle.engine_entry.proofs.Core.{tb, notes-held, queue-clear, runs-clear}
 use Rattle.engine_entry.proofs.Promise.{records-here, Promise, answers, refuses, promise}
 
 -- ---- unsupported
@@ -47,8 +49,11 @@ module _ (f : List ℕ) (x : File) (says : indexed.Says f x (accepted f)) where
       NotesSay f (record { refused = 0; count = g .count; reasons = g .reasons }) (unsupported-of f)
   notes-read bytes e g gr =
       let a = accept-read f x says e in
-      subst (NotesSay f (record { refused = 0; count = g .count; reasons = g .reasons })) (sym (law (a .0) (a .1 .0)))
-      (refl, notes-held f (x .index) (a .0) (a .1 .0) (a .1 .1) bytes g gr)
+      subst (NotesSay f (record { refused = 0; count = g .count; reasons = g .reasons })) (sym (law (a .0) (a .1 .0))) (
+        refl,
+        reported (has-text f (g .table) (a .1 .1 .ts) (a .0) (tb f (x .index) (a .0) (a .1 .0) (a .1 .1) bytes g gr))
+            (notes-held f (x .index) (a .0) (a .1 .0) (a .1 .1) bytes g gr),
+      )
     where
       law : (m : Model) → accepted f ≡ answer m → unsupported-of f ≡ answer (unsupported (m .rules))
       law m z = unfold unsupported-of _>>=_ in rw z
@@ -102,11 +107,11 @@ module _ (f : List ℕ) (i : Index) (m : Model) (acc : accepted f ≡ answer m) 
         by : Promise f i m acc o bytes g gr v none-such events evs (many ∙ events-count) ran → Simulates f ans (lent q a r) (lent q' a' r')
         by (answers sim e k) = record {
           says = subst (Says f ans) (sym (simulate-law sizes ∙ e)) (subst (λ (y : Simulation). Shows f y sim) (sym (told .done (k .shows .accepted))) (k .shows));
-          memory = rw (ran .does .queue, ran .does .runs, k .area-is, records-here f i m acc o bytes g gr (length a) (k .records) (sim .trace) (k .words) (k .trace)) (sym (ap after (simulate-law sizes ∙ e)));
+          memory = rw (queue-clear f i m acc o bytes g gr ran, runs-clear f i m acc o bytes g gr ran, k .area-is, records-here f i m acc o bytes g gr (length a) (k .records) (sim .trace) (k .words) (k .trace)) (sym (ap after (simulate-law sizes ∙ e)));
         }
         by (refuses n lo hi e is z) = record {
           says = subst (Says f ans) (sym (simulate-law sizes ∙ e)) (told .full (λ y. absurd (omega (arith, is, lo, y))) ∙ ap no-simulation is);
-          memory = rw (ran .does .queue, ran .does .runs, z) (sym (ap after (simulate-law sizes ∙ e) ∙ refusals (words-in f) (λ (b : engine.Simulation). b .trace) (lent q a r) .areas n lo hi));
+          memory = rw (queue-clear f i m acc o bytes g gr ran, runs-clear f i m acc o bytes g gr ran, z) (sym (ap after (simulate-law sizes ∙ e) ∙ refusals (words-in f) (λ (b : engine.Simulation). b .trace) (lent q a r) .areas n lo hi));
         }
 
 -- ---- the entry

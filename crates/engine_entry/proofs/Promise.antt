@@ -11,6 +11,7 @@ use Rattle.areas.specs.Areas.{area}
 use Rattle.records.specs.Records.{recordWords}
 use Rattle.records.specs.declared.Record.{Record}
 use Rattle.reasons.specs.Lists.{Holds}
+use Rattle.reasons.proofs.Listing.{reported}
 use Rattle.model.specs.Answer.{Answer, answer, refused}
 use Rattle.model.specs.Model.{Event, Automation, Model}
 use Rattle.model.specs.Validate.{accepted}
@@ -26,6 +27,7 @@ use Rattle.engine_run.specs.Run.{refusalS}
 use Rattle.engine_run.specs.declared.Simulation.{Simulation as Run}
 use Rattle.engine_places.specs.Meaning.{record-of, cells-of, pool-of, Tabled}
 use Rattle.engine.proofs.Lists.{Each}
+use Rattle.engine_places.proofs.Pool.{has-text}
 use Rattle.engine_places.proofs.Lists.{each-length}
 use Rattle.engine_places.proofs.Pigeons.{Among}
 use Rattle.engine_places.proofs.Relation.{Worded}
@@ -114,8 +116,9 @@ module _ (f : List ℕ) (i : Index) (m : Model) (acc : accepted f ≡ answer m) 
               ∙ ap (λ (ts : List Text). values-of ts (each (λ (c : Cell). (c .name, c .value)) (cells-of x (o .ts) (s .values) (e .versions)))) (sym texts-here)
               ∙ ap (values-of (texts-in f)) (sym (e .final));
           unknown =
-              subst (λ (u : List ℕ). Holds f (sim .unknown) (ans .unknown) u) (sym (y .reasons))
-              (subst (λ (j : ℕ). Holds f (sim .unknown) j (ran-so .words)) (sym (y .unknown)) (e .unknown));
+              reported (has-text f x (o .ts) m t)
+              (subst (λ (u : List ℕ). Holds f (sim .unknown) (ans .unknown) u) (sym (y .reasons))
+              (subst (λ (j : ℕ). Holds f (sim .unknown) j (ran-so .words)) (sym (y .unknown)) (e .unknown)));
           why = omega (arith, y .why, e .why);
           incomplete = ap (λ (w : ℕ). incomplete-of w (ans .waiting)) (y .why) ∙ ap (incomplete-of (s .why)) (y .waiting) ∙ e .incomplete;
         }

@@ -9,7 +9,7 @@ use Rattle.texts.specs.Lists.{if_then_else_, each}
 use Rattle.texts.specs.Texts.{Text}
 use Rattle.model.specs.Answer.{Answer, answer, refused}
 use Rattle.model_index.specs.declared.Index.{Index}
-use Rattle.reasons.specs.Lists.{Holds}
+use Rattle.reasons.specs.Lists.{Reported, Holds}
 use Rattle.engine.specs.Memory.{Lent, entries}
 use Rattle.engine.specs.Reasons.{space-spent, steps-spent, runs-left}
 use Rattle.engine.specs.Simulate as engine
@@ -28,10 +28,10 @@ use Rattle.engine_summary.specs.Summary.{no-simulation}
 unfoldable pub no-notes : (number : ℕ) → Notes
 no-notes n = record { refused = n; count = 0; reasons = replicate 1500 0 }
 
--- The reasons' renderings are the definition's list. Which of two reasons with the same rendering stands there is left free,
--- and so are the words behind the last reason.
+-- The reasons' renderings are the definition's list, each can be read, and zeros stand behind them. Which of two reasons with
+-- the same rendering stands there is left free.
 abbrev pub NotesSay : (file : List ℕ) → Notes → Answer (List Text) → Type 0
-NotesSay f r (answer l) = (r .refused ≡ 0) × Holds f l (r .count) (r .reasons)
+NotesSay f r (answer l) = (r .refused ≡ 0) × Reported f l (r .count) (r .reasons)
 NotesSay f r (refused n) = r ≡ no-notes n
 
 -- ---- simulate
@@ -46,14 +46,14 @@ incomplete-of w b =
 unfoldable pub values-of : (texts : List Text) → List (Text × Text) → List ℕ
 values-of ts l = each (λ p. place-of (p .1) ts) l ++ replicate (32 - length l) 0
 
--- the answer's numbers say what the definition's simulation says; the words behind the last reason are left free
+-- the answer's numbers say what the definition's simulation says
 pub record Shows (f : List ℕ) (r : Simulation) (s : engine.Simulation) : Type 0 where
   pub accepted : r .refused ≡ 0
   pub steps : r .steps ≡ s .steps
   pub records : r .records ≡ length (s .trace)
   pub horizon : r .horizon ≡ s .horizon
   pub values : r .values ≡ values-of (texts-in f) (s .final-state)
-  pub unknown : Holds f (s .unknown) (r .unknown) (r .reasons)
+  pub unknown : Reported f (s .unknown) (r .unknown) (r .reasons)
   pub why : r .why ≤ 2
   pub incomplete : incomplete-of (r .why) (r .waiting) ≡ s .incomplete
 

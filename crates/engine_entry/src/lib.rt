@@ -28,6 +28,7 @@ pub fn prepared(file: &[u8], index: Index, reasons: &mut [u32; 1500]) -> Base
     let t = engine_table::table_of(file, index);
     let table = t.words;
     let cells = engine_begin::cells_of(file, index);
+    *reasons = [0u32; 1500];
     let count = engine_unsupported::unsupported(file, &table, reasons);
     Base {
         table,

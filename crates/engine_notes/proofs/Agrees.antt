@@ -21,6 +21,7 @@ use Rattle.model_walk.proofs.Found.{bound, given, Wide, wide-sum, u16-wide, sou
 use Rattle.model_walk.proofs.Found as found
 use Rattle.reasons.specs.Kinds as kinds
 use Rattle.reasons.specs.Reasons.{words, body, render}
+use Rattle.reasons.specs.Readable.{text-count}
 use Rattle.engine_reads.specs.Reads.{cap, textPosition, noteReason}
 use Rattle.engine_notes.specs.declared.Part.the-variants as part
 use Rattle.engine_notes.specs.Listing.{After, after, Listing, _⨾_, by, stay, skipL, timesL, idNote, noteOf, addT, addL, noteL, triggerL, predicateL, partL, partsL}
@@ -74,7 +75,7 @@ abbrev pub Renders : (f : List ℕ) → (ts : List Text) → ℕ → (Text → T
 Renders f ts i g = (m : ℕ) → m < length ts → render f (noteOf f i m) ≡ g (getD ts m [])
 
 -- the file f, with the texts ts
-module _ (f : List ℕ) (ts : List Text) (size : length f ≤ 32768) (few : length ts ≤ 65535)
+module _ (f : List ℕ) (ts : List Text) (size : length f ≤ 32768) (few : length ts ≤ 65535) (counted-as : text-count f ≡ length ts)
     (text-at : (k : ℕ) → k < length ts → textAt f (startFrom f 6 k) ≡ getD ts k []) where
   abbrev T : ℕ → Text
   T k = getD ts k []
@@ -91,7 +92,7 @@ module _ (f : List ℕ) (ts : List Text) (size : length f ≤ 32768) (few : leng
 
   pub position-text : (k : ℕ) → k < length ts → textAt f (textPosition f k) ≡ T k
   unfolding textPosition
-  position-text k h = rw (le-ltb 65535 k (omega arith)) (cap-text (startFrom f 6 k) ∙ text-at k h)
+  position-text k h = rw (lt-ltb k (text-count f) (omega arith)) (cap-text (startFrom f 6 k) ∙ text-at k h)
 
   pub plain-note : (m : ℕ) → m < length ts → render f (noteOf f 65535 m) ≡ T m
   unfolding noteOf noteReason render body

@@ -18,13 +18,16 @@ use Rattle.model_walk.proofs.Laws.{is-got, is-broken}
 use Rattle.reasons.specs.Kinds as kinds
 use Rattle.reasons.specs.declared.Reason.{Reason}
 use Rattle.reasons.specs.Reasons.{render}
-use Rattle.reasons.specs.Lists.{listed, Holds}
+use Rattle.reasons.specs.Readable.{Readable, HasText}
+use Rattle.reasons.specs.Lists.{listed, Grows}
 use Rattle.reasons.proofs.Listing.{one-more, length-listed}
 use Rattle.engine_reads.specs.Reads.{textPosition, noteReason}
+use Rattle.engine_reads.proofs.Readable.{position-stands}
+use Rattle.engine_reads.proofs.Readable as reads
 use Rattle.engine_notes.specs.declared.Noted.{Noted}
 use Rattle.engine_notes.specs.declared.Part.{Part}
 use Rattle.engine_notes.specs.declared.Part.the-variants as part
-use Rattle.engine_notes.specs.Listing.{After, after, told, Listing, _⨾_, read, by, stay, skipped, skipL, timesL, idNote, noteOf, insertG, addT, addL, noteL, triggerL, predicateL, partL, partsL}
+use Rattle.engine_notes.specs.Listing.{After, after, told, Listing, _⨾_, read, by, stay, skipped, skipL, timesL, idNote, noteOf, insertG, Makes, addT, addL, noteL, triggerL, predicateL, partL, partsL}
 
 -- ---- one listing after the other
 
@@ -87,19 +90,37 @@ module _ (f : List ℕ) (i m : ℕ) {r : Reason} where
   unfolding noteOf
   note-id h e = rw (ne-eqb i 65535 h) e
 
+-- a note can be read
+pub note-readable : {f : List ℕ} {r : Reason} (i m : ℕ) → r ≡ noteOf f i m → HasText f → Readable f r
+unfolding noteOf
+note-readable {f} {r} i m e h = by (eqb i 65535) e
+  where
+    id-readable : Readable f (idNote f i m)
+    id-readable = unfold idNote in record { known = omega arith; first = position-stands f h i; second = position-stands f h m; line = refl; column = refl }
+
+    by : (b : Bool) → r ≡ (if b then noteReason f m else idNote f i m) → Readable f r
+    by true g = reads.note-readable m g h
+    by false g = rw g id-readable
+
 pub put-fits : (f a : List ℕ) (n : ℕ) (r : Reason) → n ≤ 299 → 1500 ≤ length a →
     length (insertT (render f r) (listed f n a)) * 5 ≤ length a
 put-fits f a n r h l = omega (arith, one-more (render f r) (listed f n a), length-listed f n a)
 
 module _ (f a : List ℕ) (n : ℕ) (r : Reason) where
-  pub put-full : 299 < n → listed f n a ≡ insertG (render f r) (listed f n a)
+  full-is : 299 < n → listed f n a ≡ insertG (render f r) (listed f n a)
   unfolding insertG
-  put-full h = rw (lt-ltb 299 (length (listed f n a)) (omega (arith, length-listed f n a)))
+  full-is h = rw (lt-ltb 299 (length (listed f n a)) (omega (arith, length-listed f n a)))
 
-  pub put-in : {k : ℕ} {b : List ℕ} → n ≤ 299 → Holds f (insertT (render f r) (listed f n a)) k b →
-      listed f k b ≡ insertG (render f r) (listed f n a)
+  in-is : n ≤ 299 → insertT (render f r) (listed f n a) ≡ insertG (render f r) (listed f n a)
   unfolding insertG
-  put-in h e = rw (le-ltb 299 (length (listed f n a)) (omega (arith, length-listed f n a))) (e .texts)
+  in-is h = rw (le-ltb 299 (length (listed f n a)) (omega (arith, length-listed f n a)))
+
+  pub put-full : 299 < n → Makes (insertG (render f r)) f n a n a
+  put-full h = record { is = full-is h; clean = λ t k. k }
+
+  pub put-in : {k : ℕ} {b : List ℕ} → n ≤ 299 → Grows f (Readable f r) (insertT (render f r) (listed f n a)) n a k b →
+      (HasText f → Readable f r) → Makes (insertG (render f r)) f n a k b
+  put-in h e y = record { is = e .texts ∙ in-is h; clean = λ t k. e .clean (y t) k }
 
 module _ (f : List ℕ) (i m : ℕ) (l : List Text) where
   pub add-none : m ≡ 65535 → l ≡ addT f i m l

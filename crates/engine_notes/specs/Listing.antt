@@ -12,7 +12,8 @@ use Rattle.model.specs.File.{got, broken, Reader, u8, u16}
 use Rattle.reasons.specs.Kinds as kinds
 use Rattle.reasons.specs.declared.Reason.{Reason}
 use Rattle.reasons.specs.Reasons.{render}
-use Rattle.reasons.specs.Lists.{listed}
+use Rattle.reasons.specs.Readable.{HasText}
+use Rattle.reasons.specs.Lists.{listed, Clean}
 use Rattle.engine_reads.specs.Reads.{textPosition, noteReason}
 use Rattle.engine_notes.specs.declared.Noted.{Noted}
 use Rattle.engine_notes.specs.declared.Part.{Part}
@@ -33,13 +34,15 @@ Listing = List ℕ → ℕ → List Text → After
 abbrev pub told : List ℕ → Noted → List ℕ → After
 told f r a = after (r .next) (listed f (r .count) a)
 
--- the code's answer r and the area b after it are those of a listing over the first n reasons of the area a
-abbrev pub Lists : Listing → (f : List ℕ) → (at n : ℕ) → (a : List ℕ) → Noted → (b : List ℕ) → Type 0
-Lists k f at n a r b = told f r b ≡ k f at (listed f n a)
+-- the code's answer r and the area b after it are those of a listing over the first n reasons of the area a; clean stays clean
+pub record Lists (k : Listing) (f : List ℕ) (at n : ℕ) (a : List ℕ) (r : Noted) (b : List ℕ) : Type 0 where
+  pub is : told f r b ≡ k f at (listed f n a)
+  pub clean : HasText f → Clean f n a → Clean f (r .count) b
 
--- the first k reasons of the area b are what the first n of the area a become
-abbrev pub Makes : (List Text → List Text) → (f : List ℕ) → (n : ℕ) → (a : List ℕ) → (k : ℕ) → (b : List ℕ) → Type 0
-Makes g f n a k b = listed f k b ≡ g (listed f n a)
+-- the first k reasons of the area b are what the first n of the area a become; clean stays clean
+pub record Makes (g : List Text → List Text) (f : List ℕ) (n : ℕ) (a : List ℕ) (k : ℕ) (b : List ℕ) : Type 0 where
+  pub is : listed f k b ≡ g (listed f n a)
+  pub clean : HasText f → Clean f n a → Clean f k b
 
 infixr 25 _⨾_
 -- one listing, and then the other

@@ -6,6 +6,7 @@ ghost use mathlib.Core.Path.{_≡_};
 ghost use Prim.Native.Nat.{_≤_};
 ghost use lib.ListN.{length};
 ghost use Rattle.reasons.specs.Reasons.{render};
+ghost use Rattle.reasons.specs.Readable.{Readable, HasText};
 ghost use Rattle.engine_notes.specs.Listing.{idNote, noteOf, insertG, addT, skipped, Lists, Makes, noteL, triggerL, predicateL, partL, partsL};
 
 // How many reasons there are, and the position after what was read.
@@ -47,7 +48,7 @@ fn note_of(f: &[u8], id: u32, note: u32) -> Reason
 
 // A reason among the first n, while there is place.
 pub fn put(f: &[u8], u: &mut [u32], n: usize, r: Reason) -> usize
-    requires { ⌜ 1500 ≤ length (now u) ⌝ }
+    requires { ⌜ (1500 ≤ length (now u)) × (HasText (now f) → Readable (now f) r) ⌝ }
     ensures { λ k. ⌜ Makes (insertG (render (now (f .entry)) r)) (now (f .entry)) n (now (u .entry)) k (now (u .exit)) ⌝ }
 {
     if 299 < n {

@@ -7,7 +7,7 @@ use Prim.Native.Nat.{ℕ, zero, suc, _+_, _*_, _≤_, _<_}
 use native.Mathlib.Omega.{arith}
 use lib.ListN.{length, getD}
 use lib.Dec.{eqb}
-use borrow.Author.Tests.{le-ltb}
+use borrow.Author.Tests.{lt-ltb}
 use Rattle.texts.specs.Lists.{any, flat}
 use Rattle.texts.specs.Texts.{Text, text, eqT, memT}
 use Rattle.texts.specs.Places.{textAt, startFrom}
@@ -15,10 +15,12 @@ use Rattle.model.specs.Model.{Automation, Model}
 use Rattle.model.specs.Notes.{of-actions}
 use Rattle.reasons.specs.Kinds as kinds
 use Rattle.reasons.specs.Reasons.{render, body, words}
+use Rattle.reasons.specs.Readable.{text-count, HasText}
 use Rattle.engine.specs.Reasons.{unknown-trigger-condition, toggle-of-unknown, unknown-action-condition, unknown-choose-condition, unsupported-wait}
 use Rattle.engine.specs.Unsupported.{unsupported}
 use Rattle.engine.proofs.Lists.{eqT-same}
 use Rattle.engine_reads.specs.Reads.{textPosition, word, aboutRule, alone, noteReason}
+use Rattle.engine_reads.proofs.Readable.{start-low}
 use Rattle.engine_places.specs.Meaning.{id-at, rule-pool, pool-of, Tabled}
 use Rattle.engine_places.specs.Events.{Among}
 use Rattle.engine_places.proofs.Numbers.{cap-is}
@@ -114,16 +116,14 @@ module _ (f x : List ℕ) (ts : List Text) (mo : Model) (tb : Tabled f x ts mo) 
   unfolding textAt
   no-text = rw (past f 4294967295 (omega (arith, tb .size)))
 
-  start-low : (k p n : ℕ) → p ≤ n → startFrom f p k ≤ n + 256 * k
-  unfolding startFrom
-  start-low zero p n h = omega arith
-  start-low (suc k) p n h = omega (arith, start-low k (p + 1 + getD f p 0) (n + 256) (omega (arith, tb .bytes p)))
+  pub has-text : HasText f
+  has-text = record { bytes = tb .bytes; some = omega (arith, tb .counted, tb .on .is-in) }
 
   pub position-is : (k : ℕ) → k < length ts → textAt f (textPosition f k) ≡ getD ts k []
   unfolding textPosition
   position-is k h =
       rw
-      (le-ltb 65535 k (omega (arith, tb .few-texts)), cap-is (startFrom f 6 k) (omega (arith, start-low k 6 6 (omega arith), tb .few-texts)))
+      (lt-ltb k (text-count f) (omega (arith, tb .counted)), cap-is (startFrom f 6 k) (omega (arith, start-low f (tb .bytes) k 6 6 (omega arith), tb .few-texts)))
       (tb .text-at k h)
 
   pub note-is : (k : ℕ) → k < length ts → render f (noteReason f k) ≡ getD ts k []

@@ -25,9 +25,10 @@ use Rattle.model_order.specs.Order.{Fixed}
 use Rattle.model_order.proofs.Places.{in-order, same-place, texts-ascend, text-at}
 use Rattle.engine.proofs.Lists.{Case, is-true, is-false, case, eqT-same}
 use Rattle.engine.proofs.Distinct.{answer-eq, refused-answer, when-inv, Fresh, accepted-fresh}
-use Rattle.engine_reads.specs.Reads.{name, stale, word}
+use Rattle.reasons.specs.Readable.{text-count}
+use Rattle.engine_reads.specs.Reads.{two, name, stale, word}
 use Rattle.engine_places.specs.Meaning.{stale-of, mode-number, pool-of, Row, Column, Tabled}
-use Rattle.engine_places.proofs.Numbers.{two-is, two-small}
+use Rattle.engine_places.proofs.Numbers.{two-is}
 use Rattle.engine.proofs.Validated.{accepted-decoded}
 use Rattle.engine_places.proofs.Accepted.{CheckedAt, Lawful, accepted-lawful, accepted-small}
 use Rattle.engine_places.proofs.Relation.{no-rule}
@@ -73,14 +74,17 @@ unfolding times give
 times-long {A} r s zero p l q e = let z : l ≡ [] = cc in ap length z
 times-long r s (suc n) p l q e = let m = more r s n p e in ap length (m .both) ∙ ap suc (times-long r s n (m .after) (m .others) q (m .are-others))
 
-few-texts : (f : List ℕ) → ((i : ℕ) → getD f i 0 < 256) → (ts : List Text) → Reads texts f 4 ts → length ts ≤ 65535
-unfolding texts
-few-texts f b ts r =
+counted-as : (f : List ℕ) (ts : List Text) → Reads texts f 4 ts → text-count f ≡ length ts
+unfolding texts text-count two
+counted-as f ts r =
     let c = bound (counted one-text) _ (r .1) in
     let q = required _ _ _ _ (c .rest) in
     let k = counted-found one-text (c .first) in
-    omega
-    (arith, ap length (q .1 .0), times-long one-text f (k .count) (k .start) (c .value) (c .next) (k .are-values), two-is f 4 (k .is-count), two-small f b 4)
+    omega (arith, ap length (q .1 .0), times-long one-text f (k .count) (k .start) (c .value) (c .next) (k .are-values), two-is f 4 (k .is-count))
+
+few-texts : (f : List ℕ) → ((i : ℕ) → getD f i 0 < 256) → (ts : List Text) → Reads texts f 4 ts → length ts ≤ 65535
+unfolding text-count
+few-texts f b ts r = omega (arith, counted-as f ts r, b 4, b 5)
 
 in-tail : (t u : Text) (l : List Text) → memT t l ≡ true → memT t (u ∷ l) ≡ true
 unfolding memT any
@@ -213,6 +217,7 @@ tabled f x ts m acc w = record {
   same = same-place ts (texts-ascend f (w .all-texts .1));
   texts = w .texts;
   few-texts = few-texts f (w .bytes) ts (w .all-texts);
+  counted = counted-as f ts (w .all-texts);
   text-at = text-at f (w .all-texts .1);
   on = w .on;
   off = w .off;

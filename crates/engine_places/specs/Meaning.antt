@@ -39,6 +39,7 @@ use Rattle.engine.specs.Records.{Key, Waiting, Run, Work, Item, Kind, Change, T
 use Rattle.engine.specs.Reasons.{unknown-trigger-condition, toggle-of-unknown, unknown-action-condition, unknown-choose-condition, unsupported-wait}
 use Rattle.engine.specs.Unsupported.{unsupported}
 use Rattle.engine.specs.Engine.{_then_}
+use Rattle.reasons.specs.Readable.{text-count}
 use Rattle.engine_reads.specs.Reads.{name, stale, word, entities}
 use Rattle.engine_truth.specs.declared.Truth.{Truth}
 use Rattle.engine_truth.specs.declared.Truth.the-variants as truth
@@ -231,6 +232,7 @@ pub record Tabled (f x : List ℕ) (ts : List Text) (m : Model) : Type 0 where
   pub same : (i j : ℕ) → i < length ts → j < length ts → eqT (getD ts i []) (getD ts j []) ≡ eqb i j
   pub texts : getD x 9 0 ≡ length ts
   pub few-texts : length ts ≤ 65535
+  pub counted : text-count f ≡ length ts
   pub text-at : (k : ℕ) → k < length ts → textAt f (startFrom f 6 k) ≡ getD ts k []
   pub on : Fixed ts (getD x 4 0) (text "on")
   pub off : Fixed ts (getD x 5 0) (text "off")

@@ -9,6 +9,7 @@ use Rattle.texts.specs.Places.{startFrom}
 use Rattle.runs.specs.Runs.{placeWord}
 use Rattle.engine_reads.specs.Reads.{two, four, cap, atMost, name, word, entities, entityFrom, entityOf, textPosition, aboutRule, alone, noteReason, listWord}
 use Rattle.reasons.specs.Kinds as kinds
+use Rattle.reasons.specs.Readable.{text-count}
 
 past : (f : List ℕ) (at : ℕ) → length f ≤ at → getD f at 0 ≡ 0
 past [] zero h = refl
@@ -80,13 +81,14 @@ entity-none x id n e h = let z : n - e ≡ 0 = omega arith in rw z
 
 -- ---- reasons
 
-pub position-far : (f : List ℕ) (p : ℕ) → 65535 < p → 4294967295 ≡ textPosition f p
-unfolding textPosition
-position-far f p h = rw (lt-ltb 65535 p h)
+module _ (f : List ℕ) (p : ℕ) {n : ℕ} (c : n ≡ two f 4) where
+  pub position-far : n ≤ p → 6 ≡ textPosition f p
+  unfolding textPosition text-count two
+  position-far h = rw (le-ltb p (two f 4) (omega (arith, h, c)))
 
-pub position-near : (f : List ℕ) (p s w : ℕ) → p ≤ 65535 → w ≡ cap s → s ≡ startFrom f 6 p → w ≡ textPosition f p
-unfolding textPosition
-position-near f p s w h e g = rw (le-ltb 65535 p h) (e ∙ ap cap g)
+  pub position-near : {s w : ℕ} → p < n → w ≡ cap s → s ≡ startFrom f 6 p → w ≡ textPosition f p
+  unfolding textPosition text-count two
+  position-near h e g = rw (lt-ltb p (two f 4) (omega (arith, h, c))) (e ∙ ap cap g)
 
 pub about-is : (f x : List ℕ) (i k v w : ℕ) → v ≡ word x i 0 → w ≡ textPosition f v → record { kind = k; first = w; second = 4294967295; line = 0; column = 0 } ≡ aboutRule f x i k
 unfolding aboutRule

@@ -9,6 +9,7 @@ use Rattle.texts.specs.Places.{startFrom}
 use Rattle.runs.specs.Runs.{placeWord}
 use Rattle.reasons.specs.Kinds as kinds
 use Rattle.reasons.specs.declared.Reason.{Reason}
+use Rattle.reasons.specs.Readable.{text-count}
 
 -- two bytes and four, the lowest first; a byte past the end is 0
 unfoldable pub two : List ℕ → ℕ → ℕ
@@ -57,8 +58,9 @@ entityOf x id = entityFrom x id (entities x) 0
 
 -- ---- reasons
 
+-- where the text at a place stands; a place past the last text, which no accepted file has, is taken for the first
 unfoldable pub textPosition : List ℕ → (place : ℕ) → ℕ
-textPosition f place = if ltb 65535 place then 4294967295 else cap (startFrom f 6 place)
+textPosition f place = if ltb place (text-count f) then cap (startFrom f 6 place) else 6
 
 unfoldable pub aboutRule : (f x : List ℕ) → (i kind : ℕ) → Reason
 aboutRule f x i k = record { kind = k; first = textPosition f (word x i 0); second = 4294967295; line = 0; column = 0 }

@@ -115,14 +115,14 @@ pub fn entity_of(x: &[u32; 436], id: u32) -> usize
 
 // ---- reasons
 
-// The position of the text at a place.
+// The position of the text at a place; that of the first text for a place past the last.
 pub fn text_position(f: &[u8], place: u32) -> u32
     ensures { λ r. ⌜ r ≡ textPosition (now (f .entry)) place ⌝ }
 {
-    if 65535 < place {
-        return 4294967295;
+    if place < two_at(f, 4) {
+        return capped(texts::text_start(f, 6, place));
     }
-    capped(texts::text_start(f, 6, place))
+    6
 }
 
 // A reason about an automation.

@@ -13,8 +13,7 @@ use Rattle.areas.proofs.Laws as areas
 use Rattle.queue.proofs.Laws as queue
 use Rattle.records.specs.Records.{recordWords}
 use Rattle.runs.specs.Runs.{runWords}
-use Rattle.reasons.specs.Lists.{Holds, listed}
-use Rattle.reasons.proofs.Listing as listing
+use Rattle.reasons.specs.Lists.{Holds}
 use Rattle.engine_state.specs.declared.Cells.{Cells}
 use Rattle.engine_state.specs.declared.State.{State}
 use Rattle.engine_state.specs.Machine.{entire, machine}
@@ -97,15 +96,15 @@ module _ (f : List ℕ) (c : Cells) (so-far : ℕ) (q q₁ a a₁ r r₁ u : Lis
     halted : (t : List Text) → Holds f t so-far u → Halts f q₂ a₂ r₂ u₂ v i j (getD x 3 0) e (whollyM f x l n (beginning c (length q / 5) (length a / 13) (length r / 28) t))
     halted t h = (subst (λ z. Wholly f x l n z e q₁ q₂ a₁ a₂ r₁ r₂ u u₂ (c .values) v (c .versions) i (replicate 32 0) j) is w) .does (nothing-yet (length q / 5) (length a / 13) (length r / 28) t) (held-none t h)
 
-    -- where the loop halts the areas hold the items and runs that are left, whatever the reasons are
-    pub no-items : (q₃ : List ℕ) → q₃ ≡ cleared q₂ (e .state .first * 5) (e .state .items * 5) → q₃ ≡ replicate (length q₂) 0
-    no-items q₃ c =
-        let left = halted (listed f so-far u) (listing.holds f so-far u (listed f so-far u) refl) .stands .held in
+    -- where the loop halts the areas hold the items and runs that are left
+    pub no-items : (t : List Text) → Holds f t so-far u → (q₃ : List ℕ) → q₃ ≡ cleared q₂ (e .state .first * 5) (e .state .items * 5) → q₃ ≡ replicate (length q₂) 0
+    no-items t h q₃ c =
+        let left = halted t h .stands .held in
         queue.none-left q₂ q₃ (e .state .first) (e .state .items) _ (sym (left .queue .many)) (left .queue .is) (w .items-fit) c
 
-    pub no-runs : (r₃ : List ℕ) → r₃ ≡ cleared r₂ 0 (e .state .active * 28) → r₃ ≡ replicate (length r₂) 0
-    no-runs r₃ c =
-        let left = halted (listed f so-far u) (listing.holds f so-far u (listed f so-far u) refl) .stands .held in
+    pub no-runs : (t : List Text) → Holds f t so-far u → (r₃ : List ℕ) → r₃ ≡ cleared r₂ 0 (e .state .active * 28) → r₃ ≡ replicate (length r₂) 0
+    no-runs t h r₃ c =
+        let left = halted t h .stands .held in
         none-of-runs r₂ r₃ (e .state .active) _ (sym (left .runs .many)) (left .runs .is) (w .runs-fit) c
 
     same-records : length a₂ ≡ length a
@@ -116,8 +115,8 @@ module _ (f : List ℕ) (c : Cells) (so-far : ℕ) (q q₁ a a₁ r r₁ u : Lis
 
     pub answered : (q₃ r₃ : List ℕ) (s : Simulation) → q₃ ≡ cleared q₂ (e .state .first * 5) (e .state .items * 5) → r₃ ≡ cleared r₂ 0 (e .state .active * 28) → e .state .full ≡ 0 → s ≡ answerS e v → Simulates f x l n c so-far s q q₃ a a₂ r r₃ u u₂
     answered q₃ r₃ s cq cr z es = record {
-      queue = no-items q₃ cq ∙ ap (λ k. replicate k 0) (w .queue ∙ zeros q q₁ eq);
-      runs = no-runs r₃ cr ∙ ap (λ k. replicate k 0) (w .runs ∙ zeros r r₁ er);
+      queue = λ t h. no-items t h q₃ cq ∙ ap (λ k. replicate k 0) (w .queue ∙ zeros q q₁ eq);
+      runs = λ t h. no-runs t h r₃ cr ∙ ap (λ k. replicate k 0) (w .runs ∙ zeros r r₁ er);
       does = λ t h. by (whollyM f x l n (beginning c (length q / 5) (length a / 13) (length r / 28) t)) (halted t h);
     }
       where
@@ -132,8 +131,8 @@ module _ (f : List ℕ) (c : Cells) (so-far : ℕ) (q q₁ a a₁ r r₁ u : Lis
 
     pub refused : (q₃ r₃ a₃ : List ℕ) (s : Simulation) → q₃ ≡ cleared q₂ (e .state .first * 5) (e .state .items * 5) → r₃ ≡ cleared r₂ 0 (e .state .active * 28) → a₃ ≡ replicate (length a₂) 0 → (e .state .full ≡ 0 → ⊥) → s ≡ refusalS (e .state .full) → Simulates f x l n c so-far s q q₃ a a₃ r r₃ u u₂
     refused q₃ r₃ a₃ s cq cr ca z es = record {
-      queue = no-items q₃ cq ∙ ap (λ k. replicate k 0) (w .queue ∙ zeros q q₁ eq);
-      runs = no-runs r₃ cr ∙ ap (λ k. replicate k 0) (w .runs ∙ zeros r r₁ er);
+      queue = λ t h. no-items t h q₃ cq ∙ ap (λ k. replicate k 0) (w .queue ∙ zeros q q₁ eq);
+      runs = λ t h. no-runs t h r₃ cr ∙ ap (λ k. replicate k 0) (w .runs ∙ zeros r r₁ er);
       does = λ t h. by (whollyM f x l n (beginning c (length q / 5) (length a / 13) (length r / 28) t)) (halted t h);
     }
       where

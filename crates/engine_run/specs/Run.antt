@@ -69,6 +69,6 @@ pub record Answers (f x : List ℕ) (s : Simulation) (a a' u' : List ℕ) (p : H
   pub reasons : Holds f (p .last .reasons) (length (p .last .reasons)) u'
 
 pub record Simulates (f x l : List ℕ) (n : ℕ) (c : Cells) (so-far : ℕ) (s : Simulation) (q q' a a' r r' u u' : List ℕ) : Type 0 where
-  pub queue : q' ≡ replicate (length q) 0
-  pub runs : r' ≡ replicate (length r) 0
+  pub queue : (t : List Text) → Holds f t so-far u → q' ≡ replicate (length q) 0
+  pub runs : (t : List Text) → Holds f t so-far u → r' ≡ replicate (length r) 0
   pub does : (t : List Text) → Holds f t so-far u → Answers f x s a a' u' (whollyM f x l n (beginning c (length q / 5) (length a / 13) (length r / 28) t))

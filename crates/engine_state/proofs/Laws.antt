@@ -25,8 +25,10 @@ use Rattle.runs.specs.Runs as runs
 use Rattle.runs.specs.declared.Run.{Run}
 use Rattle.reasons.specs.declared.Reason.{Reason}
 use Rattle.reasons.specs.Reasons.{render}
-use Rattle.reasons.specs.Lists.{pushT, reasons, listed, Holds}
+use Rattle.reasons.specs.Readable.{Readable, HasText}
+use Rattle.reasons.specs.Lists.{pushT, reasons, listed, Grows}
 use Rattle.reasons.proofs.Entries.{length-reasons}
+use Rattle.reasons.proofs.Listing.{grown}
 use Rattle.engine_state.specs.declared.Cells.{Cells}
 use Rattle.engine_state.specs.declared.State.{State}
 use Rattle.engine_state.specs.declared.Told.{Told}
@@ -288,8 +290,10 @@ module _ (f u : List ℕ) (x : Reason) (st : Entire) where
   pub enough : st .reasons * 5 ≤ length u → 299 < st .reasons → Turns (uncertainM f x) st st kept kept kept (told f u u)
   enough h l = record { queue = refl; records = refl; runs = refl; reasons = (refl, h); does = λ _ q a r _ k held. record { content = k; held = held; is = enough-is (machine st k) (ap (λ n. ltb 299 n) (sym (held .reasons .many)) ∙ lt-ltb 299 (st .reasons) l) } }
 
-  pub doubted : (b : List ℕ) (n : ℕ) → st .reasons ≤ 299 → 1500 ≤ length u → length b ≡ length u → Holds f (pushT (render f x) (listed f (st .reasons) u)) n b → Turns (uncertainM f x) st (with-reasons n st) kept kept kept (told f u b)
-  doubted b n l room same h = record {
+  pub doubted : (b : List ℕ) (n : ℕ) → st .reasons ≤ 299 → 1500 ≤ length u → length b ≡ length u →
+      Grows f (Readable f x) (pushT (render f x) (listed f (st .reasons) u)) (st .reasons) u n b → (HasText f → Readable f x) →
+      Turns (uncertainM f x) st (with-reasons n st) kept kept kept (told f u b)
+  doubted b n l room same h t = record {
     queue = refl;
     records = refl;
     runs = refl;
@@ -297,7 +301,7 @@ module _ (f u : List ℕ) (x : Reason) (st : Entire) where
     does = λ _ q a r _ k held.
         record {
           content = k-reasons (pushT (render f x) (k .reasons)) k;
-          held = record { queue = held .queue; records = held .records; runs = held .runs; reasons = subst (λ l. Holds f (pushT (render f x) l) n b) (held .reasons .texts) h };
+          held = record { queue = held .queue; records = held .records; runs = held .runs; reasons = grown f (pushT (render f x)) h t (held .reasons) };
           is = doubted-is (machine st k) (ap (λ n. ltb 299 n) (sym (held .reasons .many)) ∙ le-ltb 299 (st .reasons) l);
         };
   }

@@ -13,6 +13,7 @@ use runs::Source;
 ghost use mathlib.Core.Path.{_≡_};
 ghost use Prim.Native.Nat.{_+_, _*_, _≤_, _<_};
 ghost use lib.ListN.{length};
+ghost use Rattle.reasons.specs.Readable.{Readable, HasText};
 ghost use Rattle.engine_state.specs.Machine.{more, later, with-active};
 ghost use Rattle.engine_state.specs.Changes.{addM, logM, add-runM, uncertainM, log-ruleM, log-actionM, log-plainM, log-writeM, next-stepM};
 ghost use Rattle.engine_state.specs.Steps.{Moves, Does, goes, kept, told, still};
@@ -161,7 +162,7 @@ pub fn add_run(r: &mut [u32], sequences: &mut [u32; 32], st: State, i: usize, ru
 
 // A reason more, unless it is there already or there are 300.
 pub fn uncertain(f: &[u8], u: &mut [u32], st: State, reason: Reason) -> State
-    requires { ⌜ (st .reasons * 5 ≤ length (now u)) × (1500 ≤ length (now u)) ⌝ }
+    requires { ⌜ (st .reasons * 5 ≤ length (now u)) × ((1500 ≤ length (now u)) × (HasText (now f) → Readable (now f) reason)) ⌝ }
     ensures { λ r. ⌜ Does (uncertainM (now (f .entry)) reason) st r kept kept kept (told (now (f .entry)) (now (u .entry)) (now (u .exit))) ⌝ }
 {
     let mut s = st;

@@ -18,6 +18,7 @@ use Rattle.model_walk.proofs.Sees.{sees-flag}
 use Rattle.engine.specs.Unsupported.{placed, effect-reasons, action-reasons, branch-reasons, rule-reasons, unsupported}
 use Rattle.reasons.specs.Kinds as kinds
 use Rattle.reasons.specs.Reasons.{words, body, render}
+use Rattle.reasons.specs.Readable.{text-count}
 use Rattle.reasons.specs.Reasons as reasons
 use Rattle.engine_reads.specs.Reads.{word, atMost, rules}
 use Rattle.engine_reads.proofs.Laws.{most-yes}
@@ -42,7 +43,7 @@ unfolding words
 source-words = refl
 
 -- the file f, with the texts ts
-module _ (f : List ℕ) (ts : List Text) (size : length f ≤ 32768) (few : length ts ≤ 65535)
+module _ (f : List ℕ) (ts : List Text) (size : length f ≤ 32768) (few : length ts ≤ 65535) (counted-as : text-count f ≡ length ts)
     (text-at : (k : ℕ) → k < length ts → textAt f (startFrom f 6 k) ≡ getD ts k []) where
   placed-is : (s : Source) → reasons.placed (s .line) (s .column) ≡ placed s
   unfolding reasons.placed placed
@@ -51,7 +52,7 @@ module _ (f : List ℕ) (ts : List Text) (size : length f ≤ 32768) (few : leng
   source-text : (s : Source) (m : ℕ) → m < length ts →
       render f (sourceNote f (s .line) (s .column) m) ≡ reasons.placed (s .line) (s .column) ++ (text ": " ++ getD ts m [])
   unfolding sourceNote render body
-  source-text s m h = rw (nothing f ts size few text-at, source-words, position-text f ts size few text-at m h)
+  source-text s m h = rw (nothing f ts size few counted-as text-at, source-words, position-text f ts size few counted-as text-at m h)
 
   source-note : (s : Source) (m : ℕ) → m < length ts →
       render f (sourceNote f (s .line) (s .column) m) ≡ placed s ++ text ": " ++ getD ts m []
@@ -79,12 +80,12 @@ module _ (f : List ℕ) (ts : List Text) (size : length f ≤ 32768) (few : leng
 
   trigger-plain : Adds f (trigger ts) of-trigger (triggerL 65535)
   trigger-plain p l t q e =
-      trigger-agrees f ts size few text-at 65535 same-text (plain-note f ts size few text-at) p l t q e
+      trigger-agrees f ts size few counted-as text-at 65535 same-text (plain-note f ts size few counted-as text-at) p l t q e
       ∙ after-same q (ap (λ (y : List Text). addAll y l) (each-same (of-trigger t)))
 
   predicate-plain : Adds f (predicate ts) of-predicate (predicateL 65535)
   predicate-plain p l a q e =
-      predicate-agrees f ts size few text-at 65535 same-text (plain-note f ts size few text-at) p l a q e
+      predicate-agrees f ts size few counted-as text-at 65535 same-text (plain-note f ts size few counted-as text-at) p l a q e
       ∙ after-same q (ap (λ (y : List Text). addAll y l) (each-same (of-predicate a)))
 
   wait-agrees : (p : ℕ) (l : List Text) {t : Trigger} {o q : ℕ} → trigger ts f p ≡ got t o → Wide 5 f o q →
@@ -116,7 +117,7 @@ module _ (f : List ℕ) (ts : List Text) (size : length f ≤ 32768) (few : leng
         let ps = flat of-predicate (c .value) in
         let as′ = action-reasons (a .value) in
         next f p l (branchL lst) (timesL i (branchL lst)) {t = addAll (ps ++ as′) l}
-        (next f p l (partsL part.Predicate 65535) lst (predicates-agree f ts size few text-at 65535 same-text (plain-note f ts size few text-at) p l (c .value) (c .next) (c .first))
+        (next f p l (partsL part.Predicate 65535) lst (predicates-agree f ts size few counted-as text-at 65535 same-text (plain-note f ts size few counted-as text-at) p l (c .value) (c .next) (c .first))
         ∙ ih (c .next) (addAll (each same-text ps) l) (a .value) (a .next) (a .first)
         ∙ after-same (a .next) (ap (λ (y : List Text). addAll as′ (addAll y l)) (each-same ps) ∙ add-both ps as′ l))
         ∙ branches-agree i (a .next) (addAll (ps ++ as′) l) (r .value) q (r .first ∙ ap (got (r .value)) (z .1))
@@ -153,14 +154,14 @@ module _ (f : List ℕ) (ts : List Text) (size : length f ≤ 32768) (few : leng
             let v = bound (place ts) _ (x .rest) in
             let z = given _ _ _ (v .rest) in
             four 0 (λ y. omega arith) (λ y. omega arith) (λ y. omega arith) (λ y. omega arith) (λ y. omega arith)
-            (wide-sum (place-wide f ts size few text-at w (x .first)) (place-wide f ts size few text-at (x .next) (v .first ∙ ap (got (v .value)) (z .1))))
+            (wide-sum (place-wide f ts size few counted-as text-at w (x .first)) (place-wide f ts size few counted-as text-at (x .next) (v .first ∙ ap (got (v .value)) (z .1))))
             ∙ same (z .0)
         cases (suc zero) g =
             let x = bound (place ts) _ g in
             let z = given _ _ _ (x .rest) in
             laws.effect-simple f w l (h 1) lst (λ y. omega arith)
             ∙ laws.simple-1 f w l (h 1) refl
-            ∙ skips f w l 2 (place-wide f ts size few text-at w (x .first ∙ ap (got (x .value)) (z .1)))
+            ∙ skips f w l 2 (place-wide f ts size few counted-as text-at w (x .first ∙ ap (got (x .value)) (z .1)))
             ∙ same (z .0)
         cases (suc (suc zero)) g =
             let x = bound u32 _ g in
@@ -238,15 +239,15 @@ module _ (f : List ℕ) (ts : List Text) (size : length f ≤ 32768) (few : leng
     own-agrees i r l a =
         let v = word x i 0 in
         let g : Text → Text = λ t. r .id ++ text ": " ++ t in
-        let is : Renders f ts v g = λ m h. id-note f ts size few text-at v m (a .id-in) h ∙ ap (λ (y : Text). y ++ text ": " ++ getD ts m []) (sym (a .id)) in
+        let is : Renders f ts v g = λ m h. id-note f ts size few counted-as text-at v m (a .id-in) h ∙ ap (λ (y : Text). y ++ text ": " ++ getD ts m []) (sym (a .id)) in
         let n = r .notes in
         let t = flat of-trigger (r .triggers) in
         let c = flat of-predicate (r .conditions) in
         let l₁ = addAll (each g n) l in
         let l₂ = addAll (each g t) l₁ in
-        ap (λ (y : After). partsL part.Predicate v f (word x i 4) (partsL part.Trigger v f (word x i 3) (y .list) .list) .list) (notes-agree f ts size few text-at v g is (word x i 7) l n (a .notes .0) (a .notes .1))
-        ∙ ap (λ (y : After). partsL part.Predicate v f (word x i 4) (y .list) .list) (triggers-agree f ts size few text-at v g is (word x i 3) l₁ (r .triggers) (a .triggers .0) (a .triggers .1))
-        ∙ ap (λ (y : After). y .list) (predicates-agree f ts size few text-at v g is (word x i 4) l₂ (r .conditions) (a .conditions .0) (a .conditions .1))
+        ap (λ (y : After). partsL part.Predicate v f (word x i 4) (partsL part.Trigger v f (word x i 3) (y .list) .list) .list) (notes-agree f ts size few counted-as text-at v g is (word x i 7) l n (a .notes .0) (a .notes .1))
+        ∙ ap (λ (y : After). partsL part.Predicate v f (word x i 4) (y .list) .list) (triggers-agree f ts size few counted-as text-at v g is (word x i 3) l₁ (r .triggers) (a .triggers .0) (a .triggers .1))
+        ∙ ap (λ (y : After). y .list) (predicates-agree f ts size few counted-as text-at v g is (word x i 4) l₂ (r .conditions) (a .conditions .0) (a .conditions .1))
         ∙ ap (addAll (each g c)) (add-both (each g n) (each g t) l ∙ ap (λ (y : List Text). addAll y l) (each-both g n t))
         ∙ add-both (each g (n ++ t)) (each g c) l
         ∙ ap (λ (y : List Text). addAll y l) (each-both g (n ++ t) c)
@@ -278,14 +279,15 @@ unfolding unsupportedL rules unsupported notes-of
 unsupported-agrees {f} {x} {ts} m a h =
     let rs = m .rules in
     ap (λ (n : ℕ). rulesL f x n 0 []) (ap (λ (n : ℕ). atMost n 32) (a .automations) ∙ sym (most-yes (length rs) 32 (a .few-automations)))
-    ∙ rules-agree f ts (a .size) (a .few-texts) (a .text-at) x rs 0 [] (λ d j k. let z : j ≡ 0 + j = omega arith in subst (λ (n : ℕ). RuleAt f x ts n (getD rs j d)) z (a .rows d j k))
+    ∙ rules-agree f ts (a .size) (a .few-texts) (a .counted) (a .text-at) x rs 0 [] (λ d j k. let z : j ≡ 0 + j = omega arith in subst (λ (n : ℕ). RuleAt f x ts n (getD rs j d)) z (a .rows d j k))
     ∙ add-sorted (flat rule-reasons rs) (omega (arith, many-rules rs, length-append (flat of-invariant (m .scenario .invariants)) (flat of-rule rs)))
 
 -- the notes of one automation
-pub alone-agrees : {f x : List ℕ} {ts : List Text} → length f ≤ 32768 → length ts ≤ 65535 → ((k : ℕ) → k < length ts → textAt f (startFrom f 6 k) ≡ getD ts k []) →
+pub alone-agrees : {f x : List ℕ} {ts : List Text} → length f ≤ 32768 → length ts ≤ 65535 → text-count f ≡ length ts →
+    ((k : ℕ) → k < length ts → textAt f (startFrom f 6 k) ≡ getD ts k []) →
     (i : ℕ) (r : Automation) → RuleAt f x ts i r → length (of-rule r) ≤ 64 → ruleL f x i [] ≡ unsupported (r ∷ [])
 unfolding unsupported flat
-alone-agrees {f} {x} {ts} size few text-at i r a h =
-    rule-agrees f ts size few text-at x i r [] a
+alone-agrees {f} {x} {ts} size few counted-as text-at i r a h =
+    rule-agrees f ts size few counted-as text-at x i r [] a
     ∙ ap (λ (l : List Text). addAll l []) (sym (append-nil (rule-reasons r)))
     ∙ add-sorted (rule-reasons r ++ []) (omega (arith, many-rules (r ∷ []), length-append (of-rule r) []))

@@ -11,8 +11,10 @@ use Rattle.model.specs.File.{u8, u16, u32}
 use Rattle.reasons.specs.Kinds as kinds
 use Rattle.reasons.specs.declared.Reason.{Reason}
 use Rattle.reasons.specs.Reasons.{render}
+use Rattle.reasons.specs.Readable.{Readable, HasText}
 use Rattle.reasons.specs.Lists.{reasons, listed}
 use Rattle.engine_reads.specs.Reads.{word, rules, atMost, textPosition}
+use Rattle.engine_reads.proofs.Readable.{position-stands}
 use Rattle.engine_unsupported.specs.declared.Head.{Head}
 use Rattle.engine_notes.specs.declared.Part.the-variants as part
 use Rattle.engine_notes.specs.Listing.{After, after, Listing, _⨾_, read, by, stay, skipL, timesL, insertG, triggerL, predicateL, partsL}
@@ -42,6 +44,10 @@ pub source-is : (f : List ℕ) (l c m a : ℕ) → a ≡ textPosition f m →
     record { kind = kinds.source-note; first = 4294967295; second = a; line = l; column = c } ≡ sourceNote f l c m
 unfolding sourceNote
 source-is f l c m a e = rw e
+
+pub source-readable : {f : List ℕ} {r : Reason} (l c m : ℕ) → r ≡ sourceNote f l c m → HasText f → Readable f r
+unfolding sourceNote
+source-readable {f} l c m e h = rw e (record { known = omega arith; first = refl; second = position-stands f h m; line = tt; column = tt })
 
 module _ (f : List ℕ) (p : ℕ) (l : List Text) where
   pub source-put : (a c m : ℕ) {r : Reason} {t : List Text} → r ≡ sourceNote f a c m → t ≡ insertG (render f r) l →

@@ -8,6 +8,7 @@ use Rattle.texts.specs.Places.{textAt, startFrom}
 use Rattle.model.specs.Model.{Automation}
 use Rattle.model.specs.File.{counted, place, predicate, trigger, actions}
 use Rattle.model_parts.specs.Stand.{Reads}
+use Rattle.reasons.specs.Readable.{text-count}
 use Rattle.engine_reads.specs.Reads.{word}
 
 -- the i-th row of the table x is the automation r
@@ -23,6 +24,7 @@ pub record RuleAt (f x : List ℕ) (ts : List Text) (i : ℕ) (r : Automation) :
 pub record RulesAt (f x : List ℕ) (ts : List Text) (rs : List Automation) : Type 0 where
   pub size : length f ≤ 32768
   pub few-texts : length ts ≤ 65535
+  pub counted : text-count f ≡ length ts
   pub text-at : (k : ℕ) → k < length ts → textAt f (startFrom f 6 k) ≡ getD ts k []
   pub automations : getD x 1 0 ≡ length rs
   pub few-automations : length rs ≤ 32

@@ -5,8 +5,8 @@ use engine_notes::Part;
 use model_walk::Num;
 use reasons::Reason;
 ghost use mathlib.Core.Path.{_≡_};
-ghost use Prim.Native.Nat.{_≤_, _<_};
-ghost use lib.ListN.{length};
+ghost use Prim.Native.Nat.{ℕ, _≤_, _<_};
+ghost use lib.ListN.{length, getD};
 ghost use Rattle.reasons.specs.Lists.{Holds};
 ghost use Rattle.engine_notes.specs.Listing.{Lists, Makes};
 ghost use Rattle.engine_unsupported.specs.Listing.{sourceNote, headOf, unknownL, waitL, simpleL, actionL, choiceL, actionsL, ownL, ruleL, unsupportedL};
@@ -208,9 +208,10 @@ pub fn rule_notes(f: &[u8], x: &[u32; 436], u: &mut [u32], i: usize, n: usize) -
     d.count
 }
 
-// The notes of the automations as reasons, sorted as rendered, each once; the answer is how many there are.
+// The notes of the automations as reasons, sorted as rendered, each once; the answer is how many there are. The area comes
+// with zeros.
 pub fn unsupported(f: &[u8], x: &[u32; 436], u: &mut [u32]) -> usize
-    requires { ⌜ 1500 ≤ length (now u) ⌝ }
+    requires { ⌜ (1500 ≤ length (now u)) × ((i : ℕ) → getD (now u) i 0 ≡ 0) ⌝ }
     ensures { λ k. ⌜ Holds (now (f .entry)) (unsupportedL (now (f .entry)) (now (x .entry))) k (now (u .exit)) ⌝ }
 {
     let rules = engine_reads::at_most(x[1], 32);

@@ -62,7 +62,7 @@ use Rattle.lint_places.proofs.ById.{fill-padded, first-taken, every, reads-row,
 use Rattle.lint_answer.specs.declared.Report.{Report}
 use Rattle.lint_answer.specs.Answers.{no-lint, Shows, Says, lint-of, Answers}
 use Rattle.lint_answer.specs.Parts.{firstL, readSets, writeSets, Bounds, Inserts, Tells, AnswersAs}
-use Rattle.lint_answer.proofs.Held.{Long, pushes-long, found-area, between-area, both-long, overflow-numbers, texts-few}
+use Rattle.lint_answer.proofs.Held.{Long, pushes-long, found-area, between-area, both-long, overflow-numbers, texts-few, texts-counted}
 
 each-self : (l : List ℕ) → each (λ x. x) l ≡ l
 unfolding each
@@ -112,8 +112,8 @@ module _ (s : List ℕ) (i : Index) (m : Model) (acc : accepted s ≡ answer m) 
     start = board (replicate (length F) 0) (replicate (length I) 0) (record { findings = 0; interactions = 0; refusal = 0 })
 
     module _ (li : Lints s (namesOf s i) (i .rules) start l c) (nt : AllNotes s (i .rules) (i .rules .count) 0 c e) where
-      noted : Noted st (accepted-few s m acc .0) few-texts (text-at s (o .all-texts .1)) (accepted-few s m acc .1) (m .rules) c e
-      noted = all-noted st (accepted-few s m acc .0) few-texts (text-at s (o .all-texts .1)) (accepted-few s m acc .1) nt
+      noted : Noted st (accepted-few s m acc .0) few-texts (texts-counted s (o .ts) (o .all-texts .0) (o .all-texts .1)) (text-at s (o .all-texts .1)) (accepted-few s m acc .1) (m .rules) c e
+      noted = all-noted st (accepted-few s m acc .0) few-texts (texts-counted s (o .ts) (o .all-texts .0) (o .all-texts .1)) (text-at s (o .all-texts .1)) (accepted-few s m acc .1) nt
 
       abbrev first : List Item
       first = rulesItems s d rs ++ opposingItems s d rs ++ cyclesItems s (d .entities) rs (l .found)

@@ -7,15 +7,17 @@ use mathlib.Core.Option.{some}
 use Prim.Native.Nat.{ℕ, zero, suc, _+_, _*_, _-_, _/_, _≤_}
 use native.Mathlib.Omega.{arith}
 use lib.Dec.{eqb, ltb}
-use lib.ListN.{length, take, drop, length-append, length-drop}
+use lib.ListN.{length, getD, take, drop, length-append, length-drop}
 use lib.Seq.{length-take-le}
 use Rattle.texts.specs.Lists.{if_then_else_, each}
 use Rattle.texts.specs.Texts.{Text}
 use Rattle.model.specs.File.{got, times, counted, one-text, texts}
+use Rattle.model_walk.proofs.Laws.{u16-in}
 use Rattle.model_walk.proofs.Found.{Case, is-true, is-false, case, bound, given, required, u16-wide, counted-found}
 use Rattle.model_parts.proofs.Stands.{more}
 use Rattle.model_order.proofs.Laws.{fits-is}
 use Rattle.model_order.proofs.Places.{told}
+use Rattle.reasons.specs.Readable.{text-count}
 use Rattle.areas.specs.Areas.{words, area, written}
 use Rattle.lint.specs.Findings.{Interaction, Entry}
 use Rattle.lint.specs.Lint.{overflow}
@@ -133,4 +135,16 @@ texts-few s ts q e =
     let r = texts-room s (c .count) (c .start) (b .value) (b .next) (c .are-values) (omega (arith, w .ends, w .inside)) in
     let z = required _ _ _ _ (b .rest) .1 .0 in
     let a = r .0 in
+    omega (arith, r .1, ap length z)
+
+pub texts-counted : (s : List ℕ) (ts : List Text) (q : ℕ) → texts s 4 ≡ got ts q → text-count s ≡ length ts
+unfolding texts text-count
+texts-counted s ts q e =
+    let b = bound (counted one-text) _ e in
+    let c = counted-found one-text (b .first) in
+    let w = u16-wide s 4 (c .is-count) in
+    let r = texts-room s (c .count) (c .start) (b .value) (b .next) (c .are-values) (omega (arith, w .ends, w .inside)) in
+    let z = required _ _ _ _ (b .rest) .1 .0 in
+    let g = u16-in s 4 (w .inside) in
+    let v : getD s 4 0 + 256 * getD s 5 0 ≡ c .count = cc in
     omega (arith, r .1, ap length z)

@@ -17,6 +17,7 @@ use Rattle.model_walk.proofs.Found.{bound, u16-wide, source-wide, counted-found
 use Rattle.model_walk.proofs.Laws.{bind-got}
 use Rattle.model_parts.specs.declared.Section.{Section}
 use Rattle.reasons.specs.Reasons.{render}
+use Rattle.reasons.specs.Readable.{text-count}
 use Rattle.reasons.specs.Lists.{words-of, reason-of, reasons, listed}
 use Rattle.engine.specs.Unsupported.{unsupported, rule-reasons}
 use Rattle.engine.proofs.Lists.{sorted-many}
@@ -56,7 +57,7 @@ reasons-long zero u = refl
 reasons-long (suc n) u = ap suc (reasons-long n (drop 5 u))
 
 module _ {s : List ℕ} {d : Names} {rs : Section} {ts : List Text} {m : Model} (st : Stage s d rs ts m) (size : length s ≤ 32768) (few-texts : length ts ≤ 65535)
-    (text-at : (k : ℕ) → k < length ts → textAt s (startFrom s 6 k) ≡ getD ts k []) (few-notes : length (notes-of m) ≤ 64) where
+    (counted-as : text-count s ≡ length ts) (text-at : (k : ℕ) → k < length ts → textAt s (startFrom s 6 k) ≡ getD ts k []) (few-notes : length (notes-of m) ≤ 64) where
   -- ---- the row
 
   near : {p k q : ℕ} → u16 s p ≡ got k q → cap p ≡ p
@@ -150,7 +151,7 @@ module _ {s : List ℕ} {d : Names} {rs : Section} {ts : List Text} {m : Model} 
 
     module _ {b c : Board} (f : RuleNotes s rs i b c) where
       are-notes : listed s (f .many) (f .reasons) ≡ unsupported (r ∷ [])
-      are-notes = f .are-reasons ∙ alone-agrees size few-texts text-at 0 r (row-is i h (f .row) (f .is-row)) few-own
+      are-notes = f .are-reasons ∙ alone-agrees size few-texts counted-as text-at 0 r (row-is i h (f .row) (f .is-row)) few-own
 
       many-are : f .many ≡ length (unsupported (r ∷ []))
       many-are = sym (reasons-long (f .many) (f .reasons)) ∙ sym (map-long (render s) (reasons (f .many) (f .reasons))) ∙ ap length are-notes

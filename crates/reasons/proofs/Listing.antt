@@ -10,7 +10,8 @@ use lib.Seq.{drop-cons, take-suc, append-snoc}
 use Rattle.texts.specs.Lists.{if_then_else_, any}
 use Rattle.texts.specs.Texts.{Text, eqT, ltT, memT, insertT}
 use Rattle.reasons.specs.Reasons.{render}
-use Rattle.reasons.specs.Lists.{reason-of, reasons, listed, pushT, insertAll, Holds}
+use Rattle.reasons.specs.Lists.{reason-of, reasons, listed, pushT, insertAll, Reported, Holds, Grows}
+use Rattle.reasons.specs.Readable.{HasText}
 use Rattle.reasons.specs.declared.Reason.{Reason}
 use Rattle.reasons.proofs.Entries.{length-reasons, nth-reason}
 
@@ -144,8 +145,8 @@ module _ (f : List ℕ) (n : ℕ) (a : List ℕ) where
       (drop-cons (listed f n a) i (render f d) l
       ∙ ap (λ (t : Text). t ∷ drop (suc i) (listed f n a)) (List·getD-map (render f) (reasons n a) i d ∙ ap (render f) (nth-reason n i a d h)))
 
-  pub holds : (l : List Text) → listed f n a ≡ l → Holds f l n a
-  holds l e = record { many = sym length-listed ∙ ap length e; texts = e }
+  pub count-is : {l : List Text} → listed f n a ≡ l → n ≡ length l
+  count-is e = sym length-listed ∙ ap length e
 
 module _ (f : List ℕ) (n : ℕ) (a b : List ℕ) (r : Reason) where
   pub pushed : reasons (n + 1) b ≡ reasons n a ++ (r ∷ []) → listed f (n + 1) b ≡ listed f n a ++ (render f r ∷ [])
@@ -156,3 +157,22 @@ module _ (f : List ℕ) (n : ℕ) (a b : List ℕ) (r : Reason) where
       ap (map (render f)) e
       ∙ map-append (render f) (take k (reasons n a)) (r ∷ drop k (reasons n a))
       ∙ rw (map-take (render f) k (reasons n a), map-drop (render f) k (reasons n a))
+
+-- ---- what grows
+
+module _ (f : List ℕ) {R : Type 0} {n : ℕ} {a : List ℕ} where
+  -- nothing goes in
+  pub grows-none : {l : List Text} → listed f n a ≡ l → Grows f R l n a n a
+  grows-none e = record { many = count-is f n a e; texts = e; clean = λ r c. c }
+
+  -- what grows by F holds F of what it held
+  pub grown : {m : ℕ} {b : List ℕ} (F : List Text → List Text) {l : List Text} → Grows f R (F (listed f n a)) n a m b →
+      (HasText f → R) → Holds f l n a → Holds f (F l) m b
+  grown F g r h = record {
+    many = g .many ∙ ap (λ (y : List Text). length (F y)) (h .texts);
+    texts = g .texts ∙ ap F (h .texts);
+    clean = λ t. g .clean (r t) (h .clean t);
+  }
+
+pub reported : {f a : List ℕ} {l : List Text} {n : ℕ} → HasText f → Holds f l n a → Reported f l n a
+reported t h = record { many = h .many; texts = h .texts; clean = h .clean t }

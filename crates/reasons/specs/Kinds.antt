@@ -1,7 +1,9 @@
 -- The kinds of reasons: what each is made of, and its number's name. A new kind goes to the end.
-use Prim.Native.Nat.{ℕ}
+use Prim.Native.Nat.{ℕ, _<_}
+use mathlib.Core.Path.{_≡_}
 use mathlib.Core.Bool.{Bool, true, false}
 use mathlib.Core.List.{List, [], _∷_}
+use lib.ListN.{length, getD}
 use Rattle.texts.specs.Texts.{Text, text}
 
 -- fixed words; which of the two texts stand around them; whether a line and a column stand in front
@@ -39,9 +41,21 @@ kinds =
     ∷ bare (text "search budget exhausted")
     ∷ []
 
--- what a number past the last kind stands for
+-- a number past the last kind stands for nothing
 abbrev pub no-kind : Kind
 no-kind = bare []
+
+abbrev pub kind-of : ℕ → Kind
+kind-of k = getD kinds k no-kind
+
+-- the number of a kind that has the first text only, and of one that has none
+pub record OneText (k : ℕ) : Type 0 where
+  pub known : k < length kinds
+  pub is : kind-of k ≡ behind-first (kind-of k .words)
+
+pub record NoText (k : ℕ) : Type 0 where
+  pub known : k < length kinds
+  pub is : kind-of k ≡ bare (kind-of k .words)
 
 -- ---- the numbers' names
 

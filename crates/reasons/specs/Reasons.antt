@@ -2,12 +2,12 @@
 use Prim.Native.Nat.{ℕ, _+_}
 use mathlib.Core.List.{List, _∷_, _++_}
 use lib.Dec.{eqb}
-use lib.ListN.{length, getD}
+use lib.ListN.{length}
 use Rattle.reasons.specs.declared.Reason.{Reason}
 use Rattle.texts.specs.Lists.{if_then_else_, flat}
 use Rattle.texts.specs.Texts.{Text, decimal}
 use Rattle.texts.specs.Places.{textAt}
-use Rattle.reasons.specs.Kinds.{Kind, kinds, no-kind, source-note}
+use Rattle.reasons.specs.Kinds.{Kind, kinds, kind-of, source-note}
 
 -- a text as it stands in a file
 abbrev pub packed : Text → List ℕ
@@ -15,7 +15,7 @@ packed t = length t ∷ t
 
 -- the fixed words of a kind; none for a number past the last kind
 unfoldable pub words : ℕ → Text
-words kind = getD kinds kind no-kind .words
+words kind = kind-of kind .words
 
 -- the words of all kinds as the code has them, one behind the other
 unfoldable pub words-file : List ℕ

@@ -2,13 +2,13 @@
 use texts::Order;
 use texts::Seek;
 ghost use mathlib.Core.Path.{_≡_};
-ghost use mathlib.Core.List.{_∷_, _++_};
 ghost use Prim.Native.Nat.{_+_, _-_, _*_, _≤_, _<_};
-ghost use lib.ListN.{length, getD, drop, take};
+ghost use lib.ListN.{length, getD, drop};
 ghost use Rattle.texts.specs.Texts.{decimal, eqT, orderT, memT, insertT};
 ghost use Rattle.texts.specs.Places.{textAt, seek};
 ghost use Rattle.reasons.specs.Reasons.{words-file, words, placed, body, render};
-ghost use Rattle.reasons.specs.Lists.{reason-of, reasons, listed, pushT, insertAll, Goes, Holds};
+ghost use Rattle.reasons.specs.Lists.{reason-of, listed, pushT, insertAll, Goes, Clean, Grows, Opens};
+ghost use Rattle.reasons.specs.Readable.{Readable};
 
 // The kinds, numbered; a new kind goes to the end.
 pub const NOTE: u32 = 0;
@@ -293,7 +293,7 @@ pub fn contains(f: &[u8], a: &[u32], n: usize, r: Reason) -> bool
 // A reason behind the first n, unless one there is rendered like it; the answer is how many there are then.
 pub fn push_if_absent(f: &[u8], a: &mut [u32], n: usize, r: Reason) -> usize
     requires { ⌜ length (pushT (render (now f) r) (listed (now f) n (now a))) * 5 ≤ length (now a) ⌝ }
-    ensures { λ m. ⌜ Holds (now (f .entry)) (pushT (render (now (f .entry)) r) (listed (now (f .entry)) n (now (a .entry)))) m (now (a .exit)) ⌝ }
+    ensures { λ m. ⌜ Grows (now (f .entry)) (Readable (now (f .entry)) r) (pushT (render (now (f .entry)) r) (listed (now (f .entry)) n (now (a .entry)))) n (now (a .entry)) m (now (a .exit)) ⌝ }
 {
     if contains(f, a, n, r) {
         return n;
@@ -328,7 +328,7 @@ fn find_spot(f: &[u8], a: &[u32], n: usize, r: Reason) -> Spot
 // A reason at index k of the first n; those from there on move up.
 fn insert_at(a: &mut [u32], n: usize, k: usize, r: Reason)
     requires { ⌜ (k ≤ n) × (n * 5 + 5 ≤ length (now a)) ⌝ }
-    ensures { λ _. ⌜ reasons (n + 1) (now (a .exit)) ≡ take k (reasons n (now (a .entry))) ++ (r ∷ drop k (reasons n (now (a .entry)))) ⌝ }
+    ensures { λ _. ⌜ Opens r n k (now (a .entry)) (now (a .exit)) ⌝ }
 {
     let w = [r.kind, r.first, r.second, r.line, r.column];
     areas::put_in(a, k * 5, n * 5, &w);
@@ -337,7 +337,7 @@ fn insert_at(a: &mut [u32], n: usize, k: usize, r: Reason)
 // A reason among the first n, which ascend as rendered, unless one there is rendered like it.
 pub fn insert_sorted(f: &[u8], a: &mut [u32], n: usize, r: Reason) -> usize
     requires { ⌜ length (insertT (render (now f) r) (listed (now f) n (now a))) * 5 ≤ length (now a) ⌝ }
-    ensures { λ m. ⌜ Holds (now (f .entry)) (insertT (render (now (f .entry)) r) (listed (now (f .entry)) n (now (a .entry)))) m (now (a .exit)) ⌝ }
+    ensures { λ m. ⌜ Grows (now (f .entry)) (Readable (now (f .entry)) r) (insertT (render (now (f .entry)) r) (listed (now (f .entry)) n (now (a .entry)))) n (now (a .entry)) m (now (a .exit)) ⌝ }
 {
     let s = find_spot(f, a, n, r);
     match s {
@@ -352,7 +352,7 @@ pub fn insert_sorted(f: &[u8], a: &mut [u32], n: usize, r: Reason) -> usize
 // The first m reasons of b inserted into the first n of a.
 pub fn merge(f: &[u8], a: &mut [u32], n: usize, b: &[u32], m: usize) -> usize
     requires { ⌜ (m * 5 ≤ length (now b)) × (length (insertAll (listed (now f) m (now b)) (listed (now f) n (now a))) * 5 ≤ length (now a)) ⌝ }
-    ensures { λ k. ⌜ Holds (now (f .entry)) (insertAll (listed (now (f .entry)) m (now (b .entry))) (listed (now (f .entry)) n (now (a .entry)))) k (now (a .exit)) ⌝ }
+    ensures { λ k. ⌜ Grows (now (f .entry)) (Clean (now (f .entry)) m (now (b .entry))) (insertAll (listed (now (f .entry)) m (now (b .entry))) (listed (now (f .entry)) n (now (a .entry)))) n (now (a .entry)) k (now (a .exit)) ⌝ }
 {
     let mut k = n;
     let mut j: usize = 0;

@@ -25,7 +25,7 @@ use Rattle.engine_places.specs.Events.{EventAt}
 use Rattle.engine_places.proofs.Words.{text-place}
 use Rattle.engine_begin.specs.declared.Events.{Events}
 use Rattle.engine_entry.specs.Answers.{Ground, Grounds}
-use Rattle.engine_entry.proofs.Core.{tb}
+use Rattle.engine_entry.proofs.Core.{tb, queue-clear, runs-clear}
 use Rattle.engine_entry.proofs.Promise.{texts-here}
 use Rattle.checker.specs.Check.{Check, checked, Violation}
 use Rattle.checker.specs.Check as check
@@ -175,14 +175,14 @@ module _ {f : List ℕ} {i : Index} {g : Ground} {target : ℕ} {e : Events} {n 
     abbrev areas : Areas
     areas = sizes (length q) (length a) (length u)
 
-    queue-is : q' ≡ replicate (length q) 0
-    queue-is = fin .checks .ran .does .queue ∙ ap (λ (k : ℕ). replicate k 0) (long .0)
-
-    runs-is : u' ≡ replicate (length u) 0
-    runs-is = fin .checks .ran .does .runs ∙ ap (λ (k : ℕ). replicate k 0) (long .1 .1)
-
     module _ (m : Model) (acc : accepted f ≡ answer m) (ix : Indexed f i m) (gr : Grounds f i g)
         (inside : target < length (ix .ts)) (vs : List Event) (left : Left m (ix .ts) (e .words) n vs) where
+      queue-is : q' ≡ replicate (length q) 0
+      queue-is = queue-clear f i m acc ix bytes g gr (fin .checks .ran) ∙ ap (λ (k : ℕ). replicate k 0) (long .0)
+
+      runs-is : u' ≡ replicate (length u) 0
+      runs-is = runs-clear f i m acc ix bytes g gr (fin .checks .ran) ∙ ap (λ (k : ℕ). replicate k 0) (long .1 .1)
+
       abbrev t : Tabled f (g .table) (ix .ts) m
       t = tb f i m acc ix bytes g gr
 
@@ -309,7 +309,7 @@ module _ {f : List ℕ} (i : Index) {g : Ground} {e : Events} {n : ℕ}
       by (promised.answers d k s w) = absurd (z (s .simulation .accepted))
       by (promised.refuses j lo hi k none w) =
           refuses j (inr (lo, hi)) (not-first first-sizes m [] vs j k) (is ∙ ap no-reduction (none .number))
-          (ch .ran .does .queue) w (ch .ran .does .runs) refl
+          (queue-clear f i m acc ix bytes g gr (ch .ran)) w (runs-clear f i m acc ix bytes g gr (ch .ran)) refl
 
   module _ (z : c .simulation .refused ≡ 0) {b : Bool} (is-b : b ≡ is-violation (c .status)) where
     -- it isn't a violation

@@ -12,6 +12,7 @@ use Rattle.texts.specs.Lists.{is-empty}
 use Rattle.texts.specs.Texts.{Text, text, insertT, sortedT}
 use Rattle.reasons.specs.Kinds as kinds
 use Rattle.reasons.specs.Lists.{listed, insertAll, Holds}
+use Rattle.reasons.proofs.Listing.{grown}
 use Rattle.reasons.specs.Reasons.{render, body, words}
 use Rattle.model.specs.Answer.{Answer, answer, refused, _>>=_, accept}
 use Rattle.model.specs.Model.{Input, Event, Model}
@@ -145,9 +146,8 @@ module _ {f : List ℕ} {p : Entire} {q a u : ℕ} (x : Setting f p q a u) where
         told : Holds f (sortedT (s .reasons ++ spent-text ∷ [])) (r .reasons) w'
         told =
             subst (λ (l : List Text). Holds f l (r .reasons) w')
-            (ap (λ (l : List Text). insertT (render f (alone kinds.search-spent)) l) (h .reasons .texts)
-            ∙ ap (λ (t : Text). insertT t (sortedT (s .reasons))) spent-is ∙ sorted-one (s .reasons) spent-text)
-            (k .reasons (few-reasons s o w h))
+            (ap (λ (t : Text). insertT t (sortedT (s .reasons))) spent-is ∙ sorted-one (s .reasons) spent-text)
+            (grown f (insertT (render f (alone kinds.search-spent))) (k .reasons (few-reasons s o w h)) (λ t. tt) (h .reasons))
 
         held : Held x (out-of-budget s) r w'
         held = record {
@@ -327,16 +327,15 @@ module _ {f : List ℕ} {p : Entire} {q a u : ℕ} {placed : Placed} {c : CheckR
                 (among-both (search-pool (x .m)) (b .unknown) (s .reasons) au (h .within)),
             pool-few x,
           ) in
-          let all : Holds f (insertAll (listed f (c .incomplete) (c .incompletes))
-          (insertAll (listed f (c .unknown) (c .unknowns)) (listed f (o .reasons) w))) count w' = told
-          (few-reasons x s o w h) (sized .few-unknown) (sized .few-incomplete) few in
-          let same : insertAll (listed f (c .incomplete) (c .incompletes))
-          (insertAll (listed f (c .unknown) (c .unknowns)) (listed f (o .reasons) w))
-          ≡ sortedT (s .reasons ++ b .unknown ++ b .incomplete) = ap
-          (λ (t : List Text). insertAll t (insertAll (listed f (c .unknown) (c .unknowns)) (listed f (o .reasons) w)))
+          let both : List Text → List Text = λ l. insertAll (listed f (c .incomplete) (c .incompletes))
+          (insertAll (listed f (c .unknown) (c .unknowns)) l) in
+          let all : Holds f (both (sortedT (s .reasons))) count w' = grown f both
+          (told (few-reasons x s o w h) (sized .few-unknown) (sized .few-incomplete) few)
+          (λ t. (k .unknown .clean, k .incomplete .clean)) (h .reasons) in
+          let same : both (sortedT (s .reasons)) ≡ sortedT (s .reasons ++ b .unknown ++ b .incomplete) = ap
+          (λ (t : List Text). insertAll t (insertAll (listed f (c .unknown) (c .unknowns)) (sortedT (s .reasons))))
           (k .incomplete .texts) ∙ ap (λ (t : List Text). insertAll (b .incomplete)
-          (insertAll t (listed f (o .reasons) w))) (k .unknown .texts)
-          ∙ ap (λ (t : List Text). insertAll (b .incomplete) (insertAll (b .unknown) t)) (h .reasons .texts)
+          (insertAll t (sortedT (s .reasons)))) (k .unknown .texts)
           ∙ sorted-both (s .reasons) (b .unknown) (b .incomplete) in
           subst (λ (t : Answer verify.Search). Outcome x t r w')
           (sym (answer-so b y ∙ ap answer (after-other vs b s fine-so)))
@@ -346,8 +345,7 @@ module _ {f : List ℕ} {p : Entire} {q a u : ℕ} {placed : Placed} {c : CheckR
             steps = steps-of b y k (g .steps);
             reasons = subst (λ (t : List Text). Holds f t (r .reasons) w')
                 (same ∙ sym (sorted-again (s .reasons ++ b .unknown ++ b .incomplete)))
-                (subst (λ (t : ℕ). Holds f (insertAll (listed f (c .incomplete) (c .incompletes))
-                (insertAll (listed f (c .unknown) (c .unknowns)) (listed f (o .reasons) w))) t w') (sym (g .reasons)) all);
+                (subst (λ (t : ℕ). Holds f (both (sortedT (s .reasons))) t w') (sym (g .reasons)) all);
             within = Rattle.checker_entry.proofs.Pool.sorted-among (search-pool (x .m))
                 (s .reasons ++ b .unknown ++ b .incomplete)
                 (among-both (search-pool (x .m)) (s .reasons ++ b .unknown) (b .incomplete)

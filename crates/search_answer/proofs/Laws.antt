@@ -1,13 +1,16 @@
 -- Laws for the parts of the answer.
 use Prim.Native.Nat.{ℕ, _*_, _≤_}
-use mathlib.Core.Path.{_≡_, ap, subst}
+use mathlib.Core.Path.{_≡_, sym, ap, subst}
 use mathlib.Core.Bool.{Bool, true, false}
 use mathlib.Core.List.{List, []}
 use native.Mathlib.Omega.{arith}
 use lib.ListN.{length, replicate}
 use borrow.Author.Tests.{eq-eqb, ne-eqb}
-use Rattle.reasons.specs.Lists.{reasons, listed, insertAll, Holds}
+use Rattle.reasons.specs.Readable.{HasText}
+use Rattle.reasons.specs.Lists.{reasons, listed, insertAll, Clean, Holds, Grows}
 use Rattle.reasons.proofs.Listing as listing
+use Rattle.reasons.proofs.Listing.{grown}
+use Rattle.reasons.proofs.Cleaning.{zeros, holds-zeros}
 use Rattle.checker_verdict.proofs.Laws.{all-many}
 use Rattle.checker_result.specs.declared.CheckResult.{CheckResult}
 use Rattle.checker_result.specs.Result.{no-check, result-of}
@@ -52,8 +55,9 @@ pub told-room : (f b : List ℕ) (m : ℕ) (a : List ℕ) → m ≤ 400 → leng
 unfolding reasons
 told-room f b m a h l k = (omega (arith, h, l), omega (arith, h, k, all-many (listed f m b) [], listing.length-listed f m b))
 
-pub told-reasons : (f b a : List ℕ) {a' : List ℕ} {n m r : ℕ} → AtMost n 400 m
-    → Holds f (insertAll (listed f m b) (listed f 0 a)) r a' →
-    n ≤ 400 → Holds f (insertAll (listed f n b) []) r a'
-unfolding reasons
-told-reasons f b a {a'} {n} {m} {r} k h o = subst (λ (j : ℕ). Holds f (insertAll (listed f j b) []) r a') (k .same o) h
+pub told-reasons : (f b : List ℕ) {a' : List ℕ} {n m r : ℕ} → AtMost n 400 m →
+    Grows f (Clean f m b) (insertAll (listed f m b) (listed f 0 (replicate 2000 0))) 0 (replicate 2000 0) r a' →
+    n ≤ 400 → (HasText f → Clean f n b) → Holds f (insertAll (listed f n b) []) r a'
+told-reasons f b {a'} {n} {m} {r} k h o c =
+    subst (λ (j : ℕ). Holds f (insertAll (listed f j b) []) r a') (k .same o)
+    (grown f (insertAll (listed f m b)) h (λ t. subst (λ (j : ℕ). Clean f j b) (sym (k .same o)) (c t)) (holds-zeros f (zeros 2000)))

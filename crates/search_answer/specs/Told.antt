@@ -6,7 +6,8 @@ use mathlib.Core.List.{List, []}
 use lib.Dec.{eqb}
 use lib.ListN.{replicate}
 use Rattle.texts.specs.Lists.{if_then_else_}
-use Rattle.reasons.specs.Lists.{listed, insertAll, Holds}
+use Rattle.reasons.specs.Readable.{HasText}
+use Rattle.reasons.specs.Lists.{listed, insertAll, Clean, Holds}
 use Rattle.checker_result.specs.declared.CheckResult.{CheckResult}
 use Rattle.checker_result.specs.Result as check
 use Rattle.search_inputs.specs.declared.Alphabet.{Alphabet}
@@ -50,7 +51,8 @@ pub record Told (f : List ℕ) (limits : ℕ) (is : Alphabet) (gs : Gaps) (h : �
   pub words : r .words ≡ x .words
   pub written : r .written ≡ x .written
   pub check : r .check ≡ x .check
-  pub reasons : o .reasons ≤ 400 → Holds f (insertAll (listed f (o .reasons) w) []) (r .reasons) (r .told)
+  pub reasons : o .reasons ≤ 400 → (HasText f → Clean f (o .reasons) w) →
+      Holds f (insertAll (listed f (o .reasons) w) []) (r .reasons) (r .told)
 
 -- ---- the witness
 

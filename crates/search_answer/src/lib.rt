@@ -157,6 +157,7 @@ pub fn told_of(
     let seconds = gaps.seconds;
     let words = x.words;
     let check = x.check;
+    *told = [0u32; 2000];
     let many = search_cases::few(o.reasons, 400);
     let reasons = reasons::merge(file, told, 0, w, many);
     let status = status_of(o.found, reasons);

@@ -1,17 +1,19 @@
 -- The laws that the proofs of this crate's functions cite, of what the code does.
 use Prim.Native.Nat.{ℕ, _+_, _*_, _/_, _%_, _≤_, _<_}
-use mathlib.Core.Path.{_≡_, ap, subst, _∙_}
-use mathlib.Core.List.{List, []}
+use mathlib.Core.Path.{_≡_, refl, ap, subst, _∙_}
+use mathlib.Core.List.{List}
 use native.Mathlib.Omega.{arith}
 use native.Mathlib.Nat.{mul-zero, mul-le-mul, mod-lt, div-lt-iff-lt-mul}
 use lib.ListN.{length, getD}
 use Rattle.texts.specs.Texts.{Text, insertT}
 use Rattle.reasons.specs.Kinds as kinds
-use Rattle.reasons.specs.Lists.{reasons, listed, insertAll, Holds}
+use Rattle.reasons.specs.Readable.{Readable}
+use Rattle.reasons.specs.Lists.{listed, insertAll, Clean, Grows}
 use Rattle.reasons.specs.Reasons.{render}
 use Rattle.reasons.specs.declared.Reason.{Reason}
 use Rattle.reasons.proofs.Listing as listing
 use Rattle.engine_reads.specs.Reads.{four, cap, alone}
+use Rattle.engine_reads.proofs.Readable.{alone-readable}
 use Rattle.checker_verdict.proofs.Laws.{all-many}
 use Rattle.search_inputs.specs.declared.Alphabet.{Alphabet}
 use Rattle.search_inputs.specs.declared.Gaps.{Gaps}
@@ -42,32 +44,41 @@ merge-room f b m a n h o l = (
 )
 
 pub spent-reasons : (f w : List ℕ) {w' : List ℕ} {k n r : ℕ} {y : Reason} → AtMost k 400 n → y ≡ alone kinds.search-spent →
-    Holds f (insertT (render f y) (listed f n w)) r w' → k ≤ 400
-    → Holds f (insertT (render f (alone kinds.search-spent)) (listed f k w)) r w'
+    Grows f (Readable f y) (insertT (render f y) (listed f n w)) n w r w' → k ≤ 400 →
+    Grows f (Unit {0}) (insertT (render f (alone kinds.search-spent)) (listed f k w)) k w r w'
 spent-reasons f w {w'} {k} {n} {r} a e h o =
-    subst (λ (j : ℕ). Holds f (insertT (render f (alone kinds.search-spent)) (listed f j w)) r w') (a .same o)
-    (subst (λ (z : Reason). Holds f (insertT (render f z) (listed f n w)) r w') e h)
+    let g = subst (λ (z : Reason). Grows f (Readable f z) (insertT (render f z) (listed f n w)) n w r w') e h in
+    subst (λ (j : ℕ). Grows f (Unit {0}) (insertT (render f (alone kinds.search-spent)) (listed f j w)) j w r w') (a .same o)
+    (record {
+      many = g .many;
+      texts = g .texts;
+      clean = λ u c. g .clean (alone-readable refl (record { known = omega arith; is = refl })) c;
+    })
 
 pub gathers-is : (f w : List ℕ) (n : ℕ) {un inc : ℕ} (us ws : List ℕ) {k many first j more r : ℕ} {w₁ w₂ : List ℕ} → AtMost n 400 k
     → AtMost un 400 many →
-    Holds f (insertAll (listed f many us) (listed f k w)) first w₁ → AtMost first 400 j
+    Grows f (Clean f many us) (insertAll (listed f many us) (listed f k w)) k w first w₁ → AtMost first 400 j
     → AtMost inc 40 more →
-    Holds f (insertAll (listed f more ws) (listed f j w₁)) r w₂ → Gathers f n un us inc ws w r w₂
+    Grows f (Clean f more ws) (insertAll (listed f more ws) (listed f j w₁)) j w₁ r w₂ → Gathers f n un us inc ws w r w₂
 gathers-is f w n {un} {inc} us ws {k} {many} {first} {j} {more} {r} {w₁} {w₂} ak am h aj ao g on om oo few =
-    let h₁ : Holds f (insertAll (listed f un us) (listed f n w)) first w₁ = subst
-    (λ (i : ℕ). Holds f (insertAll (listed f i us) (listed f n w)) first w₁) (am .same om)
-    (subst (λ (i : ℕ). Holds f (insertAll (listed f many us) (listed f i w)) first w₁) (ak .same on) h) in
+    let h₁ : Grows f (Clean f un us) (insertAll (listed f un us) (listed f n w)) n w first w₁ =
+    subst (λ (i : ℕ). Grows f (Clean f i us) (insertAll (listed f i us) (listed f n w)) n w first w₁) (am .same om)
+    (subst (λ (i : ℕ). Grows f (Clean f many us) (insertAll (listed f many us) (listed f i w)) i w first w₁) (ak .same on) h) in
     let fj : j ≡ first = aj .same (omega (arith, h₁ .many, few)) in
-    subst (λ (l : List Text). Holds f (insertAll (listed f inc ws) l) r w₂) (h₁ .texts)
-    (subst (λ (i : ℕ). Holds f (insertAll (listed f i ws) (listed f first w₁)) r w₂) (ao .same oo)
-    (subst (λ (i : ℕ). Holds f (insertAll (listed f more ws) (listed f i w₁)) r w₂) fj g))
+    let g₁ : Grows f (Clean f inc ws) (insertAll (listed f inc ws) (listed f first w₁)) first w₁ r w₂ =
+    subst (λ (i : ℕ). Grows f (Clean f i ws) (insertAll (listed f i ws) (listed f first w₁)) first w₁ r w₂) (ao .same oo)
+    (subst (λ (i : ℕ). Grows f (Clean f more ws) (insertAll (listed f more ws) (listed f i w₁)) i w₁ r w₂) fj g) in
+    record {
+      many = g₁ .many ∙ ap (λ (l : List Text). length (insertAll (listed f inc ws) l)) (h₁ .texts);
+      texts = g₁ .texts ∙ ap (insertAll (listed f inc ws)) (h₁ .texts);
+      clean = λ b c. g₁ .clean (b .1) (h₁ .clean (b .0) c);
+    }
 
 pub begins-reasons : (f w notes : List ℕ) {w' : List ℕ} {count n r : ℕ} → AtMost count 300 n →
-    Holds f (insertAll (listed f n notes) (listed f 0 w)) r w' → count ≤ 300
-    → Holds f (insertAll (listed f count notes) []) r w'
-unfolding reasons
-begins-reasons f w notes {w'} {count} {n} {r} a h o = subst (λ (j : ℕ). Holds f (insertAll (listed f j notes) []) r w')
-    (a .same o) h
+    Grows f (Clean f n notes) (insertAll (listed f n notes) (listed f 0 w)) 0 w r w' → count ≤ 300 →
+    Grows f (Clean f count notes) (insertAll (listed f count notes) (listed f 0 w)) 0 w r w'
+begins-reasons f w notes {w'} {count} {n} {r} a h o =
+    subst (λ (j : ℕ). Grows f (Clean f j notes) (insertAll (listed f j notes) (listed f 0 w)) 0 w r w') (a .same o) h
 
 -- ---- pairs of a gap and an input
 

@@ -7,7 +7,7 @@ use lib.Dec.{eqb}
 use lib.ListN.{length, getD}
 use Rattle.texts.specs.Texts.{insertT}
 use Rattle.reasons.specs.Kinds as kinds
-use Rattle.reasons.specs.Lists.{listed, insertAll, Holds}
+use Rattle.reasons.specs.Lists.{listed, insertAll, Clean, Grows}
 use Rattle.reasons.specs.Reasons.{render}
 use Rattle.model_index.specs.declared.Index.{Index}
 use Rattle.engine_reads.specs.Reads.{four, cap, alone}
@@ -90,7 +90,8 @@ pub record Spends (f : List ℕ) (o : Search) (w : List ℕ) (r : Search) (w' : 
   pub shortest : r .shortest ≡ o .shortest
   pub stopped : r .stopped ≡ true
   pub witness : r .witness ≡ o .witness
-  pub reasons : o .reasons ≤ 400 → Holds f (insertT (render f (alone kinds.search-spent)) (listed f (o .reasons) w)) (r .reasons) w'
+  pub reasons : o .reasons ≤ 400 →
+      Grows f (Unit {0}) (insertT (render f (alone kinds.search-spent)) (listed f (o .reasons) w)) (o .reasons) w (r .reasons) w'
 
 -- a case was checked: a violation, or its reasons were gathered
 pub record Found (o : Search) (placed : Placed) (took : ℕ) (r : Search) : Type 0 where
@@ -119,7 +120,7 @@ abbrev pub Gathers : (f : List ℕ) → (n unknown : ℕ) → (unknowns : List �
 Gathers f n k us j ws w r w' =
     n ≤ 400 → k ≤ 400 → j ≤ 40 →
     length (insertAll (listed f k us) (listed f n w)) ≤ 400 →
-    Holds f (insertAll (listed f j ws) (insertAll (listed f k us) (listed f n w))) r w'
+    Grows f (Clean f k us × Clean f j ws) (insertAll (listed f j ws) (insertAll (listed f k us) (listed f n w))) n w r w'
 
 -- ---- the next events
 
@@ -131,11 +132,11 @@ Nexts gs is placed k r = Placing placed (nextAt gs is placed k) is (k % is .coun
 
 -- ---- before the first case
 
-pub record Begins (f : List ℕ) (n : ℕ) (notes : List ℕ) (r : Search) (w' : List ℕ) : Type 0 where
+pub record Begins (f : List ℕ) (n : ℕ) (notes w : List ℕ) (r : Search) (w' : List ℕ) : Type 0 where
   pub refused : r .refused ≡ 0
   pub cases : r .cases ≡ 0
   pub steps : r .steps ≡ 0
   pub found : r .found ≡ false
   pub shortest : r .shortest ≡ false
   pub stopped : r .stopped ≡ false
-  pub reasons : n ≤ 300 → Holds f (insertAll (listed f n notes) []) (r .reasons) w'
+  pub reasons : n ≤ 300 → Grows f (Clean f n notes) (insertAll (listed f n notes) (listed f 0 w)) 0 w (r .reasons) w'

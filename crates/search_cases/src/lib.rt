@@ -234,7 +234,7 @@ pub fn next_events(p: Plan, placed: Placed, k: usize) -> Placed
 // Before the first case: the reasons of the automations' notes, so many.
 pub fn begun(f: &[u8], notes: &[u32; 1500], n: usize, w: &mut [u32]) -> Search
     requires { ⌜ length (now w) ≡ 4000 ⌝ }
-    ensures { λ r. ⌜ Begins (now (f .entry)) n (now (notes .entry)) r (now (w .exit)) ⌝ }
+    ensures { λ r. ⌜ Begins (now (f .entry)) n (now (notes .entry)) (now (w .entry)) r (now (w .exit)) ⌝ }
 {
     let many = few(n, 300);
     let count = reasons::merge(f, w, 0, notes, many);

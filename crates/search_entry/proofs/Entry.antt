@@ -5,7 +5,7 @@ use mathlib.Core.Bool.{true, false}
 use mathlib.Core.List.{List, [], _∷_}
 use mathlib.Core.Logic.{inl, inr}
 use native.Mathlib.Omega.{arith}
-use lib.ListN.{length, getD}
+use lib.ListN.{length, getD, replicate}
 use borrow.Author.Tests.{lt-ltb, le-ltb}
 use Rattle.texts.specs.Lists.{is-empty}
 use Rattle.model.specs.Answer.{Answer, answer, refused, _>>=_, _and_, _when_}
@@ -44,7 +44,7 @@ use Rattle.search_entry.proofs.Start.{limits-are, setting, start-of, st
 
 module _ {f : List ℕ} {i : Index} (bytes : (k : ℕ) → getD f k 0 < 256) (p : Plan) {x notes : List ℕ} {c : Cells} {n : ℕ}
     (gr : Grounds f i (ground x c n notes)) (pl : Plans f i c n p)
-    {start : Search} {w₀ : List ℕ} (b : Begins f (p .shared .notes) notes start w₀)
+    {start : Search} {w₀ : List ℕ} (b : Begins f (p .shared .notes) notes (replicate 4000 0) start w₀)
     {depth : ℕ} (few : depth ≡ atMost (limitV f (i .limits) 8) 5) {q a u : ℕ} {o : Search} {w : List ℕ}
     (d : Deepens f (entire p x (i .invariants .starts) notes) depth start w₀ o w q a u) where
   abbrev all : Entire

@@ -11,6 +11,7 @@ use Rattle.texts.specs.Texts.{Text, sortedT}
 use Rattle.areas.specs.Areas.{area}
 use Rattle.areas.proofs.Laws as areas
 use Rattle.reasons.specs.Lists.{insertAll, Holds}
+use Rattle.reasons.proofs.Listing.{reported}
 use Rattle.reasons.proofs.Sorting.{one-by-one}
 use Rattle.model.specs.Answer.{Answer, answer, refused, _>>=_}
 use Rattle.engine.specs.Memory.{Lent}
@@ -22,7 +23,8 @@ use Rattle.model.specs.Events.{input-words, event-words}
 use Rattle.search_cases.specs.declared.Search.{Search}
 use Rattle.search_cases.specs.Parts.{limitV}
 use Rattle.search.specs.Meaning.{Entire, Setting, Witnessed, Held, Outcome}
-use Rattle.search.proofs.Cases.{few-reasons}
+use Rattle.engine_places.proofs.Pool.{has-text}
+use Rattle.search.proofs.Cases.{table, few-reasons}
 use Rattle.search.proofs.Sorted.{sorted-again}
 use Rattle.search_answer.specs.declared.Verification.{Verification}
 use Rattle.search_answer.specs.Whole.{no-verification}
@@ -49,7 +51,7 @@ module _ {f : List ℕ} {at : ℕ} {p : Entire} {q a u : ℕ} (x : Setting f p q
         subst (λ (l : List Text). Holds f l (r .reasons) (r .told))
         (ap (λ (l : List Text). insertAll l []) (h .reasons .texts) ∙ one-by-one (sortedT (s .reasons))
         ∙ sorted-again (s .reasons))
-        (t .reasons (few-reasons x s o w h))
+        (t .reasons (few-reasons x s o w h) (h .reasons .clean))
 
     shows-with : r .status ≡ found-as (found-of (s .witness) (sortedT (s .reasons))) → WitnessSays f r (s .witness)
         → Shows f r (verification-of (x .m) s)
@@ -69,7 +71,7 @@ module _ {f : List ℕ} {at : ℕ} {p : Entire} {q a u : ℕ} (x : Setting f p q
               (sym texts-are);
           gaps = t .gaps ∙ x .gaps;
           seconds = t .seconds ∙ x .seconds;
-          reasons = reasons-are;
+          reasons = reported (has-text f (p .ground .table) (x .indexed .ts) (x .m) (table x)) reasons-are;
           shortest = t .shortest ∙ h .shortest;
           witness = k;
         }

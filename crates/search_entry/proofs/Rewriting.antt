@@ -20,6 +20,7 @@ use Rattle.model_rewrite.proofs.WithEvents.{few-events}
 use Rattle.engine.specs.Words.{words-in}
 use Rattle.engine.proofs.Validated.{accepted-decoded}
 use Rattle.engine_entry.specs.Answers.{lent}
+use Rattle.engine_entry.proofs.Core.{queue-clear, runs-clear}
 use Rattle.checker.specs.Check.{Check, checked}
 use Rattle.checker_result.specs.declared.CheckResult.{CheckResult}
 use Rattle.checker_entry.specs.Answers as said
@@ -96,9 +97,9 @@ writes-so {f} {p} placed {c} {q} {q'} {a} {a'} {u} {u'} wh {s} e {n} {out} {out'
           written = told f (x .m) (x .index) (decoded x) (x .indexed) (placed .words) none-such vs
               (words-at x vs placed ps) e (ps .count) wr;
           check = subst (said.Shows f c) same (whole-shows wh d k);
-          queue = wh .checked .ran .does .queue;
+          queue = queue-clear f (x .index) (x .m) (x .is-accepted) (x .indexed) (x .bytes) (p .ground) (x .grounds) (wh .checked .ran);
           records = subst (λ (i : Check). a' ≡ area (words-in f) (length a) (i .simulation .trace)) same l;
-          runs = wh .checked .ran .does .runs;
+          runs = runs-clear f (x .index) (x .m) (x .is-accepted) (x .indexed) (x .bytes) (p .ground) (x .grounds) (wh .checked .ran);
         }
     by x vs ps b y (refuses j lo hi z k l) = absurd (no (sym z ∙ y))
       where

@@ -5,10 +5,12 @@ use mathlib.Core.Bool.{false}
 use mathlib.Core.List.{List, [], _∷_}
 use mathlib.Core.Option.{none}
 use native.Mathlib.Omega.{arith}
-use lib.ListN.{getD, length-append}
+use lib.ListN.{getD, replicate, length-append}
 use Rattle.texts.specs.Lists.{flat}
 use Rattle.texts.specs.Texts.{Text}
-use Rattle.reasons.specs.Lists.{insertAll, Holds}
+use Rattle.reasons.specs.Lists.{listed, insertAll, Holds}
+use Rattle.reasons.proofs.Listing.{grown}
+use Rattle.reasons.proofs.Cleaning.{zeros, holds-zeros}
 use Rattle.reasons.proofs.Sorting.{one-by-one}
 use Rattle.model.specs.Answer.{answer}
 use Rattle.model.specs.Model.{Limits, Model}
@@ -146,7 +148,8 @@ module _ {f : List ℕ} {p : Entire} {q a u : ℕ} (x : Setting f p q a u) where
             (unsupported-wait ∷ flat rule-pool (x .m .rules)),
       )
 
-  pub start-held : {o : Search} {w : List ℕ} → Begins f (p .ground .count) (p .ground .reasons) o w → Held x (start-of (x .m)) o w
+  pub start-held : {o : Search} {w : List ℕ} → Begins f (p .ground .count) (p .ground .reasons) (replicate 4000 0) o w →
+      Held x (start-of (x .m)) o w
   start-held {o} {w} b = record {
     fine = b .refused;
     cases = b .cases;
@@ -156,7 +159,8 @@ module _ {f : List ℕ} {p : Entire} {q a u : ℕ} (x : Setting f p q a u) where
         (ap (λ (l : List Text). insertAll l [])
         (notes-held f (x .index) (x .m) (x .is-accepted) (x .indexed) (x .bytes) (p .ground) (x .grounds) .texts)
         ∙ one-by-one (unsupported (x .m .rules)))
-        (b .reasons few-notes);
+        (grown f (insertAll (listed f (p .ground .count) (p .ground .reasons))) (b .reasons few-notes)
+        (notes-held f (x .index) (x .m) (x .is-accepted) (x .indexed) (x .bytes) (p .ground) (x .grounds) .clean) (holds-zeros f (zeros 4000)));
     within = widen x (unsupported (x .m .rules))
         (notes-among (x .m) (cells-of (x .m))
         (record { trace = []; final-state = []; unknown = []; incomplete = []; steps = 0; horizon = 0 }));

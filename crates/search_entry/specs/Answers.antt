@@ -8,7 +8,7 @@ use lib.ListN.{length, drop, replicate}
 use Rattle.areas.specs.Areas.{area}
 use Rattle.model.specs.Answer.{Answer, answer, refused}
 use Rattle.model.specs.Rewrite.{rewritten}
-use Rattle.reasons.specs.Lists.{Holds}
+use Rattle.reasons.specs.Lists.{Reported}
 use Rattle.engine.specs.Memory.{Lent, entries, lent-after}
 use Rattle.engine.specs.Records.{Trace}
 use Rattle.engine.specs.Words.{texts-in, words-in, entry-words}
@@ -48,8 +48,8 @@ WitnessSays f r (some w) = Witnesses f r w
 
 -- ---- the answer
 
--- The answer says what the definition's search says. Which of two reasons with the same rendering stands there is left free,
--- and so are the words behind the last reason.
+-- The answer says what the definition's search says; each reason can be read, and zeros stand behind the last. Which of two
+-- reasons with the same rendering stands there is left free.
 pub record Shows (f : List ℕ) (r : Verification) (v : verify.Verification) : Type 0 where
   pub status-is : r .status ≡ found-as (v .status)
   pub cases : r .cases ≡ v .cases
@@ -62,7 +62,7 @@ pub record Shows (f : List ℕ) (r : Verification) (v : verify.Verification) : T
   pub inputs : r .inputs ≡ area (input-words (texts-in f)) 36 (v .alphabet)
   pub gaps : r .gaps ≡ length (v .gaps)
   pub seconds : r .seconds ≡ area gap-words 4 (v .gaps)
-  pub reasons : Holds f (v .reasons) (r .reasons) (r .told)
+  pub reasons : Reported f (v .reasons) (r .reasons) (r .told)
   pub shortest : r .shortest ≡ v .shortest
   pub witness : WitnessSays f r (v .witness)
 

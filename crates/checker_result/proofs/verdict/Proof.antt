@@ -15,4 +15,4 @@ verdict-spec =
     (λ c κs. search needs)
     (λ c κs. (c .before .before .before .before .fitting .ensures .most, (search needs, (omega (arith, laws.merged-most _ _ _ _ (c .before .before .before .before .before .before .before .before .before .before .before .before .few .ensures .most) (c .before .before .before .before .before .before .before .before .before .merge .ensures)), omega (arith, c .before .before .before .before .before .add-waiting .ensures .most, c .before .before .before .before .before .before .before .add-stopped .ensures .most)))))
     (λ c κs. search needs)
-    (λ c. laws.judged-is _ (c .before .before .before .before .before .before .before .before .before .before .before .before .before .before .few .ensures) _ (c .before .before .before .before .before .before .before .before .before .before .before .merge .ensures) (c .before .before .before .before .before .before .before .before .before .add-stopped .ensures) (c .before .before .before .before .before .before .before .add-waiting .ensures) (c .before .before .before .before .before .before .fitting .ensures) (c .before .judge-all .ensures) (c .status-of .ensures)))
+    (λ c. laws.judged-is _ (c .before .before .before .before .before .before .before .before .before .before .before .before .before .before .few .ensures) (c .before .before .before .before .before .before .before .before .before .before .before .merge .ensures) (c .before .before .before .before .before .before .before .before .before .add-stopped .ensures) (c .before .before .before .before .before .before .before .add-waiting .ensures) (c .before .before .before .before .before .before .fitting .ensures) (c .before .judge-all .ensures) (c .status-of .ensures)))

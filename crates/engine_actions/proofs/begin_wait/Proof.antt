@@ -1,3 +1,5 @@
+use mathlib.Core.Path.{refl}
+use Rattle.engine_reads.proofs.Readable.{alone-readable}
 use native.Mathlib.Omega.{arith}
 use Rattle.engine_state.proofs.Laws.{none, one, two, same, wide}
 use Rattle.engine_state.proofs.Laws as states
@@ -34,7 +36,7 @@ begin-wait-spec =
     (λ c. search needs)
     (λ c κs. search needs)
     (λ c κs. search needs)
-    (λ c κs. search needs)
+    (λ c κs. (search needs, (search needs, λ t. alone-readable (c .before .by-itself .ensures) (record { known = omega arith; is = refl }))))
     (λ c κs. (omega (arith, c .before .before .before .before .before .before .before .before .before .before .before .before .before .before .before .pre, c .before .before .before .before .before .uncertain .ensures .runs), (omega (arith, c .before .before .before .before .before .before .before .before .before .before .before .before .before .before .before .pre, c .before .before .before .before .before .uncertain .ensures .queue), (omega (arith, c .before .before .before .before .before .before .before .before .before .before .before .before .before .before .before .pre, c .before .before .before .before .before .uncertain .ensures .records), omega (arith, c .before .before .before .before .before .before .before .before .before .before .before .before .before .before .before .pre, c .before .before .before .before .before .uncertain .ensures .runs)))))
     (λ c. search needs)
     (λ c. search needs)

@@ -1,3 +1,5 @@
+use native.Mathlib.Omega.{arith}
+use mathlib.Core.Path.{refl}
 use Rattle.engine_state.proofs.Laws.{same, wide}
 use Rattle.engine_steps.proofs.Laws as steps
 use Rattle.engine_actions.proofs.Laws as laws
@@ -33,9 +35,9 @@ choose-spec =
     (λ c. search needs)
     (λ c κs. search needs)
     (λ c. search needs)
-    (λ c κs. search needs)
+    (λ c κs. (record { known = omega arith; is = refl }, (search needs, search needs)))
     (λ c. search needs)
-    (λ c κs. search needs)
+    (λ c κs. (record { known = omega arith; is = refl }, (search needs, search needs)))
     (λ c. search needs)
     (λ c. search needs)
     (λ c. search needs)

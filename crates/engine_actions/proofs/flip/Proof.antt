@@ -1,3 +1,5 @@
+use mathlib.Core.Path.{refl}
+use Rattle.engine_reads.proofs.Readable.{about-readable}
 use native.Mathlib.Omega.{arith}
 use Rattle.engine_state.proofs.Laws.{none, one, two, same, wide}
 use Rattle.engine_state.proofs.Laws as states
@@ -31,7 +33,7 @@ flip-spec =
     (λ c κs. search needs)
     (λ c κs. search needs)
     (λ c κs. search needs)
-    (λ c κs. search needs)
+    (λ c κs. (search needs, (search needs, about-readable _ _ (c .before .about-rule .ensures) (record { known = omega arith; is = refl }))))
     (λ c κs. omega (arith, c .before .before .before .before .before .before .before .before .before .before .before .before .before .before .before .before .pre, c .before .before .before .uncertain .ensures .queue))
     (λ c. search needs)
     (λ c. search needs)

@@ -1,3 +1,4 @@
+use Rattle.engine_reads.proofs.Readable.{note-readable}
 use native.Mathlib.Omega.{arith}
 use Rattle.engine_state.proofs.Laws.{none, one, two, both}
 use Rattle.engine_state.proofs.Laws as states
@@ -20,7 +21,7 @@ give-up-spec =
     tie.close
     (tie.spec
     (λ c κs. search needs)
-    (λ c κs. search needs)
+    (λ c κs. (search needs, (search needs, note-readable _ (c .before .note-reason .ensures))))
     (λ c κs. omega (arith, c .before .before .before .before .before .before .before .before .before .before .before .pre, c .before .before .before .uncertain .ensures .records))
     (λ c κs. (omega (arith, c .before .before .before .before .before .before .before .before .before .before .before .before .before .before .before .before .before .pre, c .before .before .before .before .before .before .before .before .before .uncertain .ensures .runs, c .before .before .before .before .before .log-action .ensures .runs), (omega (arith, c .before .before .before .before .before .before .before .before .before .before .before .before .before .before .before .before .before .pre, c .before .before .before .before .before .before .before .before .before .uncertain .ensures .queue, c .before .before .before .before .before .log-action .ensures .queue), (omega (arith, c .before .before .before .before .before .log-action .ensures .records), omega (arith, c .before .before .before .before .before .before .before .before .before .before .before .before .before .before .before .before .before .pre, c .before .before .before .before .before .before .before .before .before .uncertain .ensures .runs, c .before .before .before .before .before .log-action .ensures .runs)))))
     (λ c. search needs)

@@ -1,3 +1,5 @@
+use native.Mathlib.Omega.{arith}
+use mathlib.Core.Path.{refl}
 use Rattle.engine_state.proofs.Laws.{same, wide}
 use Rattle.engine_steps.proofs.Laws as steps
 use Rattle.engine_actions.proofs.Laws as laws
@@ -34,7 +36,7 @@ tested-spec =
     (λ c. search needs)
     (λ c κs. search needs)
     (λ c. search needs)
-    (λ c κs. search needs)
+    (λ c κs. (record { known = omega arith; is = refl }, (search needs, search needs)))
     (λ c. search needs)
     returns
     (λ c. search needs)

@@ -1,3 +1,4 @@
+use Rattle.engine_reads.proofs.Readable.{about-readable}
 use native.Mathlib.Omega.{arith}
 use Rattle.engine_state.proofs.Laws.{one, two}
 use Rattle.engine_state.proofs.Laws as states
@@ -25,7 +26,7 @@ unclear-spec =
     (tie.spec
     (λ c κs. search needs)
     (λ c κs. search needs)
-    (λ c κs. search needs)
+    (λ c κs. (search needs, (search needs, about-readable _ _ (c .before .about-rule .ensures) (c .before .before .before .before .before .before .before .before .pre .0))))
     (λ c κs. (omega (arith, c .before .before .before .before .before .before .before .before .before .before .before .before .before .before .pre, c .before .before .before .before .before .uncertain .ensures .runs), (omega (arith, c .before .before .before .before .before .before .before .before .before .before .before .before .before .before .pre, c .before .before .before .before .before .uncertain .ensures .queue), (omega (arith, c .before .before .before .before .before .before .before .before .before .before .before .before .before .before .pre, c .before .before .before .before .before .uncertain .ensures .records), omega (arith, c .before .before .before .before .before .before .before .before .before .before .before .before .before .before .pre, c .before .before .before .before .before .uncertain .ensures .runs)))))
     (λ c. search needs)
     (λ c. search needs)

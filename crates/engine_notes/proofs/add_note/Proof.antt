@@ -8,4 +8,12 @@ use Rattle.engine_notes.proofs.note_of.Reads as note-of-reads
 use Rattle.engine_notes.proofs.put.Reads as put-reads
 
 pub add-note-spec : {M : Type 1} → statement M
-add-note-spec = tie.close (tie.spec (λ c. laws.add-none _ _ _ _ (c .if1 .taken)) (λ c κs. search needs) (λ c κs. search needs) (λ c. search needs) (λ c. laws.add-some _ _ _ _ (c .before .before .before .before .before .if1 .left) (c .before .before .before .before .note-of .ensures) (c .before .before .put .ensures)))
+add-note-spec = tie.close (tie.spec
+    (λ c. record { is = laws.add-none _ _ _ _ (c .if1 .taken); clean = λ t k. k })
+    (λ c κs. search needs)
+    (λ c κs. (search needs, laws.note-readable _ _ (c .before .note-of .ensures)))
+    (λ c. search needs)
+    (λ c. record {
+      is = laws.add-some _ _ _ _ (c .before .before .before .before .before .if1 .left) (c .before .before .before .before .note-of .ensures) (c .before .before .put .ensures .is);
+      clean = c .before .before .put .ensures .clean;
+    }))

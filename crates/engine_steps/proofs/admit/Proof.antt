@@ -1,4 +1,6 @@
-use mathlib.Core.Path.{_∙_}
+use mathlib.Core.Path.{refl, _∙_}
+use native.Mathlib.Omega.{arith}
+use Rattle.engine_reads.proofs.Readable.{about-readable}
 use Rattle.engine_state.proofs.Laws.{same, wide}
 use Rattle.engine_state.proofs.Laws as states
 use Rattle.engine_steps.proofs.Laws as laws
@@ -34,7 +36,7 @@ admit-spec =
     (λ c. search needs)
     (λ c. search needs)
     (λ c κs. search needs)
-    (λ c κs. search needs)
+    (λ c κs. (search needs, (search needs, about-readable _ _ (c .before .about-rule .ensures) (record { known = omega arith; is = refl }))))
     (λ c. states.moves (λ v n s. states.stay (λ k. laws.admit-not _ _ _ _ _ _ (c .before .before .rule-word .ensures) (c .before .two-at .ensures .0) (c .if1 .left) ∙ laws.admit-is _ _ _ _ _ _ (c .before .before .before .enum-told .given .1)) (same (c .before .before .before .before .before .before .before .before .before .before .pre .1 .0)) (same (c .before .before .before .before .before .before .before .before .before .before .pre .1 .1 .0)) (same (c .before .before .before .before .before .before .before .before .before .before .pre .1 .1 .1 .0)) (same (c .before .before .before .before .before .before .before .before .before .before .pre .1 .1 .1 .1 .0))))
     returns-3
     (λ c. search needs)

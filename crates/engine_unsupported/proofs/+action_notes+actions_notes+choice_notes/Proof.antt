@@ -4,7 +4,8 @@ use Rattle.engine_notes.proofs.Laws as notes
 use Rattle.engine_unsupported.proofs.Laws as laws
 use Prim.Native.Nat.{_+_, _-_}
 use lib.ListN.{length}
-use Rattle.reasons.specs.Lists.{listed}
+use Rattle.reasons.specs.Readable.{HasText}
+use Rattle.reasons.specs.Lists.{listed, Clean}
 use Rattle.engine_notes.specs.Listing.{_⨾_, timesL}
 use Rattle.engine_unsupported.specs.Listing.{actionL, actionsL, choiceL, branchL}
 use Prim.Native.Nat.{ℕ, _<_}
@@ -72,13 +73,13 @@ choice-notes-below t =
     choice-notes.Pre
 
 abbrev actions-notes-Inv-loop : actions-notes-lts.InvT-loop
-actions-notes-Inv-loop f u₀ left at n count start i₀ p₀ k₀ u i p k = (length u ≡ length u₀) × (actionsL left f at (listed f n u₀) ≡ timesL i (actionL (actionsL (left - 1))) f p (listed f k u))
+actions-notes-Inv-loop f u₀ left at n count start i₀ p₀ k₀ u i p k = ((length u ≡ length u₀) × (HasText f → Clean f n u₀ → Clean f k u)) × (actionsL left f at (listed f n u₀) ≡ timesL i (actionL (actionsL (left - 1))) f p (listed f k u))
 
 abbrev actions-notes-μ-loop : actions-notes-lts.MeasureT-loop
 actions-notes-μ-loop f u₀ left at n count start i₀ p₀ k₀ u i p k = i
 
 abbrev choice-notes-Inv-loop : choice-notes-lts.InvT-loop
-choice-notes-Inv-loop f u₀ left at n count start i₀ p₀ k₀ u i p k = (length u ≡ length u₀) × (choiceL (actionsL left) f at (listed f n u₀) ≡ (timesL i (branchL (actionsL left)) ⨾ actionsL left) f p (listed f k u))
+choice-notes-Inv-loop f u₀ left at n count start i₀ p₀ k₀ u i p k = ((length u ≡ length u₀) × (HasText f → Clean f n u₀ → Clean f k u)) × (choiceL (actionsL left) f at (listed f n u₀) ≡ (timesL i (branchL (actionsL left)) ⨾ actionsL left) f p (listed f k u))
 
 abbrev choice-notes-μ-loop : choice-notes-lts.MeasureT-loop
 choice-notes-μ-loop f u₀ left at n count start i₀ p₀ k₀ u i p k = i
@@ -98,10 +99,10 @@ pub +action-notes+actions-notes+choice-notes-spec : {M : Type 1} → statement M
     (λ c κs. search needs)
     (λ c κs. search needs)
     (λ c. search needs)
-    (λ c. (c .before .before .choice-notes .ensures) ∙ sym (laws.action-is _ _ _ _ _ (c .before .before .before .before .before .head-at .ensures) ∙ laws.effect-choice _ _ _ _ _ (c .before .before .before .before .if1 .taken)))
+    (λ c. record { is = c .before .before .choice-notes .ensures .is ∙ sym (laws.action-is _ _ _ _ _ (c .before .before .before .before .before .head-at .ensures) ∙ laws.effect-choice _ _ _ _ _ (c .before .before .before .before .if1 .taken)); clean = c .before .before .choice-notes .ensures .clean })
     (λ c κs. search needs)
     (λ c. search needs)
-    (λ c. (c .before .before .simple-note .ensures) ∙ sym (laws.action-is _ _ _ _ _ (c .before .before .before .before .before .head-at .ensures) ∙ laws.effect-simple _ _ _ _ _ (c .before .before .before .before .if1 .left))))
+    (λ c. record { is = c .before .before .simple-note .ensures .is ∙ sym (laws.action-is _ _ _ _ _ (c .before .before .before .before .before .head-at .ensures) ∙ laws.effect-simple _ _ _ _ _ (c .before .before .before .before .if1 .left)); clean = c .before .before .simple-note .ensures .clean }))
     (λ t. actions-notes-lts.spec (
       u16-at-reads.Asked,
       u16-at-reads.Learnt,
@@ -112,19 +113,19 @@ pub +action-notes+actions-notes+choice-notes-spec : {M : Type 1} → statement M
     actions-notes.Post
     actions-notes-Inv-loop
     actions-notes-μ-loop
-    (λ c. sym (laws.actions-none _ _ _ _ (c .if1 .taken)))
+    (λ c. record { is = sym (laws.actions-none _ _ _ _ (c .if1 .taken)); clean = λ t k. k })
     (λ c κs. search needs)
     (λ c. search needs)
     (λ c. search needs)
-    (λ c. sym (laws.actions-more _ _ _ _ (c .before .before .before .if1 .left) ∙ notes.by-broken _ _ _ _ _ (c .before .before .u16-at .ensures) (c .enum-told .given .1)))
-    (λ c. (refl, laws.actions-more _ _ _ _ (c .before .before .before .before .if1 .left) ∙ notes.by-is _ _ _ _ _ (c .before .before .before .u16-at .ensures) (c .before .x .given .1)))
+    (λ c. record { is = sym (laws.actions-more _ _ _ _ (c .before .before .before .if1 .left) ∙ notes.by-broken _ _ _ _ _ (c .before .before .u16-at .ensures) (c .enum-told .given .1)); clean = λ t k. k })
+    (λ c. ((refl, λ t k. k), laws.actions-more _ _ _ _ (c .before .before .before .before .if1 .left) ∙ notes.by-is _ _ _ _ _ (c .before .before .before .u16-at .ensures) (c .before .x .given .1)))
     (λ c. search needs)
     (λ c κs. search needs)
     (λ c. search needs)
     (λ c. search needs)
-    (λ c. (search needs, c .before .before .before .before .before .loop .inv .1 ∙ notes.times-more _ _ _ _ _ (c .before .before .before .before .loop-test .taken) ∙ notes.to _ _ _ _ _ _ _ (c .before .before .action-notes .ensures)))
+    (λ c. ((search needs, λ t k. c .before .before .action-notes .ensures .clean t (c .before .before .before .before .before .loop .inv .0 .1 t k)), c .before .before .before .before .before .loop .inv .1 ∙ notes.times-more _ _ _ _ _ (c .before .before .before .before .loop-test .taken) ∙ notes.to _ _ _ _ _ _ _ (c .before .before .action-notes .ensures .is)))
     (λ c. search needs)
-    (λ c. sym (c .before .loop .inv .1 ∙ notes.times-none _ _ _ _ _ (c .loop-test .left))))
+    (λ c. record { is = sym (c .before .loop .inv .1 ∙ notes.times-none _ _ _ _ _ (c .loop-test .left)); clean = c .before .loop .inv .0 .1 }))
     λ t. choice-notes-lts.spec (
       u16-at-reads.Asked,
       u16-at-reads.Learnt,
@@ -140,13 +141,16 @@ pub +action-notes+actions-notes+choice-notes-spec : {M : Type 1} → statement M
     (λ c κs. search needs)
     (λ c. search needs)
     (λ c. search needs)
-    (λ c. sym (notes.by-broken _ _ _ _ _ (c .before .before .u16-at .ensures) (c .enum-told .given .1)))
-    (λ c. (refl, notes.by-is _ _ _ _ _ (c .before .before .before .u16-at .ensures) (c .before .x .given .1)))
+    (λ c. record { is = sym (notes.by-broken _ _ _ _ _ (c .before .before .u16-at .ensures) (c .enum-told .given .1)); clean = λ t k. k })
+    (λ c. ((refl, λ t k. k), notes.by-is _ _ _ _ _ (c .before .before .before .u16-at .ensures) (c .before .x .given .1)))
     (λ c κs. search needs)
     (λ c κs. search needs)
     (λ c. search needs)
     (λ c. search needs)
-    (λ c. (search needs, c .before .before .before .before .before .before .before .before .before .loop .inv .1 ∙ laws.times-then _ _ _ _ _ _ (c .before .before .before .before .before .before .before .before .loop-test .taken) ∙ laws.assoc _ _ _ _ _ _ ∙ notes.to _ _ _ _ _ _ _ (c .before .before .before .before .before .before .part-notes .ensures) ∙ notes.to _ _ _ _ _ _ _ (c .before .before .actions-notes .ensures)))
+    (λ c. ((search needs, λ t k. c .before .before .actions-notes .ensures .clean t (c .before .before .before .before .before .before .part-notes .ensures .clean t (c .before .before .before .before .before .before .before .before .before .loop .inv .0 .1 t k))), c .before .before .before .before .before .before .before .before .before .loop .inv .1 ∙ laws.times-then _ _ _ _ _ _ (c .before .before .before .before .before .before .before .before .loop-test .taken) ∙ laws.assoc _ _ _ _ _ _ ∙ notes.to _ _ _ _ _ _ _ (c .before .before .before .before .before .before .part-notes .ensures .is) ∙ notes.to _ _ _ _ _ _ _ (c .before .before .actions-notes .ensures .is)))
     (λ c κs. search needs)
     (λ c. search needs)
-    (λ c. (c .before .before .actions-notes2 .ensures) ∙ sym (c .before .before .before .before .before .loop .inv .1 ∙ laws.none-then _ _ _ _ _ _ (c .before .before .before .before .loop-test .left)))
+    (λ c. record {
+      is = c .before .before .actions-notes2 .ensures .is ∙ sym (c .before .before .before .before .before .loop .inv .1 ∙ laws.none-then _ _ _ _ _ _ (c .before .before .before .before .loop-test .left));
+      clean = λ t k. c .before .before .actions-notes2 .ensures .clean t (c .before .before .before .before .before .loop .inv .0 .1 t k);
+    })

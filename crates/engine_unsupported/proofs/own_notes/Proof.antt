@@ -22,4 +22,7 @@ own-notes-spec =
     (λ c κs. search needs)
     (λ c κs. search needs)
     (λ c. search needs)
-    (λ c. laws.own-is _ _ _ _ (c .before .before .before .before .before .before .before .before .before .before .before .before .before .before .before .rule-word .ensures) (c .before .before .before .before .before .before .before .before .before .before .before .before .before .before .rule-word2 .ensures) (c .before .before .before .before .before .before .before .before .before .before .before .before .before .rule-word3 .ensures) (c .before .before .before .before .before .before .before .before .before .before .before .before .rule-word4 .ensures) (c .before .before .before .before .before .before .before .before .before .before .part-notes .ensures) (c .before .before .before .before .before .before .part-notes2 .ensures) (c .before .before .part-notes3 .ensures)))
+    (λ c. record {
+      is = laws.own-is _ _ _ _ (c .before .before .before .before .before .before .before .before .before .before .before .before .before .before .before .rule-word .ensures) (c .before .before .before .before .before .before .before .before .before .before .before .before .before .before .rule-word2 .ensures) (c .before .before .before .before .before .before .before .before .before .before .before .before .before .rule-word3 .ensures) (c .before .before .before .before .before .before .before .before .before .before .before .before .rule-word4 .ensures) (c .before .before .before .before .before .before .before .before .before .before .part-notes .ensures .is) (c .before .before .before .before .before .before .part-notes2 .ensures .is) (c .before .before .part-notes3 .ensures .is);
+      clean = λ t k. c .before .before .part-notes3 .ensures .clean t (c .before .before .before .before .before .before .part-notes2 .ensures .clean t (c .before .before .before .before .before .before .before .before .before .before .part-notes .ensures .clean t k));
+    }))

@@ -17,4 +17,7 @@ rule-notes-spec =
     (λ c κs. search needs)
     (λ c κs. search needs)
     (λ c. search needs)
-    (λ c. laws.rule-is _ _ _ _ (c .before .before .before .before .before .before .before .before .rule-word .ensures) (c .before .before .before .before .before .before .own-notes .ensures) (c .before .before .actions-notes .ensures)))
+    (λ c. record {
+      is = laws.rule-is _ _ _ _ (c .before .before .before .before .before .before .before .before .rule-word .ensures) (c .before .before .before .before .before .before .own-notes .ensures .is) (c .before .before .actions-notes .ensures .is);
+      clean = λ t k. c .before .before .actions-notes .ensures .clean t (c .before .before .before .before .before .before .own-notes .ensures .clean t k);
+    }))

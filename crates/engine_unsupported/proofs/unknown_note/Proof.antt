@@ -17,8 +17,11 @@ unknown-note-spec =
     (λ c κs. search needs)
     (λ c. search needs)
     (λ c. search needs)
-    (λ c. sym (laws.unknown-is _ _ _ _ _ ∙ notes.by-broken _ _ _ _ _ (c .before .before .u16-at .ensures) (c .enum-told .given .1)))
+    (λ c. record { is = sym (laws.unknown-is _ _ _ _ _ ∙ notes.by-broken _ _ _ _ _ (c .before .before .u16-at .ensures) (c .enum-told .given .1)); clean = λ t k. k })
     (λ c κs. search needs)
-    (λ c κs. search needs)
+    (λ c κs. (search needs, laws.source-readable _ _ _ (c .before .source-note .ensures)))
     (λ c. search needs)
-    (λ c. sym (laws.unknown-is _ _ _ _ _ ∙ notes.by-is _ _ _ _ _ (c .before .before .before .before .before .before .before .before .u16-at .ensures) (c .before .before .before .before .before .before .x .given .1) ∙ laws.source-put _ _ _ _ _ _ (c .before .before .before .before .source-note .ensures) (c .before .before .put .ensures))))
+    (λ c. record {
+      is = sym (laws.unknown-is _ _ _ _ _ ∙ notes.by-is _ _ _ _ _ (c .before .before .before .before .before .before .before .before .u16-at .ensures) (c .before .before .before .before .before .before .x .given .1) ∙ laws.source-put _ _ _ _ _ _ (c .before .before .before .before .source-note .ensures) (c .before .before .put .ensures .is));
+      clean = c .before .before .put .ensures .clean;
+    }))

@@ -3,8 +3,10 @@ use mathlib.Core.Path.{_≡_, refl, sym, _∙_}
 use Rattle.engine_unsupported.proofs.Laws as laws
 use lib.ListN.{length}
 use Prim.Native.Nat.{_-_, _≤_}
-use Rattle.reasons.specs.Lists.{listed}
+use Rattle.reasons.specs.Readable.{HasText}
+use Rattle.reasons.specs.Lists.{listed, Clean}
 use Rattle.reasons.proofs.Listing as listing
+use Rattle.reasons.proofs.Cleaning.{clean-zeros}
 use Rattle.engine_unsupported.specs.Listing.{unsupportedL, rulesL}
 use Rattle.engine_unsupported.proofs.unsupported.Statement.{statement}
 use Rattle.engine_unsupported.proofs.unsupported.Tie as tie
@@ -14,7 +16,7 @@ use Rattle.engine_reads.proofs.at_most.Reads as at-most-reads
 use Rattle.engine_unsupported.proofs.rule_notes.Reads as rule-notes-reads
 
 abbrev Inv-loop : tie.InvT-loop
-Inv-loop f x u₀ rules k₀ i₀ u k i = ((length u ≡ length u₀) × (rules ≤ 32)) × (unsupportedL f x ≡ rulesL f x (rules - i) i (listed f k u))
+Inv-loop f x u₀ rules k₀ i₀ u k i = ((length u ≡ length u₀) × ((rules ≤ 32) × (HasText f → Clean f k u))) × (unsupportedL f x ≡ rulesL f x (rules - i) i (listed f k u))
 
 abbrev μ-loop : tie.MeasureT-loop
 μ-loop f x u₀ rules k₀ i₀ u k i = rules - i
@@ -27,10 +29,13 @@ unsupported-spec =
     μ-loop
     (λ c. search needs)
     (λ c κs. search needs)
-    (λ c. ((refl, c .at-most .ensures .1), laws.rules-start _ _ _ _ (c .at-most .ensures .0)))
+    (λ c. ((refl, (c .at-most .ensures .1, λ t. clean-zeros _ (c .before .before .before .before .pre .1))), laws.rules-start _ _ _ _ (c .at-most .ensures .0)))
     (λ c κs. search needs)
     (λ c. search needs)
     (λ c. search needs)
-    (λ c. ((search needs, c .before .before .before .before .before .loop .inv .0 .1), c .before .before .before .before .before .loop .inv .1 ∙ laws.rules-more _ _ _ _ _ _ (c .before .before .before .before .loop-test .taken) (c .before .before .rule-notes .ensures)))
+    (λ c. ((search needs, (c .before .before .before .before .before .loop .inv .0 .1 .0, λ t. c .before .before .rule-notes .ensures .clean t (c .before .before .before .before .before .loop .inv .0 .1 .1 t))), c .before .before .before .before .before .loop .inv .1 ∙ laws.rules-more _ _ _ _ _ _ (c .before .before .before .before .loop-test .taken) (c .before .before .rule-notes .ensures .is)))
     (λ c. search needs)
-    (λ c. listing.holds _ _ _ _ (sym (c .before .loop .inv .1 ∙ laws.rules-end _ _ _ _ _ (c .loop-test .left)))))
+    (λ c.
+    let l = c .before .loop in
+    let e = sym (l .inv .1 ∙ laws.rules-end _ _ _ _ _ (c .loop-test .left)) in
+    record { many = listing.count-is _ _ _ e; texts = e; clean = l .inv .0 .1 .1 }))

@@ -27,4 +27,4 @@ rule-notes-spec =
     (λ c κs. search needs)
     (λ c κs. search needs)
     (λ c. search needs)
-    (λ c. λ k. laws.rule-is _ _ _ _ (c .before .before .before .before .before .before .before .before .before .before .before .before .before .before .before .source-at .ensures) (c .before .before .before .before .before .before .before .before .before .before .before .before .before .put-row .ensures) (laws.none-listed _ _) (c .before .before .before .before .before .before .before .before .before .before .rule-notes .ensures) (c .before .before .before .before .before .before .before .before .before .few .ensures) (c .before .before .before .before .before .before .before .before .number-at .ensures) (c .before .before .before .before .before .before .before .past .ensures) (c .before .before .before .before .before .before .number-at2 .ensures) (c .before .before .before .before .before .with .ensures) (c .before .before .note-findings .ensures k)))
+    (λ c. λ k. laws.rule-is _ _ _ _ (c .before .before .before .before .before .before .before .before .before .before .before .before .before .before .before .source-at .ensures) (c .before .before .before .before .before .before .before .before .before .before .before .before .before .put-row .ensures) (laws.none-listed _ _) (c .before .before .before .before .before .before .before .before .before .before .rule-notes .ensures .is) (c .before .before .before .before .before .before .before .before .before .few .ensures) (c .before .before .before .before .before .before .before .before .number-at .ensures) (c .before .before .before .before .before .before .before .past .ensures) (c .before .before .before .before .before .before .number-at2 .ensures) (c .before .before .before .before .before .with .ensures) (c .before .before .note-findings .ensures k)))

@@ -1,9 +1,12 @@
 use mathlib.Core.Path.{ap, _∙_}
-use Prim.Native.Nat.{_+_}
+use mathlib.Core.List.{List}
+use Prim.Native.Nat.{ℕ, _+_, _*_}
+use lib.ListN.{getD}
 use native.Mathlib.Omega.{arith}
 use borrow.Author.Needs.{needs}
-use Rattle.reasons.specs.Lists.{reasons}
+use Rattle.reasons.specs.Lists.{words-of, reasons}
 use Rattle.reasons.proofs.Entries as entries
+use Rattle.reasons.proofs.Cleaning as cleaning
 use Rattle.reasons.proofs.insert_at.Statement.{statement}
 use Rattle.reasons.proofs.insert_at.Tie as tie
 
@@ -16,4 +19,10 @@ insert-at-spec =
     (λ c. search needs)
     (λ c κs. search needs)
     (λ c. search needs)
-    (λ c. let a = c .before .before .before .before .before .before .args in ap (reasons (a .n + 1)) (c .before .before .put-in .ensures) ∙ entries.put-in (a .n) (a .k) (a .a .now) (a .r) (omega arith) (omega arith)))
+    (λ c.
+    let a = c .before .before .before .before .before .before .args in
+    let e = c .before .before .put-in .ensures in
+    record {
+      is = ap (reasons (a .n + 1)) e ∙ entries.put-in (a .n) (a .k) (a .a .now) (a .r) (omega arith) (omega arith);
+      rest = λ i h. ap (λ (l : List ℕ). getD l i 0) e ∙ cleaning.put-behind (a .a .now) (a .k * 5) (a .n * 5) (words-of (a .r)) (omega arith) (omega arith) i h;
+    }))

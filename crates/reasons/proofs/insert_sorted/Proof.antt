@@ -6,6 +6,7 @@ use mathlib.Core.Path.{_≡_, sym, _∙_}
 use native.Mathlib.Omega.{arith}
 use borrow.Author.Needs.{needs}
 use Rattle.reasons.proofs.Listing as listing
+use Rattle.reasons.proofs.Cleaning as cleaning
 use Rattle.reasons.proofs.insert_sorted.Statement.{statement}
 use Rattle.reasons.proofs.insert_sorted.Tie as tie
 
@@ -19,6 +20,21 @@ insert-sorted-spec =
     (λ c κs. let a = c .before .before .before .before .before .before .before .before .args in let k = c .before .before .s .given .0 .0 in let e : c .before .before .before .before .find-spot .result ≡ At k = cc in let g = rw e at (c .before .before .before .before .find-spot .ensures) in (omega (arith, listing.length-listed (a .f .now) (a .n) (a .a .now), g .0), omega (arith, listing.room-insert (render (a .f .now) (a .r)) (listed (a .f .now) (a .n) (a .a .now)) k (g .1), listing.length-listed (a .f .now) (a .n) (a .a .now))))
     (λ c. let a = c .before .before .before .before .before .before .before .before .before .before .before .args in let k = c .before .before .before .before .before .s .given .0 .0 in let e : c .before .before .before .before .before .before .before .find-spot .result ≡ At k = cc in let g = rw e at (c .before .before .before .before .before .before .before .find-spot .ensures) in omega (arith, listing.room-insert (render (a .f .now) (a .r)) (listed (a .f .now) (a .n) (a .a .now)) k (g .1), listing.length-listed (a .f .now) (a .n) (a .a .now)))
     (λ c. search needs)
-    (λ c. let a = c .before .before .before .before .before .before .args in let e : c .before .before .find-spot .result ≡ There = cc in listing.holds (a .f .now) (a .n) (a .a .now) _ (sym (rw e at (c .before .before .find-spot .ensures))))
+    (λ c.
+    let a = c .before .before .before .before .before .before .args in
+    let e : c .before .before .find-spot .result ≡ There = cc in
+    listing.grows-none (a .f .now) (sym (rw e at (c .before .before .find-spot .ensures))))
     (λ c. search needs)
-    (λ c. let a = c .before .before .before .before .before .before .before .before .before .before .before .args in let k = c .before .before .before .before .before .s .given .0 .0 in let e : c .before .before .before .before .before .before .before .find-spot .result ≡ At k = cc in let g = rw e at (c .before .before .before .before .before .before .before .find-spot .ensures) in listing.holds (a .f .now) (a .n + 1) (c .before .before .insert-at .last .0) _ (listing.inserted (a .f .now) (a .n) (a .a .now) (c .before .before .insert-at .last .0) (a .r) k (c .before .before .insert-at .ensures) ∙ sym (g .1))))
+    (λ c.
+    let a = c .before .before .before .before .before .before .before .before .before .before .before .args in
+    let k = c .before .before .before .before .before .s .given .0 .0 in
+    let e : c .before .before .before .before .before .before .before .find-spot .result ≡ At k = cc in
+    let g = rw e at (c .before .before .before .before .before .before .before .find-spot .ensures) in
+    let o = c .before .before .insert-at .ensures in
+    let b = c .before .before .insert-at .last .0 in
+    let t = listing.inserted (a .f .now) (a .n) (a .a .now) b (a .r) k (o .is) ∙ sym (g .1) in
+    record {
+      many = listing.count-is (a .f .now) (a .n + 1) b t;
+      texts = t;
+      clean = λ h y. cleaning.clean-in (a .f .now) (a .n) k (a .a .now) o h y;
+    }))

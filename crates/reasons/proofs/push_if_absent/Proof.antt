@@ -6,6 +6,7 @@ use native.Mathlib.Omega.{arith}
 use borrow.Author.Needs.{needs}
 use Rattle.reasons.proofs.Entries as entries
 use Rattle.reasons.proofs.Listing as listing
+use Rattle.reasons.proofs.Cleaning as cleaning
 use Rattle.reasons.proofs.push_if_absent.Statement.{statement}
 use Rattle.reasons.proofs.push_if_absent.Tie as tie
 
@@ -15,8 +16,21 @@ push-if-absent-spec =
     (tie.spec
     (λ c κs. let a = c .before .before .before .args in omega (arith, listing.length-push (render (a .f .now) (a .r)) (listed (a .f .now) (a .n) (a .a .now)), listing.length-listed (a .f .now) (a .n) (a .a .now)))
     (λ c. search needs)
-    (λ c. let a = c .before .before .before .before .before .args in listing.holds (a .f .now) (a .n) (a .a .now) _ (sym (listing.push-there _ _ (sym (c .if1 .taken) ∙ c .before .contains .ensures))))
+    (λ c.
+    let a = c .before .before .before .before .before .args in
+    listing.grows-none (a .f .now) (sym (listing.push-there _ _ (sym (c .if1 .taken) ∙ c .before .contains .ensures))))
     (λ c κs. let a = c .before .before .before .before .before .before .args in omega (arith, listing.room-push (render (a .f .now) (a .r)) (listed (a .f .now) (a .n) (a .a .now)) (sym (c .before .if1 .left) ∙ c .before .before .contains .ensures), listing.length-listed (a .f .now) (a .n) (a .a .now)))
     (λ c. let a = c .before .before .before .before .before .before .before .before .before .args in omega (arith, listing.room-push (render (a .f .now) (a .r)) (listed (a .f .now) (a .n) (a .a .now)) (sym (c .before .before .before .before .if1 .left) ∙ c .before .before .before .before .before .contains .ensures), listing.length-listed (a .f .now) (a .n) (a .a .now)))
     (λ c. search needs)
-    (λ c. let a = c .before .before .before .before .before .before .before .before .before .args in let q = listing.push-new (render (a .f .now) (a .r)) (listed (a .f .now) (a .n) (a .a .now)) (sym (c .before .before .before .before .if1 .left) ∙ c .before .before .before .before .before .contains .ensures) in let l = listing.length-listed (a .f .now) (a .n) (a .a .now) in let m = listing.room-push (render (a .f .now) (a .r)) (listed (a .f .now) (a .n) (a .a .now)) (sym (c .before .before .before .before .if1 .left) ∙ c .before .before .before .before .before .contains .ensures) in listing.holds (a .f .now) (a .n + 1) (c .before .before .insert-at .last .0) _ (listing.pushed (a .f .now) (a .n) (a .a .now) (c .before .before .insert-at .last .0) (a .r) (c .before .before .insert-at .ensures ∙ entries.at-end (a .n) (a .a .now) (a .r)) ∙ sym q)))
+    (λ c.
+    let a = c .before .before .before .before .before .before .before .before .before .args in
+    let q = listing.push-new (render (a .f .now) (a .r)) (listed (a .f .now) (a .n) (a .a .now))
+    (sym (c .before .before .before .before .if1 .left) ∙ c .before .before .before .before .before .contains .ensures) in
+    let b = c .before .before .insert-at .last .0 in
+    let o = c .before .before .insert-at .ensures in
+    let t = listing.pushed (a .f .now) (a .n) (a .a .now) b (a .r) (o .is ∙ entries.at-end (a .n) (a .a .now) (a .r)) ∙ sym q in
+    record {
+      many = listing.count-is (a .f .now) (a .n + 1) b t;
+      texts = t;
+      clean = λ h g. cleaning.clean-in (a .f .now) (a .n) (a .n) (a .a .now) o h g;
+    }))

@@ -1,0 +1,13 @@
+use borrow.Author.Needs.{needs}
+use Rattle.reasons.proofs.Cleaning.{zeros}
+use Rattle.engine_entry.proofs.prepared.Statement.{statement}
+use Rattle.engine_entry.proofs.prepared.Tie as tie
+
+pub prepared-spec : {M : Type 1} → statement M
+prepared-spec =
+    tie.close
+    (tie.spec
+    (λ c κs. search needs)
+    (λ c κs. search needs)
+    (λ c κs. (search needs, zeros 1500))
+    (λ c. search needs))
