@@ -33,7 +33,7 @@
 /* A reason is five numbers: kind, first, second, line, column. `first` and `second` are positions of texts in the file, or
  * FUKHTSEGE_ABSENT: the byte at a position is the text's length, and as many bytes behind it are the text. The reason reads:
  * first text, words of the kind, second text; FUKHTSEGE_SOURCE_NOTE has LINE:COLUMN in front. A text that the kind doesn't
- * have is absent, and line and column are 0 but for FUKHTSEGE_SOURCE_NOTE. */
+ * have is absent, and line and column are 0 but for FUKHTSEGE_SOURCE_NOTE. Zeros stand behind a list's last reason. */
 #define FUKHTSEGE_REASON_NUMBERS 5
 #define FUKHTSEGE_ABSENT 4294967295u
 /* The kinds: the texts that each has, and its words. */
