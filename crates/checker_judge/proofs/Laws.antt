@@ -10,7 +10,7 @@ use borrow.Author.Tests.{eqb-false}
 use lib.ListN.{length, getD, set, drop, drop-of-length-le}
 use lib.Seq.{drop-cons}
 use Rattle.texts.specs.Lists.{if_then_else_}
-use Rattle.records.specs.Records.{recorded, Got}
+use Rattle.records.specs.Records.{recorded, GotChange, Got}
 use Rattle.records.specs.declared.Rule.the-variants.{NoRule}
 use Rattle.records.specs.declared.Where.the-variants.{Nowhere}
 use Rattle.records.specs.declared.Change.{Change}
@@ -48,14 +48,14 @@ pub agree : (vs ws present after : List ℕ) (e v : ℕ) → vs ≡ ws → prese
 agree vs ws present after e v alike put put-too = put-too ∙ ap (λ (us : List ℕ). setJ us e v) alike ∙ sym put
 
 module _ (f x : List ℕ) (at : ℕ) (named : List Bool) (is-named : named ≡ named-in f at) (vs : List ℕ) (m : Memory) (a : List ℕ)
-    (k : ℕ) (r : Record) (got : Got a k r) where
+    (k : ℕ) where
   -- the record is read
-  pub turns : (present after : List ℕ) (e v : ℕ) (s : Shown) → after ≡ present → after ≡ setJ vs e v
+  pub turns : (r : Record) → Got a k r → (present after : List ℕ) (e v : ℕ) (s : Shown) → after ≡ present → after ≡ setJ vs e v
       → e ≡ entityJ x (r .change) → v ≡ valueJ (r .change) → s ≡ readJ f x at vs present r m →
       Turned f x at named vs m a k
       (record { failure = s .failure; index = k; second = r .second; source = r .source; memory = s .memory }) after
   unfolding turnJ
-  turns present after e v s alike put he hv hs = record {
+  turns r got present after e v s alike put he hv hs = record {
     is = λ c l d w fresh h o.
         let values : afterJ x (r .change) c .values ≡ setJ (c .values) e v = after-values x (r .change) c ∙ rw (he, hv) refl in
         let agree : Agree x named (afterJ x (r .change) c .values) after =
@@ -73,19 +73,22 @@ module _ (f x : List ℕ) (at : ℕ) (named : List Bool) (is-named : named ≡ n
   }
 
   -- the record is passed over
-  pub turns-over : overN named m (r .change) k ≡ true → Turned f x at named vs m a k (unfailedJ m) vs
+  pub turns-over : (change : Change) → GotChange a k change → overN named m change k ≡ true
+      → Turned f x at named vs m a k (unfailedJ m) vs
   unfolding turnJ overN failedJ
-  turns-over over = record {
+  turns-over change got over = record {
     is = λ c l d w fresh h o.
-        let parts = over-parts (eqb k 0) (pendingN (m .wait)) (touchesN named (r .change)) over in
+        let r = getD l k d in
+        let parts = over-parts (eqb k 0) (pendingN (m .wait)) (touchesN named change) over in
+        let quiet : touchesN named (r .change) ≡ false = rw (got .is l d h o) at (parts .1 .1) in
         let again : Fresh f x at vs m = fresh (positive k (eqb-false k 0 (parts .0))) in
-        let agree = agree-over x named c vs (r .change) (parts .1 .1) w in
+        let agree = agree-over x named c vs (r .change) quiet w in
         let read : readJ f x at (c .values) (afterJ x (r .change) c .values) r m ≡ nothing-new m =
-        read-unchanged f x at (c .values) (afterJ x (r .change) c .values) r m (rw is-named at (parts .1 .1))
-        ∙ read-same f x at (c .values) vs (afterJ x (r .change) c .values) vs (unchanged r) m
-        (rw is-named at w) (rw is-named at agree)
-        ∙ again .still (parts .1 .0) (unchanged r) refl in
-        rw (← (got .is l d h o), read) (record {
+            read-unchanged f x at (c .values) (afterJ x (r .change) c .values) r m (rw is-named at quiet)
+            ∙ read-same f x at (c .values) vs (afterJ x (r .change) c .values) vs (unchanged r) m
+            (rw is-named at w) (rw is-named at agree)
+            ∙ again .still (parts .1 .0) (unchanged r) refl in
+        rw read (record {
           memory = refl;
           failed = refl;
           told = λ y. absurd (false≢true y);

@@ -346,11 +346,11 @@ fn next_turn(
     ensures same { λ _. ⌜ now (before .exit) ≡ now (present .exit) ⌝ }
     ensures turned { λ r. ⌜ Turned (now (f .entry)) (now (x .entry)) at (now (named .entry)) (now (before .entry)) m (now (a .entry)) k r (now (before .exit)) ⌝ }
 {
-    let r = records::get_record(a, k);
-    let change = r.change;
-    if passes_over(named, m, change, k) {
+    if passes_over(named, m, records::change_at(a, k), k) {
         return unfailed(m);
     }
+    let r = records::get_record(a, k);
+    let change = r.change;
     let source = r.source;
     let e = entity_in(x, change);
     let value = value_in(change);

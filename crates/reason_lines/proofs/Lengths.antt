@@ -12,9 +12,11 @@ use Rattle.texts.specs.Texts.{Text, text, decimal}
 use Rattle.texts.specs.Places.{textAt, startFrom, textsFrom}
 use Rattle.texts.proofs.Laws as texts
 use Rattle.texts.proofs.Ordering.{lt-or-ge}
+use Rattle.reasons.specs.Kinds.{source-note}
 use Rattle.reasons.specs.declared.Reason.{Reason}
 use Rattle.reasons.specs.Reasons.{words-file, words, placed, body, render}
 use Rattle.reasons.proofs.Digits as digits
+use Rattle.reasons.proofs.Forms.{starts, start-is}
 use Rattle.engine.specs.Reasons.{space-spent, steps-spent, runs-left, all-reasons}
 use Rattle.show.specs.Lines.{newline, quoted}
 use Rattle.show.specs.Lines as lines
@@ -73,8 +75,9 @@ unfolding textAt
 within f at = simp (length-take, length-drop) (omega arith)
 
 words-short : (k : ℕ) → length (words k) ≤ 411
-unfolding words
-words-short k = let e : length words-file ≡ 411 = refl in omega (arith, within words-file k)
+unfolding words-file flat
+words-short k =
+    let e : length words-file ≡ 411 = refl in omega (arith, within words-file (getD starts k 0), ap length (start-is k))
 
 -- ---- over a file f of bytes
 
@@ -116,7 +119,7 @@ module _ (f : List ℕ) (bytes : (i : ℕ) → getD f i 0 < 256) (x : List ℕ) 
 module _ (f : List ℕ) (bytes : (i : ℕ) → getD f i 0 < 256) where
   rendered-short : (r : Reason) → length (render f r) ≤ 1000
   unfolding render placed
-  rendered-short r = go (eqb (r .kind) 4)
+  rendered-short r = go (eqb (r .kind) source-note)
     where
       go : (b : Bool) → length (if b then (decimal (r .line) ++ (58 ∷ decimal (r .column))) ++ body f r else body f r) ≤ 1000
       go true =
