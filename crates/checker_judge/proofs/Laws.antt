@@ -84,10 +84,10 @@ module _ (f x : List ℕ) (at : ℕ) (named : List Bool) (is-named : named ≡ n
         let again : Fresh f x at vs m = fresh (positive k (eqb-false k 0 (parts .0))) in
         let agree = agree-over x named c vs (r .change) quiet w in
         let read : readJ f x at (c .values) (afterJ x (r .change) c .values) r m ≡ nothing-new m =
-            read-unchanged f x at (c .values) (afterJ x (r .change) c .values) r m (rw is-named at quiet)
-            ∙ read-same f x at (c .values) vs (afterJ x (r .change) c .values) vs (unchanged r) m
-            (rw is-named at w) (rw is-named at agree)
-            ∙ again .still (parts .1 .0) (unchanged r) refl in
+        read-unchanged f x at (c .values) (afterJ x (r .change) c .values) r m (rw is-named at quiet)
+        ∙ read-same f x at (c .values) vs (afterJ x (r .change) c .values) vs (unchanged r) m
+        (rw is-named at w) (rw is-named at agree)
+        ∙ again .still (parts .1 .0) (unchanged r) refl in
         rw read (record {
           memory = refl;
           failed = refl;

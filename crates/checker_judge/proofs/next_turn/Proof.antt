@@ -6,18 +6,20 @@ use Rattle.checker_judge.proofs.next_turn.Tie as tie
 
 returns : tie.Need-returns
 returns c =
-    let entry = c .before .before .before .before .before .before .pre .1 in
-    (entry .0,
-    rw (c .unfailed .ensures)
-    (laws.turns-over _ _ _ _ (entry .1) _ _ _ _ _ (c .before .before .before .change-at .ensures) (sym (c .before .before .passes-over .ensures) ∙ c .before .if1 .taken)))
+    let entry = c .before .before .before .before .before .before .pre .1 in (
+      entry .0,
+      rw (c .unfailed .ensures)
+          (laws.turns-over _ _ _ _ (entry .1) _ _ _ _ _ (c .before .before .before .change-at .ensures) (sym (c .before .before .passes-over .ensures) ∙ c .before .if1 .taken)),
+    )
 
 returns-2 : tie.Need-returns-2
 returns-2 c =
     let entry = c .before .before .before .before .before .before .before .before .before .before .before .before .before .before .before .before .pre .1 in
-    let same = laws.agree _ _ _ _ _ _ (entry .0) (c .before .before .before .before .before .before .put .ensures) (c .before .put2 .ensures) in
-    (same,
-    laws.turns _ _ _ _ (entry .1) _ _ _ _ _ (c .before .before .before .before .before .before .before .before .before .before .get-record .ensures) _ _ _ _ _ same (c .before .put2 .ensures) (c .before .before .before .before .before .before .before .before .before .entity-in .ensures)
-    (c .before .before .before .before .before .before .before .before .value-in .ensures) (c .before .before .before .read .ensures))
+    let same = laws.agree _ _ _ _ _ _ (entry .0) (c .before .before .before .before .before .before .put .ensures) (c .before .put2 .ensures) in (
+      same,
+      laws.turns _ _ _ _ (entry .1) _ _ _ _ _ (c .before .before .before .before .before .before .before .before .before .before .get-record .ensures) _ _ _ _ _ same (c .before .put2 .ensures) (c .before .before .before .before .before .before .before .before .before .entity-in .ensures)
+          (c .before .before .before .before .before .before .before .before .value-in .ensures) (c .before .before .before .read .ensures),
+    )
 
 pub next-turn-spec : {M : Type 1} → statement M
 next-turn-spec =
