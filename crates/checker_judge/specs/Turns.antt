@@ -1,5 +1,4 @@
--- One record's turn in the code: it keeps values of the named entities only, and passes over a record that can show nothing
--- new. What the definition's turn shows, it shows too.
+-- One record's turn in the code: it keeps the values of the named entities only, and shows what the definition's turn shows.
 use Prim.Native.Nat.{ℕ, _<_}
 use mathlib.Core.Path.{_≡_}
 use mathlib.Core.Bool.{Bool, true, false}
@@ -16,7 +15,7 @@ use Rattle.checker_response.specs.declared.Shown.{Shown}
 use Rattle.checker_response.specs.Response.{failedJ}
 use Rattle.checker_judge.specs.declared.Reading.{Reading}
 use Rattle.checker_judge.specs.Judging.{readJ, Turn, turnJ}
-use Rattle.checker_judge.specs.Names.{hasN, pendingN}
+use Rattle.checker_judge.specs.Names.{hasN, named-in, pendingN}
 
 -- the same values for each entity whose cell says yes
 pub record Agree (x : List ℕ) (named : List Bool) (vs ws : List ℕ) : Type 0 where
@@ -31,16 +30,14 @@ nothing-new m = record { failure = NoFailure; memory = m }
 pub record Fresh (f x : List ℕ) (at : ℕ) (vs : List ℕ) (m : Memory) : Type 0 where
   pub still : pendingN (m .wait) ≡ false → (r : Record) → r .change ≡ NoChange → readJ f x at vs vs r m ≡ nothing-new m
 
--- the reading r and the values after it follow the definition's turn t
-pub record Follows (f x : List ℕ) (at : ℕ) (named : List Bool) (t : Turn) (r : Reading) (after : List ℕ) : Type 0 where
-  pub memory : r .memory ≡ t .reading .memory
-  pub failed : failedJ (r .failure) ≡ failedJ (t .reading .failure)
-  pub told : failedJ (r .failure) ≡ true → r ≡ t .reading
-  pub agree : Agree x named (t .cells .values) after
+-- the reading r is that of the definition's turn t, and the values after it agree with the turn's
+pub record Follows (f x : List ℕ) (at : ℕ) (t : Turn) (r : Reading) (after : List ℕ) : Type 0 where
+  pub reading : r ≡ t .reading
+  pub agree : Agree x (named-in f at) (t .cells .values) after
   pub fresh : failedJ (r .failure) ≡ false → Fresh f x at after (r .memory)
 
 -- the record at k, whatever records the area a holds, from any cells that agree with the values vs
-pub record Turned (f x : List ℕ) (at : ℕ) (named : List Bool) (vs : List ℕ) (m : Memory) (a : List ℕ) (k : ℕ) (r : Reading)
-    (after : List ℕ) : Type 0 where
-  pub is : (c : Cells) (l : List Record) (d : Record) → Agree x named (c .values) vs → (0 < k → Fresh f x at vs m)
-      → k < length l → a ≡ recorded (length a) l → Follows f x at named (turnJ f x at c m k (getD l k d)) r after
+pub record Turned (f x : List ℕ) (at : ℕ) (vs : List ℕ) (m : Memory) (a : List ℕ) (k : ℕ) (r : Reading) (after : List ℕ)
+    : Type 0 where
+  pub is : (c : Cells) (l : List Record) (d : Record) → Agree x (named-in f at) (c .values) vs
+      → k < length l → a ≡ recorded (length a) l → Follows f x at (turnJ f x at c m k (getD l k d)) r after

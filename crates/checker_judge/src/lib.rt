@@ -31,7 +31,7 @@ ghost use lib.ListN.{length};
 ghost use Rattle.engine_truth.specs.Truths.{sizeT};
 ghost use Rattle.engine_state.specs.Machine.{later};
 ghost use Rattle.checker_judge.specs.Judging.{nothingJ, unsureJ, entityJ, valueJ, setJ, neverJ, writesJ, aboutJ, guardedJ, guardJ, passesJ, transitionJ, seenJ, readJ, unfailedJ, Judges};
-ghost use Rattle.checker_judge.specs.Names.{withN, predicateN, listN, namesN, named-in, touchesN, pendingN, overN};
+ghost use Rattle.checker_judge.specs.Names.{withN, predicateN, listN, namesN, touchesN, pendingN, Quiet, Skips};
 ghost use Rattle.checker_judge.specs.Turns.{Turned};
 
 // The failing record: its index, its second, its source; without a failure these are 0 and none.
@@ -315,18 +315,33 @@ fn pending(wait: Wait) -> bool
     }
 }
 
-// Whether nothing new is to be read at the record at k.
-fn passes_over(named: &[bool; 64], m: Memory, change: Change, k: usize) -> bool
-    ensures { λ r. ⌜ r ≡ overN (now (named .entry)) m change k ⌝ }
+// Whether there is a record at k, of n, and it writes no named entity.
+fn is_quiet(named: &[bool; 64], a: &[u32], n: usize, k: usize) -> bool
+    requires { ⌜ n * 13 ≤ length (now a) ⌝ }
+    ensures { λ r. ⌜ Quiet (now (named .entry)) (now (a .entry)) n k r ⌝ }
+{
+    if n <= k {
+        return false;
+    }
+    !touches(named, records::change_at(a, k))
+}
+
+// The next record to be read, from k on: those before it can show nothing new.
+fn next_to_read(named: &[bool; 64], wait: Wait, a: &[u32], n: usize, k: usize) -> usize
+    requires { ⌜ n * 13 ≤ length (now a) ⌝ }
+    ensures { λ r. ⌜ Skips (now (named .entry)) wait (now (a .entry)) n k r ⌝ }
 {
     if k == 0 {
-        return false;
+        return 0;
     }
-    let wait = m.wait;
     if pending(wait) {
-        return false;
+        return k;
     }
-    !touches(named, change)
+    let mut j = k;
+    while is_quiet(named, a, n, j) {
+        j += 1;
+    }
+    j
 }
 
 // The record at k. Both arrays hold the values before it, and then the values after it; of entities that aren't named they
@@ -335,20 +350,16 @@ fn next_turn(
     f: &[u8],
     x: &[u32; 436],
     at: u32,
-    named: &[bool; 64],
     before: &mut [u32; 32],
     present: &mut [u32; 32],
     m: Memory,
     a: &[u32],
     k: usize,
 ) -> Reading
-    requires { ⌜ (k * 13 + 13 ≤ length (now a)) × ((now before ≡ now present) × (now named ≡ named-in (now f) at)) ⌝ }
+    requires { ⌜ (k * 13 + 13 ≤ length (now a)) × (now before ≡ now present) ⌝ }
     ensures same { λ _. ⌜ now (before .exit) ≡ now (present .exit) ⌝ }
-    ensures turned { λ r. ⌜ Turned (now (f .entry)) (now (x .entry)) at (now (named .entry)) (now (before .entry)) m (now (a .entry)) k r (now (before .exit)) ⌝ }
+    ensures turned { λ r. ⌜ Turned (now (f .entry)) (now (x .entry)) at (now (before .entry)) m (now (a .entry)) k r (now (before .exit)) ⌝ }
 {
-    if passes_over(named, m, records::change_at(a, k), k) {
-        return unfailed(m);
-    }
     let r = records::get_record(a, k);
     let change = r.change;
     let source = r.source;
@@ -406,10 +417,12 @@ pub fn judge(f: &[u8], x: &[u32; 436], at: usize, cells: Cells, a: &[u32], n: us
     let mut m = nothing_yet();
     let mut k: usize = 0;
     let reading = loop {
+        let wait = m.wait;
+        k = next_to_read(&named, wait, a, n, k);
         if n <= k {
             break unfailed(m);
         }
-        let shown = next_turn(f, x, p, &named, &mut before, &mut present, m, a, k);
+        let shown = next_turn(f, x, p, &mut before, &mut present, m, a, k);
         let failure = shown.failure;
         if failed(failure) {
             break shown;

@@ -12,6 +12,7 @@ use Rattle.model.specs.Model.{Source}
 use Rattle.model.specs.Validate.{accepted}
 use Rattle.reasons.specs.declared.Reason.{Reason}
 use Rattle.reasons.specs.Reasons.{render}
+use Rattle.reasons.specs.Readable.{Readable}
 use Rattle.reasons.specs.Lists.{words-of}
 use Rattle.model.specs.Rewrite.{place-of}
 use Rattle.lint.specs.Findings.{Problem, unreachable-conditions, trigger-condition-mismatch, delayed-write, unreachable-branch, high-fanout, trigger-cycle, freshness-assumption, missing-safety-guard, opposing-writes, unsupported-note, Finding, Interaction}
@@ -89,10 +90,10 @@ module _ (names ids : List Text) where
   unfoldable pub interaction-words : Interaction → List ℕ
   interaction-words i = place-of (i .from) ids ∷ place-of (i .to) ids ∷ place-of (i .entity) names ∷ []
 
--- The last five words: those of a reason that is rendered as the note; no other finding has one.
+-- The last five words: those of a reason that can be read and is rendered as the note; no other finding has one.
 -- Which of two reasons with the same rendering stands there is left free.
 pub data Reasoned (file : List ℕ) : Problem → List ℕ → Type 0 where
-  noted : (r : Reason) → Reasoned file (unsupported-note (render file r)) (words-of r)
+  noted : (r : Reason) → Readable file r → Reasoned file (unsupported-note (render file r)) (words-of r)
   plain : {p : Problem} → ltb (code-number p) 9 ≡ true → Reasoned file p (0 ∷ 0 ∷ 0 ∷ 0 ∷ 0 ∷ [])
 
 -- a finding's 14 words

@@ -16,6 +16,7 @@ use Rattle.model.specs.Answer.{Answer, answer, refused, _>>=_}
 use Rattle.model.specs.Model.{Automation, Model}
 use Rattle.model.specs.File.{texts}
 use Rattle.model.specs.Validate.{accepted}
+use Rattle.model_walk.proofs.Found.{place-found}
 use Rattle.model_order.proofs.Places.{text-at}
 use Rattle.model_index.specs.declared.Index.{Index}
 use Rattle.model_index.specs.declared.File.{File}
@@ -25,6 +26,7 @@ use Rattle.model_index.specs.Indexed.{Says as ReadSays}
 use Rattle.model_validate.proofs.Agrees.{accept-read, accept-refused}
 use Rattle.model_validate.proofs.Refusals.{Refuses, Refusal, refusal-numbers}
 use Rattle.areas.specs.Areas.{area}
+use Rattle.reasons.specs.Readable.{text-count, HasText}
 use Rattle.areas.proofs.Laws as areas
 use Rattle.engine.proofs.Lists.{Each}
 use Rattle.engine.specs.Words.{texts-in}
@@ -69,7 +71,7 @@ unfolding each
 each-self [] = refl
 each-self (x ∷ l) = ap (λ (y : List ℕ). x ∷ y) (each-self l)
 
-module _ (s : List ℕ) (i : Index) (m : Model) (acc : accepted s ≡ answer m) (o : Indexed s i m) where
+module _ (s : List ℕ) (i : Index) (bytes : (k : ℕ) → getD s k 0 < 256) (m : Model) (acc : accepted s ≡ answer m) (o : Indexed s i m) where
   abbrev d : Rattle.lint_tests.specs.declared.Names.Names
   d = namesOf s i
 
@@ -84,6 +86,13 @@ module _ (s : List ℕ) (i : Index) (m : Model) (acc : accepted s ≡ answer m) 
 
   few-texts : length (o .ts) ≤ 65535
   few-texts = omega (arith, texts-few s (o .ts) (o .all-texts .0) (o .all-texts .1), accepted-few s m acc .0)
+
+  texts-are-counted : text-count s ≡ length (o .ts)
+  texts-are-counted = texts-counted s (o .ts) (o .all-texts .0) (o .all-texts .1)
+
+  -- the title is one of the texts
+  has-text : HasText s
+  has-text = record { bytes = bytes; some = omega (arith, texts-are-counted, place-found (o .ts) (o .title .1) .is-in) }
 
   -- ---- the definition's answer
 
@@ -112,8 +121,8 @@ module _ (s : List ℕ) (i : Index) (m : Model) (acc : accepted s ≡ answer m) 
     start = board (replicate (length F) 0) (replicate (length I) 0) (record { findings = 0; interactions = 0; refusal = 0 })
 
     module _ (li : Lints s (namesOf s i) (i .rules) start l c) (nt : AllNotes s (i .rules) (i .rules .count) 0 c e) where
-      noted : Noted st (accepted-few s m acc .0) few-texts (texts-counted s (o .ts) (o .all-texts .0) (o .all-texts .1)) (text-at s (o .all-texts .1)) (accepted-few s m acc .1) (m .rules) c e
-      noted = all-noted st (accepted-few s m acc .0) few-texts (texts-counted s (o .ts) (o .all-texts .0) (o .all-texts .1)) (text-at s (o .all-texts .1)) (accepted-few s m acc .1) nt
+      noted : Noted st (accepted-few s m acc .0) few-texts texts-are-counted (text-at s (o .all-texts .1)) (accepted-few s m acc .1) has-text (m .rules) c e
+      noted = all-noted st (accepted-few s m acc .0) few-texts texts-are-counted (text-at s (o .all-texts .1)) (accepted-few s m acc .1) has-text nt
 
       abbrev first : List Item
       first = rulesItems s d rs ++ opposingItems s d rs ++ cyclesItems s (d .entities) rs (l .found)
@@ -307,13 +316,13 @@ turned-down s k e F I r t = record {
 
 -- ---- as the code has it
 
-module _ (s : List ℕ) (i : Index) (F I : List ℕ) (l : Linted) (f k : List ℕ) (h : Inserts s i F I l (board f k (l .out))) (m : Model) (acc : accepted s ≡ answer m) (o : Indexed s i m) where
+module _ (s : List ℕ) (i : Index) (bytes : (k : ℕ) → getD s k 0 < 256) (F I : List ℕ) (l : Linted) (f k : List ℕ) (h : Inserts s i F I l (board f k (l .out))) (m : Model) (acc : accepted s ≡ answer m) (o : Indexed s i m) where
   after-long : Long (board (replicate (length F) 0) (replicate (length I) 0) (record { findings = 0; interactions = 0; refusal = 0 })) (board f k (l .out))
-  after-long = long s i m acc o F I (h .first) (h .between) (board f k (l .out)) (h .entries) (h .notes)
+  after-long = long s i bytes m acc o F I (h .first) (h .between) (board f k (l .out)) (h .entries) (h .notes)
 
   pub complete : (l .out .refusal ≡ 0) → (r : Report) → Tells s i (l .out) (l .found) r → Answers s r (lent F I) (lent f k)
   complete z r t =
-      finished s i m acc o F I (h .first) (h .between) (board f k (l .out)) (h .entries) (h .notes) z r
+      finished s i bytes m acc o F I (h .first) (h .between) (board f k (l .out)) (h .entries) (h .notes) z r
       (subst (λ (c : Components). Tells s i (l .out) c r) (h .found) t)
 
   pub too-many : (l .out .refusal ≡ 0 → ⊥) → (r : Report) → r ≡ no-lint (l .out .refusal) → (x y : List ℕ) → (x ≡ replicate (length f) 0) × (y ≡ replicate (length k) 0) → Answers s r (lent F I) (lent x y)
@@ -321,7 +330,7 @@ module _ (s : List ℕ) (i : Index) (F I : List ℕ) (l : Linted) (f k : List �
   too-many z r t x y w =
       let a = after-long .findings ∙ length-replicate {A = ℕ} (length F) 0 in
       let b = after-long .interactions ∙ length-replicate {A = ℕ} (length I) 0 in
-      stopped s i m acc o F I (h .first) (h .between) (board f k (l .out)) (h .entries) (h .notes) z r t (lent x y)
+      stopped s i bytes m acc o F I (h .first) (h .between) (board f k (l .out)) (h .entries) (h .notes) z r t (lent x y)
       (ap (λ (v : List ℕ). lent v y) (w .0 ∙ ap (λ (n : ℕ). replicate n 0) a) ∙ ap (lent (replicate (length F) 0)) (w .1 ∙ ap (λ (n : ℕ). replicate n 0) b))
 
 pub accepted-bounds : (s : List ℕ) (x : File) → ReadSays s x (accepted s) → x .status ≡ status.Read → Bounds (x .index)

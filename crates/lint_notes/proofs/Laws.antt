@@ -7,7 +7,9 @@ use lib.Bits.{bitOr}
 use lib.ListN.{getD, set, replicate}
 use Rattle.model_parts.specs.declared.Section.{Section}
 use Rattle.texts.specs.Texts.{Text}
-use Rattle.reasons.specs.Lists.{listed, reasons}
+use Rattle.reasons.specs.Readable.{HasText}
+use Rattle.reasons.specs.Lists.{listed, reasons, Clean}
+use Rattle.reasons.proofs.Cleaning.{zeros, clean-zeros}
 use Rattle.engine_reads.specs.Reads.{cap}
 use Rattle.engine_unsupported.specs.Listing.{ruleL}
 use Rattle.lint_walk.specs.Raw.{placeZ, numberZ, past, triggersZ, conditionsZ, actionsZ, predicatesEnd}
@@ -40,15 +42,18 @@ row-is s p q z₁ z₂ z₃ z₄ z₅ z₆ z₇ z₈ z₉ = record {
   notes = z₉ ∙ ap cap z₈;
 }
 
--- no reason yet
-pub none-listed : (f a : List ℕ) → listed f 0 a ≡ []
+-- no reason yet, in an area of zeros
+pub none-listed : (f : List ℕ) (n : ℕ) → listed f 0 (replicate n 0) ≡ []
 unfolding reasons
-none-listed f a = refl
+none-listed f n = refl
+
+pub none-clean : (f : List ℕ) (n : ℕ) → Clean f 0 (replicate n 0)
+none-clean f n = clean-zeros f (zeros n)
 
 pub rule-is : (s : List ℕ) (i : ℕ) {at w : ℕ} {row : List ℕ} (u : List ℕ) {n k line q column x : ℕ} (b : Board) {c : Board} {l : List Text} →
-    w ≡ walkW s at .next → RowOf s at w row → l ≡ [] → listed s n u ≡ ruleL s row 0 l → Few n k →
+    w ≡ walkW s at .next → RowOf s at w row → l ≡ [] → listed s n u ≡ ruleL s row 0 l → (HasText s → Clean s n u) → Few n k →
     line ≡ numberZ s w → q ≡ past s w 4 → column ≡ numberZ s q → x ≡ bitOr 0 (2 ^ i) → c ≡ pushes (noteItems x line column u k) b → NotesAt s at i b c
-rule-is s i {at} {w} {row} u {n} {k} {line} {q} {column} {x} b e₀ f₀ z g h l m o p j rules y =
+rule-is s i {at} {w} {row} u {n} {k} {line} {q} {column} {x} b e₀ f₀ z g v h l m o p j rules y =
     let e : w ≡ walkW s (getD (rules .starts) i 0) .next = e₀ ∙ ap (λ (a : ℕ). walkW s a .next) y in
     record {
       row = row;
@@ -57,6 +62,7 @@ rule-is s i {at} {w} {row} u {n} {k} {line} {q} {column} {x} b e₀ f₀ z g h l
       count = k;
       is-row = subst (λ (a : ℕ). RowOf s a (walkW s (getD (rules .starts) i 0) .next) row) y (subst (λ (v : ℕ). RowOf s at v row) e f₀);
       are-reasons = g ∙ ap (ruleL s row 0) z;
+      clean = v;
       counts = h;
       inserted = j
           ∙ ap (λ (y : ℕ). pushes (noteItems y line column u k) b) p

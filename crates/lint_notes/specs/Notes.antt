@@ -5,7 +5,8 @@ use mathlib.Core.List.{List, [], _∷_}
 use lib.Bits.{bitOr}
 use lib.ListN.{getD}
 use Rattle.model_parts.specs.declared.Section.{Section}
-use Rattle.reasons.specs.Lists.{listed}
+use Rattle.reasons.specs.Readable.{HasText}
+use Rattle.reasons.specs.Lists.{listed, Clean}
 use Rattle.engine_reads.specs.Reads.{cap, word}
 use Rattle.engine_unsupported.specs.Listing.{ruleL}
 use Rattle.lint_walk.specs.Raw.{placeZ, numberZ, past, triggersZ, conditionsZ, actionsZ}
@@ -42,6 +43,7 @@ pub record RuleNotes (s : List ℕ) (rules : Section) (i : ℕ) (b c : Board) : 
   pub count : ℕ
   pub is-row : RowOf s (getD (rules .starts) i 0) (walkW s (getD (rules .starts) i 0) .next) row
   pub are-reasons : listed s many reasons ≡ ruleL s row 0 []
+  pub clean : HasText s → Clean s many reasons
   pub counts : Few many count
   pub inserted : c ≡ pushes (noteItems (bitOr 0 (2 ^ i)) (numberZ s (walkW s (getD (rules .starts) i 0) .next)) (numberZ s (past s (walkW s (getD (rules .starts) i 0) .next) 4)) reasons count) b
 

@@ -80,13 +80,12 @@ fn note_findings(
     out
 }
 
-// The notes of the i-th automation, which stands at a position; the row and the reasons are lent.
+// The notes of the i-th automation, which stands at a position; the row is lent.
 fn rule_notes(
     s: &[u8],
     at: usize,
     i: usize,
     words: &mut [u32; 436],
-    reasons: &mut [u32; 1500],
     findings: &mut [u32],
     o: Out,
 ) -> Out
@@ -95,14 +94,15 @@ fn rule_notes(
 {
     let source = lint_walk::source_at(s, at);
     put_row(s, at, source, words);
-    let count = few(engine_unsupported::rule_notes(s, words, reasons, 0, 0));
+    let mut reasons = [0u32; 1500];
+    let count = few(engine_unsupported::rule_notes(s, words, &mut reasons, 0, 0));
     let line = lint_walk::number_at(s, source);
     let column = lint_walk::number_at(s, lint_walk::past(s, source, 4));
     note_findings(
         lint_reach::with(0, i),
         line,
         column,
-        reasons,
+        &reasons,
         count,
         findings,
         o,
@@ -116,12 +116,11 @@ pub fn notes(s: &[u8], rules: Section, findings: &mut [u32], o: Out) -> Out
 {
     let count = rules.count as usize;
     let mut words = [0u32; 436];
-    let mut reasons = [0u32; 1500];
     let mut out = o;
     let mut i: usize = 0;
     while i < count {
         let at = rules.starts[i];
-        out = rule_notes(s, at, i, &mut words, &mut reasons, findings, out);
+        out = rule_notes(s, at, i, &mut words, findings, out);
         i += 1;
     }
     out

@@ -57,7 +57,7 @@ module _ (file : List ℕ) (names ids : List Text) where
   sources-long (a ∷ b ∷ l) = refl
 
   reasoned-long : {p : Problem} {w : List ℕ} → Reasoned file p w → length w ≡ 5
-  reasoned-long (noted r) = refl
+  reasoned-long (noted r h) = refl
   reasoned-long (plain h) = refl
 
   words-long : {f : Finding} {w : List ℕ} → Worded file names ids f w → length w ≡ 14

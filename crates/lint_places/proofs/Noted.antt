@@ -17,7 +17,7 @@ use Rattle.model_walk.proofs.Found.{bound, u16-wide, source-wide, counted-found
 use Rattle.model_walk.proofs.Laws.{bind-got}
 use Rattle.model_parts.specs.declared.Section.{Section}
 use Rattle.reasons.specs.Reasons.{render}
-use Rattle.reasons.specs.Readable.{text-count}
+use Rattle.reasons.specs.Readable.{text-count, AllReadable, HasText}
 use Rattle.reasons.specs.Lists.{words-of, reason-of, reasons, listed}
 use Rattle.engine.specs.Unsupported.{unsupported, rule-reasons}
 use Rattle.engine.proofs.Lists.{sorted-many}
@@ -57,7 +57,8 @@ reasons-long zero u = refl
 reasons-long (suc n) u = ap suc (reasons-long n (drop 5 u))
 
 module _ {s : List ℕ} {d : Names} {rs : Section} {ts : List Text} {m : Model} (st : Stage s d rs ts m) (size : length s ≤ 32768) (few-texts : length ts ≤ 65535)
-    (counted-as : text-count s ≡ length ts) (text-at : (k : ℕ) → k < length ts → textAt s (startFrom s 6 k) ≡ getD ts k []) (few-notes : length (notes-of m) ≤ 64) where
+    (counted-as : text-count s ≡ length ts) (text-at : (k : ℕ) → k < length ts → textAt s (startFrom s 6 k) ≡ getD ts k []) (few-notes : length (notes-of m) ≤ 64)
+    (has-text : HasText s) where
   -- ---- the row
 
   near : {p k q : ℕ} → u16 s p ≡ got k q → cap p ≡ p
@@ -140,14 +141,14 @@ module _ {s : List ℕ} {d : Names} {rs : Section} {ts : List Text} {m : Model} 
         rw (tier-five, getD-drop (5 * k) u 0 0, getD-drop (5 * k) u 1 0, getD-drop (5 * k) u 2 0, getD-drop (5 * k) u 3 0, getD-drop (5 * k) u 4 0, z)
         (rw (set-is, walked-at st i h .source-at .line, walked-at st i h .source-at .column))
 
-    notes-from : (u : List ℕ) (n k : ℕ) → Agrees st (each (unsupported-entry r) (map (render s) (reasons n (drop (5 * k) u)))) (itemsN (λ j. Item.finding (noteZ own-set line column u j) ∷ []) n k)
+    notes-from : (u : List ℕ) (n k : ℕ) → AllReadable s (reasons n (drop (5 * k) u)) → Agrees st (each (unsupported-entry r) (map (render s) (reasons n (drop (5 * k) u)))) (itemsN (λ j. Item.finding (noteZ own-set line column u j) ∷ []) n k)
     unfolding reasons each itemsN unsupported-entry
-    notes-from u zero k = neither
-    notes-from u (suc n) k =
+    notes-from u zero k h = neither
+    notes-from u (suc n) k h =
         let z : 5 * k + 5 ≡ 5 * (k + 1) = omega arith in
         let y : drop 5 (drop (5 * k) u) ≡ drop (5 * (k + 1)) u = drop-drop 5 (5 * k) u ∙ ap (λ (j : ℕ). drop j u) z in
-        both (as-finding (record { reason = words-of (reason-of (drop (5 * k) u)); is = note-words u k; reasoned = noted (reason-of (drop (5 * k) u)) }))
-        (subst (λ (a : List ℕ). Agrees st (each (unsupported-entry r) (map (render s) (reasons n a))) (itemsN (λ j. Item.finding (noteZ own-set line column u j) ∷ []) n (k + 1))) (sym y) (notes-from u n (k + 1)))
+        both (as-finding (record { reason = words-of (reason-of (drop (5 * k) u)); is = note-words u k; reasoned = noted (reason-of (drop (5 * k) u)) (h .0) }))
+        (subst (λ (a : List ℕ). Agrees st (each (unsupported-entry r) (map (render s) (reasons n a))) (itemsN (λ j. Item.finding (noteZ own-set line column u j) ∷ []) n (k + 1))) (sym y) (notes-from u n (k + 1) (subst (λ (a : List ℕ). AllReadable s (reasons n a)) y (h .1))))
 
     module _ {b c : Board} (f : RuleNotes s rs i b c) where
       are-notes : listed s (f .many) (f .reasons) ≡ unsupported (r ∷ [])
@@ -170,7 +171,7 @@ module _ {s : List ℕ} {d : Names} {rs : Section} {ts : List Text} {m : Model} 
       unfolding note-items unsupported-entries noteItems
       note-agrees =
           subst (λ (n : ℕ). Agrees st (each (unsupported-entry r) (unsupported (r ∷ []))) (itemsN (λ j. Item.finding (noteZ own-set line column (f .reasons) j) ∷ []) n 0)) (sym count-is)
-          (subst (λ (l : List Text). Agrees st (each (unsupported-entry r) l) (itemsN (λ j. Item.finding (noteZ own-set line column (f .reasons) j) ∷ []) (f .many) 0)) are-notes (notes-from (f .reasons) (f .many) 0))
+          (subst (λ (l : List Text). Agrees st (each (unsupported-entry r) l) (itemsN (λ j. Item.finding (noteZ own-set line column (f .reasons) j) ∷ []) (f .many) 0)) are-notes (notes-from (f .reasons) (f .many) 0 (f .clean has-text .readable)))
 
   -- ---- all automations
 

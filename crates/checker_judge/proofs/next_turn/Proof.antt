@@ -1,4 +1,3 @@
-use mathlib.Core.Path.{_≡_, sym, _∙_}
 use Rattle.checker_judge.proofs.Laws as laws
 use borrow.Author.Needs.{needs}
 use Rattle.checker_judge.proofs.next_turn.Statement.{statement}
@@ -6,18 +5,9 @@ use Rattle.checker_judge.proofs.next_turn.Tie as tie
 
 returns : tie.Need-returns
 returns c =
-    let entry = c .before .before .before .before .before .before .pre .1 in (
-      entry .0,
-      rw (c .unfailed .ensures)
-          (laws.turns-over _ _ _ _ (entry .1) _ _ _ _ _ (c .before .before .before .change-at .ensures) (sym (c .before .before .passes-over .ensures) ∙ c .before .if1 .taken)),
-    )
-
-returns-2 : tie.Need-returns-2
-returns-2 c =
-    let entry = c .before .before .before .before .before .before .before .before .before .before .before .before .before .before .before .before .pre .1 in
-    let same = laws.agree _ _ _ _ _ _ (entry .0) (c .before .before .before .before .before .before .put .ensures) (c .before .put2 .ensures) in (
+    let same = laws.agree _ _ _ _ _ _ (c .before .before .before .before .before .before .before .before .before .before .before .before .before .pre .1) (c .before .before .before .before .before .before .put .ensures) (c .before .put2 .ensures) in (
       same,
-      laws.turns _ _ _ _ (entry .1) _ _ _ _ _ (c .before .before .before .before .before .before .before .before .before .before .get-record .ensures) _ _ _ _ _ same (c .before .put2 .ensures) (c .before .before .before .before .before .before .before .before .before .entity-in .ensures)
+      laws.turns _ _ _ _ _ _ _ _ (c .before .before .before .before .before .before .before .before .before .before .get-record .ensures) _ _ _ _ _ same (c .before .put2 .ensures) (c .before .before .before .before .before .before .before .before .before .entity-in .ensures)
           (c .before .before .before .before .before .before .before .before .value-in .ensures) (c .before .before .before .read .ensures),
     )
 
@@ -28,11 +18,7 @@ next-turn-spec =
     (λ c κs. search needs)
     (λ c κs. search needs)
     (λ c κs. search needs)
-    returns
     (λ c κs. search needs)
     (λ c κs. search needs)
     (λ c κs. search needs)
-    (λ c κs. search needs)
-    (λ c κs. search needs)
-    (λ c κs. search needs)
-    returns-2)
+    returns)

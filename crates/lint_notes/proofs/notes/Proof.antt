@@ -8,15 +8,23 @@ use Rattle.lint_notes.specs.Notes.{AllNotes}
 use Rattle.lint_notes.proofs.Laws as laws
 use Rattle.lint_notes.proofs.notes.Statement.{statement}
 use Rattle.lint_notes.proofs.notes.Tie as tie
-use Rattle.lint_notes.proofs.notes.Reads as reads
-use Rattle.lint_notes.proofs.notes.Lts as lts
-use Rattle.lint_notes.proofs.rule_notes.Reads as rule-notes-reads
 
 abbrev Inv-loop : tie.InvT-loop
-Inv-loop s findings₀ rules count words₀ reasons₀ out₀ i₀ findings words reasons out i = ((k : List ℕ) (e : Board) → AllNotes s rules (count - i) i (board findings k out) e → AllNotes s rules (rules .count) 0 (board findings₀ k out₀) e) × (length findings ≡ length findings₀)
+Inv-loop s findings₀ rules count words₀ out₀ i₀ findings words out i =
+    ((k : List ℕ) (e : Board) → AllNotes s rules (count - i) i (board findings k out) e
+    → AllNotes s rules (rules .count) 0 (board findings₀ k out₀) e) × (length findings ≡ length findings₀)
 
 abbrev μ-loop : tie.MeasureT-loop
-μ-loop s findings₀ rules count words₀ reasons₀ out₀ i₀ findings words reasons out i = count - i
+μ-loop s findings₀ rules count words₀ out₀ i₀ findings words out i = count - i
+
+loop-again : tie.Need-loop-again Inv-loop μ-loop
+loop-again c = (
+  (λ k e h. c .before .before .before .before .before .before .before .loop .inv .0 k e (laws.one-less _ _ _ _ (c .before .before .before .before .before .before .loop-test .taken) (c .before .before .rule-notes .ensures k _ refl) h)),
+  search needs,
+)
+
+returns : tie.Need-returns Inv-loop μ-loop
+returns c = λ k. c .before .loop .inv .0 k _ (laws.none-left _ _ _ _ (c .loop-test .left))
 
 pub notes-spec : {M : Type 1} → statement M
 notes-spec =
@@ -31,6 +39,6 @@ notes-spec =
     (λ c κs. search needs)
     (λ c. search needs)
     (λ c. search needs)
-    (λ c. ((λ k e h. c .before .before .before .before .before .before .before .before .loop .inv .0 k e (laws.one-less _ _ _ _ (c .before .before .before .before .before .before .before .loop-test .taken) (c .before .before .rule-notes .ensures k _ refl) h)), search needs))
+    loop-again
     (λ c. search needs)
-    (λ c. λ k. c .before .loop .inv .0 k _ (laws.none-left _ _ _ _ (c .loop-test .left))))
+    returns)
