@@ -26,7 +26,22 @@ use Rattle.checker_response.specs.declared.Wait.{Wait}
 use Rattle.checker_response.specs.declared.Shown.{Shown}
 use Rattle.checker_judge.specs.declared.Reading.{Reading}
 use Rattle.checker_response.specs.Response.{failedJ}
-use Rattle.checker_judge.specs.Judging.{nothingJ, putJ, afterJ, entityJ, valueJ, setJ, readJ, Turn, turnedJ, turnJ, unfailedJ, readingJ, judgeJ, Judges}
+use Rattle.checker_judge.specs.Judging.{
+  nothingJ,
+  putJ,
+  afterJ,
+  entityJ,
+  valueJ,
+  setJ,
+  readJ,
+  Turn,
+  turnedJ,
+  turnJ,
+  unfailedJ,
+  readingJ,
+  judgeJ,
+  Judges,
+}
 use Rattle.checker_judge.specs.Names.{named-in, touchesN, pendingN, Untouched, Quiet, AllQuiet, Skips}
 use Rattle.checker_judge.specs.Turns.{Agree, nothing-new, Fresh, Follows, Turned}
 use Rattle.checker_judge.proofs.Named.{agree-over, agree-set}
@@ -46,19 +61,21 @@ after-values x (Write e b v) c = cases (ltb (entityOf x e) 32)
     cases false = refl
 
 -- two lists of values with the same change
-pub agree : (vs ws present after : List ℕ) (e v : ℕ) → vs ≡ ws → present ≡ setJ ws e v → after ≡ setJ vs e v → after ≡ present
+pub agree : (vs ws present after : List ℕ) (e v : ℕ) → vs ≡ ws → present ≡ setJ ws e v → after ≡ setJ vs e v
+    → after ≡ present
 agree vs ws present after e v alike put put-too = put-too ∙ ap (λ (us : List ℕ). setJ us e v) alike ∙ sym put
 
 module _ (f x : List ℕ) (at : ℕ) (vs : List ℕ) (m : Memory) where
   -- a record that is read
-  pub turns : (a : List ℕ) (k : ℕ) (r : Record) → Got a k r → (present after : List ℕ) (e v : ℕ) (s : Shown) → after ≡ present
-      → after ≡ setJ vs e v → e ≡ entityJ x (r .change) → v ≡ valueJ (r .change) → s ≡ readJ f x at vs present r m →
+  pub turns : (a : List ℕ) (k : ℕ) (r : Record) → Got a k r → (present after : List ℕ) (e v : ℕ) (s : Shown)
+      → after ≡ present → after ≡ setJ vs e v → e ≡ entityJ x (r .change) → v ≡ valueJ (r .change) → s ≡ readJ f x at vs present r m →
       Turned f x at vs m a k
       (record { failure = s .failure; index = k; second = r .second; source = r .source; memory = s .memory }) after
   unfolding turnJ
   turns a k r got present after e v s alike put he hv hs = record {
     is = λ c l d w h o.
-        let values : afterJ x (r .change) c .values ≡ setJ (c .values) e v = after-values x (r .change) c ∙ rw (he, hv) refl in
+        let values : afterJ x (r .change) c .values ≡ setJ (c .values) e v =
+        after-values x (r .change) c ∙ rw (he, hv) refl in
         let agree : Agree x (named-in f at) (afterJ x (r .change) c .values) after =
         rw (values, put) (agree-set x (named-in f at) (c .values) vs e v w) in
         let read : readJ f x at (c .values) (afterJ x (r .change) c .values) r m ≡ s =
@@ -128,8 +145,8 @@ module _ (f x : List ℕ) (at : ℕ) (us a : List ℕ) (n p : ℕ) where
 
   module _ (vs : List ℕ) (m : Memory) where
     -- a record is passed over
-    passes : (k : ℕ) → From f x at us a n p vs m k → k < n → 0 < k → pendingN (m .wait) ≡ false → Untouched (named-in f p) a k
-        → From f x at us a n p vs m (k + 1)
+    passes : (k : ℕ) → From f x at us a n p vs m k → k < n → 0 < k → pendingN (m .wait) ≡ false
+        → Untouched (named-in f p) a k → From f x at us a n p vs m (k + 1)
     passes k inv h z idle quiet cells w l g o =
         let rest = inv cells w l g o in
         let r = getD l k no-record in
@@ -157,10 +174,10 @@ module _ (f x : List ℕ) (at : ℕ) (us a : List ℕ) (n p : ℕ) where
         by (suc d) h =
             let some : k < r = omega arith in
             let z : k + d + 1 ≡ k + suc d = omega arith in
+            let untouched = s .quiet .untouched (k + d) (omega arith) (omega arith) in
             subst (From f x at us a n p vs m) z
             (passes (k + d) (by d (omega arith)) (omega (arith, s .quiet .among some)) (omega (arith, s .later-ones some))
-            (s .idle some)
-            (subst (λ (b : List Bool). Untouched b a (k + d)) is-named (s .quiet .untouched (k + d) (omega arith) (omega arith))))
+            (s .idle some) (subst (λ (b : List Bool). Untouched b a (k + d)) is-named untouched))
 
     module _ (k : ℕ) (inv : From f x at us a n p vs m k) where
       pub ends : (cells : Cells) → cells .values ≡ us → (r : Reading) → n ≤ k → r ≡ unfailedJ m → Judges f x at cells a n r
@@ -174,7 +191,8 @@ module _ (f x : List ℕ) (at : ℕ) (us a : List ℕ) (n p : ℕ) where
         tests : b ≡ failedJ (r .failure)
         tests = test ∙ ap failedJ told
 
-        module _ (cells : Cells) (w : cells .values ≡ us) (l : List Record) (g : length l ≡ n) (o : a ≡ recorded (length a) l) where
+        module _ (cells : Cells) (w : cells .values ≡ us) (l : List Record) (g : length l ≡ n)
+            (o : a ≡ recorded (length a) l) where
           rest : Rest f x at cells l p vs m k
           rest = inv cells w l g o
 
@@ -208,7 +226,8 @@ module _ (f x : List ℕ) (at : ℕ) (us a : List ℕ) (n p : ℕ) where
               is =
                   rest cells w l g o .is
                   ∙ rw (split l g k h, failed cells w l g o ∙ y, readingJ)
-                  (ap (λ (u : Reading). readingJ f x p (t .cells) (u .memory) (k + 1) (drop (k + 1) l)) (sym (now .reading)));
+                  (ap (λ (u : Reading). readingJ f x p (t .cells) (u .memory) (k + 1) (drop (k + 1) l))
+                  (sym (now .reading)));
             }
 
 -- ---- the next record to be read
@@ -243,8 +262,8 @@ module _ (named : List Bool) (a : List ℕ) (n k : ℕ) where
   }
 
 -- a record's answer
-pub quiet-is : (named : List Bool) (a : List ℕ) (n k : ℕ) (change : Change) → k < n → GotChange a k change → {touched yes : Bool}
-    → touched ≡ touchesN named change → yes ≡ not touched → Quiet named a n k yes
+pub quiet-is : (named : List Bool) (a : List ℕ) (n k : ℕ) (change : Change) → k < n → GotChange a k change
+    → {touched yes : Bool} → touched ≡ touchesN named change → yes ≡ not touched → Quiet named a n k yes
 quiet-is named a n k change h got {touched} {yes} e g = record {
   among = λ _. h;
   untouched = λ y. record {

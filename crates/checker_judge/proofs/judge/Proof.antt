@@ -15,20 +15,37 @@ abbrev μ-loop : tie.MeasureT-loop
 μ-loop f x at a n p named before₀ present₀ m₀ k₀ before present m k = n - k
 
 loop-holds : tie.Need-loop-holds Inv-loop μ-loop
-loop-holds c = (laws.starts _ _ _ _ _ _ _ _ (c .before .before .before .before .before .capped .ensures) (c .nothing-yet .ensures), (refl, c .before .before .before .name-all .ensures))
+loop-holds c =
+    let named = c .before .before .before in (
+      laws.starts _ _ _ _ _ _ _ _ (named .before .before .capped .ensures) (c .nothing-yet .ensures),
+      (refl, named .name-all .ensures),
+    )
 
 next-turn-requires : tie.Need-next-turn-requires Inv-loop μ-loop
-next-turn-requires c κs = (omega (arith, c .before .before .if1 .left, c .before .before .before .before .before .before .before .before .before .before .before .before .before .before .pre), c .before .before .before .before .before .loop .inv .1 .0)
+next-turn-requires c κs =
+    let start = c .before .before .before .before .before in
+    let entry = start .before .before .before .before .before .before .before .before .before in
+    (omega (arith, c .before .before .if1 .left, entry .pre), start .loop .inv .1 .0)
+
+add-k : tie.Need-add-k Inv-loop μ-loop
+add-k c =
+    let here = c .before .before .before .before .before .before in
+    let start = here .before .before .before in
+    omega (arith, here .if1 .left, start .before .before .before .before .before .before .before .before .before .fits)
 
 loop-less : tie.Need-loop-less Inv-loop μ-loop
-loop-less c = omega (arith, c .before .before .before .before .before .before .if1 .left, c .before .before .before .before .before .before .before .next-to-read .ensures .quiet .onward)
+loop-less c =
+    let here = c .before .before .before .before .before .before in
+    omega (arith, here .if1 .left, here .before .next-to-read .ensures .quiet .onward)
 
 loop-again : tie.Need-loop-again Inv-loop μ-loop
 loop-again c =
-    let inv = c .before .before .before .before .before .before .before .before .before .loop .inv in
-    let skipped = laws.skips _ _ _ _ _ _ _ _ _ _ (inv .1 .1) _ _ (inv .0) (c .before .before .before .before .before .before .before .next-to-read .ensures) in
+    let here = c .before .before .before .before .before .before in
+    let inv = here .before .before .before .loop .inv in
+    let skipped = laws.skips _ _ _ _ _ _ _ _ _ _ (inv .1 .1) _ _ (inv .0) (here .before .next-to-read .ensures) in
     let turn = c .before .before .before .next-turn .ensures in (
-      laws.goes _ _ _ _ _ _ _ _ _ _ skipped _ _ (c .before .before .before .before .before .before .if1 .left) (turn .1) _ _ refl (c .before .before .failed .ensures) (c .before .if2 .left),
+      laws.goes _ _ _ _ _ _ _ _ _ _ skipped _ _ (here .if1 .left) (turn .1) _ _ refl (c .before .before .failed .ensures)
+          (c .before .if2 .left),
       (turn .0, inv .1 .1),
     )
 
@@ -40,13 +57,11 @@ returns c =
 
 returns-2 : tie.Need-returns-2 Inv-loop μ-loop
 returns-2 c =
-    let inv = c .before .before .before .before .before .before .before .before .loop .inv in
-    let skipped = laws.skips _ _ _ _ _ _ _ _ _ _ (inv .1 .1) _ _ (inv .0) (c .before .before .before .before .before .before .next-to-read .ensures) in
-    laws.fails _ _ _ _ _ _ _ _ _ _ skipped _ _ (c .before .before .before .before .before .if1 .left) (c .before .before .next-turn .ensures .1) _ _ refl (c .before .failed .ensures) _ refl
-    (c .if2 .taken)
-
-add-k : tie.Need-add-k Inv-loop μ-loop
-add-k c = omega (arith, c .before .before .before .before .before .before .if1 .left, c .before .before .before .before .before .before .before .before .before .before .before .before .before .before .before .before .before .before .fits)
+    let here = c .before .before .before .before .before in
+    let inv = here .before .before .before .loop .inv in
+    let skipped = laws.skips _ _ _ _ _ _ _ _ _ _ (inv .1 .1) _ _ (inv .0) (here .before .next-to-read .ensures) in
+    laws.fails _ _ _ _ _ _ _ _ _ _ skipped _ _ (here .if1 .left) (c .before .before .next-turn .ensures .1) _ _ refl
+    (c .before .failed .ensures) _ refl (c .if2 .taken)
 
 pub judge-spec : {M : Type 1} → statement M
 judge-spec =

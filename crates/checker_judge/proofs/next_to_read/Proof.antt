@@ -23,7 +23,9 @@ loop-holds : tie.Need-loop-holds Inv-loop μ-loop
 loop-holds c = laws.none-quiet _ _ _ _ _ refl
 
 add-j : tie.Need-add-j Inv-loop μ-loop
-add-j c = omega (arith, c .before .is-quiet .ensures .among (c .if3 .taken), c .before .before .before .before .before .before .before .fits)
+add-j c =
+    omega
+    (arith, c .before .is-quiet .ensures .among (c .if3 .taken), c .before .before .before .before .before .before .before .fits)
 
 loop-less : tie.Need-loop-less Inv-loop μ-loop
 loop-less c = omega (arith, c .before .is-quiet .ensures .among (c .if3 .taken))

@@ -18,10 +18,12 @@ abbrev μ-loop : tie.MeasureT-loop
 μ-loop s findings₀ rules count words₀ out₀ i₀ findings words out i = count - i
 
 loop-again : tie.Need-loop-again Inv-loop μ-loop
-loop-again c = (
-  (λ k e h. c .before .before .before .before .before .before .before .loop .inv .0 k e (laws.one-less _ _ _ _ (c .before .before .before .before .before .before .loop-test .taken) (c .before .before .rule-notes .ensures k _ refl) h)),
-  search needs,
-)
+loop-again c =
+    let test = c .before .before .before .before .before .before in
+    let done = c .before .before .rule-notes .ensures in (
+      (λ k e h. test .before .loop .inv .0 k e (laws.one-less _ _ _ _ (test .loop-test .taken) (done k _ refl) h)),
+      search needs,
+    )
 
 returns : tie.Need-returns Inv-loop μ-loop
 returns c = λ k. c .before .loop .inv .0 k _ (laws.none-left _ _ _ _ (c .loop-test .left))

@@ -5,10 +5,16 @@ use Rattle.lint_notes.proofs.rule_notes.Tie as tie
 
 returns : tie.Need-returns
 returns c = λ k.
-    let notes = c .before .before .before .before .before .before .before .before .before .before .before .rule-notes .ensures in
-    laws.rule-is _ _ _ _ (c .before .before .before .before .before .before .before .before .before .before .before .before .before .before .before .before .source-at .ensures) (c .before .before .before .before .before .before .before .before .before .before .before .before .before .before .put-row .ensures) (laws.none-listed (c .before .before .before .before .before .before .before .before .before .before .before .before .before .before .before .before .before .before .before .args .s .now) 1500) (notes .is)
-    (λ t. notes .clean t (laws.none-clean _ 1500)) (c .before .before .before .before .before .before .before .before .before .few .ensures) (c .before .before .before .before .before .before .before .before .number-at .ensures) (c .before .before .before .before .before .before .before .past .ensures) (c .before .before .before .before .before .before .number-at2 .ensures)
-    (c .before .before .before .before .before .with .ensures) (c .before .before .note-findings .ensures k)
+    let at-with = c .before .before .before .before .before in
+    let at-few = at-with .before .before .before .before in
+    let at-notes = at-few .before .before in
+    let at-row = at-notes .before .before .before in
+    let entry = at-row .before .before .before .before .before in
+    let notes = at-notes .rule-notes .ensures in
+    laws.rule-is _ _ _ _ (at-row .before .before .source-at .ensures) (at-row .put-row .ensures)
+    (laws.none-listed (entry .args .s .now) 1500) (notes .is) (λ t. notes .clean t (laws.none-clean _ 1500))
+    (at-few .few .ensures) (at-with .before .before .before .number-at .ensures) (at-with .before .before .past .ensures)
+    (at-with .before .number-at2 .ensures) (at-with .with .ensures) (c .before .before .note-findings .ensures k)
 
 pub rule-notes-spec : {M : Type 1} → statement M
 rule-notes-spec =
