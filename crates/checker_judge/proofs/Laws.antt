@@ -68,7 +68,8 @@ agree vs ws present after e v alike put put-too = put-too ∙ ap (λ (us : List 
 module _ (f x : List ℕ) (at : ℕ) (vs : List ℕ) (m : Memory) where
   -- a record that is read
   pub turns : (a : List ℕ) (k : ℕ) (r : Record) → Got a k r → (present after : List ℕ) (e v : ℕ) (s : Shown)
-      → after ≡ present → after ≡ setJ vs e v → e ≡ entityJ x (r .change) → v ≡ valueJ (r .change) → s ≡ readJ f x at vs present r m →
+      → after ≡ present → after ≡ setJ vs e v → e ≡ entityJ x (r .change) → v ≡ valueJ (r .change)
+      → s ≡ readJ f x at vs present r m →
       Turned f x at vs m a k
       (record { failure = s .failure; index = k; second = r .second; source = r .source; memory = s .memory }) after
   unfolding turnJ

@@ -71,7 +71,8 @@ unfolding each
 each-self [] = refl
 each-self (x ∷ l) = ap (λ (y : List ℕ). x ∷ y) (each-self l)
 
-module _ (s : List ℕ) (i : Index) (bytes : (k : ℕ) → getD s k 0 < 256) (m : Model) (acc : accepted s ≡ answer m) (o : Indexed s i m) where
+module _ (s : List ℕ) (i : Index) (bytes : (k : ℕ) → getD s k 0 < 256) (m : Model) (acc : accepted s ≡ answer m)
+    (o : Indexed s i m) where
   abbrev d : Rattle.lint_tests.specs.declared.Names.Names
   d = namesOf s i
 
@@ -121,8 +122,11 @@ module _ (s : List ℕ) (i : Index) (bytes : (k : ℕ) → getD s k 0 < 256) (m 
     start = board (replicate (length F) 0) (replicate (length I) 0) (record { findings = 0; interactions = 0; refusal = 0 })
 
     module _ (li : Lints s (namesOf s i) (i .rules) start l c) (nt : AllNotes s (i .rules) (i .rules .count) 0 c e) where
-      noted : Noted st (accepted-few s m acc .0) few-texts texts-are-counted (text-at s (o .all-texts .1)) (accepted-few s m acc .1) has-text (m .rules) c e
-      noted = all-noted st (accepted-few s m acc .0) few-texts texts-are-counted (text-at s (o .all-texts .1)) (accepted-few s m acc .1) has-text nt
+      noted : Noted st (accepted-few s m acc .0) few-texts texts-are-counted (text-at s (o .all-texts .1))
+          (accepted-few s m acc .1) has-text (m .rules) c e
+      noted =
+          all-noted st (accepted-few s m acc .0) few-texts texts-are-counted (text-at s (o .all-texts .1))
+          (accepted-few s m acc .1) has-text nt
 
       abbrev first : List Item
       first = rulesItems s d rs ++ opposingItems s d rs ++ cyclesItems s (d .entities) rs (l .found)
@@ -316,7 +320,8 @@ turned-down s k e F I r t = record {
 
 -- ---- as the code has it
 
-module _ (s : List ℕ) (i : Index) (bytes : (k : ℕ) → getD s k 0 < 256) (F I : List ℕ) (l : Linted) (f k : List ℕ) (h : Inserts s i F I l (board f k (l .out))) (m : Model) (acc : accepted s ≡ answer m) (o : Indexed s i m) where
+module _ (s : List ℕ) (i : Index) (bytes : (k : ℕ) → getD s k 0 < 256) (F I : List ℕ) (l : Linted) (f k : List ℕ)
+    (h : Inserts s i F I l (board f k (l .out))) (m : Model) (acc : accepted s ≡ answer m) (o : Indexed s i m) where
   after-long : Long (board (replicate (length F) 0) (replicate (length I) 0) (record { findings = 0; interactions = 0; refusal = 0 })) (board f k (l .out))
   after-long = long s i bytes m acc o F I (h .first) (h .between) (board f k (l .out)) (h .entries) (h .notes)
 

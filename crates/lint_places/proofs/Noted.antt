@@ -147,7 +147,8 @@ module _ {s : List ℕ} {d : Names} {rs : Section} {ts : List Text} {m : Model} 
     notes-from u (suc n) k h =
         let z : 5 * k + 5 ≡ 5 * (k + 1) = omega arith in
         let y : drop 5 (drop (5 * k) u) ≡ drop (5 * (k + 1)) u = drop-drop 5 (5 * k) u ∙ ap (λ (j : ℕ). drop j u) z in
-        both (as-finding (record { reason = words-of (reason-of (drop (5 * k) u)); is = note-words u k; reasoned = noted (reason-of (drop (5 * k) u)) (h .0) }))
+        let first = reason-of (drop (5 * k) u) in
+        both (as-finding (record { reason = words-of first; is = note-words u k; reasoned = noted first (h .0) }))
         (subst (λ (a : List ℕ). Agrees st (each (unsupported-entry r) (map (render s) (reasons n a))) (itemsN (λ j. Item.finding (noteZ own-set line column u j) ∷ []) n (k + 1))) (sym y) (notes-from u n (k + 1) (subst (λ (a : List ℕ). AllReadable s (reasons n a)) y (h .1))))
 
     module _ {b c : Board} (f : RuleNotes s rs i b c) where

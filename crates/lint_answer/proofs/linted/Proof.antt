@@ -11,8 +11,8 @@ returns c = λ m acc o.
     let tested = cleared .before .before .before in
     let inserted = tested .before .before .before .before .before .before .before in
     let entry = inserted .before .before .before .before .before in
-    core.too-many _ _ (λ k. omega (arith, entry .shared-slice-known .given k)) _ _ _ _ _ (inserted .inserted .ensures) m acc o
-    (tested .if1 .taken) _ (c .refused .ensures) _ _ (cleared .clear .ensures)
+    core.too-many _ _ (λ k. omega (arith, entry .shared-slice-known .given k)) _ _ _ _ _ (inserted .inserted .ensures) m acc
+    o (tested .if1 .taken) _ (c .refused .ensures) _ _ (cleared .clear .ensures)
 
 told-requires : tie.Need-told-requires
 told-requires c κs =
@@ -24,8 +24,8 @@ returns-2 : tie.Need-returns-2
 returns-2 c = λ m acc o.
     let inserted = c .before .before .before .before .before .before .before .before in
     let entry = inserted .before .before .before .before .before in
-    core.complete _ _ (λ k. omega (arith, entry .shared-slice-known .given k)) _ _ _ _ _ (inserted .inserted .ensures) m acc o
-    (c .before .if1 .left) _ (c .told .ensures)
+    core.complete _ _ (λ k. omega (arith, entry .shared-slice-known .given k)) _ _ _ _ _ (inserted .inserted .ensures) m acc
+    o (c .before .if1 .left) _ (c .told .ensures)
 
 pub linted-spec : {M : Type 1} → statement M
 linted-spec =
