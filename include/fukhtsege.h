@@ -4,6 +4,9 @@
  * writes; then nothing is worked on and no lent memory changes. No other condition is put on the caller but that each pointer
  * refers to as many elements as the length behind it says (it may be 0), is not null, and that no two areas overlap.
  *
+ * A model file may hold windows of the day among its conditions and a start behind its automations (docs/FORMAT.md); 50 and 51
+ * refuse bad windows. The functions take such files as all others.
+ *
  * `queue`, `records`, `runs`, `findings` and `interactions` are the lent areas of docs/FORMAT.md, in 32-bit words; `output`
  * gets the model file with the events of a witness or of a reduction. What each holds afterwards is there too.
  *

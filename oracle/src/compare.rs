@@ -3,6 +3,7 @@ use crate::areas;
 use crate::generate;
 use crate::plain::show::show;
 use crate::random::Random;
+use crate::windows;
 use std::collections::BTreeMap;
 use std::io::{Read, Write};
 use std::path::{Path, PathBuf};
@@ -25,6 +26,8 @@ pub struct Comparison<'a> {
     pub areas: bool,
     /// The entries that the program's own areas hold, if they can be too few.
     pub holds: Option<Vec<usize>>,
+    /// So many of a hundred models get windows.
+    pub windows: usize,
 }
 
 /// What came of some comparisons.
@@ -34,6 +37,8 @@ pub struct Tally {
     pub differed: usize,
     /// By the classes of `generate::CLASSES`.
     pub classes: [usize; generate::CLASSES.len()],
+    /// Models with a window in an automation that weren't refused.
+    pub windows: usize,
     pub counts: Counts,
 }
 
@@ -60,7 +65,7 @@ impl Comparer {
 
     /// Compares the program's answer to one model.
     pub fn compare(&self, c: &Comparison, seed: u64, index: u64, tally: &mut Tally) {
-        let (bytes, class) = generate::classed_file(c.entry, seed, index);
+        let (bytes, class) = generate::classed_file(c.entry, seed, index, c.windows);
         let mut arguments = vec![];
         let (expected, expected_file) = if c.areas {
             let random = &mut Random::for_file(seed ^ 1, c.entry, index);
@@ -83,6 +88,8 @@ impl Comparer {
         let printed = run(c.program, &arguments, &bytes, &self.running);
         tally.compared += 1;
         tally.classes[class] += 1;
+        let answered = !expected.starts_with("refused");
+        tally.windows += usize::from(answered && windows::are_in(&bytes));
         tally.counts.add(&expected);
         let same_file = !c.file || std::fs::read(&self.written).ok() == expected_file;
         if printed == expected.as_bytes() && same_file {

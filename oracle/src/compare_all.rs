@@ -40,6 +40,7 @@ struct Row {
     file: bool,
     areas: bool,
     holds: Option<Vec<usize>>,
+    windows: usize,
     /// The seed of this row's models, and the number of the next one.
     seed: u64,
     next: u64,
@@ -56,6 +57,7 @@ impl Row {
             file: self.file,
             areas: self.areas,
             holds: self.holds.clone(),
+            windows: self.windows,
         };
         let start = Instant::now();
         while start.elapsed() < TURN && Instant::now() < end {
@@ -71,16 +73,16 @@ pub fn fresh_seed() -> u64 {
     SystemTime::now().duration_since(UNIX_EPOCH).map_or(0, |time| time.as_millis() as u64)
 }
 
-/// Gives true if nothing differed.
-pub fn compare_all(programs: &str, seconds: f64, seed: u64, keep: &str) -> bool {
-    let mut rows = rows(programs, seed);
+/// Gives true if nothing differed. So many of a hundred models get windows.
+pub fn compare_all(programs: &str, seconds: f64, seed: u64, windows: usize, keep: &str) -> bool {
+    let mut rows = rows(programs, seed, windows);
     let missing: Vec<_> =
         rows.iter().map(|r| &r.program).filter(|p| !std::path::Path::new(p).is_file()).collect();
     if !missing.is_empty() {
         eprintln!("not there: {missing:?}");
         std::process::exit(2);
     }
-    println!("seed {seed}");
+    println!("seed {seed}, windows {windows} of 100");
     let comparer = Comparer::new(keep);
     let end = Instant::now() + Duration::from_secs_f64(seconds);
     while Instant::now() < end {
@@ -95,7 +97,7 @@ pub fn compare_all(programs: &str, seconds: f64, seed: u64, keep: &str) -> bool 
     rows.iter().all(|row| row.tally.differed == 0)
 }
 
-fn rows(programs: &str, seed: u64) -> Vec<Row> {
+fn rows(programs: &str, seed: u64, windows: usize) -> Vec<Row> {
     let mut rows = vec![];
     for (entry, file, areas, holds) in VARIANTS {
         let variant = match (file, areas, holds.is_empty()) {
@@ -115,6 +117,7 @@ fn rows(programs: &str, seed: u64) -> Vec<Row> {
             file,
             areas,
             holds: (!holds.is_empty()).then(|| holds.to_vec()),
+            windows,
             seed,
             next: 0,
             used: Duration::ZERO,
@@ -129,26 +132,38 @@ fn print(rows: &[Row]) {
     for class in CLASSES {
         print!(" {class:>9}");
     }
-    println!(" {:>9}", "seconds");
-    let (mut compared, mut differed, mut classes) = (0, 0, [0; CLASSES.len()]);
+    println!(" {:>9} {:>9}", "windows", "seconds");
+    let mut sum = Tally::default();
     for row in rows {
         let t = &row.tally;
-        print!("{:12} {:12} {:9} {:9}", row.entry, row.variant, t.compared, t.differed);
-        for (count, sum) in t.classes.iter().zip(&mut classes) {
-            print!(" {count:9}");
-            *sum += count;
-        }
+        print_counts(row.entry, &row.variant, t);
         println!(" {:9.1}", row.used.as_secs_f64());
-        compared += t.compared;
-        differed += t.differed;
+        sum.compared += t.compared;
+        sum.differed += t.differed;
+        sum.windows += t.windows;
+        for (all, count) in sum.classes.iter_mut().zip(t.classes) {
+            *all += count;
+        }
     }
-    print!("{:12} {:12} {compared:9} {differed:9}", "all", "");
-    for sum in classes {
-        print!(" {sum:9}");
+    print_counts("all", "", &sum);
+    println!("\n\nmodels with windows that were answered:");
+    let mut entries: Vec<_> = rows.iter().map(|row| row.entry).collect();
+    entries.dedup();
+    for entry in entries {
+        let of_entry = rows.iter().filter(|row| row.entry == entry);
+        println!("{entry}: {}", of_entry.map(|row| row.tally.windows).sum::<usize>());
     }
-    println!("\n\nby first line:");
+    println!("\nby first line:");
     for row in rows {
         println!("{} ({}), seed {}: {}", row.entry, row.variant, row.seed, row.tally.counts.line());
     }
-    println!("\n{compared} compared, {differed} differed");
+    println!("\n{} compared, {} differed", sum.compared, sum.differed);
+}
+
+fn print_counts(entry: &str, variant: &str, t: &Tally) {
+    print!("{entry:12} {variant:12} {:9} {:9}", t.compared, t.differed);
+    for count in t.classes {
+        print!(" {count:9}");
+    }
+    print!(" {:9}", t.windows);
 }

@@ -1,9 +1,13 @@
 //! Damaged files: most break a file rule (30) or have bytes left over (31);
 //! some are still whole and mean something else.
 use crate::edit::*;
+use crate::plain::added::START_BYTES;
 use crate::plain::format::*;
 use crate::plain::reference::*;
 use crate::random::Random;
+
+/// With its kind.
+const WINDOW_BYTES: usize = 10;
 
 /// Names of the kinds of damage, for the samples.
 pub const DAMAGES: [&str; 24] = [
@@ -199,6 +203,36 @@ pub fn damaged(model: &Model, kind: usize, random: &mut Random) -> Vec<u8> {
     bytes
 }
 
+/// A file damaged where windows or the start stand, or cut there.
+pub fn damaged_windows(model: &Model, random: &mut Random) -> Vec<u8> {
+    let mut model = model.clone();
+    model.zeros_written = true;
+    let Encoded { mut bytes, marks } = encode_with(&model, &texts_of(&model));
+    let start = bytes.len() - START_BYTES;
+    let windows: Vec<_> =
+        marks.iter().filter(|(_, m)| *m == Mark::Window).map(|(at, _)| *at).collect();
+    let chosen = if windows.is_empty() { None } else { Some(*random.pick(&windows)) };
+    let numbers = [0, 1, 6, 7, 86_398, 86_399, 86_400, 4_294_967_295];
+    match (random.below(8), chosen) {
+        (0, _) => bytes.truncate(start + random.below(START_BYTES)),
+        (1, _) => bytes.extend(vec![0; random.between(1, 9)]),
+        (2, _) => put_u32(&mut bytes, start, *random.pick(&numbers)),
+        (3, _) => put_u32(&mut bytes, start + 4, *random.pick(&numbers)),
+        (4, Some(at)) => bytes[at + 1] = *random.pick(&[0, 1, 64, 127, 128, 255]),
+        (5, Some(at)) => put_u32(&mut bytes, at + 2 + 4 * random.below(2), *random.pick(&numbers)),
+        (6, Some(at)) => bytes.truncate(at + random.below(WINDOW_BYTES + 1)),
+        (7, Some(at)) => bytes[at] = *random.pick(&[0, 1, 3, 3, 255]),
+        _ => {
+            bytes.truncate(start);
+            bytes.extend(vec![0; random.below(10)]);
+        }
+    }
+    bytes
+}
+
+fn put_u32(bytes: &mut [u8], at: usize, value: u32) {
+    bytes[at..at + 4].copy_from_slice(&value.to_le_bytes());
+}
 fn put_u16(bytes: &mut [u8], at: usize, value: usize) {
     let value = u16::try_from(value).unwrap_or(u16::MAX);
     bytes[at..at + 2].copy_from_slice(&value.to_le_bytes());

@@ -21,6 +21,7 @@ fn describe_model(model: &Model, out: &mut String) -> std::fmt::Result {
     writeln!(out, "version {} title {}", s.version, quoted(&s.title))?;
     writeln!(out, "texts {:?}", model.texts)?;
     writeln!(out, "{:?} gaps {:?}", s.limits, s.gaps)?;
+    writeln!(out, "{:?}{}", s.start, if model.zeros_written { ", written" } else { "" })?;
     for (name, e) in &s.entities {
         let (domain, initial) = (&e.domain, &e.initial);
         writeln!(out, "entity {name:?} {domain:?} {initial:?} {:?} {:?}", e.tier, e.stale_after)?;
@@ -64,6 +65,7 @@ fn predicate(p: &Predicate) -> String {
     match p {
         Predicate::State { entity, value } => format!("{entity:?} is {value:?}"),
         Predicate::Unknown { reason } => format!("note {reason:?}"),
+        Predicate::Window { days, start, end } => format!("window {days:07b} {start} to {end}"),
     }
 }
 fn actions(list: &[Action], level: usize, out: &mut String) -> std::fmt::Result {

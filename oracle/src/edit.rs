@@ -29,8 +29,9 @@ pub fn base() -> Model {
         alphabet: vec![set_input("a", "on")],
         gaps: vec![1],
         limits: Limits { horizon: 10, max_steps: 100, search_depth: 1, max_cases: 10 },
+        start: Start::default(),
     };
-    Model { texts: vec![], scenario, rules: vec![automation("r")] }
+    Model { texts: vec![], scenario, rules: vec![automation("r")], zeros_written: false }
 }
 
 pub fn switch() -> Entity {
@@ -46,6 +47,9 @@ pub fn set_input(entity: &str, value: &str) -> Input {
 }
 pub fn state(entity: &str, value: &str) -> Predicate {
     Predicate::State { entity: entity.into(), value: value.into() }
+}
+pub fn window(days: u8, start: u64, end: u64) -> Predicate {
+    Predicate::Window { days, start, end }
 }
 pub fn source(line: usize, column: usize) -> Source {
     Source { line, column }

@@ -366,6 +366,178 @@ pub const FAULTS: &[(u8, &str, Change)] = &[
     }),
 ];
 
+/// Windows that are refused: an end at the start, a second too great, no weekday, one above 6.
+const BAD_WINDOWS: [(u8, u64, u64); 9] = [
+    (1, 5, 5),
+    (127, 0, 0),
+    (127, 86_400, 0),
+    (127, 0, 86_400),
+    (64, 4_294_967_295, 1),
+    (64, 1, 4_294_967_295),
+    (0, 1, 2),
+    (128, 1, 2),
+    (255, 2, 1),
+];
+
+/// Faults of windows and of the start.
+pub const WINDOW_FAULTS: &[(u8, &str, Change)] = &[
+    (3, "weekday 7", |m, _| m.scenario.start.weekday = 7),
+    (3, "weekday 2^32-1", |m, _| m.scenario.start.weekday = 4_294_967_295),
+    (3, "second 86400", |m, _| m.scenario.start.second = 86_400),
+    (3, "second 2^32-1", |m, _| m.scenario.start.second = 4_294_967_295),
+    (3, "weekday and second", |m, _| m.scenario.start = Start { weekday: 8, second: 86_401 }),
+    (3, "weekday before gaps", |m, _| {
+        m.scenario.start.weekday = 7;
+        m.scenario.gaps.clear();
+    }),
+    (3, "second before inputs", |m, _| {
+        m.scenario.start.second = 86_400;
+        m.scenario.alphabet.resize(13, Input::Restart);
+    }),
+    (3, "second before a window in an invariant", |m, r| {
+        m.scenario.start.second = 86_400;
+        never(m, r, window(1, 1, 2));
+    }),
+    (2, "entities before weekday", |m, _| {
+        m.scenario.start.weekday = 7;
+        more_entities(m, 33);
+    }),
+    (1, "version before second", |m, _| {
+        m.scenario.start.second = 86_400;
+        m.scenario.version = 2;
+    }),
+    (50, "window in a condition", |m, r| {
+        let bad = bad_window(r);
+        some_automation(m, r).conditions.push(bad)
+    }),
+    (50, "window before a state in conditions", |m, r| {
+        let (bad, other) = (bad_window(r), wrong_state(m, r));
+        some_automation(m, r).conditions.extend([bad, other])
+    }),
+    (50, "window before an undeclared entity in conditions", |m, r| {
+        let bad = bad_window(r);
+        some_automation(m, r).conditions.extend([window(1, 1, 2), bad, state("ghost", "on")])
+    }),
+    (50, "conditions before actions", |m, r| {
+        let bad = bad_window(r);
+        let rule = some_automation(m, r);
+        rule.conditions.push(bad);
+        rule.actions.insert(0, action(delay(86_401)));
+    }),
+    (50, "window in a branch", |m, r| {
+        let bad = bad_window(r);
+        add_effect(m, r, branch(vec![bad], vec![action(delay(86_401))]))
+    }),
+    (50, "window before a state in a branch", |m, r| {
+        let bad = bad_window(r);
+        add_effect(m, r, branch(vec![bad, state("ghost", "on")], vec![]))
+    }),
+    (50, "window among actions", |m, r| {
+        let predicate = bad_window(r);
+        add_effect(m, r, Effect::Condition { predicate })
+    }),
+    (50, "branch condition before depth", |m, r| {
+        let bad = bad_window(r);
+        deep(m, r, branch(vec![bad], vec![]), false)
+    }),
+    (50, "window before the next automation's id", |m, r| {
+        let bad = bad_window(r);
+        some_automation(m, r);
+        m.rules[0].conditions.push(bad);
+        let copy = m.rules[0].clone();
+        m.rules.push(Automation { conditions: vec![], ..copy });
+    }),
+    (7, "undeclared before a window in conditions", |m, r| {
+        let bad = bad_window(r);
+        some_automation(m, r).conditions.extend([state("ghost", "on"), bad])
+    }),
+    (8, "value before a window in conditions", |m, r| {
+        let (wrong, bad) = (wrong_state(m, r), bad_window(r));
+        some_automation(m, r).conditions.extend([wrong, bad])
+    }),
+    (8, "value before a window in a branch", |m, r| {
+        let (wrong, bad) = (wrong_state(m, r), bad_window(r));
+        add_effect(m, r, branch(vec![wrong, bad], vec![]))
+    }),
+    (15, "trigger before a window", |m, r| {
+        let bad = bad_window(r);
+        let rule = some_automation(m, r);
+        rule.triggers.push(trigger("ghost"));
+        rule.conditions.push(bad);
+    }),
+    (14, "33 conditions before a window", |m, r| {
+        let bad = bad_window(r);
+        some_automation(m, r).conditions.resize(33, bad)
+    }),
+    (18, "delay before a window", |m, r| {
+        let predicate = bad_window(r);
+        let actions = [delay(86_401), Effect::Condition { predicate }].map(action);
+        some_automation(m, r).actions.extend(actions)
+    }),
+    (51, "window in a never", |m, r| {
+        let any = any_window(r);
+        never(m, r, any)
+    }),
+    (51, "window before an undeclared entity in a never", |m, r| {
+        let (id, any) = (free_id(m, "never"), any_window(r));
+        let conditions = vec![any, state("ghost", "on")];
+        add_invariant(m, r, Invariant::Never { id, conditions })
+    }),
+    (51, "window in a guard's list, before its pair", |m, r| {
+        let any = any_window(r);
+        guard(m, r, None, any)
+    }),
+    (51, "window in a response's when", |m, r| {
+        let any = any_window(r);
+        response(m, r, any, state("ghost", "on"), 86_401)
+    }),
+    (51, "window in a response's then", |m, r| {
+        let (when, any) = (some_state(m, r), any_window(r));
+        response(m, r, when, any, 86_401)
+    }),
+    (51, "windows in both of a response", |m, r| {
+        let (when, then) = (any_window(r), any_window(r));
+        response(m, r, when, then, 1)
+    }),
+    (51, "window in an invariant before one in an automation", |m, r| {
+        let (any, bad) = (any_window(r), bad_window(r));
+        never(m, r, any);
+        some_automation(m, r).conditions.push(bad);
+    }),
+    (7, "undeclared before a window in a never", |m, r| {
+        let (id, any) = (free_id(m, "never"), any_window(r));
+        let conditions = vec![state("ghost", "on"), any];
+        add_invariant(m, r, Invariant::Never { id, conditions })
+    }),
+    (8, "response's when before a window", |m, r| {
+        let (when, any) = (wrong_state(m, r), any_window(r));
+        response(m, r, when, any, 1)
+    }),
+    (9, "order of events before a window in an invariant", |m, r| {
+        let any = any_window(r);
+        never(m, r, any);
+        let at = after_horizon(m);
+        m.scenario.events.push(Event { at, input: Input::Restart });
+    }),
+    (10, "id before a window", |m, r| {
+        let conditions = vec![any_window(r)];
+        add_invariant(m, r, Invariant::Never { id: "".into(), conditions })
+    }),
+    (11, "33 windows in a guard", |m, r| {
+        let (id, entity) = (free_id(m, "guard"), some_entity(m, r));
+        let requires = vec![any_window(r); 33];
+        add_invariant(m, r, Invariant::Guard { id, entity, value: "unknown".into(), requires })
+    }),
+];
+
+fn bad_window(r: &mut Random) -> Predicate {
+    let (days, start, end) = *r.pick(&BAD_WINDOWS);
+    window(days, start, end)
+}
+/// A window that is refused, or one that is fine outside of invariants.
+fn any_window(r: &mut Random) -> Predicate {
+    if r.percent(50) { bad_window(r) } else { window(127, 1, 2) }
+}
 fn set(entity: &str, value: &str) -> Effect {
     Effect::Set { entity: entity.into(), value: value.into() }
 }

@@ -1,5 +1,6 @@
 //! The model file: encoder and decoder, written from the scope.
 //! Little-endian; numbers are u32, counts u16, kinds and flags u8.
+use super::added::{self, START_BYTES, Start, Window};
 use super::reference::*;
 use std::collections::{BTreeMap, BTreeSet, HashMap};
 
@@ -17,6 +18,8 @@ pub struct Model {
     pub texts: Vec<String>,
     pub scenario: Scenario,
     pub rules: Vec<Automation>,
+    /// Whether the file has a start though it is zeros. One that isn't zeros always stands there.
+    pub zeros_written: bool,
 }
 
 /// What stands at an offset of an encoded file. Used for aimed damage.
@@ -25,13 +28,15 @@ pub enum Mark {
     TextLength,
     Place,
     OptionalPlace,
-    /// A kind; the number is the first illegal value.
+    /// A kind; the number is the first illegal value. For a state and a note it is a window's, which has more bytes.
     Kind(u8),
     Flag,
     Count,
     Number,
     Entity,
     EntitiesEnd,
+    /// A window's kind.
+    Window,
 }
 
 pub struct Encoded {
@@ -165,6 +170,13 @@ impl Writer {
         for rule in &model.rules {
             self.automation(rule);
         }
+        self.start(added::start_of(s), model.zeros_written);
+    }
+    fn start(&mut self, start: Start, zeros_written: bool) {
+        if start != Start::default() || zeros_written {
+            self.number(start.0);
+            self.number(start.1);
+        }
     }
     fn events(&mut self, events: &[Event]) {
         self.count(events.len());
@@ -195,7 +207,16 @@ impl Writer {
                 self.kind(1, 2);
                 self.place(reason);
             }
+            #[allow(unreachable_patterns)]
+            other => self.window(added::window_of(other).expect("a window")),
         }
+    }
+    fn window(&mut self, (days, start, end): Window) {
+        self.mark(Mark::Window);
+        self.kind(2, 3);
+        self.bytes.push(days);
+        self.number(start);
+        self.number(end);
     }
     fn predicates(&mut self, predicates: &[Predicate]) {
         self.count(predicates.len());
@@ -415,10 +436,22 @@ impl Reader<'_> {
             max_cases: self.number()? as usize,
         };
         let rules = self.list(Self::automation)?;
+        let start = self.start()?;
+        let _without = added::scenario(start.unwrap_or_default());
+        #[rustfmt::skip]
         let scenario =
-            Scenario { version, title, entities, events, invariants, alphabet, gaps, limits };
-        let model = Model { texts: std::mem::take(&mut self.texts), scenario, rules };
+            Scenario { version, title, entities, events, invariants, alphabet, gaps, limits, .._without };
+        let zeros_written = start == Some(Start::default());
+        let texts = std::mem::take(&mut self.texts);
+        let model = Model { texts, scenario, rules, zeros_written };
         Some(Decoded { model, events_start, events_end })
+    }
+    /// Weekday and second, unless the file ends right before both.
+    fn start(&mut self) -> Option<Option<Start>> {
+        if START_BYTES == 0 || self.at == self.bytes.len() {
+            return Some(None);
+        }
+        Some(Some((self.number()?.into(), self.number()?.into())))
     }
     fn text(&mut self) -> Option<String> {
         let [length] = self.take()?;
@@ -453,11 +486,15 @@ impl Reader<'_> {
         })
     }
     fn predicate(&mut self) -> Option<Predicate> {
-        Some(match self.byte_below(2)? {
+        Some(match self.byte_below(3)? {
             0 => Predicate::State { entity: self.place()?, value: self.place()? },
-            _ => {
+            1 => {
                 self.note()?;
                 Predicate::Unknown { reason: self.place()? }
+            }
+            _ => {
+                let [days] = self.take()?;
+                return added::window((days, self.number()?.into(), self.number()?.into()));
             }
         })
     }

@@ -1,23 +1,28 @@
 //! The seeded generator: which classes of files each entry point gets.
-use crate::damage::{DAMAGES, damaged, wrong_version_and_broken};
+use crate::damage::{DAMAGES, damaged, damaged_windows, wrong_version_and_broken};
 use crate::edit::*;
-use crate::faults::FAULTS;
-use crate::limits::LIMITS;
+use crate::faults::{FAULTS, WINDOW_FAULTS};
+use crate::limits::{LIMITS, WINDOW_LIMITS};
 use crate::models::{Style, model};
 use crate::plain::format::{LONGEST_FILE, Model, encode};
 use crate::plain::reference::*;
 use crate::random::Random;
+use crate::windows;
+
+/// So many of a hundred models get windows, unless another number is asked for.
+pub const WINDOWS: usize = 50;
 
 /// The classes of files.
 pub const CLASSES: [&str; 5] = ["valid", "at limits", "invalid", "damaged", "large"];
 
-/// File number `index` of a seed, for an entry point.
-pub fn file(entry: &str, seed: u64, index: u64) -> Vec<u8> {
-    classed_file(entry, seed, index).0
+/// File number `index` of a seed, for an entry point. So many of a hundred models get windows; with 0 the file is the one
+/// that there was before windows.
+pub fn file(entry: &str, seed: u64, index: u64, windows: usize) -> Vec<u8> {
+    classed_file(entry, seed, index, windows).0
 }
 
 /// The same with the place of its class in `CLASSES`.
-pub fn classed_file(entry: &str, seed: u64, index: u64) -> (Vec<u8>, usize) {
+pub fn classed_file(entry: &str, seed: u64, index: u64, windows: usize) -> (Vec<u8>, usize) {
     let random = &mut Random::for_file(seed, entry, index);
     // Out of 1000 files: invalid, damaged, near a limit, many records.
     let (invalid, damages, limits, storms) = match entry {
@@ -29,30 +34,61 @@ pub fn classed_file(entry: &str, seed: u64, index: u64) -> (Vec<u8>, usize) {
         _ => (40, 30, 60, 0),
     };
     let class = random.below(1000);
+    // Decided before the rest, so that the models with windows are a fixed share.
+    let windows = windows > 0 && random.percent(windows);
     if class < invalid {
-        (invalid_file(entry, random), 2)
+        (invalid_file(entry, windows, random), 2)
     } else if class < invalid + damages {
-        (damaged_file(entry, random), 3)
+        (damaged_file(entry, windows, random), 3)
     } else if class < invalid + damages + limits {
-        (limit_file(entry, random), 1)
+        (limit_file(entry, windows, random), 1)
     } else if class < invalid + damages + limits + storms {
-        let mut found = large_simulation(entry, random);
+        let found = large_simulation(entry, random);
+        let mut found = with_windows(entry, windows, found, random);
         if random.percent(40) {
             meet_steps(&mut found, random);
         }
         (encode(&found), 4)
     } else {
-        let mut found = valid(entry, random);
-        match entry {
-            "simulate" | "check" | "fullcheck" if random.percent(3) => found = two_waits(random),
-            "simulate" | "check" | "fullcheck" if random.percent(8) => {
-                meet_steps(&mut found, random)
-            }
-            "verify" if random.percent(10) => meet_cases(&mut found, random),
-            _ => {}
-        }
-        (encode(&found), 0)
+        (encode(&valid_model(entry, windows, random)), 0)
     }
+}
+
+/// A valid model, with windows or without.
+pub fn valid_model(entry: &str, windows: bool, random: &mut Random) -> Model {
+    let simulated = matches!(entry, "simulate" | "check" | "fullcheck");
+    let mut found = match (windows, entry) {
+        (true, "verify" | "minimize") if random.percent(50) => relay(random),
+        _ => valid(entry, random),
+    };
+    if simulated && random.percent(3) {
+        return with_windows(entry, windows, two_waits(random), random);
+    }
+    found = with_windows(entry, windows, found, random);
+    if simulated && random.percent(8) {
+        meet_steps(&mut found, random);
+    }
+    if entry == "verify" && random.percent(10) {
+        meet_cases(&mut found, random);
+    }
+    found
+}
+
+/// The model with windows. For minimize mostly one that still has a violation: up to four are tried.
+pub fn with_windows(entry: &str, windows: bool, found: Model, random: &mut Random) -> Model {
+    if !windows {
+        return found;
+    }
+    let mut tried = found.clone();
+    for _ in 0..4 {
+        tried = found.clone();
+        windows::add(&mut tried, random);
+        let is_violation = |c: Check| c.status == "violation";
+        if entry != "minimize" || check(&tried.scenario, &tried.rules).is_ok_and(is_violation) {
+            break;
+        }
+    }
+    tried
 }
 
 /// Allows just as many steps as the simulation takes, or one more or less.
@@ -152,7 +188,7 @@ pub fn valid(entry: &str, random: &mut Random) -> Model {
 }
 
 /// A valid model with some parts at their limits.
-fn limit_file(entry: &str, random: &mut Random) -> Vec<u8> {
+fn limit_file(entry: &str, windows: bool, random: &mut Random) -> Vec<u8> {
     let mut style = Style::rich();
     style.long_names = random.percent(30);
     if entry == "verify" || entry == "minimize" {
@@ -161,6 +197,11 @@ fn limit_file(entry: &str, random: &mut Random) -> Vec<u8> {
     let mut found = if random.percent(30) { base() } else { model(random, &style) };
     for _ in 0..random.between(1, 6) {
         let (_, change) = random.pick(&LIMITS);
+        change(&mut found, random);
+    }
+    if windows {
+        found = with_windows(entry, true, found, random);
+        let (_, change) = random.pick(&WINDOW_LIMITS);
         change(&mut found, random);
     }
     if entry == "verify" && random.percent(80) {
@@ -178,8 +219,11 @@ fn limit_file(entry: &str, random: &mut Random) -> Vec<u8> {
 }
 
 /// One fault, often a second one that comes earlier or later.
-fn invalid_file(entry: &str, random: &mut Random) -> Vec<u8> {
+fn invalid_file(entry: &str, windows: bool, random: &mut Random) -> Vec<u8> {
     let mut found = if random.percent(40) { base() } else { valid(entry, random) };
+    if windows {
+        return invalid_windows(entry, found, random);
+    }
     // First a refusal number, then one of its variants, so that all are met.
     let number = random.between(1, 19) as u8;
     let variants: Vec<_> = FAULTS.iter().filter(|(n, _, _)| *n == number).collect();
@@ -192,16 +236,38 @@ fn invalid_file(entry: &str, random: &mut Random) -> Vec<u8> {
     encode(&found)
 }
 
-fn damaged_file(entry: &str, random: &mut Random) -> Vec<u8> {
+/// A fault of windows, of the start, or another one in a model with windows; often further ones.
+fn invalid_windows(entry: &str, found: Model, random: &mut Random) -> Vec<u8> {
+    let mut found = with_windows(entry, random.percent(70), found, random);
+    let numbers = [3, 50, 50, 51, 51];
+    let number = if random.percent(80) { *random.pick(&numbers) } else { 0 };
+    let mut variants: Vec<_> = WINDOW_FAULTS.iter().filter(|(n, _, _)| *n == number).collect();
+    if variants.is_empty() {
+        variants = WINDOW_FAULTS.iter().chain(FAULTS).collect();
+    }
+    (random.pick(&variants).2)(&mut found, random);
+    while random.percent(50) {
+        let further = if random.percent(40) { WINDOW_FAULTS } else { FAULTS };
+        (random.pick(further).2)(&mut found, random);
+    }
+    encode(&found)
+}
+
+fn damaged_file(entry: &str, windows: bool, random: &mut Random) -> Vec<u8> {
     let style = if random.percent(70) { Style::small() } else { Style::rich() };
     let mut found = match random.below(10) {
         0..2 => base(),
         2..8 => model(random, &style),
         _ => valid(entry, random),
     };
+    // Windows come first: they are put into valid models only.
+    found = with_windows(entry, windows, found, random);
     if random.percent(10) {
         let (_, _, change) = random.pick(&FAULTS);
         change(&mut found, random);
+    }
+    if windows && random.percent(50) {
+        return damaged_windows(&found, random);
     }
     if random.percent(4) {
         return wrong_version_and_broken(&found, random);
@@ -255,6 +321,47 @@ fn hunt(random: &mut Random) -> Model {
         let from = some_entity(&found, random);
         let actions = vec![pause, action(effect)];
         found.rules.push(Automation { triggers: vec![trigger(&from)], actions, ..automation(&id) });
+    }
+    found
+}
+
+/// Automations that each turn on a switch if they may; when all are on, an invariant fails. With windows in them, the
+/// violation depends on the seconds of the events.
+fn relay(random: &mut Random) -> Model {
+    let mut found = base();
+    let s = &mut found.scenario;
+    let names: Vec<String> = (0..random.between(1, 3)).map(|n| format!("s{n}")).collect();
+    let all_on = names.iter().map(|name| state(name, "on")).collect();
+    s.invariants = vec![Invariant::Never { id: "all".into(), conditions: all_on }];
+    s.entities.extend(names.iter().map(|name| (name.clone(), switch())));
+    s.alphabet = vec![set_input("a", "on"), set_input("a", "off")];
+    s.gaps = random.pick(&[vec![1], vec![5, 2], vec![3, 10], vec![10]]).clone();
+    s.limits =
+        Limits { horizon: 60, max_steps: 300, search_depth: random.between(1, 4), max_cases: 200 };
+    s.events.clear();
+    let mut at = 0;
+    for n in 0..random.between(1, 9) {
+        at += *random.pick(&s.gaps);
+        let value = if n % 2 == 0 { "on" } else { "off" };
+        s.events.push(Event { at: at.min(60), input: set_input("a", value) });
+    }
+    found.rules.clear();
+    for name in names {
+        let to = random.pick(&[None, Some("on".to_string()), Some("off".to_string())]).clone();
+        let set = Effect::Set { entity: name.clone(), value: "on".into() };
+        let mut actions = vec![action(set)];
+        if random.percent(60) {
+            actions.insert(0, action(delay(random.below(12) as u64)));
+        }
+        let mode = random.pick(&[Mode::Single, Mode::Restart, Mode::Parallel]).clone();
+        let triggers = vec![Trigger { to, ..trigger("a") }];
+        found.rules.push(Automation {
+            mode,
+            max: 2,
+            triggers,
+            actions,
+            ..automation(&format!("r{name}"))
+        });
     }
     found
 }

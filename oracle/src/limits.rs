@@ -159,6 +159,38 @@ pub const LIMITS: &[(&str, Change)] = &[
     ("largest sources", |m, r| some_automation(m, r).source = source(4_294_967_295, 65_536)),
 ];
 
+/// Windows and starts at their limits.
+pub const WINDOW_LIMITS: &[(&str, Change)] = &[
+    ("weekday 6", |m, _| m.scenario.start.weekday = 6),
+    ("second 86399", |m, _| m.scenario.start.second = 86_399),
+    ("zeros written", |m, _| m.zeros_written = true),
+    ("weekday 0", |m, _| m.scenario.start.weekday = 0),
+    ("window of all but a second", |m, r| condition(m, r, window(127, 0, 86_399))),
+    ("window up to midnight", |m, r| condition(m, r, window(64, 86_399, 0))),
+    ("window over all but a second", |m, r| condition(m, r, window(1, 1, 0))),
+    ("window past midnight", |m, r| condition(m, r, window(64, 86_399, 86_398))),
+    ("32 windows", |m, r| {
+        let rule = some_automation(m, r);
+        rule.conditions.resize(32, window(127, 86_399, 86_398));
+    }),
+    ("window at depth 16", |m, r| {
+        let (predicate, in_default) = (window(127, 0, 43_200), r.percent(50));
+        deepest(m, r, nested(Effect::Condition { predicate }, 16, in_default))
+    }),
+    ("branch of windows", |m, r| {
+        if all_actions(m) < 500 {
+            let conditions = vec![window(127, 0, 86_399); 40];
+            add_effect(m, r, branch(conditions, vec![]));
+        }
+    }),
+];
+
+fn condition(model: &mut Model, random: &mut Random, predicate: Predicate) {
+    let rule = some_automation(model, random);
+    if rule.conditions.len() < 32 {
+        rule.conditions.push(predicate);
+    }
+}
 fn set_to(model: &Model, random: &mut Random) -> Input {
     let Predicate::State { entity, value } = some_state(model, random) else { unreachable!() };
     Input::Set { entity, value }

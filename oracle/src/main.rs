@@ -1,4 +1,4 @@
-//! The oracle: the unchanged reference behind our model files. See README.md.
+//! The oracle: the reference with the requests built in behind our model files. See README.md.
 mod areas;
 mod compare;
 mod compare_all;
@@ -14,22 +14,39 @@ mod random;
 mod sample;
 mod selftest;
 mod small_areas;
+mod traps;
+mod windows;
 
-/// The reference as it is, and what is built on it.
+/// The reference with the requests built in, and what is built on it.
 #[path = "."]
 mod plain {
-    pub use ::reference;
+    pub use ::requested as reference;
+    pub mod added;
     pub mod cone;
     pub mod format;
     pub mod refusals;
     pub mod show;
 }
 
-/// The same over the copy of the reference that counts insertions.
+/// The same over the copy that also counts insertions.
 #[path = "."]
 #[allow(dead_code)]
 mod counted {
     pub use ::counted as reference;
+    pub mod added;
+    pub mod cone;
+    pub mod format;
+    pub mod refusals;
+    pub mod show;
+}
+
+/// The same over the reference as it is: old files, for the selftest and the samples.
+#[path = "."]
+#[allow(dead_code)]
+mod unchanged {
+    pub use ::reference;
+    #[path = "nothing_added.rs"]
+    pub mod added;
     pub mod cone;
     pub mod format;
     pub mod refusals;
@@ -44,17 +61,19 @@ const USAGE: &str = "usage:
   oracle show ENTRY [FILE] < model         the lines of an entry point; FILE gets the witness or reduced file
   oracle show-areas ENTRY N.. < model      the same with areas of N entries
   oracle needed ENTRY < model              the most entries that each area needs
-  oracle generate ENTRY SEED COUNT DIR     writes DIR/000000.bin and so on
+  oracle generate ENTRY SEED COUNT DIR [W] writes DIR/000000.bin and so on; W of a hundred models get windows (50)
   oracle expect ENTRY FILE..               the lines for each file, each behind a line `== FILE`
+  oracle expect-batch ENTRY BATCH          the expected lines of a batch
   oracle describe < model                  a readable dump
   oracle example                           the model file of the scope's example
   oracle full-file [LENGTH]                a valid model file of LENGTH bytes (32768)
   oracle sample ENTRY DIR                  writes DIR/ENTRY.batch and DIR/ENTRY.expected
+  oracle sample-windows ENTRY DIR          writes DIR/ENTRY-windows.batch and DIR/ENTRY-windows.expected
   oracle sample-areas ENTRY DIR            writes DIR/ENTRY-areas.batch and DIR/ENTRY-areas.expected
-  oracle compare [--keep DIR] PROGRAM ENTRY N [SEED] [--file] [--areas | --holds N,..]
-  oracle compare-all [--keep DIR] --programs DIR MINUTES [SEED]
+  oracle compare [--keep DIR] PROGRAM ENTRY N [SEED] [--file] [--areas | --holds N,..] [--windows W]
+  oracle compare-all [--keep DIR] --programs DIR MINUTES [SEED] [--windows W]
                                            compares all programs for so many minutes
-  oracle histogram ENTRY SEED COUNT        counts the first lines of the answers
+  oracle histogram ENTRY SEED COUNT [W]    counts the first lines of the answers
   oracle pairs SEED COUNT [CLAUSE [DIR]]   tries the claim about what lies outside a cone on COUNT pairs of models,
                                            with a clause of the cone left out; DIR gets the first pair that differs
   oracle selftest COUNT                    tests the oracle itself
@@ -81,10 +100,11 @@ fn main() {
             let words: Vec<_> = needed.iter().map(|n| n.to_string()).collect();
             put(words.join(" ") + "\n");
         }
-        ["generate", entry, seed, count, folder] => {
+        ["generate", entry, seed, count, folder, ref rest @ ..] => {
             std::fs::create_dir_all(folder).expect("making the folder");
+            let windows = share(rest.first().copied());
             for index in 0..number(count) {
-                let bytes = generate::file(known(entry), number(seed), index);
+                let bytes = generate::file(known(entry), number(seed), index, windows);
                 std::fs::write(format!("{folder}/{index:06}.bin"), bytes).expect("writing a file");
             }
         }
@@ -93,6 +113,10 @@ fn main() {
                 let bytes = std::fs::read(file).expect("reading a file");
                 put(format!("== {file}\n{}", show(known(entry), &bytes).lines));
             }
+        }
+        ["expect-batch", entry, batch] => {
+            let models = sample::read_batch(&std::fs::read(batch).expect("reading a file"));
+            put(sample::expected(known(entry), &models));
         }
         ["describe"] => put(describe::describe(&standard_input())),
         ["example"] => put(encode(&edit::example())),
@@ -103,17 +127,28 @@ fn main() {
             write_sample(folder, entry, &sample::batch(&models), &sample::expected(entry, &models));
             put(format!("{entry}: {} models\n", models.len()));
         }
+        ["sample-windows", entry, folder] => {
+            let models = sample::window_models(known(entry));
+            let name = format!("{entry}-windows");
+            write_sample(folder, &name, &sample::batch(&models), &sample::expected(entry, &models));
+            put(format!("{name}: {} models\n", models.len()));
+        }
         ["sample-areas", entry, folder] => {
             let cases = small_areas::cases(known(entry));
             let name = format!("{entry}-areas");
-            write_sample(folder, &name, &small_areas::batch(&cases), &small_areas::expected(&cases));
+            write_sample(
+                folder,
+                &name,
+                &small_areas::batch(&cases),
+                &small_areas::expected(&cases),
+            );
             put(format!("{name}: {} models\n", cases.len()));
         }
         ["compare", ref rest @ ..] => compare_command(rest),
         ["compare-all", ref rest @ ..] => compare_all_command(rest),
-        ["histogram", entry, seed, count] => {
-            let count = number(count);
-            put(selftest::histogram(known(entry), number(seed), count));
+        ["histogram", entry, seed, count, ref rest @ ..] => {
+            let (count, windows) = (number(count), share(rest.first().copied()));
+            put(selftest::histogram(known(entry), number(seed), count, windows));
         }
         ["pairs", seed, count, ref rest @ ..] => {
             let left_out = rest.first().copied().unwrap_or("");
@@ -132,7 +167,7 @@ fn main() {
 
 fn compare_command(words: &[&str]) {
     let mut keep = "differences";
-    let (mut file, mut areas, mut holds) = (false, false, None);
+    let (mut file, mut areas, mut holds, mut windows) = (false, false, None, generate::WINDOWS);
     let mut plain = vec![];
     let mut words = words.iter();
     while let Some(word) = words.next() {
@@ -140,6 +175,7 @@ fn compare_command(words: &[&str]) {
             "--keep" => keep = words.next().unwrap_or_else(|| usage()),
             "--file" => file = true,
             "--areas" => areas = true,
+            "--windows" => windows = share(words.next().copied()),
             "--holds" => {
                 let list = words.next().unwrap_or_else(|| usage()).split(',');
                 holds = Some(list.map(|n| number(n) as usize).collect());
@@ -153,24 +189,27 @@ fn compare_command(words: &[&str]) {
         _ => usage(),
     };
     let (entry, count) = (known(entry), number(count));
-    let comparison = compare::Comparison { program, entry, file, areas, holds };
+    let comparison = compare::Comparison { program, entry, file, areas, holds, windows };
     let tally = compare::compare(&comparison, count, seed, keep);
     put(tally.counts.lines());
-    let compare::Tally { compared, differed, .. } = tally;
-    put(format!("{entry} seed {seed}: {compared} compared, {differed} differed\n"));
+    let compare::Tally { compared, differed, windows, .. } = tally;
+    put(format!(
+        "{entry} seed {seed}: {compared} compared, {windows} with windows, {differed} differed\n"
+    ));
     if differed != 0 {
         std::process::exit(1);
     }
 }
 
 fn compare_all_command(words: &[&str]) {
-    let (mut keep, mut programs) = ("differences", None);
+    let (mut keep, mut programs, mut windows) = ("differences", None, generate::WINDOWS);
     let mut plain = vec![];
     let mut words = words.iter();
     while let Some(word) = words.next() {
         match *word {
             "--keep" => keep = words.next().unwrap_or_else(|| usage()),
             "--programs" => programs = words.next().copied(),
+            "--windows" => windows = share(words.next().copied()),
             word => plain.push(word),
         }
     }
@@ -184,7 +223,7 @@ fn compare_all_command(words: &[&str]) {
         usage();
     }
     let programs = programs.unwrap_or_else(|| usage());
-    if !compare_all::compare_all(programs, minutes * 60.0, seed, keep) {
+    if !compare_all::compare_all(programs, minutes * 60.0, seed, windows, keep) {
         std::process::exit(1);
     }
 }
@@ -205,6 +244,10 @@ fn known(entry: &str) -> &str {
         usage();
     }
     entry
+}
+/// How many of a hundred models get windows.
+fn share(word: Option<&str>) -> usize {
+    word.map_or(generate::WINDOWS, |word| number(word).min(100) as usize)
 }
 fn number(word: &str) -> u64 {
     word.parse().unwrap_or_else(|_| usage())

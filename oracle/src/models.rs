@@ -201,13 +201,15 @@ impl Maker<'_> {
         let max_cases = if self.random.percent(20) { self.random.between(1, 20) } else { 2000 };
         let title = self.random.pick(&["", "t", "home", "say \"x\" \\ y"]).to_string();
         let limits = Limits { horizon, max_steps, search_depth, max_cases };
+        let start = Start::default();
+        #[rustfmt::skip]
         let scenario =
-            Scenario { version: 1, title, entities, events, invariants, alphabet, gaps, limits };
+            Scenario { version: 1, title, entities, events, invariants, alphabet, gaps, limits, start };
         let mut texts = vec![];
         if self.random.percent(15) {
             texts = vec!["".into(), "unused".into(), "~~".into()];
         }
-        Model { texts, scenario, rules }
+        Model { texts, scenario, rules, zeros_written: false }
     }
     fn entity(&mut self) -> (String, Vec<String>) {
         self.random.pick(&self.entities).clone()

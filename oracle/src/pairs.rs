@@ -1,6 +1,6 @@
 //! Pairs of models that are alike in invariants, horizon and cone: the claim about what lies outside a cone, tried on the
 //! reference. The second model is the first with other things outside: automations taken out, put in or changed, entities put
-//! in or changed, events taken out or put in, other limits of steps, another title.
+//! in or changed, windows put in or taken out, events taken out or put in, other limits of steps, another title.
 use crate::edit::{action, automation, delay, set_input, source, switch, trigger};
 use crate::generate;
 use crate::models::{Style, model};
@@ -9,12 +9,16 @@ use crate::plain::cone::named_in;
 use crate::plain::format::{Model, encode};
 use crate::plain::reference::*;
 use crate::random::Random;
+use crate::windows;
 use std::collections::BTreeSet;
 
 #[derive(Default)]
 struct Counts {
     alike: u64,
     different: u64,
+    /// With a window in the cone, and with other windows outside.
+    windows_inside: u64,
+    windows_outside: u64,
     checks: u64,
     failing: u64,
     searches: u64,
@@ -22,8 +26,9 @@ struct Counts {
     differed: u64,
 }
 
-/// The clauses of the cone; one of them may be left out, to see what breaks.
-pub const CLAUSES: [&str; 8] = [
+/// The clauses of the cone, and the equal start; one of them may be left out, to see what breaks.
+pub const CLAUSES: [&str; 9] = [
+    "start",
     "triggers",
     "conditions",
     "action-conditions",
@@ -40,14 +45,19 @@ pub fn pairs(seed: u64, count: u64, left_out: &str, folder: Option<&str>) -> boo
     for index in 0..count {
         let random = &mut Random::for_file(seed, "pairs", index);
         let entry = if random.percent(30) { "verify" } else { "minimize" };
-        let first = if random.percent(50) { generate::valid(entry, random) } else { wide(random) };
+        let first = first_model(entry, random);
         let inside = cone_without(&first, left_out);
-        let second = other_outside(&first, &inside, random);
+        let mut second = other_outside(&first, &inside, random);
+        if left_out == "start" {
+            second.scenario.start = Start { weekday: 2, second: random.below(86_400) as u64 };
+        }
         if !alike(&first, &second, left_out) {
             continue;
         }
         counts.alike += 1;
         counts.different += u64::from(different(&first, &second));
+        counts.windows_inside += u64::from(windows_inside(&first, &inside) > 0);
+        counts.windows_outside += u64::from(windows::count(&first) != windows::count(&second));
         let same = same_checks(&first, &second, &mut counts)
             && (entry != "verify" || same_searches(&first, &second, &mut counts));
         if !same {
@@ -59,9 +69,26 @@ pub fn pairs(seed: u64, count: u64, left_out: &str, folder: Option<&str>) -> boo
         }
     }
     println!("pairs {count} seed {seed}");
+    print(&counts);
+    counts.differed == 0
+}
+
+fn first_model(entry: &str, random: &mut Random) -> Model {
+    let (windows, valid) = (random.percent(60), random.percent(50));
+    match valid {
+        true => generate::valid_model(entry, windows, random),
+        false => generate::with_windows(entry, windows, wide(random), random),
+    }
+}
+
+fn print(counts: &Counts) {
     println!(
         "alike {}, with other automations, entities or events outside {}",
         counts.alike, counts.different
+    );
+    println!(
+        "with a window inside the cone {}, with another number of windows outside {}",
+        counts.windows_inside, counts.windows_outside
     );
     println!("both checks complete {}, with a violation {}", counts.checks, counts.failing);
     println!(
@@ -69,7 +96,12 @@ pub fn pairs(seed: u64, count: u64, left_out: &str, folder: Option<&str>) -> boo
         counts.searches, counts.witnesses
     );
     println!("differed {}", counts.differed);
-    counts.differed == 0
+}
+
+/// How many windows the automations of the cone hold.
+fn windows_inside(m: &Model, inside: &Cone) -> usize {
+    let rules = inside.automations.iter().map(|place| m.rules[*place].clone()).collect();
+    windows::count(&Model { rules, ..m.clone() })
 }
 
 /// Many entities, few of them named in invariants, and no notes: much may lie outside.
@@ -183,9 +215,21 @@ fn other_outside(first: &Model, inside: &Cone, random: &mut Random) -> Model {
     let mut m = first.clone();
     m.scenario.title = format!("{} {}", random.pick(&["a", "other", "z"]), m.scenario.title);
     m.scenario.limits.max_steps = (m.scenario.limits.max_steps + random.below(400)).min(10_000);
+    m.zeros_written = random.percent(30);
     take_out(&mut m, first, inside, random);
     change_entities(&mut m, inside, random);
     put_in(&mut m, inside, random);
+    let ids: BTreeSet<_> = inside.automations.iter().map(|place| &first.rules[*place].id).collect();
+    for place in 0..m.rules.len() {
+        if ids.contains(&m.rules[place].id) {
+            continue;
+        }
+        match random.below(10) {
+            0..3 => windows::put_one(&mut m, place, random),
+            3..5 => windows::take_out(std::slice::from_mut(&mut m.rules[place])),
+            _ => {}
+        }
+    }
     m
 }
 
@@ -298,6 +342,7 @@ fn alike(a: &Model, b: &Model, left_out: &str) -> bool {
         && events(a, &c) == events(b, &d)
         && format!("{:?}", s.invariants) == format!("{:?}", t.invariants)
         && s.limits.horizon == t.limits.horizon
+        && (s.start == t.start || left_out == "start")
 }
 
 fn different(a: &Model, b: &Model) -> bool {

@@ -1,6 +1,6 @@
-//! The reference's error texts as the scope's refusal numbers.
+//! The error texts of the reference and of `windows.rs` as the scope's refusal numbers.
 
-const WHOLE: [(&str, u8); 18] = [
+const WHOLE: [(&str, u8); 20] = [
     ("invalid version or title", 1),
     ("model size limit", 2),
     ("invalid analysis limits", 3),
@@ -19,6 +19,8 @@ const WHOLE: [(&str, u8); 18] = [
     ("wait timeout exceeds 86400", 19),
     ("verification requires at least one invariant", 20),
     ("a confirmed modeled violation is required", 21),
+    ("invalid window", 50),
+    ("window in an invariant", 51),
 ];
 
 pub fn number(error: &str) -> u8 {

@@ -1,13 +1,16 @@
 //! The fixed sample of small models for the repository.
 use crate::compare::class;
-use crate::damage::{DAMAGES, damaged};
+use crate::damage::{DAMAGES, damaged, damaged_windows};
 use crate::edit::*;
-use crate::faults::FAULTS;
+use crate::faults::{FAULTS, WINDOW_FAULTS};
 use crate::generate;
-use crate::limits::LIMITS;
-use crate::plain::format::encode;
+use crate::limits::{LIMITS, WINDOW_LIMITS};
+use crate::plain::format::{Model, encode};
 use crate::plain::show::show;
 use crate::random::Random;
+use crate::traps::traps;
+use crate::unchanged;
+use crate::windows;
 use std::collections::{BTreeMap, BTreeSet};
 
 const SEED: u64 = 2026;
@@ -17,15 +20,48 @@ const LONGEST_ANSWER: usize = 6000;
 /// At most so many random models whose answers begin alike, unless few kinds exist.
 const MOST_REFUSALS_ALIKE: usize = 3;
 
-/// The models of an entry point's sample.
+/// The models of an entry point's sample, without windows. They are chosen by the answers of the unchanged reference, so
+/// that they stay the same when a request changes answers.
 pub fn models(entry: &str) -> Vec<Vec<u8>> {
     let mut out = vec![encode(&example())];
     if entry == "validate" {
         out.extend(validation());
     }
-    out.extend(random(entry));
+    out.extend(random(entry, 0, &|file| unchanged::show::show(entry, file).lines));
+    each_once(out)
+}
+
+/// The models of an entry point's sample with windows: the traps, and random models.
+pub fn window_models(entry: &str) -> Vec<Vec<u8>> {
+    let simulated = matches!(entry, "simulate" | "check" | "fullcheck");
+    let mut out = vec![];
+    for trap in traps() {
+        // What is read when shows in simulations only.
+        if simulated || trap.entry != "simulate" {
+            out.push(encode(&trap.model));
+        }
+    }
+    if entry == "validate" {
+        out.extend(window_validation());
+    }
+    out.extend(random(entry, 100, &|file| show(entry, file).lines));
+    each_once(out)
+}
+
+fn each_once(mut files: Vec<Vec<u8>>) -> Vec<Vec<u8>> {
     let mut seen = BTreeSet::new();
-    out.retain(|file| seen.insert(file.clone()));
+    files.retain(|file| seen.insert(file.clone()));
+    files
+}
+
+/// The models of a batch.
+pub fn read_batch(mut bytes: &[u8]) -> Vec<Vec<u8>> {
+    let mut out = vec![];
+    while let Some((length, rest)) = bytes.split_first_chunk() {
+        let (model, rest) = rest.split_at(u32::from_le_bytes(*length) as usize);
+        out.push(model.to_vec());
+        bytes = rest;
+    }
     out
 }
 
@@ -81,8 +117,34 @@ fn validation() -> Vec<Vec<u8>> {
     out
 }
 
+/// Limits, faults and damage of windows and starts on small models.
+fn window_validation() -> Vec<Vec<u8>> {
+    let random = &mut Random::new(SEED);
+    let with_windows = |random: &mut Random| -> Model {
+        let mut model = base();
+        windows::add(&mut model, random);
+        model
+    };
+    let mut out = vec![];
+    for (_, change) in WINDOW_LIMITS {
+        let mut model = base();
+        change(&mut model, random);
+        out.push(encode(&model));
+    }
+    for (_, _, change) in WINDOW_FAULTS {
+        let mut model = base();
+        change(&mut model, random);
+        out.push(encode(&model));
+    }
+    for _ in 0..80 {
+        let model = with_windows(random);
+        out.push(damaged_windows(&model, random));
+    }
+    out
+}
+
 /// Small models from the generator, with few refusals of the same number.
-fn random(entry: &str) -> Vec<Vec<u8>> {
+fn random(entry: &str, windows: usize, show: &dyn Fn(&[u8]) -> String) -> Vec<Vec<u8>> {
     let wanted = if entry == "validate" { 20 } else { RANDOM_MODELS };
     let mut out: Vec<Vec<u8>> = vec![];
     let mut alike: BTreeMap<String, usize> = BTreeMap::new();
@@ -90,11 +152,11 @@ fn random(entry: &str) -> Vec<Vec<u8>> {
         if out.len() >= wanted {
             break;
         }
-        let file = generate::file(entry, SEED, index);
+        let file = generate::file(entry, SEED, index, windows);
         if file.len() > LONGEST_MODEL {
             continue;
         }
-        let lines = show(entry, &file).lines;
+        let lines = show(&file);
         let class = class(&lines);
         let seen = alike.entry(class.clone()).or_default();
         let few = match class.as_str() {

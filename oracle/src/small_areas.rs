@@ -30,7 +30,7 @@ pub fn cases(entry: &str) -> Vec<Case> {
     let mut seen: BTreeMap<String, usize> = BTreeMap::new();
     let mut out = vec![];
     for index in 0..TRIED {
-        let file = generate::file(entry, SEED, index);
+        let file = generate::file(entry, SEED, index, 0);
         if file.len() > LONGEST_MODEL {
             continue;
         }

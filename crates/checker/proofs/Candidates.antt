@@ -17,6 +17,7 @@ use Rattle.model.specs.Validate.{
   bad-title,
   bad-size,
   bad-limits,
+  bad-start,
   bad-alphabet,
   bad-events,
   check-input,
@@ -109,7 +110,7 @@ module _ (m : Model) (valid : validate m ≡ answer m) where
       record {
         title = when-inv _ _ _ m valid;
         size = when-inv _ _ _ m e₂;
-        limits = when-inv _ _ _ m e₃;
+        limits = or-no (bad-limits (s .limits)) (bad-start (m .start)) (when-inv _ _ _ m e₃);
         inputs = and-first _ _ m e₆;
         events = when-inv _ _ _ m (and-inv _ _ m e₆);
       }

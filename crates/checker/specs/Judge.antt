@@ -7,7 +7,7 @@ use mathlib.Core.Option.{Option, none, some}
 use lib.Dec.{ltb, leb}
 use Rattle.texts.specs.Lists.{if_then_else_, absent, present-and, all-lists}
 use Rattle.texts.specs.Texts.{Text, text, eqT, decimal, all-texts}
-use Rattle.model.specs.Model.{Source, Predicate, Invariant, never, guard, transition, response, id-of, all-model}
+use Rattle.model.specs.Model.{Source, Predicate, Invariant, never, guard, transition, response, id-of, midnight, all-model}
 use Rattle.engine.specs.Cells.{Cell, put, all-cells}
 use Rattle.engine.specs.Kleene.{Truth, is-yes, is-no, is-unknown}
 use Rattle.engine.specs.Truth.{evaluate, evaluate-all, all-truth}
@@ -50,6 +50,13 @@ unsure b m = record {
   unknown-at-deadline = m .unknown-at-deadline;
   beyond-horizon = m .beyond-horizon;
 }
+
+-- the truth of an invariant's predicates: an accepted one has no window, so that one moment is as good as another
+abbrev pub stated : Predicate → List Cell → Truth
+stated = evaluate midnight
+
+abbrev pub stated-all : List Predicate → List Cell → Truth
+stated-all = evaluate-all midnight
 
 -- the state after a record, given the state before it
 unfoldable pub after : Trace → List Cell → List Cell
@@ -105,18 +112,18 @@ or-else none g = g
 
 unfoldable pub read-response : (cause goal : Predicate) → (within : ℕ) → (before present : List Cell) → Trace → Memory → Shown
 read-response p q within before present t m =
-    let w = evaluate p present in
-    let g = evaluate q present in
+    let w = stated p present in
+    let g = stated q present in
     let waits = waits-after (t .at) within w g (m .was-when) (m .deadline) in
     record {
       failure = or-else
           (if is-horizon t then missed-at-end (t .at) g waits else none)
-          (missed (t .at) (evaluate q before) (m .deadline));
+          (missed (t .at) (stated q before) (m .deadline));
       memory = record {
         deadline = waits;
         was-when = is-yes w;
         unknown-predicate = m .unknown-predicate || is-unknown w || is-unknown g;
-        unknown-at-deadline = m .unknown-at-deadline || overdue (t .at) (m .deadline) && is-unknown (evaluate q before);
+        unknown-at-deadline = m .unknown-at-deadline || overdue (t .at) (m .deadline) && is-unknown (stated q before);
         beyond-horizon = m .beyond-horizon || is-horizon t && beyond (t .at) waits;
       };
     }
@@ -126,11 +133,11 @@ read-response p q within before present t m =
 -- what the record t shows; `before` and `present` are the states before it and after it
 unfoldable pub read : Invariant → (before present : List Cell) → Trace → Memory → Shown
 read (never id ps) before present t m =
-    let v = evaluate-all ps present in
+    let v = stated-all ps present in
     record { failure = fails-if (is-yes v) prohibited-state; memory = unsure (is-unknown v) m }
 read (guard id x v ps) before present t m =
     let about = is-action t && present-and (writes x v) (t .change) in
-    let w = evaluate-all ps before in
+    let w = stated-all ps before in
     record { failure = fails-if (about && is-no w) guard-violated; memory = unsure (about && is-unknown w) m }
 read (transition id x from to) before present t m =
     record { failure = fails-if (present-and (passes x from to) (t .change)) forbidden-transition; memory = m }

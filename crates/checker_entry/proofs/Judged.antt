@@ -5,7 +5,8 @@ use mathlib.Core.List.{List, [], _∷_, _++_, append-nil, append-assoc}
 use native.Mathlib.Omega.{arith}
 use lib.ListN.{length, getD, take, length-append}
 use lib.Seq.{take-suc}
-use Rattle.texts.specs.Lists.{each, flat}
+use mathlib.Core.Bool.{Bool, true}
+use Rattle.texts.specs.Lists.{all, each, flat}
 use Rattle.texts.specs.Texts.{Text, sortedT}
 use Rattle.areas.specs.Areas.{words}
 use Rattle.areas.proofs.Laws as areas
@@ -15,6 +16,7 @@ use Rattle.records.specs.declared.Where.the-variants.{Nowhere, From}
 use Rattle.reasons.specs.Lists.{insertAll}
 use Rattle.reasons.proofs.Sorting.{merged, either-way}
 use Rattle.model.specs.Model.{Invariant, id-of, Model}
+use Rattle.model.specs.Windows.{windowless-invariant}
 use Rattle.model.specs.File.{invariant}
 use Rattle.model.specs.Rewrite.{place-of}
 use Rattle.model_parts.specs.Stand.{Reads}
@@ -34,13 +36,19 @@ use Rattle.checker_judge.specs.Judging.{judgeJ}
 use Rattle.checker_reasons.specs.Told.{renderings, unknownI, incompleteI}
 use Rattle.checker_judge.specs.declared.Reading.{Reading as Read}
 use Rattle.checker_places.specs.Meaning.{memory-of, failing-of, reading-of}
-use Rattle.checker_places.proofs.Record.{Parts, of-never, of-guard, of-transition, of-response, parts}
+use Rattle.checker_places.proofs.Record.{both-true, Parts, of-never, of-guard, of-transition, of-response, parts}
 use Rattle.checker_places.proofs.Judge.{Traced, judge-is}
 use Rattle.checker_places.proofs.Reasons.{unknown-is, incomplete-is}
 use Rattle.checker_verdict.specs.Verdict.{sourceV, brokenV, violatedV, Gathered, oneV, firstV}
 use Rattle.checker_entry.specs.Answers.{violation-words}
 
 -- ---- lists
+
+all-at : {A : Type 0} (p : A → Bool) (l : List A) (d : A) (k : ℕ) → all p l ≡ true → k < length l → p (getD l k d) ≡ true
+unfolding all
+all-at p [] d k h j = absurd (omega arith)
+all-at p (a ∷ l) d zero h j = both-true (p a) (all p l) h .0
+all-at p (a ∷ l) d (suc k) h j = all-at p l d k (both-true (p a) (all p l) h .1) (omega arith)
 
 module _ {A B : Type 0} (g : A → List B) where
   flat-append : (l k : List A) → flat g (l ++ k) ≡ flat g l ++ flat g k
@@ -120,7 +128,7 @@ module _ (f x : List ℕ) (ts : List Text) (m : Model) (tb : Tabled f x ts m) wh
 
   -- ---- all invariants, over the records l
 
-  module _ (is : List Invariant) (starts : List ℕ) (stand : (d : Invariant) (k : ℕ) → k < length is → Reads (invariant ts) f (getD starts k 0) (getD is k d)) (c : Cells) (ns : List ℕ) (ok : Valued f x ts m tb (c .values)) (long : length ns ≡ 32) (l : List Record) (traced : Traced ts l) where
+  module _ (is : List Invariant) (starts : List ℕ) (stand : (d : Invariant) (k : ℕ) → k < length is → Reads (invariant ts) f (getD starts k 0) (getD is k d)) (calm : all windowless-invariant is ≡ true) (c : Cells) (ns : List ℕ) (ok : Valued f x ts m tb (c .values)) (long : length ns ≡ 32) (l : List Record) (traced : Traced ts l) where
     abbrev reading-for : Invariant → Reading
     reading-for i = read-all i (cells-of x ts (c .values) ns) (each (record-of x ts) l)
 
@@ -148,7 +156,7 @@ module _ (f x : List ℕ) (ts : List Text) (m : Model) (tb : Tabled f x ts m) wh
         let i = getD is k d in
         let r = judgeJ f x at c l in
         let n = named at i (stand d k h) in
-        let e : reading-of r ≡ reading-for i = judge-is f x ts m tb at i (stand d k h) c ns ok long l traced in
+        let e : reading-of r ≡ reading-for i = judge-is f x ts m tb at i (stand d k h) (all-at windowless-invariant is d k calm h) c ns ok long l traced in
         let em : memory-of (r .memory) ≡ reading-for i .memory = ap (λ (y : Reading). y .memory) e in
         let ev : words brokenV (violatedV (two f (cap at + 1)) r) ≡ words (violation-words ts) (violated i) = violation-as (two f (cap at + 1)) i r (n .place-in) (n .is) ∙ ap (λ (y : Reading). words (violation-words ts) (violation-of i (y .failing))) e in
         let eu : renderings f (unknownI f (cap at) (r .memory)) ≡ unknown i = unknown-is f x ts m tb at (r .memory) i (stand d k h) ∙ ap (unknown-reasons i) em in

@@ -155,7 +155,7 @@ module _ (f : List ℕ) (i : Index) (m : Model) (acc : accepted f ≡ answer m) 
     traced = each-imp (Worded x (o .ts) m) _ (λ r w. w .placed) l words-so
 
     abbrev AgreedAt : ℕ → Gathered → Type 0
-    AgreedAt k y = Agreed f x (o .ts) m t is starts stand (g .cells) (g .cells .versions) valued versions-long l traced (sim .unknown) (sim .incomplete) k y
+    AgreedAt k y = Agreed f x (o .ts) m t is starts stand (t .stated) (g .cells) (g .cells .versions) valued versions-long l traced (sim .unknown) (sim .incomplete) k y
 
     at-start : AgreedAt 0 (startV f s)
     unfolding startV areas.words flat
@@ -174,7 +174,7 @@ module _ (f : List ℕ) (i : Index) (m : Model) (acc : accepted f ≡ answer m) 
 
     at-end : AgreedAt (length is) all
     at-end = subst (λ (k : ℕ). AgreedAt (length is) (firstV f x starts (g .cells) l k (startV f s))) (sym all-invariants)
-        (agreed f x (o .ts) m t is starts stand (g .cells) (g .cells .versions) valued versions-long l traced (sim .unknown) (sim .incomplete) (startV f s) at-start none-such (length is) (omega arith))
+        (agreed f x (o .ts) m t is starts stand (t .stated) (g .cells) (g .cells .versions) valued versions-long l traced (sim .unknown) (sim .incomplete) (startV f s) at-start none-such (length is) (omega arith))
 
     abbrev verdict : check.Check
     verdict = judged is cells sim

@@ -155,20 +155,20 @@ module _ (f : List ℕ) where
 -- ---- values that agree
 
 module _ (f x : List ℕ) (l : List Bool) (vs ws : List ℕ) (agree : Agree x l vs ws) where
-  pub evaluate-same : (p : ℕ) → Covered f l p → evaluateT f x vs p ≡ evaluateT f x ws p
+  pub evaluate-same : (p : ℕ) → Covered f l p → evaluateT f x vs 0 p ≡ evaluateT f x ws 0 p
   unfolding evaluateT valueT
   evaluate-same p h = by (case (eqb (getD f p 0) 1))
     where
-      by : Case (eqb (getD f p 0) 1) → evaluateT f x vs p ≡ evaluateT f x ws p
+      by : Case (eqb (getD f p 0) 1) → evaluateT f x vs 0 p ≡ evaluateT f x ws 0 p
       by (is-true e) = rw e
       by (is-false e) = rw (e, agree .same (two f (p + 1)) (h e))
 
-  each-same : (left p : ℕ) (t : Truth) → Covers f l left p → allFrom f x vs left p t ≡ allFrom f x ws left p t
+  each-same : (left p : ℕ) (t : Truth) → Covers f l left p → allFrom f x vs 0 left p t ≡ allFrom f x ws 0 left p t
   unfolding allFrom
   each-same zero p t h = refl
   each-same (suc left) p t h = rw (evaluate-same p (h .0)) (each-same left (later p (sizeT f p)) _ (h .1))
 
-  pub all-same : (at : ℕ) → CoversList f l at → allT f x vs at ≡ allT f x ws at
+  pub all-same : (at : ℕ) → CoversList f l at → allT f x vs 0 at ≡ allT f x ws 0 at
   unfolding allT
   all-same at h = each-same (two f at) (later at 2) _ h
 

@@ -186,7 +186,7 @@ module _ (f x : List ℕ) (at : ℕ) where
   never-again : (ps : List ℕ) (m : Memory) → failedJ (neverJ f x at ps m .failure) ≡ false
       → neverJ f x at ps (neverJ f x at ps m .memory) ≡ nothing-new (neverJ f x at ps m .memory)
   unfolding neverJ unsureJ failsJ failedJ yesJ unknownJ
-  never-again ps m = by (allT f x ps (later at 3) .truth)
+  never-again ps m = by (allT f x ps 0 (later at 3) .truth)
     where
       by : (t : Truth) → failedJ (failsJ (yesJ t) ProhibitedState) ≡ false
           → _≡_ {A = Shown} (record { failure = failsJ (yesJ t) ProhibitedState; memory = unsureJ (unknownJ t) (unsureJ (unknownJ t) m) })
@@ -204,7 +204,7 @@ module _ (f x : List ℕ) (at : ℕ) where
   response-again bs ps now later-on end last m h =
       nothing-happens (seenJ f x at ps ps) later-on last (respondedJ (seenJ f x at bs ps) now end m .memory)
       (idle _ h) refl
-      (or-twice (m .unknown) (unknownJ (evaluateT f x ps (later at 3))) (unknownJ (evaluateT f x ps (goal-at f at))))
+      (or-twice (m .unknown) (unknownJ (evaluateT f x ps 0 (later at 3))) (unknownJ (evaluateT f x ps 0 (goal-at f at))))
     where
       idle : (w : Wait) → pendingN w ≡ false → w ≡ NoWait
       idle NoWait g = refl

@@ -57,7 +57,7 @@ setJ vs e v = if ltb e 32 then set vs e v else vs
 
 unfoldable pub neverJ : (f x : List ℕ) → (at : ℕ) → (present : List ℕ) → Memory → Shown
 neverJ f x at present m =
-    let t = allT f x present (later at 3) .truth in
+    let t = allT f x present 0 (later at 3) .truth in
     record { failure = failsJ (yesJ t) ProhibitedState; memory = unsureJ (unknownJ t) m }
 
 -- the change sets the guard's entity to its value
@@ -74,7 +74,7 @@ guardedJ t m = record { failure = failsJ (noJ t) GuardViolated; memory = unsureJ
 
 unfoldable pub guardJ : (f x : List ℕ) → (at : ℕ) → (before : List ℕ) → Record → Memory → Shown
 guardJ f x at before r m =
-    if aboutJ f at r then guardedJ (allT f x before (later at 7) .truth) m else record { failure = NoFailure; memory = m }
+    if aboutJ f at r then guardedJ (allT f x before 0 (later at 7) .truth) m else record { failure = NoFailure; memory = m }
 
 -- the change takes the transition's entity from its first value to its second
 unfoldable pub passesJ : List ℕ → (at : ℕ) → Change → Bool
@@ -95,9 +95,9 @@ within-at f at = later (goal-at f at) (sizeT f (goal-at f at))
 
 unfoldable pub seenJ : (f x : List ℕ) → (at : ℕ) → (before present : List ℕ) → Seen
 seenJ f x at before present = record {
-  cause = evaluateT f x present (later at 3);
-  goal = evaluateT f x present (goal-at f at);
-  earlier = evaluateT f x before (goal-at f at);
+  cause = evaluateT f x present 0 (later at 3);
+  goal = evaluateT f x present 0 (goal-at f at);
+  earlier = evaluateT f x before 0 (goal-at f at);
   within = four f (within-at f at);
 }
 

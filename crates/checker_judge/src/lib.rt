@@ -96,7 +96,7 @@ fn put(values: &mut [u32; 32], e: usize, value: u32)
 fn read_never(f: &[u8], x: &[u32; 436], at: u32, present: &[u32; 32], m: Memory) -> Shown
     ensures { λ r. ⌜ r ≡ neverJ (now (f .entry)) (now (x .entry)) at (now (present .entry)) m ⌝ }
 {
-    let judged = evaluate_all(f, x, present, after(at, 3));
+    let judged = evaluate_all(f, x, present, 0, after(at, 3));
     let t = judged.truth;
     let failure = fails_if(is_yes(t), Failure::ProhibitedState);
     let memory = unsure(is_unknown(t), m);
@@ -144,7 +144,7 @@ fn read_guard(f: &[u8], x: &[u32; 436], at: u32, before: &[u32; 32], r: Record, 
     ensures { λ s. ⌜ s ≡ guardJ (now (f .entry)) (now (x .entry)) at (now (before .entry)) r m ⌝ }
 {
     if is_about(f, at, r) {
-        let judged = evaluate_all(f, x, before, after(at, 7));
+        let judged = evaluate_all(f, x, before, 0, after(at, 7));
         let t = judged.truth;
         return guarded(t, m);
     }
@@ -188,10 +188,7 @@ fn read_transition(f: &[u8], at: u32, r: Record, m: Memory) -> Shown
 fn after_predicate(f: &[u8], at: u32) -> u32
     ensures { λ r. ⌜ r ≡ later at (sizeT (now (f .entry)) at) ⌝ }
 {
-    if byte_at(f, at as usize) == 1 {
-        return after(at, 3);
-    }
-    after(at, 5)
+    after(at, engine_truth::predicate_size(f, at))
 }
 
 // The goal is read before the record and after it, the cause after it.
@@ -200,9 +197,9 @@ fn seen_at(f: &[u8], x: &[u32; 436], at: u32, before: &[u32; 32], present: &[u32
 {
     let p = after(at, 3);
     let q = after_predicate(f, p);
-    let cause = evaluate(f, x, present, p);
-    let goal = evaluate(f, x, present, q);
-    let earlier = evaluate(f, x, before, q);
+    let cause = evaluate(f, x, present, 0, p);
+    let goal = evaluate(f, x, present, 0, q);
+    let earlier = evaluate(f, x, before, 0, q);
     let within = four_at(f, after_predicate(f, q) as usize);
     Seen {
         cause,
@@ -248,6 +245,7 @@ fn name(id: u32, named: &mut [bool; 64])
     named[(id % 64) as usize] = true;
 }
 
+// The entity of a state. A window, which no accepted invariant has, is taken for one: naming more only reads more.
 fn name_predicate(f: &[u8], at: u32, named: &mut [bool; 64])
     ensures { λ _. ⌜ now (named .exit) ≡ predicateN (now (f .entry)) at (now (named .entry)) ⌝ }
 {

@@ -10,6 +10,7 @@ use borrow.Author.Tests.{lt-ltb}
 use Rattle.texts.specs.Lists.{find, each}
 use Rattle.texts.specs.Texts.{Text}
 use Rattle.model.specs.Model.{Invariant, Model}
+use Rattle.model.specs.Windows.{windowless-invariant}
 use Rattle.model.specs.File.{got, invariant, kinds, u8}
 use Rattle.model_walk.proofs.Found.{Case, is-true, is-false, case, bound, u8-wide}
 use Rattle.model_parts.specs.Stand.{Reads}
@@ -115,7 +116,7 @@ module _ (f x : List ℕ) (ts : List Text) (mo : Model) (tb : Tabled f x ts mo) 
         cases ForbiddenTransition = refl
         cases (DeadlineMissed d) = refl
 
-  module _ (at : ℕ) (i : Invariant) (q : ℕ) (stands : invariant ts f at ≡ got i q) where
+  module _ (at : ℕ) (i : Invariant) (q : ℕ) (stands : invariant ts f at ≡ got i q) (w : windowless-invariant i ≡ true) where
     reading-is : (l : List Record) → Traced ts l → (k : ℕ) (c : Cells) (m : Memory) (ns : List ℕ) (cs : List Cell) →
         C (c .values) ns cs →
         reading-of (readingJ f x at c m k l) ≡ reading i k cs (memory-of m) (each (record-of x ts) l)
@@ -125,18 +126,18 @@ module _ (f x : List ℕ) (ts : List Text) (mo : Model) (tb : Tabled f x ts mo) 
         let d = afterJ x (r .change) c in
         let a = after-is c ns cs g r (h .0) in
         let s = readJ f x at (c .values) (d .values) r m in
-        let e : shown-of s ≡ read i cs (after (record-of x ts r) cs) (record-of x ts r) (memory-of m) = read-is f x ts mo tb at (c .values) ns (d .values) (a .versions) (g .valued) (a .are .valued) r (h .0) m i q stands ∙ ap (λ (z : List Cell). read i z (cells-of x ts (d .values) (a .versions)) (record-of x ts r) (memory-of m)) (sym (g .is)) ∙ ap (λ (z : List Cell). read i cs z (record-of x ts r) (memory-of m)) (sym (a .are .is)) in
+        let e : shown-of s ≡ read i cs (after (record-of x ts r) cs) (record-of x ts r) (memory-of m) = read-is f x ts mo tb at (c .values) ns (d .values) (a .versions) (g .valued) (a .are .valued) r (h .0) m i q stands w ∙ ap (λ (z : List Cell). read i z (cells-of x ts (d .values) (a .versions)) (record-of x ts r) (memory-of m)) (sym (g .is)) ∙ ap (λ (z : List Cell). read i cs z (record-of x ts r) (memory-of m)) (sym (a .are .is)) in
         step at k r d i (after (record-of x ts r) cs) l s
         (reading-is l (h .1) (k + 1) d (s .memory) (a .versions) (after (record-of x ts r) cs) (a .are))
         ∙ ap (told at k r d i (after (record-of x ts r) cs) l) e
 
   -- the invariant at a position, over records whose places are those of texts, from values that are places of texts
-  pub judge-is : (at : ℕ) (i : Invariant) → Reads (invariant ts) f at i → (c : Cells) (ns : List ℕ) →
+  pub judge-is : (at : ℕ) (i : Invariant) → Reads (invariant ts) f at i → windowless-invariant i ≡ true → (c : Cells) (ns : List ℕ) →
       Valued f x ts mo tb (c .values) → length ns ≡ 32 → (l : List Record) → Traced ts l →
       reading-of (judgeJ f x at c l) ≡ read-all i (cells-of x ts (c .values) ns) (each (record-of x ts) l)
   unfolding judgeJ read-all memory-of invariant kinds
-  judge-is at i (q, e) c ns ok long l h =
+  judge-is at i (q, e) w c ns ok long l h =
       let b = bound u8 _ e in
-      let w = u8-wide f at (b .first) in
+      let v = u8-wide f at (b .first) in
       rw (cap-is at (omega (arith, tb .size)))
-      (reading-is at i q e l h 0 c nothingJ ns (cells-of x ts (c .values) ns) (record { is = refl; valued = ok; long = long }))
+      (reading-is at i q e w l h 0 c nothingJ ns (cells-of x ts (c .values) ns) (record { is = refl; valued = ok; long = long }))

@@ -1,6 +1,6 @@
 -- One record, for the invariant that stands at a position: what it shows on places is what Judge says of it.
 use mathlib.Core.Path.{_≡_, refl, sym, ap, _∙_, subst}
-use mathlib.Core.Bool.{Bool, true, false, _&&_, _||_}
+use mathlib.Core.Bool.{Bool, true, false, _&&_, _||_, false≢true}
 use mathlib.Core.List.{List, [], _∷_}
 use Prim.Native.Nat.{ℕ, zero, suc, _+_, _≤_, _<_}
 use native.Mathlib.Omega.{arith}
@@ -9,7 +9,8 @@ use lib.ListN.{length, getD}
 use borrow.Author.Tests.{eqb-true}
 use Rattle.texts.specs.Lists.{if_then_else_, present-and}
 use Rattle.texts.specs.Texts.{Text, text, eqT, all-texts}
-use Rattle.model.specs.Model.{Predicate, Invariant, never, guard, transition, response, Model}
+use Rattle.model.specs.Model.{Moment, Predicate, Invariant, never, guard, transition, response, Model, midnight}
+use Rattle.model.specs.Windows.{no-window, windowless-invariant}
 use Rattle.model.specs.File.{_>>=_ as _>>=ᵣ_}
 use Rattle.model.specs.File.{got, Reader, give, refuse, u32, counted, place, predicate, invariant}
 use Rattle.model_walk.proofs.Found.{Case, is-true, is-false, case, bound, given, u8-wide, u16-wide, Kind as KindAt, kind-found, place-found}
@@ -20,7 +21,8 @@ use Rattle.records.specs.declared.Record.{Record}
 use Rattle.engine.specs.Kleene.{is-yes, is-no, is-unknown}
 use Rattle.engine.specs.Kleene as kleene
 use Rattle.engine.specs.Cells.{Cell}
-use Rattle.engine.specs.Truth.{evaluate, evaluate-all}
+use Rattle.engine.specs.Truth.{moment-after}
+use Rattle.engine.proofs.Windowless.{same-truth, same-truths}
 use Rattle.engine.specs.Records.{Kind, kind-name, all-records}
 use Rattle.engine_reads.specs.Reads.{two, four}
 use Rattle.engine_state.specs.Machine.{later}
@@ -29,7 +31,7 @@ use Rattle.engine_truth.specs.declared.Truth.{Truth}
 use Rattle.engine_places.specs.Meaning.{Placed, truth-of, cells-of, kind-of, change-of, record-of, Tabled}
 use Rattle.engine_places.proofs.Numbers.{byte-is, two-is, four-is, later-is}
 use Rattle.engine_places.proofs.Truth.{Valued, evaluate-is, all-is}
-use Rattle.checker.specs.Judge.{is-action, is-horizon, writes, passes, fails-if, read-response, read}
+use Rattle.checker.specs.Judge.{stated, stated-all, is-action, is-horizon, writes, passes, fails-if, read-response, read}
 use Rattle.checker.specs.Judge as judge
 use Rattle.checker_response.specs.Response.{yesJ, noJ, unknownJ, failsJ, respondedJ}
 use Rattle.checker_judge.specs.Judging.{unsureJ, neverJ, writesJ, aboutJ, guardedJ, guardJ, passesJ, transitionJ, goal-at, within-at, seenJ, readJ}
@@ -37,6 +39,10 @@ use Rattle.checker_response.specs.declared.Failure.the-variants.{NoFailure, Pro
 use Rattle.checker_response.specs.declared.Memory.{Memory}
 use Rattle.checker_places.specs.Meaning.{memory-of, shown-of}
 use Rattle.checker_places.proofs.Response.{yes-is, no-is, unknown-is, fails-is, told, responded-is}
+
+pub both-true : (a b : Bool) → a && b ≡ true → (a ≡ true) × (b ≡ true)
+both-true true b h = (refl, h)
+both-true false b h = absurd (false≢true h)
 
 -- ---- what a verdict shows
 
@@ -233,37 +239,44 @@ module _ (f x : List ℕ) (ts : List Text) (mo : Model) (tb : Tabled f x ts mo) 
     abbrev present : List Cell
     present = cells-of x ts ws os
 
+    -- the code reads an invariant's predicates at second 0, the definition at midnight: without windows it is the same
+    abbrev at-first : Moment
+    at-first = moment-after (mo .start) 0
+
     abbrev Is : Invariant → Type 0
     Is i = shown-of (readJ f x at vs ws r m) ≡ read i before present (record-of x ts r) (memory-of m)
 
     -- where a response's parts stand, and what its predicates say
-    module _ (p q : Predicate) (n b c : ℕ) (inside : at + 3 ≤ length f) (is-p : predicate ts f (at + 3) ≡ got p b) (is-q : predicate ts f b ≡ got q c) (is-n : four f c ≡ n) where
+    module _ (p q : Predicate) (n b c : ℕ) (inside : at + 3 ≤ length f) (is-p : predicate ts f (at + 3) ≡ got p b) (is-q : predicate ts f b ≡ got q c) (is-n : four f c ≡ n) (w : (no-window p ≡ true) × (no-window q ≡ true)) where
       three : later at 3 ≡ at + 3
       three = later-is at 3 (omega (arith, tb .size))
 
       goal-is : goal-at f at ≡ b
       unfolding goal-at
       goal-is =
-          let j = evaluate-is f x ts mo tb ws os good (at + 3) p b is-p in
+          let j = evaluate-is f x ts mo tb ws os good 0 (at + 3) p b is-p in
           rw three (later-is (at + 3) (sizeT f (at + 3)) (omega (arith, j .ends, j .inside, tb .size)) ∙ sym (j .ends))
 
       within-is : within-at f at ≡ c
       unfolding within-at
       within-is =
-          let j = evaluate-is f x ts mo tb ws os good b q c is-q in
+          let j = evaluate-is f x ts mo tb ws os good 0 b q c is-q in
           rw goal-is (later-is b (sizeT f b) (omega (arith, j .ends, j .inside, tb .size)) ∙ sym (j .ends))
 
-      cause : truth-of (seenJ f x at vs ws .cause) ≡ evaluate p present
+      cause : truth-of (seenJ f x at vs ws .cause) ≡ stated p present
       unfolding seenJ
-      cause = ap (λ (y : ℕ). truth-of (evaluateT f x ws y)) three ∙ evaluate-is f x ts mo tb ws os good (at + 3) p b is-p .is
+      cause = ap (λ (y : ℕ). truth-of (evaluateT f x ws 0 y)) three ∙ evaluate-is f x ts mo tb ws os good 0 (at + 3) p b is-p .is
+          ∙ same-truth at-first midnight present p (w .0)
 
-      goal : truth-of (seenJ f x at vs ws .goal) ≡ evaluate q present
+      goal : truth-of (seenJ f x at vs ws .goal) ≡ stated q present
       unfolding seenJ
-      goal = ap (λ (y : ℕ). truth-of (evaluateT f x ws y)) goal-is ∙ evaluate-is f x ts mo tb ws os good b q c is-q .is
+      goal = ap (λ (y : ℕ). truth-of (evaluateT f x ws 0 y)) goal-is ∙ evaluate-is f x ts mo tb ws os good 0 b q c is-q .is
+          ∙ same-truth at-first midnight present q (w .1)
 
-      earlier : truth-of (seenJ f x at vs ws .earlier) ≡ evaluate q before
+      earlier : truth-of (seenJ f x at vs ws .earlier) ≡ stated q before
       unfolding seenJ
-      earlier = ap (λ (y : ℕ). truth-of (evaluateT f x vs y)) goal-is ∙ evaluate-is f x ts mo tb vs ns ok b q c is-q .is
+      earlier = ap (λ (y : ℕ). truth-of (evaluateT f x vs 0 y)) goal-is ∙ evaluate-is f x ts mo tb vs ns ok 0 b q c is-q .is
+          ∙ same-truth at-first midnight before q (w .1)
 
       within : seenJ f x at vs ws .within ≡ n
       unfolding seenJ
@@ -274,25 +287,25 @@ module _ (f x : List ℕ) (ts : List Text) (mo : Model) (tb : Tabled f x ts mo) 
       response-is id =
           responded-is (seenJ f x at vs ws) (r .second) (eqb (r .kind) 9) m
           ∙ ap (λ (y : kleene.Truth). told y (truth-of (seenJ f x at vs ws .goal)) (truth-of (seenJ f x at vs ws .earlier)) (seenJ f x at vs ws .within) (r .second) (eqb (r .kind) 9) (memory-of m)) cause
-          ∙ ap (λ (y : kleene.Truth). told (evaluate p present) y (truth-of (seenJ f x at vs ws .earlier)) (seenJ f x at vs ws .within) (r .second) (eqb (r .kind) 9) (memory-of m)) goal
-          ∙ ap (λ (y : kleene.Truth). told (evaluate p present) (evaluate q present) y (seenJ f x at vs ws .within) (r .second) (eqb (r .kind) 9) (memory-of m)) earlier
-          ∙ ap (λ (y : ℕ). told (evaluate p present) (evaluate q present) (evaluate q before) y (r .second) (eqb (r .kind) 9) (memory-of m)) within
-          ∙ ap (λ (y : Bool). told (evaluate p present) (evaluate q present) (evaluate q before) n (r .second) y (memory-of m)) (sym (horizon-is x ts r))
+          ∙ ap (λ (y : kleene.Truth). told (stated p present) y (truth-of (seenJ f x at vs ws .earlier)) (seenJ f x at vs ws .within) (r .second) (eqb (r .kind) 9) (memory-of m)) goal
+          ∙ ap (λ (y : kleene.Truth). told (stated p present) (stated q present) y (seenJ f x at vs ws .within) (r .second) (eqb (r .kind) 9) (memory-of m)) earlier
+          ∙ ap (λ (y : ℕ). told (stated p present) (stated q present) (stated q before) y (r .second) (eqb (r .kind) 9) (memory-of m)) within
+          ∙ ap (λ (y : Bool). told (stated p present) (stated q present) (stated q before) n (r .second) y (memory-of m)) (sym (horizon-is x ts r))
 
-    by-parts : (i : Invariant) → Parts at i → Is i
-    unfolding readJ read neverJ guardJ transitionJ record-of
-    by-parts i (of-never ps q k d inside e) =
+    by-parts : (i : Invariant) → windowless-invariant i ≡ true → Parts at i → Is i
+    unfolding windowless-invariant readJ read neverJ guardJ transitionJ record-of
+    by-parts i w (of-never ps q k d inside e) =
         let t = later-is at 3 (omega (arith, tb .size)) in
         rw (k, t)
-        (never-is (allT f x ws (at + 3) .truth) (evaluate-all ps present) m (all-is f x ts mo tb ws os good (at + 3) ps q e .is))
-    by-parts i (of-guard ps q k d inside h j e) =
+        (never-is (allT f x ws 0 (at + 3) .truth) (stated-all ps present) m (all-is f x ts mo tb ws os good 0 (at + 3) ps q e .is ∙ same-truths at-first midnight present ps w))
+    by-parts i w (of-guard ps q k d inside h j e) =
         let t = later-is at 7 (omega (arith, tb .size)) in
         rw (k, t, ← about-is at r placed h j)
-        (guard-is (aboutJ f at r) (allT f x vs (at + 7) .truth) (evaluate-all ps before) m (all-is f x ts mo tb vs ns ok (at + 7) ps q e .is))
-    by-parts i (of-transition k d inside h j o) =
+        (guard-is (aboutJ f at r) (allT f x vs 0 (at + 7) .truth) (stated-all ps before) m (all-is f x ts mo tb vs ns ok 0 (at + 7) ps q e .is ∙ same-truths at-first midnight before ps w))
+    by-parts i w (of-transition k d inside h j o) =
         rw (k, ← passes-is at (r .change) placed h j o) (transition-is (passesJ f at (r .change)) m)
-    by-parts i (of-response p q n b c k d inside e g h) =
-        rw k (response-is p q n b c inside e g h (T (two f (at + 1))))
+    by-parts i w (of-response p q n b c k d inside e g h) =
+        rw k (response-is p q n b c inside e g h (both-true (no-window p) (no-window q) w) (T (two f (at + 1))))
 
-    pub read-is : (i : Invariant) (q : ℕ) → invariant ts f at ≡ got i q → Is i
-    read-is i q e = by-parts i (parts at i q e)
+    pub read-is : (i : Invariant) (q : ℕ) → invariant ts f at ≡ got i q → windowless-invariant i ≡ true → Is i
+    read-is i q e w = by-parts i w (parts at i q e)

@@ -11,6 +11,7 @@ use Rattle.texts.specs.Texts.{Text, text, eqT}
 use Rattle.model.specs.Validate.{undecided}
 use Rattle.model.specs.Model.{
   Source,
+  Moment,
   Effect,
   toggle,
   delay,
@@ -50,6 +51,7 @@ use Rattle.engine.specs.Engine.{
   toggled,
   _then_,
   select,
+  moment,
   next-step,
   log,
   log-rule,
@@ -206,7 +208,8 @@ module _ (inE inA : Text → Bool) where
       → Good (offer now x from to r e)
   unfolding offer log append
   g-offer now x from to r e k g =
-      if-prop Good (any (matches x from to) (r .triggers)) (g-admit now (evaluate-all (r .conditions) (e .cells)) r _ k g) g
+      if-prop Good (any (matches x from to) (r .triggers))
+      (g-admit now (evaluate-all (moment now e) (r .conditions) (e .cells)) r _ k g) g
 
   g-offers : (now : ℕ) (x from to : Text) (l : List Automation) (e : Engine) → Every (Steps.good-rule inE inA) l
       → Good e → Good (through (offer now x from to) l e)
@@ -226,12 +229,12 @@ module _ (inE inA : Text → Bool) where
   g-tested now No r e g = g-finish now r e g
   g-tested now Unknown r e g = g-finish now r _ g
 
-  select-fine : (b : Bool) (bs : Branches) (d : Actions) (l : List Cell)
+  select-fine : (b : Bool) (t : Moment) (bs : Branches) (d : Actions) (l : List Cell)
       → all (Steps.fine inE inA b) (within-branches bs ++ walk d) ≡ true
-      → (a : Actions) → select bs d l ≡ some a → Steps.fine-acts inE inA b a ≡ true
+      → (a : Actions) → select t bs d l ≡ some a → Steps.fine-acts inE inA b a ≡ true
   unfolding select within-branches Steps.fine-acts
-  select-fine b no-branch d l k a e = subst (λ (z : Actions). all (Steps.fine inE inA b) (walk z) ≡ true) (some-eq e) k
-  select-fine b (branch ps as′ bs) d l k a e = go (evaluate-all ps l) e (select-fine b bs d l rest a)
+  select-fine b t no-branch d l k a e = subst (λ (z : Actions). all (Steps.fine inE inA b) (walk z) ≡ true) (some-eq e) k
+  select-fine b t (branch ps as′ bs) d l k a e = go (evaluate-all t ps l) e (select-fine b t bs d l rest a)
     where
       both : all (Steps.fine inE inA b) (walk as′) && all (Steps.fine inE inA b) (within-branches bs ++ walk d) ≡ true
       both = and-i _ _ (all-l (Steps.fine inE inA b) (walk as′) _
@@ -242,8 +245,8 @@ module _ (inE inA : Text → Bool) where
       rest : all (Steps.fine inE inA b) (within-branches bs ++ walk d) ≡ true
       rest = and-r (all (Steps.fine inE inA b) (walk as′)) _ both
 
-      go : (t : Truth) → elim t [ Yes ↦ some as′ | No ↦ select bs d l | Unknown ↦ none ] ≡ some a
-          → (select bs d l ≡ some a → all (Steps.fine inE inA b) (walk a) ≡ true)
+      go : (v : Truth) → elim v [ Yes ↦ some as′ | No ↦ select t bs d l | Unknown ↦ none ] ≡ some a
+          → (select t bs d l ≡ some a → all (Steps.fine inE inA b) (walk a) ≡ true)
           → all (Steps.fine inE inA b) (walk a) ≡ true
       go Yes p ih = subst (λ (z : Actions). all (Steps.fine inE inA b) (walk z) ≡ true) (some-eq p)
           (and-l (all (Steps.fine inE inA b) (walk as′)) _ both)
@@ -258,9 +261,10 @@ module _ (inE inA : Text → Bool) where
   g-perform now (Effect.set x v) src r e q w k g = g-update now x v (some (r .key .rule)) (some src) Kind.action e g
   g-perform now (toggle x) src r e q w k g = g-flip now x src r e g
   g-perform now (delay m) src r e q w k g = g
-  g-perform now (condition p) src r e q w k g = g-tested now (evaluate p (e .cells)) r _ g
+  g-perform now (condition p) src r e q w k g = g-tested now (evaluate (moment now e) p (e .cells)) r _ g
   g-perform now (choose bs d) src r e q w k g = unfold chosen in
-      (go (select bs d (e .cells)) (λ a p. select-fine (inA (r .key .rule)) bs d (e .cells) (unfold within in w) a p))
+      (go (select (moment now e) bs d (e .cells))
+      (λ a p. select-fine (inA (r .key .rule)) (moment now e) bs d (e .cells) (unfold within in w) a p))
     where
       joined : (a : Actions) → Steps.fine-acts inE inA (inA (r .key .rule)) a ≡ true → okay (left (a then r .actions) r)
       joined a p = unfold Steps.good-run Steps.fine-acts in

@@ -74,6 +74,7 @@ module _ (inE inA : Text → Bool) where
     unknown = [];
     overflow = none;
     areas = record { queue = 0; records = 0; runs = 0 };
+    start = e .start;
   }
 
   pub strip-eq : {e c : Engine} → Steps.Like inE inA e c → strip e ≡ strip c
@@ -87,6 +88,7 @@ module _ (inE inA : Text → Bool) where
     unknown = [];
     overflow = none;
     areas = record { queue = 0; records = 0; runs = 0 };
+    start = (h .of-start) i;
   }
 
   bares-again : (l : List Run) → View.bares inE inA (View.bares inE inA l) ≡ View.bares inE inA l
@@ -105,6 +107,7 @@ module _ (inE inA : Text → Bool) where
     of-runs = sym (bares-again (e .runs));
     of-made = sym (keep-again inA (e .made));
     of-trace = sym (keep-again (View.cone-trace inE inA) (e .trace));
+    of-start = refl;
   }
 
   -- the cone's own loop: none if the steps are spent

@@ -26,6 +26,7 @@ use Rattle.texts.specs.Texts.{Text, text, eqT}
 use Rattle.model.specs.Validate.{undecided}
 use Rattle.model.specs.Model.{
   Source,
+  Moment,
   Trigger,
   Effect,
   toggle,
@@ -45,7 +46,7 @@ use Rattle.model.specs.Model.{
 }
 use Rattle.engine.specs.Cells.{Cell, cell-of, value-of, put}
 use Rattle.engine.specs.Kleene.{Truth, Yes, No, Unknown}
-use Rattle.engine.specs.Truth.{evaluate, evaluate-all, matches}
+use Rattle.engine.specs.Truth.{moment-after, evaluate, evaluate-all, matches}
 use Rattle.engine.specs.Modes.{Decision, already-running, max-reached, start, stop-and-start, wait-in-line, decide}
 use Rattle.engine.specs.Reasons.{unsupported-wait}
 use Rattle.engine.specs.Records.{Key, Waiting, Run, Work, Kind, Change, Engine}
@@ -67,6 +68,7 @@ use Rattle.engine.specs.Engine.{
   toggled,
   _then_,
   select,
+  moment,
   at-once,
   next-step,
   log,
@@ -450,9 +452,9 @@ module _ (inE inA : Text → Bool) where
       → Like (offer now x from to r e) (offer now x from to r c)
   unfolding offer boundary
   offer-like now x from to r e c i k h =
-      rw (← (View.same-truths inE inA (e .cells) (c .cells) (h .of-cells) (r .conditions) k))
+      rw (← (View.like-truths inE inA now h (r .conditions) k))
       (View.like-if inE inA (any (matches x from to) (r .triggers))
-      (admit-like now (evaluate-all (r .conditions) (e .cells)) r _ _ i
+      (admit-like now (evaluate-all (moment now e) (r .conditions) (e .cells)) r _ _ i
       (quiet now now _ _ (some (r .id)) (some (r .id)) (some (r .source)) (some (r .source)) e c refl refl h))
       h)
 
@@ -461,7 +463,7 @@ module _ (inE inA : Text → Bool) where
   unfolding offer boundary
   offer-out now x from to r e i =
       View.like-if-out inE inA (any (matches x from to) (r .triggers))
-      (View.like-trans inE inA (admit-out now (evaluate-all (r .conditions) (e .cells)) r _ i)
+      (View.like-trans inE inA (admit-out now (evaluate-all (moment now e) (r .conditions) (e .cells)) r _ i)
       (View.o-log inE inA e now _ (some (r .id)) (some (r .source)) refl))
       (View.like-refl inE inA)
 
@@ -602,19 +604,19 @@ module _ (inE inA : Text → Bool) where
   tested-out now No r e i = finish-out now r e i
   tested-out now Unknown r e i = View.like-trans inE inA (finish-out now r _ i) (View.o-uncertain inE inA e _)
 
-  select-same : (bs : Branches) (d : Actions) (l l′ : List Cell)
+  select-same : (t : Moment) (bs : Branches) (d : Actions) (l l′ : List Cell)
       → all inE (flat (flat predicate-reads) (conditions-of bs)) ≡ true
-      → keep (View.cone-cell inE inA) l ≡ keep (View.cone-cell inE inA) l′ → select bs d l ≡ select bs d l′
+      → keep (View.cone-cell inE inA) l ≡ keep (View.cone-cell inE inA) l′ → select t bs d l ≡ select t bs d l′
   unfolding select conditions-of flat
-  select-same no-branch d l l′ k s = refl
-  select-same (branch ps as′ bs) d l l′ k s =
-      go (View.same-truths inE inA l l′ s ps
+  select-same t no-branch d l l′ k s = refl
+  select-same t (branch ps as′ bs) d l l′ k s =
+      go (View.same-truths inE inA l l′ s t ps
       (all-l inE (flat predicate-reads ps) (flat (flat predicate-reads) (conditions-of bs)) k))
-      (select-same bs d l l′ (all-r inE (flat predicate-reads ps) (flat (flat predicate-reads) (conditions-of bs)) k) s)
+      (select-same t bs d l l′ (all-r inE (flat predicate-reads ps) (flat (flat predicate-reads) (conditions-of bs)) k) s)
     where
-      go : {t t′ : Truth} → t ≡ t′ → {o o′ : Option Actions} → o ≡ o′
-          → _≡_ {A = Option Actions} (elim t [ Yes ↦ some as′ | No ↦ o | Unknown ↦ none ])
-          (elim t′ [ Yes ↦ some as′ | No ↦ o′ | Unknown ↦ none ])
+      go : {v v′ : Truth} → v ≡ v′ → {o o′ : Option Actions} → o ≡ o′
+          → _≡_ {A = Option Actions} (elim v [ Yes ↦ some as′ | No ↦ o | Unknown ↦ none ])
+          (elim v′ [ Yes ↦ some as′ | No ↦ o′ | Unknown ↦ none ])
       go p q = λ i. elim (p i) [ Yes ↦ some as′ | No ↦ q i | Unknown ↦ none ]
 
   chosen-like : (now : ℕ) (o : Option Actions) (src : Source) (r : Run) (n : ℕ) (e c : Engine)
@@ -671,13 +673,14 @@ module _ (inE inA : Text → Bool) where
   perform-like now (delay m) src r n e c i g h = View.l-add inE inA (quiet-act now (Kind.delay m) src r n e c refl h)
       (record { at = now + m; work = Work.resume (r .key) })
   perform-like now (condition p) src r n e c i g h =
-      rw (← (View.same-truth inE inA (e .cells) (c .cells) (h .of-cells) p (and-l (all inE (predicate-reads p)) true g)))
-      (tested-like now (evaluate p (e .cells)) r n _ _ i
-      (quiet-act now (Kind.condition (evaluate p (e .cells))) src r n e c refl h))
+      rw (← (View.like-truth inE inA now h p (and-l (all inE (predicate-reads p)) true g)))
+      (tested-like now (evaluate (moment now e) p (e .cells)) r n _ _ i
+      (quiet-act now (Kind.condition (evaluate (moment now e) p (e .cells))) src r n e c refl h))
   perform-like now (choose bs d) src r n e c i g h =
-      rw (← (select-same bs d (e .cells) (c .cells)
-      (and-l (all inE (flat (flat predicate-reads) (conditions-of bs))) true g) (h .of-cells)))
-      (chosen-like now (select bs d (e .cells)) src r n e c i h)
+      rw (← (select-same (moment now e) bs d (e .cells) (c .cells)
+      (and-l (all inE (flat (flat predicate-reads) (conditions-of bs))) true g) (h .of-cells)
+      ∙ ap (λ (o : Moment). select (moment-after o now) bs d (c .cells)) (h .of-start)))
+      (chosen-like now (select (moment now e) bs d (e .cells)) src r n e c i h)
   perform-like now (wait t s k) src r n e c i g h = wait-like now t s k src r n e c i h
   perform-like now (Effect.unknown reason) src r n e c i g h =
       finish-like now r n _ _ i (quiet-act now (Kind.unknown reason) src r n _ _ refl
@@ -693,9 +696,10 @@ module _ (inE inA : Text → Bool) where
       View.like-trans inE inA (next-out now r _ i) (flip-out now x src r e (not-true (inE x) g))
   perform-out now (delay m) src r e i g = View.like-trans inE inA (item-out (now + m) (Work.resume (r .key)) _ i)
       (out-act now (Kind.delay m) src r e refl)
-  perform-out now (condition p) src r e i g = View.like-trans inE inA (tested-out now (evaluate p (e .cells)) r _ i)
-      (out-act now (Kind.condition (evaluate p (e .cells))) src r e refl)
-  perform-out now (choose bs d) src r e i g = chosen-out now (select bs d (e .cells)) src r e i
+  perform-out now (condition p) src r e i g =
+      View.like-trans inE inA (tested-out now (evaluate (moment now e) p (e .cells)) r _ i)
+      (out-act now (Kind.condition (evaluate (moment now e) p (e .cells))) src r e refl)
+  perform-out now (choose bs d) src r e i g = chosen-out now (select (moment now e) bs d (e .cells)) src r e i
   perform-out now (wait t s k) src r e i g = wait-out now t s k src r e i
   perform-out now (Effect.unknown reason) src r e i g =
       View.like-trans inE inA (finish-out now r _ i)

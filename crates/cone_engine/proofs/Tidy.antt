@@ -45,6 +45,7 @@ use Rattle.engine.specs.Engine.{
   toggled,
   _then_,
   select,
+  moment,
   at-once,
   next-step,
   log,
@@ -275,8 +276,9 @@ module _ (now : ℕ) where
   t-offers x from to (r ∷ l) e h =
       t-offers x from to l _
       (if-prop (Tidy now) (any (matches x from to) (r .triggers))
-      (t-admit (evaluate-all (r .conditions) (e .cells)) r _
-      (t-log (Kind.trigger (evaluate-all (r .conditions) (e .cells))) (some (r .id)) (some (r .source)) none e refl h)) h)
+      (t-admit (evaluate-all (moment now e) (r .conditions) (e .cells)) r _
+      (t-log (Kind.trigger (evaluate-all (moment now e) (r .conditions) (e .cells))) (some (r .id)) (some (r .source)) none e
+      refl h)) h)
 
   t-write : (x v : Text) (src : Source) (r : Run) (e : Engine) → Tidy now e → Tidy now (write now x v src r e)
   unfolding write boundary
@@ -302,8 +304,9 @@ module _ (now : ℕ) where
   t-perform (delay m) src r e h = t-add (record { at = now + m; work = Work.resume (r .key) }) _ (omega arith)
       (t-act (Kind.delay m) src r e refl h)
   t-perform (condition p) src r e h =
-      t-tested (evaluate p (e .cells)) r _ (t-act (Kind.condition (evaluate p (e .cells))) src r e refl h)
-  t-perform (choose bs d) src r e h = t-chosen (select bs d (e .cells)) src r e h
+      t-tested (evaluate (moment now e) p (e .cells)) r _
+      (t-act (Kind.condition (evaluate (moment now e) p (e .cells))) src r e refl h)
+  t-perform (choose bs d) src r e h = t-chosen (select (moment now e) bs d (e .cells)) src r e h
   t-perform (wait t s c) src r e h =
       if-prop (Tidy now) (absent (t .note))
       (t-act (Kind.wait s) src r _ refl

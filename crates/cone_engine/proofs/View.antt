@@ -7,13 +7,14 @@ use mathlib.Core.List.{List, [], _∷_, _++_}
 use mathlib.Core.Option.{Option, none, some}
 use Rattle.texts.specs.Lists.{if_then_else_, present-and, all, keep, find, tally, each, flat, through}
 use Rattle.texts.specs.Texts.{Text, eqT}
-use Rattle.model.specs.Model.{Source, Predicate, state, Input, reload, Automation}
+use Rattle.model.specs.Model.{Source, Moment, Predicate, state, window, Input, reload, Automation}
 use Rattle.engine.specs.Cells.{Cell, is-cell, cell-of, value-of, overwrite, put}
-use Rattle.engine.specs.Truth.{evaluate, evaluate-all}
+use Rattle.engine.specs.Truth.{moment-after, evaluate, evaluate-all}
 use Rattle.engine.specs.Records.{Key, Run, Work, Item, Kind, Trace, Engine}
 use Rattle.engine.specs.Changes.{with-cells, add, append, with-runs, add-run, uncertain, with-queue, adds}
 use Rattle.engine.specs.Engine.{
   is-run,
+  moment,
   of-rule,
   in-place,
   awaits,
@@ -178,19 +179,20 @@ module _ (inE inA : Text → Bool) where
     pub same-put : (x v : Text) (k : ℕ) → keep cone-cell (put x v k l) ≡ keep cone-cell (put x v k l′)
     same-put x v k = put-keep x v k l ∙ ap (put x v k) s ∙ sym (put-keep x v k l′)
 
-    pub same-truth : (p : Predicate) → all inE (predicate-reads p) ≡ true → evaluate p l ≡ evaluate p l′
+    pub same-truth : (t : Moment) (p : Predicate) → all inE (predicate-reads p) ≡ true → evaluate t p l ≡ evaluate t p l′
     unfolding evaluate predicate-reads all
-    same-truth (state x v) h = rw (same-cell x (and-l (inE x) true h), evaluate)
-    same-truth (Predicate.unknown r) h = refl
+    same-truth t (state x v) h = rw (same-cell x (and-l (inE x) true h), evaluate)
+    same-truth t (Predicate.unknown r) h = refl
+    same-truth t (window d b e) h = refl
 
-    pub same-truths : (ps : List Predicate) → all inE (flat predicate-reads ps) ≡ true
-        → evaluate-all ps l ≡ evaluate-all ps l′
+    pub same-truths : (t : Moment) (ps : List Predicate) → all inE (flat predicate-reads ps) ≡ true
+        → evaluate-all t ps l ≡ evaluate-all t ps l′
     unfolding evaluate-all flat
-    same-truths [] h = refl
-    same-truths (p ∷ ps) h = rw (
-      same-truth p
+    same-truths t [] h = refl
+    same-truths t (p ∷ ps) h = rw (
+      same-truth t p
           (all-l inE (predicate-reads p) (flat predicate-reads ps) h),
-      same-truths ps
+      same-truths t ps
           (all-r inE (predicate-reads p) (flat predicate-reads ps) h),
     )
 
@@ -356,9 +358,22 @@ module _ (inE inA : Text → Bool) where
     pub of-runs : bares (e .runs) ≡ bares (c .runs)
     pub of-made : keep inA (e .made) ≡ keep inA (c .made)
     pub of-trace : keep cone-trace (e .trace) ≡ keep cone-trace (c .trace)
+    pub of-start : e .start ≡ c .start
+
+  pub like-truth : (now : ℕ) {e c : Engine} → Like e c → (p : Predicate) → all inE (predicate-reads p) ≡ true
+      → evaluate (moment now e) p (e .cells) ≡ evaluate (moment now c) p (c .cells)
+  like-truth now {e} {c} h p k =
+      same-truth (e .cells) (c .cells) (h .of-cells) (moment now e) p k
+      ∙ ap (λ (o : Moment). evaluate (moment-after o now) p (c .cells)) (h .of-start)
+
+  pub like-truths : (now : ℕ) {e c : Engine} → Like e c → (ps : List Predicate) → all inE (flat predicate-reads ps) ≡ true
+      → evaluate-all (moment now e) ps (e .cells) ≡ evaluate-all (moment now c) ps (c .cells)
+  like-truths now {e} {c} h ps k =
+      same-truths (e .cells) (c .cells) (h .of-cells) (moment now e) ps k
+      ∙ ap (λ (o : Moment). evaluate-all (moment-after o now) ps (c .cells)) (h .of-start)
 
   pub like-refl : {e : Engine} → Like e e
-  like-refl = record { of-cells = refl; of-queue = refl; of-runs = refl; of-made = refl; of-trace = refl }
+  like-refl = record { of-cells = refl; of-queue = refl; of-runs = refl; of-made = refl; of-trace = refl; of-start = refl }
 
   pub like-sym : {e c : Engine} → Like e c → Like c e
   like-sym h = record {
@@ -368,6 +383,7 @@ module _ (inE inA : Text → Bool) where
         sym (h .of-runs);
     of-made = sym (h .of-made);
     of-trace = sym (h .of-trace);
+    of-start = sym (h .of-start);
   }
 
   pub like-trans : {e c d : Engine} → Like e c → Like c d → Like e d
@@ -377,6 +393,7 @@ module _ (inE inA : Text → Bool) where
     of-runs = h .of-runs ∙ k .of-runs;
     of-made = h .of-made ∙ k .of-made;
     of-trace = h .of-trace ∙ k .of-trace;
+    of-start = h .of-start ∙ k .of-start;
   }
 
   -- from a to e, from b to c
@@ -401,6 +418,7 @@ module _ (inE inA : Text → Bool) where
       of-made =
           h .of-made;
       of-trace = h .of-trace;
+      of-start = h .of-start;
     }
 
     pub l-with-queue : (l l′ : List Item) → keep cone-item l ≡ keep cone-item l′ → Like (with-queue l e) (with-queue l′ c)
@@ -412,6 +430,7 @@ module _ (inE inA : Text → Bool) where
       of-made =
           h .of-made;
       of-trace = h .of-trace;
+      of-start = h .of-start;
     }
 
     pub l-with-runs : (l l′ : List Run) → bares l ≡ bares l′ → Like (with-runs l e) (with-runs l′ c)
@@ -423,6 +442,7 @@ module _ (inE inA : Text → Bool) where
       of-made =
           h .of-made;
       of-trace = h .of-trace;
+      of-start = h .of-start;
     }
 
     pub l-add : (i : Item) → Like (add i e) (add i c)
@@ -435,6 +455,7 @@ module _ (inE inA : Text → Bool) where
       of-runs = h .of-runs;
       of-made = h .of-made;
       of-trace = h .of-trace;
+      of-start = h .of-start;
     }
 
     pub l-append : (t t′ : Trace) → t ≡ t′ → Like (append t e) (append t′ c)
@@ -448,6 +469,7 @@ module _ (inE inA : Text → Bool) where
           keep-append cone-trace (e .trace) (t ∷ [])
           ∙ (λ i. (h .of-trace) i ++ keep cone-trace (p i ∷ []))
           ∙ sym (keep-append cone-trace (c .trace) (t′ ∷ []));
+      of-start = h .of-start;
     }
 
     pub l-add-run : (r : Run) (n : ℕ) → Like (add-run r e) (add-run (renum n r) c)
@@ -463,6 +485,7 @@ module _ (inE inA : Text → Bool) where
           ∙ ap {B = List Text} (λ t. t ++ keep inA (r .key .rule ∷ [])) (h .of-made)
           ∙ sym (keep-append inA (c .made) (r .key .rule ∷ []));
       of-trace = h .of-trace;
+      of-start = h .of-start;
     }
       where
         one : bares (r ∷ []) ≡ bares (renum n r ∷ [])
@@ -481,20 +504,42 @@ module _ (inE inA : Text → Bool) where
       of-made =
           h .of-made;
       of-trace = h .of-trace;
+      of-start = h .of-start;
     }
 
   module _ (e : Engine) where
     pub o-with-cells : (l : List Cell) → keep cone-cell l ≡ keep cone-cell (e .cells) → Like (with-cells l e) e
     unfolding with-cells
-    o-with-cells l p = record { of-cells = p; of-queue = refl; of-runs = refl; of-made = refl; of-trace = refl }
+    o-with-cells l p = record {
+      of-cells = p;
+      of-queue = refl;
+      of-runs = refl;
+      of-made = refl;
+      of-trace = refl;
+      of-start = refl;
+    }
 
     pub o-with-queue : (l : List Item) → keep cone-item l ≡ keep cone-item (e .queue) → Like (with-queue l e) e
     unfolding with-queue
-    o-with-queue l p = record { of-cells = refl; of-queue = p; of-runs = refl; of-made = refl; of-trace = refl }
+    o-with-queue l p = record {
+      of-cells = refl;
+      of-queue = p;
+      of-runs = refl;
+      of-made = refl;
+      of-trace = refl;
+      of-start = refl;
+    }
 
     pub o-with-runs : (l : List Run) → bares l ≡ bares (e .runs) → Like (with-runs l e) e
     unfolding with-runs
-    o-with-runs l p = record { of-cells = refl; of-queue = refl; of-runs = p; of-made = refl; of-trace = refl }
+    o-with-runs l p = record {
+      of-cells = refl;
+      of-queue = refl;
+      of-runs = p;
+      of-made = refl;
+      of-trace = refl;
+      of-start = refl;
+    }
 
     pub o-add : (i : Item) → cone-item i ≡ false → Like (add i e) e
     unfolding add
@@ -505,6 +550,7 @@ module _ (inE inA : Text → Bool) where
       of-made =
           refl;
       of-trace = refl;
+      of-start = refl;
     }
 
     pub o-append : (t : Trace) → cone-trace t ≡ false → Like (append t e) e
@@ -516,6 +562,7 @@ module _ (inE inA : Text → Bool) where
       of-made = refl;
       of-trace =
           keep-end-out cone-trace (e .trace) t p;
+      of-start = refl;
     }
 
     pub o-log : (now : ℕ) (k : Kind) (id : Option Text) (s : Option Source) → boundary k ≡ false
@@ -531,11 +578,19 @@ module _ (inE inA : Text → Bool) where
       of-runs = unfold bares in (ap (each bare) (keep-end-out cone-run (e .runs) r p));
       of-made = keep-end-out inA (e .made) (r .key .rule) p;
       of-trace = refl;
+      of-start = refl;
     }
 
     pub o-uncertain : (t : Text) → Like (uncertain t e) e
     unfolding uncertain
-    o-uncertain t = record { of-cells = refl; of-queue = refl; of-runs = refl; of-made = refl; of-trace = refl }
+    o-uncertain t = record {
+      of-cells = refl;
+      of-queue = refl;
+      of-runs = refl;
+      of-made = refl;
+      of-trace = refl;
+      of-start = refl;
+    }
 
   -- items that are added one by one
   queue-adds : (l : List Item) (e : Engine) → (adds l e) .queue ≡ e .queue ++ l
@@ -557,6 +612,7 @@ module _ (inE inA : Text → Bool) where
         of-made =
             k .of-made;
         of-trace = k .of-trace;
+        of-start = k .of-start;
       })
 
   pub l-adds : (e c : Engine) → Like e c → (l l′ : List Item) → keep cone-item l ≡ keep cone-item l′
@@ -574,6 +630,7 @@ module _ (inE inA : Text → Bool) where
         of-runs = a .of-runs ∙ h .of-runs ∙ sym (b .of-runs);
         of-made = a .of-made ∙ h .of-made ∙ sym (b .of-made);
         of-trace = a .of-trace ∙ h .of-trace ∙ sym (b .of-trace);
+        of-start = a .of-start ∙ h .of-start ∙ sym (b .of-start);
       }
 
   pub o-adds : (e : Engine) (l : List Item) → keep cone-item l ≡ [] → Like (adds l e) e

@@ -1,6 +1,7 @@
 -- Demand 3 is about something: two files that differ in their texts, entities, automations and events outside the cone
 -- meet all premises of its part on checks and of its part on searches. In both checks an invariant of each kind fails, at
--- the same second from the same source; both searches find the same witness.
+-- the same second from the same source; both searches find the same witness. The automation that unlocks the door has a
+-- window past midnight, and with another start the door stays locked.
 use Prim.Native.Nat.{ℕ}
 use mathlib.Core.List.{List, [], _∷_}
 use mathlib.Core.Option.{Option, none, some}
@@ -17,7 +18,7 @@ use Rattle.cone.specs.Cone.{all-cone}
 use Rattle.cone_judge.specs.Told.{About, fails, late}
 use Rattle.independence.specs.Alike.{all-alike}
 use Rattle.independence.specs.Demand.{all-demand}
-use Rattle.cone_example.specs.EachKind.{first, second, all-each-kind}
+use Rattle.cone_example.specs.EachKind.{before-midnight, first-from, first, second, all-each-kind}
 use Rattle.cone_example.proofs.Premises.{
   plenty,
   answered,
@@ -121,3 +122,19 @@ met = meet
     (record { accepts = first-sizes; checks = first-checked; tells = first-told; verifies = first-verified })
     (record { accepts = second-sizes; checks = second-checked; tells = second-told; verifies = second-verified })
     (record { cones = same-shared; searches = same-settings; inside = inside })
+
+-- ---- the start matters: on weekday 6 the window of weekday 0 is closed at midnight, and the door stays locked
+pub other-start : answered whole-verdict (check plenty (first-from (before-midnight 6))) ≡ answer (
+  [],
+  record {
+    status = Status.violation;
+    steps = 7;
+    records = 9;
+    violations = violation (text "lamp") 5 2 none forbidden-transition
+        ∷ violation (text "lampdoor") 10 8 none (deadline-missed 7)
+        ∷ [];
+    unknown = [];
+  },
+)
+unfolding all-check all-each-kind answered plenty
+other-start = refl

@@ -8,7 +8,7 @@ use lib.ListN.{length}
 use Rattle.texts.specs.Lists.{all}
 use Rattle.texts.specs.Texts.{Text}
 use Rattle.model.specs.Answer.{Answer, answer, refused, _>>=_}
-use Rattle.model.specs.Model.{Entity, Automation, Input, Event, Invariant, Model}
+use Rattle.model.specs.Model.{Entity, Moment, Automation, Input, Event, Invariant, Model}
 use Rattle.model.specs.Validate.{accepted}
 use Rattle.engine.specs.Records.{Areas}
 use Rattle.engine.proofs.Distinct.{answer-eq, refused-answer}
@@ -141,12 +141,15 @@ one {file} {sizes} {told} {each} {end} k =
 
 -- what alike models share, and what searches with the same settings do
 abbrev Shared : Type 0
-Shared = List Invariant × (ℕ × (List Text × (List Entity × (List Automation × List Event))))
+Shared = List Invariant × (ℕ × (Moment × (List Text × (List Entity × (List Automation × List Event)))))
 
 abbrev pub shared : Model → Shared
 shared m = (
   m .scenario .invariants,
-  (m .scenario .limits .horizon, ((cone-of m) .entities, (cone-declarations m, (cone-automations m, cone-events m)))),
+  (
+    m .scenario .limits .horizon,
+    (m .start, ((cone-of m) .entities, (cone-declarations m, (cone-automations m, cone-events m)))),
+  ),
 )
 
 abbrev Settings : Type 0
@@ -175,10 +178,11 @@ module _ {file file′ : List ℕ} (a : Agree file file′) (m m′ : Model) (p 
       go e = record {
         same-invariants = ap (λ (x : Shared). x .0) e;
         same-horizon = ap (λ (x : Shared). x .1 .0) e;
-        same-entities = ap (λ (x : Shared). x .1 .1 .0) e;
-        same-declarations = ap (λ (x : Shared). x .1 .1 .1 .0) e;
-        same-automations = ap (λ (x : Shared). x .1 .1 .1 .1 .0) e;
-        same-events = ap (λ (x : Shared). x .1 .1 .1 .1 .1) e;
+        same-start = ap (λ (x : Shared). x .1 .1 .0) e;
+        same-entities = ap (λ (x : Shared). x .1 .1 .1 .0) e;
+        same-declarations = ap (λ (x : Shared). x .1 .1 .1 .1 .0) e;
+        same-automations = ap (λ (x : Shared). x .1 .1 .1 .1 .1 .0) e;
+        same-events = ap (λ (x : Shared). x .1 .1 .1 .1 .1 .1) e;
       }
 
   same-search : SameSearch m m′

@@ -34,10 +34,18 @@ restarts t = four t ++ 1 ∷ []
 unfoldable pub trigger : (entity to line column : ℕ) → List ℕ
 trigger x v l c = two x ++ absent ++ two v ++ four l ++ four c ++ absent
 
--- one automation: a trigger, no condition, actions, its source, no note
-unfoldable pub automation : (id mode entity to : ℕ) → (count : ℕ) → (actions : List ℕ) → (line : ℕ) → List ℕ
-automation i m x v n as′ line =
-    two i ++ m ∷ four 1 ++ two 1 ++ trigger x v line 1 ++ two 0 ++ two n ++ as′ ++ four line ++ four 1 ++ two 0
+-- conditions: none, or one, a window with its weekdays, start and end
+abbrev pub always : List ℕ
+always = two 0
+
+unfoldable pub in-window : (days : ℕ) → (start end : List ℕ) → List ℕ
+in-window d b e = two 1 ++ 2 ∷ d ∷ b ++ e
+
+-- one automation: a trigger, conditions, actions, its source, no note
+unfoldable pub automation : (id mode entity to : ℕ) → (conditions : List ℕ) → (count : ℕ) → (actions : List ℕ)
+    → (line : ℕ) → List ℕ
+automation i m x v ps n as′ line =
+    two i ++ m ∷ four 1 ++ two 1 ++ trigger x v line 1 ++ ps ++ two n ++ as′ ++ four line ++ four 1 ++ two 0
 
 -- actions: set an entity, toggle it, delay, and wait for a change, going on at the timeout
 unfoldable pub sets : (line column name value : ℕ) → List ℕ
@@ -58,5 +66,5 @@ settings x v h n = two 1 ++ 0 ∷ two x ++ two v ++ two 1 ++ four 1 ++ four h ++
 
 -- opens the file, for proofs by computation
 unfoldable pub all-parts : Unit {0}
-unfolding entity event restarts trigger automation sets toggles delays waits settings
+unfolding entity event restarts trigger in-window automation sets toggles delays waits settings
 all-parts = tt

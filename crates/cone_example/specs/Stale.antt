@@ -15,6 +15,7 @@ use Rattle.cone_example.specs.Parts.{
   entity,
   event,
   restarts,
+  always,
   automation,
   sets,
   toggles,
@@ -32,7 +33,7 @@ invariants q b s f o =
     ++ 2 ∷ two b ++ two b ++ two f ++ two o
 
 unfoldable pub ring : (id bell door off on : ℕ) → List ℕ
-ring i b d f o = automation i 0 d o 3 (toggles 7 3 b ++ waits 8 3 d f 4 ++ toggles 9 3 b) 6
+ring i b d f o = automation i 0 d o always 3 (toggles 7 3 b ++ waits 8 3 d f 4 ++ toggles 9 3 b) 6
 
 -- ---- the first file: places bell 0, door 1, glow 2, home 3, lamp 4, off 5, on 6, quiet 7, ring 8, sensor 9,
 -- unavailable 10, unknown 11
@@ -50,7 +51,7 @@ first =
     ++ entity 9 5 6 5 (four 5)
     ++ two 5 ++ event 1 1 6 ++ event 2 4 5 ++ event 3 1 5 ++ event 7 1 6 ++ restarts 8
     ++ invariants 7 0 9 5 6 ++ settings 1 6 12 100
-    ++ two 2 ++ automation 2 0 1 6 1 (sets 2 5 4 6) 2 ++ ring 8 0 1 5 6
+    ++ two 2 ++ automation 2 0 1 6 always 1 (sets 2 5 4 6) 2 ++ ring 8 0 1 5 6
 
 -- ---- the second file: places alone 0, bell 1, blind 2, door 3, lamp 4, night 5, off 6, on 7, quiet 8, ring 9, sensor 10,
 -- unavailable 11, unknown 12
@@ -68,7 +69,7 @@ second =
     ++ entity 4 6 7 7 never-stale ++ entity 10 6 7 6 (four 5)
     ++ two 6 ++ event 1 3 7 ++ event 3 3 6 ++ event 4 2 7 ++ event 7 3 7 ++ restarts 8 ++ event 9 4 6
     ++ invariants 8 1 10 6 7 ++ settings 3 7 12 200
-    ++ two 2 ++ ring 9 1 3 6 7 ++ automation 5 1 1 7 2 (delays 11 1 1 ++ toggles 12 1 4) 10
+    ++ two 2 ++ ring 9 1 3 6 7 ++ automation 5 1 1 7 always 2 (delays 11 1 1 ++ toggles 12 1 4) 10
 
 -- opens the file, for proofs by computation
 unfoldable pub all-stale : Unit {0}

@@ -9,7 +9,7 @@ use native.Mathlib.Omega.{arith}
 use Rattle.texts.specs.Lists.{if_then_else_, absent, all, keep, each, flat}
 use Rattle.texts.specs.Texts.{Text, sortedT, insertT, eqT, ltT}
 use Rattle.model.specs.Answer.{answer}
-use Rattle.model.specs.Model.{Event, Invariant, id-of, Model}
+use Rattle.model.specs.Model.{Moment, Event, Invariant, id-of, Model}
 use Rattle.engine.specs.Cells.{Cell}
 use Rattle.engine.specs.Records.{Item, Kind, Trace, Areas, Engine}
 use Rattle.engine.specs.Changes.{append}
@@ -84,10 +84,10 @@ unfolding Queue.late
 all-late [] = tt
 all-late (x ∷ l) = (le-leb 0 (x .at) (omega arith), all-late l)
 
-begun-tidy : (areas : Areas) (cells : List Cell) (notes : List Text) (events : List Event)
-    → Tidy 0 (begun areas cells notes events)
+begun-tidy : (areas : Areas) (origin : Moment) (cells : List Cell) (notes : List Text) (events : List Event)
+    → Tidy 0 (begun areas origin cells notes events)
 unfolding begun log append fair headed boundary absent
-begun-tidy areas cells notes events =
+begun-tidy areas origin cells notes events =
     Tidy.t-adds 0 (flat (expiry 0) cells) _ (all-late (flat (expiry 0) cells))
     (Tidy.t-adds 0 (each event-item events) _ (all-late (each event-item events))
     (record { due = tt; told = (omega arith, omega arith); begins = refl; plain = (refl, tt) }))
@@ -96,7 +96,7 @@ begun-tidy areas cells notes events =
 unfoldable pub run-of : Areas → Model → List Cell → List Event → Ended
 run-of areas m cells events =
     loop (m .rules) (m .scenario .limits .horizon) (m .scenario .limits .max-steps) 0
-    (begun areas cells (unsupported (m .rules)) events)
+    (begun areas (m .start) cells (unsupported (m .rules)) events)
 
 trace-is : (areas : Areas) (m : Model) (cells : List Cell) (events : List Event)
     → (ended areas m cells events) .incomplete ≡ []
@@ -135,7 +135,8 @@ records areas m cells events e = subst (Records h) (sym (trace-is areas m cells 
 
     k : Tidy.Told h l
     k = unfold run-of in (tidy-loop (m .rules) h (m .scenario .limits .max-steps) 0 0
-        (begun areas cells (unsupported (m .rules)) events) (begun-tidy areas cells (unsupported (m .rules)) events)
+        (begun areas (m .start) cells (unsupported (m .rules)) events)
+        (begun-tidy areas (m .start) cells (unsupported (m .rules)) events)
         (omega arith))
 
 module _ (inE inA : Text → Bool) where
@@ -149,21 +150,23 @@ module _ (inE inA : Text → Bool) where
     pub same-rules : keep (View.cone-rule inE inA) (m .rules) ≡ keep (View.cone-rule inE inA) (m′ .rules)
     pub same-cells : keep (View.cone-cell inE inA) cells ≡ keep (View.cone-cell inE inA) cells′
     pub same-horizon : m .scenario .limits .horizon ≡ m′ .scenario .limits .horizon
+    pub same-start : m .start ≡ m′ .start
     pub same-invariants : m .scenario .invariants ≡ m′ .scenario .invariants
     pub named : Every (λ i. all inE (names i)) (m .scenario .invariants)
 
-  begun-good : (areas : Areas) (cells : List Cell) (notes : List Text) (events : List Event)
-      → Every (Steps.good-run inE inA) ((begun areas cells notes events) .runs)
+  begun-good : (areas : Areas) (origin : Moment) (cells : List Cell) (notes : List Text) (events : List Event)
+      → Every (Steps.good-run inE inA) ((begun areas origin cells notes events) .runs)
   unfolding begun log append
-  begun-good areas cells notes events =
+  begun-good areas origin cells notes events =
       Good.g-adds inE inA (flat (expiry 0) cells) _ (Good.g-adds inE inA (each event-item events) _ tt)
 
-  begun-like : (areas areas′ : Areas) (cells cells′ : List Cell) (notes notes′ : List Text)
-      (events events′ : List Event) → keep (View.cone-cell inE inA) cells ≡ keep (View.cone-cell inE inA) cells′
+  begun-like : (areas areas′ : Areas) (origin origin′ : Moment) (cells cells′ : List Cell) (notes notes′ : List Text)
+      (events events′ : List Event) → origin ≡ origin′
+      → keep (View.cone-cell inE inA) cells ≡ keep (View.cone-cell inE inA) cells′
       → keep cone-event events ≡ keep cone-event events′
-      → Steps.Like inE inA (begun areas cells notes events) (begun areas′ cells′ notes′ events′)
+      → Steps.Like inE inA (begun areas origin cells notes events) (begun areas′ origin′ cells′ notes′ events′)
   unfolding begun log
-  begun-like areas areas′ cells cells′ notes notes′ events events′ p q =
+  begun-like areas areas′ origin origin′ cells cells′ notes notes′ events events′ o p q =
       View.l-adds inE inA _ _
       (View.l-adds inE inA _ _
       (View.l-append inE inA (record {
@@ -171,8 +174,8 @@ module _ (inE inA : Text → Bool) where
         of-queue = refl;
         of-runs = refl;
         of-made = refl;
-        of-trace =
-            refl;
+        of-trace = refl;
+        of-start = o;
       }) _ _ refl)
       (each event-item events) (each event-item events′) (side events ∙ ap (each event-item) q ∙ sym (side events′)))
       (flat (expiry 0) cells) (flat (expiry 0) cells′) (stale cells ∙ ap (flat (expiry 0)) p ∙ sym (stale cells′))
@@ -195,10 +198,10 @@ module _ (inE inA : Text → Bool) where
     same-view =
         Slice.alike inE inA (m .rules) (m′ .rules) (m .scenario .limits .horizon) (a .good) (a .good′) (a .same-rules)
         (m .scenario .limits .max-steps) (m′ .scenario .limits .max-steps) s s′
-        (begun-good areas cells (unsupported (m .rules)) events)
-        (begun-good areas′ cells′ (unsupported (m′ .rules)) events′)
-        (Slice.strip-eq inE inA (begun-like areas areas′ cells cells′ (unsupported (m .rules))
-        (unsupported (m′ .rules)) events events′ (a .same-cells) v))
+        (begun-good areas (m .start) cells (unsupported (m .rules)) events)
+        (begun-good areas′ (m′ .start) cells′ (unsupported (m′ .rules)) events′)
+        (Slice.strip-eq inE inA (begun-like areas areas′ (m .start) (m′ .start) cells cells′ (unsupported (m .rules))
+        (unsupported (m′ .rules)) events events′ (a .same-start) (a .same-cells) v))
         ((whole (m .scenario .limits .horizon) (run-of areas m cells events) (unfold ended in e)) .before)
         (rw (a .same-horizon) ((whole (m′ .scenario .limits .horizon) (run-of areas′ m′ cells′ events′)
         (unfold ended in e′)) .before))
@@ -206,10 +209,10 @@ module _ (inE inA : Text → Bool) where
         (a .same-horizon)
       where
         s : Engine
-        s = begun areas cells (unsupported (m .rules)) events
+        s = begun areas (m .start) cells (unsupported (m .rules)) events
 
         s′ : Engine
-        s′ = begun areas′ cells′ (unsupported (m′ .rules)) events′
+        s′ = begun areas′ (m′ .start) cells′ (unsupported (m′ .rules)) events′
 
     same-told : keep (View.cone-trace inE inA) ((run-of areas m cells events) .engine .trace) ≡ keep
         (View.cone-trace inE inA) ((run-of areas′ m′ cells′ events′) .engine .trace)

@@ -9,10 +9,9 @@ use native.Mathlib.Omega.{arith}
 use lib.Dec.{ltb}
 use Rattle.texts.specs.Lists.{if_then_else_, absent, present-and, all, keep, flat}
 use Rattle.texts.specs.Texts.{Text, text, eqT}
-use Rattle.model.specs.Model.{Predicate, Invariant, never, guard, transition, response}
+use Rattle.model.specs.Model.{Predicate, Invariant, never, guard, transition, response, midnight}
 use Rattle.engine.specs.Cells.{Cell, put}
 use Rattle.engine.specs.Kleene.{Truth, Yes, No, Unknown, is-yes, is-no, is-unknown}
-use Rattle.engine.specs.Truth.{evaluate, evaluate-all}
 use Rattle.engine.specs.Records.{Kind, kind-name, Change, Trace}
 use Rattle.lint.specs.Touches.{predicate-reads}
 use Rattle.checker.specs.Judge.{
@@ -22,6 +21,8 @@ use Rattle.checker.specs.Judge.{
   Memory,
   nothing-yet,
   Shown,
+  stated,
+  stated-all,
   after,
   is-action,
   is-horizon,
@@ -258,16 +259,16 @@ module _ (inE inA : Text → Bool) where
   read-same : (i : Invariant) → all inE (names i) ≡ true → (b b′ p p′ : List Cell) → keepC b ≡ keepC b′
       → keepC p ≡ keepC p′ → (t : Trace) (m : Memory) → read i b p t m ≡ read i b′ p′ t m
   unfolding read read-response names all
-  read-same (never id ps) h b b′ p p′ x y t m = rw (View.same-truths inE inA p p′ y ps h)
-  read-same (guard id e v ps) h b b′ p p′ x y t m = rw (View.same-truths inE inA b b′ x ps (and-r (inE e) _ h))
+  read-same (never id ps) h b b′ p p′ x y t m = rw (View.same-truths inE inA p p′ y midnight ps h)
+  read-same (guard id e v ps) h b b′ p p′ x y t m = rw (View.same-truths inE inA b b′ x midnight ps (and-r (inE e) _ h))
   read-same (transition id e f v) h b b′ p p′ x y t m = refl
   read-same (response id w g n) h b b′ p p′ x y t m =
       rw (
-        View.same-truth inE inA p p′ y w
+        View.same-truth inE inA p p′ y midnight w
             (all-l inE (predicate-reads w) (predicate-reads g) h),
-        View.same-truth inE inA p p′ y g
+        View.same-truth inE inA p p′ y midnight g
             (all-r inE (predicate-reads w) (predicate-reads g) h),
-        View.same-truth inE inA b b′ x g
+        View.same-truth inE inA b b′ x midnight g
             (all-r inE (predicate-reads w) (predicate-reads g) h),
       )
 
@@ -383,8 +384,8 @@ module _ (inE inA : Text → Bool) where
   -- ---- never
 
   abbrev NeverSeen : List Predicate → List Cell → Memory → Type 0
-  NeverSeen ps c m = (is-yes (evaluate-all ps c) ≡ false)
-      × (m .unknown-predicate || is-unknown (evaluate-all ps c) ≡ m .unknown-predicate)
+  NeverSeen ps c m = (is-yes (stated-all ps c) ≡ false)
+      × (m .unknown-predicate || is-unknown (stated-all ps c) ≡ m .unknown-predicate)
 
   never-view : (id : Text) (ps : List Predicate) → all inE (names (never id ps)) ≡ true
       → (c : List Cell) (l : List Trace) → headed l ≡ true
@@ -398,7 +399,7 @@ module _ (inE inA : Text → Bool) where
       still : (c : List Cell) (m : Memory) (t : Trace) → kept t ≡ false → NeverSeen ps c m
           → read (never id ps) c (after t c) t m ≡ quiet m
       still c m t q s = unfold read fails-if in
-          (rw (View.same-truths inE inA (after t c) c (after-out t q c) ps ps-in, s .0)
+          (rw (View.same-truths inE inA (after t c) c (after-out t q c) midnight ps ps-in, s .0)
           (λ j. record {
             failure = none;
             memory = record {
@@ -414,9 +415,9 @@ module _ (inE inA : Text → Bool) where
       settles : (b p : List Cell) (t : Trace) (m : Memory) → (read (never id ps) b p t m) .failure ≡ none
           → NeverSeen ps p ((read (never id ps) b p t m) .memory)
       settles b p t m e = unfold read in (
-        no (is-yes (evaluate-all ps p)) (unfold read in e),
+        no (is-yes (stated-all ps p)) (unfold read in e),
         or-same (m .unknown-predicate)
-            (is-unknown (evaluate-all ps p)),
+            (is-unknown (stated-all ps p)),
       )
         where
           no : (y : Bool) → fails-if y prohibited-state ≡ none → y ≡ false
@@ -424,7 +425,7 @@ module _ (inE inA : Text → Bool) where
           no false f = refl
 
       moves : (c c′ : List Cell) (m : Memory) → keepC c ≡ keepC c′ → NeverSeen ps c m → NeverSeen ps c′ m
-      moves c c′ m e s = rw (← (View.same-truths inE inA c c′ e ps ps-in)) s
+      moves c c′ m e s = rw (← (View.same-truths inE inA c c′ e midnight ps ps-in)) s
 
   -- ---- guard and transition
 
@@ -606,7 +607,7 @@ module _ (inE inA : Text → Bool) where
     names-in = Rattle.cone_engine.proofs.Base.all-i inE (predicate-reads p) (predicate-reads q) hp hq
 
     is-shown : (b c : List Cell) (t : Trace) (m : Memory)
-        → read R b c t m ≡ shown-response (evaluate p c) (evaluate q c) (evaluate q b) n t m
+        → read R b c t m ≡ shown-response (stated p c) (stated q c) (stated q b) n t m
     unfolding read read-response shown-response
     is-shown b c t m = refl
 
@@ -629,7 +630,7 @@ module _ (inE inA : Text → Bool) where
         go o z = ap A z
 
     read-fails : (k : ℕ) (c : List Cell) (m : Memory) (t : Trace) (l : List Trace) (d : ℕ)
-        → (shown-response (evaluate p (after t c)) (evaluate q (after t c)) (evaluate q c) n t m) .failure ≡ some
+        → (shown-response (stated p (after t c)) (stated q (after t c)) (stated q c) n t m) .failure ≡ some
         (deadline-missed d)
         → about R (reading R k c m (t ∷ l)) ≡ late d
     read-fails k c m t l d e = ap (about R) (step R k c m t l)
@@ -639,7 +640,7 @@ module _ (inE inA : Text → Bool) where
     -- a deadline missed outside is found at the next record inside
     lag-no-list : (l : List Trace) (k d : ℕ) (c : List Cell) (m : Memory) → ends-on l ≡ true → Every fair l
         → Every (passed d) l
-        → Settled (evaluate p c) No m → evaluate q c ≡ No → m .deadline ≡ some d
+        → Settled (stated p c) No m → stated q c ≡ No → m .deadline ≡ some d
         → about R (reading R k c m (keep kept l)) ≡ late d
     unfolding passed ends-on
     lag-no-list [] k d c m z f a s g e = absurd (false≢true z)
@@ -647,18 +648,18 @@ module _ (inE inA : Text → Bool) where
       where
         go : Case (kept t)
             → ((k d : ℕ) (c : List Cell) (m : Memory) → ends-on l ≡ true → Every fair l → Every (passed d) l
-            → Settled (evaluate p c) No m → evaluate q c ≡ No → m .deadline ≡ some d
+            → Settled (stated p c) No m → stated q c ≡ No → m .deadline ≡ some d
             → about R (reading R k c m (keep kept l)) ≡ late d)
             → about R (reading R k c m (keep kept (t ∷ l))) ≡ late d
         go (is-true i) ih = rw (keep-in kept t l i)
             (read-fails k c m t (keep kept l) d
-            (ap (λ (x : Truth). (shown-response (evaluate p (after t c)) (evaluate q (after t c)) x n t m) .failure) g
-            ∙ lag-no n d t m (evaluate p (after t c)) (evaluate p c) (evaluate q (after t c)) s e (a .0)
-            (λ y. (ap (evaluate p) (horizon-still t c (f .0) y), ap (evaluate q) (horizon-still t c (f .0) y) ∙ g))))
+            (ap (λ (x : Truth). (shown-response (stated p (after t c)) (stated q (after t c)) x n t m) .failure) g
+            ∙ lag-no n d t m (stated p (after t c)) (stated p c) (stated q (after t c)) s e (a .0)
+            (λ y. (ap (stated p) (horizon-still t c (f .0) y), ap (stated q) (horizon-still t c (f .0) y) ∙ g))))
         go (is-false o) ih = rw (keep-out kept t l o) (ih k d c m (ends-next t l (kept-kind t o) z) (f .1) (a .1) s g e)
 
     lag-unknown-list : (l : List Trace) (k d : ℕ) (c : List Cell) (m : Memory) → ends-on l ≡ true → Every (passed d) l
-        → evaluate q c ≡ Unknown → m .deadline ≡ some d
+        → stated q c ≡ Unknown → m .deadline ≡ some d
         → about R (reading R k c m (keep kept l)) ≡ about R (reading R k c (doubted m) (keep kept l))
     unfolding passed ends-on
     lag-unknown-list [] k d c m z a g e = absurd (false≢true z)
@@ -666,14 +667,14 @@ module _ (inE inA : Text → Bool) where
       where
         same : read R c (after t c) t m ≡ read R c (after t c) t (doubted m)
         same = is-shown c (after t c) t m
-            ∙ ap (λ (x : Truth). shown-response (evaluate p (after t c)) (evaluate q (after t c)) x n t m) g
-            ∙ lag-unknown n t m (evaluate p (after t c)) (evaluate q (after t c))
+            ∙ ap (λ (x : Truth). shown-response (stated p (after t c)) (stated q (after t c)) x n t m) g
+            ∙ lag-unknown n t m (stated p (after t c)) (stated q (after t c))
             (ap (overdue (t .at)) e ∙ is-overdue (t .at) d (a .0))
-            ∙ ap (λ (x : Truth). shown-response (evaluate p (after t c)) (evaluate q (after t c)) x n t (doubted m)) (sym g)
+            ∙ ap (λ (x : Truth). shown-response (stated p (after t c)) (stated q (after t c)) x n t (doubted m)) (sym g)
             ∙ sym (is-shown c (after t c) t (doubted m))
 
         go : Case (kept t)
-            → ((k d : ℕ) (c : List Cell) (m : Memory) → ends-on l ≡ true → Every (passed d) l → evaluate q c ≡ Unknown
+            → ((k d : ℕ) (c : List Cell) (m : Memory) → ends-on l ≡ true → Every (passed d) l → stated q c ≡ Unknown
             → m .deadline ≡ some d → about R (reading R k c m (keep kept l)) ≡ about R
             (reading R k c (doubted m) (keep kept l)))
             → about R (reading R k c m (keep kept (t ∷ l))) ≡ about R (reading R k c (doubted m) (keep kept (t ∷ l)))
@@ -682,11 +683,11 @@ module _ (inE inA : Text → Bool) where
             ∙ sym (step R k c (doubted m) t (keep kept l))))
         go (is-false o) ih = rw (keep-out kept t l o) (ih k d c m (ends-next t l (kept-kind t o) z) (a .1) g e)
 
-    same-p : (c c′ : List Cell) → keepC c ≡ keepC c′ → evaluate p c ≡ evaluate p c′
-    same-p c c′ e = View.same-truth inE inA c c′ e p hp
+    same-p : (c c′ : List Cell) → keepC c ≡ keepC c′ → stated p c ≡ stated p c′
+    same-p c c′ e = View.same-truth inE inA c c′ e midnight p hp
 
-    same-q : (c c′ : List Cell) → keepC c ≡ keepC c′ → evaluate q c ≡ evaluate q c′
-    same-q c c′ e = View.same-truth inE inA c c′ e q hq
+    same-q : (c c′ : List Cell) → keepC c ≡ keepC c′ → stated q c ≡ stated q c′
+    same-q c c′ e = View.same-truth inE inA c c′ e midnight q hq
 
     settled-to : (w w′ g g′ : Truth) (m : Memory) → w ≡ w′ → g ≡ g′ → Settled w g m → Settled w′ g′ m
     settled-to w w′ g g′ m x y s = rw (← x, ← y) s
@@ -695,49 +696,49 @@ module _ (inE inA : Text → Bool) where
     again c = sym (Rattle.cone_engine.proofs.Base.keep-again (View.cone-cell inE inA) c)
 
     response-list : (l : List Trace) (h a : ℕ) (k k′ : ℕ) (c : List Cell) (m : Memory) → Rising a l h → ends l ≡ true
-        → Every fair l → Settled (evaluate p c) (evaluate q c) m
+        → Every fair l → Settled (stated p c) (stated q c) m
         → about R (reading R k c m l) ≡ about R (reading R k′ (keepC c) m (keep kept l))
     response-list [] h a k k′ c m u z f s = rw (keep-nil kept) (unfold reading in refl)
     response-list (t ∷ l) h a k k′ c m u z f s = go (case (kept t)) (response-list l h (t .at))
       where
         IH : Type 0
         IH = (k k′ : ℕ) (c : List Cell) (m : Memory) → Rising (t .at) l h → ends l ≡ true → Every fair l
-            → Settled (evaluate p c) (evaluate q c) m
+            → Settled (stated p c) (stated q c) m
             → about R (reading R k c m l) ≡ about R (reading R k′ (keepC c) m (keep kept l))
 
         -- the state after a record outside
-        p-same : kept t ≡ false → evaluate p (after t c) ≡ evaluate p c
+        p-same : kept t ≡ false → stated p (after t c) ≡ stated p c
         p-same o = same-p (after t c) c (after-out t o c)
 
-        q-same : kept t ≡ false → evaluate q (after t c) ≡ evaluate q c
+        q-same : kept t ≡ false → stated q (after t c) ≡ stated q c
         q-same o = same-q (after t c) c (after-out t o c)
 
-        shown : kept t ≡ false → read R c (after t c) t m ≡ shown-response (evaluate p c) (evaluate q c)
-            (evaluate q c) n t m
-        shown o = is-shown c (after t c) t m ∙ (λ j. shown-response (p-same o j) (q-same o j) (evaluate q c) n t m)
+        shown : kept t ≡ false → read R c (after t c) t m ≡ shown-response (stated p c) (stated q c)
+            (stated q c) n t m
+        shown o = is-shown c (after t c) t m ∙ (λ j. shown-response (p-same o j) (q-same o j) (stated q c) n t m)
 
         on : kept t ≡ false → IH → (m′ : Memory) → read R c (after t c) t m ≡ quiet m′
-            → Settled (evaluate p c) (evaluate q c) m′
+            → Settled (stated p c) (stated q c) m′
             → about R (reading R k c m (t ∷ l)) ≡ about R (reading R k′ (keepC c) m′ (keep kept (t ∷ l)))
         on o ih m′ e s′ = outside R names-in k k′ c m m′ t l o e
             (ih (k + 1) k′ (after t c) m′ (u .1) (ends-tail t l z) (f .1)
-            (settled-to (evaluate p c) (evaluate p (after t c)) (evaluate q c) (evaluate q (after t c)) m′
+            (settled-to (stated p c) (stated p (after t c)) (stated q c) (stated q (after t c)) m′
             (sym (p-same o)) (sym (q-same o)) s′))
 
         due : kept t ≡ false → IH → (d : ℕ) → m .deadline ≡ some d → ltb d (t .at) ≡ true → (g : Truth)
-            → evaluate q c ≡ g → about R (reading R k c m (t ∷ l)) ≡ about R (reading R k′ (keepC c) m (keep kept (t ∷ l)))
+            → stated q c ≡ g → about R (reading R k c m (t ∷ l)) ≡ about R (reading R k′ (keepC c) m (keep kept (t ∷ l)))
         due o ih d e b Yes g = absurd (none-some
             (yes-none (m .deadline) ∙ ap (λ (x : Truth). if is-yes x then none else m .deadline) (sym g) ∙ s .s2 ∙ e))
         due o ih d e b No g =
             read-fails k c m t l d
-            ((λ j. (shown-response (p-same o j) (q-same o j) (evaluate q c) n t m) .failure)
-            ∙ ap (λ (x : Truth). (shown-response (evaluate p c) x x n t m) .failure) g
-            ∙ lag-no n d t m (evaluate p c) (evaluate p c) No
-            (settled-to (evaluate p c) (evaluate p c) (evaluate q c) No m refl g s) e b (λ y. (refl, refl)))
+            ((λ j. (shown-response (p-same o j) (q-same o j) (stated q c) n t m) .failure)
+            ∙ ap (λ (x : Truth). (shown-response (stated p c) x x n t m) .failure) g
+            ∙ lag-no n d t m (stated p c) (stated p c) No
+            (settled-to (stated p c) (stated p c) (stated q c) No m refl g s) e b (λ y. (refl, refl)))
             ∙ sym (rw (keep-out kept t l o)
             (lag-no-list l k′ d (keepC c) m (ends-next t l (kept-kind t o) z) (f .1)
             (rising-passed d (t .at) l h (leb-le (suc d) (t .at) b) (u .1))
-            (settled-to (evaluate p c) (evaluate p (keepC c)) (evaluate q c) No m (same-p c (keepC c) (again c)) g s)
+            (settled-to (stated p c) (stated p (keepC c)) (stated q c) No m (same-p c (keepC c) (again c)) g s)
             (sym (same-q c (keepC c) (again c)) ∙ g) e))
         due o ih d e b Unknown g =
             on o ih (doubted m) quiet-doubt doubt-settled
@@ -745,7 +746,7 @@ module _ (inE inA : Text → Bool) where
             (lag-unknown-list l k′ d (keepC c) m (ends-next t l (kept-kind t o) z)
             (rising-passed d (t .at) l h (leb-le (suc d) (t .at) b) (u .1)) (sym (same-q c (keepC c) (again c)) ∙ g) e))
           where
-            doubt-settled : Settled (evaluate p c) (evaluate q c) (doubted m)
+            doubt-settled : Settled (stated p c) (stated q c) (doubted m)
             doubt-settled = record {
               s1 = s .s1;
               s2 = ap (λ (x : Truth). if is-yes x then none else none) g
@@ -755,10 +756,10 @@ module _ (inE inA : Text → Bool) where
 
             quiet-doubt : read R c (after t c) t m ≡ quiet (doubted m)
             quiet-doubt =
-                shown o ∙ ap (λ (x : Truth). shown-response (evaluate p c) x x n t m) g
-                ∙ lag-unknown n t m (evaluate p c) Unknown (ap (overdue (t .at)) e ∙ is-overdue (t .at) d b)
-                ∙ response-idle (evaluate p c) Unknown n t (doubted m)
-                (settled-to (evaluate p c) (evaluate p c) (evaluate q c) Unknown (doubted m) refl g doubt-settled)
+                shown o ∙ ap (λ (x : Truth). shown-response (stated p c) x x n t m) g
+                ∙ lag-unknown n t m (stated p c) Unknown (ap (overdue (t .at)) e ∙ is-overdue (t .at) d b)
+                ∙ response-idle (stated p c) Unknown n t (doubted m)
+                (settled-to (stated p c) (stated p c) (stated q c) Unknown (doubted m) refl g doubt-settled)
                 (no-horizon t (kept-kind t o)) (unfold overdue present-and in refl)
 
         due-at : (x : Option ℕ) → overdue (t .at) x ≡ true → (d : ℕ) × ((x ≡ some d) × (ltb d (t .at) ≡ true))
@@ -768,17 +769,17 @@ module _ (inE inA : Text → Bool) where
         go : Case (kept t) → IH → about R (reading R k c m (t ∷ l)) ≡ about R (reading R k′ (keepC c) m (keep kept (t ∷ l)))
         go (is-true i) ih = inside R names-in k k′ c m t l i
             (λ e. ih (k + 1) (k′ + 1) (after t c) _ (u .1) (ends-tail t l z) (f .1)
-            (subst (λ (x : Shown). Settled (evaluate p (after t c)) (evaluate q (after t c)) (x .memory))
+            (subst (λ (x : Shown). Settled (stated p (after t c)) (stated q (after t c)) (x .memory))
             (sym (is-shown c (after t c) t m))
-            (settled-after (evaluate p (after t c)) (evaluate q (after t c)) (evaluate q c) n t m)))
+            (settled-after (stated p (after t c)) (stated q (after t c)) (stated q c) n t m)))
         go (is-false o) ih = by (case (overdue (t .at) (m .deadline)))
           where
             by : Case (overdue (t .at) (m .deadline))
                 → about R (reading R k c m (t ∷ l)) ≡ about R (reading R k′ (keepC c) m (keep kept (t ∷ l)))
             by (is-true b) = let d : (d : ℕ) × ((m .deadline ≡ some d) × (ltb d (t .at) ≡ true)) =
-                due-at (m .deadline) b in due o ih (d .0) (d .1 .0) (d .1 .1) (evaluate q c) refl
+                due-at (m .deadline) b in due o ih (d .0) (d .1 .0) (d .1 .1) (stated q c) refl
             by (is-false b) = on o ih m (shown o
-                ∙ response-idle (evaluate p c) (evaluate q c) n t m s (no-horizon t (kept-kind t o)) b) s
+                ∙ response-idle (stated p c) (stated q c) n t m s (no-horizon t (kept-kind t o)) b) s
 
     response-view : (c : List Cell) (l : List Trace) (h : ℕ) → headed l ≡ true → Rising 0 l h → ends l ≡ true
         → Every fair l → about R (read-all R c l) ≡ about R (read-all R (keepC c) (keep kept l))
@@ -786,9 +787,9 @@ module _ (inE inA : Text → Bool) where
     response-view c [] h b u z f = absurd (false≢true b)
     response-view c (t ∷ l) h b u z f = inside R names-in 0 0 c nothing-yet t l (unfold View.cone-trace in (rw b))
         (λ e. response-list l h (t .at) (0 + 1) (0 + 1) (after t c) _ (u .1) (ends-tail t l z) (f .1)
-        (subst (λ (x : Shown). Settled (evaluate p (after t c)) (evaluate q (after t c)) (x .memory))
+        (subst (λ (x : Shown). Settled (stated p (after t c)) (stated q (after t c)) (x .memory))
         (sym (is-shown c (after t c) t nothing-yet))
-        (settled-after (evaluate p (after t c)) (evaluate q (after t c)) (evaluate q c) n t nothing-yet)))
+        (settled-after (stated p (after t c)) (stated q (after t c)) (stated q c) n t nothing-yet)))
 
   -- ---- any invariant
   pub judge-view : (i : Invariant) → all inE (names i) ≡ true → (c : List Cell) (l : List Trace) (h : ℕ)

@@ -6,8 +6,8 @@ use Prim.Native.Nat.{ℕ}
 use Rattle.texts.specs.Lists.{flat}
 use Rattle.texts.specs.Texts.{Text, memT}
 use Rattle.model.specs.Answer.{answer, accept}
-use Rattle.model.specs.Model.{Entity, Invariant, never, guard, transition, response, id-of, Model}
-use Rattle.model.specs.Validate.{check-predicate, check-conditions, check-invariant, check-invariants, accepted}
+use Rattle.model.specs.Model.{Entity, Predicate, Invariant, never, guard, transition, response, id-of, Model}
+use Rattle.model.specs.Validate.{check-stated, check-conditions, check-invariant, check-invariants, accepted}
 use Rattle.engine.proofs.Lists.{Each}
 use Rattle.engine.proofs.Validated.{and-first, and-inv, accepted-passed}
 use Rattle.lint.specs.Touches.{predicate-reads}
@@ -27,9 +27,13 @@ module _ (ds : List Entity) where
   FineI (transition i x f t) = Declared ds x
   FineI (response i p q n) = FineP ds p × FineP ds q
 
+  stated-fine : (p : Predicate) → check-stated ds p ≡ accept → FineP ds p
+  unfolding check-stated
+  stated-fine p e = predicate-fine ds p (and-inv _ _ tt e)
+
   conditions-fine : (ps : List _) → check-conditions ds ps ≡ accept → Each (FineP ds) ps
   unfolding check-conditions
-  conditions-fine ps e = each-verdict (check-predicate ds) (FineP ds) (predicate-fine ds) ps (and-inv _ _ tt e)
+  conditions-fine ps e = each-verdict (check-stated ds) (FineP ds) stated-fine ps (and-inv _ _ tt e)
 
   invariant-fine : (i : Invariant) → check-invariant ds i ≡ accept → FineI i
   unfolding check-invariant
@@ -37,7 +41,7 @@ module _ (ds : List Entity) where
   invariant-fine (guard i x v ps) e = (conditions-fine ps (and-first _ _ tt e), value-fine ds x v (and-inv _ _ tt e))
   invariant-fine (transition i x f t) e = value-fine ds x f (and-first _ _ tt e)
   invariant-fine (response i p q n) e =
-      (predicate-fine ds p (and-first _ _ tt e), predicate-fine ds q (and-first _ _ tt (and-inv _ _ tt e)))
+      (stated-fine p (and-first _ _ tt e), stated-fine q (and-first _ _ tt (and-inv _ _ tt e)))
 
   invariants-fine : (ids : List Text) (l : List Invariant) → check-invariants ds ids l ≡ accept → Each FineI l
   unfolding check-invariants

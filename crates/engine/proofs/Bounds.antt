@@ -41,6 +41,7 @@ use Rattle.engine.specs.Engine.{
   toggled,
   _then_,
   select,
+  moment,
   next-step,
   log,
   log-rule,
@@ -263,7 +264,7 @@ module _ (A : Areas) where
     f-offer {q} {t} x from to r e h f = go (any (matches x from to) (r .triggers)) h
       where
         v : Truth
-        v = evaluate-all (r .conditions) (e .cells)
+        v = evaluate-all (moment now e) (r .conditions) (e .cells)
 
         told : Engine
         told = log now (Kind.trigger v) (some (r .id)) (some (r .source)) none e
@@ -302,8 +303,9 @@ module _ (A : Areas) where
     f-perform (toggle x) src r e f = f-add _ _ (f-flip x src r e (f-weak (omega arith) (omega arith) f))
     f-perform (delay m) src r e f = f-add _ _ (f-log now _ _ _ _ e (f-weak (omega arith) (omega arith) f))
     f-perform (condition p) src r e f =
-        f-tested (evaluate p (e .cells)) r _ (f-log now _ _ _ _ e (f-weak (omega arith) (omega arith) f))
-    f-perform (choose bs d) src r e f = f-chosen (select bs d (e .cells)) src r e (f-weak (omega arith) (omega arith) f)
+        f-tested (evaluate (moment now e) p (e .cells)) r _ (f-log now _ _ _ _ e (f-weak (omega arith) (omega arith) f))
+    f-perform (choose bs d) src r e f =
+        f-chosen (select (moment now e) bs d (e .cells)) src r e (f-weak (omega arith) (omega arith) f)
     f-perform {q} {t} (wait u s c) src r e f = unfold begin-wait store with-runs log-action in
         (if-prop (F q t) (absent (u .note))
         (λ _. f-log now _ _ _ _ _ (f-add _ (store

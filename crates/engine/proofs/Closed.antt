@@ -14,6 +14,7 @@ use Rattle.texts.specs.Texts.{Text, text, eqT}
 use Rattle.model.specs.Validate.{undecided}
 use Rattle.model.specs.Model.{
   Source,
+  Moment,
   Effect,
   toggle,
   delay,
@@ -297,7 +298,7 @@ module _ (P : Engine → Type 0) (c : Closed P) where
       go [] = unfold last-record in (c-log h Kind.horizon none none none (d .engine) p)
       go (t ∷ l) = unfold last-record in p
 
-  pub begun-closed : (areas : Areas) (cells : List Cell) (notes : List Text) (events : List Event)
+  pub begun-closed : (areas : Areas) (origin : Moment) (cells : List Cell) (notes : List Text) (events : List Event)
       → P (record {
         cells = cells;
         queue = [];
@@ -307,9 +308,10 @@ module _ (P : Engine → Type 0) (c : Closed P) where
         unknown = notes;
         overflow = none;
         areas = areas;
-      }) → P (begun areas cells notes events)
+        start = origin;
+      }) → P (begun areas origin cells notes events)
   unfolding begun
-  begun-closed areas cells notes events p = c-adds _ _ (c-adds _ _ (c-log 0 _ _ _ _ _ p))
+  begun-closed areas origin cells notes events p = c-adds _ _ (c-adds _ _ (c-log 0 _ _ _ _ _ p))
 
   -- of a whole simulation
   pub ended-closed : (areas : Areas) (m : Model) (cells : List Cell) (events : List Event)
@@ -322,10 +324,11 @@ module _ (P : Engine → Type 0) (c : Closed P) where
         unknown = unsupported (m .rules);
         overflow = none;
         areas = areas;
+        start = m .start;
       }) → P ((ended areas m cells events) .engine)
   unfolding ended
   ended-closed areas m cells events p =
-      end-closed _ _ (loop-closed (m .rules) _ _ _ _ (begun-closed areas cells (unsupported (m .rules)) events p))
+      end-closed _ _ (loop-closed (m .rules) _ _ _ _ (begun-closed areas (m .start) cells (unsupported (m .rules)) events p))
 
 -- ---- records
 

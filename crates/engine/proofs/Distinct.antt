@@ -96,8 +96,8 @@ pub ended-within : (file : List ℕ) (m : Model) → accepted file ≡ answer m 
 unfolding ended
 ended-within file m e {a} i areas cells events =
     let limits = m .scenario .limits in
-    let s = begun areas cells (unsupported (m .rules)) events in
+    let s = begun areas (m .start) cells (unsupported (m .rules)) events in
     (closed-keeps (known-in (m .rules)) a (limits .horizon) (loop (m .rules) (limits .horizon) (limits .max-steps) 0 s)
     (reached-keeps a (m .rules) (accepted-only file m e i)
     (loop-reaches (m .rules) (limits .horizon) (limits .max-steps) 0 s
-    (at-start areas cells (unsupported (m .rules)) events)))) .within
+    (at-start areas (m .start) cells (unsupported (m .rules)) events)))) .within

@@ -33,6 +33,7 @@ use Rattle.engine.specs.Truth.{evaluate, matches}
 use Rattle.engine.specs.Records.{Key, Waiting, Run, Work, Item, Kind, Engine}
 use Rattle.engine.specs.Changes.{if-some, with-cells, add, append, with-runs, add-run, uncertain, adds}
 use Rattle.engine.specs.Engine.{
+  moment,
   is-run,
   of-rule,
   other-run,
@@ -718,8 +719,8 @@ module _ (a : Automation) (now : ℕ) (called : Key → Bool) (base : List Item)
           (if-prop (O r) (undecided (value-of x (e .cells))) (λ _. o)
           (λ _. o-update x (toggled (value-of x (e .cells))) (some (r .key .rule)) (some src) Kind.action r e o))
   s-perform (delay m) src r e w o = o-step (now + m) r _ w o
-  s-perform (condition p) src r e w o = s-tested (evaluate p (e .cells)) r _ w o
-  s-perform (choose bs d) src r e w o = s-chosen (select bs d (e .cells)) src r e w o
+  s-perform (condition p) src r e w o = s-tested (evaluate (moment now e) p (e .cells)) r _ w o
+  s-perform (choose bs d) src r e w o = s-chosen (select (moment now e) bs d (e .cells)) src r e w o
   s-perform (wait t s c) src r e w o = unfold begin-wait in
       (if-prop (S none-free) (absent (t .note))
       (λ _. o-wait (record { trigger = t; deadline = now + s; continue = c; source = src }) r e o)

@@ -11,7 +11,7 @@ use lib.ListN.{length, length-append}
 use Rattle.texts.specs.Lists.{_▸_, any, tally, each, flat, through}
 use Rattle.texts.specs.Texts.{Text, eqT}
 use Rattle.model.specs.Answer.{answer, _>>=_}
-use Rattle.model.specs.Model.{Mode, single, queued, parallel, Entity, done, Automation, Input, reload, Event, Model}
+use Rattle.model.specs.Model.{Moment, Mode, single, queued, parallel, Entity, done, Automation, Input, reload, Event, Model}
 use Rattle.model.specs.Validate.{bad-bounds, check-rule, check-rules, accepted}
 use Rattle.engine.specs.Bounds.{Enough}
 use Rattle.engine.specs.Cells.{Cell, initial-cells}
@@ -358,10 +358,10 @@ module _ (rules : List Automation) (fresh : Fresh [] rules) (few : Each Small ru
 
     -- ---- the start
 
-    begun-fits : (cells : List Cell) (notes : List Text) (events : List Event) → length cells ≤ 32
-        → length events ≤ 100 → F 0 1 (begun A cells notes events)
+    begun-fits : (origin : Moment) (cells : List Cell) (notes : List Text) (events : List Event) → length cells ≤ 32
+        → length events ≤ 100 → F 0 1 (begun A origin cells notes events)
     unfolding begun
-    begun-fits cells notes events c v =
+    begun-fits origin cells notes events c v =
         Bounds.f-adds A (flat (expiry 0) cells) _
         (Bounds.f-adds A (each event-item events) _
         (Bounds.f-log A 0 Kind.initial none none none _ (record {
@@ -382,12 +382,12 @@ no-overflow file m e areas enough cells events c v =
     let z = accepted-sizes file m e in
     let fresh = accepted-fresh file m e in
     let limits = m .scenario .limits in
-    let s = begun areas cells (unsupported (m .rules)) events in
+    let s = begun areas (m .start) cells (unsupported (m .rules)) events in
     closed-calm (m .rules) fresh (z .few) (z .rules) areas enough (limits .horizon)
     (loop (m .rules) (limits .horizon) (limits .max-steps) 0 s)
     (loop-fits (m .rules) fresh (z .few) (z .rules) areas enough (limits .horizon) (limits .max-steps) 0 s
-    (unfold All in (λ a o. begun-keeps (known-in (m .rules)) a areas cells (unsupported (m .rules)) events))
-    (begun-fits (m .rules) fresh (z .few) (z .rules) areas enough cells (unsupported (m .rules)) events c v))
+    (unfold All in (λ a o. begun-keeps (known-in (m .rules)) a areas (m .start) cells (unsupported (m .rules)) events))
+    (begun-fits (m .rules) fresh (z .few) (z .rules) areas enough (m .start) cells (unsupported (m .rules)) events c v))
 
 -- so `simulate` answers every accepted file
 pub simulate-answers : (file : List ℕ) (m : Model) → accepted file ≡ answer m → (areas : Areas) → Enough areas

@@ -12,6 +12,7 @@ use Rattle.texts.specs.Texts.{Text, text, eqT}
 use Rattle.model.specs.Validate.{undecided}
 use Rattle.model.specs.Model.{
   Source,
+  Moment,
   Mode,
   single,
   queued,
@@ -64,6 +65,7 @@ use Rattle.engine.specs.Engine.{
   toggled,
   _then_,
   select,
+  moment,
   next-step,
   log,
   log-rule,
@@ -471,7 +473,7 @@ module _ (known : Text → Bool) (a : Automation) where
   unfolding offer log append
   k-offer now x from to r e i u k =
       if-prop K (any (matches x from to) (r .triggers))
-      (λ _. k-admit now (evaluate-all (r .conditions) (e .cells)) r _ i u k) (λ _. k)
+      (λ _. k-admit now (evaluate-all (moment now e) (r .conditions) (e .cells)) r _ i u k) (λ _. k)
 
   k-offers : (now : ℕ) (x from to : Text) (l : List Automation) (e : Engine) → Knows known l → Only a l → K e
       → K (through (offer now x from to) l e)
@@ -501,8 +503,8 @@ module _ (known : Text → Bool) (a : Automation) where
       q-update (Kept known a) now x v (some (r .key .rule)) (some src) Kind.action e k
   k-perform now (toggle x) src r e q g k = q-flip (Kept known a) now x src r e k
   k-perform now (delay m) src r e q g k = k
-  k-perform now (condition p) src r e q g k = k-tested now (evaluate p (e .cells)) r _ g k
-  k-perform now (choose bs d) src r e q g k = k-chosen now (select bs d (e .cells)) src r e q g k
+  k-perform now (condition p) src r e q g k = k-tested now (evaluate (moment now e) p (e .cells)) r _ g k
+  k-perform now (choose bs d) src r e q g k = k-chosen now (select (moment now e) bs d (e .cells)) src r e q g k
   k-perform now (wait t s c) src r e q g k = unfold begin-wait in
       (if-prop K (absent (t .note)) (λ _. k-store
       (waits (some (record { trigger = t; deadline = now + s; continue = c; source = src })) r) e q g k)
@@ -587,10 +589,10 @@ module _ (known : Text → Bool) (a : Automation) where
   process-keeps now rules (Work.timeout j) e i u k = k-time-out now j e k
   process-keeps now rules (Work.stale x n) e i u k = k-stale now x n e k
 
-  pub begun-keeps : (areas : Areas) (cells : List Cell) (notes : List Text) (events : List Event)
-      → K (begun areas cells notes events)
+  pub begun-keeps : (areas : Areas) (origin : Moment) (cells : List Cell) (notes : List Text) (events : List Event)
+      → K (begun areas origin cells notes events)
   unfolding begun log append tally
-  begun-keeps areas cells notes events =
+  begun-keeps areas origin cells notes events =
       q-adds (Kept known a) (flat (expiry 0) cells) _
       (q-adds (Kept known a) (each event-item events) _
       (record { order = tt; fit = tt; from = tt; within = record { bound = omega arith; at-once = omega arith } }))

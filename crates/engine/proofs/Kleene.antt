@@ -16,7 +16,7 @@ use mathlib.Core.List.{
   Perm,
 }
 use Rattle.texts.specs.Lists.{any, all, each}
-use Rattle.model.specs.Model.{Predicate}
+use Rattle.model.specs.Model.{Moment, Predicate}
 use Rattle.engine.specs.Cells.{Cell}
 use Rattle.engine.specs.Kleene.{
   Truth,
@@ -201,25 +201,28 @@ all₃-strong (t ∷ l) c = (
 
 -- ---- condition lists
 
-pub conditions-are : (ps : List Predicate) (l : List Cell) → evaluate-all ps l ≡ all₃ (each (λ p. evaluate p l) ps)
+pub conditions-are : (m : Moment) (ps : List Predicate) (l : List Cell)
+    → evaluate-all m ps l ≡ all₃ (each (λ p. evaluate m p l) ps)
 unfolding evaluate-all all₃ each
-conditions-are [] l = refl
-conditions-are (p ∷ ps) l = ap (λ (t : Truth). evaluate p l and₃ t) (conditions-are ps l)
+conditions-are m [] l = refl
+conditions-are m (p ∷ ps) l = ap (λ (t : Truth). evaluate m p l and₃ t) (conditions-are m ps l)
 
-permuted : {ps qs : List Predicate} (l : List Cell) → List·Permᴰ ps qs → evaluate-all ps l ≡ evaluate-all qs l
+permuted : {ps qs : List Predicate} (m : Moment) (l : List Cell) → List·Permᴰ ps qs
+    → evaluate-all m ps l ≡ evaluate-all m qs l
 unfolding evaluate-all
-permuted l List·Permᴰ·nil = refl
-permuted l (List·Permᴰ·cons e d) = λ i. evaluate (e i) l and₃ permuted l d i
-permuted l (List·Permᴰ·swap {a} {b} {l = ps} e f) =
-    sym (and₃-assoc (evaluate a l) (evaluate b l) (evaluate-all ps l))
-    ∙ ap (λ (t : Truth). t and₃ evaluate-all ps l) (and₃-comm (evaluate a l) (evaluate b l))
-    ∙ and₃-assoc (evaluate b l) (evaluate a l) (evaluate-all ps l)
-    ∙ (λ i. evaluate (f i) l and₃ evaluate (e i) l and₃ evaluate-all ps l)
-permuted l (List·Permᴰ·trans d f) = permuted l d ∙ permuted l f
+permuted m l List·Permᴰ·nil = refl
+permuted m l (List·Permᴰ·cons e d) = λ i. evaluate m (e i) l and₃ permuted m l d i
+permuted m l (List·Permᴰ·swap {a} {b} {l = ps} e f) =
+    sym (and₃-assoc (evaluate m a l) (evaluate m b l) (evaluate-all m ps l))
+    ∙ ap (λ (t : Truth). t and₃ evaluate-all m ps l) (and₃-comm (evaluate m a l) (evaluate m b l))
+    ∙ and₃-assoc (evaluate m b l) (evaluate m a l) (evaluate-all m ps l)
+    ∙ (λ i. evaluate m (f i) l and₃ evaluate m (e i) l and₃ evaluate-all m ps l)
+permuted m l (List·Permᴰ·trans d f) = permuted m l d ∙ permuted m l f
 
 -- the order of the list doesn't matter
-pub any-order : {ps qs : List Predicate} (l : List Cell) → Perm ps qs → evaluate-all ps l ≡ evaluate-all qs l
-any-order {ps} {qs} l p = ∥∥₁-elim p (truth-is-set (evaluate-all ps l) (evaluate-all qs l)) (permuted l)
+pub any-order : {ps qs : List Predicate} (m : Moment) (l : List Cell) → Perm ps qs
+    → evaluate-all m ps l ≡ evaluate-all m qs l
+any-order {ps} {qs} m l p = ∥∥₁-elim p (truth-is-set (evaluate-all m ps l) (evaluate-all m qs l)) (permuted m l)
 
 and-no : (s t : Truth) → is-no (s and₃ t) ≡ is-no s || is-no t
 unfolding all-kleene
@@ -244,23 +247,24 @@ third No = refl
 third Unknown = refl
 
 -- No exactly if some member is No
-pub no-if-some : (ps : List Predicate) (l : List Cell) → is-no (evaluate-all ps l) ≡ any (λ p. is-no (evaluate p l)) ps
+pub no-if-some : (m : Moment) (ps : List Predicate) (l : List Cell)
+    → is-no (evaluate-all m ps l) ≡ any (λ p. is-no (evaluate m p l)) ps
 unfolding evaluate-all any is-no
-no-if-some [] l = refl
-no-if-some (p ∷ ps) l =
-    and-no (evaluate p l) (evaluate-all ps l) ∙ ap (λ (b : Bool). is-no (evaluate p l) || b) (no-if-some ps l)
+no-if-some m [] l = refl
+no-if-some m (p ∷ ps) l =
+    and-no (evaluate m p l) (evaluate-all m ps l) ∙ ap (λ (b : Bool). is-no (evaluate m p l) || b) (no-if-some m ps l)
 
 -- Yes exactly if all members are Yes
-pub yes-if-all : (ps : List Predicate) (l : List Cell)
-    → is-yes (evaluate-all ps l) ≡ all (λ p. is-yes (evaluate p l)) ps
+pub yes-if-all : (m : Moment) (ps : List Predicate) (l : List Cell)
+    → is-yes (evaluate-all m ps l) ≡ all (λ p. is-yes (evaluate m p l)) ps
 unfolding evaluate-all all is-yes
-yes-if-all [] l = refl
-yes-if-all (p ∷ ps) l =
-    and-yes (evaluate p l) (evaluate-all ps l) ∙ ap (λ (b : Bool). is-yes (evaluate p l) && b) (yes-if-all ps l)
+yes-if-all m [] l = refl
+yes-if-all m (p ∷ ps) l =
+    and-yes (evaluate m p l) (evaluate-all m ps l) ∙ ap (λ (b : Bool). is-yes (evaluate m p l) && b) (yes-if-all m ps l)
 
 -- Unknown otherwise
-pub unknown-otherwise : (ps : List Predicate) (l : List Cell)
-    → is-unknown (evaluate-all ps l)
-    ≡ not (any (λ p. is-no (evaluate p l)) ps) && not (all (λ p. is-yes (evaluate p l)) ps)
-unknown-otherwise ps l =
-    third (evaluate-all ps l) ∙ (λ i. not (no-if-some ps l i) && not (yes-if-all ps l i))
+pub unknown-otherwise : (m : Moment) (ps : List Predicate) (l : List Cell)
+    → is-unknown (evaluate-all m ps l)
+    ≡ not (any (λ p. is-no (evaluate m p l)) ps) && not (all (λ p. is-yes (evaluate m p l)) ps)
+unknown-otherwise m ps l =
+    third (evaluate-all m ps l) ∙ (λ i. not (no-if-some m ps l i) && not (yes-if-all m ps l i))

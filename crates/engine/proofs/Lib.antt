@@ -21,3 +21,10 @@ pub mod Bounds
 pub mod Enough
 -- the page on modes, of a simulation
 pub mod Page
+-- a model without windows answers the same whatever its start
+pub mod Windowless
+-- what a window means; and that no accepted invariant has one
+pub mod Windows
+pub mod Stated
+-- quiet hours are as the request says
+pub mod Quiet

@@ -8,7 +8,7 @@ use mathlib.Core.List.{List, [], _∷_, _++_}
 use native.Mathlib.Omega.{arith}
 use Rattle.texts.specs.Lists.{if_then_else_, _▸_, any, tally}
 use Rattle.texts.specs.Texts.{Text, eqT}
-use Rattle.model.specs.Model.{Mode, single, queued, parallel, Automation, Event}
+use Rattle.model.specs.Model.{Moment, Mode, single, queued, parallel, Automation, Event}
 use Rattle.engine.specs.Cells.{Cell}
 use Rattle.engine.specs.Modes.{already-running, max-reached, start, wait-in-line, decide, most}
 use Rattle.engine.specs.Reasons.{space-spent, steps-spent}
@@ -41,8 +41,8 @@ use Rattle.engine.proofs.Keeps.{Within, Kept, q-adds, known-in, Only, K
 
 -- where a simulation may be: at its start, and after any item of work
 pub data Reached (rules : List Automation) : Engine → Type 0 where
-  at-start : (areas : Areas) (cells : List Cell) (notes : List Text) (events : List Event)
-      → Reached rules (begun areas cells notes events)
+  at-start : (areas : Areas) (origin : Moment) (cells : List Cell) (notes : List Text) (events : List Event)
+      → Reached rules (begun areas origin cells notes events)
   after : {e : Engine} (now : ℕ) (queue : List Item) (w : Work) → Reached rules e
       → Reached rules (process now rules w (with-queue queue e))
 
@@ -89,7 +89,8 @@ all-known (r ∷ l) = (
 pub reached-keeps : (a : Automation) (rules : List Automation) {e : Engine} → Only a rules → Reached rules e
     → Kept (known-in rules) a (e .runs) (e .made)
 unfolding with-queue
-reached-keeps a rules u (at-start areas cells notes events) = begun-keeps (known-in rules) a areas cells notes events
+reached-keeps a rules u (at-start areas origin cells notes events) =
+    begun-keeps (known-in rules) a areas origin cells notes events
 reached-keeps a rules u (after {e} now l w r) =
     process-keeps (known-in rules) a now rules w (with-queue l e) (all-known rules) u (reached-keeps a rules u r)
 

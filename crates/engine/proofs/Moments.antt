@@ -10,7 +10,7 @@ use lib.Dec.{leb, ltb, eqb}
 use lib.ListN.{length}
 use Rattle.texts.specs.Lists.{_▸_, present-and, any, keep, find, tally, each, flat, through}
 use Rattle.texts.specs.Texts.{Text, eqT}
-use Rattle.model.specs.Model.{queued, Automation, Input, reload, Event}
+use Rattle.model.specs.Model.{Moment, queued, Automation, Input, reload, Event}
 use Rattle.engine.specs.Cells.{Cell}
 use Rattle.engine.specs.Kleene.{Truth, Yes, No, Unknown}
 use Rattle.engine.specs.Truth.{evaluate-all, matches}
@@ -27,6 +27,7 @@ use Rattle.engine.specs.Reasons.{space-spent, steps-spent}
 use Rattle.engine.specs.Records.{Key, Waiting, Run, Work, Item, Kind, Areas, Engine}
 use Rattle.engine.specs.Changes.{append, with-runs, uncertain, with-queue}
 use Rattle.engine.specs.Engine.{
+  moment,
   is-run,
   of-rule,
   of-other-rule,
@@ -199,7 +200,7 @@ module _ (a : Automation) (now : ℕ) (base : List Item) where
   s-offers x from to [] e u s = s
   s-offers x from to (r ∷ l) e u s =
       s-offers x from to l _ (u .1) (if-prop T (any (matches x from to) (r .triggers))
-      (λ _. s-admit (evaluate-all (r .conditions) (e .cells)) r _ (u .0) s) (λ _. s))
+      (λ _. s-admit (evaluate-all (moment now e) (r .conditions) (e .cells)) r _ (u .0) s) (λ _. s))
 
 -- ---- an item of work
 
@@ -465,10 +466,10 @@ module _ (a : Automation) (rules : List Automation) (only : Only a rules) where
   inputs [] = tt
   inputs (v ∷ l) = ((λ k. refl, λ m. tt), inputs l)
 
-  pub begun-sound : (areas : Areas) (cells : List Cell) (notes : List Text) (events : List Event)
-      → T a 0 [] (begun areas cells notes events)
+  pub begun-sound : (areas : Areas) (origin : Moment) (cells : List Cell) (notes : List Text) (events : List Event)
+      → T a 0 [] (begun areas origin cells notes events)
   unfolding begun log append keep
-  begun-sound areas cells notes events =
+  begun-sound areas origin cells notes events =
       s-adds a 0 nobody-called [] none-free (flat (expiry 0) cells) _ (expiries cells)
       (s-adds a 0 nobody-called [] none-free (each event-item events) _ (inputs events)
       (record { order = tt; good = tt; line = line-none (a .mode); meant = tt; kept = ([], refl) }))

@@ -48,6 +48,7 @@ use Rattle.engine.specs.Unsupported.{unsupported}
 use Rattle.engine.specs.Records.{Key, Waiting, Run, Work, Kind, Trace, Areas, Engine}
 use Rattle.engine.specs.Changes.{if-some, with-cells, add, append, with-runs, add-run, uncertain, with-queue, adds}
 use Rattle.engine.specs.Engine.{
+  moment,
   is-run,
   of-rule,
   other-run,
@@ -179,9 +180,9 @@ module _ (now : ℕ) (a : Automation) where
 
   -- the verdict's admission
   after : Engine → Engine
-  after e = admit now (evaluate-all (a .conditions) (e .cells)) a e
+  after e = admit now (evaluate-all (moment now e) (a .conditions) (e .cells)) a e
 
-  decided : (e : Engine) (d : Decision) → Met a e → decide (a .mode) (a .max) (runs-of a e) ≡ d
+  decided : (e : Engine) (d : Decision) → Met now a e → decide (a .mode) (a .max) (runs-of a e) ≡ d
       → after e ≡ carry-out now d a e
   unfolding after admit of-rule
   decided e d met p = rw (met .0, met .1, p)
@@ -246,7 +247,7 @@ module _ (now : ℕ) (a : Automation) where
     full = λ met m h.
         decided e max-reached met (decide-full (a .mode) m (a .max) (runs-of a e) h)
         ∙ (unfold carry-out log-rule log in refl);
-    apart = admit-apart (evaluate-all (a .conditions) (e .cells)) e;
+    apart = admit-apart (evaluate-all (moment now e) (a .conditions) (e .cells)) e;
   }
     where
       never : (l : List Text) → (l ≡ [] → ⊥) → _≡_ {A = Engine} (elim l [
@@ -350,8 +351,8 @@ module _ (k : Key) (before : List Run) (made : List Text) where
       (q-update Goes now x v (some (r .key .rule)) (some src) Kind.action e h)
   h-perform now (toggle x) src r e i h = h-on (flip now x src r e) (q-flip Goes now x src r e h)
   h-perform now (delay m) src r e i h = h-on e h
-  h-perform now (condition p) src r e i h = h-tested now (evaluate p (e .cells)) r _ i h
-  h-perform now (choose bs d) src r e i h = h-chosen now (select bs d (e .cells)) src r e i h
+  h-perform now (condition p) src r e i h = h-tested now (evaluate (moment now e) p (e .cells)) r _ i h
+  h-perform now (choose bs d) src r e i h = h-chosen now (select (moment now e) bs d (e .cells)) src r e i h
   h-perform now (wait t s c) src r e i h = unfold begin-wait in
       (if-prop H (absent (t .note)) (λ _. h-on (store (n t s c) e) (h-store (n t s c) e i h))
       (λ _. h-finish now r _ i h))
@@ -582,7 +583,7 @@ module _ (file : List ℕ) (m : Model) (ok : accepted file ≡ answer m) (areas 
   unfolding here
   sound a only =
       loop-sound a (m .rules) only (m .scenario .limits .horizon) n 0 _
-      (begun-sound a (m .rules) only areas cells (unsupported (m .rules)) events)
+      (begun-sound a (m .rules) only areas (m .start) cells (unsupported (m .rules)) events)
 
   stands : {a : Automation} → List·Memᴰ a (m .rules) → Standing a here
   unfolding here of-rule
@@ -600,7 +601,7 @@ module _ (file : List ℕ) (m : Model) (ok : accepted file ≡ answer m) (areas 
       reached : Reached (m .rules) here
       reached =
           loop-reaches (m .rules) (m .scenario .limits .horizon) n 0 _
-          (at-start areas cells (unsupported (m .rules)) events)
+          (at-start areas (m .start) cells (unsupported (m .rules)) events)
 
   -- some automation, for what holds of all runs
   one-of-them : (a : Automation) × Only a (m .rules)
@@ -648,8 +649,8 @@ pub modes-right : (file : List ℕ) (m : Model) → accepted file ≡ answer m �
     (events : List Event) → ByThePage areas m cells events
 modes-right file m ok areas cells events = record {
   moments = page file m ok areas cells events;
-  at-first = unfold run in (run-none m 0 (begun areas cells (unsupported (m .rules)) events));
-  at-next = λ n. unfold run in (run-next m n 0 (begun areas cells (unsupported (m .rules)) events));
+  at-first = unfold run in (run-none m 0 (begun areas (m .start) cells (unsupported (m .rules)) events));
+  at-next = λ n. unfold run in (run-next m n 0 (begun areas (m .start) cells (unsupported (m .rules)) events));
   at-last = unfold ended closed in (last _ _);
 }
   where

@@ -14,6 +14,7 @@ use Rattle.model.specs.File.{Got, got, broken, model, decoded, decode}
 use Rattle.model.specs.Validate.{
   bad-size,
   bad-limits,
+  bad-start,
   bad-alphabet,
   check-entity,
   check-input,
@@ -67,6 +68,7 @@ or-no′ false b h = h
 pub record Passed (m : Model) : Type 0 where
   pub size : bad-size m ≡ false
   pub limits : bad-limits (m .scenario .limits) ≡ false
+  pub start : bad-start (m .start) ≡ false
   pub alphabet : bad-alphabet (m .scenario) ≡ false
   pub entities : each-accepted (check-entity (m .scenario .entities)) (m .scenario .entities) ≡ accept
   pub inputs : each-accepted (check-input (m .scenario .entities))
@@ -88,7 +90,8 @@ valid-passed m n e =
       answer-eq (b .1 .1),
       record {
         size = when-inv _ _ _ n e₂;
-        limits = when-inv _ _ _ n e₃;
+        limits = or-no (bad-limits (m .scenario .limits)) (bad-start (m .start)) (when-inv _ _ _ n e₃);
+        start = or-no′ (bad-limits (m .scenario .limits)) (bad-start (m .start)) (when-inv _ _ _ n e₃);
         alphabet = when-inv _ _ _ n e₄;
         entities = and-first _ _ n e₅;
         inputs = and-first _ _ n e₆;

@@ -29,6 +29,7 @@ with-cells l e = record {
   unknown = e .unknown;
   overflow = e .overflow;
   areas = e .areas;
+  start = e .start;
 }
 
 unfoldable pub add : Item → Engine → Engine
@@ -41,6 +42,7 @@ add i e = record {
   unknown = e .unknown;
   overflow = noted 41 (length (e .queue)) (e .areas .queue) (e .overflow);
   areas = e .areas;
+  start = e .start;
 }
 
 -- Rust's `record`
@@ -54,6 +56,7 @@ append t e = record {
   unknown = e .unknown;
   overflow = noted 42 (length (e .trace)) (e .areas .records) (e .overflow);
   areas = e .areas;
+  start = e .start;
 }
 
 unfoldable pub with-runs : List Run → Engine → Engine
@@ -66,6 +69,7 @@ with-runs l e = record {
   unknown = e .unknown;
   overflow = e .overflow;
   areas = e .areas;
+  start = e .start;
 }
 
 unfoldable pub add-run : Run → Engine → Engine
@@ -78,6 +82,7 @@ add-run r e = record {
   unknown = e .unknown;
   overflow = noted 43 (length (e .runs)) (e .areas .runs) (e .overflow);
   areas = e .areas;
+  start = e .start;
 }
 
 unfoldable pub uncertain : Text → Engine → Engine
@@ -90,6 +95,7 @@ uncertain t e = record {
   unknown = if memT t (e .unknown) then e .unknown else e .unknown ++ t ∷ [];
   overflow = e .overflow;
   areas = e .areas;
+  start = e .start;
 }
 
 -- the queue without the item that the loop takes out
@@ -103,6 +109,7 @@ with-queue l e = record {
   unknown = e .unknown;
   overflow = e .overflow;
   areas = e .areas;
+  start = e .start;
 }
 
 unfoldable pub adds : List Item → Engine → Engine

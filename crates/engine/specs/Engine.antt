@@ -11,6 +11,7 @@ use Rattle.texts.specs.Texts.{Text, text, eqT, all-texts}
 use Rattle.model.specs.Validate.{undecided}
 use Rattle.model.specs.Model.{
   Source,
+  Moment,
   Trigger,
   Effect,
   toggle,
@@ -31,7 +32,7 @@ use Rattle.model.specs.Model.{
 }
 use Rattle.engine.specs.Cells.{Cell, cell-of, value-of, put, all-cells}
 use Rattle.engine.specs.Kleene.{Truth, Yes, No, Unknown}
-use Rattle.engine.specs.Truth.{evaluate, evaluate-all, matches, all-truth}
+use Rattle.engine.specs.Truth.{moment-after, evaluate, evaluate-all, matches, all-truth}
 use Rattle.engine.specs.Modes.{Decision, already-running, max-reached, start, stop-and-start, wait-in-line, decide}
 use Rattle.engine.specs.Reasons.{
   unknown-trigger-condition,
@@ -128,12 +129,16 @@ done then r = r
 act s f l then r = act s f (l then r)
 
 -- the list that a choice takes: the first whose conditions hold, unless one before it is unknown
-unfoldable pub select : Branches → (default : Actions) → List Cell → Option Actions
-select no-branch d l = some d
-select (branch ps as′ bs) d l = elim (evaluate-all ps l) [ Yes ↦ some as′ | No ↦ select bs d l | Unknown ↦ none ]
+unfoldable pub select : Moment → Branches → (default : Actions) → List Cell → Option Actions
+select t no-branch d l = some d
+select t (branch ps as′ bs) d l = elim (evaluate-all t ps l) [ Yes ↦ some as′ | No ↦ select t bs d l | Unknown ↦ none ]
 
 -- ---- what happens at a second
 module _ (now : ℕ) where
+  -- the moment at which this second falls
+  abbrev pub moment : Engine → Moment
+  moment e = moment-after (e .start) now
+
   -- work for this second
   unfoldable pub at-once : Work → Item
   at-once w = record { at = now; work = w }
@@ -231,7 +236,7 @@ module _ (now : ℕ) where
   -- the automation is offered the change
   unfoldable pub offer : (entity from to : Text) → Automation → Engine → Engine
   offer x from to r e =
-      let verdict = evaluate-all (r .conditions) (e .cells) in
+      let verdict = evaluate-all (moment e) (r .conditions) (e .cells) in
       if any (matches x from to) (r .triggers)
       then (e ▸ log (Kind.trigger verdict) (some (r .id)) (some (r .source)) none ▸ admit verdict r)
       else e
@@ -277,9 +282,9 @@ module _ (now : ℕ) where
   perform (toggle x) src r e = e ▸ flip x src r ▸ add (next-step r)
   perform (delay n) src r e = e ▸ log-action (Kind.delay n) src r ▸ go-on-after n r
   perform (condition p) src r e =
-      let v = evaluate p (e .cells) in
+      let v = evaluate (moment e) p (e .cells) in
       e ▸ log-action (Kind.condition v) src r ▸ tested v r
-  perform (choose bs d) src r e = e ▸ chosen (select bs d (e .cells)) src r
+  perform (choose bs d) src r e = e ▸ chosen (select (moment e) bs d (e .cells)) src r
   perform (wait t n c) src r e = e ▸ begin-wait t n c src r
   perform (Effect.unknown reason) src r e = e ▸ uncertain reason ▸ log-action (Kind.unknown reason) src r ▸ finish r
 
@@ -384,8 +389,8 @@ module _ (rules : List Automation) (horizon : ℕ) where
 unfoldable pub event-item : Event → Item
 event-item v = record { at = v .at; work = Work.external (v .input) }
 
-unfoldable pub begun : Areas → List Cell → (unsupported : List Text) → List Event → Engine
-begun areas cells notes events =
+unfoldable pub begun : Areas → Moment → List Cell → (unsupported : List Text) → List Event → Engine
+begun areas origin cells notes events =
     let empty : Engine = record {
       cells = cells;
       queue = [];
@@ -395,6 +400,7 @@ begun areas cells notes events =
       unknown = notes;
       overflow = none;
       areas = areas;
+      start = origin;
     } in
     empty ▸ log 0 Kind.initial none none none ▸ adds (each event-item events) ▸ adds (flat (expiry 0) cells)
 

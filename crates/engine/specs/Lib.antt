@@ -13,3 +13,5 @@ pub mod Memory
 pub mod Words
 pub mod Bounds
 pub mod Page
+-- what the request says of quiet hours
+pub mod Quiet

@@ -35,7 +35,7 @@ use Rattle.engine.specs.Reasons.{unknown-trigger-condition}
 use Rattle.engine.specs.Unsupported.{unsupported}
 use Rattle.engine.specs.Records.{Key, Waiting, Run, Work, Item, Kind, Trace, Areas, Engine}
 use Rattle.engine.specs.Changes.{add, append, with-runs, add-run, uncertain, with-queue}
-use Rattle.engine.specs.Engine.{left, store, finish, wake, offer, perform, process, pop, stop, exhausted, take, next-of, loop, begun}
+use Rattle.engine.specs.Engine.{moment, left, store, finish, wake, offer, perform, process, pop, stop, exhausted, take, next-of, loop, begun}
 use Rattle.engine.specs.Simulate.{ended}
 
 -- ---- the moments of a simulation
@@ -51,7 +51,7 @@ next-moment m e = elim (next-of (m .scenario .limits .horizon) e (pop (e .queue)
 -- the engine after n items of work, or as the loop ended before
 abbrev pub after-items : Areas → Model → List Cell → List Event → ℕ → Engine
 after-items areas m cells events n =
-    (loop (m .rules) (m .scenario .limits .horizon) n 0 (begun areas cells (unsupported (m .rules)) events)) .engine
+    (loop (m .rules) (m .scenario .limits .horizon) n 0 (begun areas (m .start) cells (unsupported (m .rules)) events)) .engine
 
 -- ---- words
 
@@ -200,29 +200,29 @@ module _ (now : ℕ) (a : Automation) where
   stopped e = e ▸ with-runs (keep (is-apart (a .id)) (e .runs)) ▸ append (message Kind.cancel)
 
 -- the automation's conditions are met, and it has no notes (one with notes is unsupported and never starts)
-abbrev pub Met : Automation → Engine → Type 0
-Met a e = (evaluate-all (a .conditions) (e .cells) ≡ Yes) × (a .notes ≡ [])
+abbrev pub Met : (now : ℕ) → Automation → Engine → Type 0
+Met now a e = (evaluate-all (moment now e) (a .conditions) (e .cells) ≡ Yes) × (a .notes ≡ [])
 
 -- from the moment at which the automation is triggered, its trigger recorded, to the moment after it
 pub record Triggered (now : ℕ) (a : Automation) (e after : Engine) : Type 0 where
   -- conditions are asked when it is triggered: if they aren't met, nothing happens; if that is unknown, only a reason is
   -- given; and an automation with notes never starts
-  pub denied : evaluate-all (a .conditions) (e .cells) ≡ No → after ≡ e
-  pub unclear : evaluate-all (a .conditions) (e .cells) ≡ Unknown
+  pub denied : evaluate-all (moment now e) (a .conditions) (e .cells) ≡ No → after ≡ e
+  pub unclear : evaluate-all (moment now e) (a .conditions) (e .cells) ≡ Unknown
       → after ≡ uncertain (unknown-trigger-condition (a .id)) e
-  pub noted : evaluate-all (a .conditions) (e .cells) ≡ Yes → (a .notes ≡ [] → ⊥) → after ≡ e
+  pub noted : evaluate-all (moment now e) (a .conditions) (e .cells) ≡ Yes → (a .notes ≡ [] → ⊥) → after ≡ e
   -- no run is going: a new run starts
-  pub first : Met a e → runs-of a e ≡ 0 → after ≡ started now a e
+  pub first : Met now a e → runs-of a e ≡ 0 → after ≡ started now a e
   -- single: no new run starts, a warning is issued, and nothing else happens
-  pub single-warns : Met a e → a .mode ≡ single → 1 ≤ runs-of a e → after ≡ append (message now a Kind.single-running) e
+  pub single-warns : Met now a e → a .mode ≡ single → 1 ≤ runs-of a e → after ≡ append (message now a Kind.single-running) e
   -- restart: the previous run is stopped first, then a new run starts
-  pub restarts : Met a e → a .mode ≡ Mode.restart → 1 ≤ runs-of a e → after ≡ started now a (stopped now a e)
+  pub restarts : Met now a e → a .mode ≡ Mode.restart → 1 ≤ runs-of a e → after ≡ started now a (stopped now a e)
   -- queued: the new run joins the queue
-  pub queues : Met a e → a .mode ≡ queued → 1 ≤ runs-of a e → runs-of a e < a .max → after ≡ joined now a e
+  pub queues : Met now a e → a .mode ≡ queued → 1 ≤ runs-of a e → runs-of a e < a .max → after ≡ joined now a e
   -- parallel: a new, independent run starts beside the previous ones
-  pub beside : Met a e → a .mode ≡ parallel → runs-of a e < a .max → after ≡ started now a e
+  pub beside : Met now a e → a .mode ≡ parallel → runs-of a e < a .max → after ≡ started now a e
   -- when `max` is exceeded, the new trigger starts nothing and a message is logged
-  pub full : Met a e → (a .mode ≡ queued) ⊎ (a .mode ≡ parallel) → a .max ≤ runs-of a e
+  pub full : Met now a e → (a .mode ≡ queued) ⊎ (a .mode ≡ parallel) → a .max ≤ runs-of a e
       → after ≡ append (message now a Kind.max-reached) e
   -- no other automation's run is touched
   pub apart : keep (is-apart (a .id)) (after .runs) ≡ keep (is-apart (a .id)) (e .runs)
@@ -231,7 +231,7 @@ pub record Triggered (now : ℕ) (a : Automation) (e after : Engine) : Type 0 wh
 abbrev pub asked : (now : ℕ) → Automation → Engine → Engine
 asked now a e = append (record {
   at = now;
-  kind = Kind.trigger (evaluate-all (a .conditions) (e .cells));
+  kind = Kind.trigger (evaluate-all (moment now e) (a .conditions) (e .cells));
   automation = some (a .id);
   source = some (a .source);
   change = none;
@@ -342,7 +342,7 @@ pub record Page (m : Model) (e : Engine) : Type 0 where
 -- the one before, up to its end
 pub record ByThePage (areas : Areas) (m : Model) (cells : List Cell) (events : List Event) : Type 0 where
   pub moments : (n : ℕ) → Page m (after-items areas m cells events n)
-  pub at-first : after-items areas m cells events 0 ≡ begun areas cells (unsupported (m .rules)) events
+  pub at-first : after-items areas m cells events 0 ≡ begun areas (m .start) cells (unsupported (m .rules)) events
   pub at-next : (n : ℕ) → after-items areas m cells events (suc n) ≡ next-moment m (after-items areas m cells events n)
   pub at-last : (ended areas m cells events) .engine .runs ≡
       (after-items areas m cells events (m .scenario .limits .max-steps)) .runs

@@ -5,7 +5,7 @@ use mathlib.Core.List.{List, [], _++_}
 use mathlib.Core.Option.{Option}
 use Rattle.texts.specs.Lists.{if_then_else_}
 use Rattle.texts.specs.Texts.{Text, text, decimal, all-texts}
-use Rattle.model.specs.Model.{Source, Trigger, Actions, Input}
+use Rattle.model.specs.Model.{Source, Moment, Trigger, Actions, Input}
 use Rattle.engine.specs.Cells.{Cell}
 use Rattle.engine.specs.Kleene.{Truth}
 use Rattle.engine.specs.Truth.{truth-name}
@@ -115,7 +115,8 @@ pub record Areas : Type 0 where
   pub runs : ℕ
 
 -- The queue is in order of insertion, the runs in order of making. `made` lists the automation of each run made so far.
--- `overflow` notes the first insertion that its area had no place for; the entry goes in all the same.
+-- `overflow` notes the first insertion that its area had no place for; the entry goes in all the same. `start` is the moment
+-- of second 0.
 pub record Engine : Type 0 where
   pub cells : List Cell
   pub queue : List Item
@@ -125,6 +126,7 @@ pub record Engine : Type 0 where
   pub unknown : List Text
   pub overflow : Option ℕ
   pub areas : Areas
+  pub start : Moment
 
 -- opens the file, for proofs by computation
 unfoldable pub all-records : Unit {0}

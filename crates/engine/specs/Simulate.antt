@@ -24,7 +24,7 @@ pub record Simulation : Type 0 where
 unfoldable pub ended : Areas → Model → List Cell → List Event → Ended
 ended areas m cells events =
     let limits = m .scenario .limits in
-    begun areas cells (unsupported (m .rules)) events
+    begun areas (m .start) cells (unsupported (m .rules)) events
     ▸ loop (m .rules) (limits .horizon) (limits .max-steps) 0
     ▸ closed (limits .horizon)
 

@@ -44,11 +44,11 @@ after-is r n second m e = ap (λ z. next-stepM r z m) e
 pub tested-is : (f x : List ℕ) (k : ℕ) (r : Run) (t g : Truth) (m : Machine) → t ≡ g → testedM f x k r g m ≡ testedM f x k r t m
 tested-is f x k r t g m e = ap (λ z. testedM f x k r z m) (sym e)
 
-pub condition-is : (f x : List ℕ) (k : ℕ) (r : Run) (s : Source) (at d : ℕ) (t : Truth) (m : Machine) → t ≡ evaluateT f x (m .values) at → d ≡ numberT t → testedM f x k r t (log-actionM 11 d s r m) ≡ conditionM f x k r s at m
+pub condition-is : (f x : List ℕ) (k : ℕ) (r : Run) (s : Source) (at d : ℕ) (t : Truth) (m : Machine) → t ≡ evaluateT f x (m .values) (m .now) at → d ≡ numberT t → testedM f x k r t (log-actionM 11 d s r m) ≡ conditionM f x k r s at m
 unfolding conditionM condition-asM
 condition-is f x k r s at d t m e g = ap (λ z. testedM f x k r t (log-actionM 11 z s r m)) g ∙ ap (λ z. testedM f x k r z (log-actionM 11 (numberT z) s r m)) e
 
-pub choose-is : (f x : List ℕ) (k : ℕ) (r : Run) (s : Source) (at : ℕ) (b g : Branch) (m : Machine) → b ≡ g → b ≡ selectT f x (m .values) at → chosenM f x k r s g m ≡ chooseM f x k r s at m
+pub choose-is : (f x : List ℕ) (k : ℕ) (r : Run) (s : Source) (at : ℕ) (b g : Branch) (m : Machine) → b ≡ g → b ≡ selectT f x (m .values) (m .now) at → chosenM f x k r s g m ≡ chooseM f x k r s at m
 unfolding chooseM
 choose-is f x k r s at b g m e h = ap (λ z. chosenM f x k r s z m) (sym e ∙ h)
 

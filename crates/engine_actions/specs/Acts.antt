@@ -77,7 +77,7 @@ unfoldable pub condition-asM : (f x : List ℕ) → (k : ℕ) → Run → Source
 condition-asM f x k r s t m = testedM f x k r t (log-actionM 11 (numberT t) s r m)
 
 unfoldable pub conditionM : (f x : List ℕ) → (k : ℕ) → Run → Source → (at : ℕ) → Machine → Machine
-conditionM f x k r s at m = condition-asM f x k r s (evaluateT f x (m .values) at) m
+conditionM f x k r s at m = condition-asM f x k r s (evaluateT f x (m .values) (m .now) at) m
 
 unfoldable pub take-listM : (f : List ℕ) → (k : ℕ) → Run → Source → (at : ℕ) → Machine → Machine
 take-listM f k r s at m = nowM r (log-actionM 8 0 s r (put-runM k (listA f r at) m))
@@ -88,7 +88,7 @@ chosenM f x k r s Unclear m = unclearM f x k r kinds.choose-condition m
 chosenM f x k r s (Skip p) m = unclearM f x k r kinds.choose-condition m
 
 unfoldable pub chooseM : (f x : List ℕ) → (k : ℕ) → Run → Source → (at : ℕ) → Machine → Machine
-chooseM f x k r s at m = chosenM f x k r s (selectT f x (m .values) at) m
+chooseM f x k r s at m = chosenM f x k r s (selectT f x (m .values) (m .now) at) m
 
 abbrev pub wait : (trigger deadline : ℕ) → Bool → Source → Wait
 wait t d b s = record { trigger = t; deadline = d; onward = b; source = s }

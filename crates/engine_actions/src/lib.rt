@@ -188,7 +188,7 @@ pub fn condition(
     requires { ⌜ (k < st .active) × Fits st (now q) (now a) (now r) (now u) ⌝ }
     ensures { λ t. ⌜ Moves (conditionM (now (f .entry)) (now (x .entry)) k run s at) st t (goes (now (q .entry)) (now (q .exit))) (goes (now (a .entry)) (now (a .exit))) (goes (now (r .entry)) (now (r .exit))) (told (now (f .entry)) (now (u .entry)) (now (u .exit))) (goes (now (values .entry)) (now (values .entry))) kept kept ⌝ }
 {
-    let t = engine_truth::evaluate(f, x, values, at);
+    let t = engine_truth::evaluate(f, x, values, st.now, at);
     let detail = engine_truth::number_of(t);
     let s1 = log_action(a, st, 11, detail, s, run);
     tested(f, x, q, a, r, u, s1, k, run, t)
@@ -231,7 +231,7 @@ pub fn choose(
     requires { ⌜ (k < st .active) × Fits st (now q) (now a) (now r) (now u) ⌝ }
     ensures { λ t. ⌜ Moves (chooseM (now (f .entry)) (now (x .entry)) k run s at) st t (goes (now (q .entry)) (now (q .exit))) (goes (now (a .entry)) (now (a .exit))) (goes (now (r .entry)) (now (r .exit))) (told (now (f .entry)) (now (u .entry)) (now (u .exit))) (goes (now (values .entry)) (now (values .entry))) kept kept ⌝ }
 {
-    let b = engine_truth::select(f, x, values, at);
+    let b = engine_truth::select(f, x, values, st.now, at);
     match b {
         Branch::Take(list) => take_list(f, q, a, r, st, k, run, s, list),
         Branch::Unclear => unclear(f, x, q, a, r, u, st, k, run, reasons::CHOOSE_CONDITION),

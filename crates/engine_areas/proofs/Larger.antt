@@ -21,7 +21,7 @@ use Rattle.engine.specs.Reasons.{toggle-of-unknown, space-spent, steps-spent}
 use Rattle.engine.specs.Modes.{Decision, already-running, max-reached, start, stop-and-start, wait-in-line, decide}
 use Rattle.engine.specs.Records.{Key, Waiting, Run, Work, Item, Kind, Change, Trace, Areas, Engine}
 use Rattle.engine.specs.Changes.{if-some, noted, with-cells, add, append, with-runs, add-run, uncertain, adds, with-queue}
-use Rattle.engine.specs.Engine.{is-run, of-rule, other-run, of-other-rule, in-line, in-place, store, left, new-run, awaits, woken, toggled, select, next-step, log, log-rule, log-action, expiry, expiry-of, change-of, update, let-go, release, finish, wake, begin, carry-out, admit, offer, trigger, go-on-after, write, flip, tested, chosen, begin-wait, perform, go-on, step, resume, wait-over, end-wait, time-out, expire, go-stale, drop-runs, process, pop, Next, stop, exhausted, take, next-of, Ended, loop, event-item, begun, left-over, last-record, closed}
+use Rattle.engine.specs.Engine.{is-run, of-rule, other-run, of-other-rule, in-line, in-place, store, left, new-run, awaits, woken, toggled, select, moment, next-step, log, log-rule, log-action, expiry, expiry-of, change-of, update, let-go, release, finish, wake, begin, carry-out, admit, offer, trigger, go-on-after, write, flip, tested, chosen, begin-wait, perform, go-on, step, resume, wait-over, end-wait, time-out, expire, go-stale, drop-runs, process, pop, Next, stop, exhausted, take, next-of, Ended, loop, event-item, begun, left-over, last-record, closed}
 use Rattle.engine.specs.Simulate.{ended, outcome, unless-full, simulated}
 use Rattle.engine.proofs.Lists.{lt-leb}
 use Rattle.engine.proofs.Closed.{sticky, had-room}
@@ -46,6 +46,7 @@ module _ (A B : Areas) (larger : Larger A B) where
     unknown = e .unknown;
     overflow = none;
     areas = B;
+    start = e .start;
   }
 
   -- f does the same in the larger areas unless an area overflows
@@ -111,7 +112,7 @@ module _ (A B : Areas) (larger : Larger A B) where
     same = λ e a o.
         let room = had-room 41 (length (e .queue)) (e .areas .queue) (e .overflow) o in
         let more : length (e .queue) + 1 ≤ B .queue = omega (arith, room, larger .queue, ap (λ (x : Areas). x .queue) a) in
-        ap (λ (x : Option ℕ). record { cells = e .cells; queue = e .queue ++ i ∷ []; runs = e .runs; made = e .made; trace = e .trace; unknown = e .unknown; overflow = x; areas = B }) (fresh 41 (length (e .queue)) (B .queue) more);
+        ap (λ (x : Option ℕ). record { cells = e .cells; queue = e .queue ++ i ∷ []; runs = e .runs; made = e .made; trace = e .trace; unknown = e .unknown; overflow = x; areas = B; start = e .start }) (fresh 41 (length (e .queue)) (B .queue) more);
   }
 
   s-append : (t : Trace) → Same (append t)
@@ -122,7 +123,7 @@ module _ (A B : Areas) (larger : Larger A B) where
     same = λ e a o.
         let room = had-room 42 (length (e .trace)) (e .areas .records) (e .overflow) o in
         let more : length (e .trace) + 1 ≤ B .records = omega (arith, room, larger .records, ap (λ (x : Areas). x .records) a) in
-        ap (λ (x : Option ℕ). record { cells = e .cells; queue = e .queue; runs = e .runs; made = e .made; trace = e .trace ++ t ∷ []; unknown = e .unknown; overflow = x; areas = B }) (fresh 42 (length (e .trace)) (B .records) more);
+        ap (λ (x : Option ℕ). record { cells = e .cells; queue = e .queue; runs = e .runs; made = e .made; trace = e .trace ++ t ∷ []; unknown = e .unknown; overflow = x; areas = B; start = e .start }) (fresh 42 (length (e .trace)) (B .records) more);
   }
 
   s-run : (r : Run) → Same (add-run r)
@@ -133,7 +134,7 @@ module _ (A B : Areas) (larger : Larger A B) where
     same = λ e a o.
         let room = had-room 43 (length (e .runs)) (e .areas .runs) (e .overflow) o in
         let more : length (e .runs) + 1 ≤ B .runs = omega (arith, room, larger .runs, ap (λ (x : Areas). x .runs) a) in
-        ap (λ (x : Option ℕ). record { cells = e .cells; queue = e .queue; runs = e .runs ++ r ∷ []; made = e .made ++ r .key .rule ∷ []; trace = e .trace; unknown = e .unknown; overflow = x; areas = B }) (fresh 43 (length (e .runs)) (B .runs) more);
+        ap (λ (x : Option ℕ). record { cells = e .cells; queue = e .queue; runs = e .runs ++ r ∷ []; made = e .made ++ r .key .rule ∷ []; trace = e .trace; unknown = e .unknown; overflow = x; areas = B; start = e .start }) (fresh 43 (length (e .runs)) (B .runs) more);
   }
 
   -- ---- the engine's steps
@@ -222,7 +223,7 @@ module _ (A B : Areas) (larger : Larger A B) where
     s-offer : (x from to : Text) (r : Automation) → Same (offer now x from to r)
     unfolding offer
     s-offer x from to r =
-        with (λ e. evaluate-all (r .conditions) (e .cells)) (λ e. refl)
+        with (λ e. evaluate-all (moment now e) (r .conditions) (e .cells)) (λ e. refl)
         (λ (v : Truth) e. if any (matches x from to) (r .triggers) then (e ▸ log now (Kind.trigger v) (some (r .id)) (some (r .source)) none ▸ admit now v r) else e)
         (λ v. either (any (matches x from to) (r .triggers)) (s-log _ _ _ _ then s-admit v r) idle)
 
@@ -261,11 +262,11 @@ module _ (A B : Areas) (larger : Larger A B) where
     s-perform (toggle x) src r = s-flip x src r then s-add _
     s-perform (delay n) src r = s-log _ _ _ _ then s-add _
     s-perform (condition p) src r =
-        with (λ e. evaluate p (e .cells)) (λ e. refl)
+        with (λ e. evaluate (moment now e) p (e .cells)) (λ e. refl)
         (λ (v : Truth) e. e ▸ log now (Kind.condition v) (some (r .key .rule)) (some src) none ▸ tested now v r)
         (λ v. s-log _ _ _ _ then s-tested v r)
     s-perform (choose bs d) src r =
-        with (λ e. select bs d (e .cells)) (λ e. refl) (λ (o : Option Actions). chosen now o src r) (λ o. s-chosen o src r)
+        with (λ e. select (moment now e) bs d (e .cells)) (λ e. refl) (λ (o : Option Actions). chosen now o src r) (λ o. s-chosen o src r)
     s-perform (wait t n c) src r = s-begin-wait t n c src r
     s-perform (Effect.unknown reason) src r = s-uncertain reason then s-log _ _ _ _ then s-finish r
 
@@ -446,18 +447,19 @@ module _ (A B : Areas) (larger : Larger A B) where
       unknown = unsupported rules;
       overflow = none;
       areas = A;
+      start = m .start;
     }
 
     s-begun : Same (λ e. e ▸ log 0 Kind.initial none none none ▸ adds (each event-item events) ▸ adds (flat (expiry 0) cells))
     s-begun = s-log 0 _ _ _ _ then s-adds _ then s-adds _
 
     abbrev first : Engine
-    first = begun A cells (unsupported rules) events
+    first = begun A (m .start) cells (unsupported rules) events
 
     abbrev looped : Ended
     looped = loop rules horizon (m .scenario .limits .max-steps) 0 first
 
-    begun-wide : first .overflow ≡ none → begun B cells (unsupported rules) events ≡ wide first
+    begun-wide : first .overflow ≡ none → begun B (m .start) cells (unsupported rules) events ≡ wide first
     unfolding begun
     begun-wide o = s-begun .same empty refl o
 

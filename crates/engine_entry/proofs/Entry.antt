@@ -82,7 +82,7 @@ module _ (f : List ℕ) (i : Index) (m : Model) (acc : accepted f ≡ answer m) 
 
   pub events-count : atMost (getD x 8 0) 100 ≡ length events
   events-count =
-      let e : getD x 8 0 ≡ length events = gr .table .words 8 (omega arith) ∙ table.table-head f i 8 (omega arith) ∙ table.head-high f i 8 (omega arith) (λ z. absurd (omega arith)) (λ z. absurd (omega arith)) (omega arith) ∙ table.count-8 i 8 refl ∙ o .events .counts in
+      let e : getD x 8 0 ≡ length events = gr .table .words 8 (omega arith) ∙ table.table-head f i 8 (omega arith) ∙ table.head-high f i 8 (omega arith) (λ z. absurd (omega arith)) (λ z. absurd (omega arith)) (omega arith) (λ z. absurd (omega arith)) (λ z. absurd (omega arith)) ∙ table.count-8 i 8 refl ∙ o .events .counts in
       most-is (getD x 8 0) 100 (omega (arith, e, accepted-lawful f m acc .few-events)) ∙ e
 
   -- ---- the answer
@@ -142,4 +142,5 @@ module _ (f : List ℕ) (x : File) (says : indexed.Says f x (accepted f)) where
 
       kept : Refusal n → lent-after (words-in f) (λ (b : engine.Simulation). b .trace) (refused n) before ≡ before
       kept (inl h) = refusals (words-in f) (λ (b : engine.Simulation). b .trace) before .between n (omega arith) (omega arith)
-      kept (inr h) = refusals (words-in f) (λ (b : engine.Simulation). b .trace) before .below n (omega arith)
+      kept (inr (inl h)) = refusals (words-in f) (λ (b : engine.Simulation). b .trace) before .below n (omega arith)
+      kept (inr (inr h)) = refusals (words-in f) (λ (b : engine.Simulation). b .trace) before .above n (omega arith)

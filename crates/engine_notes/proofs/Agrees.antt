@@ -2,7 +2,7 @@
 use mathlib.Core.Path.{_≡_, refl, sym, ap, _∙_}
 use mathlib.Core.List.{List, [], _∷_, _++_, append-nil, append-assoc}
 use mathlib.Core.Option.{Option, none, some}
-use Prim.Native.Nat.{ℕ, zero, suc, _+_, _≤_, _<_}
+use Prim.Native.Nat.{ℕ, zero, suc, _+_, _-_, _≤_, _<_}
 use native.Mathlib.Omega.{arith}
 use native.Mathlib.Decide.{decLt}
 use lib.ListN.{length, getD}
@@ -11,14 +11,15 @@ use borrow.Author.Tests.{lt-ltb, le-ltb, ne-eqb}
 use Rattle.texts.specs.Lists.{if_then_else_, listed, each, flat}
 use Rattle.texts.specs.Texts.{Text, text}
 use Rattle.texts.specs.Places.{textAt, startFrom}
-use Rattle.model.specs.Model.{Predicate, state, Trigger}
+use Rattle.model.specs.Model.{Predicate, state, window, Trigger}
 use Rattle.model.specs.File.{_>>=_ as _>>=ᵣ_}
-use Rattle.model.specs.File.{got, Reader, give, refuse, u8, u16, times, counted, place, predicate, trigger}
+use Rattle.model.specs.File.{got, Reader, give, refuse, u8, u16, u32, times, counted, place, predicate, trigger}
 use Rattle.model.specs.Notes.{of-predicate, of-trigger}
-use Rattle.model_walk.specs.Walk.{found}
+use Rattle.model_walk.specs.Walk.{found, predicate-size}
 use Rattle.model_walk.specs.declared.Num.the-variants as num
-use Rattle.model_walk.proofs.Found.{bound, given, Wide, wide-sum, u16-wide, source-wide, counted-found, Kind, kind-found, place-found, Value?, Place?, trigger-found}
+use Rattle.model_walk.proofs.Found.{bound, given, Wide, wide-sum, u8-wide, u16-wide, u8-value, source-wide, counted-found, Kind, kind-found, place-found, predicate-wide, Value?, Place?, trigger-found}
 use Rattle.model_walk.proofs.Found as found
+use Rattle.model_walk.proofs.Laws.{size-some}
 use Rattle.reasons.specs.Kinds as kinds
 use Rattle.reasons.specs.Reasons.{words, body, render}
 use Rattle.reasons.specs.Readable.{text-count}
@@ -149,6 +150,10 @@ module _ (f : List ℕ) (ts : List Text) (size : length f ≤ 32768) (few : leng
     unfolding each of-predicate addAll
     state-adds x v l = refl
 
+    window-adds : (d b e : ℕ) (l : List Text) → l ≡ addAll (each g (of-predicate (window d b e))) l
+    unfolding each of-predicate addAll
+    window-adds d b e l = refl
+
     unknown-adds : (t : Text) (l : List Text) →
         addAll (g t ∷ []) l ≡ addAll (each g (of-predicate (Predicate.unknown t))) l
     unfolding each of-predicate
@@ -157,12 +162,15 @@ module _ (f : List ℕ) (ts : List Text) (size : length f ≤ 32768) (few : leng
     pub predicate-agrees : Adds f (predicate ts) (λ a. each g (of-predicate a)) (predicateL i)
     unfolding predicate predicateL
     predicate-agrees p l a q e =
-        by-got f p l u8 (λ k. if eqb k 1 then noteL i else skipL 4) (k .is-kind)
-        ∙ cases (k .kind) (k .holds)
+        by-got f p l u8 (λ k. if eqb k 1 then noteL i else skipL (predicate-size k - 1)) (k .is-kind)
+        ∙ cases (k .kind) rest (k .holds)
       where
         pairs : List (Reader Predicate)
         pairs =
-            (place ts >>=ᵣ λ x. place ts >>=ᵣ λ v. give (state x v)) ∷ (place ts >>=ᵣ λ r. give (Predicate.unknown r)) ∷ []
+            (place ts >>=ᵣ λ x. place ts >>=ᵣ λ v. give (state x v))
+            ∷ (place ts >>=ᵣ λ r. give (Predicate.unknown r))
+            ∷ (u8 >>=ᵣ λ d. u32 >>=ᵣ λ b. u32 >>=ᵣ λ e. give (window d b e))
+            ∷ []
 
         k : Kind pairs f p a q
         k = kind-found pairs e
@@ -170,23 +178,38 @@ module _ (f : List ℕ) (ts : List Text) (size : length f ≤ 32768) (few : leng
         o : ℕ
         o = k .next
 
-        cases : (n : ℕ) → getD pairs n refuse f o ≡ got a q →
-            (if eqb n 1 then noteL i else skipL 4) f o l ≡ after q (addAll (each g (of-predicate a)) l)
-        cases zero h =
+        rest : Wide (predicate-size (k .kind) - 1) f o q
+        rest =
+            let w = predicate-wide ts e in
+            let u = u8-wide f p (k .is-kind) in
+            let z = ap predicate-size (u8-value f p (k .is-kind)) in
+            let m = size-some _ (k .kind) refl in
+            record { ends = omega (arith, w .ends, u .ends, z, m); inside = omega (arith, w .inside, u .ends, z, m) }
+
+        cases : (n : ℕ) → Wide (predicate-size n - 1) f o q → getD pairs n refuse f o ≡ got a q →
+            (if eqb n 1 then noteL i else skipL (predicate-size n - 1)) f o l ≡ after q (addAll (each g (of-predicate a)) l)
+        cases zero w h =
             let x = bound (place ts) _ h in
             let v = bound (place ts) _ (x .rest) in
             let z = given _ _ _ (v .rest) in
-            let w = wide-sum (place-wide o (x .first)) (place-wide (x .next) (v .first ∙ ap (got (v .value)) (z .1))) in
-            skips f o l 4 w
+            skips f o l _ w
             ∙ after-same q (state-adds (x .value) (v .value) l)
             ∙ ap (λ (y : Predicate). after q (addAll (each g (of-predicate y)) l)) (z .0)
-        cases (suc zero) h =
+        cases (suc zero) w h =
             let x = bound (place ts) _ h in
             let z = given _ _ _ (x .rest) in
             note-agrees o l (x .value) q (x .first ∙ ap (got (x .value)) (z .1))
             ∙ after-same q (unknown-adds (x .value) l)
             ∙ ap (λ (y : Predicate). after q (addAll (each g (of-predicate y)) l)) (z .0)
-        cases (suc (suc n)) h = absurd (found.refused f o h)
+        cases (suc (suc zero)) w h =
+            let x = bound u8 _ h in
+            let y = bound u32 _ (x .rest) in
+            let v = bound u32 _ (y .rest) in
+            let z = given _ _ _ (v .rest) in
+            skips f o l _ w
+            ∙ after-same q (window-adds (x .value) (y .value) (v .value) l)
+            ∙ ap (λ (y : Predicate). after q (addAll (each g (of-predicate y)) l)) (z .0)
+        cases (suc (suc (suc n))) w h = absurd (found.refused f o h)
 
   -- ---- lists
   module _ {A : Type 0} (r : Reader A) (h : A → List Text) (k : Listing) (one : Adds f r h k) where

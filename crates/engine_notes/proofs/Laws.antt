@@ -13,7 +13,7 @@ use Rattle.texts.specs.Texts.{Text, insertT}
 use Rattle.model.specs.File.{Reader, u8, u16}
 use Rattle.model_walk.specs.declared.Num.{Num}
 use Rattle.model_walk.specs.declared.Num.the-variants as num
-use Rattle.model_walk.specs.Walk.{found}
+use Rattle.model_walk.specs.Walk.{found, predicate-size}
 use Rattle.model_walk.proofs.Laws.{is-got, is-broken}
 use Rattle.reasons.specs.Kinds as kinds
 use Rattle.reasons.specs.declared.Reason.{Reason}
@@ -164,7 +164,13 @@ module _ (f : List ℕ) (p : ℕ) (l : List Text) where
   unfolding triggerL
   trigger-is i = refl
 
-  pub predicate-is : (i : ℕ) → predicateL i f p l ≡ by u8 (λ k. if eqb k 1 then noteL i else skipL 4) f p l
+  -- a predicate of the kind k has w bytes, the kind itself counted
+  pub skip-size : (k : ℕ) {q w : ℕ} → q ≡ skipped (w - 1) f p → w ≡ predicate-size k →
+      after q l ≡ skipL (predicate-size k - 1) f p l
+  skip-size k e h = skip-is _ f p l e ∙ ap (λ (x : ℕ). skipL (x - 1) f p l) h
+
+  pub predicate-is : (i : ℕ) →
+      predicateL i f p l ≡ by u8 (λ k. if eqb k 1 then noteL i else skipL (predicate-size k - 1)) f p l
   unfolding predicateL
   predicate-is i = refl
 

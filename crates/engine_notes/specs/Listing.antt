@@ -1,7 +1,7 @@
 -- The notes of parts as reasons, listed from the file. A listing goes over a part of the file, from a position on,
 -- with the reasons so far; it ends at a position, with the reasons after it. A part that is not there is passed over.
 -- `proofs/Agrees` has, for each listing, that it adds the reasons of the part that the reader of `File` finds there.
-use Prim.Native.Nat.{ℕ, zero, suc, _+_}
+use Prim.Native.Nat.{ℕ, zero, suc, _+_, _-_}
 use mathlib.Core.Path.{_≡_}
 use mathlib.Core.List.{List}
 use lib.Dec.{ltb, leb, eqb}
@@ -9,6 +9,7 @@ use lib.ListN.{length}
 use Rattle.texts.specs.Lists.{if_then_else_}
 use Rattle.texts.specs.Texts.{Text, insertT}
 use Rattle.model.specs.File.{got, broken, Reader, u8, u16}
+use Rattle.model_walk.specs.Walk.{predicate-size}
 use Rattle.reasons.specs.Kinds as kinds
 use Rattle.reasons.specs.declared.Reason.{Reason}
 use Rattle.reasons.specs.Reasons.{render}
@@ -99,7 +100,7 @@ unfoldable pub triggerL : (id : ℕ) → Listing
 triggerL i = skipL 14 ⨾ noteL i
 
 unfoldable pub predicateL : (id : ℕ) → Listing
-predicateL i = by u8 (λ k. if eqb k 1 then noteL i else skipL 4)
+predicateL i = by u8 (λ k. if eqb k 1 then noteL i else skipL (predicate-size k - 1))
 
 unfoldable pub partL : Part → (id : ℕ) → Listing
 partL part.Note i = noteL i

@@ -114,7 +114,7 @@ pub fn predicate_note(f: &[u8], u: &mut [u32], id: u32, at: usize, n: usize) -> 
     if kind == 1 {
         return note_at(f, u, id, p, n);
     }
-    let q = skip(f, 4, p);
+    let q = skip(f, model_walk::predicate_size(kind) as usize - 1, p);
     Noted { count: n, next: q }
 }
 

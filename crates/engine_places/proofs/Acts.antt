@@ -3,7 +3,7 @@
 use mathlib.Core.Path.{_≡_, refl, sym, ap, _∙_, subst}
 use mathlib.Core.List.{List, [], _∷_}
 use mathlib.Core.Bool.{Bool, true, false}
-use mathlib.Core.Option.{none, some}
+use mathlib.Core.Option.{Option, none, some}
 use Prim.Native.Nat.{ℕ, suc, _+_, _-_, _≤_, _<_}
 use native.Mathlib.Omega.{arith}
 use lib.ListN.{length, getD, length-set}
@@ -28,13 +28,13 @@ use Rattle.runs.specs.declared.Phase.the-variants as phase
 use Rattle.reasons.specs.Kinds as kinds
 use Rattle.reasons.specs.declared.Reason.{Reason}
 use Rattle.reasons.specs.Reasons.{render}
-use Rattle.engine.specs.Truth.{evaluate}
-use Rattle.engine.specs.Cells.{Cell, value-of}
+use Rattle.engine.specs.Truth.{moment-after, evaluate}
+use Rattle.engine.specs.Cells.{value-of}
 use Rattle.engine.specs.Records.{Run, Work, Kind, Waiting, Engine}
 use Rattle.engine.specs.Words.{truth-number, kind-number, detail-number}
 use Rattle.engine.specs.Changes.{add, uncertain}
 use Rattle.engine.specs.Reasons.{toggle-of-unknown, unknown-action-condition, unknown-choose-condition, unsupported-wait}
-use Rattle.engine.specs.Engine.{store, left, waits, toggled, _then_, next-step, log-action, go-on-after, write, flip, tested, chosen, begin-wait, perform, finish, select}
+use Rattle.engine.specs.Engine.{moment, store, left, waits, toggled, _then_, next-step, log-action, go-on-after, write, flip, tested, chosen, begin-wait, perform, finish, select}
 use Rattle.engine.proofs.Closed.{c-log, c-finish, c-tested}
 use Rattle.model_walk.proofs.Found.{Case, is-true, is-false, case}
 use Rattle.engine_reads.specs.Reads.{two, four, name, entityOf, aboutRule, alone, noteReason}
@@ -316,11 +316,14 @@ module _ (f x : List ℕ) (ts : List Text) (mo : Model) (tb : Tabled f x ts mo) 
       condition-is : {room : ℕ} {m : Machine} {e : Engine} → L now room m e → Here k r m → (at : ℕ) (p : Predicate) (q : ℕ) →
           predicate ts f at ≡ got p q →
           S now room (conditionM f x k r s at m)
-          (tested now (evaluate p (e .cells)) (R r) (log-action now (Kind.condition (evaluate p (e .cells))) src (R r) e))
+          (tested now (evaluate (moment now e) p (e .cells)) (R r)
+          (log-action now (Kind.condition (evaluate (moment now e) p (e .cells))) src (R r) e))
       unfolding conditionM condition-asM
       condition-is {room} {m} {e} l w at p q h =
-          let v : truth-of (evaluateT f x (m .values) at) ≡ evaluate p (e .cells) = evaluate-is f x ts mo tb (m .values) (m .versions) (l .cells .valued) at p q h .is ∙ ap (evaluate p) (sym (l .cells .is)) in
-          let t = evaluateT f x (m .values) at in
+          let v : truth-of (evaluateT f x (m .values) (m .now) at) ≡ evaluate (moment now e) p (e .cells) =
+          evaluate-is f x ts mo tb (m .values) (m .versions) (l .cells .valued) (m .now) at p q h .is
+          ∙ (λ j. evaluate (moment-after (sym (l .start) j) (l .time j)) p (sym (l .cells .is) j)) in
+          let t = evaluateT f x (m .values) (m .now) at in
           rw (← v)
           (follow f x ts mo tb (testedM f x k r t) (tested now (truth-of t) (R r)) (told-action l 11 (numberT t) (Kind.condition (truth-of t)) (testing t) low)
           (λ y. tested-is y (still-here w (action-runs 11 (numberT t) s r m)) t)
@@ -342,10 +345,10 @@ module _ (f x : List ℕ) (ts : List Text) (mo : Model) (tb : Tabled f x ts mo) 
               R (put-places (p .depth) (p .places) r) ≡ left (a then (R r) .actions) (R r)
           same p = pushed-run r at a p
 
-      passed : (d : ℕ) (vs ns : List ℕ) (ok : Valued f x ts mo tb vs) (bs : Branches) → PassB es pl d bs →
-          Lists f x ts mo tb vs ns ok (Pass es pl d) bs
-      passed d vs ns ok no-branch h = tt
-      passed d vs ns ok (branch ps a bs) h = (h .0, passed d vs ns ok bs (h .1))
+      passed : (d : ℕ) (vs ns : List ℕ) (ok : Valued f x ts mo tb vs) (t : ℕ) (bs : Branches) → PassB es pl d bs →
+          Lists f x ts mo tb vs ns ok t (Pass es pl d) bs
+      passed d vs ns ok t no-branch h = tt
+      passed d vs ns ok t (branch ps a bs) h = (h .0, passed d vs ns ok t bs (h .1))
 
       none-is : {room : ℕ} {m : Machine} {e : Engine} → L now room m e → Here k r m →
           S now room (unclearM f x k r kinds.choose-condition m) (chosen now none src (R r) e)
@@ -358,18 +361,19 @@ module _ (f x : List ℕ) (ts : List Text) (mo : Model) (tb : Tabled f x ts mo) 
           GoodRun f x ts mo tb (m .sequences) r →
           (at n p : ℕ) (bs : Branches) (q : ℕ) (d : Actions) (o deep : ℕ) → u16 f at ≡ got n p →
           branches ts (actions ts 17) n f p ≡ got bs q → actions ts 17 f q ≡ got d o → PassE es pl deep (choose bs d) →
-          r .depth ≤ deep + 1 → S now room (chooseM f x k r s at m) (chosen now (select bs d (e .cells)) src (R r) e)
+          r .depth ≤ deep + 1 → S now room (chooseM f x k r s at m) (chosen now (select (moment now e) bs d (e .cells)) src (R r) e)
       unfolding chooseM chosenM
       choose-is {room} {m} {e} l w g at n p bs q d o deep a b c t h =
           let ps = pass-choose es pl deep bs d t in
           subst
-          (λ (cs : List Cell). S now room (chosenM f x k r s (selectT f x (m .values) at) m) (chosen now (select bs d cs) src (R r) e))
-          (sym (l .cells .is))
-          (by (select-is f x ts mo tb (m .values) (m .versions) (l .cells .valued) (Pass es pl (deep + 1)) at n p bs q d o a b c (passed (deep + 1) (m .values) (m .versions) (l .cells .valued) bs (ps .0)) (ps .1)))
+          (λ (o : Option Actions). S now room (chosenM f x k r s (selectT f x (m .values) (m .now) at) m)
+          (chosen now o src (R r) e))
+          (λ j. select (moment-after (sym (l .start) j) (l .time j)) bs d (sym (l .cells .is) j))
+          (by (select-is f x ts mo tb (m .values) (m .versions) (l .cells .valued) (m .now) (Pass es pl (deep + 1)) at n p bs q d o a b c (passed (deep + 1) (m .values) (m .versions) (l .cells .valued) (m .now) bs (ps .0)) (ps .1)))
         where
-          by : Taken f x ts mo tb (m .values) (m .versions) (l .cells .valued) (Pass es pl (deep + 1)) (selectT f x (m .values) at) (select bs d (cells-of x ts (m .values) (m .versions))) →
-              S now room (chosenM f x k r s (selectT f x (m .values) at) m)
-              (chosen now (select bs d (cells-of x ts (m .values) (m .versions))) src (R r) e)
+          by : Taken f x ts mo tb (m .values) (m .versions) (l .cells .valued) (m .now) (Pass es pl (deep + 1)) (selectT f x (m .values) (m .now) at) (select (moment-after (mo .start) (m .now)) bs d (cells-of x ts (m .values) (m .versions))) →
+              S now room (chosenM f x k r s (selectT f x (m .values) (m .now) at) m)
+              (chosen now (select (moment-after (mo .start) (m .now)) bs d (cells-of x ts (m .values) (m .versions))) src (R r) e)
           by (takes i y z u v t o) = rw (u, o) (take-is l w g i y z (deep + 1) v t h)
           by (unclear u o) = rw (u, o) (none-is l w)
 

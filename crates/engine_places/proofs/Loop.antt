@@ -147,7 +147,7 @@ module _ (f x : List ℕ) (ts : List Text) (mo : Model) (tb : Tabled f x ts mo) 
   took-is : {now room : ℕ} {m : Machine} {e : Engine} → L now room m e → (i : QItem) (k : List QItem) → Each Good k →
       i .second ≤ horizon → L (i .second) room (put-now (i .second) (put-queue k m)) (with-queue (each I k) e)
   unfolding with-queue
-  took-is l i k q h = record { time = refl; soon = omega (arith, tb .day); free = l .free; calm = l .calm; queue = record { is = refl; good = q }; records = l .records; runs = l .runs; cells = l .cells; reasons = l .reasons; made = l .made; low = l .low; sizes = l .sizes }
+  took-is l i k q h = record { time = refl; soon = omega (arith, tb .day); free = l .free; calm = l .calm; queue = record { is = refl; good = q }; records = l .records; runs = l .runs; cells = l .cells; reasons = l .reasons; made = l .made; low = l .low; sizes = l .sizes; start = l .start }
 
   turn-is : {now room : ℕ} {m : Machine} {e : Engine} → L now (room + 32) m e → (i : QItem) (k : List QItem) →
       order.pop secondOf (m .queue) ≡ some (i, k) → Good i → Each Good k → i .second ≤ horizon →

@@ -175,6 +175,7 @@ module _ (f x : List ℕ) (ts : List Text) (mo : Model) (tb : Tabled f x ts mo) 
     pub made : Made (m .made) (m .sequences) (e .made)
     pub low : Low room (m .made) (m .versions)
     pub sizes : Sized (m .queueSize) (m .recordSize) (m .runSize) (e .areas)
+    pub start : e .start ≡ mo .start
 
   pub data Sim (now room : ℕ) (m : Machine) (e : Engine) : Type 0 where
     live : Live now room m e → Sim now room m e
@@ -189,7 +190,7 @@ module _ (f x : List ℕ) (ts : List Text) (mo : Model) (tb : Tabled f x ts mo) 
   follow F G (dead n z p o) g a b = dead n z (a n z p) (b n o)
 
   pub weaker : {now s t : ℕ} {m : Machine} {e : Engine} → t ≤ s → Live now s m e → Live now t m e
-  weaker h l = record { time = l .time; soon = l .soon; free = l .free; calm = l .calm; queue = l .queue; records = l .records; runs = l .runs; cells = l .cells; reasons = l .reasons; made = l .made; low = record { made-low = omega (arith, l .low .made-low); version-low = λ e. omega (arith, l .low .version-low e) }; sizes = l .sizes }
+  weaker h l = record { time = l .time; soon = l .soon; free = l .free; calm = l .calm; queue = l .queue; records = l .records; runs = l .runs; cells = l .cells; reasons = l .reasons; made = l .made; low = record { made-low = omega (arith, l .low .made-low); version-low = λ e. omega (arith, l .low .version-low e) }; sizes = l .sizes; start = l .start }
 
   -- ---- an item more
 
@@ -217,6 +218,7 @@ module _ (f x : List ℕ) (ts : List Text) (mo : Model) (tb : Tabled f x ts mo) 
             made = l .made;
             low = l .low;
             sizes = l .sizes;
+            start = l .start;
           }))
       cases (is-false b) =
           dead 41 (λ o. absurd (omega arith)) (record {
@@ -258,6 +260,7 @@ module _ (f x : List ℕ) (ts : List Text) (mo : Model) (tb : Tabled f x ts mo) 
             made = l .made;
             low = l .low;
             sizes = l .sizes;
+            start = l .start;
           }))
       cases (is-false b) =
           dead 42 (λ o. absurd (omega arith)) (record {
@@ -273,12 +276,12 @@ module _ (f x : List ℕ) (ts : List Text) (mo : Model) (tb : Tabled f x ts mo) 
       Celled (c .values) (c .versions) cs → Low t (m .made) (c .versions) →
       Live now t (put-cells c m) (with-cells cs e)
   unfolding with-cells
-  cells-are l c cs g h = record { time = l .time; soon = l .soon; free = l .free; calm = l .calm; queue = l .queue; records = l .records; runs = l .runs; cells = g; reasons = l .reasons; made = l .made; low = h; sizes = l .sizes }
+  cells-are l c cs g h = record { time = l .time; soon = l .soon; free = l .free; calm = l .calm; queue = l .queue; records = l .records; runs = l .runs; cells = g; reasons = l .reasons; made = l .made; low = h; sizes = l .sizes; start = l .start }
 
   pub runs-are : {now s : ℕ} {m : Machine} {e : Engine} → Live now s m e → (k : List ARun) (rs : List Run) →
       Running (m .sequences) k rs → Live now s (put-runs k m) (with-runs rs e)
   unfolding with-runs
-  runs-are l k rs g = record { time = l .time; soon = l .soon; free = l .free; calm = l .calm; queue = l .queue; records = l .records; runs = g; cells = l .cells; reasons = l .reasons; made = l .made; low = l .low; sizes = l .sizes }
+  runs-are l k rs g = record { time = l .time; soon = l .soon; free = l .free; calm = l .calm; queue = l .queue; records = l .records; runs = g; cells = l .cells; reasons = l .reasons; made = l .made; low = l .low; sizes = l .sizes; start = l .start }
 
   -- ---- automations by number and by identifier
 
@@ -493,6 +496,7 @@ module _ (f x : List ℕ) (ts : List Text) (mo : Model) (tb : Tabled f x ts mo) 
             made = subst (λ (t : Text). Made (more (m .made)) (set (m .sequences) i (more (getD (m .sequences) i 0))) (e .made ++ t ∷ [])) (ap (id-at x ts) (sym (w .automation))) (more-made (m .sequences) i (m .made) h (e .made) (l .made) seq-low made-low);
             low = record { made-low = omega (arith, l .low .made-low, more-is (m .made) made-low); version-low = λ e. omega (arith, l .low .version-low e) };
             sizes = l .sizes;
+            start = l .start;
           }))
       cases (is-false b) =
           dead 43 (λ o. absurd (omega arith)) (record {
@@ -524,8 +528,8 @@ module _ (f x : List ℕ) (ts : List Text) (mo : Model) (tb : Tabled f x ts mo) 
     where
       with-reasons : (k us : List Text) → Reasoned k us →
           Live now s (put-reasons k m)
-          (record { cells = e .cells; queue = e .queue; runs = e .runs; made = e .made; trace = e .trace; unknown = us; overflow = e .overflow; areas = e .areas })
-      with-reasons k us g = record { time = l .time; soon = l .soon; free = l .free; calm = l .calm; queue = l .queue; records = l .records; runs = l .runs; cells = l .cells; reasons = g; made = l .made; low = l .low; sizes = l .sizes }
+          (record { cells = e .cells; queue = e .queue; runs = e .runs; made = e .made; trace = e .trace; unknown = us; overflow = e .overflow; areas = e .areas; start = e .start })
+      with-reasons k us g = record { time = l .time; soon = l .soon; free = l .free; calm = l .calm; queue = l .queue; records = l .records; runs = l .runs; cells = l .cells; reasons = g; made = l .made; low = l .low; sizes = l .sizes; start = l .start }
 
       same : memT (render f r) (m .reasons) ≡ memT t (e .unknown)
       same = ap (λ (y : Text). memT y (m .reasons)) q ∙ ap (memT t) (l .reasons .is)

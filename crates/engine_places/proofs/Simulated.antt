@@ -135,7 +135,7 @@ module _ (f x : List ℕ) (ts : List Text) (mo : Model) (tb : Tabled f x ts mo) 
     pub run-size : m .runSize ≡ areas .runs
 
   abbrev empty : Areas → List Cell → Engine
-  empty areas cells = record { cells = cells; queue = []; runs = []; made = []; trace = []; unknown = unsupported (mo .rules); overflow = none; areas = areas }
+  empty areas cells = record { cells = cells; queue = []; runs = []; made = []; trace = []; unknown = unsupported (mo .rules); overflow = none; areas = areas; start = mo .start }
 
   start-is : (m : Machine) (areas : Areas) (cells : List Cell) → Beginning m areas cells → L 0 most m (empty areas cells)
   unfolding each tally
@@ -152,6 +152,7 @@ module _ (f x : List ℕ) (ts : List Text) (mo : Model) (tb : Tabled f x ts mo) 
     made = record { count = b .made; long = b .sequences-long; each-rule = λ i h. b .sequences i };
     low = record { made-low = omega (arith, b .made); version-low = λ e. omega (arith, b .versions e) };
     sizes = record { queue = b .queue-size; records-are = b .record-size; runs = b .run-size };
+    start = refl;
   }
 
   initial : Tells f x ts mo tb 0 0 Kind.initial
@@ -294,7 +295,7 @@ module _ (f x : List ℕ) (ts : List Text) (mo : Model) (tb : Tabled f x ts mo) 
         (λ (k : List Event). S 0 most (add-eventsM l (length vs) (log-plainM 0 m)) (adds (each event-item k) (log 0 Kind.initial none none none (empty areas cells))))
         (take-all (length vs) vs (omega arith)) (events-are l d vs evs (length vs) (omega arith) first-record)
 
-    begun-is : S 0 most (begunM x l (length vs) m) (begun areas cells (unsupported (mo .rules)) vs)
+    begun-is : S 0 most (begunM x l (length vs) m) (begun areas (mo .start) cells (unsupported (mo .rules)) vs)
     unfolding begunM add-expiriesM begun cells-of
     begun-is =
         let u = log-same 0 m in
@@ -356,7 +357,7 @@ module _ (f x : List ℕ) (ts : List Text) (mo : Model) (tb : Tabled f x ts mo) 
     long = ap length (l .runs .is) ∙ lists.each-length (run-of x ts f) (p .last .runs)
 
     at-horizon : L horizon 0 (put-now (getD x 2 0) (p .last)) (d .engine)
-    at-horizon = record { time = tb .horizon; soon = tb .day; free = l .free; calm = l .calm; queue = l .queue; records = l .records; runs = l .runs; cells = l .cells; reasons = l .reasons; made = l .made; low = l .low; sizes = l .sizes }
+    at-horizon = record { time = tb .horizon; soon = tb .day; free = l .free; calm = l .calm; queue = l .queue; records = l .records; runs = l .runs; cells = l .cells; reasons = l .reasons; made = l .made; low = l .low; sizes = l .sizes; start = l .start }
 
     -- the machine stays, the definition too
     unchanged : closedM x p ≡ p → (t : Text) (k : List Text) → d .incomplete ++ left-over (d .engine .runs) ≡ t ∷ k →

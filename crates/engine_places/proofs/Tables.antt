@@ -14,9 +14,9 @@ use Rattle.texts.specs.Lists.{each, present-and, any}
 use Rattle.texts.specs.Texts.{Text, text, eqT, memT}
 use Rattle.texts.proofs.Ordering.{eq-no}
 use Rattle.model.specs.Answer.{answer, accept}
-use Rattle.model.specs.Model.{observational, Entity, Automation, Model}
+use Rattle.model.specs.Model.{observational, Entity, Automation, Model, midnight}
 use Rattle.model.specs.Notes.{notes-of}
-use Rattle.model.specs.File.{Head, invariant, input, automation, limits, Got, got, broken, Reader, give, u32, times, counted, one-text, ascending, texts, source, place, predicate, trigger, entity, entities, actions, head, events, model, decoded, decode}
+use Rattle.model.specs.File.{Head, invariant, input, automation, limits, or-zeros, start, Got, got, broken, Reader, give, u32, times, counted, one-text, ascending, texts, source, place, predicate, trigger, entity, entities, actions, head, events, model, decoded, decode}
 use Rattle.model.specs.Validate.{day, check-entity, accepted}
 use Rattle.model_walk.proofs.Found.{bound, given, required, counted-found}
 use Rattle.model_parts.specs.Stand.{Reads}
@@ -27,9 +27,11 @@ use Rattle.engine.proofs.Lists.{Case, is-true, is-false, case, eqT-same}
 use Rattle.engine.proofs.Distinct.{answer-eq, refused-answer, when-inv, Fresh, accepted-fresh}
 use Rattle.reasons.specs.Readable.{text-count}
 use Rattle.engine_reads.specs.Reads.{two, name, stale, word}
+use Rattle.engine_window.specs.Window.{startW}
 use Rattle.engine_places.specs.Meaning.{stale-of, mode-number, pool-of, Row, Column, Tabled}
 use Rattle.engine_places.proofs.Numbers.{two-is}
 use Rattle.engine.proofs.Validated.{accepted-decoded}
+use Rattle.engine.proofs.Stated.{accepted-stated}
 use Rattle.engine_places.proofs.Accepted.{CheckedAt, Lawful, accepted-lawful, accepted-small}
 use Rattle.engine_places.proofs.Relation.{no-rule}
 use Rattle.engine_places.proofs.Lists as lists
@@ -64,6 +66,7 @@ pub record Words (f x : List ℕ) (ts : List Text) (m : Model) : Type 0 where
   pub automations : getD x 1 0 ≡ length (m .rules)
   pub horizon : getD x 2 0 ≡ m .scenario .limits .horizon
   pub steps : getD x 3 0 ≡ m .scenario .limits .max-steps
+  pub start : startW x ≡ m .start
   pub names : (d : Entity) (e : ℕ) → e < length (m .scenario .entities) → NameWord x ts e (getD (m .scenario .entities) e d)
   pub rules : (d : Automation) (i : ℕ) → i < length (m .rules) → RuleWords f x ts i (getD (m .rules) i d)
 
@@ -139,7 +142,8 @@ names-ascend s m q e =
     let d = bound (counted u32) _ (c .rest) in
     let l = bound limits _ (d .rest) in
     let r = bound (counted (automation (h .value .texts))) _ (l .rest) in
-    let g = given _ _ _ (r .rest) in
+    let o = bound (or-zeros midnight start) _ (r .rest) in
+    let g = given _ _ _ (o .rest) in
     subst (λ (y : Model). ascending (names-of (y .scenario .entities)) ≡ true) (g .0)
     (head-ascend s 0 (h .value) (h .next) (h .first))
 
@@ -231,11 +235,13 @@ tabled f x ts m acc w = record {
   day = law .day-long;
   steps = w .steps;
   few-steps = law .few-steps;
+  start = w .start;
   columns = λ d e h. column d e h;
   rows = λ d i h. row d i h;
   names-differ = λ i j h k e. same-entity (m .scenario .entities) ascends no-entity i j h k (w .names no-entity i h .name-is ∙ ap (λ (y : ℕ). getD ts y []) e ∙ sym (w .names no-entity j k .name-is));
   ids-differ = λ i j h k e. same-id [] (m .rules) no-rule (accepted-fresh f m acc) i j h k (w .rules no-rule i h .id ∙ ap (λ (y : ℕ). getD ts y []) e ∙ sym (w .rules no-rule j k .id));
   few-reasons = small .1;
+  stated = accepted-stated f m acc;
 }
   where
     small : (length f ≤ 32768) × (length (pool-of m) ≤ 300)

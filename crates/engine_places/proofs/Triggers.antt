@@ -19,12 +19,12 @@ use Rattle.runs.specs.declared.Run.{Run as ARun}
 use Rattle.runs.specs.declared.Phase.{Phase}
 use Rattle.runs.specs.declared.Phase.the-variants as phase
 use Rattle.engine.specs.Kleene as kleene
-use Rattle.engine.specs.Truth.{matches, evaluate-all}
+use Rattle.engine.specs.Truth.{moment-after, matches, evaluate-all}
 use Rattle.engine.specs.Records.{Run, Waiting, Item, Kind, Engine}
 use Rattle.engine.specs.Words.{truth-number, kind-number, detail-number}
 use Rattle.engine.specs.Changes.{with-runs, add, adds}
 use Rattle.engine.specs.Reasons.{unknown-trigger-condition}
-use Rattle.engine.specs.Engine.{waits, awaits, woken, next-step, log, wake, admit, offer}
+use Rattle.engine.specs.Engine.{moment, waits, awaits, woken, next-step, log, wake, admit, offer}
 use Rattle.engine.specs.Engine as engine
 use Rattle.engine.proofs.Lists.{keep-append}
 use Rattle.engine.proofs.Closed.{c-admit, c-offers}
@@ -284,15 +284,16 @@ module _ (f x : List ℕ) (ts : List Text) (mo : Model) (tb : Tabled f x ts mo) 
         same : anyT f v (word x i 3) ≡ any (matches (T (v .entity)) (T (v .from)) (T (v .to))) (A i .triggers)
         same = any-is f x ts mo tb v w (word x i 3) (A i .triggers) (r .triggers .0) (r .triggers .1)
 
-        verdict : truth-of (allT f x (m .values) (word x i 4) .truth) ≡ evaluate-all (A i .conditions) (e .cells)
+        verdict : truth-of (allT f x (m .values) (m .now) (word x i 4) .truth)
+            ≡ evaluate-all (moment now e) (A i .conditions) (e .cells)
         verdict =
-            all-is f x ts mo tb (m .values) (m .versions) (l .cells .valued) (word x i 4) (A i .conditions)
+            all-is f x ts mo tb (m .values) (m .versions) (l .cells .valued) (m .now) (word x i 4) (A i .conditions)
             (r .conditions .0) (r .conditions .1) .is
-            ∙ ap (evaluate-all (A i .conditions)) (sym (l .cells .is))
+            ∙ (λ j. evaluate-all (moment-after (sym (l .start) j) (l .time j)) (A i .conditions) (sym (l .cells .is) j))
 
         by : Case (anyT f v (word x i 3)) →
             S now room (offerM f x v i m) (offer now (T (v .entity)) (T (v .from)) (T (v .to)) (A i) e)
-        by (is-true b) = rw (b, sym same ∙ b, ← verdict) (offer-as-is l (allT f x (m .values) (word x i 4) .truth))
+        by (is-true b) = rw (b, sym same ∙ b, ← verdict) (offer-as-is l (allT f x (m .values) (m .now) (word x i 4) .truth))
         by (is-false b) = rw (b, sym same ∙ b) (live (weaker f x ts mo tb (omega arith) l))
 
   through-end : {B : Type 0} (g : B → Engine → Engine) (l : List B) (b : B) (e : Engine) →

@@ -6,30 +6,31 @@ use mathlib.Core.Bool.{Bool, true, false, _&&_, _||_, not}
 use mathlib.Core.Option.{Option, none, some}
 use Prim.Native.Nat.{ℕ, zero, suc, _+_, _≤_, _<_}
 use native.Mathlib.Omega.{arith}
-use lib.ListN.{length, getD, set, replicate, length-replicate, getD-replicate}
+use lib.ListN.{length, getD, set}
 use lib.Seq.{getD-set-same, getD-set-other}
 use lib.Dec.{eqb}
 use borrow.Author.Tests.{lt-ltb, eq-eqb, ne-eqb, eqb-true, eqb-false}
 use Rattle.texts.specs.Lists.{if_then_else_, absent, absent-or, any, find, each}
 use Rattle.texts.specs.Texts.{Text, text, eqT}
-use Rattle.model.specs.Model.{observational, Predicate, state, Trigger, Actions, Branches, no-branch, branch, Model}
+use Rattle.model.specs.Model.{observational, Moment, Predicate, state, window, Trigger, Actions, Branches, no-branch, branch, Model}
 use Rattle.model.specs.File.{_>>=_ as _>>=ᵣ_}
-use Rattle.model.specs.File.{got, Reader, give, refuse, u16, times, counted, place, predicate, trigger, branches, actions}
+use Rattle.model.specs.File.{got, Reader, give, refuse, u8, u16, u32, times, counted, place, predicate, trigger, branches, actions}
 use Rattle.model.specs.Validate.{undecided}
 use Rattle.model.specs.Notes.{of-actions}
 use Rattle.model_walk.specs.Walk.{seen, capped, actionsW}
 use Rattle.model_walk.specs.declared.Walked.{Walked}
 use Rattle.model_walk.proofs.Sees.{marks, sees-actions}
-use Rattle.model_walk.proofs.Found.{Case, is-true, is-false, case, bound, given, u8-wide, u16-wide, source-wide, counted-found, Kind, kind-found, place-found, Value?, trigger-found}
+use Rattle.model_walk.proofs.Found.{Case, is-true, is-false, case, bound, given, u8-wide, u16-wide, u32-wide, source-wide, counted-found, Kind, kind-found, place-found, predicate-wide, Value?, trigger-found}
 use Rattle.model_walk.proofs.Found as found
 use Rattle.model_parts.proofs.Stands.{more}
 use Rattle.model_order.specs.Order.{Fixed}
 use Rattle.engine.specs.Cells.{Cell, is-cell, cell-of, overwrite, put}
 use Rattle.engine.specs.Kleene.{_and₃_}
 use Rattle.engine.specs.Kleene as kleene
-use Rattle.engine.specs.Truth.{against, evaluate, evaluate-all, matches}
+use Rattle.engine.specs.Truth.{against, moment-after, is-open, evaluate, evaluate-all, matches}
 use Rattle.engine.specs.Engine.{select}
-use Rattle.engine_reads.specs.Reads.{two, name, entities, entityFrom, entityOf}
+use Rattle.engine_window.specs.Window.{openW}
+use Rattle.engine_reads.specs.Reads.{two, four, name, entities, entityFrom, entityOf}
 use Rattle.engine_state.specs.Machine.{later}
 use Rattle.engine_state.specs.declared.Move.{Move}
 use Rattle.engine_truth.specs.Truths.{bothT, undecidedT, againstT, valueT, evaluateT, sizeT, allFrom, allT, admitsT, matchesT, anyFrom, anyT, endT, judgedT, branchT, selectFrom, selectT}
@@ -39,7 +40,7 @@ use Rattle.engine_truth.specs.declared.Judged.{Judged}
 use Rattle.engine_truth.specs.declared.Branch.{Branch}
 use Rattle.engine_truth.specs.declared.Branch.the-variants.{Take, Unclear}
 use Rattle.engine_places.specs.Meaning.{truth-of, cell-at, cells-from, cells-of, Tabled}
-use Rattle.engine_places.proofs.Numbers.{byte-is, two-is, later-is, cap-is, most-is}
+use Rattle.engine_places.proofs.Numbers.{byte-is, two-is, four-is, later-is, cap-is, most-is}
 
 -- ---- Kleene's conjunction
 
@@ -119,14 +120,6 @@ module _ (f x : List ℕ) (ts : List Text) (mo : Model) (tb : Tabled f x ts mo) 
     pub long : length vs ≡ 32
     pub in-texts : (e : ℕ) → e < many → getD vs e 0 < length ts
 
-  -- some values, for what doesn't depend on them
-  some-values : List ℕ
-  some-values = replicate 32 (getD x 4 0)
-
-  some-valued : Valued some-values
-  unfolding some-values
-  some-valued = record { long = length-replicate {A = ℕ} 32 (getD x 4 0); in-texts = λ e h. rw (getD-replicate 32 e (getD x 4 0) 0 (omega (arith, tb .few-entities))) (tb .on .is-in) }
-
   pub data Sought (id : ℕ) (vs ns : List ℕ) (found : ℕ) (l : List Cell) : Type 0 where
     here : (j : ℕ) → j < many → found ≡ j → name x j ≡ id → cell-of (T id) l ≡ some (cell-at x ts vs ns j) →
         Sought id vs ns found l
@@ -198,102 +191,145 @@ module _ (f x : List ℕ) (ts : List Text) (mo : Model) (tb : Tabled f x ts mo) 
     unfolding cells-of
     put-is = written (entities x) 0 (omega (arith, entities-are))
 
+  -- where a predicate ends
+  pub ends-at : (p : ℕ) (a : Predicate) (q : ℕ) → predicate ts f p ≡ got a q → (q ≡ p + sizeT f p) × (q ≤ length f)
+  unfolding sizeT
+  ends-at p a q e = let w = predicate-wide ts e in (w .ends, omega (arith, w .ends, w .inside))
+
   -- ---- predicates
-  module _ (vs ns : List ℕ) (ok : Valued vs) where
+  module _ (vs ns : List ℕ) (ok : Valued vs) (now : ℕ) where
     abbrev cs : List Cell
     cs = cells-of x ts vs ns
 
+    abbrev at-now : Moment
+    at-now = moment-after (mo .start) now
+
     value-is : (id v : ℕ) → id < length ts → v < length ts →
-        truth-of (valueT x vs (entityOf x id) v) ≡ evaluate (state (T id) (T v)) cs
+        truth-of (valueT x vs (entityOf x id) v) ≡ evaluate at-now (state (T id) (T v)) cs
     unfolding valueT evaluate cell-at
     value-is id v h k = cases (cell-is vs ns id h)
       where
         cases : Sought id vs ns (entityOf x id) cs →
-            truth-of (valueT x vs (entityOf x id) v) ≡ evaluate (state (T id) (T v)) cs
+            truth-of (valueT x vs (entityOf x id) v) ≡ evaluate at-now (state (T id) (T v)) cs
         cases (here j g o n c) =
             rw (o, lt-ltb j 32 (omega (arith, tb .few-entities)), c, evaluate)
             (against-is (getD vs j 0) v (ok .in-texts j g) k)
         cases (nowhere o c) = rw (o, c, evaluate)
 
-    pub record Judges (p : ℕ) (a : Predicate) (q : ℕ) : Type 0 where
-      pub is : truth-of (evaluateT f x vs p) ≡ evaluate a cs
-      pub ends : q ≡ p + sizeT f p
-      pub inside : q ≤ length f
+    -- a window is Yes or No
+    open-is : (b : Bool) → truth-of (if b then Yes else No) ≡ (if b then kleene.Yes else kleene.No)
+    open-is true = refl
+    open-is false = refl
 
-    pub evaluate-is : (p : ℕ) (a : Predicate) (q : ℕ) → predicate ts f p ≡ got a q → Judges p a q
-    unfolding predicate evaluateT sizeT evaluate
-    evaluate-is p a q e = cases (k .kind) refl (k .holds)
+    window-is : (p d b e : ℕ) → getD f (p + 1) 0 ≡ d → four f (p + 2) ≡ b → four f (p + 6) ≡ e →
+        truth-of (if openW f x now p then Yes else No) ≡ evaluate at-now (window d b e) cs
+    unfolding openW evaluate
+    window-is p d b e h k l =
+        open-is (openW f x now p)
+        ∙ (λ i. if is-open (h i) (k i) (l i) (moment-after (tb .start i) now) then kleene.Yes else kleene.No)
+
+    unknown-is : (r : Text) → kleene.Unknown ≡ evaluate at-now (Predicate.unknown r) cs
+    unfolding evaluate
+    unknown-is r = refl
+
+    -- the verdict, by the predicate's kind
+    verdict-is : (p : ℕ) (a : Predicate) (q : ℕ) → predicate ts f p ≡ got a q →
+        truth-of (evaluateT f x vs now p) ≡ evaluate at-now a cs
+    unfolding predicate evaluateT
+    verdict-is p a q e = cases (k .kind) refl (k .holds)
       where
         rs : List (Reader Predicate)
         rs =
             (place ts >>=ᵣ λ x. place ts >>=ᵣ λ v. give (state x v))
             ∷ (place ts >>=ᵣ λ r. give (Predicate.unknown r))
+            ∷ (u8 >>=ᵣ λ d. u32 >>=ᵣ λ b. u32 >>=ᵣ λ e. give (window d b e))
             ∷ []
 
         k : Kind rs f p a q
         k = kind-found rs e
 
-        cases : (i : ℕ) → k .kind ≡ i → getD rs i refuse f (k .next) ≡ got a q → Judges p a q
+        behind : k .next ≡ p + 1
+        behind = u8-wide f p (k .is-kind) .ends
+
+        -- the test of the kind
+        kind-is : (i n : ℕ) → k .kind ≡ i → eqb (getD f p 0) n ≡ eqb i n
+        kind-is i n z = ap (λ (y : ℕ). eqb y n) (byte-is f p (k .is-kind) ∙ z)
+
+        cases : (i : ℕ) → k .kind ≡ i → getD rs i refuse f (k .next) ≡ got a q →
+            truth-of (evaluateT f x vs now p) ≡ evaluate at-now a cs
         cases zero z h =
             let e = bound (place ts) _ h in
             let v = bound (place ts) _ (e .rest) in
             let g = given _ _ _ (v .rest) in
             let a₁ = place-found ts (e .first) in
             let a₂ = place-found ts (v .first) in
-            let w = u8-wide f p (k .is-kind) in
             let w₁ = u16-wide f (k .next) (a₁ .is-place) in
-            let w₂ = u16-wide f (e .next) (a₂ .is-place) in
-            let y₁ : k .next ≡ p + 1 = w .ends in
-            let y₂ : e .next ≡ p + 3 = omega arith in
-            let b : eqb (getD f p 0) 1 ≡ false = ap (λ (n : ℕ). eqb n 1) (byte-is f p (k .is-kind) ∙ z) in
-            let t₁ : two f (p + 1) ≡ a₁ .at = ap (two f) (sym y₁) ∙ two-is f (k .next) (a₁ .is-place) in
+            let y₂ : e .next ≡ p + 3 = omega (arith, behind, w₁ .ends) in
+            let t₁ : two f (p + 1) ≡ a₁ .at = ap (two f) (sym behind) ∙ two-is f (k .next) (a₁ .is-place) in
             let t₂ : two f (p + 3) ≡ a₂ .at = ap (two f) (sym y₂) ∙ two-is f (e .next) (a₂ .is-place) in
-            record {
-              is = rw (b, t₁, t₂) (value-is (a₁ .at) (a₂ .at) (a₁ .is-in) (a₂ .is-in)) ∙ ap (λ (y : Predicate). evaluate y cs) (sym (ap (state (e .value)) (a₂ .is-text) ∙ ap (λ (y : Text). state y (T (a₂ .at))) (a₁ .is-text)) ∙ g .0);
-              ends = rw b (omega (arith, g .1));
-              inside = omega (arith, g .1);
-            }
+            let n : a ≡ state (T (a₁ .at)) (T (a₂ .at)) =
+            sym (g .0) ∙ (λ j. state (a₁ .is-text j) (a₂ .is-text j)) in
+            rw (kind-is 0 1 z, kind-is 0 2 z, t₁, t₂) (value-is (a₁ .at) (a₂ .at) (a₁ .is-in) (a₂ .is-in))
+            ∙ ap (λ (y : Predicate). evaluate at-now y cs) (sym n)
         cases (suc zero) z h =
             let r = bound (place ts) _ h in
             let g = given _ _ _ (r .rest) in
-            let w = u8-wide f p (k .is-kind) in
-            let w₁ = u16-wide f (k .next) (place-found ts (r .first) .is-place) in
-            let b : eqb (getD f p 0) 1 ≡ true = ap (λ (n : ℕ). eqb n 1) (byte-is f p (k .is-kind) ∙ z) in
-            record {
-              is = rw b (ap (λ (y : Predicate). evaluate y cs) (g .0));
-              ends = rw b (omega (arith, g .1));
-              inside = omega (arith, g .1);
-            }
-        cases (suc (suc i)) z h = absurd (found.refused f (k .next) h)
+            rw (kind-is 1 1 z) (unknown-is (r .value)) ∙ ap (λ (y : Predicate). evaluate at-now y cs) (g .0)
+        cases (suc (suc zero)) z h =
+            let d = bound u8 _ h in
+            let b = bound u32 _ (d .rest) in
+            let v = bound u32 _ (b .rest) in
+            let g = given _ _ _ (v .rest) in
+            let w₁ = u8-wide f (k .next) (d .first) in
+            let w₂ = u32-wide f (d .next) (b .first) in
+            let y₁ : d .next ≡ p + 2 = omega (arith, behind, w₁ .ends) in
+            let y₂ : b .next ≡ p + 6 = omega (arith, y₁, w₂ .ends) in
+            rw (kind-is 2 1 z, kind-is 2 2 z)
+            (window-is p (d .value) (b .value) (v .value)
+            (ap (λ (i : ℕ). getD f i 0) (sym behind) ∙ byte-is f (k .next) (d .first))
+            (ap (four f) (sym y₁) ∙ four-is f (d .next) (b .first))
+            (ap (four f) (sym y₂) ∙ four-is f (b .next) (v .first)))
+            ∙ ap (λ (y : Predicate). evaluate at-now y cs) (g .0)
+        cases (suc (suc (suc i))) z h = absurd (found.refused f (k .next) h)
+
+    pub record Judges (p : ℕ) (a : Predicate) (q : ℕ) : Type 0 where
+      pub is : truth-of (evaluateT f x vs now p) ≡ evaluate at-now a cs
+      pub ends : q ≡ p + sizeT f p
+      pub inside : q ≤ length f
+
+    pub evaluate-is : (p : ℕ) (a : Predicate) (q : ℕ) → predicate ts f p ≡ got a q → Judges p a q
+    evaluate-is p a q e =
+        let w = ends-at p a q e in
+        record { is = verdict-is p a q e; ends = w .0; inside = w .1 }
 
     pub record JudgesAll (j : Judged) (t : kleene.Truth) (q : ℕ) : Type 0 where
       pub is : truth-of (j .truth) ≡ t
       pub ends : j .next ≡ q
 
     all-from : (n p : ℕ) (t : Truth) (l : List Predicate) (q : ℕ) → times n (predicate ts) f p ≡ got l q →
-        JudgesAll (allFrom f x vs n p t) (truth-of t and₃ evaluate-all l cs) q
+        JudgesAll (allFrom f x vs now n p t) (truth-of t and₃ evaluate-all at-now l cs) q
     unfolding times give allFrom evaluate-all
     all-from zero p t l q e =
         let z : l ≡ [] = cc in
         let y : p ≡ q = cc in
-        record { is = sym (and-yes (truth-of t)) ∙ ap (λ (y : List Predicate). truth-of t and₃ evaluate-all y cs) (sym z); ends = y }
+        record { is = sym (and-yes (truth-of t)) ∙ ap (λ (y : List Predicate). truth-of t and₃ evaluate-all at-now y cs) (sym z); ends = y }
     all-from (suc n) p t l q e =
         let m = more (predicate ts) f n p e in
         let j = evaluate-is p (m .first) (m .after) (m .is-first) in
         let z : later p (sizeT f p) ≡ m .after = later-is p (sizeT f p) (omega (arith, j .ends, j .inside, tb .size)) ∙ sym (j .ends) in
-        let r = all-from n (m .after) (bothT t (evaluateT f x vs p)) (m .others) q (m .are-others) in
+        let r = all-from n (m .after) (bothT t (evaluateT f x vs now p)) (m .others) q (m .are-others) in
         record {
-          is = ap (λ (i : ℕ). truth-of (allFrom f x vs n i (bothT t (evaluateT f x vs p)) .truth)) z
+          is = ap (λ (i : ℕ). truth-of (allFrom f x vs now n i (bothT t (evaluateT f x vs now p)) .truth)) z
               ∙ r .is
-              ∙ ap (λ (y : kleene.Truth). y and₃ evaluate-all (m .others) cs)
-              (both-is t (evaluateT f x vs p) ∙ ap (λ (y : kleene.Truth). truth-of t and₃ y) (j .is))
-              ∙ and-assoc (truth-of t) (evaluate (m .first) cs) (evaluate-all (m .others) cs)
-              ∙ ap (λ (y : List Predicate). truth-of t and₃ evaluate-all y cs) (sym (m .both));
-          ends = ap (λ (i : ℕ). allFrom f x vs n i (bothT t (evaluateT f x vs p)) .next) z ∙ r .ends;
+              ∙ ap (λ (y : kleene.Truth). y and₃ evaluate-all at-now (m .others) cs)
+              (both-is t (evaluateT f x vs now p) ∙ ap (λ (y : kleene.Truth). truth-of t and₃ y) (j .is))
+              ∙ and-assoc (truth-of t) (evaluate at-now (m .first) cs) (evaluate-all at-now (m .others) cs)
+              ∙ ap (λ (y : List Predicate). truth-of t and₃ evaluate-all at-now y cs) (sym (m .both));
+          ends = ap (λ (i : ℕ). allFrom f x vs now n i (bothT t (evaluateT f x vs now p)) .next) z ∙ r .ends;
         }
 
     pub all-is : (p : ℕ) (l : List Predicate) (q : ℕ) → counted (predicate ts) f p ≡ got l q →
-        JudgesAll (allT f x vs p) (evaluate-all l cs) q
+        JudgesAll (allT f x vs now p) (evaluate-all at-now l cs) q
     unfolding allT _and₃_
     all-is p l q e =
         let c = counted-found (predicate ts) e in
@@ -339,11 +375,11 @@ module _ (f x : List ℕ) (ts : List Text) (mo : Model) (tb : Tabled f x ts mo) 
 
       select-from : (n p : ℕ) (bs : Branches) (q : ℕ) (d : Actions) (o : ℕ) →
           branches ts (actions ts 17) n f p ≡ got bs q → actions ts 17 f q ≡ got d o → Lists bs → P d →
-          Taken (selectFrom f x vs n p) (select bs d cs)
+          Taken (selectFrom f x vs now n p) (select at-now bs d cs)
       unfolding branches selectFrom select branchT judgedT
       select-from zero p bs q d o e g ps pd =
           let z = given _ _ _ e in
-          subst (λ (y : Branches). Taken (Take p) (select y d cs)) (z .0)
+          subst (λ (y : Branches). Taken (Take p) (select at-now y d cs)) (z .0)
           (takes p d o refl (ap (actions ts 17 f) (z .1) ∙ g) pd refl)
       select-from (suc n) p bs q d o e g ps pd =
           let c = bound (counted (predicate ts)) _ e in
@@ -353,28 +389,28 @@ module _ (f x : List ℕ) (ts : List Text) (mo : Model) (tb : Tabled f x ts mo) 
           let e₃ : branches ts (actions ts 17) n f (a .next) ≡ got (r .value) q = r .first ∙ ap (got (r .value)) (z .1) in
           let ps′ : P (a .value) × Lists (r .value) = subst Lists (sym (z .0)) ps in
           let j = all-is p (c .value) (c .next) (c .first) in
-          subst (λ (y : Branches). Taken (selectFrom f x vs (suc n) p) (select y d cs)) (z .0)
+          subst (λ (y : Branches). Taken (selectFrom f x vs now (suc n) p) (select at-now y d cs)) (z .0)
           (cases n p q d o (c .value) (a .value) (r .value) (c .next) (a .next) j (a .first) (ps′ .0) (branches-start n (a .next) (r .value) q d o e₃ g)
-          (select-from n (a .next) (r .value) q d o e₃ g (ps′ .1) pd) (allT f x vs p .truth) refl)
+          (select-from n (a .next) (r .value) q d o e₃ g (ps′ .1) pd) (allT f x vs now p .truth) refl)
         where
           cases : (n p q : ℕ) (d : Actions) (o : ℕ) (ps : List Predicate) (l : Actions) (bs : Branches) (at end : ℕ) →
-              JudgesAll (allT f x vs p) (evaluate-all ps cs) at → actions ts 17 f at ≡ got l end → P l →
+              JudgesAll (allT f x vs now p) (evaluate-all at-now ps cs) at → actions ts 17 f at ≡ got l end → P l →
               end ≤ length f →
-              Taken (selectFrom f x vs n end) (select bs d cs) → (t : Truth) → allT f x vs p .truth ≡ t → Taken (selectFrom f x vs (suc n) p) (select (branch ps l bs) d cs)
+              Taken (selectFrom f x vs now n end) (select at-now bs d cs) → (t : Truth) → allT f x vs now p .truth ≡ t → Taken (selectFrom f x vs now (suc n) p) (select at-now (branch ps l bs) d cs)
           cases n p q d o ps l bs at end j h pl inside ih Yes t =
-              let v : evaluate-all ps cs ≡ kleene.Yes = sym (j .is) ∙ ap truth-of t in
+              let v : evaluate-all at-now ps cs ≡ kleene.Yes = sym (j .is) ∙ ap truth-of t in
               takes at l end (rw (t, judgedT, selectFrom) (ap Take (j .ends))) h pl (rw (v, select))
           cases n p q d o ps l bs at end j h pl inside ih No t =
-              let v : evaluate-all ps cs ≡ kleene.No = sym (j .is) ∙ ap truth-of t in
-              let w : endT (actionsW (getD x 9 0) 17 f (allT f x vs p .next) 0) (allT f x vs p .next) ≡ end = ap (λ (i : ℕ). endT (actionsW (getD x 9 0) 17 f i 0) i) (j .ends) ∙ list-end at l end h (omega (arith, tb .size)) in
+              let v : evaluate-all at-now ps cs ≡ kleene.No = sym (j .is) ∙ ap truth-of t in
+              let w : endT (actionsW (getD x 9 0) 17 f (allT f x vs now p .next) 0) (allT f x vs now p .next) ≡ end = ap (λ (i : ℕ). endT (actionsW (getD x 9 0) 17 f i 0) i) (j .ends) ∙ list-end at l end h (omega (arith, tb .size)) in
               rw (t, judgedT, selectFrom, v, select, w) ih
           cases n p q d o ps l bs at end j h pl inside ih Unknown t =
-              let v : evaluate-all ps cs ≡ kleene.Unknown = sym (j .is) ∙ ap truth-of t in
+              let v : evaluate-all at-now ps cs ≡ kleene.Unknown = sym (j .is) ∙ ap truth-of t in
               unclear (rw (t, judgedT, selectFrom)) (rw (v, select))
 
       pub select-is : (p n at : ℕ) (bs : Branches) (q : ℕ) (d : Actions) (o : ℕ) → u16 f p ≡ got n at →
           branches ts (actions ts 17) n f at ≡ got bs q → actions ts 17 f q ≡ got d o → Lists bs → P d →
-          Taken (selectT f x vs p) (select bs d cs)
+          Taken (selectT f x vs now p) (select at-now bs d cs)
       unfolding selectT
       select-is p n at bs q d o c e g ps pd =
           let w = u16-wide f p c in
@@ -471,7 +507,3 @@ module _ (f x : List ℕ) (ts : List Text) (mo : Model) (tb : Tabled f x ts mo) 
       let w = u16-wide f p (c .is-count) in
       let z : later p 2 ≡ c .start = later-is p 2 (omega (arith, tb .size)) ∙ sym (w .ends) in
       rw (two-is f p (c .is-count), z) (any-from m h (c .count) (c .start) l q (c .are-values))
-
-  -- where a predicate ends
-  pub ends-at : (p : ℕ) (a : Predicate) (q : ℕ) → predicate ts f p ≡ got a q → (q ≡ p + sizeT f p) × (q ≤ length f)
-  ends-at p a q e = let j = evaluate-is some-values [] some-valued p a q e in (j .ends, j .inside)

@@ -2,15 +2,17 @@
 -- A place is a text's number among `ts`, an automation is a row of the table x, a position is one of the file f.
 use Prim.Native.Nat.{ℕ, zero, suc, _+_, _≤_, _<_}
 use mathlib.Core.Path.{_≡_}
+use mathlib.Core.Bool.{true}
 use mathlib.Core.List.{List, [], _∷_, _++_}
 use mathlib.Core.Option.{Option, none, some}
 use lib.Dec.{eqb}
 use lib.ListN.{length, getD}
-use Rattle.texts.specs.Lists.{if_then_else_, flat}
+use Rattle.texts.specs.Lists.{if_then_else_, flat, all}
 use Rattle.texts.specs.Texts.{Text, text, eqT}
 use Rattle.texts.specs.Places.{textAt, startFrom}
 use Rattle.model.specs.Answer.{answer}
 use Rattle.model.specs.Model.{Source, Trigger, Mode, single, queued, parallel, Entity, Actions, done, Automation, Input, reload, Model}
+use Rattle.model.specs.Windows.{windowless-invariant}
 use Rattle.model.specs.File.{Got, got, broken, counted, source, place, predicate, trigger, actions-of, actions}
 use Rattle.model.specs.Notes.{of-actions}
 use Rattle.model.specs.Validate.{check-actions}
@@ -40,6 +42,7 @@ use Rattle.engine.specs.Reasons.{unknown-trigger-condition, toggle-of-unknown, 
 use Rattle.engine.specs.Unsupported.{unsupported}
 use Rattle.engine.specs.Engine.{_then_}
 use Rattle.reasons.specs.Readable.{text-count}
+use Rattle.engine_window.specs.Window.{startW}
 use Rattle.engine_reads.specs.Reads.{name, stale, word, entities}
 use Rattle.engine_truth.specs.declared.Truth.{Truth}
 use Rattle.engine_truth.specs.declared.Truth.the-variants as truth
@@ -247,6 +250,7 @@ pub record Tabled (f x : List ℕ) (ts : List Text) (m : Model) : Type 0 where
   pub day : m .scenario .limits .horizon ≤ 86400
   pub steps : getD x 3 0 ≡ m .scenario .limits .max-steps
   pub few-steps : m .scenario .limits .max-steps ≤ 10000
+  pub start : startW x ≡ m .start
   -- the parts
   pub columns : (d : Entity) (e : ℕ) → e < length (m .scenario .entities) → Column x ts e (getD (m .scenario .entities) e d)
   pub rows : (d : Automation) (i : ℕ) → i < length (m .rules) → Row f x ts (m .scenario .entities) i (getD (m .rules) i d)
@@ -256,3 +260,5 @@ pub record Tabled (f x : List ℕ) (ts : List Text) (m : Model) : Type 0 where
   pub ids-differ : (i j : ℕ) → i < length (m .rules) → j < length (m .rules) → word x i 0 ≡ word x j 0 → i ≡ j
   -- a file has at most 64 notes, so the reasons have room
   pub few-reasons : length (pool-of m) ≤ 300
+  -- no invariant has a window
+  pub stated : all windowless-invariant (m .scenario .invariants) ≡ true

@@ -142,9 +142,9 @@ module _ (f x : List ℕ) (i w n : ℕ) (m : Machine) (ew : w ≡ word x i 7) (e
   admit-not z = rw (← ew, ← en, ne-eqb n 0 z)
 
 module _ (f x : List ℕ) (v : Move) (i w : ℕ) (b : Bool) (m : Machine) (ew : w ≡ word x i 3) (is : b ≡ anyT f v w) where
-  pub offer-yes : (j : Judged) (u : ℕ) → b ≡ true → j ≡ allT f x (m .values) u → u ≡ word x i 4 → offer-asM f x i (j .truth) m ≡ offerM f x v i m
+  pub offer-yes : (j : Judged) (u : ℕ) → b ≡ true → j ≡ allT f x (m .values) (m .now) u → u ≡ word x i 4 → offer-asM f x i (j .truth) m ≡ offerM f x v i m
   unfolding offerM
-  offer-yes j u e ej eu = rw (← ew, ← is, e) (ap (λ z. offer-asM f x i (z .truth) m) (ej ∙ ap (allT f x (m .values)) eu))
+  offer-yes j u e ej eu = rw (← ew, ← is, e) (ap (λ z. offer-asM f x i (z .truth) m) (ej ∙ ap (allT f x (m .values) (m .now)) eu))
 
   pub offer-no : b ≡ false → m ≡ offerM f x v i m
   unfolding offerM

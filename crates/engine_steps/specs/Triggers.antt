@@ -30,7 +30,7 @@ unfoldable pub offer-asM : (f x : List ℕ) → (i : ℕ) → Truth → Machine 
 offer-asM f x i t m = admitM f x i t (log-triggerM f x i t m)
 
 unfoldable pub offerM : (f x : List ℕ) → Move → (i : ℕ) → Machine → Machine
-offerM f x v i m = if anyT f v (word x i 3) then offer-asM f x i (allT f x (m .values) (word x i 4) .truth) m else m
+offerM f x v i m = if anyT f v (word x i 3) then offer-asM f x i (allT f x (m .values) (m .now) (word x i 4) .truth) m else m
 
 -- the first n automations
 unfoldable pub offer-firstM : (f x : List ℕ) → Move → (n : ℕ) → Machine → Machine

@@ -176,7 +176,7 @@ fn offer(
     ensures { λ s. ⌜ Moves (offerM (now (f .entry)) (now (x .entry)) m i) st s (goes (now (q .entry)) (now (q .exit))) (goes (now (a .entry)) (now (a .exit))) (goes (now (r .entry)) (now (r .exit))) (told (now (f .entry)) (now (u .entry)) (now (u .exit))) (goes (now (values .entry)) (now (values .entry))) kept (goes (now (sequences .entry)) (now (sequences .exit))) ⌝ }
 {
     if engine_truth::any_matches(f, rule_word(x, i, 3), m) {
-        let judged = engine_truth::evaluate_all(f, x, values, rule_word(x, i, 4));
+        let judged = engine_truth::evaluate_all(f, x, values, st.now, rule_word(x, i, 4));
         let t = judged.truth;
         let s1 = log_trigger(f, x, a, st, i, t);
         return admit(f, x, q, a, r, u, sequences, s1, i, t);

@@ -17,7 +17,7 @@ use Rattle.model_walk.specs.Walk.{piecesW, actionsW}
 use Rattle.model_order.specs.Order.{place-from}
 use Rattle.model_index.specs.declared.Index.{Index}
 use Rattle.engine_reads.specs.Reads.{two, four, cap}
-use Rattle.engine_table.specs.Table.{end-of, stale-at, conditions-at, actions-at, source-at, rule-word, count-word, fixed-word, head-word, part-word, table-word, Headed}
+use Rattle.engine_table.specs.Table.{end-of, stale-at, conditions-at, actions-at, source-at, rule-word, count-word, fixed-word, start-word, head-word, part-word, table-word, Headed}
 
 pub end-to : {w : Walked} (at : ℕ) {p n : ℕ} → w ≡ walked.To p n → p ≡ end-of w at
 unfolding end-of
@@ -139,9 +139,17 @@ module _ (s : List ℕ) (i : Index) (k : ℕ) where
   unfolding head-word
   head-fixed a b c h = rw (le-ltb k 2 a, ne-eqb k 2 b, ne-eqb k 3 c, lt-ltb k 8 h)
 
-  pub head-high : 2 ≤ k → (k ≡ 2 → ⊥) → (k ≡ 3 → ⊥) → 8 ≤ k → head-word s i k ≡ count-word i k
+  pub head-10 : k ≡ 10 → head-word s i k ≡ start-word s i 0
   unfolding head-word
-  head-high a b c h = rw (le-ltb k 2 a, ne-eqb k 2 b, ne-eqb k 3 c, le-ltb k 8 h)
+  head-10 e = rw e
+
+  pub head-11 : k ≡ 11 → head-word s i k ≡ start-word s i 4
+  unfolding head-word
+  head-11 e = rw e
+
+  pub head-high : 2 ≤ k → (k ≡ 2 → ⊥) → (k ≡ 3 → ⊥) → 8 ≤ k → (k ≡ 10 → ⊥) → (k ≡ 11 → ⊥) → head-word s i k ≡ count-word i k
+  unfolding head-word
+  head-high a b c h d e = rw (le-ltb k 2 a, ne-eqb k 2 b, ne-eqb k 3 c, le-ltb k 8 h, ne-eqb k 10 d, ne-eqb k 11 e)
 
   pub table-head : k < 16 → table-word s i k ≡ head-word s i k
   unfolding table-word
@@ -191,5 +199,9 @@ one-more f x k v g h e j o = elim (decLt j k) [
   | no l ↦ let z : j ≡ k = omega arith in ap (λ (y : ℕ). getD (set x k v) y 0) z ∙ getD-set-same x k v 0 h ∙ e ∙ ap f (sym z)
 ]
 
-pub limit-is : (s : List ℕ) (at k : ℕ) {p r : ℕ} → p ≡ cap at → r ≡ four s (p + k) → r ≡ four s (cap at + k)
-limit-is s at k e f = f ∙ ap (λ (p : ℕ). four s (p + k)) e
+pub number-is : (s : List ℕ) (at k : ℕ) {p r : ℕ} → p ≡ cap at → r ≡ four s (p + k) → r ≡ four s (cap at + k)
+number-is s at k e f = f ∙ ap (λ (p : ℕ). four s (p + k)) e
+
+pub start-is : (s : List ℕ) (i : Index) (k : ℕ) {p : ℕ} (r : ℕ) → r ≡ four s (cap p + k) → p ≡ end-of (i .rules .end) 0 → r ≡ start-word s i k
+unfolding start-word
+start-is s i k r e f = e ∙ ap (λ (p : ℕ). four s (cap p + k)) f

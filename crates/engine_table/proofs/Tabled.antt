@@ -6,19 +6,22 @@ use mathlib.Core.Option.{none, some}
 use Prim.Native.Nat.{ℕ, zero, suc, _+_, _-_, _*_, _/_, _%_, _≤_, _<_}
 use native.Mathlib.Omega.{arith}
 use native.Mathlib.Nat.{mul-suc}
+use native.Mathlib.Decide.{decLt}
 use lib.ListN.{length, getD}
 use lib.Dec.{eqb}
+use borrow.Author.Tests.{lt-ltb, le-ltb}
 use Rattle.texts.specs.Lists.{if_then_else_}
 use Rattle.texts.specs.Texts.{Text, text, memT}
 use Rattle.model.specs.Answer.{answer, refused}
-use Rattle.model.specs.Model.{Predicate, Actions, Entity, Mode, single, queued, parallel, Automation, Limits, Model}
-use Rattle.model.specs.File.{got, Reader, give, u8, u16, u32, times, counted, number?, source, mode, limits, texts, place, predicate, trigger, entity, actions, automation}
+use Rattle.model.specs.Model.{Predicate, Actions, Entity, Mode, single, queued, parallel, Automation, Limits, Moment, Model, midnight}
+use Rattle.model.specs.File.{got, Reader, _>>=_, give, or-zeros, start, u8, u16, u32, times, counted, number?, source, mode, limits, texts, place, predicate, trigger, entity, actions, automation}
 use Rattle.model.specs.Validate.{accepted}
 use Rattle.model_walk.proofs.Found as found
 use Rattle.model_walk.proofs.Found.{bound, given, Wide, u8-wide, u16-wide, u32-wide, kind-wide, source-wide, counted-found, place-found, kind-found, EntityParts, entity-found}
 use Rattle.model_walk.proofs.Laws.{u8-in, u16-in, u32-in}
 use Rattle.model_walk.proofs.Sees.{sees-conditions, sees-actions, sees-mode}
 use Rattle.model_walk.specs.Walk.{seen, capped, pieceW, piecesW, actionsW}
+use Rattle.model_walk.specs.declared.Walked.{Walked}
 use Rattle.model_walk.specs.declared.Piece.the-variants as piece
 use Rattle.model_parts.specs.Stand.{Reads}
 use Rattle.model_parts.proofs.Stands.{more}
@@ -28,11 +31,12 @@ use Rattle.model_index.specs.declared.Index.{Index}
 use Rattle.model_index.specs.Indexed.{Indexed}
 use Rattle.engine_reads.specs.Reads.{two, four, cap, atMost, name, stale, word}
 use Rattle.engine_reads.proofs.Laws.{most-yes}
+use Rattle.engine_window.specs.Window.{startW}
 use Rattle.engine_places.specs.Meaning.{stale-of, mode-number, Tabled}
 use Rattle.engine_places.proofs.Accepted.{accepted-lawful, accepted-small}
 use Rattle.engine_places.proofs.Tables.{NameWord, RuleWords, Words, tabled}
 use Rattle.engine_places.proofs.Numbers.{cap-is}
-use Rattle.engine_table.specs.Table.{end-of, stale-at, conditions-at, actions-at, source-at, rule-word, count-word, fixed-word, head-word, TableOf}
+use Rattle.engine_table.specs.Table.{end-of, stale-at, conditions-at, actions-at, source-at, rule-word, count-word, fixed-word, start-word, head-word, TableOf}
 use Rattle.engine_table.proofs.Laws as laws
 
 -- ---- numbers in the file
@@ -51,6 +55,60 @@ four-read s p {v} {q} e =
 
 byte-read : (s : List ℕ) (p : ℕ) {v q : ℕ} → u8 s p ≡ got v q → getD s p 0 ≡ v
 byte-read s p {v} {q} e = let w = u8-wide s p e in let g = u8-in s p (omega (arith, w .inside)) in (cc)
+
+past-end : (s : List ℕ) (p : ℕ) → length s ≤ p → getD s p 0 ≡ 0
+past-end [] p h = refl
+past-end (b ∷ s) zero h = absurd (omega arith)
+past-end (b ∷ s) (suc p) h = past-end s p (omega arith)
+
+cap-least : (p n : ℕ) → n ≤ p → n ≤ 32768 → n ≤ cap p
+unfolding cap
+cap-least p n h k = elim (decLt 4294967295 p) [
+  | yes l ↦ rw (lt-ltb 4294967295 p l) (omega arith)
+  | no l ↦ rw (le-ltb 4294967295 p (omega arith)) h
+]
+
+four-past : (s : List ℕ) (p : ℕ) → length s ≤ p → four s p ≡ 0
+unfolding four two
+four-past s p h =
+    rw (
+      past-end s p h,
+      past-end s (p + 1) (omega arith),
+      past-end s (p + 2) (omega arith),
+      past-end s (p + 2 + 1) (omega arith),
+    )
+
+-- the weekday and second of a start that is read, or zeros
+behind-read : (s : List ℕ) (p q : ℕ) (t : Moment) → length s ≤ 32768 → or-zeros midnight start s p ≡ got t q →
+    (four s (cap p + 0) ≡ t .weekday) × (four s (cap p + 4) ≡ t .second)
+unfolding or-zeros start
+behind-read s p q t size e = elim (decLt p (length s)) [
+  | yes h ↦ inside h (rw (lt-ltb p (length s) h) at e)
+  | no h ↦ outside (omega arith) (rw (le-ltb p (length s) (omega arith)) at e)
+]
+  where
+    inside : p < length s → (u32 >>= λ w. u32 >>= λ s. give (record { weekday = w; second = s })) s p ≡ got t q →
+        (four s (cap p + 0) ≡ t .weekday) × (four s (cap p + 4) ≡ t .second)
+    inside h e =
+        let d = bound u32 _ e in
+        let n = bound u32 _ (d .rest) in
+        let z = given _ _ _ (n .rest) in
+        let w = u32-wide s p (d .first) in
+        let c : cap p ≡ p = cap-is p (omega (arith, size, w .inside)) in
+        let a : cap p + 0 ≡ p = omega (arith, c) in
+        let b : cap p + 4 ≡ d .next = omega (arith, c, w .ends) in (
+          ap (four s) a ∙ four-read s p (d .first) ∙ ap (λ (y : Moment). y .weekday) (z .0),
+          ap (four s) b ∙ four-read s (d .next) (n .first) ∙ ap (λ (y : Moment). y .second) (z .0),
+        )
+
+    outside : length s ≤ p → got midnight p ≡ got t q →
+        (four s (cap p + 0) ≡ t .weekday) × (four s (cap p + 4) ≡ t .second)
+    outside h e =
+        let z : midnight ≡ t = cc in
+        let c : length s ≤ cap p = cap-least p (length s) h (omega (arith, size)) in (
+          four-past s (cap p + 0) (omega (arith, c)) ∙ ap (λ (y : Moment). y .weekday) z,
+          four-past s (cap p + 4) (omega (arith, c)) ∙ ap (λ (y : Moment). y .second) z,
+        )
 
 -- a reader that finds something reads inside the file
 near : (s : List ℕ) (p q w : ℕ) → length s ≤ 32768 → Wide w s p q → p ≤ 4294967295
@@ -262,6 +320,16 @@ module _ (s : List ℕ) (i : Index) (x : List ℕ) (m : Model) (t : TableOf s i 
       let b : cap (i .limits) + 4 ≡ h .next = omega (arith, p, w .ends) in
       (ap (four s) a ∙ four-read s (i .limits) (h .first) ∙ ap (λ (l : Limits). l .horizon) (z .0), ap (four s) b ∙ four-read s (h .next) (n .first) ∙ ap (λ (l : Limits). l .max-steps) (z .0))
 
+  -- the start: behind the automations, or zeros if the file ends there
+  start-read : startW x ≡ m .start
+  unfolding or-zeros start start-word head-word end-of
+  start-read =
+      let p = o .behind-rules in
+      let e : end-of (i .rules .end) 0 ≡ p = ap (λ (w : Walked). end-of w 0) (o .rules-end) in
+      let r = behind-read s p (o .start-at .0) (m .start) size (o .start-at .1) in
+      let c : (k : ℕ) → start-word s i k ≡ four s (cap p + k) = λ k. ap (λ (n : ℕ). four s (cap n + k)) e in
+      (λ j. record { weekday = (head-is 10 (omega arith) ∙ c 0 ∙ r .0) j; second = (head-is 11 (omega arith) ∙ c 4 ∙ r .1) j })
+
   -- ---- entities
 
   module _ (d : Entity) (e : ℕ) (h : e < length es) where
@@ -396,6 +464,7 @@ module _ (s : List ℕ) (i : Index) (x : List ℕ) (m : Model) (t : TableOf s i 
         automations = head-is 1 (omega arith) ∙ o .rules .counts;
         horizon = head-is 2 (omega arith) ∙ l .0;
         steps = head-is 3 (omega arith) ∙ l .1;
+        start = start-read;
         names = name-word-here;
         rules = row-here;
       }

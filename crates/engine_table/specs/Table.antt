@@ -65,13 +65,19 @@ fixed-word s i k =
     if eqb k 6 then place-from (i .texts .count) 0 (text "unknown") s 6 else
     place-from (i .texts .count) 0 (text "unavailable") s 6
 
--- the first ten words
+-- the start, at the k-th byte behind the automations; past the end of the file it is 0
+unfoldable pub start-word : List ℕ → Index → (k : ℕ) → ℕ
+start-word s i k = four s (cap (end-of (i .rules .end) 0) + k)
+
+-- the first sixteen words: 10 and 11 are the weekday and the second of second 0
 unfoldable pub head-word : List ℕ → Index → (k : ℕ) → ℕ
 head-word s i k =
     if ltb k 2 then count-word i k else
     if eqb k 2 then four s (cap (i .limits) + 0) else
     if eqb k 3 then four s (cap (i .limits) + 4) else
-    if ltb k 8 then fixed-word s i k else count-word i k
+    if ltb k 8 then fixed-word s i k else
+    if eqb k 10 then start-word s i 0 else
+    if eqb k 11 then start-word s i 4 else count-word i k
 
 -- entities' names, then when their values are stale, then eight words for each automation
 unfoldable pub part-word : (texts : ℕ) → List ℕ → (names rules : List ℕ) → (k : ℕ) → ℕ

@@ -6,7 +6,7 @@ ghost use mathlib.Core.Path.{_≡_};
 ghost use Prim.Native.Nat.{_+_, _*_, _≤_, _<_};
 ghost use lib.ListN.{length, getD};
 ghost use Rattle.engine_reads.specs.Reads.{four, cap};
-ghost use Rattle.engine_table.specs.Table.{end-of, stale-at, conditions-at, actions-at, source-at, rule-word, count-word, fixed-word, head-word, part-word, Headed, TableOf};
+ghost use Rattle.engine_table.specs.Table.{end-of, stale-at, conditions-at, actions-at, source-at, rule-word, count-word, fixed-word, start-word, head-word, part-word, Headed, TableOf};
 
 pub struct Table {
     pub words: [u32; 436],
@@ -98,7 +98,8 @@ fn notes_word(s: &[u8], texts: u32, p: usize) -> u32
     engine_reads::capped(source + 8)
 }
 
-fn limit_word(s: &[u8], at: usize, k: usize) -> u32
+// The number at the k-th byte behind a position.
+fn number_at(s: &[u8], at: usize, k: usize) -> u32
     requires { ⌜ k ≤ 8 ⌝ }
     ensures { λ r. ⌜ r ≡ four (now (s .entry)) (cap at + k) ⌝ }
 {
@@ -106,7 +107,17 @@ fn limit_word(s: &[u8], at: usize, k: usize) -> u32
     engine_reads::four_at(s, p + k)
 }
 
-// The first ten words.
+// The start: its weekday, and four bytes on its second. It stands behind the automations, or the file ends there.
+fn start_word(s: &[u8], index: Index, k: usize) -> u32
+    requires { ⌜ k ≤ 8 ⌝ }
+    ensures { λ r. ⌜ r ≡ start-word (now (s .entry)) index k ⌝ }
+{
+    let rules = index.rules;
+    let w = rules.end;
+    number_at(s, end_of(w, 0), k)
+}
+
+// The first sixteen words.
 fn head_word(s: &[u8], index: Index, k: usize) -> u32
     ensures { λ r. ⌜ r ≡ head-word (now (s .entry)) index k ⌝ }
 {
@@ -114,13 +125,19 @@ fn head_word(s: &[u8], index: Index, k: usize) -> u32
         return count_word(index, k);
     }
     if k == 2 {
-        return limit_word(s, index.limits, 0);
+        return number_at(s, index.limits, 0);
     }
     if k == 3 {
-        return limit_word(s, index.limits, 4);
+        return number_at(s, index.limits, 4);
     }
     if k < 8 {
         return fixed_word(s, index, k);
+    }
+    if k == 10 {
+        return start_word(s, index, 0);
+    }
+    if k == 11 {
+        return start_word(s, index, 4);
     }
     count_word(index, k)
 }

@@ -6,12 +6,14 @@ use mathlib.Core.List.{List}
 use lib.ListN.{getD}
 use borrow.Author.Tests.{ne-eqb, lt-ltb, le-ltb}
 use native.Mathlib.Omega.{arith}
-use Rattle.model_walk.specs.Walk.{actionsW}
+use Rattle.model_walk.specs.Walk.{predicate-size, actionsW}
 use Rattle.model_walk.specs.declared.Walked.{Walked}
 use Rattle.model_walk.specs.declared.Walked.the-variants as walked
 use Rattle.runs.specs.Runs.{placeIn}
 use Rattle.runs.specs.declared.Place.{Place}
 use Rattle.engine_reads.specs.Reads.{two, cap, entityOf}
+use Rattle.texts.specs.Lists.{if_then_else_}
+use Rattle.engine_window.specs.Window.{openW}
 use Rattle.engine_state.specs.Machine.{later}
 use Rattle.engine_state.specs.declared.Move.{Move}
 use Rattle.engine_truth.specs.Truths.{bothT, againstT, valueT, evaluateT, sizeT, allFrom, allT, matchesT, anyFrom, anyT, endT, judgedT, branchT, selectFrom, selectT}
@@ -29,29 +31,49 @@ none-left n h = omega arith
 
 -- ---- predicates
 
-module _ (f x vs : List ℕ) (at i e v : ℕ) (r : Truth) (hi : i ≡ two f (at + 1)) (he : e ≡ entityOf x i) where
+pub size-is : (f : List ℕ) (at b : ℕ) → b ≡ getD f at 0 → predicate-size b ≡ sizeT f at
+unfolding sizeT
+size-is f at b e = ap predicate-size e
+
+pub note-is : (f x vs : List ℕ) (second at b : ℕ) → b ≡ getD f at 0 → b ≡ 1 → Unknown ≡ evaluateT f x vs second at
+unfolding evaluateT
+note-is f x vs second at b eb h = rw (← eb, h)
+
+-- a window is Yes while it is open, else No
+module _ (f x vs : List ℕ) (second at b : ℕ) (o : Bool) (eb : b ≡ getD f at 0) (w : b ≡ 2) (is : o ≡ openW f x second at) where
+  is-window : evaluateT f x vs second at ≡ (if o then Yes else No)
+  unfolding evaluateT
+  is-window = rw (← eb, w, is)
+
+  pub window-yes : o ≡ true → Yes ≡ evaluateT f x vs second at
+  window-yes h = sym (is-window ∙ rw h)
+
+  pub window-no : o ≡ false → No ≡ evaluateT f x vs second at
+  window-no h = sym (is-window ∙ rw h)
+
+module _ (f x vs : List ℕ) (second at i e v : ℕ) (r : Truth) (hi : i ≡ two f (at + 1)) (he : e ≡ entityOf x i) where
   where-is : e ≡ entityOf x (two f (at + 1))
   where-is = he ∙ ap (entityOf x) hi
 
-  pub evaluate-known : (b : ℕ) → b ≡ getD f at 0 → (b ≡ 1 → ⊥) → e < 32 → v ≡ two f (at + 3) → r ≡ againstT x (getD vs e 0) v → r ≡ evaluateT f x vs at
+  pub evaluate-known : (b : ℕ) → b ≡ getD f at 0 → (b ≡ 1 → ⊥) → (b ≡ 2 → ⊥) → e < 32 → v ≡ two f (at + 3) → r ≡ againstT x (getD vs e 0) v → r ≡ evaluateT f x vs second at
   unfolding evaluateT valueT
-  evaluate-known b eb nb h ev er = rw (← eb, ne-eqb b 1 nb, ← where-is, ← ev, lt-ltb e 32 h) er
+  evaluate-known b eb nb nw h ev er = rw (← eb, ne-eqb b 1 nb, ne-eqb b 2 nw, ← where-is, ← ev, lt-ltb e 32 h) er
 
-  pub evaluate-none : (b : ℕ) → b ≡ getD f at 0 → (b ≡ 1 → ⊥) → 32 ≤ e → Unknown ≡ evaluateT f x vs at
+  pub evaluate-none : (b : ℕ) → b ≡ getD f at 0 → (b ≡ 1 → ⊥) → (b ≡ 2 → ⊥) → 32 ≤ e → Unknown ≡ evaluateT f x vs second at
   unfolding evaluateT valueT
-  evaluate-none b eb nb h = rw (← eb, ne-eqb b 1 nb, ← where-is, le-ltb e 32 h)
+  evaluate-none b eb nb nw h = rw (← eb, ne-eqb b 1 nb, ne-eqb b 2 nw, ← where-is, le-ltb e 32 h)
 
-pub all-start : (f x vs : List ℕ) (at n p : ℕ) → n ≡ two f at → p ≡ later at 2 → allT f x vs at ≡ allFrom f x vs n p Yes
+pub all-start : (f x vs : List ℕ) (second at n p : ℕ) → n ≡ two f at → p ≡ later at 2 → allT f x vs second at ≡ allFrom f x vs second n p Yes
 unfolding allT
-all-start f x vs at n p e g = rw (e, g)
+all-start f x vs second at n p e g = rw (e, g)
 
-pub all-more : (f x vs : List ℕ) (n p s q : ℕ) (t u w : Truth) → 0 < n → u ≡ evaluateT f x vs p → w ≡ bothT t u → s ≡ sizeT f p → q ≡ later p s → allFrom f x vs n p t ≡ allFrom f x vs (n - 1) q w
+pub all-more : (f x vs : List ℕ) (second n p s q : ℕ) (t u w : Truth) → 0 < n → u ≡ evaluateT f x vs second p → w ≡ bothT t u → s ≡ sizeT f p → q ≡ later p s → allFrom f x vs second n p t ≡ allFrom f x vs second (n - 1) q w
 unfolding allFrom
-all-more f x vs n p s q t u w h eu ew es eq = ap (λ i. allFrom f x vs i p t) (one-less n h) ∙ rw (eq, es, ew, eu)
+all-more f x vs second n p s q t u w h eu ew es eq = ap (λ i. allFrom f x vs second i p t) (one-less n h) ∙ rw (eq, es, ew, eu)
 
-pub all-end : (f x vs : List ℕ) (n p : ℕ) (t : Truth) → n ≤ 0 → allFrom f x vs n p t ≡ record { truth = t; next = p }
+pub all-end : (f x vs : List ℕ) (second n p : ℕ) (t : Truth) → n ≤ 0 → allFrom f x vs second n p t ≡ record { truth = t; next = p }
 unfolding allFrom
-all-end f x vs n p t h = rw (none-left n h)
+all-end f x vs second n p t h = rw (none-left n h)
 
 -- ---- triggers
 
@@ -82,43 +104,43 @@ pub end-broken : (w : Walked) (at : ℕ) → w ≡ walked.Broken → at ≡ endT
 unfolding endT
 end-broken w at e = sym (ap (λ v. endT v at) e)
 
-module _ (f x vs : List ℕ) (at : ℕ) (j : Judged) (is : j ≡ allT f x vs at) where
-  judged-is : branchT f x vs at ≡ judgedT f x j
+module _ (f x vs : List ℕ) (second at : ℕ) (j : Judged) (is : j ≡ allT f x vs second at) where
+  judged-is : branchT f x vs second at ≡ judgedT f x j
   unfolding branchT
   judged-is = ap (judgedT f x) (sym is)
 
-  pub branch-yes : j .truth ≡ Yes → Take (j .next) ≡ branchT f x vs at
+  pub branch-yes : j .truth ≡ Yes → Take (j .next) ≡ branchT f x vs second at
   unfolding judgedT
   branch-yes e = sym (judged-is ∙ rw (e, judgedT))
 
-  pub branch-unknown : j .truth ≡ Unknown → Unclear ≡ branchT f x vs at
+  pub branch-unknown : j .truth ≡ Unknown → Unclear ≡ branchT f x vs second at
   unfolding judgedT
   branch-unknown e = sym (judged-is ∙ rw (e, judgedT))
 
-  pub branch-no : (w : Walked) (q : ℕ) → j .truth ≡ No → w ≡ actionsW (getD x 9 0) 17 f (j .next) 0 → q ≡ endT w (j .next) → Skip q ≡ branchT f x vs at
+  pub branch-no : (w : Walked) (q : ℕ) → j .truth ≡ No → w ≡ actionsW (getD x 9 0) 17 f (j .next) 0 → q ≡ endT w (j .next) → Skip q ≡ branchT f x vs second at
   unfolding judgedT
   branch-no w q e g h = ap Skip (h ∙ ap (λ v. endT v (j .next)) g) ∙ sym (judged-is ∙ rw (e, judgedT))
 
-pub select-start : (f x vs : List ℕ) (at n p : ℕ) → n ≡ two f at → p ≡ later at 2 → selectT f x vs at ≡ selectFrom f x vs n p
+pub select-start : (f x vs : List ℕ) (second at n p : ℕ) → n ≡ two f at → p ≡ later at 2 → selectT f x vs second at ≡ selectFrom f x vs second n p
 unfolding selectT
-select-start f x vs at n p e g = rw (e, g)
+select-start f x vs second at n p e g = rw (e, g)
 
-module _ (f x vs : List ℕ) (n p : ℕ) (b : Branch) (h : 0 < n) (is : b ≡ branchT f x vs p) where
-  pub select-take : (q : ℕ) → b ≡ Take q → selectFrom f x vs n p ≡ Take q
+module _ (f x vs : List ℕ) (second n p : ℕ) (b : Branch) (h : 0 < n) (is : b ≡ branchT f x vs second p) where
+  pub select-take : (q : ℕ) → b ≡ Take q → selectFrom f x vs second n p ≡ Take q
   unfolding selectFrom
-  select-take q e = ap (λ i. selectFrom f x vs i p) (one-less n h) ∙ rw (sym is ∙ e, selectFrom)
+  select-take q e = ap (λ i. selectFrom f x vs second i p) (one-less n h) ∙ rw (sym is ∙ e, selectFrom)
 
-  pub select-unclear : b ≡ Unclear → selectFrom f x vs n p ≡ Unclear
+  pub select-unclear : b ≡ Unclear → selectFrom f x vs second n p ≡ Unclear
   unfolding selectFrom
-  select-unclear e = ap (λ i. selectFrom f x vs i p) (one-less n h) ∙ rw (sym is ∙ e, selectFrom)
+  select-unclear e = ap (λ i. selectFrom f x vs second i p) (one-less n h) ∙ rw (sym is ∙ e, selectFrom)
 
-  pub select-skip : (q : ℕ) → b ≡ Skip q → selectFrom f x vs n p ≡ selectFrom f x vs (n - 1) q
+  pub select-skip : (q : ℕ) → b ≡ Skip q → selectFrom f x vs second n p ≡ selectFrom f x vs second (n - 1) q
   unfolding selectFrom
-  select-skip q e = ap (λ i. selectFrom f x vs i p) (one-less n h) ∙ rw (sym is ∙ e, selectFrom)
+  select-skip q e = ap (λ i. selectFrom f x vs second i p) (one-less n h) ∙ rw (sym is ∙ e, selectFrom)
 
-pub select-end : (f x vs : List ℕ) (n p : ℕ) → n ≤ 0 → selectFrom f x vs n p ≡ Take p
+pub select-end : (f x vs : List ℕ) (second n p : ℕ) → n ≤ 0 → selectFrom f x vs second n p ≡ Take p
 unfolding selectFrom
-select-end f x vs n p h = rw (none-left n h)
+select-end f x vs second n p h = rw (none-left n h)
 
 -- ---- places
 

@@ -1,14 +1,15 @@
--- Predicates, triggers and branches at positions of the file f, with the table x and the entities' values vs.
+-- Predicates, triggers and branches at positions of the file f, with the table x and the entities' values vs, at a second.
 use Prim.Native.Nat.{ℕ, zero, suc, _+_}
 use mathlib.Core.Bool.{Bool, true, false}
 use mathlib.Core.List.{List}
 use lib.Dec.{ltb, eqb}
 use lib.ListN.{getD}
 use Rattle.texts.specs.Lists.{if_then_else_}
-use Rattle.model_walk.specs.Walk.{actionsW}
+use Rattle.model_walk.specs.Walk.{predicate-size, actionsW}
 use Rattle.model_walk.specs.declared.Walked.{Walked}
 use Rattle.model_walk.specs.declared.Walked.the-variants as walked
 use Rattle.engine_reads.specs.Reads.{two, cap, entityOf}
+use Rattle.engine_window.specs.Window.{openW}
 use Rattle.engine_state.specs.Machine.{later}
 use Rattle.engine_state.specs.declared.Move.{Move}
 use Rattle.engine_truth.specs.declared.Truth.{Truth}
@@ -41,20 +42,23 @@ unfoldable pub valueT : (x vs : List ℕ) → (e v : ℕ) → Truth
 valueT x vs e v = if ltb e 32 then againstT x (getD vs e 0) v else Unknown
 
 -- the predicate at a position
-unfoldable pub evaluateT : (f x vs : List ℕ) → (at : ℕ) → Truth
-evaluateT f x vs at = if eqb (getD f at 0) 1 then Unknown else valueT x vs (entityOf x (two f (at + 1))) (two f (at + 3))
+unfoldable pub evaluateT : (f x vs : List ℕ) → (second at : ℕ) → Truth
+evaluateT f x vs second at =
+    if eqb (getD f at 0) 1 then Unknown else
+    if eqb (getD f at 0) 2 then (if openW f x second at then Yes else No) else
+    valueT x vs (entityOf x (two f (at + 1))) (two f (at + 3))
 
 -- how many bytes it has
 unfoldable pub sizeT : List ℕ → (at : ℕ) → ℕ
-sizeT f at = if eqb (getD f at 0) 1 then 3 else 5
+sizeT f at = predicate-size (getD f at 0)
 
 -- `left` predicates from p on, after the verdict t
-unfoldable pub allFrom : (f x vs : List ℕ) → (left p : ℕ) → Truth → Judged
-allFrom f x vs zero p t = record { truth = t; next = p }
-allFrom f x vs (suc left) p t = allFrom f x vs left (later p (sizeT f p)) (bothT t (evaluateT f x vs p))
+unfoldable pub allFrom : (f x vs : List ℕ) → (second left p : ℕ) → Truth → Judged
+allFrom f x vs second zero p t = record { truth = t; next = p }
+allFrom f x vs second (suc left) p t = allFrom f x vs second left (later p (sizeT f p)) (bothT t (evaluateT f x vs second p))
 
-unfoldable pub allT : (f x vs : List ℕ) → (at : ℕ) → Judged
-allT f x vs at = allFrom f x vs (two f at) (later at 2) Yes
+unfoldable pub allT : (f x vs : List ℕ) → (second at : ℕ) → Judged
+allT f x vs second at = allFrom f x vs second (two f at) (later at 2) Yes
 
 -- ---- triggers
 
@@ -92,16 +96,16 @@ judgedT f x j = elim (j .truth) [
   | Unknown ↦ Unclear
 ]
 
-unfoldable pub branchT : (f x vs : List ℕ) → (at : ℕ) → Branch
-branchT f x vs at = judgedT f x (allT f x vs at)
+unfoldable pub branchT : (f x vs : List ℕ) → (second at : ℕ) → Branch
+branchT f x vs second at = judgedT f x (allT f x vs second at)
 
-unfoldable pub selectFrom : (f x vs : List ℕ) → (left p : ℕ) → Branch
-selectFrom f x vs zero p = Take p
-selectFrom f x vs (suc left) p = elim (branchT f x vs p) [
+unfoldable pub selectFrom : (f x vs : List ℕ) → (second left p : ℕ) → Branch
+selectFrom f x vs second zero p = Take p
+selectFrom f x vs second (suc left) p = elim (branchT f x vs second p) [
   | Take q ↦ Take q
   | Unclear ↦ Unclear
-  | Skip q ↦ selectFrom f x vs left q
+  | Skip q ↦ selectFrom f x vs second left q
 ]
 
-unfoldable pub selectT : (f x vs : List ℕ) → (at : ℕ) → Branch
-selectT f x vs at = selectFrom f x vs (two f at) (later at 2)
+unfoldable pub selectT : (f x vs : List ℕ) → (second at : ℕ) → Branch
+selectT f x vs second at = selectFrom f x vs second (two f at) (later at 2)

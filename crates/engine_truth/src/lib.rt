@@ -74,12 +74,19 @@ fn against(x: &[u32; 436], present: u32, v: u32) -> Truth
     Truth::No
 }
 
-// The predicate at a position.
-pub fn evaluate(f: &[u8], x: &[u32; 436], values: &[u32; 32], at: u32) -> Truth
-    ensures { λ r. ⌜ r ≡ evaluateT (now (f .entry)) (now (x .entry)) (now (values .entry)) at ⌝ }
+// The predicate at a position, at a second.
+pub fn evaluate(f: &[u8], x: &[u32; 436], values: &[u32; 32], second: u32, at: u32) -> Truth
+    ensures { λ r. ⌜ r ≡ evaluateT (now (f .entry)) (now (x .entry)) (now (values .entry)) second at ⌝ }
 {
-    if byte_at(f, at as usize) == 1 {
+    let kind = byte_at(f, at as usize);
+    if kind == 1 {
         return Truth::Unknown;
+    }
+    if kind == 2 {
+        if engine_window::open_at(f, x, second, at) {
+            return Truth::Yes;
+        }
+        return Truth::No;
     }
     let e = engine_reads::entity_of(x, two_at(f, at as usize + 1));
     if e < 32 {
@@ -89,24 +96,22 @@ pub fn evaluate(f: &[u8], x: &[u32; 436], values: &[u32; 32], at: u32) -> Truth
     Truth::Unknown
 }
 
-fn predicate_size(f: &[u8], at: u32) -> u32
+// How many bytes it has.
+pub fn predicate_size(f: &[u8], at: u32) -> u32
     ensures { λ r. ⌜ r ≡ sizeT (now (f .entry)) at ⌝ }
 {
-    if byte_at(f, at as usize) == 1 {
-        return 3;
-    }
-    5
+    model_walk::predicate_size(byte_at(f, at as usize))
 }
 
 // The predicates in the list at a position.
-pub fn evaluate_all(f: &[u8], x: &[u32; 436], values: &[u32; 32], at: u32) -> Judged
-    ensures { λ r. ⌜ r ≡ allT (now (f .entry)) (now (x .entry)) (now (values .entry)) at ⌝ }
+pub fn evaluate_all(f: &[u8], x: &[u32; 436], values: &[u32; 32], second: u32, at: u32) -> Judged
+    ensures { λ r. ⌜ r ≡ allT (now (f .entry)) (now (x .entry)) (now (values .entry)) second at ⌝ }
 {
     let mut left = two_at(f, at as usize);
     let mut p = after(at, 2);
     let mut t = Truth::Yes;
     while 0 < left {
-        t = both(t, evaluate(f, x, values, p));
+        t = both(t, evaluate(f, x, values, second, p));
         p = after(p, predicate_size(f, p));
         left -= 1;
     }
@@ -175,10 +180,10 @@ pub enum Branch {
     Skip(u32),
 }
 
-fn branch_at(f: &[u8], x: &[u32; 436], values: &[u32; 32], at: u32) -> Branch
-    ensures { λ r. ⌜ r ≡ branchT (now (f .entry)) (now (x .entry)) (now (values .entry)) at ⌝ }
+fn branch_at(f: &[u8], x: &[u32; 436], values: &[u32; 32], second: u32, at: u32) -> Branch
+    ensures { λ r. ⌜ r ≡ branchT (now (f .entry)) (now (x .entry)) (now (values .entry)) second at ⌝ }
 {
-    let judged = evaluate_all(f, x, values, at);
+    let judged = evaluate_all(f, x, values, second, at);
     let t = judged.truth;
     let next = judged.next;
     match t {
@@ -192,13 +197,13 @@ fn branch_at(f: &[u8], x: &[u32; 436], values: &[u32; 32], at: u32) -> Branch
 }
 
 // The list that the choice at a position takes.
-pub fn select(f: &[u8], x: &[u32; 436], values: &[u32; 32], at: u32) -> Branch
-    ensures { λ r. ⌜ r ≡ selectT (now (f .entry)) (now (x .entry)) (now (values .entry)) at ⌝ }
+pub fn select(f: &[u8], x: &[u32; 436], values: &[u32; 32], second: u32, at: u32) -> Branch
+    ensures { λ r. ⌜ r ≡ selectT (now (f .entry)) (now (x .entry)) (now (values .entry)) second at ⌝ }
 {
     let mut left = two_at(f, at as usize);
     let mut p = after(at, 2);
     while 0 < left {
-        let b = branch_at(f, x, values, p);
+        let b = branch_at(f, x, values, second, p);
         match b {
             Branch::Take(list) => {
                 return Branch::Take(list);

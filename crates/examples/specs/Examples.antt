@@ -5,7 +5,7 @@ use mathlib.Core.List.{List, [], _∷_}
 use mathlib.Core.Option.{Option, none, some}
 use Rattle.texts.specs.Texts.{Text, text}
 use Rattle.model.specs.Answer.{Answer, answer, refused, Verdict, accept, _>>=_}
-use Rattle.model.specs.Model.{Source, Entity, comfort, Predicate, state, single, toggle, done, act, Automation, Input, reload, Event, Invariant, never, response, Model}
+use Rattle.model.specs.Model.{Source, Entity, comfort, Predicate, state, single, toggle, done, act, Automation, Input, reload, Event, Invariant, never, response, Model, midnight}
 use Rattle.model.specs.Validate.{accepted}
 use Rattle.engine.specs.Cells.{Cell, initial-cells}
 use Rattle.engine.specs.Kleene.{Yes, No, Unknown}
@@ -42,6 +42,7 @@ model-with rules lamp events invariants alphabet horizon depth = record {
     limits = record { horizon = horizon; max-steps = 100; search-depth = depth; max-cases = 100 };
   };
   rules = rules;
+  start = midnight;
 }
 
 unfoldable pub model : Entity → List Event → List Invariant → List Input → (horizon depth : ℕ) → Model
@@ -127,10 +128,10 @@ unfoldable pub searched : List Input → Model
 searched inputs = model (lamp-with none) [] (never (text "n") (lamp-is (text "dim") ∷ []) ∷ []) inputs 20 5
 
 pub record Table : Type 0 where
-  pub p1 : (l : List Cell) → evaluate-all [] l ≡ Yes
-  pub p2 : evaluate-all (Predicate.unknown (text "note") ∷ lamp-is (text "on") ∷ []) (at (text "off")) ≡ No
-  pub p3 : evaluate (lamp-is (text "unknown")) (at (text "unknown")) ≡ Yes
-  pub p4 : evaluate (lamp-is (text "off")) (at (text "unavailable")) ≡ Unknown
+  pub p1 : (l : List Cell) → evaluate-all midnight [] l ≡ Yes
+  pub p2 : evaluate-all midnight (Predicate.unknown (text "note") ∷ lamp-is (text "on") ∷ []) (at (text "off")) ≡ No
+  pub p3 : evaluate midnight (lamp-is (text "unknown")) (at (text "unknown")) ≡ Yes
+  pub p4 : evaluate midnight (lamp-is (text "off")) (at (text "unavailable")) ≡ Unknown
   pub p5 : (final dim-toggled ≡ answer ((text "lamp", text "on") ∷ []))
       × (records dim-toggled
       ≡ answer

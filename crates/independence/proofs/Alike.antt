@@ -99,6 +99,7 @@ module _ (m m′ : Model) (a : Alike m m′) where
     same-rules = rules-same;
     same-cells = cells-same;
     same-horizon = a .same-horizon;
+    same-start = a .same-start;
     same-invariants = a .same-invariants;
     named = cone-named m f;
   }

@@ -1,4 +1,4 @@
--- Demand 3: two accepted models alike in invariants, horizon and cone give the same answers about invariants.
+-- Demand 3: two accepted models alike in invariants, horizon, start and cone give the same answers about invariants.
 use Prim.Native.Nat.{ℕ}
 use mathlib.Core.Path.{_≡_}
 use mathlib.Core.Bool.{true}

@@ -316,7 +316,10 @@ turned-down s k e F I r t = record {
 
     as-it-came : Refusal k → lent F I ≡ (if eqb k 45 || eqb k 46 then zeros (lent F I) else lent F I)
     as-it-came (inl h) = let a = h .0 in let b = h .1 in rw (other 45 (λ z. omega arith), other 46 (λ z. omega arith))
-    as-it-came (inr h) = let a = h .0 in let b = h .1 in rw (other 45 (λ z. omega arith), other 46 (λ z. omega arith))
+    as-it-came (inr (inl h)) =
+        let a = h .0 in let b = h .1 in rw (other 45 (λ z. omega arith), other 46 (λ z. omega arith))
+    as-it-came (inr (inr h)) =
+        let a = h .0 in let b = h .1 in rw (other 45 (λ z. omega arith), other 46 (λ z. omega arith))
 
 -- ---- as the code has it
 

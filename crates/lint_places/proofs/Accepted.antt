@@ -11,7 +11,7 @@ use borrow.Author.Tests.{ltb-false}
 use Rattle.texts.specs.Lists.{if_then_else_, absent, find, listed}
 use Rattle.texts.specs.Texts.{Text, text}
 use Rattle.model.specs.Answer.{answer, refused, Verdict, accept, _and_, _when_, each-accepted}
-use Rattle.model.specs.Model.{Predicate, state, Trigger, Effect, toggle, delay, condition, choose, wait, Actions, done, act, Branches, no-branch, branch, Automation, Entity, Model, named}
+use Rattle.model.specs.Model.{Predicate, state, window, Trigger, Effect, toggle, delay, condition, choose, wait, Actions, done, act, Branches, no-branch, branch, Automation, Entity, Model, named}
 use Rattle.model.specs.Validate.{counting, check-value, check-predicate, check-trigger, check-effect, check-actions, check-branches, check-rule, check-rules, accepted}
 use Rattle.engine.proofs.Lists.{Each}
 use Rattle.engine.proofs.Validated.{answer-eq, refused-answer, bind-inv, and-first, and-inv, when-inv, accepted-passed, few-parts}
@@ -40,6 +40,7 @@ module _ (es : List Entity) where
   abbrev pub FineP : Predicate → Type 0
   FineP (state x v) = Declared es x
   FineP (Predicate.unknown r) = Unit {0}
+  FineP (window d b e) = Unit {0}
 
   abbrev pub FineT : Trigger → Type 0
   FineT t = t .note ≡ none → Declared es (t .entity)
@@ -68,6 +69,7 @@ module _ (es : List Entity) where
   unfolding check-predicate
   predicate-fine (state x v) e = value-fine x v e
   predicate-fine (Predicate.unknown r) e = tt
+  predicate-fine (window d b f) e = tt
 
   trigger-fine : (t : Trigger) → check-trigger es t ≡ accept → FineT t
   unfolding check-trigger absent

@@ -11,7 +11,7 @@ use borrow.Author.Tests.{lt-ltb}
 use Rattle.engine.proofs.Bounds.{length-each}
 use Rattle.texts.specs.Lists.{if_then_else_, absent, keep, listed, each, flat}
 use Rattle.texts.specs.Texts.{Text, memT, sortedT}
-use Rattle.model.specs.Model.{Predicate, state, Trigger, Effect, toggle, delay, condition, choose, wait, Actions, done, act, Branches, no-branch, branch, Entity, Automation, Model}
+use Rattle.model.specs.Model.{Predicate, state, window, Trigger, Effect, toggle, delay, condition, choose, wait, Actions, done, act, Branches, no-branch, branch, Entity, Automation, Model}
 use Rattle.model.specs.Notes.{of-predicate, of-trigger, of-effect, of-actions, of-branches, of-invariant, of-rule, notes-of}
 use Rattle.model_parts.specs.declared.Section.{Section}
 use Rattle.engine.proofs.Lists.{Each, each-split, sorted-many}
@@ -56,6 +56,7 @@ module _ (es : List Entity) where
   unfolding predicate-reads keep
   predicate-known (state y v) f = one-known y f
   predicate-known (Predicate.unknown r) f = refl
+  predicate-known (window d b e) f = refl
 
   flat-known : {A : Type 0} (g : A → List Text) (P : A → Type 0) → ((a : A) → P a → keep und (g a) ≡ []) → (l : List A) → Each P l → keep und (flat g l) ≡ []
   unfolding flat keep

@@ -14,7 +14,7 @@ use Rattle.engine.proofs.Bounds.{length-each}
 use Rattle.texts.specs.Lists.{if_then_else_, absent, any, keep, each, flat}
 use Rattle.texts.specs.Texts.{Text, eqT, memT}
 use Rattle.texts.proofs.Ordering.{not-both, eq-is, eq-sym}
-use Rattle.model.specs.Model.{Predicate, state, Trigger, Effect, toggle, delay, condition, choose, wait, Automation, Model}
+use Rattle.model.specs.Model.{Predicate, state, window, Trigger, Effect, toggle, delay, condition, choose, wait, Automation, Model}
 use Rattle.model_walk.proofs.Found.{Case, is-true, is-false, case}
 use Rattle.model_parts.specs.declared.Section.{Section}
 use Rattle.model_check.specs.Checks.{number-of}
@@ -107,6 +107,7 @@ module _ {s : List ℕ} {d : Names} {rs : Section} {ts : List Text} {m : Model} 
   unfolding predicate-reads
   predicate-not x h (state y v) f = one-not x y h f
   predicate-not x h (Predicate.unknown r) f = mem-none x
+  predicate-not x h (window d b e) f = mem-none x
 
   pub flat-not : {A : Type 0} (x : Text) (g : A → List Text) (P : A → Type 0) → ((a : A) → P a → memT x (g a) ≡ false) → (l : List A) → Each P l → memT x (flat g l) ≡ false
   unfolding flat

@@ -9,7 +9,7 @@ use lib.ListN.{length, getD}
 use borrow.Author.Tests.{eq-eqb, ne-eqb, eqb-true, eqb-false}
 use Rattle.texts.specs.Lists.{if_then_else_, absent, present-and, absent-or, any, all}
 use Rattle.texts.specs.Texts.{Text, eqT}
-use Rattle.model.specs.Model.{Predicate, state, Trigger, Automation}
+use Rattle.model.specs.Model.{Predicate, state, window, Trigger, Automation}
 use Rattle.model.specs.File.{got, Reader, times, counted, predicate, trigger}
 use Rattle.model_walk.proofs.Found.{given, u16-wide, Counted, counted-found, Value?}
 use Rattle.model_walk.proofs.Found as found
@@ -17,7 +17,7 @@ use Rattle.model_parts.proofs.Stands.{more}
 use Rattle.lint.specs.Touches.{Write}
 use Rattle.lint.specs.Findings.{clash, contradictory, mismatched, is-star, sets-off}
 use Rattle.lint_walk.specs.Raw.{placeZ, past, predicateEnd, triggersZ, conditionsZ, actionsZ}
-use Rattle.lint_walk.proofs.Found.{past-is, place-got, PredicateAt, state-at, note-at, predicate-found, predicate-ends, TriggerAt, trigger-at, RuleAt}
+use Rattle.lint_walk.proofs.Found.{past-is, place-got, PredicateAt, state-at, note-at, window-at, predicate-found, predicate-ends, TriggerAt, trigger-at, RuleAt}
 use Rattle.lint_tests.specs.Tests.{anyP, allP, clashZ, clashesZ, meetsZ, contradictoryFrom, contradictoryZ, mismatchZ, mismatchedZ, setsOffZ, leadsZ}
 use Rattle.lint_tests.proofs.Laws as laws
 
@@ -83,6 +83,7 @@ module _ (s : List ℕ) (ts : List Text) (same : (i j : ℕ) → i < length ts �
       ∙ ap (λ (b : Bool). b && not (eqb w v)) (eqb-sym y x ∙ sym (same x y h m))
       ∙ ap (λ (b : Bool). eqT (T x) (T y) && not b) (eqb-sym w v ∙ sym (same v w i n)))))
   clash-agrees x v p a q h i (note-at r k o) = rw k
+  clash-agrees x v p a q h i (window-at d b e k o) = rw k
 
   clashes-agree : (x v n p : ℕ) (l : List Predicate) (q : ℕ) → x < length ts → v < length ts → times n (predicate ts) s p ≡ got l q → clashesZ s x v n p ≡ any (clash (state (T x) (T v))) l
   clashes-agree x v n p l q h i e =
@@ -94,6 +95,7 @@ module _ (s : List ℕ) (ts : List Text) (same : (i j : ℕ) → i < length ts �
   meets-agrees n p a o l q (state-at x v k d e h i w) g =
       rw k (rw d (rw e (ap (clashesZ s x v n) (predicate-ends ts s (state-at x v k d e h i w)) ∙ clashes-agree x v n o l q h i g)))
   meets-agrees n p a o l q (note-at r k w) g = rw k (sym (any-never (clash (Predicate.unknown r)) (λ b. refl) l))
+  meets-agrees n p a o l q (window-at d b e k w) g = rw k (sym (any-never (clash (window d b e)) (λ c. refl) l))
 
   contra-agrees : (n p : ℕ) (l : List Predicate) (q : ℕ) → times n (predicate ts) s p ≡ got l q → contradictoryFrom s n p ≡ contradictory l
   unfolding times contradictoryFrom contradictory

@@ -32,7 +32,7 @@ use Rattle.lint_reach.proofs.Bits.{holds-with, holds-none, keep-none, keep-appe
 use Rattle.lint_walk.specs.declared.Walk.{Walk}
 use Rattle.lint_walk.specs.Raw.{placeZ, past, predicateEnd, predicatesEnd, kindZ, triggersZ, conditionsZ}
 use Rattle.lint_walk.specs.Walks.{listEnd}
-use Rattle.lint_walk.proofs.Found.{past-is, place-got, PredicateAt, state-at, note-at, predicate-found, predicate-ends, predicates-end, TriggerAt, trigger-at, EffectAt, set-at, toggle-at, delay-at, condition-at, choose-at, wait-at, unknown-at, ActionAt, RuleAt}
+use Rattle.lint_walk.proofs.Found.{past-is, place-got, PredicateAt, state-at, note-at, window-at, predicate-found, predicate-ends, predicates-end, TriggerAt, trigger-at, EffectAt, set-at, toggle-at, delay-at, condition-at, choose-at, wait-at, unknown-at, ActionAt, RuleAt}
 use Rattle.lint_walk.proofs.Goes.{Filled, ActionsAt, no-action, action, Walked, list-ends}
 use Rattle.lint_touches.specs.Names.{nameAt}
 use Rattle.lint_touches.specs.Sets.{Adds, over, along, addE, addP, predicatesS, addT, triggersS, addA, addW, readsS, writesS}
@@ -258,6 +258,8 @@ module _ (s : List ℕ) (e : Section) (ts : List Text) (es : List Entity) (g : G
   predicate-puts p q a (state-at x v k i j m n w) =
       puts-same (addE s e x) (addP s e p) (T x ∷ []) (λ set. laws.predicate-yes s e p set refl k refl (sym i)) (puts-entity x m)
   predicate-puts p q a (note-at r k w) = puts-same (λ set. set) (addP s e p) [] (λ set. laws.predicate-no s e p set refl (λ z. omega arith)) puts-none
+  predicate-puts p q a (window-at d b c k w) =
+      puts-same (λ set. set) (addP s e p) [] (λ set. laws.predicate-no s e p set refl (λ z. omega arith)) puts-none
 
   pub predicates-put : (p : ℕ) (l : List Predicate) (q : ℕ) → counted (predicate ts) s p ≡ got l q → Puts (predicatesS s e p) (flat predicate-reads l)
   predicates-put p l q b =

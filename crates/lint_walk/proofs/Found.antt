@@ -7,9 +7,9 @@ use native.Mathlib.Omega.{arith}
 use native.Mathlib.Nat.{mul-suc}
 use lib.ListN.{length, getD}
 use Rattle.texts.specs.Texts.{Text}
-use Rattle.model.specs.Model.{Source, Predicate, state, Trigger, Effect, toggle, delay, condition, choose, wait, Actions, Branches, Automation}
+use Rattle.model.specs.Model.{Source, Predicate, state, window, Trigger, Effect, toggle, delay, condition, choose, wait, Actions, Branches, Automation}
 use Rattle.model.specs.File.{got, Reader, _>>=_, give, refuse, u8, u16, u32, times, counted, flag, source, mode, place, predicate, trigger, branches, effect, actions, automation, effect-kinds}
-use Rattle.model_walk.proofs.Found.{bound, given, Wide, wide-sum, u8-wide, u16-wide, u32-wide, source-wide, kind-wide, counted-found, Kind, kind-found, place-found, Value?, trigger-found}
+use Rattle.model_walk.proofs.Found.{bound, given, Wide, wide-sum, u8-wide, u16-wide, u32-wide, source-wide, kind-wide, counted-found, Kind, kind-found, place-found, predicate-wide, u8-value, Value?, trigger-found}
 use Rattle.model_walk.proofs.Found as found
 use Rattle.model_walk.proofs.Sees.{sees-flag, sees-mode}
 use Rattle.model_parts.proofs.Stands.{more}
@@ -58,14 +58,16 @@ module _ (ts : List Text) (s : List ℕ) where
   -- ---- predicates
 
   pub data PredicateAt (p : ℕ) (q : ℕ) : Predicate → Type 0 where
-    state-at : (x v : ℕ) → byteZ s p ≡ 0 → placeZ s (past s p 1) ≡ x → placeZ s (past s p 3) ≡ v → x < length ts → v < length ts → Wide 5 s p q →
-        PredicateAt p q (state (getD ts x []) (getD ts v []))
-    note-at : (r : Text) → byteZ s p ≡ 1 → Wide 3 s p q → PredicateAt p q (Predicate.unknown r)
+    state-at : (x v : ℕ) → byteZ s p ≡ 0 → placeZ s (past s p 1) ≡ x → placeZ s (past s p 3) ≡ v →
+        x < length ts → v < length ts → predicateEnd s p ≡ q → PredicateAt p q (state (getD ts x []) (getD ts v []))
+    note-at : (r : Text) → byteZ s p ≡ 1 → predicateEnd s p ≡ q → PredicateAt p q (Predicate.unknown r)
+    window-at : (d b e : ℕ) → byteZ s p ≡ 2 → predicateEnd s p ≡ q → PredicateAt p q (window d b e)
 
   predicate-kinds : List (Reader Predicate)
   predicate-kinds =
       (place ts >>= λ e. place ts >>= λ v. give (state e v))
       ∷ (place ts >>= λ r. give (Predicate.unknown r))
+      ∷ (u8 >>= λ d. u32 >>= λ b. u32 >>= λ e. give (window d b e))
       ∷ []
 
   pub predicate-found : {p : ℕ} {a : Predicate} {q : ℕ} → predicate ts s p ≡ got a q → PredicateAt p q a
@@ -78,6 +80,11 @@ module _ (ts : List Text) (s : List ℕ) where
       o : ℕ
       o = k .next
 
+      ended : predicateEnd s p ≡ q
+      ended =
+          sym (laws.predicate-is s p refl (u8-value s p (k .is-kind) ∙ sym (byte-got s p (k .is-kind))))
+          ∙ past-is s (predicate-wide ts e)
+
       cases : (i : ℕ) → u8 s p ≡ got i o → getD predicate-kinds i refuse s o ≡ got a q → PredicateAt p q a
       cases zero d h =
           let x = bound (place ts) _ h in
@@ -86,24 +93,29 @@ module _ (ts : List Text) (s : List ℕ) where
           let f = place-found ts (x .first) in
           let g = place-found ts (v .first ∙ ap (got (v .value)) (z .1)) in
           let w = u8-wide s p d in
-          let w₁ = u16-wide s o (f .is-place) in
-          let w₂ = u16-wide s (x .next) (g .is-place) in
-          let w₃ : Wide 3 s p (x .next) = wide-sum w w₁ in
+          let w₁ = wide-sum w (u16-wide s o (f .is-place)) in
           subst (λ (b : Predicate). PredicateAt p q b) (ap (λ (t : Text). state t (getD ts (g .at) [])) (sym (f .is-text)) ∙ ap (state (x .value)) (sym (g .is-text)) ∙ z .0)
           (state-at (f .at) (g .at) (byte-got s _ d)
           (ap (placeZ s) (past-is s w) ∙ place-got s _ (f .is-place))
-          (ap (placeZ s) (past-is s w₃) ∙ place-got s _ (g .is-place))
-          (f .is-in) (g .is-in) (wide-sum w₃ w₂))
+          (ap (placeZ s) (past-is s w₁) ∙ place-got s _ (g .is-place))
+          (f .is-in) (g .is-in) ended)
       cases (suc zero) d h =
           let x = bound (place ts) _ h in
           let z = given _ _ _ (x .rest) in
-          let f = place-found ts (x .first ∙ ap (got (x .value)) (z .1)) in
-          subst (λ (b : Predicate). PredicateAt p q b) (z .0) (note-at (x .value) (byte-got s _ d) (wide-sum (u8-wide s p d) (u16-wide s o (f .is-place))))
-      cases (suc (suc i)) d h = absurd (found.refused s o h)
+          subst (λ (b : Predicate). PredicateAt p q b) (z .0) (note-at (x .value) (byte-got s _ d) ended)
+      cases (suc (suc zero)) d h =
+          let x = bound u8 _ h in
+          let y = bound u32 _ (x .rest) in
+          let v = bound u32 _ (y .rest) in
+          let z = given _ _ _ (v .rest) in
+          subst (λ (b : Predicate). PredicateAt p q b) (z .0)
+          (window-at (x .value) (y .value) (v .value) (byte-got s _ d) ended)
+      cases (suc (suc (suc i))) d h = absurd (found.refused s o h)
 
   pub predicate-ends : {p : ℕ} {a : Predicate} {q : ℕ} → PredicateAt p q a → predicateEnd s p ≡ q
-  predicate-ends {p} (state-at x v k a b h i w) = laws.predicate-state s p k ∙ past-is s w
-  predicate-ends {p} (note-at r k w) = laws.predicate-note s p (λ e. omega arith) ∙ past-is s w
+  predicate-ends (state-at x v k a b h i e) = e
+  predicate-ends (note-at r k e) = e
+  predicate-ends (window-at d b c k e) = e
 
   times-end : {A : Type 0} (r : Reader A) (f : ℕ → ℕ) → ((p : ℕ) (a : A) (q : ℕ) → r s p ≡ got a q → f p ≡ q) → (n p : ℕ) (l : List A) (q : ℕ) → times n r s p ≡ got l q → repeat n f p ≡ q
   unfolding times repeat

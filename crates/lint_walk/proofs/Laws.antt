@@ -9,7 +9,7 @@ use borrow.Author.Tests.{lt-ltb, le-ltb, le-leb, lt-leb, eq-eqb, ne-eqb}
 use Rattle.model.specs.File.{Got, u8, u16, u32}
 use Rattle.model_walk.specs.declared.Num.{Num}
 use Rattle.model_walk.specs.declared.Num.the-variants as num
-use Rattle.model_walk.specs.Walk.{found}
+use Rattle.model_walk.specs.Walk.{found, predicate-size}
 use Rattle.model_walk.proofs.Laws.{is-got, is-broken}
 use Rattle.lint_walk.specs.declared.Walk.{Walk}
 use Rattle.lint_walk.specs.declared.Cursor.{Cursor}
@@ -64,13 +64,10 @@ module _ {A : Type 0} (f : A → A) where
 -- ---- where parts end
 
 module _ (s : List ℕ) (p : ℕ) where
-  pub predicate-state : byteZ s p ≡ 0 → predicateEnd s p ≡ past s p 5
+  -- a predicate of the kind k has w bytes
+  pub predicate-is : {w k : ℕ} → w ≡ predicate-size k → k ≡ byteZ s p → past s p w ≡ predicateEnd s p
   unfolding predicateEnd
-  predicate-state h = rw (eq-eqb (byteZ s p) 0 h)
-
-  pub predicate-note : (byteZ s p ≡ 0 → ⊥) → predicateEnd s p ≡ past s p 3
-  unfolding predicateEnd
-  predicate-note h = rw (ne-eqb (byteZ s p) 0 h)
+  predicate-is e h = ap (past s p) (e ∙ ap predicate-size h)
 
   pub predicates-is : predicatesEnd s p ≡ repeat (placeZ s p) (predicateEnd s) (past s p 2)
   unfolding predicatesEnd

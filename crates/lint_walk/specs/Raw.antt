@@ -5,6 +5,7 @@ use lib.Dec.{leb, eqb}
 use lib.ListN.{length}
 use Rattle.texts.specs.Lists.{if_then_else_}
 use Rattle.model.specs.File.{Got, got, broken, u8, u16, u32}
+use Rattle.model_walk.specs.Walk.{predicate-size}
 
 -- what was read, or 0
 unfoldable pub value-of : Got ℕ → ℕ
@@ -30,7 +31,7 @@ repeat zero f a = a
 repeat (suc n) f a = repeat n f (f a)
 
 unfoldable pub predicateEnd : List ℕ → ℕ → ℕ
-predicateEnd s p = if eqb (byteZ s p) 0 then past s p 5 else past s p 3
+predicateEnd s p = past s p (predicate-size (byteZ s p))
 
 -- behind a count and as many predicates
 unfoldable pub predicatesEnd : List ℕ → ℕ → ℕ

@@ -57,10 +57,8 @@ pub fn past(s: &[u8], at: usize, size: usize) -> usize
 pub fn predicate_end(s: &[u8], at: usize) -> usize
     ensures { λ r. ⌜ r ≡ predicateEnd (now (s .entry)) at ⌝ }
 {
-    if byte_at(s, at) == 0 {
-        return past(s, at, 5);
-    }
-    past(s, at, 3)
+    let kind = byte_at(s, at);
+    past(s, at, model_walk::predicate_size(kind) as usize)
 }
 
 // A count, and as many predicates.

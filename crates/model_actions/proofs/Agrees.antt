@@ -73,7 +73,7 @@ module _ (s : List ℕ) (d : Declaration) (ts : List Text) (es : List Entity) (g
         let r = bound (branches ts inner i) _ (a .rest) in
         let z = given _ _ _ (r .rest) in
         next s (branchC d check) (timesC i (branchC d check)) p n (a .next) q (each-accepted (check-predicate es) (c .value) and check-actions es (a .value) (dep + 1) n) (λ m. check-branches es (r .value) dep m)
-        (next-and s (predicatesC d) check p n (c .next) (a .next) (each-accepted (check-predicate es) (c .value)) (λ m. check-actions es (a .value) (dep + 1) m)
+        (next-and s (predicatesC d 0) check p n (c .next) (a .next) (each-accepted (check-predicate es) (c .value)) (λ m. check-actions es (a .value) (dep + 1) m)
         (predicates-agree s d ts es g p n (c .value) (c .next) (c .first)) (λ m. ih (c .next) m (a .value) (a .next) (a .first)))
         (λ m. branches-agree i (a .next) m (r .value) q (r .first ∙ ap (got (r .value)) (z .1)))
         ∙ after-same q (and-then-bind (each-accepted (check-predicate es) (c .value)) (check-actions es (a .value) (dep + 1) n) (λ m. check-branches es (r .value) dep m))

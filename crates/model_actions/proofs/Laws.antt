@@ -82,7 +82,7 @@ module _ (d : Declaration) (s : List ℕ) (p n : ℕ) where
     unfolding simpleC
     simple-2 e = rw e
 
-    pub simple-3 : k ≡ 3 → simpleC d k s p n ≡ predicateC d s p n
+    pub simple-3 : k ≡ 3 → simpleC d k s p n ≡ predicateC d 0 s p n
     unfolding simpleC
     simple-3 e = rw e
 

@@ -25,12 +25,12 @@ module _ (d : Declaration) where
       if eqb k 0 then pairC d
       else if eqb k 1 then toggleC
       else if eqb k 2 then dayC 18
-      else if eqb k 3 then predicateC d
+      else if eqb k 3 then predicateC d 0
       else if eqb k 5 then waitC
       else skipC 2
 
   abbrev pub branchC : Check → Check
-  branchC inner = predicatesC d ⨾ inner
+  branchC inner = predicatesC d 0 ⨾ inner
 
   abbrev pub choiceC : Check → Check
   choiceC inner = by u16 (λ c. timesC c (branchC inner) ⨾ inner)

@@ -60,7 +60,7 @@ fn simple_check(
         return model_check::day_check(s, 18, at, n);
     }
     if kind == 3 {
-        return model_check::predicate_check(s, d, entities, at, n);
+        return model_check::predicate_check(s, d, entities, 0, at, n);
     }
     if kind == 5 {
         return wait_check(s, d, entities, at, n);
@@ -144,7 +144,7 @@ pub fn choice_check(
     let mut p = start;
     let mut m = n;
     while 0 < i {
-        let y = model_check::predicates_check(s, d, entities, p, m);
+        let y = model_check::predicates_check(s, d, entities, 0, p, m);
         let Checked::To(next, kept) = y else {
             return y;
         };

@@ -11,18 +11,20 @@ use borrow.Author.Tests.{lt-leb, eq-eqb, ne-eqb, eqb-true, eqb-false}
 use Rattle.texts.specs.Lists.{if_then_else_, absent, listed, any, find}
 use Rattle.texts.specs.Texts.{Text, text, eqT, memT}
 use Rattle.model.specs.Answer.{Answer, answer, refused, Verdict, accept, _>>=_, _and_, _when_, each-accepted}
-use Rattle.model.specs.Model.{observational, Entity, Predicate, state, Trigger, named}
+use Rattle.model.specs.Model.{observational, Entity, Predicate, state, window, Trigger, named, is-window}
 use Rattle.model.specs.File.{_>>=_ as _>>=ᵣ_}
-use Rattle.model.specs.File.{got, Reader, give, refuse, u8, u16, u32, times, counted, place, predicate, trigger, entity}
-use Rattle.model.specs.Validate.{day, undecided, check-value, check-predicate, check-trigger}
+use Rattle.model.specs.File.{refuse as refuse-reader}
+use Rattle.model.specs.File.{got, Reader, give, u8, u16, u32, times, counted, place, predicate, trigger, entity}
+use Rattle.model.specs.Validate.{day, undecided, bad-window, check-value, check-predicate, check-stated, check-trigger}
 use Rattle.model_walk.proofs.Found.{Case, is-true, is-false, case, bound, given, Wide, u16-wide, source-wide, counted-found, Kind, kind-found, place-found, Value?, entity-found, TriggerParts, trigger-found}
 use Rattle.model_walk.proofs.Found as found
+use Rattle.model_walk.specs.Walk.{predicate-size}
 use Rattle.model_parts.specs.Stand.{Reads, Stand}
 use Rattle.model_parts.proofs.Stands.{More, more}
 use Rattle.model_order.specs.Order.{Fixed}
 use Rattle.model_check.specs.declared.Checked.{Checked}
 use Rattle.model_check.specs.declared.Checked.the-variants as checked
-use Rattle.model_check.specs.Checks.{Check, and-then, _⨾_, by, stay, refuse-if, skipC, timesC, place-is, among, listed-at, first-from, Declaration, entity-number, entity-valueC, valueC, pairC, predicateC, predicatesC, declaredC, optionalC, trigger-ofC, triggerC, triggersC}
+use Rattle.model_check.specs.Checks.{Check, and-then, _⨾_, by, stay, refuse, refuse-if, skipC, timesC, place-is, among, listed-at, first-from, Declaration, entity-number, entity-valueC, valueC, pairC, windowC, predicateC, predicatesC, declaredC, optionalC, trigger-ofC, triggerC, triggersC}
 use Rattle.model_check.proofs.Laws as laws
 
 -- ---- verdicts
@@ -288,40 +290,103 @@ module _ (s : List ℕ) (d : Declaration) (ts : List Text) (es : List Entity) (g
       ∙ ap (λ (y : Text). after t (check-value es y (T (b .at)) and answer n)) (sym (a .is-text))
       ∙ ap (λ (y : Text). after t (check-value es x y and answer n)) (sym (b .is-text))
 
-  pub predicate-agrees : (p n : ℕ) (a : Predicate) (q : ℕ) → predicate ts s p ≡ got a q → predicateC d s p n ≡ after q (check-predicate es a and answer n)
-  unfolding predicate check-predicate
-  predicate-agrees p n a q e = laws.predicate-is d s p n ∙ by-got s u8 _ p n (k .is-kind) ∙ cases (k .kind) (k .holds)
-    where
-      rs : List (Reader Predicate)
-      rs =
-          (place ts >>=ᵣ λ x. place ts >>=ᵣ λ v. give (state x v))
-          ∷ (place ts >>=ᵣ λ r. give (Predicate.unknown r))
-          ∷ []
+  -- a window, where it may stand and where it is banned
+  windows : Reader Predicate
+  windows = u8 >>=ᵣ λ k. u32 >>=ᵣ λ b. u32 >>=ᵣ λ e. give (window k b e)
 
-      k : Kind rs s p a q
-      k = kind-found rs e
+  window-agrees : (p n : ℕ) (a : Predicate) (q : ℕ) → windows s p ≡ got a q →
+      windowC s p n ≡ after q (check-predicate es a and answer n)
+  unfolding windows check-predicate
+  window-agrees p n a q h =
+      let k = bound u8 _ h in
+      let b = bound u32 _ (k .rest) in
+      let e = bound u32 _ (b .rest) in
+      let z = given _ _ _ (e .rest) in
+      laws.window-is s p n
+      ∙ by-got s u8 _ p n (k .first)
+      ∙ by-got s u32 _ (k .next) n (b .first)
+      ∙ by-got s u32 _ (b .next) n (e .first ∙ ap (got (e .value)) (z .1))
+      ∙ refuse-if-is s 50 (bad-window (k .value) (b .value) (e .value)) q n
+      ∙ ap (λ (y : Predicate). after q (check-predicate es y and answer n)) (z .0)
 
-      cases : (i : ℕ) → getD rs i refuse s (k .next) ≡ got a q → (if eqb i 0 then pairC d else skipC 2) s (k .next) n ≡ after q (check-predicate es a and answer n)
-      cases zero h =
-          let x = bound (place ts) _ h in
-          let v = bound (place ts) _ (x .rest) in
-          let z = given _ _ _ (v .rest) in
-          pair-agrees (k .next) n (x .first) (v .first ∙ ap (got (v .value)) (z .1))
-          ∙ ap (λ (y : Predicate). after q (check-predicate es y and answer n)) (z .0)
-      cases (suc zero) h =
-          let r = bound (place ts) _ h in
-          let z = given _ _ _ (r .rest) in
-          let w = u16-wide s (k .next) (place-found ts (r .first ∙ ap (got (r .value)) (z .1)) .is-place) in
-          skips s 2 (k .next) n w
-          ∙ ap (λ (y : Predicate). after q (check-predicate es y and answer n)) (z .0)
-      cases (suc (suc i)) h = absurd (found.refused s (k .next) h)
+  banned-agrees : (p n : ℕ) (a : Predicate) (q : ℕ) → windows s p ≡ got a q →
+      refuse 51 s p n ≡ after q (check-stated es a and answer n)
+  unfolding windows check-stated is-window _and_ _when_ after
+  banned-agrees p n a q h =
+      let k = bound u8 _ h in
+      let b = bound u32 _ (k .rest) in
+      let e = bound u32 _ (b .rest) in
+      let z = given _ _ _ (e .rest) in
+      laws.refused-is s p n 51 ∙ ap (λ (y : Predicate). after q (check-stated es y and answer n)) (z .0)
 
-  pub predicates-agree : (p n : ℕ) (l : List Predicate) (q : ℕ) → counted (predicate ts) s p ≡ got l q → predicatesC d s p n ≡ after q (each-accepted (check-predicate es) l and answer n)
+  -- a predicate by a check that takes states and notes as `check-predicate` does
+  module _ (banned : ℕ) (c : Predicate → Verdict) (on-state : (x v : Text) → c (state x v) ≡ check-value es x v)
+      (on-note : (r : Text) → c (Predicate.unknown r) ≡ accept)
+      (on-window : (p n : ℕ) (a : Predicate) (q : ℕ) → windows s p ≡ got a q →
+      (if eqb banned 0 then windowC else refuse banned) s p n ≡ after q (c a and answer n)) where
+    with-agrees : (p n : ℕ) (a : Predicate) (q : ℕ) → predicate ts s p ≡ got a q →
+        predicateC d banned s p n ≡ after q (c a and answer n)
+    unfolding predicate windows predicate-size
+    with-agrees p n a q e = laws.predicate-is d s p n banned ∙ by-got s u8 _ p n (k .is-kind) ∙ cases (k .kind) (k .holds)
+      where
+        rs : List (Reader Predicate)
+        rs =
+            (place ts >>=ᵣ λ x. place ts >>=ᵣ λ v. give (state x v))
+            ∷ (place ts >>=ᵣ λ r. give (Predicate.unknown r))
+            ∷ (u8 >>=ᵣ λ k. u32 >>=ᵣ λ b. u32 >>=ᵣ λ e. give (window k b e))
+            ∷ []
+
+        k : Kind rs s p a q
+        k = kind-found rs e
+
+        cases : (i : ℕ) → getD rs i refuse-reader s (k .next) ≡ got a q →
+            (if eqb i 0 then pairC d else if eqb i 1 then skipC (predicate-size i - 1) else if eqb banned 0 then windowC
+            else refuse banned) s (k .next) n ≡ after q (c a and answer n)
+        cases zero h =
+            let x = bound (place ts) _ h in
+            let v = bound (place ts) _ (x .rest) in
+            let z = given _ _ _ (v .rest) in
+            pair-agrees (k .next) n (x .first) (v .first ∙ ap (got (v .value)) (z .1))
+            ∙ ap (λ (y : Verdict). after q (y and answer n)) (sym (on-state (x .value) (v .value)))
+            ∙ ap (λ (y : Predicate). after q (c y and answer n)) (z .0)
+        cases (suc zero) h =
+            let r = bound (place ts) _ h in
+            let z = given _ _ _ (r .rest) in
+            let w = u16-wide s (k .next) (place-found ts (r .first ∙ ap (got (r .value)) (z .1)) .is-place) in
+            skips s 2 (k .next) n w
+            ∙ ap (λ (y : Verdict). after q (y and answer n)) (sym (on-note (r .value)))
+            ∙ ap (λ (y : Predicate). after q (c y and answer n)) (z .0)
+        cases (suc (suc zero)) h = on-window (k .next) n a q h
+        cases (suc (suc (suc i))) h = absurd (found.refused s (k .next) h)
+
+  pub predicate-agrees : (p n : ℕ) (a : Predicate) (q : ℕ) → predicate ts s p ≡ got a q →
+      predicateC d 0 s p n ≡ after q (check-predicate es a and answer n)
+  unfolding check-predicate
+  predicate-agrees = with-agrees 0 (check-predicate es) (λ x v. refl) (λ r. refl) window-agrees
+
+  -- of an invariant
+  pub stated-agrees : (p n : ℕ) (a : Predicate) (q : ℕ) → predicate ts s p ≡ got a q →
+      predicateC d 51 s p n ≡ after q (check-stated es a and answer n)
+  unfolding check-stated check-predicate is-window _and_ _when_
+  stated-agrees = with-agrees 51 (check-stated es) (λ x v. refl) (λ r. refl) banned-agrees
+
+  pub predicates-agree : (p n : ℕ) (l : List Predicate) (q : ℕ) → counted (predicate ts) s p ≡ got l q →
+      predicatesC d 0 s p n ≡ after q (each-accepted (check-predicate es) l and answer n)
   predicates-agree p n l q e =
       let c = counted-found (predicate ts) e in
-      laws.predicates-is d s p n
+      laws.predicates-is d s p n 0
       ∙ by-got s u16 _ p n (c .is-count)
-      ∙ times-agrees s (predicate ts) (check-predicate es) (predicateC d) predicate-agrees (c .count) (c .start) n l q (c .are-values)
+      ∙ times-agrees s (predicate ts) (check-predicate es) (predicateC d 0) predicate-agrees
+      (c .count) (c .start) n l q (c .are-values)
+
+  pub all-stated-agree : (p n : ℕ) (l : List Predicate) (q : ℕ) → counted (predicate ts) s p ≡ got l q →
+      predicatesC d 51 s p n ≡ after q (each-accepted (check-stated es) l and answer n)
+  all-stated-agree p n l q e =
+      let c = counted-found (predicate ts) e in
+      laws.predicates-is d s p n 51
+      ∙ by-got s u16 _ p n (c .is-count)
+      ∙ times-agrees s (predicate ts) (check-stated es) (predicateC d 51) stated-agrees
+      (c .count) (c .start) n l q (c .are-values)
 
   -- ---- triggers
 

@@ -6,17 +6,18 @@ use Prim.Native.Nat.{ℕ, zero, suc, _+_, _-_, _≤_, _<_}
 use native.Mathlib.Numerals.{sub-one}
 use native.Mathlib.Omega.{arith}
 use lib.ListN.{length, getD}
-use lib.Dec.{leb, eqb}
+use lib.Dec.{ltb, leb, eqb}
 use borrow.Author.Tests.{le-leb, lt-leb, eq-eqb, ne-eqb}
 use Rattle.texts.specs.Lists.{if_then_else_}
-use Rattle.model.specs.File.{Reader, u8, u16}
+use Rattle.model.specs.File.{Reader, u8, u16, u32}
+use Rattle.model.specs.Validate.{bad-window}
 use Rattle.model_walk.specs.declared.Num.{Num}
 use Rattle.model_walk.specs.declared.Num.the-variants as num
-use Rattle.model_walk.specs.Walk.{found}
+use Rattle.model_walk.specs.Walk.{found, predicate-size}
 use Rattle.model_walk.proofs.Laws.{is-got, is-broken, u16-out}
 use Rattle.model_check.specs.declared.Checked.{Checked}
 use Rattle.model_check.specs.declared.Checked.the-variants as checked
-use Rattle.model_check.specs.Checks.{Check, and-then, _⨾_, by, stay, refuse, refuse-if, skipC, timesC, place-is, among, listed-at, first-from, Declaration, entity-valueC, valueC, pairC, predicateC, predicatesC, declaredC, optionalC, trigger-ofC, triggerC, triggersC}
+use Rattle.model_check.specs.Checks.{Check, and-then, _⨾_, by, stay, refuse, refuse-if, skipC, timesC, place-is, among, listed-at, first-from, Declaration, entity-valueC, valueC, pairC, windowC, predicateC, predicatesC, declaredC, optionalC, trigger-ofC, triggerC, triggersC}
 
 -- ---- one check after the other
 
@@ -143,7 +144,51 @@ module _ (starts : List ℕ) (x : ℕ) (s : List ℕ) where
   first-end zero i h = refl
   first-end (suc left) i h = absurd (omega arith)
 
+-- ---- windows
+
+module _ (d b e : ℕ) where
+  pub bad-1 : b ≡ e → bad-window d b e ≡ true
+  unfolding bad-window
+  bad-1 h = rw (eq-eqb b e h)
+
+  module _ (h : b ≡ e → ⊥) where
+    pub bad-2 : 86399 < b → bad-window d b e ≡ true
+    unfolding bad-window
+    bad-2 k = rw (ne-eqb b e h) (rw (le-leb 86400 b (omega arith)))
+
+    module _ (k : b ≤ 86399) where
+      pub bad-3 : 86399 < e → bad-window d b e ≡ true
+      unfolding bad-window
+      bad-3 l = rw (ne-eqb b e h) (rw (lt-leb 86400 b (omega arith)) (rw (le-leb 86400 e (omega arith))))
+
+      module _ (l : e ≤ 86399) where
+        pub bad-4 : d ≡ 0 → bad-window d b e ≡ true
+        unfolding bad-window
+        bad-4 z =
+            rw (ne-eqb b e h)
+            (rw (lt-leb 86400 b (omega arith)) (rw (lt-leb 86400 e (omega arith)) (rw (eq-eqb d 0 z))))
+
+        pub bad-5 : (d ≡ 0 → ⊥) → bad-window d b e ≡ ltb 127 d
+        unfolding bad-window
+        bad-5 z =
+            rw (ne-eqb b e h)
+            (rw (lt-leb 86400 b (omega arith)) (rw (lt-leb 86400 e (omega arith)) (rw (ne-eqb d 0 z))))
+
+pub window-is : (s : List ℕ) (p n : ℕ)
+    → windowC s p n ≡ by u8 (λ k. by u32 (λ b. by u32 (λ e. refuse-if 50 (bad-window k b e)))) s p n
+unfolding windowC
+window-is s p n = refl
+
+pub refused-is : (s : List ℕ) (p n k : ℕ) → refuse k s p n ≡ checked.Refused k
+unfolding refuse
+refused-is s p n k = refl
+
 -- ---- what the shut checks are
+
+-- a predicate of the kind k has w bytes, the kind itself counted
+pub skip-size : (w k : ℕ) (s : List ℕ) (p n : ℕ) → w ≡ predicate-size k →
+    skipC (w - 1) s p n ≡ skipC (predicate-size k - 1) s p n
+skip-size w k s p n e = ap (λ (x : ℕ). skipC (x - 1) s p n) e
 
 module _ (d : Declaration) (s : List ℕ) (p n : ℕ) where
   -- a value of the i-th entity, by the tests on the way
@@ -179,13 +224,14 @@ module _ (d : Declaration) (s : List ℕ) (p n : ℕ) where
   unfolding pairC
   pair-is = refl
 
-  pub predicate-is : predicateC d s p n ≡ by u8 (λ k. if eqb k 0 then pairC d else skipC 2) s p n
+  pub predicate-is : (banned : ℕ) → predicateC d banned s p n ≡ by u8 (λ k. if eqb k 0 then pairC d
+      else if eqb k 1 then skipC (predicate-size k - 1) else if eqb banned 0 then windowC else refuse banned) s p n
   unfolding predicateC
-  predicate-is = refl
+  predicate-is banned = refl
 
-  pub predicates-is : predicatesC d s p n ≡ by u16 (λ c. timesC c (predicateC d)) s p n
+  pub predicates-is : (banned : ℕ) → predicatesC d banned s p n ≡ by u16 (λ c. timesC c (predicateC d banned)) s p n
   unfolding predicatesC
-  predicates-is = refl
+  predicates-is banned = refl
 
   pub declared-no : (x i : ℕ) → i ≡ first-from (d .starts) x s (d .count) 0 → d .count ≤ i → declaredC d x s p n ≡ checked.Refused 15
   unfolding declaredC

@@ -1,14 +1,15 @@
 -- Checks over a file: what `validate` tests of each part, on places. A check goes over a part of the file, from a position
 -- on, with the number of actions so far; it ends at a position with the number of actions after it, or with a refusal.
 -- `proofs/Agrees` has, for each check, that it says what `Validate` says of the part that the reader of `File` finds there.
-use Prim.Native.Nat.{ℕ, zero, suc, _+_}
+use Prim.Native.Nat.{ℕ, zero, suc, _+_, _-_}
 use mathlib.Core.Bool.{Bool, true, false}
 use mathlib.Core.List.{List}
 use lib.Dec.{ltb, leb, eqb}
 use lib.ListN.{length, getD}
 use Rattle.texts.specs.Lists.{if_then_else_}
 use Rattle.model.specs.File.{got, broken, Reader, u8, u16, u32}
-use Rattle.model.specs.Validate.{day}
+use Rattle.model.specs.Validate.{day, bad-window}
+use Rattle.model_walk.specs.Walk.{predicate-size}
 use Rattle.model_parts.specs.declared.Section.{Section}
 use Rattle.model_check.specs.declared.Checked.{Checked}
 use Rattle.model_check.specs.declared.Checked.the-variants as checked
@@ -92,6 +93,10 @@ pub record Declaration : Type 0 where
 abbrev pub declaration : Declared → (starts : List ℕ) → Declaration
 declaration d l = record { count = d .count; starts = l; on = d .on; off = d .off; unknown = d .unknown; unavailable = d .unavailable }
 
+-- 50: a window's days, start and end
+unfoldable pub windowC : Check
+windowC = by u8 (λ k. by u32 (λ b. by u32 (λ e. refuse-if 50 (bad-window k b e))))
+
 -- ---- parts, against the entities that the model declares
 module _ (d : Declaration) where
   -- the number of the entity whose name is at the place x, or the count
@@ -114,11 +119,14 @@ module _ (d : Declaration) where
   unfoldable pub pairC : Check
   pairC = by u16 (λ x. by u16 (λ v. valueC x v))
 
-  unfoldable pub predicateC : Check
-  predicateC = by u8 (λ k. if eqb k 0 then pairC else skipC 2)
+  -- `banned` is the number that a window gets, or 0 where windows may stand
+  unfoldable pub predicateC : (banned : ℕ) → Check
+  predicateC banned = by u8 (λ k.
+      if eqb k 0 then pairC else if eqb k 1 then skipC (predicate-size k - 1)
+      else if eqb banned 0 then windowC else refuse banned)
 
-  unfoldable pub predicatesC : Check
-  predicatesC = by u16 (λ c. timesC c predicateC)
+  unfoldable pub predicatesC : (banned : ℕ) → Check
+  predicatesC banned = by u16 (λ c. timesC c (predicateC banned))
 
   -- 15: the entity isn't declared
   unfoldable pub declaredC : (x : ℕ) → Check

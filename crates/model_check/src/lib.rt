@@ -4,7 +4,8 @@ use model_parts::Section;
 use model_walk::Num;
 ghost use mathlib.Core.Path.{_≡_};
 ghost use Prim.Native.Nat.{_+_, _≤_, _<_};
-ghost use Rattle.model_check.specs.Checks.{declaration, skipC, dayC, place-is, among, listed-at, first-from, number-of, entity-valueC, valueC, pairC, predicateC, predicatesC, declaredC, optionalC, trigger-ofC, triggerC, triggersC};
+ghost use Rattle.model.specs.Validate.{bad-window};
+ghost use Rattle.model_check.specs.Checks.{declaration, skipC, dayC, place-is, among, listed-at, first-from, number-of, entity-valueC, valueC, pairC, windowC, predicateC, predicatesC, declaredC, optionalC, trigger-ofC, triggerC, triggersC};
 
 // The position after a part that passed and the actions counted so far, or the refusal.
 pub enum Checked {
@@ -189,9 +190,58 @@ pub fn pair_check(s: &[u8], d: Declared, entities: &[usize; 100], at: usize, n: 
 
 // ---- predicates
 
-pub fn predicate_check(s: &[u8], d: Declared, entities: &[usize; 100], at: usize, n: u32) -> Checked
+// Whether a window's days, start and end are refused.
+fn window_bad(days: u32, start: u32, end: u32) -> bool
+    ensures { λ r. ⌜ r ≡ bad-window days start end ⌝ }
+{
+    if start == end {
+        return true;
+    }
+    if 86399 < start {
+        return true;
+    }
+    if 86399 < end {
+        return true;
+    }
+    if days == 0 {
+        return true;
+    }
+    127 < days
+}
+
+// A window's days, start and end.
+fn window_check(s: &[u8], at: usize, n: u32) -> Checked
+    ensures { λ r. ⌜ r ≡ windowC (now (s .entry)) at n ⌝ }
+{
+    let x = model_walk::u8_at(s, at);
+    let Num::Is(days, p) = x else {
+        return Checked::Refused(30);
+    };
+    let y = model_walk::u32_at(s, p);
+    let Num::Is(start, q) = y else {
+        return Checked::Refused(30);
+    };
+    let z = model_walk::u32_at(s, q);
+    let Num::Is(end, next) = z else {
+        return Checked::Refused(30);
+    };
+    if window_bad(days, start, end) {
+        return Checked::Refused(50);
+    }
+    Checked::To(next, n)
+}
+
+// A predicate. A window is refused by the number `banned`, unless that is 0.
+pub fn predicate_check(
+    s: &[u8],
+    d: Declared,
+    entities: &[usize; 100],
+    banned: u32,
+    at: usize,
+    n: u32,
+) -> Checked
     requires { ⌜ d .count ≤ 100 ⌝ }
-    ensures { λ r. ⌜ r ≡ predicateC (declaration d (now (entities .entry))) (now (s .entry)) at n ⌝ }
+    ensures { λ r. ⌜ r ≡ predicateC (declaration d (now (entities .entry))) banned (now (s .entry)) at n ⌝ }
 {
     let x = model_walk::u8_at(s, at);
     let Num::Is(kind, p) = x else {
@@ -200,7 +250,13 @@ pub fn predicate_check(s: &[u8], d: Declared, entities: &[usize; 100], at: usize
     if kind == 0 {
         return pair_check(s, d, entities, p, n);
     }
-    skip(s, 2, p, n)
+    if kind == 1 {
+        return skip(s, model_walk::predicate_size(kind) as usize - 1, p, n);
+    }
+    if banned == 0 {
+        return window_check(s, p, n);
+    }
+    Checked::Refused(banned)
 }
 
 // A count, and as many predicates.
@@ -208,11 +264,12 @@ pub fn predicates_check(
     s: &[u8],
     d: Declared,
     entities: &[usize; 100],
+    banned: u32,
     at: usize,
     n: u32,
 ) -> Checked
     requires { ⌜ d .count ≤ 100 ⌝ }
-    ensures { λ r. ⌜ r ≡ predicatesC (declaration d (now (entities .entry))) (now (s .entry)) at n ⌝ }
+    ensures { λ r. ⌜ r ≡ predicatesC (declaration d (now (entities .entry))) banned (now (s .entry)) at n ⌝ }
 {
     let x = model_walk::u16_at(s, at);
     let Num::Is(count, start) = x else {
@@ -222,7 +279,7 @@ pub fn predicates_check(
     let mut p = start;
     let mut m = n;
     while 0 < left {
-        let y = predicate_check(s, d, entities, p, m);
+        let y = predicate_check(s, d, entities, banned, p, m);
         let Checked::To(q, k) = y else {
             return y;
         };

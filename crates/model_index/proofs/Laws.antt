@@ -10,7 +10,7 @@ use Rattle.model_walk.specs.declared.Num.{Num}
 use Rattle.model_walk.specs.declared.Num.the-variants as num
 use Rattle.model_walk.specs.declared.Walked.{Walked}
 use Rattle.model_walk.specs.declared.Walked.the-variants as walked
-use Rattle.model_walk.specs.Walk.{found, placeW, bytesW}
+use Rattle.model_walk.specs.Walk.{found, placeW, bytesW, or-zerosW}
 use Rattle.model_walk.proofs.Laws.{is-got, is-broken}
 use Rattle.model_parts.specs.declared.Section.{Section}
 use Rattle.model_parts.specs.declared.Part.the-variants as part
@@ -91,7 +91,8 @@ pub rest-is : (s : List ℕ) (c : ℕ) (f : Section → Section → ℕ → Sect
     on-section (sectionW (partW c part.Gap) s p₄ n₄) λ gaps p₅ n₅.
     on (bytesW 16 s p₅ n₅) λ p₆ n₆.
     on-section (sectionW (partW c part.Rule) s p₆ n₆) λ rules p₇ n₇.
-    closed s p₇ n₇ (f alphabet gaps p₅ rules)
+    on (or-zerosW (bytesW 8) s p₇ n₇) λ p₈ n₈.
+    closed s p₈ n₈ (f alphabet gaps p₅ rules)
     )
 unfolding restW
 rest-is s c f p₃ n₃ = refl

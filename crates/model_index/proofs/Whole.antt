@@ -11,7 +11,7 @@ use borrow.Author.Tests.{lt-ltb, le-ltb}
 use Rattle.texts.specs.Lists.{if_then_else_, flat, each}
 use Rattle.texts.specs.Texts.{Text}
 use Rattle.model.specs.Answer.{Answer, answer, refused}
-use Rattle.model.specs.Model.{Model, Entity, Event, Input, Invariant}
+use Rattle.model.specs.Model.{Model, Entity, Event, Input, Invariant, midnight}
 use Rattle.model.specs.Notes.{of-invariant, of-rule, notes-of}
 use Rattle.model.specs.File.{
   Got,
@@ -24,6 +24,8 @@ use Rattle.model.specs.File.{
   u32,
   times,
   counted,
+  or-zeros,
+  start,
   limits,
   texts,
   one-text,
@@ -46,9 +48,10 @@ use Rattle.model.specs.File.{
   made,
 }
 use Rattle.model_walk.specs.declared.Walked.{Walked}
-use Rattle.model_walk.specs.Walk.{capped, seen, Walk, placeW, bytesW}
+use Rattle.model_walk.specs.declared.Walked.the-variants as walked
+use Rattle.model_walk.specs.Walk.{capped, seen, Walk, placeW, bytesW, or-zerosW}
 use Rattle.model_walk.proofs.Laws.{bind-got, bind-broken, u32-in, u32-out}
-use Rattle.model_walk.proofs.Sees.{Sees, bind, last, quiet, marks, sees-counted, sees-place, sees-u32, bytes-sum}
+use Rattle.model_walk.proofs.Sees.{Sees, bind, last, quiet, marks, sees-counted, sees-place, sees-u32, sees-zeros, bytes-sum}
 use Rattle.model_parts.specs.declared.Section.{Section}
 use Rattle.model_parts.specs.declared.Part.the-variants as part
 use Rattle.model_parts.specs.Parts.{partW, sectionW, textW, entityW, eventW, invariantW, inputW, ruleW}
@@ -116,11 +119,13 @@ module _ (s : List ℕ) (size : ℕ) where
 
   -- a section: its reader is a count and its parts
   pub sec-bind : {A : Type 0} (v : A → ℕ) (u : List A → ℕ) → u [] ≡ 0 → ((x : A) (l : List A) → u (x ∷ l) ≡ v x + u l) → (r : Reader A) (j : Walk) → Sees v r j → (n p : ℕ) (k : List A → Reader Model) (f : Section → ℕ → ℕ → File) →
-      ((l : List A) (q : ℕ) → Holds r s (sectionW j s p (capped n)) l → Finds s (f (sectionW j s p (capped n)) q (capped (n + u l))) (decoded (k l s q) size)) →
+      ((l : List A) (q : ℕ) → sectionW j s p (capped n) .end ≡ walked.To q (capped (n + u l)) → Holds r s (sectionW j s p (capped n)) l → Finds s (f (sectionW j s p (capped n)) q (capped (n + u l))) (decoded (k l s q) size)) →
       Finds s (on-section (sectionW j s p (capped n)) f) (decoded ((counted r >>= k) s p) size)
-  unfolding on-section
+  unfolding on-section seen
   sec-bind v u z c r j e n p k f h =
-      on-bind u n (counted r) p k (sectionW j s p (capped n) .end) (section-ends j s p (capped n) ∙ sees-counted v u z c r j e n s p) (f (sectionW j s p (capped n))) (λ l q d. h l q (holds v r j e s p n d))
+      let w = section-ends j s p (capped n) ∙ sees-counted v u z c r j e n s p in
+      on-bind u n (counted r) p k (sectionW j s p (capped n) .end) w (f (sectionW j s p (capped n)))
+      (λ l q d. h l q (w ∙ ap (seen u n) d) (holds v r j e s p n d))
 
 -- ---- what a text section's reader found
 
@@ -173,6 +178,13 @@ sees-limits n s p =
     ∙ bind quiet n (n + 0 + 0) quiet u32 (bytesW 4) sees-u32 _ (bytesW 4) (λ d.
     last quiet n (n + 0 + 0 + 0) quiet u32 (bytesW 4) sees-u32 _ (λ c. omega arith)) s p) s p) s p
 
+sees-start : Sees quiet start (bytesW 8)
+unfolding start
+sees-start n s p =
+    bytes-sum 4 4 s p (capped n)
+    ∙ bind quiet n n quiet u32 (bytesW 4) sees-u32 _ _
+    (λ w. last quiet n (n + 0) quiet u32 (bytesW 4) sees-u32 _ (λ c. omega arith)) s p
+
 -- ---- notes
 
 flat-nil : {A : Type 0} (f : A → List Text) → length (flat f []) ≡ 0
@@ -216,7 +228,8 @@ body-with : (c : ℕ) (s : List ℕ) (v : ℕ) (x : Section) (at : ℕ) → x .c
     on-section (sectionW (partW c part.Gap) s p₄ n₄) λ gaps p₅ n₅.
     on (bytesW 16 s p₅ n₅) λ p₆ n₆.
     on-section (sectionW (partW c part.Rule) s p₆ n₆) λ rules p₇ n₇.
-    closed s p₇ n₇ (record { version = v; texts = x; title = at; entities = entities; events = events; invariants = invariants; alphabet = alphabet; gaps = gaps; limits = p₅; rules = rules })
+    on (or-zerosW (bytesW 8) s p₇ n₇) λ p₈ n₈.
+    closed s p₈ n₈ (record { version = v; texts = x; title = at; entities = entities; events = events; invariants = invariants; alphabet = alphabet; gaps = gaps; limits = p₅; rules = rules })
     )
 unfolding bodyW restW
 body-with c s v x at e = subst (λ (d : ℕ). bodyW s v x at ≡ (
@@ -229,7 +242,8 @@ body-with c s v x at e = subst (λ (d : ℕ). bodyW s v x at ≡ (
     on-section (sectionW (partW d part.Gap) s p₄ n₄) λ gaps p₅ n₅.
     on (bytesW 16 s p₅ n₅) λ p₆ n₆.
     on-section (sectionW (partW d part.Rule) s p₆ n₆) λ rules p₇ n₇.
-    closed s p₇ n₇ (record { version = v; texts = x; title = at; entities = entities; events = events; invariants = invariants; alphabet = alphabet; gaps = gaps; limits = p₅; rules = rules })
+    on (or-zerosW (bytesW 8) s p₇ n₇) λ p₈ n₈.
+    closed s p₈ n₈ (record { version = v; texts = x; title = at; entities = entities; events = events; invariants = invariants; alphabet = alphabet; gaps = gaps; limits = p₅; rules = rules })
     )) e refl
 
 -- what follows the head
@@ -241,7 +255,8 @@ after h =
     counted u32 >>= λ gs.
     limits >>= λ ls.
     counted (automation (h .texts)) >>= λ rs.
-    give (made h evs is al gs ls rs)
+    or-zeros midnight start >>= λ st.
+    give (made h evs is al gs ls rs st)
 
 module _ (s : List ℕ) (ts : List Text) (v at : ℕ) (x : Section) where
   body-says : ascending ts ≡ true → x .count ≡ length ts → Reads texts s 4 ts → Holds one-text s x ts →
@@ -251,13 +266,16 @@ module _ (s : List ℕ) (ts : List Text) (v at : ℕ) (x : Section) where
       subst (λ (y : File). Finds s y (decoded ((place ts >>= λ t. entities ts >>= λ es. after (record { version = v; texts = ts; title = t; entities = es })) s at) (length s))) (sym (body-with (length ts) s v x at e)) (
       on-bind s (length s) quiet 0 (place ts) at _ _ (sees-place ts 0 s at) _ λ t p₀ at-title.
       on-bind s (length s) quiet 0 (entities ts) p₀ _ _ (sees-entities ts asc s p₀) _ λ es p₁ are-entities.
-      sec-bind s (length s) quiet quiet refl (λ x l. refl) (event ts) (eventW (length ts)) (sees-event ts) 0 p₁ _ _ λ evs p₂ h-events.
-      sec-bind s (length s) (marks of-invariant) (marks (flat of-invariant)) (flat-nil of-invariant) (flat-more of-invariant) (invariant ts) (invariantW (length ts)) (sees-invariant ts) (0 + 0) p₂ _ _ λ is p₃ h-invariants.
-      sec-bind s (length s) quiet quiet refl (λ x l. refl) (input ts) (inputW (length ts)) (sees-input ts) (0 + 0 + length (flat of-invariant is)) p₃ _ _ λ al p₄ h-alphabet.
-      sec-bind s (length s) quiet quiet refl (λ x l. refl) u32 (bytesW 4) sees-u32 (0 + 0 + length (flat of-invariant is) + 0) p₄ _ _ λ gs p₅ h-gaps.
+      sec-bind s (length s) quiet quiet refl (λ x l. refl) (event ts) (eventW (length ts)) (sees-event ts) 0 p₁ _ _ λ evs p₂ _ h-events.
+      sec-bind s (length s) (marks of-invariant) (marks (flat of-invariant)) (flat-nil of-invariant) (flat-more of-invariant) (invariant ts) (invariantW (length ts)) (sees-invariant ts) (0 + 0) p₂ _ _ λ is p₃ _ h-invariants.
+      sec-bind s (length s) quiet quiet refl (λ x l. refl) (input ts) (inputW (length ts)) (sees-input ts) (0 + 0 + length (flat of-invariant is)) p₃ _ _ λ al p₄ _ h-alphabet.
+      sec-bind s (length s) quiet quiet refl (λ x l. refl) u32 (bytesW 4) sees-u32 (0 + 0 + length (flat of-invariant is) + 0) p₄ _ _ λ gs p₅ _ h-gaps.
       on-bind s (length s) quiet (0 + 0 + length (flat of-invariant is) + 0 + 0) limits p₅ _ _ (sees-limits (0 + 0 + length (flat of-invariant is) + 0 + 0) s p₅) _ λ ls p₆ at-limits.
-      sec-bind s (length s) (marks of-rule) (marks (flat of-rule)) (flat-nil of-rule) (flat-more of-rule) (automation ts) (ruleW (length ts)) (sees-rule ts) (0 + 0 + length (flat of-invariant is) + 0 + 0 + 0) p₆ _ _ λ rs p₇ h-rules.
-      ends s p₇ (0 + 0 + length (flat of-invariant is) + 0 + 0 + 0 + length (flat of-rule rs)) _ (made (record { version = v; texts = ts; title = t; entities = es }) evs is al gs ls rs) (omega (arith, in-model (made (record { version = v; texts = ts; title = t; entities = es }) evs is al gs ls rs)))
+      sec-bind s (length s) (marks of-rule) (marks (flat of-rule)) (flat-nil of-rule) (flat-more of-rule) (automation ts) (ruleW (length ts)) (sees-rule ts) (0 + 0 + length (flat of-invariant is) + 0 + 0 + 0) p₆ _ _ λ rs p₇ rules-end h-rules.
+      on-bind s (length s) quiet (0 + 0 + length (flat of-invariant is) + 0 + 0 + 0 + length (flat of-rule rs)) (or-zeros midnight start) p₇ _ _ (sees-zeros quiet midnight start (bytesW 8) refl sees-start (0 + 0 + length (flat of-invariant is) + 0 + 0 + 0 + length (flat of-rule rs)) s p₇) _ λ st p₈ at-start.
+      ends s p₈ (0 + 0 + length (flat of-invariant is) + 0 + 0 + 0 + length (flat of-rule rs) + 0) _
+      (made (record { version = v; texts = ts; title = t; entities = es }) evs is al gs ls rs st)
+      (omega (arith, in-model (made (record { version = v; texts = ts; title = t; entities = es }) evs is al gs ls rs st)))
       (record {
         ts = ts;
         all-texts = rt;
@@ -272,6 +290,10 @@ module _ (s : List ℕ) (ts : List Text) (v at : ℕ) (x : Section) where
         gaps = h-gaps;
         limits-at = (p₆, at-limits);
         rules = h-rules;
+        behind-rules = p₇;
+        notes = _;
+        rules-end = rules-end;
+        start-at = (p₈, at-start);
       }))
 
 -- ---- the whole file

@@ -9,7 +9,7 @@ use Rattle.texts.specs.Lists.{if_then_else_}
 use Rattle.model.specs.File.{got, broken, u32}
 use Rattle.model_walk.specs.declared.Walked.{Walked}
 use Rattle.model_walk.specs.declared.Walked.the-variants as walked
-use Rattle.model_walk.specs.Walk.{placeW, bytesW}
+use Rattle.model_walk.specs.Walk.{placeW, bytesW, or-zerosW}
 use Rattle.model_parts.specs.declared.Section.{Section}
 use Rattle.model_parts.specs.declared.Extent.{Extent}
 use Rattle.model_parts.specs.declared.Part.the-variants as part
@@ -109,7 +109,8 @@ restW s c f p₃ n₃ =
     on-section (sectionW (partW c part.Gap) s p₄ n₄) λ gaps p₅ n₅.
     on (bytesW 16 s p₅ n₅) λ p₆ n₆.
     on-section (sectionW (partW c part.Rule) s p₆ n₆) λ rules p₇ n₇.
-    closed s p₇ n₇ (f alphabet gaps p₅ rules)
+    on (or-zerosW (bytesW 8) s p₇ n₇) λ p₈ n₈.
+    closed s p₈ n₈ (f alphabet gaps p₅ rules)
 
 -- what follows the texts
 unfoldable pub bodyW : List ℕ → (version : ℕ) → Section → ℕ → File

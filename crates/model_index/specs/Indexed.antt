@@ -7,8 +7,9 @@ use lib.ListN.{length}
 use Rattle.texts.specs.Lists.{each}
 use Rattle.texts.specs.Texts.{Text}
 use Rattle.model.specs.Answer.{Answer, answer, refused}
-use Rattle.model.specs.Model.{Model}
-use Rattle.model.specs.File.{u32, limits, texts, one-text, place, entity, event, invariant, input, automation, ascending}
+use Rattle.model.specs.Model.{Model, midnight}
+use Rattle.model.specs.File.{u32, or-zeros, start, limits, texts, one-text, place, entity, event, invariant, input, automation, ascending}
+use Rattle.model_walk.specs.declared.Walked.the-variants as walked
 use Rattle.model_parts.specs.declared.Section.{Section}
 use Rattle.model_parts.specs.Stand.{Reads, Stand}
 use Rattle.model.specs.File.{Reader}
@@ -22,7 +23,8 @@ pub record Holds {A : Type 0} (r : Reader A) (s : List ℕ) (x : Section) (l : L
   pub counts : x .count ≡ length l
   pub stand : Stand r s (x .starts) l
 
--- the index is the model's: each position in it is where the reader of `File` finds that part of the model
+-- the index is the model's: each position in it is where the reader of `File` finds that part of the model, and the start
+-- stands where the automations end
 pub record Indexed (s : List ℕ) (i : Index) (m : Model) : Type 0 where
   pub ts : List Text
   pub all-texts : Reads texts s 4 ts
@@ -37,6 +39,10 @@ pub record Indexed (s : List ℕ) (i : Index) (m : Model) : Type 0 where
   pub gaps : Holds u32 s (i .gaps) (m .scenario .gaps)
   pub limits-at : Reads limits s (i .limits) (m .scenario .limits)
   pub rules : Holds (automation ts) s (i .rules) (m .rules)
+  pub behind-rules : ℕ
+  pub notes : ℕ
+  pub rules-end : i .rules .end ≡ walked.To behind-rules notes
+  pub start-at : Reads (or-zeros midnight start) s behind-rules (m .start)
 
 -- the answer for a file that decodes to a model: all that the walk over the file finds, with the ends of the sections and
 -- the zeros behind the last positions, and its index is the model's

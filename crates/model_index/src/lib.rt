@@ -161,7 +161,8 @@ pub fn file_of(
     File { status, index }
 }
 
-// What follows the invariants. At the end there are at most 64 notes, and no byte is left over.
+// What follows the invariants: the start stands where the automations end, unless the file ends there. At the end there are
+// at most 64 notes, and no byte is left over.
 fn rest_at(
     s: &[u8],
     front: Front,
@@ -194,10 +195,14 @@ fn rest_at(
     let Walked::To(p7, n7) = k else {
         return refusal(30);
     };
-    if 64 < n7 {
+    let u = model_walk::bytes_or_end_at(s, 8, p7, n7);
+    let Walked::To(p8, n8) = u else {
+        return refusal(30);
+    };
+    if 64 < n8 {
         return refusal(30);
     }
-    if p7 < s.len() {
+    if p8 < s.len() {
         return refusal(31);
     }
     Outline {

@@ -9,8 +9,9 @@ use borrow.Author.Tests.{ltb-false}
 use Rattle.texts.specs.Lists.{if_then_else_}
 use Rattle.model.specs.Answer.{answer, refused}
 use Rattle.model.specs.Notes.{notes-of}
-use Rattle.model.specs.Model.{Model, Event}
-use Rattle.model.specs.File.{Got, got, broken, Reader, _>>=_, give, u32, counted, limits, texts, place, input, invariant, automation, Head, head, events, entities, model, decoded, decode, made}
+use Rattle.model.specs.Model.{Model, Event, midnight}
+use Rattle.model.specs.File
+use Rattle.model.specs.File.{Got, got, broken, Reader, _>>=_, give, u32, counted, or-zeros, limits, texts, place, input, invariant, automation, Head, head, events, entities, model, decoded, decode, made}
 use Rattle.model_walk.proofs.Found.{Case, is-true, is-false, case, bound, given, u32-wide}
 
 -- what follows the events
@@ -21,7 +22,8 @@ after h evs =
     counted u32 >>= λ gs.
     limits >>= λ ls.
     counted (automation (h .texts)) >>= λ rs.
-    give (made h evs is al gs ls rs)
+    or-zeros midnight File.start >>= λ st.
+    give (made h evs is al gs ls rs st)
 
 pub model-is : (s : List ℕ) (p : ℕ) → model s p ≡ (head >>= λ h. events h >>= λ evs. after h evs) s p
 unfolding model after
@@ -35,7 +37,8 @@ after-events h evs s p m q e =
     let g = bound (counted u32) _ (a .rest) in
     let l = bound limits _ (g .rest) in
     let r = bound (counted (automation (h .texts))) _ (l .rest) in
-    ap (λ (x : Model). x .scenario .events) (sym (given _ _ _ (r .rest) .0))
+    let s = bound (or-zeros midnight File.start) _ (r .rest) in
+    ap (λ (x : Model). x .scenario .events) (sym (given _ _ _ (s .rest) .0))
 
 pub record Opened (f : List ℕ) (m : Model) : Type 0 where
   pub h : Head

@@ -1,5 +1,5 @@
--- Every reader of the model file looks only at the bytes that it takes: what it finds in a file is found wherever those
--- bytes stand.
+-- Every reader of the model file up to the automations looks only at the bytes that it takes: what it finds in a file is
+-- found wherever those bytes stand. What stands behind the automations is in Behind.antt.
 use mathlib.Core.Path.{_≡_, refl, sym, ap, _∙_, subst}
 use mathlib.Core.List.{List, [], _∷_, _++_, append-assoc}
 use mathlib.Core.Bool.{Bool, true, false}
@@ -191,7 +191,7 @@ module _ (ts : List Text) where
         local-bind _ _ local-place λ e. local-bind _ _ local-place λ v. local-give _,
         (
           local-bind _ _ local-place λ r. local-give _,
-          tt,
+          (local-bind _ _ local-u8 λ d. local-bind _ _ local-u32 λ b. local-bind _ _ local-u32 λ e. local-give _, tt),
         ),
       )
 

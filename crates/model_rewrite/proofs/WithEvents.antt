@@ -4,8 +4,8 @@ use mathlib.Core.List.{List, [], _∷_, _++_, append-assoc, append-nil}
 use mathlib.Core.Bool.{true}
 use Prim.Native.Nat.{ℕ, zero, suc, _+_, _*_, _-_, _/_, _%_, _≤_, _<_}
 use native.Mathlib.Omega.{arith}
-use lib.ListN.{length, getD, take, drop, length-append, length-drop, drop-of-length-le}
-use lib.Seq.{take-at, length-take-le}
+use lib.ListN.{length, getD, take, drop, length-append, length-drop}
+use lib.Seq.{take-at, drop-at, length-take-le}
 use lib.Dec.{ltb}
 use borrow.Author.Tests.{lt-ltb, le-ltb}
 use Rattle.texts.specs.Lists.{flat}
@@ -13,12 +13,14 @@ use Rattle.texts.specs.Texts.{Text}
 use Rattle.model.specs.Answer.{Answer, answer}
 use Rattle.model.specs.Notes.{notes-of}
 use Rattle.model.specs.Model.{Model, Event, Input, reload, with-events}
-use Rattle.model.specs.File.{got, Reader, _>>=_, give, refuse, require, u8, u16, u32, times, counted, kinds, texts, place, input, event, events, Head, head, ascending, model, decoded, decode, input-kinds}
+use Rattle.model.specs.File.{got, refuse, require, u8, u16, u32, times, counted, kinds, texts, place, input, event, events, Head, head, ascending, model, decoded, decode, input-kinds}
 use Rattle.model.specs.Events.{Some, no-more, skip, keep}
 use Rattle.model.specs.Rewrite.{bytes2, bytes4, place-of, input-bytes, event-bytes, events-bytes, rewritten}
+use Rattle.model_walk.proofs.Laws.{bind-got}
 use Rattle.model_walk.proofs.Found.{bound, given, refused, kind-found, counted-found, place-found, u8-wide, u16-wide, u32-wide}
 use Rattle.model_parts.specs.Stand.{Reads}
-use Rattle.model_rewrite.proofs.Spelled.{Spells, Spelled, Local, spells-give, spells-bind, spells-last, spells-require, spells-u8, local-u32, local-counted, local-input, local-invariant, local-limits, local-automation}
+use Rattle.model_rewrite.proofs.Spelled.{Spells, spells-give, spells-bind, spells-last, spells-require, spells-u8, local-u32, local-counted, local-input, local-invariant, local-limits, local-automation}
+use Rattle.model_rewrite.proofs.Behind.{Found, Twin, twin-give, twin-bind, twin-zeros, local-start}
 use Rattle.model_rewrite.proofs.Opened.{Opened, opened, after, model-is}
 use Rattle.model_rewrite.proofs.Agrees.{place-is, head-ascends, first-part, start-inside, end-inside, rewritten-is, same-texts}
 
@@ -94,32 +96,6 @@ module _ (ts : List Text) (asc : ascending ts ≡ true) where
 
 -- ---- what follows the events is read as before
 
--- what the reader r finds, the reader r′ finds as `g` of it, in the same bytes
-abbrev Twin : {A : Type 0} → Reader A → Reader A → (A → A) → Type 0
-Twin {A} r r′ g = (s : List ℕ) (p : ℕ) (a : A) (q : ℕ) → r s p ≡ got a q → Spelled r′ s p (g a) q
-
-twin-bind : {A B : Type 0} (r : Reader A) (k k′ : A → Reader B) (g : B → B) → Local r → ((a : A) → Twin (k a) (k′ a) g) → Twin (r >>= k) (r >>= k′) g
-twin-bind r k k′ g f t s p b q e =
-    let x = bound r k e in
-    let y = f s p (x .value) (x .next) (x .first) in
-    let z = t (x .value) s (x .next) b q (x .rest) in
-    record {
-      bytes = y .bytes ++ z .bytes;
-      stands = y .stands ∙ ap (λ (l : List ℕ). y .bytes ++ l) (z .stands) ∙ sym (append-assoc (y .bytes) (z .bytes) (drop q s));
-      ends = omega (arith, y .ends, z .ends, length-append (y .bytes) (z .bytes));
-      spells = spells-bind r k′ (y .bytes) (z .bytes) (y .spells) (z .spells);
-    }
-
-twin-give : {A : Type 0} (b : A) (g : A → A) → Twin (give b) (give (g b)) g
-twin-give b g s p a q e =
-    let h = given s p b e in
-    record {
-      bytes = [];
-      stands = ap (λ (i : ℕ). drop i s) (h .1);
-      ends = omega (arith, h .1);
-      spells = subst (λ (x : _). Spells (give (g b)) (g x) []) (h .0) (spells-give (g b));
-    }
-
 after-twin : (h : Head) (old vs : List Event) → Twin (after h old) (after h vs) (with-events vs)
 unfolding after
 after-twin h old vs =
@@ -128,6 +104,7 @@ after-twin h old vs =
     twin-bind _ _ _ _ (local-counted _ local-u32) λ gs.
     twin-bind _ _ _ _ local-limits λ ls.
     twin-bind _ _ _ _ (local-counted _ (local-automation (h .texts))) λ rs.
+    twin-zeros _ _ _ _ _ local-start λ st.
     twin-give _ _
 
 module _ (f : List ℕ) (m : Model) (o : Opened f m) where
@@ -142,33 +119,49 @@ module _ (f : List ℕ) (m : Model) (o : Opened f m) where
       ap (take (o .start)) (x .stands) ∙ take-at (x .bytes) (drop (o .start) f) (o .start) (omega (arith, x .ends))
 
   module _ (vs : List Event) where
-    rest-part : Spelled (after (o .h) vs) f (o .end) (with-events vs m) (o .last)
-    rest-part = after-twin (o .h) (m .scenario .events) vs f (o .end) m (o .last) (o .is-after)
+    -- what stands before the rest
+    abbrev before : List ℕ
+    before = first-part f m o .bytes ++ events-bytes ts vs
 
-    rest-bytes : drop (o .end) f ≡ rest-part .bytes
-    rest-bytes =
-        rest-part .stands
-        ∙ ap (λ (l : List ℕ). rest-part .bytes ++ l) (drop-of-length-le f {i = o .last} (o .whole))
-        ∙ append-nil (rest-part .bytes)
+    new-bytes : rewritten f vs ≡ before ++ drop (o .end) f
+    new-bytes = rewritten-is f m o vs ∙ rw start-bytes
 
-    new-bytes : rewritten f vs ≡ first-part f m o .bytes ++ (events-bytes ts vs ++ rest-part .bytes)
-    new-bytes =
-        rewritten-is f m o vs
-        ∙ append-assoc (take (o .start) f) (events-bytes ts vs) (drop (o .end) f)
-        ∙ rw (start-bytes, rest-bytes)
+    -- the rest is read as it was
+    rest-found : Found (after (o .h) vs) (rewritten f vs) (o .end) (length before) (with-events vs m) (o .last)
+    rest-found =
+        after-twin (o .h) (m .scenario .events) vs f (rewritten f vs) (o .end) (length before)
+        (sym (ap (drop (length before)) new-bytes ∙ drop-at before (drop (o .end) f) (length before) refl))
+        m (o .last) (o .is-after)
 
     module _ (fit : AllFit ts vs) where
-      new-spelled : Spells (head >>= λ h. events h >>= λ evs. after h evs) (with-events vs m) (first-part f m o .bytes ++ (events-bytes ts vs ++ rest-part .bytes))
+      new-model : model (rewritten f vs) 0 ≡ got (with-events vs m) (length before + rest-found .count)
       unfolding events
-      new-spelled =
-          spells-bind head _ (first-part f m o .bytes) (events-bytes ts vs ++ rest-part .bytes) (first-part f m o .spells)
-          (spells-bind (counted (event ts)) (λ evs. after (o .h) evs) (events-bytes ts vs) (rest-part .bytes) (spells-events ts (head-ascends f m o) vs fit) (rest-part .spells))
-
-      new-model : model (rewritten f vs) 0 ≡ got (with-events vs m) (length (rewritten f vs))
       new-model =
-          model-is (rewritten f vs) 0
-          ∙ new-spelled (rewritten f vs) 0 [] (new-bytes ∙ sym (append-nil _))
-          ∙ ap (got (with-events vs m)) (omega (arith, ap length new-bytes))
+          let n = first-part f m o .bytes in
+          let g = rewritten f vs in
+          let h = first-part f m o .spells g 0 (events-bytes ts vs ++ drop (o .end) f)
+          (new-bytes ∙ append-assoc n (events-bytes ts vs) (drop (o .end) f)) in
+          let v = spells-events ts (head-ascends f m o) vs fit g (length n) (drop (o .end) f)
+          (ap (drop (length n)) (new-bytes ∙ append-assoc n (events-bytes ts vs) (drop (o .end) f))
+          ∙ drop-at n (events-bytes ts vs ++ drop (o .end) f) (length n) refl) in
+          model-is g 0
+          ∙ bind-got head _ (h ∙ ap (got (o .h)) (omega arith))
+          ∙ bind-got (counted (event ts)) (λ evs. after (o .h) evs)
+          (v ∙ ap (got vs) (sym (length-append n (events-bytes ts vs))))
+          ∙ rest-found .again
+
+      -- up to its end
+      new-whole : length (rewritten f vs) ≤ length before + rest-found .count
+      new-whole =
+          omega (
+            arith,
+            ap length new-bytes,
+            length-append before (drop (o .end) f),
+            length-drop (o .end) f,
+            end-inside f m o,
+            rest-found .ends,
+            o .whole,
+          )
 
 notes-same : (vs : List Event) (m : Model) → notes-of (with-events vs m) ≡ notes-of m
 unfolding notes-of
@@ -183,7 +176,10 @@ decodes f m dec ts r vs fit h =
     let w = subst (λ (l : List Text). AllFit l vs) (same-texts f m o ts r) fit in
     let n : length (notes-of (with-events vs m)) ≤ 64 = rw notes-same (o .few-notes) in
     rw (le-ltb 32768 (length (rewritten f vs)) h, new-model f m o vs w, decoded)
-    (rw (le-ltb 64 (length (notes-of (with-events vs m))) n, le-ltb (length (rewritten f vs)) (length (rewritten f vs)) (omega arith)))
+    (rw (
+      le-ltb 64 (length (notes-of (with-events vs m))) n,
+      le-ltb (length (before f m o vs) + rest-found f m o vs .count) (length (rewritten f vs)) (new-whole f m o vs w),
+    ))
 
 -- a longer one is not read
 pub too-long : (f : List ℕ) (vs : List Event) → 32768 < length (rewritten f vs) → decode (rewritten f vs) ≡ Answer.refused 30

@@ -15,7 +15,7 @@ use Rattle.model.specs.Answer.{Answer, answer, refused, Verdict, accept, _>>=_,
 use Rattle.model.specs.Model.{Entity, Predicate, Trigger, Automation, Input, reload, Event, Invariant, never, guard, transition, response, id-of}
 use Rattle.model.specs.File.{_>>=_ as _>>=ᵣ_}
 use Rattle.model.specs.File.{got, Reader, give, refuse, u8, u16, u32, times, counted, number?, source, mode, texts, place, predicate, trigger, entity, input, event, invariant, actions, automation}
-use Rattle.model.specs.Validate.{day, bad-length, doubles, ordered, bad-entity, bad-bounds, check-value, check-predicate, check-trigger, check-input, check-entity, check-conditions, check-invariant, check-invariants, check-actions, check-rule, check-rules}
+use Rattle.model.specs.Validate.{day, bad-length, doubles, ordered, bad-entity, bad-bounds, check-value, check-predicate, check-stated, check-trigger, check-input, check-entity, check-conditions, check-invariant, check-invariants, check-actions, check-rule, check-rules}
 use Rattle.model_walk.proofs.Found as found
 use Rattle.model_walk.proofs.Found.{Case, is-true, is-false, case, bound, given, Wide, u16-wide, u32-wide, kind-wide, Counted, counted-found, Kind, kind-found, place-found, EntityParts, entity-found}
 use Rattle.model_walk.proofs.Sees.{sees-mode}
@@ -30,7 +30,7 @@ use Rattle.model_check.specs.declared.Checked.the-variants as checked
 use Rattle.model_check.specs.Checks.{Declaration, and-then, _⨾_, stay, skipC, dayC, place-is, among, valueC, pairC, predicateC, predicatesC, triggersC}
 use Rattle.model_actions.specs.Actions.{actionsC}
 use Rattle.model_check.proofs.Laws as checks
-use Rattle.model_check.proofs.Agrees.{after, after-same, and-bind, and-assoc, eqb-sym, or-is, by-got, next, next-and, skip-wide, skip-then, stays, Grounded, among-agrees, value-agrees, pair-agrees, predicate-agrees, predicates-agree, triggers-agree, day-agrees}
+use Rattle.model_check.proofs.Agrees.{after, after-same, and-bind, and-assoc, eqb-sym, or-is, by-got, next, next-and, skip-wide, skip-then, stays, Grounded, among-agrees, value-agrees, pair-agrees, stated-agrees, predicates-agree, all-stated-agree, triggers-agree, day-agrees}
 use Rattle.model_actions.proofs.Agrees.{actions-agree}
 use Rattle.model_sections.specs.declared.Part.{Part}
 use Rattle.model_sections.specs.declared.Part.the-variants as part
@@ -269,10 +269,10 @@ module _ (s : List ℕ) (ts : List Text) (all-texts : Reads texts s 4 ts) where
         let c = counted-found (predicate ts) e in
         let o : c .count ≡ length l = sym (times-length (predicate ts) s (c .count) (c .start) (c .are-values)) in
         rw (c .is-count, conditionsC) (
-        ap (λ (y : Checked). if eqb (c .count) 0 || ltb 32 (c .count) then checked.Refused 11 else y) (predicates-agree s d ts es g p n l q e)
-        ∙ ap (λ (i : ℕ). if eqb i 0 || ltb 32 i then checked.Refused 11 else after q (each-accepted (check-predicate es) l and answer n)) o
-        ∙ ap (λ (b : Bool). if b || ltb 32 (length l) then checked.Refused 11 else after q (each-accepted (check-predicate es) l and answer n)) (sym (empty-is l))
-        ∙ tested 11 (is-empty l || ltb 32 (length l)) (each-accepted (check-predicate es) l) q n)
+        ap (λ (y : Checked). if eqb (c .count) 0 || ltb 32 (c .count) then checked.Refused 11 else y) (all-stated-agree s d ts es g p n l q e)
+        ∙ ap (λ (i : ℕ). if eqb i 0 || ltb 32 i then checked.Refused 11 else after q (each-accepted (check-stated es) l and answer n)) o
+        ∙ ap (λ (b : Bool). if b || ltb 32 (length l) then checked.Refused 11 else after q (each-accepted (check-stated es) l and answer n)) (sym (empty-is l))
+        ∙ tested 11 (is-empty l || ltb 32 (length l)) (each-accepted (check-stated es) l) q n)
 
     invariant-kinds : List (Reader Invariant)
     invariant-kinds =
@@ -320,13 +320,13 @@ module _ (s : List ℕ) (ts : List Text) (all-texts : Reads texts s 4 ts) where
         ∙ ap (λ (w : Text). after q (check-value es x f and (check-value es x w and answer n))) (sym (u .is-text))
         ∙ after-same q (sym (and-assoc (check-value es x f) (check-value es x t) (answer n)))
 
-    response-agrees : (p n : ℕ) {a b : Predicate} {k o r q : ℕ} → predicate ts s p ≡ got a o → predicate ts s o ≡ got b r → u32 s r ≡ got k q → responseC d s p n ≡ after q ((check-predicate es a and check-predicate es b and 12 when ltb day k) and answer n)
+    response-agrees : (p n : ℕ) {a b : Predicate} {k o r q : ℕ} → predicate ts s p ≡ got a o → predicate ts s o ≡ got b r → u32 s r ≡ got k q → responseC d s p n ≡ after q ((check-stated es a and check-stated es b and 12 when ltb day k) and answer n)
     response-agrees p n {a} {b} {k} {o} {r} {q} e f h =
         laws.response-is d s p n
-        ∙ next-and s (predicateC d) (predicateC d ⨾ dayC 12) p n o q (check-predicate es a) (λ m. check-predicate es b and (12 when ltb day k and answer m))
-        (predicate-agrees s d ts es g p n a o e)
-        (λ m. next-and s (predicateC d) (dayC 12) o m r q (check-predicate es b) (λ i. 12 when ltb day k and answer i) (predicate-agrees s d ts es g o m b r f) (λ i. day-agrees s d ts es g 12 r i k q h))
-        ∙ after-same q (sym (and-assoc (check-predicate es a) (check-predicate es b and 12 when ltb day k) (answer n) ∙ ap (λ (w : Answer ℕ). check-predicate es a and w) (and-assoc (check-predicate es b) (12 when ltb day k) (answer n))))
+        ∙ next-and s (predicateC d 51) (predicateC d 51 ⨾ dayC 12) p n o q (check-stated es a) (λ m. check-stated es b and (12 when ltb day k and answer m))
+        (stated-agrees s d ts es g p n a o e)
+        (λ m. next-and s (predicateC d 51) (dayC 12) o m r q (check-stated es b) (λ i. 12 when ltb day k and answer i) (stated-agrees s d ts es g o m b r f) (λ i. day-agrees s d ts es g 12 r i k q h))
+        ∙ after-same q (sym (and-assoc (check-stated es a) (check-stated es b and 12 when ltb day k) (answer n) ∙ ap (λ (w : Answer ℕ). check-stated es a and w) (and-assoc (check-stated es b) (12 when ltb day k) (answer n))))
 
     invariant-found : (p : ℕ) (a : Invariant) (q : ℕ) → invariant ts s p ≡ got a q → InvariantParts p a q
     unfolding invariant invariant-kinds id-of check-invariant
@@ -497,9 +497,9 @@ module _ (s : List ℕ) (ts : List Text) (all-texts : Reads texts s 4 ts) where
         after (x .end) (each-accepted (check-trigger es) (a .triggers) and (each-accepted (check-predicate es) (a .conditions) and check-actions es (a .actions) 0 n))
     lists-agree n p a x =
         laws.lists-are d s (x .triggers .start) n (x .triggers .count)
-        ∙ next-and s (triggersC d (x .triggers .count)) (predicatesC d ⨾ actionsC d 17) (x .triggers .start) n (x .at-conditions) (x .end) (each-accepted (check-trigger es) (a .triggers)) (λ m. each-accepted (check-predicate es) (a .conditions) and check-actions es (a .actions) 0 m)
+        ∙ next-and s (triggersC d (x .triggers .count)) (predicatesC d 0 ⨾ actionsC d 17) (x .triggers .start) n (x .at-conditions) (x .end) (each-accepted (check-trigger es) (a .triggers)) (λ m. each-accepted (check-predicate es) (a .conditions) and check-actions es (a .actions) 0 m)
         (triggers-agree s d ts es g (x .triggers .count) (x .triggers .start) n (a .triggers) (x .at-conditions) (x .triggers .are-values))
-        (λ m. next-and s (predicatesC d) (actionsC d 17) (x .at-conditions) m (x .at-actions) (x .end) (each-accepted (check-predicate es) (a .conditions)) (λ i. check-actions es (a .actions) 0 i)
+        (λ m. next-and s (predicatesC d 0) (actionsC d 17) (x .at-conditions) m (x .at-actions) (x .end) (each-accepted (check-predicate es) (a .conditions)) (λ i. check-actions es (a .actions) 0 i)
         (predicates-agree s d ts es g (x .at-conditions) m (a .conditions) (x .at-actions) (x .conditions-at))
         (λ i. actions-agree s d ts es g 17 0 refl (x .at-actions) i (a .actions) (x .end) (x .actions-at)))
 

@@ -306,7 +306,7 @@ module _ (d : Declaration) (s : List ℕ) (p n : ℕ) where
       unfolding conditionsC
       conditions-many k m = rw (is-got e h, conditionsC) (rw (ne-eqb c 0 k, lt-ltb 32 c m))
 
-      pub conditions-are : (c ≡ 0 → ⊥) → c ≤ 32 → conditionsC d s p n ≡ predicatesC d s p n
+      pub conditions-are : (c ≡ 0 → ⊥) → c ≤ 32 → conditionsC d s p n ≡ predicatesC d 51 s p n
       unfolding conditionsC
       conditions-are k m = rw (is-got e h, conditionsC) (rw (ne-eqb c 0 k, le-ltb 32 c m))
 
@@ -318,7 +318,7 @@ module _ (d : Declaration) (s : List ℕ) (p n : ℕ) where
   unfolding transitionC
   transition-is = refl
 
-  pub response-is : responseC d s p n ≡ (predicateC d ⨾ predicateC d ⨾ dayC 12) s p n
+  pub response-is : responseC d s p n ≡ (predicateC d 51 ⨾ predicateC d 51 ⨾ dayC 12) s p n
   unfolding responseC
   response-is = refl
 
@@ -360,7 +360,7 @@ module _ (d : Declaration) (s : List ℕ) (p n : ℕ) where
 
   -- ---- automations
 
-  pub lists-are : (t : ℕ) → listsC d t s p n ≡ (triggersC d t ⨾ predicatesC d ⨾ actionsC d 17) s p n
+  pub lists-are : (t : ℕ) → listsC d t s p n ≡ (triggersC d t ⨾ predicatesC d 0 ⨾ actionsC d 17) s p n
   unfolding listsC
   lists-are t = refl
 

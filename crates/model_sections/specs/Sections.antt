@@ -121,10 +121,10 @@ bad-counts m t c = eqb m 0 || ltb 16 m || eqb t 0 || ltb 16 t || ltb 32 c
 
 -- ---- invariants
 module _ (d : Declaration) where
-  -- 11: no predicate, or too many
+  -- 11: no predicate, or too many; 51: one is a window
   unfoldable pub conditionsC : Check
   conditionsC s p n = elim (u16 s p) [
-    | got c q ↦ if eqb c 0 || ltb 32 c then checked.Refused 11 else predicatesC d s p n
+    | got c q ↦ if eqb c 0 || ltb 32 c then checked.Refused 11 else predicatesC d 51 s p n
     | broken ↦ checked.Refused 30
   ]
 
@@ -135,7 +135,7 @@ module _ (d : Declaration) where
   transitionC = by u16 (λ x. by u16 (λ f. by u16 (λ t. valueC d x f ⨾ valueC d x t)))
 
   unfoldable pub responseC : Check
-  responseC = predicateC d ⨾ predicateC d ⨾ dayC 12
+  responseC = predicateC d 51 ⨾ predicateC d 51 ⨾ dayC 12
 
   -- what follows an invariant's kind and its identifier
   unfoldable pub invariant-ofC : (kind : ℕ) → Check
@@ -158,7 +158,7 @@ module _ (d : Declaration) where
 
   -- triggers, conditions and actions, whose counts are right
   unfoldable pub listsC : (triggers : ℕ) → Check
-  listsC t = triggersC d t ⨾ predicatesC d ⨾ actionsC d 17
+  listsC t = triggersC d t ⨾ predicatesC d 0 ⨾ actionsC d 17
 
   -- what stands from the triggers' count on
   unfoldable pub rule-listsC : (max : ℕ) → Check

@@ -307,7 +307,7 @@ fn conditions_check(s: &[u8], d: Declared, entities: &[usize; 100], at: usize, n
     if 32 < count {
         return Checked::Refused(11);
     }
-    model_check::predicates_check(s, d, entities, at, n)
+    model_check::predicates_check(s, d, entities, 51, at, n)
 }
 
 fn guard_check(s: &[u8], d: Declared, entities: &[usize; 100], at: usize, n: u32) -> Checked
@@ -356,11 +356,11 @@ fn response_check(s: &[u8], d: Declared, entities: &[usize; 100], at: usize, n: 
     requires { ⌜ d .count ≤ 100 ⌝ }
     ensures { λ r. ⌜ r ≡ responseC (declaration d (now (entities .entry))) (now (s .entry)) at n ⌝ }
 {
-    let a = model_check::predicate_check(s, d, entities, at, n);
+    let a = model_check::predicate_check(s, d, entities, 51, at, n);
     let Checked::To(p, k) = a else {
         return a;
     };
-    let b = model_check::predicate_check(s, d, entities, p, k);
+    let b = model_check::predicate_check(s, d, entities, 51, p, k);
     let Checked::To(q, l) = b else {
         return b;
     };
@@ -453,7 +453,7 @@ fn lists_check(
     let Checked::To(p, k) = a else {
         return a;
     };
-    let b = model_check::predicates_check(s, d, entities, p, k);
+    let b = model_check::predicates_check(s, d, entities, 0, p, k);
     let Checked::To(q, l) = b else {
         return b;
     };

@@ -14,7 +14,7 @@ use Rattle.model.specs.Answer.{Answer, answer, refused, Verdict, _>>=_, _and_, 
 use Rattle.model.specs.Model.{Entity, Input, Event, Invariant, Limits, Scenario, Model}
 use Rattle.model.specs.File.{_>>=_ as _>>=ᵣ_}
 use Rattle.model.specs.File.{got, Reader, u32, limits, texts, entity, input, event, invariant, automation, decode}
-use Rattle.model.specs.Validate.{day, ordered, bad-title, bad-size, bad-limits, bad-alphabet, bad-events, check-input, check-entity, check-invariants, check-rules, validate, accepted}
+use Rattle.model.specs.Validate.{day, ordered, bad-title, bad-size, bad-limits, bad-start, bad-alphabet, bad-events, check-input, check-entity, check-invariants, check-rules, validate, accepted}
 use Rattle.model_walk.proofs.Found as found
 use Rattle.model_walk.proofs.Found.{Case, is-true, is-false, case, bound, given, place-found}
 use Rattle.model_parts.specs.declared.Section.{Section}
@@ -40,7 +40,7 @@ use Rattle.model_validate.specs.Answers.{validity-of, validated}
 use Rattle.model_validate.specs.declared.Numbers.{Numbers}
 use Rattle.model_sections.specs.declared.Part.the-variants as part
 use Rattle.model_sections.specs.Sections.{seconds-bad, gaps-bad, partsC}
-use Rattle.model_validate.specs.Whole.{title-bad, size-bad, limits-bad, alphabet-bad, ordersC, Small, sectionsC, modelC, declared-in, declared-of, numbers-of, indexC}
+use Rattle.model_validate.specs.Whole.{title-bad, size-bad, limits-bad, start-bad, alphabet-bad, ordersC, Small, sectionsC, modelC, declared-in, declared-of, numbers-of, indexC}
 use Rattle.model_sections.proofs.Laws as parts
 use Rattle.model_sections.proofs.Agrees.{empty-is, from-start, section-agrees, no-ids, entity-agrees, event-agrees, input-agrees, invariants-agree, rules-agree, ordered-all, seconds-agree, gaps-agree}
 use Rattle.model_validate.proofs.Laws as laws
@@ -81,6 +81,10 @@ third true e g h = refl
 third false true g h = refl
 third false false g h = refl
 
+or-if : {A : Type 0} (a b : Bool) (x y : A) → (if a then x else if b then x else y) ≡ (if a || b then x else y)
+or-if true b x y = refl
+or-if false b x y = refl
+
 horizon-of : (s : List ℕ) (p : ℕ) (l : Limits) (q : ℕ) → limits s p ≡ got l q → (o : ℕ) × (u32 s p ≡ got (l .horizon) o)
 unfolding limits
 horizon-of s p l q e =
@@ -119,6 +123,9 @@ module _ (s : List ℕ) (i : Index) (m : Model) (x : Indexed s i m) where
 
   limits-agree : limits-bad s (i .limits) ≡ bad-limits (sc .limits)
   limits-agree = laws.limits-read s (i .limits) (x .limits-at .1)
+
+  start-agrees : start-bad s (i .rules .end) ≡ bad-start (m .start)
+  start-agrees = laws.start-read s (x .rules-end) (x .start-at .1)
 
   alphabet-agrees : alphabet-bad s nn (i .gaps .starts) ≡ bad-alphabet sc
   unfolding alphabet-bad bad-alphabet
@@ -206,11 +213,12 @@ module _ (s : List ℕ) (i : Index) (m : Model) (x : Indexed s i m) where
   unfolding modelC validate
   model-agrees =
       let es = sc .entities in
-      rw (title-agrees, limits-agree) (
+      rw (title-agrees, limits-agree, start-agrees) (
       ahead m 1 (bad-title sc) _ _ λ a.
-      ap (λ (b : Bool). outcome m (if b then checked.Refused 2 else if bad-limits (sc .limits) then checked.Refused 3 else if alphabet-bad s nn (i .gaps .starts) then checked.Refused 4 else sectionsC dd nn (i .events .starts) (i .invariants .starts) (i .alphabet .starts) (i .rules .starts) s 0 0)) size-agrees
+      ap (λ (b : Bool). outcome m (if b then checked.Refused 2 else if bad-limits (sc .limits) then checked.Refused 3 else if bad-start (m .start) then checked.Refused 3 else if alphabet-bad s nn (i .gaps .starts) then checked.Refused 4 else sectionsC dd nn (i .events .starts) (i .invariants .starts) (i .alphabet .starts) (i .rules .starts) s 0 0)) size-agrees
       ∙ (ahead m 2 (bad-size m) _ _ λ b.
-      ahead m 3 (bad-limits (sc .limits)) _ _ λ c.
+      ap (outcome m) (or-if (bad-limits (sc .limits)) (bad-start (m .start)) _ _) ∙ (
+      ahead m 3 (bad-limits (sc .limits) || bad-start (m .start)) _ _ λ c.
       ap (λ (b : Bool). outcome m (if b then checked.Refused 4 else sectionsC dd nn (i .events .starts) (i .invariants .starts) (i .alphabet .starts) (i .rules .starts) s 0 0)) alphabet-agrees
       ∙ (ahead m 4 (bad-alphabet sc) _ _ λ d.
       ap (outcome m) (sections-agree (laws.small s (i .entities .count) nn (i .gaps .starts) (sized ∙ b) (alphabet-agrees ∙ d)))
@@ -224,7 +232,7 @@ module _ (s : List ℕ) (i : Index) (m : Model) (x : Indexed s i m) where
       and-to (9 when bad-events (sc .limits .horizon) (sc .events)) _ _
       ∙ ap (λ (y : Answer Model). 9 when bad-events (sc .limits .horizon) (sc .events) and y) (
       and-to (check-invariants es [] (sc .invariants)) _ _)))
-      ∙ sym (accepted-both (check-input es) (λ e. e .input) (sc .events) (sc .alphabet) _)))))
+      ∙ sym (accepted-both (check-input es) (λ e. e .input) (sc .events) (sc .alphabet) _))))))
 
 -- ---- the entries
 

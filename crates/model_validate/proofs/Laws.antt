@@ -5,14 +5,17 @@ use mathlib.Core.Bool.{Bool, true, false, _||_}
 use Prim.Native.Nat.{ℕ, _-_, _≤_, _<_}
 use native.Mathlib.Omega.{arith}
 use lib.ListN.{length}
-use lib.Dec.{ltb, eqb}
-use borrow.Author.Tests.{lt-ltb, le-ltb, eq-eqb, ne-eqb, ltb-false}
+use native.Mathlib.Decide.{decLt}
+use lib.Dec.{ltb, leb, eqb}
+use borrow.Author.Tests.{lt-ltb, le-ltb, le-leb, lt-leb, eq-eqb, ne-eqb, ltb-false}
 use Rattle.texts.specs.Texts.{text}
 use Rattle.texts.specs.Places.{textAt, startFrom}
 use Rattle.texts.proofs.Ordering.{not-both}
-use Rattle.model.specs.Model.{Limits}
-use Rattle.model.specs.File.{got, broken, give, u16, u32, limits}
-use Rattle.model.specs.Validate.{bad-limits}
+use Rattle.model.specs.Model.{Limits, Moment, midnight}
+use Rattle.model.specs.File.{got, broken, give, u16, u32, or-zeros, start, limits}
+use Rattle.model.specs.Validate.{bad-limits, bad-start}
+use Rattle.model_walk.specs.declared.Walked.{Walked}
+use Rattle.model_walk.specs.declared.Walked.the-variants as walked
 use Rattle.model_walk.specs.declared.Num.{Num}
 use Rattle.model_walk.specs.declared.Num.the-variants as num
 use Rattle.model_walk.specs.Walk.{found}
@@ -27,7 +30,7 @@ use Rattle.model_check.proofs.Laws as checks
 use Rattle.model_validate.specs.declared.Numbers.{Numbers}
 use Rattle.model_sections.specs.declared.Part.the-variants as part
 use Rattle.model_sections.specs.Sections.{seconds-bad, gaps-bad, partsC}
-use Rattle.model_validate.specs.Whole.{title-bad, size-bad, limits-bad, alphabet-bad, ordersC, Small, sectionsC, modelC, declared-in, numbers-of, indexC}
+use Rattle.model_validate.specs.Whole.{title-bad, size-bad, limits-bad, start-bad, alphabet-bad, ordersC, Small, sectionsC, modelC, declared-in, numbers-of, indexC}
 
 -- ---- the tests before the sections
 
@@ -108,6 +111,61 @@ limits-read s p e = rw (e, limits-bad)
 pub limits-broken : (s : List ℕ) (p : ℕ) → limits s p ≡ broken → limits-bad s p ≡ false
 unfolding limits-bad
 limits-broken s p e = rw (e, limits-bad)
+
+-- the start
+
+starts : (s : List ℕ) (p : ℕ) → p < length s → or-zeros midnight start s p ≡ start s p
+unfolding or-zeros
+starts s p k = rw (lt-ltb p (length s) k)
+
+ended : (s : List ℕ) (p : ℕ) → length s ≤ p → or-zeros midnight start s p ≡ got midnight p
+unfolding or-zeros
+ended s p k = rw (le-ltb p (length s) k)
+
+pub start-none : (s : List ℕ) {w : Walked} → w ≡ walked.Broken → start-bad s w ≡ false
+unfolding start-bad
+start-none s h = rw (h, start-bad)
+
+module _ (s : List ℕ) {w : Walked} {p n : ℕ} (h : w ≡ walked.To p n) where
+  pub start-read : {m : Moment} {q : ℕ} → or-zeros midnight start s p ≡ got m q → start-bad s w ≡ bad-start m
+  unfolding start-bad
+  start-read e = rw (h, start-bad) (rw (e, start-bad))
+
+  start-broken : or-zeros midnight start s p ≡ broken → start-bad s w ≡ false
+  unfolding start-bad
+  start-broken e = rw (h, start-bad) (rw (e, start-bad))
+
+  pub start-ended : length s ≤ p → start-bad s w ≡ false
+  unfolding bad-start
+  start-ended k = start-read (ended s p k)
+
+  pub no-weekday : p < length s → {a : Num} → found a ≡ u32 s p → a ≡ num.Broken → start-bad s w ≡ false
+  unfolding start
+  no-weekday k e g = start-broken (starts s p k ∙ bind-broken u32 _ (is-broken e g))
+
+  pub no-second : p < length s → {a : Num} → found a ≡ u32 s p → {x q : ℕ} → a ≡ num.Is x q → {c : Num} → found c ≡ u32 s q
+      → c ≡ num.Broken → start-bad s w ≡ false
+  unfolding start
+  no-second k e g f l = start-broken (starts s p k ∙ bind-got u32 _ (is-got e g) ∙ bind-broken u32 _ (is-broken f l))
+
+  start-is : p < length s → {a : Num} → found a ≡ u32 s p → {x q : ℕ} → a ≡ num.Is x q → {c : Num} → found c ≡ u32 s q
+      → {y r : ℕ} → c ≡ num.Is y r → start-bad s w ≡ bad-start (record { weekday = x; second = y })
+  unfolding start give
+  start-is k e g f l = start-read (starts s p k ∙ bind-got u32 _ (is-got e g) ∙ bind-got u32 _ (is-got f l))
+
+  pub late-weekday : p < length s → {a : Num} → found a ≡ u32 s p → {x q : ℕ} → a ≡ num.Is x q →
+      {c : Num} → found c ≡ u32 s q → {y r : ℕ} → c ≡ num.Is y r → 6 < x → start-bad s w ≡ true
+  unfolding bad-start
+  late-weekday k e {x} g f l o = start-is k e g f l ∙ rw (lt-ltb 6 x o)
+
+  pub by-second : p < length s → {a : Num} → found a ≡ u32 s p → {x q : ℕ} → a ≡ num.Is x q → {c : Num} → found c ≡ u32 s q
+      → {y r : ℕ} → c ≡ num.Is y r → x ≤ 6 → start-bad s w ≡ ltb 86399 y
+  unfolding bad-start
+  by-second k e {x} g f {y} l o = start-is k e g f l ∙ rw (le-ltb 6 x o) (go (decLt 86399 y))
+    where
+      go : Dec (86399 < y) → leb 86400 y ≡ ltb 86399 y
+      go (yes z) = le-leb 86400 y (omega arith) ∙ sym (lt-ltb 86399 y z)
+      go (no z) = lt-leb 86400 y (omega arith) ∙ sym (le-ltb 86399 y (omega arith))
 
 -- the four numbers, read one after the other
 module _ (s : List ℕ) (p : ℕ) {a : Num} (e : found a ≡ u32 s p) where
@@ -195,13 +253,21 @@ module _ (d : Declaration) (i : Numbers) (events invariants alphabet gaps rules 
       model-3 h = rw (a, b, h)
 
       module _ (c : limits-bad s (i .limits) ≡ false) where
-        pub model-4 : alphabet-bad s i gaps ≡ true → modelC d i events invariants alphabet gaps rules s ≡ checked.Refused 4
+        pub model-start : start-bad s (i .behind) ≡ true →
+            modelC d i events invariants alphabet gaps rules s ≡ checked.Refused 3
         unfolding modelC
-        model-4 h = rw (a, b, c, h)
+        model-start h = rw (a, b, c, h)
 
-        pub model-is : alphabet-bad s i gaps ≡ false → modelC d i events invariants alphabet gaps rules s ≡ sectionsC d i events invariants alphabet rules s 0 0
-        unfolding modelC
-        model-is h = rw (a, b, c, h)
+        module _ (e : start-bad s (i .behind) ≡ false) where
+          pub model-4 : alphabet-bad s i gaps ≡ true →
+              modelC d i events invariants alphabet gaps rules s ≡ checked.Refused 4
+          unfolding modelC
+          model-4 h = rw (a, b, c, e, h)
+
+          pub model-is : alphabet-bad s i gaps ≡ false →
+              modelC d i events invariants alphabet gaps rules s ≡ sectionsC d i events invariants alphabet rules s 0 0
+          unfolding modelC
+          model-is h = rw (a, b, c, e, h)
 
 pub declared-is : (s : List ℕ) (t n : ℕ) {a b c e : ℕ} →
     a ≡ place-from t 0 (text "on") s 6 → b ≡ place-from t 0 (text "off") s 6 →

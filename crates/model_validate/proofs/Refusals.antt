@@ -1,4 +1,4 @@
--- Which numbers refuse a model: 30 and 31 by the file rules, 1 to 19 by `validate`.
+-- Which numbers refuse a model: 30 and 31 by the file rules, 1 to 19, 50 and 51 by `validate`.
 use Prim.Native.Nat.{ℕ, _+_, _≤_}
 use mathlib.Core.Bool.{Bool, true, false, _||_, not}
 use mathlib.Core.List.{List, [], _∷_, _++_}
@@ -10,10 +10,10 @@ use lib.Dec.{ltb}
 use Rattle.texts.specs.Lists.{if_then_else_, absent, listed, find}
 use Rattle.texts.specs.Texts.{Text, text, memT}
 use Rattle.model.specs.Answer.{Answer, answer, refused, Verdict, accept, _>>=_, _and_, _when_, each-accepted}
-use Rattle.model.specs.Model.{Entity, Predicate, state, Trigger, Effect, toggle, delay, condition, choose, wait, Actions, done, act, Branches, no-branch, branch, Automation, Input, reload, Invariant, never, guard, transition, response, id-of, Model, named}
+use Rattle.model.specs.Model.{Entity, Predicate, state, window, Trigger, Effect, toggle, delay, condition, choose, wait, Actions, done, act, Branches, no-branch, branch, Automation, Input, reload, Invariant, never, guard, transition, response, id-of, Model, named}
 use Rattle.model.specs.Notes.{notes-of}
 use Rattle.model.specs.File.{Got, got, broken, model, decoded, decode}
-use Rattle.model.specs.Validate.{undecided, counting, check-value, check-predicate, check-trigger, check-input, check-entity, check-conditions, check-invariant, check-invariants, check-effect, check-actions, check-branches, check-rule, check-rules, validate, accepted}
+use Rattle.model.specs.Validate.{undecided, counting, check-value, check-predicate, check-stated, check-trigger, check-input, check-entity, check-conditions, check-invariant, check-invariants, check-effect, check-actions, check-branches, check-rule, check-rules, validate, accepted}
 
 -- an answer, or one of the numbers that P allows
 abbrev pub Refuses : (P : ℕ → Type 0) → {A : Type 0} → Answer A → Type 0
@@ -22,7 +22,7 @@ Refuses P (refused n) = P n
 
 -- the numbers of `validate`
 abbrev pub Listed : ℕ → Type 0
-Listed n = (1 ≤ n) × (n ≤ 19)
+Listed n = ((1 ≤ n) × (n ≤ 19)) ⊎ ((50 ≤ n) × (n ≤ 51))
 
 abbrev L : {A : Type 0} → Answer A → Type 0
 L a = Refuses Listed a
@@ -49,7 +49,7 @@ each-l g h (a ∷ l) = and-l (g a) (each-accepted g l) (h a) (each-l g h l)
 
 counting-l : (n : ℕ) → L (counting n)
 unfolding counting
-counting-l n = and-l _ _ (when-l 17 _ (omega arith, omega arith)) tt
+counting-l n = and-l _ _ (when-l 17 _ (inl (omega arith, omega arith))) tt
 
 module _ (es : List Entity) where
   value-l : (x v : Text) → L (check-value es x v)
@@ -58,13 +58,18 @@ module _ (es : List Entity) where
     where
       by : (o : Option Entity) →
           L {A = Unit {0}} (elim o [ none ↦ refused 7 | some e ↦ 8 when not (undecided v || memT v (e .domain)) ])
-      by none = (omega arith, omega arith)
-      by (some e) = when-l 8 _ (omega arith, omega arith)
+      by none = inl (omega arith, omega arith)
+      by (some e) = when-l 8 _ (inl (omega arith, omega arith))
 
   predicate-l : (p : Predicate) → L (check-predicate es p)
   unfolding check-predicate
   predicate-l (state x v) = value-l x v
   predicate-l (Predicate.unknown r) = tt
+  predicate-l (window d b e) = when-l 50 _ (inr (omega arith, omega arith))
+
+  stated-l : (p : Predicate) → L (check-stated es p)
+  unfolding check-stated
+  stated-l p = and-l _ _ (when-l 51 _ (inr (omega arith, omega arith))) (predicate-l p)
 
   trigger-l : (t : Trigger) → L (check-trigger es t)
   unfolding check-trigger
@@ -78,7 +83,7 @@ module _ (es : List Entity) where
                 and each-accepted (check-value es (t .entity)) (listed (t .from) ++ listed (t .to))
           ])
       by (some n) = tt
-      by none = and-l _ _ (when-l 15 _ (omega arith, omega arith)) (each-l _ (value-l (t .entity)) _)
+      by none = and-l _ _ (when-l 15 _ (inl (omega arith, omega arith))) (each-l _ (value-l (t .entity)) _)
 
   input-l : (i : Input) → L (check-input es i)
   unfolding check-input
@@ -89,12 +94,12 @@ module _ (es : List Entity) where
   entity-l : (e : Entity) → L (check-entity es e)
   unfolding check-entity
   entity-l e =
-      and-l _ _ (when-l 5 _ (omega arith, omega arith))
-      (and-l _ _ (when-l 6 _ (omega arith, omega arith)) (value-l (e .name) (e .initial)))
+      and-l _ _ (when-l 5 _ (inl (omega arith, omega arith)))
+      (and-l _ _ (when-l 6 _ (inl (omega arith, omega arith))) (value-l (e .name) (e .initial)))
 
   conditions-l : (ps : List Predicate) → L (check-conditions es ps)
   unfolding check-conditions
-  conditions-l ps = and-l _ _ (when-l 11 _ (omega arith, omega arith)) (each-l _ predicate-l ps)
+  conditions-l ps = and-l _ _ (when-l 11 _ (inl (omega arith, omega arith))) (each-l _ stated-l ps)
 
   invariant-l : (i : Invariant) → L (check-invariant es i)
   unfolding check-invariant
@@ -102,13 +107,13 @@ module _ (es : List Entity) where
   invariant-l (guard i x v ps) = and-l _ _ (conditions-l ps) (value-l x v)
   invariant-l (transition i x f t) = and-l _ _ (value-l x f) (value-l x t)
   invariant-l (response i p q n) =
-      and-l _ _ (predicate-l p) (and-l _ _ (predicate-l q) (when-l 12 _ (omega arith, omega arith)))
+      and-l _ _ (stated-l p) (and-l _ _ (stated-l q) (when-l 12 _ (inl (omega arith, omega arith))))
 
   invariants-l : (ids : List Text) (l : List Invariant) → L (check-invariants es ids l)
   unfolding check-invariants
   invariants-l ids [] = tt
   invariants-l ids (i ∷ l) =
-      and-l _ _ (when-l 10 _ (omega arith, omega arith))
+      and-l _ _ (when-l 10 _ (inl (omega arith, omega arith)))
       (and-l _ _ (invariant-l i) (invariants-l (id-of i ∷ ids) l))
 
   mutual
@@ -117,16 +122,16 @@ module _ (es : List Entity) where
     effect-l : (g : Effect) (d n : ℕ) → L (check-effect es g d n)
     effect-l (Effect.set x v) d n = and-l _ _ (value-l x v) tt
     effect-l (toggle x) d n = and-l _ _ (value-l x (text "on")) (and-l _ _ (value-l x (text "off")) tt)
-    effect-l (delay t) d n = and-l _ _ (when-l 18 _ (omega arith, omega arith)) tt
+    effect-l (delay t) d n = and-l _ _ (when-l 18 _ (inl (omega arith, omega arith))) tt
     effect-l (condition p) d n = and-l _ _ (predicate-l p) tt
     effect-l (choose bs a) d n = bind-l _ _ (branches-l bs d n) (λ m. actions-l a (d + 1) m)
-    effect-l (wait t k c) d n = and-l _ _ (trigger-l t) (and-l _ _ (when-l 19 _ (omega arith, omega arith)) tt)
+    effect-l (wait t k c) d n = and-l _ _ (trigger-l t) (and-l _ _ (when-l 19 _ (inl (omega arith, omega arith))) tt)
     effect-l (Effect.unknown r) d n = tt
 
     actions-l : (a : Actions) (d n : ℕ) → L (check-actions es a d n)
-    actions-l done d n = and-l _ _ (when-l 16 _ (omega arith, omega arith)) tt
+    actions-l done d n = and-l _ _ (when-l 16 _ (inl (omega arith, omega arith))) tt
     actions-l (act s g r) d n =
-        and-l _ _ (when-l 16 _ (omega arith, omega arith))
+        and-l _ _ (when-l 16 _ (inl (omega arith, omega arith)))
         (bind-l _ _ (counting-l (n + 1)) (λ m. bind-l _ _ (effect-l g d m) (λ k. actions-l r d k)))
 
     branches-l : (b : Branches) (d n : ℕ) → L (check-branches es b d n)
@@ -139,8 +144,8 @@ module _ (es : List Entity) where
   rules-l ids [] n = tt
   rules-l ids (r ∷ rs) n =
       bind-l _ _
-      (and-l _ _ (when-l 13 _ (omega arith, omega arith))
-      (and-l _ _ (when-l 14 _ (omega arith, omega arith))
+      (and-l _ _ (when-l 13 _ (inl (omega arith, omega arith)))
+      (and-l _ _ (when-l 14 _ (inl (omega arith, omega arith)))
       (and-l _ _ (each-l _ trigger-l (r .triggers))
       (and-l _ _ (each-l _ predicate-l (r .conditions)) (actions-l (r .actions) 0 n)))))
       (λ m. rules-l (r .id ∷ ids) rs m)
@@ -149,13 +154,13 @@ validate-l : (m : Model) → L (validate m)
 unfolding validate
 validate-l m =
     let es = m .scenario .entities in
-    and-l _ _ (when-l 1 _ (omega arith, omega arith))
-    (and-l _ _ (when-l 2 _ (omega arith, omega arith))
-    (and-l _ _ (when-l 3 _ (omega arith, omega arith))
-    (and-l _ _ (when-l 4 _ (omega arith, omega arith))
+    and-l _ _ (when-l 1 _ (inl (omega arith, omega arith)))
+    (and-l _ _ (when-l 2 _ (inl (omega arith, omega arith)))
+    (and-l _ _ (when-l 3 _ (inl (omega arith, omega arith)))
+    (and-l _ _ (when-l 4 _ (inl (omega arith, omega arith)))
     (and-l _ _ (each-l _ (entity-l es) _)
     (and-l _ _ (each-l _ (input-l es) _)
-    (and-l _ _ (when-l 9 _ (omega arith, omega arith))
+    (and-l _ _ (when-l 9 _ (inl (omega arith, omega arith)))
     (and-l _ _ (invariants-l es [] (m .scenario .invariants))
     (bind-l _ _ (rules-l es [] (m .rules) 0) (λ n. tt)))))))))
 
@@ -186,7 +191,7 @@ decode-r s = by (ltb 32768 (length s)) (model s 0)
     by false (got m q) = whole (ltb 64 (length (notes-of m))) (ltb q (length s)) m
     by false broken = thirty
 
--- 30 and 31, or 1 to 19
+-- 30 and 31, or 1 to 19, 50 and 51
 pub refusal-numbers : (file : List ℕ) → Refuses Refusal (accepted file)
 unfolding accepted _>>=_
 refusal-numbers file = by (decode file) (decode-r file)

@@ -7,8 +7,11 @@ use lib.Dec.{ltb, eqb}
 use lib.ListN.{length}
 use Rattle.texts.specs.Lists.{if_then_else_}
 use Rattle.texts.specs.Texts.{text}
-use Rattle.model.specs.File.{got, broken, u16, u32, limits}
-use Rattle.model.specs.Validate.{bad-limits}
+use Rattle.model.specs.Model.{midnight}
+use Rattle.model.specs.File.{got, broken, u16, u32, or-zeros, start, limits}
+use Rattle.model.specs.Validate.{bad-limits, bad-start}
+use Rattle.model_walk.specs.declared.Walked.{Walked}
+use Rattle.model_walk.specs.declared.Walked.the-variants as walked
 use Rattle.model_order.specs.Order.{place-from}
 use Rattle.model_index.specs.declared.Index.{Index}
 use Rattle.model_check.specs.declared.Checked.{Checked}
@@ -32,6 +35,11 @@ size-bad c i = eqb c 0 || ltb 32 c || ltb 32 (i .rules) || ltb 100 (i .events) |
 
 unfoldable pub limits-bad : List ℕ → ℕ → Bool
 limits-bad s p = elim (limits s p) [ got l q ↦ bad-limits l | broken ↦ false ]
+
+-- the start stands where the automations end
+unfoldable pub start-bad : List ℕ → Walked → Bool
+start-bad s (walked.To p n) = elim (or-zeros midnight start s p) [ got m q ↦ bad-start m | broken ↦ false ]
+start-bad s walked.Broken = false
 
 unfoldable pub alphabet-bad : List ℕ → Numbers → (gaps : List ℕ) → Bool
 alphabet-bad s i gaps = ltb 12 (i .alphabet) || eqb (i .gaps) 0 || ltb 4 (i .gaps) || gaps-bad gaps s (i .gaps) 0
@@ -66,6 +74,7 @@ modelC d i events invariants alphabet gaps rules s =
     if title-bad s i then checked.Refused 1
     else if size-bad (d .count) i then checked.Refused 2
     else if limits-bad s (i .limits) then checked.Refused 3
+    else if start-bad s (i .behind) then checked.Refused 3
     else if alphabet-bad s i gaps then checked.Refused 4
     else sectionsC d i events invariants alphabet rules s 0 0
 
@@ -94,6 +103,7 @@ numbers-of i = record {
   alphabet = i .alphabet .count;
   gaps = i .gaps .count;
   rules = i .rules .count;
+  behind = i .rules .end;
 }
 
 -- the check of the model that the index finds

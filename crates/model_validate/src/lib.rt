@@ -1,4 +1,4 @@
-// `validate`: the refusals 1 to 19 of a model file that was read, in the order of Rust's `validate`.
+// `validate`: the refusals 1 to 19, 50 and 51 of a model file that was read, in the order of Rust's `validate`.
 use model_check::Checked;
 use model_check::Declared;
 use model_index::File;
@@ -6,6 +6,7 @@ use model_index::Outline;
 use model_index::Status;
 use model_sections::Part;
 use model_walk::Num;
+use model_walk::Walked;
 ghost use mathlib.Core.Path.{_≡_};
 ghost use Prim.Native.Nat.{_≤_};
 ghost use Rattle.model.specs.Validate.{accepted, bad-limits};
@@ -13,7 +14,7 @@ ghost use Rattle.model_parts.specs.Parts.{none};
 ghost use Rattle.model_index.specs.Index.{file-of, Zeros};
 ghost use Rattle.model_index.specs.Indexed.{Says};
 ghost use Rattle.model_check.specs.Checks.{declaration};
-ghost use Rattle.model_validate.specs.Whole.{title-bad, size-bad, limits-bad, alphabet-bad, ordersC, Small, sectionsC, modelC, declared-in};
+ghost use Rattle.model_validate.specs.Whole.{title-bad, size-bad, limits-bad, start-bad, alphabet-bad, ordersC, Small, sectionsC, modelC, declared-in};
 ghost use Rattle.model_validate.specs.Answers.{validated};
 
 // lib.rs: the version of the model file.
@@ -30,6 +31,7 @@ pub struct Numbers {
     pub alphabet: u32,
     pub gaps: u32,
     pub rules: u32,
+    pub behind: Walked,
 }
 
 pub enum Validity {
@@ -113,6 +115,30 @@ fn limits_bad(s: &[u8], at: usize) -> bool
         return false;
     };
     numbers_bad(horizon, steps, depth, cases)
+}
+
+// The start stands where the automations end, unless the file ends there.
+fn start_bad(s: &[u8], end: Walked) -> bool
+    ensures { λ r. ⌜ r ≡ start-bad (now (s .entry)) end ⌝ }
+{
+    let Walked::To(at, _) = end else {
+        return false;
+    };
+    if s.len() <= at {
+        return false;
+    }
+    let x = model_walk::u32_at(s, at);
+    let Num::Is(weekday, p) = x else {
+        return false;
+    };
+    let y = model_walk::u32_at(s, p);
+    let Num::Is(second, _) = y else {
+        return false;
+    };
+    if 6 < weekday {
+        return true;
+    }
+    86399 < second
 }
 
 fn alphabet_bad(s: &[u8], numbers: Numbers, gaps: &[usize; 100]) -> bool
@@ -208,6 +234,10 @@ fn whole_check(
     if limits_bad(s, numbers.limits) {
         return Checked::Refused(3);
     }
+    let behind = numbers.behind;
+    if start_bad(s, behind) {
+        return Checked::Refused(3);
+    }
     if alphabet_bad(s, numbers, gaps) {
         return Checked::Refused(4);
     }
@@ -258,6 +288,8 @@ fn examine(
     match status {
         Status::Refused(_) => x,
         Status::Read => {
+            let last = x.rules;
+            let behind = last.end;
             let numbers = Numbers {
                 version: x.front.version,
                 title: x.front.title,
@@ -267,6 +299,7 @@ fn examine(
                 alphabet: x.alphabet.count,
                 gaps: x.gaps.count,
                 rules: x.rules.count,
+                behind,
             };
             let d = declared(s, x.front.texts.count, x.front.entities.count);
             let y = whole_check(

@@ -1,9 +1,9 @@
 -- What a reader found, part by part: from the value that the reader of a part gave back to the numbers that stand in the file.
 use mathlib.Core.Path.{_≡_, refl, sym, ap, _∙_, subst}
-use mathlib.Core.List.{List, []}
+use mathlib.Core.List.{List, [], _∷_}
 use mathlib.Core.Bool.{Bool, true, false}
 use mathlib.Core.Option.{Option, none, some}
-use Prim.Native.Nat.{ℕ, _+_, _≤_, _<_}
+use Prim.Native.Nat.{ℕ, zero, suc, _+_, _≤_, _<_}
 use native.Mathlib.Omega.{arith}
 use native.Mathlib.Decide.{decLt}
 use lib.ListN.{length, getD}
@@ -11,10 +11,10 @@ use lib.Dec.{ltb, eqb}
 use borrow.Author.Tests.{ltb-true, eqb-true, eqb-false}
 use Rattle.texts.specs.Lists.{if_then_else_}
 use Rattle.texts.specs.Texts.{Text}
-use Rattle.model.specs.Model.{Source, Trigger, Entity}
-use Rattle.model.specs.File.{Got, got, broken, Reader, _>>=_, give, refuse, require, u8, u16, u32, times, counted, kinds, number?, source, tier, place, place?, trigger, entity}
+use Rattle.model.specs.Model.{Source, Predicate, state, window, Trigger, Entity}
+use Rattle.model.specs.File.{Got, got, broken, Reader, _>>=_, give, refuse, require, u8, u16, u32, times, counted, kinds, number?, source, tier, place, place?, predicate, trigger, entity}
 use Rattle.model_walk.specs.declared.Walked.the-variants as walked
-use Rattle.model_walk.specs.Walk.{seen, capped, kindW, by, staying, stay, stop}
+use Rattle.model_walk.specs.Walk.{seen, capped, predicate-size, kindW, by, staying, stay, stop}
 use Rattle.model_walk.proofs.Sees.{Sees, quiet, sees-tier}
 use Rattle.model_walk.proofs.Laws.{bind-got, bind-broken, u8-in, u8-out, u16-in, u16-out, u32-in, u32-out}
 
@@ -86,6 +86,9 @@ module _ (s : List ℕ) (p : ℕ) {v q : ℕ} where
 
   pub u32-wide : u32 s p ≡ got v q → Wide 4 s p q
   u32-wide e = wide-of 4 s p u32 _ (u32-in s p) (u32-out s p) e
+
+pub u8-value : (s : List ℕ) (p : ℕ) {v q : ℕ} → u8 s p ≡ got v q → getD s p 0 ≡ v
+u8-value s p e = let w = u8-wide s p e in let i = u8-in s p (omega (arith, w .inside)) in cc
 
 pub source-wide : (s : List ℕ) (p : ℕ) {v : Source} {q : ℕ} → source s p ≡ got v q → Wide 8 s p q
 unfolding source
@@ -225,6 +228,44 @@ module _ (ts : List Text) where
         tier-wide = kind-wide 4 tier sees-tier (t .first);
         stale = a .first ∙ ap (got (a .value)) (g .1);
       })
+
+  predicate-kinds : List (Reader Predicate)
+  predicate-kinds =
+      (place ts >>= λ e. place ts >>= λ v. give (state e v))
+      ∷ (place ts >>= λ r. give (Predicate.unknown r))
+      ∷ (u8 >>= λ d. u32 >>= λ b. u32 >>= λ e. give (window d b e))
+      ∷ []
+
+  -- a predicate ends where its size says
+  pub predicate-wide : {s : List ℕ} {p : ℕ} {a : Predicate} {q : ℕ} → predicate ts s p ≡ got a q
+      → Wide (predicate-size (getD s p 0)) s p q
+  unfolding predicate predicate-kinds predicate-size
+  predicate-wide {s} {p} {a} {q} e =
+      let k = kind-found predicate-kinds e in
+      rw (u8-value s p (k .is-kind)) (cases (k .kind) (k .next) (u8-wide s p (k .is-kind)) (k .holds))
+    where
+      cases : (i o : ℕ) → Wide 1 s p o → getD predicate-kinds i refuse s o ≡ got a q → Wide (predicate-size i) s p q
+      cases zero o w h =
+          let x = bound (place ts) _ h in
+          let v = bound (place ts) _ (x .rest) in
+          let z = given _ _ _ (v .rest) in
+          let g = place-found (v .first ∙ ap (got (v .value)) (z .1)) in
+          wide-sum (wide-sum w (u16-wide s o (place-found (x .first) .is-place))) (u16-wide s (x .next) (g .is-place))
+      cases (suc zero) o w h =
+          let x = bound (place ts) _ h in
+          let z = given _ _ _ (x .rest) in
+          let g = place-found (x .first ∙ ap (got (x .value)) (z .1)) in
+          wide-sum w (u16-wide s o (g .is-place))
+      cases (suc (suc zero)) o w h =
+          let d = bound u8 _ h in
+          let b = bound u32 _ (d .rest) in
+          let v = bound u32 _ (b .rest) in
+          let z = given _ _ _ (v .rest) in
+          let w₁ = u8-wide s o (d .first) in
+          let w₂ = u32-wide s (d .next) (b .first) in
+          let w₃ = u32-wide s (b .next) (v .first ∙ ap (got (v .value)) (z .1)) in
+          wide-sum w (wide-sum w₁ (wide-sum w₂ w₃))
+      cases (suc (suc (suc i))) o w h = absurd (refused s o h)
 
   pub record TriggerParts (s : List ℕ) (p : ℕ) (t : Trigger) (q : ℕ) : Type 0 where
     pub at-from : ℕ

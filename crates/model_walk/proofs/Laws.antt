@@ -15,7 +15,7 @@ use Rattle.model_walk.specs.declared.Num.{Num}
 use Rattle.model_walk.specs.declared.Num.the-variants as num
 use Rattle.model_walk.specs.declared.Walked.{Walked}
 use Rattle.model_walk.specs.declared.Walked.the-variants as walked
-use Rattle.model_walk.specs.Walk.{found, capped, Walk, and-then, _⨾_, by, stop, stay, noted, staying, bytesW, timesW, kindW, placeW, place?W, note?W, noteW, predicateW, triggerW, pieceW, simpleW, actionsW, actionW, countedW}
+use Rattle.model_walk.specs.Walk.{found, capped, Walk, and-then, _⨾_, by, stop, stay, noted, staying, bytesW, or-zerosW, timesW, kindW, placeW, place?W, note?W, noteW, predicate-size, predicateW, triggerW, pieceW, simpleW, actionsW, actionW, countedW}
 use Rattle.model_walk.specs.declared.Piece.{Piece}
 use Rattle.model_walk.specs.declared.Piece.the-variants as piece
 
@@ -146,6 +146,15 @@ module _ (s : List ℕ) (p n : ℕ) where
   unfolding bytesW
   bytes-out w h = rw (lt-leb (p + w) (length s) h)
 
+module _ (s : List ℕ) (p n : ℕ) (k : Walk) where
+  pub zeros-before : p < length s → or-zerosW k s p n ≡ k s p n
+  unfolding or-zerosW
+  zeros-before h = rw (lt-ltb p (length s) h)
+
+  pub zeros-at-end : length s ≤ p → or-zerosW k s p n ≡ walked.To p n
+  unfolding or-zerosW
+  zeros-at-end h = rw (le-ltb p (length s) h)
+
 pub to-same : {p n m : ℕ} → m ≡ n → walked.To p n ≡ walked.To p m
 to-same {p} e = ap (walked.To p) (sym e)
 
@@ -157,6 +166,34 @@ stay-then l s p n h = rw h
 pub stop-then : {b : Bool} (l : Walk) (s : List ℕ) (p n : ℕ) → b ≡ false → (staying b ⨾ l) s p n ≡ walked.Broken
 unfolding staying stop _⨾_ and-then
 stop-then l s p n h = rw h
+
+-- ---- sizes of predicates
+
+pub size-of-state : (k : ℕ) → k ≡ 0 → predicate-size k ≡ 5
+unfolding predicate-size
+size-of-state k e = rw e
+
+pub size-of-note : (k : ℕ) → k ≡ 1 → predicate-size k ≡ 3
+unfolding predicate-size
+size-of-note k e = rw e
+
+pub size-of-other : (k : ℕ) → (k ≡ 0 → ⊥) → (k ≡ 1 → ⊥) → predicate-size k ≡ 10
+unfolding predicate-size
+size-of-other k f g = rw (ne-eqb k 0 f, ne-eqb k 1 g)
+
+pub size-some : (w k : ℕ) → w ≡ predicate-size k → 1 ≤ w
+unfolding predicate-size
+size-some w k e = cases (eqb k 0) (eqb k 1) e
+  where
+    cases : (a b : Bool) → w ≡ (if a then 5 else if b then 3 else 10) → 1 ≤ w
+    cases true b h = omega (arith, h)
+    cases false true h = omega (arith, h)
+    cases false false h = omega (arith, h)
+
+-- a window's bytes behind its kind
+pub window-bytes : (w k : ℕ) (s : List ℕ) (p n : ℕ) → w ≡ predicate-size k → k ≡ 2 → bytesW (w - 1) s p n ≡ bytesW 9 s p n
+unfolding predicate-size
+window-bytes w k s p n e h = ap (λ (x : ℕ). bytesW (x - 1) s p n) (e ∙ ap predicate-size h)
 
 -- the test of a choice between two walks
 pub yes-walk : {b : Bool} (k l : Walk) (s : List ℕ) (p n : ℕ) → b ≡ true → (if b then k else l) s p n ≡ k s p n
@@ -233,7 +270,8 @@ module _ (ts : ℕ) (s : List ℕ) (p n : ℕ) where
   unfolding triggerW
   trigger-is = refl
 
-  pub predicate-is : predicateW ts s p n ≡ by u8 (λ k. if eqb k 0 then placeW ts ⨾ placeW ts else if eqb k 1 then noteW ts else stop) s p n
+  pub predicate-is : predicateW ts s p n ≡ by u8 (λ k. if eqb k 0 then placeW ts ⨾ placeW ts else if eqb k 1 then noteW ts
+      else if eqb k 2 then bytesW 9 else stop) s p n
   unfolding predicateW
   predicate-is = refl
 

@@ -11,7 +11,7 @@ use lib.Dec.{ltb, eqb}
 use borrow.Author.Tests.{lt-ltb, le-ltb, ne-eqb}
 use Rattle.texts.specs.Lists.{if_then_else_, listed, flat}
 use Rattle.texts.specs.Texts.{Text}
-use Rattle.model.specs.Model.{Source, observational, comfort, property, access-safety, single, queued, parallel, Predicate, state, Trigger, Mode, Effect, toggle, delay, condition, choose, wait, Actions, done, act, Branches, no-branch, branch}
+use Rattle.model.specs.Model.{Source, observational, comfort, property, access-safety, single, queued, parallel, Predicate, state, window, Trigger, Mode, Effect, toggle, delay, condition, choose, wait, Actions, done, act, Branches, no-branch, branch}
 use Rattle.model.specs.Notes.{of-predicate, of-trigger, of-effect, of-actions, of-branches}
 use Rattle.model.specs.File.{
   Got,
@@ -29,6 +29,7 @@ use Rattle.model.specs.File.{
   counted,
   kinds,
   flag,
+  or-zeros,
   source,
   tier,
   mode,
@@ -55,6 +56,7 @@ use Rattle.model_walk.specs.Walk.{
   noted,
   staying,
   bytesW,
+  or-zerosW,
   timesW,
   countedW,
   kindW,
@@ -147,6 +149,14 @@ sees-u32 n s p = elim (decLt (length s) (p + 4)) [
   | no h ↦ rw (laws.bytes-in s p (capped n) 4 (omega arith), laws.u32-in s p (omega arith)) (ap (λ x. walked.To (p + 4) (capped x)) (omega arith))
 ]
 
+pub sees-u8 : Sees quiet u8 (bytesW 1)
+unfolding seen
+sees-u8 n s p = elim (decLt (length s) (p + 1)) [
+  | yes h ↦ rw (laws.bytes-out s p (capped n) 1 h, laws.u8-out s p (omega arith))
+  | no h ↦ rw (laws.bytes-in s p (capped n) 1 (omega arith), laws.u8-in s p (omega arith))
+      (ap (λ x. walked.To (p + 1) (capped x)) (omega arith))
+]
+
 -- bytes side by side
 pub bytes-sum : (a b : ℕ) (s : List ℕ) (p n : ℕ) → bytesW (a + b) s p n ≡ (bytesW a ⨾ bytesW b) s p n
 unfolding _⨾_ and-then
@@ -161,6 +171,16 @@ bytes-sum a b s p n = elim (decLt (length s) (p + a)) [
 pub sees-source : Sees quiet source (bytesW 8)
 unfolding source
 sees-source n s p = bytes-sum 4 4 s p (capped n) ∙ bind quiet n n quiet u32 (bytesW 4) sees-u32 _ _ (λ l. last quiet n (n + 0) quiet u32 (bytesW 4) sees-u32 _ (λ c. omega arith)) s p
+
+-- a group of fields that the file may end before, and of which zeros hold no note
+pub sees-zeros : {A : Type 0} (w : A → ℕ) (z : A) (r : Reader A) (k : Walk) → w z ≡ 0 → Sees w r k
+    → Sees w (or-zeros z r) (or-zerosW k)
+unfolding or-zeros or-zerosW seen
+sees-zeros w z r k h e n s p = cases (ltb p (length s))
+  where
+    cases : (b : Bool) → (if b then k s p (capped n) else walked.To p (capped n)) ≡ seen w n (if b then r s p else got z p)
+    cases true = e n s p
+    cases false = ap (λ x. walked.To p (capped x)) (omega (arith, h))
 
 -- ---- lists
 
@@ -247,14 +267,37 @@ module _ (ts : List Text) where
   pub two-places : {B : Type 0} (w : B → ℕ) (n m : ℕ) (f : Text → Text → B) → ((t u : Text) → m ≡ n + w (f t u)) → Runs w n (place ts >>= λ t. place ts >>= λ u. give (f t u)) m (placeW (length ts) ⨾ placeW (length ts))
   two-places w n m f h = bind w n m quiet (place ts) (placeW (length ts)) sees-place _ _ (λ t. last w n (m + 0) quiet (place ts) (placeW (length ts)) sees-place (f t) (λ u. omega (arith, h t u)))
 
+  -- a window's days, start and end
+  window-of : (n : ℕ) → Runs (marks of-predicate) n (u8 >>= λ d. u32 >>= λ b. u32 >>= λ e. give (window d b e)) n (bytesW 9)
+  unfolding of-predicate
+  window-of n s p =
+      bytes-sum 1 8 s p (capped n)
+      ∙ bind w n n quiet u8 (bytesW 1) sees-u8 _ (bytesW 8)
+      (λ d s p. bytes-sum 4 4 s p (capped (n + 0))
+      ∙ bind w n (n + 0) quiet u32 (bytesW 4) sees-u32 _ (bytesW 4)
+      (λ b. last w n (n + 0 + 0) quiet u32 (bytesW 4) sees-u32 (window d b) (λ e. omega arith)) s p) s p
+    where
+      w : Predicate → ℕ
+      w = marks of-predicate
+
   pub sees-predicate : Sees (marks of-predicate) (predicate ts) (predicateW (length ts))
   unfolding predicate kinds predicateW of-predicate
   sees-predicate n = choice (marks of-predicate) n n u8 _ _ cases
     where
-      cases : (k : ℕ) → Runs (marks of-predicate) n (getD ((place ts >>= λ e. place ts >>= λ v. give (state e v)) ∷ (place ts >>= λ r. give (Predicate.unknown r)) ∷ []) k refuse) n (if eqb k 0 then placeW (length ts) ⨾ placeW (length ts) else if eqb k 1 then noteW (length ts) else stop)
+      cases : (k : ℕ) → Runs (marks of-predicate) n (getD ((place ts >>= λ e. place ts >>= λ v. give (state e v))
+          ∷ (place ts >>= λ r. give (Predicate.unknown r))
+          ∷ (u8 >>= λ d. u32 >>= λ b. u32 >>= λ e. give (window d b e))
+          ∷ []) k refuse) n (if eqb k 0 then placeW (length ts) ⨾ placeW (length ts) else if eqb k 1 then noteW (length ts)
+          else if eqb k 2 then bytesW 9 else stop)
       cases zero = two-places (marks of-predicate) n n state (λ t u. omega arith)
       cases (suc zero) = note-of (marks of-predicate) n n Predicate.unknown (λ t. omega arith)
-      cases (suc (suc k)) = rw (above (suc (suc k)) 0 (omega arith), above (suc (suc k)) 1 (omega arith)) (refuses (marks of-predicate) n n)
+      cases (suc (suc zero)) = window-of n
+      cases (suc (suc (suc k))) =
+          rw (
+            above (suc (suc (suc k))) 0 (omega arith),
+            above (suc (suc (suc k))) 1 (omega arith),
+            above (suc (suc (suc k))) 2 (omega arith),
+          ) (refuses (marks of-predicate) n n)
 
   pub sees-trigger : Sees (marks of-trigger) (trigger ts) (triggerW (length ts))
   unfolding trigger triggerW of-trigger

@@ -62,6 +62,14 @@ staying b = if b then stay else stop
 unfoldable pub bytesW : ℕ → Walk
 bytesW w s p n = if leb (p + w) (length s) then walked.To (p + w) n else walked.Broken
 
+-- a group of fields that the file may end before
+unfoldable pub or-zerosW : Walk → Walk
+or-zerosW k s p n = if ltb p (length s) then k s p n else walked.To p n
+
+-- how many bytes a predicate of this kind has, the kind itself counted
+unfoldable pub predicate-size : (kind : ℕ) → ℕ
+predicate-size k = if eqb k 0 then 5 else if eqb k 1 then 3 else 10
+
 unfoldable pub timesW : ℕ → Walk → Walk
 timesW zero k = stay
 timesW (suc n) k = k ⨾ timesW n k
@@ -89,8 +97,10 @@ module _ (ts : ℕ) where
   abbrev pub noteW : Walk
   noteW = placeW ⨾ noted
 
+  -- a window's days, start and end stand behind its kind
   unfoldable pub predicateW : Walk
-  predicateW = by u8 (λ k. if eqb k 0 then placeW ⨾ placeW else if eqb k 1 then noteW else stop)
+  predicateW =
+      by u8 (λ k. if eqb k 0 then placeW ⨾ placeW else if eqb k 1 then noteW else if eqb k 2 then bytesW 9 else stop)
 
   unfoldable pub triggerW : Walk
   triggerW = placeW ⨾ place?W ⨾ place?W ⨾ bytesW 8 ⨾ note?W

@@ -2,7 +2,7 @@
 ghost use mathlib.Core.Path.{_≡_};
 ghost use Rattle.model.specs.File.{u8, u16, u32};
 ghost use Prim.Native.Nat.{_+_};
-ghost use Rattle.model_walk.specs.Walk.{found, capped, _⨾_, bytesW, kindW, placeW, place?W, note?W, noteW, predicateW, triggerW, pieceW, piecesW, simpleW, choiceW, actionsW};
+ghost use Rattle.model_walk.specs.Walk.{found, capped, _⨾_, bytesW, or-zerosW, kindW, placeW, place?W, note?W, noteW, predicate-size, predicateW, triggerW, pieceW, piecesW, simpleW, choiceW, actionsW};
 
 // A number and the position after it.
 pub enum Num {
@@ -75,6 +75,16 @@ pub fn bytes_at(s: &[u8], size: usize, at: usize, notes: u32) -> Walked
         return Walked::Broken;
     }
     Walked::To(at + size, notes)
+}
+
+// The bytes of a group of fields that the file may end before.
+pub fn bytes_or_end_at(s: &[u8], size: usize, at: usize, notes: u32) -> Walked
+    ensures { λ r. ⌜ r ≡ or-zerosW (bytesW size) (now (s .entry)) at notes ⌝ }
+{
+    if at < s.len() {
+        return bytes_at(s, size, at, notes);
+    }
+    Walked::To(at, notes)
 }
 
 fn more(notes: u32) -> u32
@@ -165,6 +175,19 @@ pub fn two_places_at(s: &[u8], texts: u32, at: usize, notes: u32) -> Walked
 
 // ---- pieces, and lists of them
 
+// How many bytes a predicate of this kind has, the kind itself counted.
+pub fn predicate_size(kind: u32) -> u32
+    ensures { λ r. ⌜ r ≡ predicate-size kind ⌝ }
+{
+    if kind == 0 {
+        return 5;
+    }
+    if kind == 1 {
+        return 3;
+    }
+    10
+}
+
 pub fn predicate_at(s: &[u8], texts: u32, at: usize, notes: u32) -> Walked
     ensures { λ r. ⌜ r ≡ predicateW texts (now (s .entry)) at notes ⌝ }
 {
@@ -177,6 +200,9 @@ pub fn predicate_at(s: &[u8], texts: u32, at: usize, notes: u32) -> Walked
     }
     if k == 1 {
         return note_at(s, texts, p, notes);
+    }
+    if k == 2 {
+        return bytes_at(s, predicate_size(k) as usize - 1, p, notes);
     }
     Walked::Broken
 }

@@ -6,9 +6,9 @@ use mathlib.Core.Option.{some}
 use lib.ListN.{getD}
 use Rattle.texts.specs.Texts.{Text}
 use Rattle.model.specs.Answer.{answer, _>>=_}
-use Rattle.model.specs.Model.{Input, Event, Scenario, Model}
+use Rattle.model.specs.Model.{Input, Event, Scenario, Model, midnight}
 use Rattle.model.specs.File.{got, Reader, refuse, times, counted, u32, limits, place, input, event, events}
-use Rattle.model.specs.File.{invariant, automation, input-kinds}
+use Rattle.model.specs.File.{invariant, automation, or-zeros, start, input-kinds}
 use Rattle.model.specs.Rewrite.{rewritten}
 use Rattle.model.specs.Validate.{validate, accepted}
 use Rattle.model_walk.proofs.Found.{bound, given, refused, kind-found, counted-found, place-found}
@@ -102,7 +102,8 @@ module _ (f : List ℕ) (m : Model) (o : Opened f m) where
       let g = bound (counted u32) _ (a .rest) in
       let l = bound limits _ (g .rest) in
       let r = bound (counted (automation ts)) _ (l .rest) in
-      subst (λ (x : Model). Each (FitsInput ts) (x .scenario .alphabet)) (given _ _ _ (r .rest) .0)
+      let u = bound (or-zeros midnight start) _ (r .rest) in
+      subst (λ (x : Model). Each (FitsInput ts) (x .scenario .alphabet)) (given _ _ _ (u .rest) .0)
       (counted-each (FitsInput ts) (input ts) f (input-fits ts f) (i .next) (a .value) (a .next) (a .first))
 
 -- ---- the files

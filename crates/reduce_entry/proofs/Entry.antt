@@ -159,4 +159,5 @@ module _ (f : List ℕ) (x : File) (says : indexed.Says f x (accepted f)) where
 
       kept : Refusal n → after f (refused n) before ≡ before
       kept (inl h) = refusals (words-in f) last-trace before .between n (omega arith) (omega arith)
-      kept (inr h) = refusals (words-in f) last-trace before .below n (omega arith)
+      kept (inr (inl h)) = refusals (words-in f) last-trace before .below n (omega arith)
+      kept (inr (inr h)) = refusals (words-in f) last-trace before .above n (omega arith)

@@ -237,6 +237,46 @@ fn replay_plain() {
     );
 }
 
+// Models with windows of the day.
+fn replay_windows() {
+    replay(
+        b"validate-windows.batch",
+        b"entry validate windows\n",
+        Entry::Validate,
+        false,
+    );
+    replay(
+        b"simulate-windows.batch",
+        b"entry simulate windows\n",
+        Entry::Simulate,
+        false,
+    );
+    replay(
+        b"fullcheck-windows.batch",
+        b"entry fullcheck windows\n",
+        Entry::Fullcheck,
+        false,
+    );
+    replay(
+        b"lint-windows.batch",
+        b"entry lint windows\n",
+        Entry::Lint,
+        false,
+    );
+    replay(
+        b"verify-windows.batch",
+        b"entry verify windows\n",
+        Entry::Verify,
+        false,
+    );
+    replay(
+        b"minimize-windows.batch",
+        b"entry minimize windows\n",
+        Entry::Minimize,
+        false,
+    );
+}
+
 // With areas and outputs of given sizes, many of them too small.
 fn replay_sized() {
     replay(
@@ -273,5 +313,6 @@ fn replay_sized() {
 
 fn main() {
     replay_plain();
+    replay_windows();
     replay_sized();
 }

@@ -55,7 +55,7 @@ ended-steps areas m cells events =
     omega (
       arith,
       loop-steps (m .rules) (m .scenario .limits .horizon) (m .scenario .limits .max-steps) 0
-          (begun areas cells (unsupported (m .rules)) events),
+          (begun areas (m .start) cells (unsupported (m .rules)) events),
     )
 
 simulated-steps : (areas : Areas) (m : Model) (cells : List Cell) (events : List Event) (s : engine.Simulation) →

@@ -210,4 +210,5 @@ module _ (f : List ℕ) (x : File) (says : indexed.Says f x (accepted f)) where
 
       kept : Refusal n → lent-after (words-in f) witness-trace (refused n) before ≡ before
       kept (inl h) = refusals (words-in f) witness-trace before .between n (omega arith) (omega arith)
-      kept (inr h) = refusals (words-in f) witness-trace before .below n (omega arith)
+      kept (inr (inl h)) = refusals (words-in f) witness-trace before .below n (omega arith)
+      kept (inr (inr h)) = refusals (words-in f) witness-trace before .above n (omega arith)

@@ -1,10 +1,6 @@
-//! Whether the two answers to a row agree: each side's answer as a list of facts.
+//! Whether the two answers to a row agree: each side's answer as a list of facts. Those of the Rust are in `theirs.rs`.
 use crate::ours::*;
-use crate::plain::format::{decode, with_events};
-use crate::plain::reference::*;
-use crate::plain::refusals;
 use crate::rows::Row;
-use crate::theirs::Answer;
 
 const RECORD_KINDS: [&str; 19] = [
     "initial",
@@ -48,7 +44,7 @@ const VERIFICATIONS: [&str; 4] =
 pub struct Facts(Vec<(String, String)>);
 
 impl Facts {
-    fn add(&mut self, name: impl Into<String>, value: impl ToString) {
+    pub fn add(&mut self, name: impl Into<String>, value: impl ToString) {
         self.0.push((name.into(), value.to_string()));
     }
 }
@@ -68,111 +64,6 @@ pub fn difference(theirs: &Facts, ours: &Facts) -> Option<String> {
         }
     }
     None
-}
-
-// ---- the reference's answer
-
-pub fn theirs(row: &Row, answer: &std::result::Result<Answer, String>) -> Facts {
-    let mut facts = Facts::default();
-    let answer = match answer {
-        Ok(answer) => answer,
-        Err(text) => {
-            facts.add("refused", refusals::number(text));
-            return facts;
-        }
-    };
-    facts.add("refused", 0);
-    match answer {
-        Answer::Validate => {}
-        Answer::Simulate(s) => their_simulation(&mut facts, s, true),
-        Answer::Check(c) => their_check(&mut facts, c, true),
-        Answer::Verify(v) => {
-            facts.add("status", &v.status);
-            facts.add("cases", v.cases);
-            facts.add("total steps", v.total_steps);
-            facts.add("reasons", v.reasons.len());
-            facts.add("shortest", u64::from(v.shortest_by_event_count));
-            if let (Some(witness), Some(check)) = (&v.witness, &v.check) {
-                their_events(&mut facts, row, &witness.events);
-                their_check(&mut facts, check, false);
-            }
-        }
-        Answer::Minimize(m) => {
-            facts.add("invariant", &m.invariant);
-            facts.add("original events", m.original_events);
-            facts.add("attempts", m.attempts);
-            facts.add("minimal", u64::from(m.deletion_minimal));
-            their_events(&mut facts, row, &m.scenario.events);
-            their_check(&mut facts, &m.check, false);
-        }
-        Answer::Lint(l) => {
-            facts.add("findings", l.findings.len());
-            facts.add("interactions", l.interactions.len());
-            facts.add("components", l.components.len());
-            for f in &l.findings {
-                let at = match f.code.as_str() {
-                    "trigger_cycle" => String::new(),
-                    "unsupported" => String::new(),
-                    _ => format!("{}:{}", f.sources[0].line, f.sources[0].column),
-                };
-                facts.add("finding", format!("{} {} {at}", f.code, f.automations.join(" ")));
-            }
-            for i in &l.interactions {
-                facts.add("interaction", format!("{} {} {}", i.from, i.to, i.entity));
-            }
-        }
-        Answer::Cone(c) => {
-            facts.add("entities", c.entities.len());
-            facts.add("automations", c.automations.len());
-        }
-    }
-    facts
-}
-
-fn their_simulation(facts: &mut Facts, s: &Simulation, with_records: bool) {
-    facts.add("steps", s.processed_steps);
-    facts.add("records", s.trace.len());
-    facts.add("horizon", s.horizon);
-    facts.add("unknown", s.unknown.len());
-    facts.add("incomplete", s.incomplete.len());
-    for value in s.final_state.values() {
-        facts.add("value at the end", value);
-    }
-    if with_records {
-        for t in &s.trace {
-            let change = match (&t.entity, &t.before, &t.after) {
-                (Some(entity), Some(before), Some(after)) => format!("{entity} {before} {after}"),
-                _ => String::new(),
-            };
-            facts.add("record", format!("{} {} {change}", t.at, t.kind));
-        }
-    }
-}
-
-fn their_check(facts: &mut Facts, c: &Check, with_records: bool) {
-    facts.add("status", &c.status);
-    facts.add("violations", c.violations.len());
-    for v in &c.violations {
-        facts.add("violation", format!("{} {} {}", v.invariant, v.at, v.trace_index));
-    }
-    facts.add("reasons for unknown", c.unknown.len());
-    facts.add("reasons for incomplete", c.incomplete.len());
-    their_simulation(facts, &c.simulation, with_records);
-}
-
-fn their_events(facts: &mut Facts, row: &Row, events: &[Event]) {
-    facts.add("events", events.len());
-    for event in events {
-        let input = match &event.input {
-            Input::Set { entity, value } => format!("0 {entity} {value}"),
-            Input::Restart => "1".into(),
-            Input::Reload => "2".into(),
-        };
-        facts.add("event", format!("{} {input}", event.at));
-    }
-    let decoded = decode(&row.file).expect("a whole file");
-    let file = with_events(&row.file, &decoded, events);
-    facts.add("file", format!("{file:?}"));
 }
 
 // ---- our answer

@@ -3,7 +3,6 @@ mod agree;
 mod models;
 mod ours;
 mod rows;
-mod theirs;
 
 #[path = "../../src/areas.rs"]
 #[allow(dead_code)]
@@ -15,14 +14,31 @@ mod edit;
 #[allow(dead_code)]
 mod random;
 
-/// The reference as it is, and what is built on it.
+/// The reference with the requests built in, and what is built on it: it is timed on models with windows.
 #[path = "../../src"]
 #[allow(dead_code)]
 mod plain {
-    pub use ::reference;
+    pub use ::requested as reference;
+    pub mod added;
     pub mod cone;
     pub mod format;
     pub mod refusals;
+    #[path = "../bench/src/theirs.rs"]
+    pub mod theirs;
+}
+
+/// The reference as it is: it is timed on all other models.
+#[path = "../../src"]
+#[allow(dead_code)]
+mod unchanged {
+    pub use ::reference;
+    #[path = "nothing_added.rs"]
+    pub mod added;
+    pub mod cone;
+    pub mod format;
+    pub mod refusals;
+    #[path = "../bench/src/theirs.rs"]
+    pub mod theirs;
 }
 
 /// The copy that counts what the areas need; it isn't timed.
@@ -30,6 +46,7 @@ mod plain {
 #[allow(dead_code)]
 mod counted {
     pub use ::counted as reference;
+    pub mod added;
     pub mod cone;
     pub mod format;
     pub mod refusals;
@@ -40,7 +57,14 @@ use ours::Lent;
 use rows::{Areas, Row};
 use std::hint::black_box;
 use std::time::{Duration, Instant};
-use theirs::Answer;
+
+/// The Rust's side of a row: what it answered, and how it is called and its file read again.
+pub struct Side<'a> {
+    facts: agree::Facts,
+    counts: Vec<(usize, &'static str)>,
+    call: Box<dyn FnMut() + 'a>,
+    decoding: Box<dyn FnMut() + 'a>,
+}
 
 const USAGE: &str = "usage:
   bench [ROW-PREFIX]        times the rows whose names begin so
@@ -88,7 +112,7 @@ const HEAD: &str = "\
 Rust: the unchanged reference, release build, on the decoded scenario and automations in memory. A call is its `validate`, \
 `simulate`, `check`, `verify`, `minimize` or `lint`, each of which validates the model itself (verify and minimize once more \
 for each case), and the release of the answer's memory. For `cone`, which the reference doesn't have, it is the oracle's, \
-made from the reference's `lint`.
+made from the reference's `lint`. In rows `windows-` it is the copy of the reference that has windows built in.
 
 Decoding: the same model file made into the reference's scenario and automations, by the oracle's decoder (the reference \
 reads other formats). From the same bytes to an answer the Rust needs both.
@@ -129,25 +153,40 @@ fn table(prefix: &str) {
 
 /// The line of a row, or why it isn't timed.
 fn time(row: &Row) -> Result<String, String> {
-    let (s, rules) = (&row.model.scenario, &row.model.rules[..]);
     let mut lent = Lent::new(row.entry, &row.file, &row.areas);
-    let answer = theirs::call(row.entry, s, rules);
+    let unchanged = unchanged::theirs::side(row);
+    let side = unchanged.or_else(|| plain::theirs::side(row)).expect("a whole file");
     let number = ours::call(row.entry, &row.file, &mut lent);
-    let difference =
-        agree::difference(&agree::theirs(row, &answer), &agree::ours(row, number, &lent));
-    if let Some(difference) = difference {
+    if let Some(difference) = agree::difference(&side.facts, &agree::ours(row, number, &lent)) {
         return Err(difference);
     }
-    let what = what(row, &answer);
-    drop(answer);
-
-    let mut their_call = || {
-        drop(black_box(theirs::call(black_box(row.entry), black_box(s), black_box(rules))));
-    };
+    let what = what(row, &side.counts);
     let mut our_call = || {
         black_box(ours::call(black_box(row.entry), black_box(&row.file), black_box(&mut lent)));
     };
-    let mut decoding = || drop(black_box(plain::format::decode(black_box(&row.file))));
+    let Side { call: mut their_call, mut decoding, .. } = side;
+    let times = times(&mut their_call, &mut decoding, &mut our_call);
+    let [rust, decoding, ours] = times;
+    let both = |t: &[f64]| format!("{} ({})", readable(t[0]), readable(t[t.len() / 2]));
+    Ok(format!(
+        "| {} | {} | {what} | {} | {} | {} | {} | {:.2} | {:.2} |",
+        row.name,
+        row.entry,
+        areas_text(&row.areas),
+        both(&rust),
+        both(&decoding),
+        both(&ours),
+        ours[0] / rust[0],
+        ours[0] / (rust[0] + decoding[0]),
+    ))
+}
+
+/// The seconds of each, per call, ascending.
+fn times(
+    mut their_call: &mut dyn FnMut(),
+    mut decoding: &mut dyn FnMut(),
+    mut our_call: &mut dyn FnMut(),
+) -> [Vec<f64>; 3] {
     let counts = [calls(&mut their_call), calls(&mut decoding), calls(&mut our_call)];
     let mut times = [vec![], vec![], vec![]];
     for n in 0..BATCHES {
@@ -164,19 +203,7 @@ fn time(row: &Row) -> Result<String, String> {
         }
     }
     times.iter_mut().for_each(|t| t.sort_by(f64::total_cmp));
-    let [rust, decoding, ours] = times;
-    let both = |t: &[f64]| format!("{} ({})", readable(t[0]), readable(t[t.len() / 2]));
-    Ok(format!(
-        "| {} | {} | {what} | {} | {} | {} | {} | {:.2} | {:.2} |",
-        row.name,
-        row.entry,
-        areas_text(&row.areas),
-        both(&rust),
-        both(&decoding),
-        both(&ours),
-        ours[0] / rust[0],
-        ours[0] / (rust[0] + decoding[0]),
-    ))
+    times
 }
 
 fn batch(call: &mut impl FnMut(), calls: u64) -> Duration {
@@ -219,37 +246,11 @@ fn repeat(row: &Row, time: Duration) {
 }
 
 /// What the input is and what comes of it.
-fn what(row: &Row, answer: &Result<Answer, String>) -> String {
+fn what(row: &Row, counts: &[(usize, &str)]) -> String {
     let mut text = format!("{} bytes", grouped(row.file.len()));
     let mut add = |count: usize, word: &str| text += &format!(", {} {word}", grouped(count));
-    match answer {
-        Err(_) | Ok(Answer::Validate) => {}
-        Ok(Answer::Simulate(simulation)) => {
-            add(simulation.processed_steps, "steps");
-            add(simulation.trace.len(), "records");
-        }
-        Ok(Answer::Check(check)) => {
-            add(check.simulation.processed_steps, "steps");
-            add(check.simulation.trace.len(), "records");
-            add(row.model.scenario.invariants.len(), "invariants");
-        }
-        Ok(Answer::Verify(v)) => {
-            add(v.cases, "cases");
-            add(v.total_steps, "steps in all");
-        }
-        Ok(Answer::Minimize(m)) => {
-            add(m.original_events, "events");
-            add(m.attempts, "attempts");
-            add(m.scenario.events.len(), "events left");
-        }
-        Ok(Answer::Lint(lint)) => {
-            add(lint.findings.len(), "findings");
-            add(lint.interactions.len(), "interactions");
-        }
-        Ok(Answer::Cone(cone)) => {
-            add(cone.entities.len(), "entities");
-            add(cone.automations.len(), "automations");
-        }
+    for (count, word) in counts {
+        add(*count, word);
     }
     if matches!(row.entry, "simulate" | "check") {
         let needed = areas::needed(row.entry, &row.file);

@@ -90,6 +90,27 @@ pub fn grown(steps: usize, entities: usize, idle: usize, invariants: usize) -> M
     model
 }
 
+/// The same with so many windows in each automation's conditions, all of them open.
+pub fn windows(steps: usize, each: usize) -> Model {
+    let mut model = grown(steps, 8, 0, 4);
+    model.scenario.start = Start { weekday: 6, second: 86_000 };
+    for rule in &mut model.rules {
+        // Past midnight, and within a day from midnight on; the events come in 1,000 seconds.
+        rule.conditions = (0..each)
+            .map(|n| if n % 2 == 0 { window(64, 79_200, 21_600) } else { window(127, 1_000, 999) })
+            .collect();
+    }
+    model
+}
+
+/// The scope's example with a window, open at its event.
+pub fn example_at_night() -> Model {
+    let mut model = example();
+    model.scenario.start = Start { weekday: 0, second: 79_195 };
+    model.rules[0].conditions = vec![window(1, 79_200, 21_600)];
+    model
+}
+
 /// 10,000 records: events that start 32 automations, of which some are started
 /// a second time by what the first one does; restarts fill up the rest.
 pub fn records(entities: usize, invariants: usize) -> Model {

@@ -63,7 +63,7 @@ fn row(name: &str, entry: &'static str, model: &Model, size: Size) -> Row {
 /// A model, its entries and the sizes of areas, in the order of the table.
 type Source = (&'static str, fn() -> Model, &'static [&'static str], &'static [Size]);
 const BOTH: &[&str] = &["simulate", "check"];
-const SOURCES: [Source; 26] = [
+const SOURCES: [Source; 29] = [
     ("example", example, &["validate", "cone"], &[Size::Fit]),
     (
         "example",
@@ -95,6 +95,9 @@ const SOURCES: [Source; 26] = [
     ("grow-invariants-0", || models::grown(3000, 8, 0, 0), BOTH, &[Size::Enough]),
     ("grow-invariants-16", || models::grown(3000, 8, 0, 16), BOTH, &[Size::Enough]),
     ("grow-invariants-32", || models::grown(3000, 8, 0, 32), BOTH, &[Size::Enough]),
+    ("windows-example", models::example_at_night, BOTH, &[Size::Fit]),
+    ("windows-1", || models::windows(3000, 1), BOTH, &[Size::Enough]),
+    ("windows-32", || models::windows(3000, 32), BOTH, &[Size::Enough]),
 ];
 
 /// The rows whose names begin with the prefix.

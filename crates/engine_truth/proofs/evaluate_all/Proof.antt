@@ -13,10 +13,10 @@ use Rattle.engine_truth.proofs.evaluate.Reads as evaluate-reads
 use Rattle.engine_truth.proofs.predicate_size.Reads as predicate-size-reads
 
 abbrev Inv-loop : tie.InvT-loop
-Inv-loop f x values at left₀ p₀ t₀ left p t = allT f x values at ≡ allFrom f x values left p t
+Inv-loop f x values second at left₀ p₀ t₀ left p t = allT f x values second at ≡ allFrom f x values second left p t
 
 abbrev μ-loop : tie.MeasureT-loop
-μ-loop f x values at left₀ p₀ t₀ left p t = left
+μ-loop f x values second at left₀ p₀ t₀ left p t = left
 
 pub evaluate-all-spec : {M : Type 1} → statement M
 evaluate-all-spec =
@@ -26,12 +26,12 @@ evaluate-all-spec =
     μ-loop
     (λ c κs. search needs)
     (λ c κs. search needs)
-    (λ c. laws.all-start _ _ _ _ _ _ (c .before .two-at .ensures .0) (c .after .ensures))
+    (λ c. laws.all-start _ _ _ _ _ _ _ (c .before .two-at .ensures .0) (c .after .ensures))
     (λ c κs. search needs)
     (λ c κs. search needs)
     (λ c κs. search needs)
     (λ c κs. search needs)
     (λ c. search needs)
     (λ c. search needs)
-    (λ c. c .before .before .before .before .before .loop .inv ∙ laws.all-more _ _ _ _ _ _ _ _ _ _ (c .before .before .before .before .loop-test .taken) (c .before .before .before .evaluate .ensures) (c .before .before .both .ensures) (c .before .predicate-size .ensures) (c .after2 .ensures))
-    (λ c. sym (c .before .loop .inv ∙ laws.all-end _ _ _ _ _ _ (c .loop-test .left))))
+    (λ c. c .before .before .before .before .before .loop .inv ∙ laws.all-more _ _ _ _ _ _ _ _ _ _ _ (c .before .before .before .before .loop-test .taken) (c .before .before .before .evaluate .ensures) (c .before .before .both .ensures) (c .before .predicate-size .ensures) (c .after2 .ensures))
+    (λ c. sym (c .before .loop .inv ∙ laws.all-end _ _ _ _ _ _ _ (c .loop-test .left))))

@@ -11,10 +11,10 @@ use Rattle.engine_state.proofs.after.Reads as after-reads
 use Rattle.engine_truth.proofs.branch_at.Reads as branch-at-reads
 
 abbrev Inv-loop : tie.InvT-loop
-Inv-loop f x values at left₀ p₀ left p = selectT f x values at ≡ selectFrom f x values left p
+Inv-loop f x values second at left₀ p₀ left p = selectT f x values second at ≡ selectFrom f x values second left p
 
 abbrev μ-loop : tie.MeasureT-loop
-μ-loop f x values at left₀ p₀ left p = left
+μ-loop f x values second at left₀ p₀ left p = left
 
 pub select-spec : {M : Type 1} → statement M
 select-spec =
@@ -24,14 +24,14 @@ select-spec =
     μ-loop
     (λ c κs. search needs)
     (λ c κs. search needs)
-    (λ c. laws.select-start _ _ _ _ _ _ (c .before .two-at .ensures .0) (c .after .ensures))
+    (λ c. laws.select-start _ _ _ _ _ _ _ (c .before .two-at .ensures .0) (c .after .ensures))
     (λ c κs. search needs)
     (λ c. search needs)
-    (λ c. sym (c .before .before .before .before .before .loop .inv ∙ laws.select-take _ _ _ _ _ _ (c .before .before .before .before .loop-test .taken) (c .before .before .before .branch-at .ensures) _ (c .before .b .given .1)))
+    (λ c. sym (c .before .before .before .before .before .loop .inv ∙ laws.select-take _ _ _ _ _ _ _ (c .before .before .before .before .loop-test .taken) (c .before .before .before .branch-at .ensures) _ (c .before .b .given .1)))
     (λ c. search needs)
-    (λ c. sym (c .before .before .before .before .loop .inv ∙ laws.select-unclear _ _ _ _ _ _ (c .before .before .before .loop-test .taken) (c .before .before .branch-at .ensures) (c .enum-told .given .1)))
+    (λ c. sym (c .before .before .before .before .loop .inv ∙ laws.select-unclear _ _ _ _ _ _ _ (c .before .before .before .loop-test .taken) (c .before .before .branch-at .ensures) (c .enum-told .given .1)))
     (λ c. search needs)
     (λ c. search needs)
     (λ c. search needs)
-    (λ c. c .before .before .before .before .before .loop .inv ∙ laws.select-skip _ _ _ _ _ _ (c .before .before .before .before .loop-test .taken) (c .before .before .before .branch-at .ensures) _ (c .before .b2 .given .1))
-    (λ c. sym (c .before .loop .inv ∙ laws.select-end _ _ _ _ _ (c .loop-test .left))))
+    (λ c. c .before .before .before .before .before .loop .inv ∙ laws.select-skip _ _ _ _ _ _ _ (c .before .before .before .before .loop-test .taken) (c .before .before .before .branch-at .ensures) _ (c .before .b2 .given .1))
+    (λ c. sym (c .before .loop .inv ∙ laws.select-end _ _ _ _ _ _ (c .loop-test .left))))

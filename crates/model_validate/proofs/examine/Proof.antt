@@ -22,5 +22,17 @@ examine-spec =
     (λ c. search needs)
     (λ c κs. search needs)
     (λ c. agrees.outline-refused _ _ _ _ _ _ _ _ _ (c .before .before .read .ensures) (c .enum-told .given .1))
-    (λ c. agrees.outline-accepted _ _ _ _ _ _ _ _ _ (c .before .before .before .before .before .before .before .before .before .before .before .before .read .ensures) (c .before .before .before .before .before .before .before .before .before .before .enum-told2 .given .1) (c .before .before .whole-check .ensures) (c .before .before .before .before .before .before .before .before .before .declared .ensures) (c .enum-told3 .given .1))
-    (λ c. agrees.outline-checked _ _ _ _ _ _ _ _ _ (c .before .before .before .before .before .before .before .before .before .before .before .before .before .before .read .ensures) (c .before .before .before .before .before .before .before .before .before .before .before .before .enum-told2 .given .1) (c .before .before .before .before .whole-check .ensures) (c .before .before .before .before .before .before .before .before .before .before .before .declared .ensures) (c .before .before .y .given .1) _ (c .refusal .ensures)))
+    (λ c.
+    let at-declared = c .before .before .before .before .before .before .before .before .before in
+    let at-enum-told2 = at-declared .before .before in
+    let at-read = at-enum-told2 .before .before in
+    agrees.outline-accepted _ _ _ _ _ _ _ _ _ (at-read .read .ensures) (at-enum-told2 .enum-told2 .given .1)
+    (c .before .before .whole-check .ensures) (at-declared .declared .ensures) (c .enum-told3 .given .1))
+    (λ c.
+    let at-whole-check = c .before .before .before .before in
+    let at-declared = at-whole-check .before .before .before .before .before .before .before in
+    let at-enum-told2 = at-declared .before .before in
+    let at-read = at-enum-told2 .before .before in
+    agrees.outline-checked _ _ _ _ _ _ _ _ _ (at-read .read .ensures) (at-enum-told2 .enum-told2 .given .1)
+    (at-whole-check .whole-check .ensures) (at-declared .declared .ensures) (c .before .before .y .given .1) _
+    (c .refusal .ensures)))

@@ -1,0 +1,2 @@
+-- what lint and the cone don't read
+pub mod AnyStart

@@ -1,0 +1,16 @@
+-- The window at a position of the file f, with the table x.
+use Prim.Native.Nat.{ℕ, _+_}
+use mathlib.Core.Bool.{Bool}
+use mathlib.Core.List.{List}
+use lib.ListN.{getD}
+use Rattle.model.specs.Model.{Moment}
+use Rattle.engine.specs.Truth.{moment-after, is-open}
+use Rattle.engine_reads.specs.Reads.{four}
+
+-- the moment of second 0
+abbrev pub startW : List ℕ → Moment
+startW x = record { weekday = getD x 10 0; second = getD x 11 0 }
+
+-- its days, start and end stand behind its kind
+unfoldable pub openW : (f x : List ℕ) → (second at : ℕ) → Bool
+openW f x n at = is-open (getD f (at + 1) 0) (four f (at + 2)) (four f (at + 6)) (moment-after (startW x) n)
