@@ -7,21 +7,21 @@ use mathlib.Core.Option.{some}
 use lib.ListN.{length}
 use Rattle.texts.specs.Texts.{Text, text}
 use Rattle.texts.specs.Places.{textAt, startFrom}
-use Rattle.model.specs.Answer.{Answer, answer, refused}
-use Rattle.model.specs.Rewrite.{all-rewrite}
+use Rattle.model_spec.specs.Answer.{Answer, answer, refused}
+use Rattle.model_spec.specs.Rewrite.{all-rewrite}
 use Rattle.areas.specs.Areas.{area, words}
 use Rattle.reasons.specs.Reasons.{placed}
-use Rattle.engine.specs.Memory.{entries}
-use Rattle.engine.specs.Records.{Areas}
-use Rattle.engine.specs.Words.{source-words, texts-in, entry-words, sizes}
-use Rattle.engine.proofs.Distinct.{answer-eq, refused-answer}
-use Rattle.engine_reads.specs.Reads.{atMost}
-use Rattle.checker.specs.Check.{Violation, Status, Check, check, all-check}
-use Rattle.checker.specs.Judge.{prohibited-state}
+use Rattle.engine_spec.specs.Memory.{entries}
+use Rattle.engine_spec.specs.Records.{Areas}
+use Rattle.engine_spec.specs.Words.{source-words, texts-in, entry-words, sizes}
+use Rattle.engine_spec.proofs.Distinct.{answer-eq, refused-answer}
+use Rattle.engine_fields.specs.Reads.{atMost}
+use Rattle.checker_spec.specs.Check.{Violation, Status, Check, check, all-check}
+use Rattle.checker_spec.specs.Judge.{prohibited-state}
 use Rattle.checker_result.specs.declared.CheckResult.{CheckResult}
 use Rattle.checker_result.specs.declared.Status.the-variants as status
 use Rattle.checker_entry.specs.Answers.{status-as, violation-words, Shows, Says}
-use Rattle.checker_lines.specs.Numbers.{violated-of, text-at, failure-of, source-of, violation-of}
+use Rattle.check_lines.specs.Numbers.{violated-of, text-at, failure-of, source-of, violation-of}
 use Rattle.check_example.specs.Lampdoor.{lampdoor}
 use Rattle.check_example.specs.Printed.{lines-of, printed, all-printed}
 use Rattle.check_example.specs.ShowCheck.{scope-lines, ShowCheck}

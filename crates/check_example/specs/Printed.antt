@@ -1,4 +1,4 @@
--- What `showcheck` writes of an answer of `check`: the texts that `check_lines` writes by the contracts of the functions it
+-- What `showcheck` writes of an answer of `check`: the texts that `print_check` writes by the contracts of the functions it
 -- calls, in the order of its calls.
 use Prim.Native.Nat.{ℕ, zero, suc, _+_, _*_}
 use mathlib.Core.List.{List, [], _++_}
@@ -10,13 +10,13 @@ use Rattle.checker_result.specs.declared.CheckResult.{CheckResult}
 use Rattle.checker_result.specs.declared.Status.{Status}
 use Rattle.checker_result.specs.declared.Status.the-variants.{Refused, Unknown, Violation, Incomplete, NoViolationInTrace}
 use Rattle.show.specs.Lines as show
-use Rattle.reason_lines.specs.Lines as reason
-use Rattle.reason_lines.specs.Lines.{steps-line, records-line}
-use Rattle.engine_lines.specs.Lines as engine
-use Rattle.checker_lines.specs.Lines as checker
-use Rattle.checker_lines.specs.Lines.{bare-violated, bare-reason}
-use Rattle.checker_lines.specs.Numbers.{violated-of, violation-of}
-use Rattle.check_lines.specs.Answer.{first-line}
+use Rattle.simulate_lines.specs.Lines as reason
+use Rattle.simulate_lines.specs.Lines.{steps-line, records-line}
+use Rattle.record_lines.specs.Lines as engine
+use Rattle.check_lines.specs.Lines as checker
+use Rattle.check_lines.specs.Lines.{bare-violated, bare-reason}
+use Rattle.check_lines.specs.Numbers.{violated-of, violation-of}
+use Rattle.print_check.specs.Answer.{first-line}
 
 -- the lines from the k-th on, as many as are left
 unfoldable pub lines-from : (line : ℕ → Text) → (k left : ℕ) → Text

@@ -3,7 +3,7 @@
 use mathlib.Core.Path.{_≡_}
 use lib.ListN.{length}
 use Rattle.texts.specs.Texts.{Text, text}
-use Rattle.engine.specs.Memory.{Lent}
+use Rattle.engine_spec.specs.Memory.{Lent}
 use Rattle.checker_result.specs.declared.CheckResult.{CheckResult}
 use Rattle.checker_entry.specs.Answers.{Checks}
 use Rattle.check_example.specs.Lampdoor.{lampdoor}

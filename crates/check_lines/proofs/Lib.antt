@@ -1,2 +1,3 @@
 pub mod Laws
-pub mod Encoded
+pub mod Lengths
+pub mod Examples

@@ -1,188 +1,275 @@
-// The answer of `check`, printed line by line through a lent area of bytes, for `showcheck` (bare) and `showfullcheck`.
-// No contract can say what is printed; the lines are those of `checker_lines`, `reason_lines` and `engine_lines`, and their
-// order is the order of the calls here.
-use checker_lines::Form;
-use checker_result::CheckResult;
-use checker_result::Status;
-use engine_summary::Simulation;
-use engine_table::Table;
-use reason_lines::Word;
-ghost use Prim.Native.Nat.{_≤_};
+// The lines of `check`, written behind the first n bytes of a lent area as the writers of `show` do. f is the model file.
+// A violation comes as eight numbers, a reason as five words.
+use reasons::Reason;
+ghost use mathlib.Core.Path.{_≡_};
+ghost use mathlib.Core.List.{[], _∷_, _++_};
+ghost use Prim.Native.Nat.{_+_, _*_, _≤_};
+ghost use lib.ListN.{length, drop};
+ghost use Rattle.reasons.specs.Reasons.{render};
+ghost use Rattle.reasons.specs.Lists.{reason-of};
+ghost use Rattle.engine_fields.specs.Reads.{atMost};
+ghost use Rattle.record_lines.specs.Lines.{placed-if};
+ghost use Rattle.checker_spec.specs.Judge.{message, deadline-missed};
+ghost use Rattle.show.specs.Lines.{quoted};
 ghost use Rattle.show.specs.Writing.{Written};
-ghost use Rattle.check_lines.specs.Answer.{first-line};
+ghost use Rattle.check_lines.specs.Lines.{moment, bare-violated, full-violated, bare-reason, full-reason};
+ghost use Rattle.check_lines.specs.Numbers.{violated-of, text-at, failure-of, source-of, violation-of};
 
-// Areas of so many entries are never too small.
-pub const QUEUE: usize = 20544;
+// The eight numbers of a violation: the place of the invariant's identifier among the texts, the second, the record's index,
+// the failure (1 prohibited state, 2 guard, 3 transition, 4 deadline), the deadline; 1, line and column of the source, or zeros.
+pub struct Violated {
+    pub place: u64,
+    pub second: u64,
+    pub index: u64,
+    pub failure: u64,
+    pub deadline: u64,
+    pub sourced: u64,
+    pub line: u64,
+    pub column: u64,
+}
 
-pub const RECORDS: usize = 10096;
-
-pub const RUNS: usize = 512;
-
-// The status, or the refusal.
-pub fn put_status(out: &mut [u8], n: usize, status: Status) -> usize
-    ensures { λ m. ⌜ Written (first-line status) (now (out .entry)) n (now (out .exit)) m ⌝ }
+// The violation at k of a list.
+pub fn violated_at(a: &[u64], k: usize) -> Violated
+    requires { ⌜ k * 8 + 8 ≤ length (now a) ⌝ }
+    ensures { λ r. ⌜ r ≡ violated-of (drop (k * 8) (now (a .entry))) ⌝ }
 {
-    match status {
-        Status::Refused(number) => show::put_refused(out, n, number),
-        Status::Unknown => show::put(out, n, b"status unknown\n"),
-        Status::Violation => show::put(out, n, b"status violation\n"),
-        Status::Incomplete => show::put(out, n, b"status incomplete\n"),
-        Status::NoViolationInTrace => show::put(out, n, b"status no_violation_in_trace\n"),
+    let at = k * 8;
+    Violated {
+        place: a[at],
+        second: a[at + 1],
+        index: a[at + 2],
+        failure: a[at + 3],
+        deadline: a[at + 4],
+        sourced: a[at + 5],
+        line: a[at + 6],
+        column: a[at + 7],
     }
 }
 
-fn print_violations(
+// ---- the parts of a violation's line
+
+// A number as a place, or the last place if it is more.
+fn place_of(number: u64) -> u32
+    ensures { λ r. ⌜ r ≡ atMost number 65535 ⌝ }
+{
+    if number <= 65535 {
+        return number as u32;
+    }
+    65535
+}
+
+fn put_identifier(out: &mut [u8], n: usize, f: &[u8], place: u64) -> usize
+    ensures { λ m. ⌜ Written (text-at (now (f .entry)) place) (now (out .entry)) n (now (out .exit)) m ⌝ }
+{
+    let at = texts::text_start(f, 6, place_of(place));
+    show::put_text(out, n, f, at)
+}
+
+fn put_quoted_identifier(out: &mut [u8], n: usize, f: &[u8], place: u64) -> usize
+    ensures { λ m. ⌜ Written (quoted (text-at (now (f .entry)) place)) (now (out .entry)) n (now (out .exit)) m ⌝ }
+{
+    let at = texts::text_start(f, 6, place_of(place));
+    show::put_quoted_text(out, n, f, at)
+}
+
+fn put_moment(out: &mut [u8], n: usize, second: u64, index: u64) -> usize
+    ensures { λ m. ⌜ Written (moment second index) (now (out .entry)) n (now (out .exit)) m ⌝ }
+{
+    let a = show::put_byte(out, n, 32);
+    let b = show::put_number(out, a, second);
+    let c = show::put_byte(out, b, 32);
+    let d = show::put_number(out, c, index);
+    show::put_byte(out, d, 32)
+}
+
+// LINE:COLUMN, or `-`.
+fn put_origin(out: &mut [u8], n: usize, sourced: u64, line: u64, column: u64) -> usize
+    ensures { λ m. ⌜ Written (placed-if (source-of sourced line column)) (now (out .entry)) n (now (out .exit)) m ⌝ }
+{
+    if sourced == 0 {
+        return show::put_byte(out, n, 45);
+    }
+    let a = show::put_number(out, n, line);
+    let b = show::put_byte(out, a, 58);
+    show::put_number(out, b, column)
+}
+
+fn put_deadline(out: &mut [u8], n: usize, deadline: u64) -> usize
+    ensures { λ m. ⌜ Written (quoted (message (deadline-missed deadline))) (now (out .entry)) n (now (out .exit)) m ⌝ }
+{
+    let a = show::put(out, n, b"\"response deadline ");
+    let b = show::put_number(out, a, deadline);
+    show::put(out, b, b" missed\"")
+}
+
+// The message of a failure, quoted.
+fn put_message(out: &mut [u8], n: usize, failure: u64, deadline: u64) -> usize
+    ensures { λ m. ⌜ Written (quoted (message (failure-of failure deadline))) (now (out .entry)) n (now (out .exit)) m ⌝ }
+{
+    if failure == 1 {
+        return show::put_quoted(out, n, b"prohibited state reached");
+    }
+    if failure == 2 {
+        return show::put_quoted(out, n, b"action guard violated");
+    }
+    if failure == 3 {
+        return show::put_quoted(out, n, b"forbidden transition");
+    }
+    put_deadline(out, n, deadline)
+}
+
+// ---- a violation's line
+
+// `violated ID SECOND INDEX SOURCE`
+pub fn put_bare_violated(out: &mut [u8], n: usize, f: &[u8], v: Violated) -> usize
+    ensures { λ m. ⌜ Written (bare-violated (violation-of (now (f .entry)) v)) (now (out .entry)) n (now (out .exit)) m ⌝ }
+{
+    let a = show::put(out, n, b"violated ");
+    let b = put_identifier(out, a, f, v.place);
+    let c = put_moment(out, b, v.second, v.index);
+    let d = put_origin(out, c, v.sourced, v.line, v.column);
+    show::put_byte(out, d, 10)
+}
+
+// `violated "ID" SECOND INDEX SOURCE "MESSAGE"`
+pub fn put_full_violated(out: &mut [u8], n: usize, f: &[u8], v: Violated) -> usize
+    ensures { λ m. ⌜ Written (full-violated (violation-of (now (f .entry)) v)) (now (out .entry)) n (now (out .exit)) m ⌝ }
+{
+    let a = show::put(out, n, b"violated ");
+    let b = put_quoted_identifier(out, a, f, v.place);
+    let c = put_moment(out, b, v.second, v.index);
+    let d = put_origin(out, c, v.sourced, v.line, v.column);
+    let e = show::put_byte(out, d, 32);
+    let g = put_message(out, e, v.failure, v.deadline);
+    show::put_byte(out, g, 10)
+}
+
+// ---- a reason's line
+
+// A word and the reason at i of a list of reasons, bare.
+pub fn put_bare_reason(
     out: &mut [u8],
     n: usize,
-    form: Form,
-    file: &[u8],
-    violated: &[u64; 256],
-    count: usize,
-) -> usize {
-    checker_lines::print_violations(out, n, form, file, violated, count)
-}
-
-fn print_unknown(
-    out: &mut [u8],
-    n: usize,
-    form: Form,
-    file: &[u8],
-    reasons: &[u32; 2000],
-    count: usize,
-) -> usize {
-    checker_lines::print_reasons(out, n, form, b"unknown", file, reasons, count)
-}
-
-fn print_incomplete(
-    out: &mut [u8],
-    n: usize,
-    form: Form,
-    file: &[u8],
-    reasons: &[u32; 200],
-    count: usize,
-) -> usize {
-    checker_lines::print_reasons(out, n, form, b"incomplete", file, reasons, count)
-}
-
-// What follows the status: numbers, violations and reasons.
-fn print_verdict(out: &mut [u8], n: usize, form: Form, file: &[u8], c: CheckResult) -> usize {
-    let s = c.simulation;
-    let violated = c.violated;
-    let unknowns = c.unknowns;
-    let incompletes = c.incompletes;
-    let h = reason_lines::put_steps(out, n, s.steps);
-    let i = reason_lines::put_records(out, h, s.records);
-    let j = print_violations(out, i, form, file, &violated, c.violations);
-    let k = print_unknown(out, j, form, file, &unknowns, c.unknown);
-    print_incomplete(out, k, form, file, &incompletes, c.incomplete)
-}
-
-// The table of an accepted file.
-fn table(file: &[u8]) -> Table {
-    let x = model_validate::accept(file);
-    engine_table::table_of(file, x.index)
-}
-
-fn print_sim_unknown(
-    out: &mut [u8],
-    n: usize,
-    file: &[u8],
-    reasons: &[u32; 1500],
-    count: usize,
-) -> usize {
-    reason_lines::print_reasons(out, n, Word::SimUnknown, file, reasons, count)
-}
-
-// The lines of the simulation, whose records stand in the area `a`.
-fn print_simulation(out: &mut [u8], n: usize, file: &[u8], a: &[u32], s: Simulation) -> usize {
-    let t = table(file);
-    let words = t.words;
-    let values = s.values;
-    let reasons = s.reasons;
-    let i = engine_lines::print_records(out, n, file, &words, a, s.records);
-    let j = reason_lines::print_finals(out, i, file, &words, &values);
-    let k = print_sim_unknown(out, j, file, &reasons, s.unknown);
-    reason_lines::print_incomplete(out, k, s.why, s.waiting)
-}
-
-fn print_answer(
-    out: &mut [u8],
-    n: usize,
-    form: Form,
-    file: &[u8],
+    word: &[u8],
+    f: &[u8],
     a: &[u32],
-    c: CheckResult,
-) -> usize {
-    let m = print_verdict(out, n, form, file, c);
-    match form {
-        Form::Bare => m,
-        Form::Full => print_simulation(out, m, file, a, c.simulation),
-    }
-}
-
-// The status and all that follows it; a refusal's number only.
-pub fn print_result(
-    out: &mut [u8],
-    n: usize,
-    form: Form,
-    file: &[u8],
-    a: &[u32],
-    c: CheckResult,
-) -> usize {
-    let status = c.status;
-    let m = put_status(out, n, status);
-    if let Status::Refused(_) = status {
-        return m;
-    }
-    print_answer(out, m, form, file, a, c)
-}
-
-// `check` with these lent areas.
-fn print_lent(
-    out: &mut [u8],
-    n: usize,
-    form: Form,
-    file: &[u8],
-    q: &mut [u32],
-    a: &mut [u32],
-    r: &mut [u32],
-) -> usize {
-    let c = checker_entry::check(file, q, a, r);
-    print_result(out, n, form, file, a, c)
-}
-
-// The lines of `showcheck`: its areas have at most 64 KiB each, 3,276 entries of the queue, 1,260 records, 585 runs.
-pub fn print_check(out: &mut [u8], n: usize, file: &[u8]) -> usize {
-    let mut q = [0u32; 16380];
-    let mut a = [0u32; 16380];
-    let mut r = [0u32; 16380];
-    print_lent(out, n, Form::Bare, file, &mut q, &mut a, &mut r)
-}
-
-// The lines of `showfullcheck`, with areas of so many entries.
-pub fn print_full_check(
-    out: &mut [u8],
-    n: usize,
-    file: &[u8],
-    queue: usize,
-    records: usize,
-    runs: usize,
+    i: usize,
 ) -> usize
-    requires { ⌜ (queue ≤ 20544) × ((records ≤ 10096) × (runs ≤ 512)) ⌝ }
+    requires { ⌜ i * 5 + 5 ≤ length (now a) ⌝ }
+    ensures { λ m. ⌜ Written (bare-reason (now (word .entry)) (render (now (f .entry)) (reason-of (drop (i * 5) (now (a .entry)))))) (now (out .entry)) n (now (out .exit)) m ⌝ }
 {
-    let mut q = [0u32; 102720];
-    let mut a = [0u32; 131248];
-    let mut r = [0u32; 14336];
-    let items = queue * 5;
-    let lines = records * 13;
-    let rows = runs * 28;
-    print_lent(
-        out,
-        n,
-        Form::Full,
-        file,
-        &mut q[0..items],
-        &mut a[0..lines],
-        &mut r[0..rows],
-    )
+    let r = reasons::get(a, i);
+    let j = show::put(out, n, word);
+    let k = show::put_byte(out, j, 32);
+    let l = show::put_reason(out, k, f, r);
+    show::put_byte(out, l, 10)
+}
+
+// The same, the reason quoted.
+pub fn put_full_reason(
+    out: &mut [u8],
+    n: usize,
+    word: &[u8],
+    f: &[u8],
+    a: &[u32],
+    i: usize,
+) -> usize
+    requires { ⌜ i * 5 + 5 ≤ length (now a) ⌝ }
+    ensures { λ m. ⌜ Written (full-reason (now (word .entry)) (render (now (f .entry)) (reason-of (drop (i * 5) (now (a .entry)))))) (now (out .entry)) n (now (out .exit)) m ⌝ }
+{
+    let r = reasons::get(a, i);
+    let j = show::put(out, n, word);
+    let k = show::put_byte(out, j, 32);
+    let l = show::put_quoted_reason(out, k, f, r);
+    show::put_byte(out, l, 10)
+}
+
+// ---- printing: lines behind the first n bytes of `out`, which goes to standard output first where a line may not fit.
+// The answer is where the next text goes; whoever printed last flushes.
+
+// No line is longer, however its texts are escaped (proofs/Lengths: bare-short, full-short and so on).
+const LINE: usize = 4096;
+
+// Bare texts, or quoted texts and messages.
+pub enum Form {
+    Bare,
+    Full,
+}
+
+// n, or the most if it is more.
+fn at_most(n: usize, most: usize) -> usize
+    ensures { λ r. ⌜ r ≤ most ⌝ }
+{
+    if most < n {
+        return most;
+    }
+    n
+}
+
+fn print_violated(out: &mut [u8], n: usize, form: Form, f: &[u8], a: &[u64], k: usize) -> usize
+    requires { ⌜ k * 8 + 8 ≤ length (now a) ⌝ }
+{
+    let m = show::room(out, n, LINE);
+    let v = violated_at(a, k);
+    match form {
+        Form::Bare => put_bare_violated(out, m, f, v),
+        Form::Full => put_full_violated(out, m, f, v),
+    }
+}
+
+// The first `count` violations of a list, or as many as it has room for.
+pub fn print_violations(
+    out: &mut [u8],
+    n: usize,
+    form: Form,
+    f: &[u8],
+    a: &[u64],
+    count: usize,
+) -> usize {
+    let many = at_most(count, a.len() / 8);
+    let mut m = n;
+    let mut k: usize = 0;
+    while k < many {
+        m = print_violated(out, m, form, f, a, k);
+        k += 1;
+    }
+    m
+}
+
+fn print_reason(
+    out: &mut [u8],
+    n: usize,
+    form: Form,
+    word: &[u8],
+    f: &[u8],
+    a: &[u32],
+    i: usize,
+) -> usize
+    requires { ⌜ i * 5 + 5 ≤ length (now a) ⌝ }
+{
+    let m = show::room(out, n, LINE);
+    match form {
+        Form::Bare => put_bare_reason(out, m, word, f, a, i),
+        Form::Full => put_full_reason(out, m, word, f, a, i),
+    }
+}
+
+// The first `count` reasons of a list behind a word, or as many as it has room for.
+pub fn print_reasons(
+    out: &mut [u8],
+    n: usize,
+    form: Form,
+    word: &[u8],
+    f: &[u8],
+    a: &[u32],
+    count: usize,
+) -> usize {
+    let many = at_most(count, a.len() / 5);
+    let mut m = n;
+    let mut i: usize = 0;
+    while i < many {
+        m = print_reason(out, m, form, word, f, a, i);
+        i += 1;
+    }
+    m
 }

@@ -5,9 +5,9 @@ use mathlib.Core.List.{List}
 use mathlib.Core.Logic.{inl, inr}
 use native.Mathlib.Omega.{arith}
 use lib.ListN.{length, getD}
-use Rattle.model.specs.Answer.{Answer, answer, refused, _>>=_}
-use Rattle.model.specs.Model.{Event, Input, Model}
-use Rattle.model.specs.Validate.{accepted}
+use Rattle.model_spec.specs.Answer.{Answer, answer, refused, _>>=_}
+use Rattle.model_spec.specs.Model.{Event, Input, Model}
+use Rattle.model_spec.specs.Validate.{accepted}
 use Rattle.model_index.specs.declared.File.{File}
 use Rattle.model_index.specs.declared.Index.{Index}
 use Rattle.model_index.specs.declared.Status.the-variants as status
@@ -15,21 +15,21 @@ use Rattle.model_index.specs.Indexed as indexed
 use Rattle.model_index.specs.Indexed.{Indexed}
 use Rattle.model_validate.proofs.Agrees.{accept-read, accept-refused}
 use Rattle.model_validate.proofs.Refusals.{Refuses, Refusal, refusal-numbers}
-use Rattle.engine.specs.Cells.{initial-cells}
-use Rattle.engine.specs.Memory.{Lent, entries, zeros, all-zeros, lent-after}
-use Rattle.engine.specs.Records.{Areas}
-use Rattle.engine.specs.Words.{words-in, entry-words}
-use Rattle.engine.proofs.Memory.{refusals}
-use Rattle.engine_reads.specs.Reads.{atMost}
-use Rattle.engine_places.specs.Meaning.{Tabled}
-use Rattle.engine_places.specs.Events.{EventAt}
-use Rattle.engine_begin.specs.Begin.{EventsOf}
-use Rattle.engine_begin.proofs.Begins.{event-here}
+use Rattle.engine_spec.specs.Cells.{initial-cells}
+use Rattle.engine_spec.specs.Memory.{Lent, entries, zeros, all-zeros, lent-after}
+use Rattle.engine_spec.specs.Records.{Areas}
+use Rattle.engine_spec.specs.Words.{words-in, entry-words}
+use Rattle.engine_spec.proofs.Memory.{refusals}
+use Rattle.engine_fields.specs.Reads.{atMost}
+use Rattle.engine_refinement.specs.Meaning.{Tabled}
+use Rattle.engine_refinement.specs.Events.{EventAt}
+use Rattle.engine_inputs.specs.Begin.{EventsOf}
+use Rattle.engine_inputs.proofs.Begins.{event-here}
 use Rattle.engine_entry.specs.Answers.{Ground, Grounds, lent}
 use Rattle.engine_entry.proofs.Core.{tb, queue-clear, runs-clear}
 use Rattle.engine_entry.proofs.Entry.{events-count}
-use Rattle.checker.specs.Check as check
-use Rattle.checker.specs.Check.{checked}
+use Rattle.checker_spec.specs.Check as check
+use Rattle.checker_spec.specs.Check.{checked}
 use Rattle.checker_result.specs.declared.CheckResult.{CheckResult}
 use Rattle.checker_result.specs.Result.{no-check}
 use Rattle.checker_entry.specs.Answers.{Says, check-memory, Checks}

@@ -15,31 +15,31 @@ use Rattle.records.specs.declared.Where.{Where}
 use Rattle.records.specs.declared.Where.the-variants.{Nowhere, From}
 use Rattle.reasons.specs.Lists.{insertAll}
 use Rattle.reasons.proofs.Sorting.{merged, either-way}
-use Rattle.model.specs.Model.{Invariant, id-of, Model}
-use Rattle.model.specs.Windows.{windowless-invariant}
-use Rattle.model.specs.File.{invariant}
-use Rattle.model.specs.Rewrite.{place-of}
+use Rattle.model_spec.specs.Model.{Invariant, id-of, Model}
+use Rattle.model_spec.specs.Windows.{windowless-invariant}
+use Rattle.model_spec.specs.File.{invariant}
+use Rattle.model_spec.specs.Rewrite.{place-of}
 use Rattle.model_parts.specs.Stand.{Reads}
-use Rattle.engine.specs.Words.{source-words}
-use Rattle.engine_reads.specs.Reads.{two, cap}
+use Rattle.engine_spec.specs.Words.{source-words}
+use Rattle.engine_fields.specs.Reads.{two, cap}
 use Rattle.engine_state.specs.declared.Cells.{Cells}
-use Rattle.engine_places.specs.Meaning.{where-of, cells-of, record-of, Tabled}
-use Rattle.engine_places.proofs.Numbers.{cap-is}
-use Rattle.engine_places.proofs.Truth.{Valued}
-use Rattle.engine_places.proofs.Words.{text-place}
-use Rattle.checker.specs.Check.{Violation, violation-of}
-use Rattle.checker.specs.Judge.{Reading, read-all, unknown-reasons, incomplete-reasons}
+use Rattle.engine_refinement.specs.Meaning.{where-of, cells-of, record-of, Tabled}
+use Rattle.engine_refinement.proofs.Numbers.{cap-is}
+use Rattle.engine_refinement.proofs.Truth.{Valued}
+use Rattle.engine_refinement.proofs.Words.{text-place}
+use Rattle.checker_spec.specs.Check.{Violation, violation-of}
+use Rattle.checker_spec.specs.Judge.{Reading, read-all, unknown-reasons, incomplete-reasons}
 use Rattle.checker_response.specs.declared.Failure.{Failure}
 use Rattle.checker_response.specs.declared.Failure.the-variants.{NoFailure, ProhibitedState, GuardViolated, ForbiddenTransition, DeadlineMissed}
-use Rattle.checker_response.specs.Response.{failedJ}
-use Rattle.checker_judge.specs.Judging.{judgeJ}
-use Rattle.checker_reasons.specs.Told.{renderings, unknownI, incompleteI}
+use Rattle.checker_response.specs.Response.{failedM}
+use Rattle.checker_judge.specs.Judging.{judgeM}
+use Rattle.checker_reasons.specs.Told.{renderings, unknownM, incompleteM}
 use Rattle.checker_judge.specs.declared.Reading.{Reading as Read}
-use Rattle.checker_places.specs.Meaning.{memory-of, failing-of, reading-of}
-use Rattle.checker_places.proofs.Record.{both-true, Parts, of-never, of-guard, of-transition, of-response, parts}
-use Rattle.checker_places.proofs.Judge.{Traced, judge-is}
-use Rattle.checker_places.proofs.Reasons.{unknown-is, incomplete-is}
-use Rattle.checker_verdict.specs.Verdict.{sourceV, brokenV, violatedV, Gathered, oneV, firstV}
+use Rattle.checker_refinement.specs.Meaning.{memory-of, failing-of, reading-of}
+use Rattle.checker_refinement.proofs.Record.{both-true, Parts, of-never, of-guard, of-transition, of-response, parts}
+use Rattle.checker_refinement.proofs.Judge.{Traced, judge-is}
+use Rattle.checker_refinement.proofs.Reasons.{unknown-is, incomplete-is}
+use Rattle.checker_collect.specs.Verdict.{sourceM, brokenM, violatedM, Gathered, oneM, firstM}
 use Rattle.checker_entry.specs.Answers.{violation-words}
 
 -- ---- lists
@@ -69,7 +69,7 @@ sorted-more l a b = merged b (l ++ a) ∙ either-way b (l ++ a) ∙ ap sortedT (
 
 -- ---- one invariant
 
-source-as : (s : Where) → sourceV s 0 ∷ sourceV s 1 ∷ sourceV s 2 ∷ [] ≡ source-words (where-of s)
+source-as : (s : Where) → sourceM s 0 ∷ sourceM s 1 ∷ sourceM s 2 ∷ [] ≡ source-words (where-of s)
 unfolding source-words
 source-as Nowhere = refl
 source-as (From l c) = refl
@@ -95,19 +95,19 @@ module _ (f x : List ℕ) (ts : List Text) (m : Model) (tb : Tabled f x ts m) wh
 
   -- a violation's numbers
   violation-as : (id : ℕ) (i : Invariant) (r : Read) → id < length ts → id-of i ≡ getD ts id [] →
-      words brokenV (violatedV id r) ≡ words (violation-words ts) (violation-of i (reading-of r .failing))
-  unfolding words violatedV failedJ reading-of failing-of violation-of violation-words
+      words brokenM (violatedM id r) ≡ words (violation-words ts) (violation-of i (reading-of r .failing))
+  unfolding words violatedM failedM reading-of failing-of violation-of violation-words
   violation-as id i r h e = by (r .failure) refl
     where
       one : (n d : ℕ) →
-          id ∷ r .second ∷ r .index ∷ n ∷ d ∷ sourceV (r .source) 0 ∷ sourceV (r .source) 1 ∷ sourceV (r .source) 2 ∷ []
+          id ∷ r .second ∷ r .index ∷ n ∷ d ∷ sourceM (r .source) 0 ∷ sourceM (r .source) 1 ∷ sourceM (r .source) 2 ∷ []
           ≡ place-of (id-of i) ts ∷ r .second ∷ r .index ∷ n ∷ d ∷ source-words (where-of (r .source))
       one n d =
           ap (λ (y : List ℕ). id ∷ r .second ∷ r .index ∷ n ∷ d ∷ y) (source-as (r .source))
           ∙ ap (λ (k : ℕ). k ∷ r .second ∷ r .index ∷ n ∷ d ∷ source-words (where-of (r .source))) (sym (text-place f x ts m tb id h) ∙ ap (λ (t : Text). place-of t ts) (sym e))
 
       by : (y : Failure) → r .failure ≡ y →
-          words brokenV (violatedV id r) ≡ words (violation-words ts) (violation-of i (reading-of r .failing))
+          words brokenM (violatedM id r) ≡ words (violation-words ts) (violation-of i (reading-of r .failing))
       by NoFailure z = rw z
       by ProhibitedState z = rw z (ap (λ (l : List ℕ). l ++ []) (one 1 0))
       by GuardViolated z = rw z (ap (λ (l : List ℕ). l ++ []) (one 2 0))
@@ -115,11 +115,11 @@ module _ (f x : List ℕ) (ts : List Text) (m : Model) (tb : Tabled f x ts m) wh
       by (DeadlineMissed d) z = rw z (ap (λ (l : List ℕ). l ++ []) (one 4 d))
 
   violation-count : (id : ℕ) (i : Invariant) (r : Read) →
-      length (violatedV id r) ≡ length (violation-of i (reading-of r .failing))
-  unfolding violatedV failedJ reading-of failing-of violation-of
+      length (violatedM id r) ≡ length (violation-of i (reading-of r .failing))
+  unfolding violatedM failedM reading-of failing-of violation-of
   violation-count id i r = by (r .failure) refl
     where
-      by : (y : Failure) → r .failure ≡ y → length (violatedV id r) ≡ length (violation-of i (reading-of r .failing))
+      by : (y : Failure) → r .failure ≡ y → length (violatedM id r) ≡ length (violation-of i (reading-of r .failing))
       by NoFailure z = rw z
       by ProhibitedState z = rw z
       by GuardViolated z = rw z
@@ -143,32 +143,32 @@ module _ (f x : List ℕ) (ts : List Text) (m : Model) (tb : Tabled f x ts m) wh
 
     -- what is gathered from the first k, before them the reasons us and ws
     pub record Agreed (us ws : List Text) (k : ℕ) (g : Gathered) : Type 0 where
-      pub violations : words brokenV (g .violations) ≡ words (violation-words ts) (flat violated (take k is))
+      pub violations : words brokenM (g .violations) ≡ words (violation-words ts) (flat violated (take k is))
       pub many : length (g .violations) ≡ length (flat violated (take k is))
       pub unknowns : g .unknown ≡ sortedT (us ++ flat unknown (take k is))
       pub incompletes : g .incomplete ≡ sortedT (ws ++ flat incomplete (take k is))
 
     agreed-next : (us ws : List Text) (k : ℕ) (d : Invariant) → k < length is → (g : Gathered) → Agreed us ws k g →
-        Agreed us ws (suc k) (oneV f x (getD starts k 0) c l g)
-    unfolding oneV reading-of
+        Agreed us ws (suc k) (oneM f x (getD starts k 0) c l g)
+    unfolding oneM reading-of
     agreed-next us ws k d h g a =
         let at = getD starts k 0 in
         let i = getD is k d in
-        let r = judgeJ f x at c l in
+        let r = judgeM f x at c l in
         let n = named at i (stand d k h) in
         let e : reading-of r ≡ reading-for i = judge-is f x ts m tb at i (stand d k h) (all-at windowless-invariant is d k calm h) c ns ok long l traced in
         let em : memory-of (r .memory) ≡ reading-for i .memory = ap (λ (y : Reading). y .memory) e in
-        let ev : words brokenV (violatedV (two f (cap at + 1)) r) ≡ words (violation-words ts) (violated i) = violation-as (two f (cap at + 1)) i r (n .place-in) (n .is) ∙ ap (λ (y : Reading). words (violation-words ts) (violation-of i (y .failing))) e in
-        let eu : renderings f (unknownI f (cap at) (r .memory)) ≡ unknown i = unknown-is f x ts m tb at (r .memory) i (stand d k h) ∙ ap (unknown-reasons i) em in
-        let ew : renderings f (incompleteI f (cap at) (r .memory)) ≡ incomplete i = incomplete-is f x ts m tb at (r .memory) i (stand d k h) ∙ ap (incomplete-reasons i) em in
+        let ev : words brokenM (violatedM (two f (cap at + 1)) r) ≡ words (violation-words ts) (violated i) = violation-as (two f (cap at + 1)) i r (n .place-in) (n .is) ∙ ap (λ (y : Reading). words (violation-words ts) (violation-of i (y .failing))) e in
+        let eu : renderings f (unknownM f (cap at) (r .memory)) ≡ unknown i = unknown-is f x ts m tb at (r .memory) i (stand d k h) ∙ ap (unknown-reasons i) em in
+        let ew : renderings f (incompleteM f (cap at) (r .memory)) ≡ incomplete i = incomplete-is f x ts m tb at (r .memory) i (stand d k h) ∙ ap (incomplete-reasons i) em in
         record {
           violations =
-              areas.words-append brokenV (g .violations) (violatedV (two f (cap at + 1)) r)
-              ∙ ap (λ (y : List ℕ). y ++ words brokenV (violatedV (two f (cap at + 1)) r)) (a .violations)
+              areas.words-append brokenM (g .violations) (violatedM (two f (cap at + 1)) r)
+              ∙ ap (λ (y : List ℕ). y ++ words brokenM (violatedM (two f (cap at + 1)) r)) (a .violations)
               ∙ ap (λ (y : List ℕ). words (violation-words ts) (flat violated (take k is)) ++ y) ev
               ∙ sym (areas.words-append (violation-words ts) (flat violated (take k is)) (violated i))
               ∙ ap (words (violation-words ts)) (sym (flat-next violated is k d h));
-          many = omega (arith, length-append (g .violations) (violatedV (two f (cap at + 1)) r), length-append (flat violated (take k is)) (violated i), ap length (flat-next violated is k d h), a .many, violation-count (two f (cap at + 1)) i r ∙ ap (λ (y : Reading). length (violation-of i (y .failing))) e);
+          many = omega (arith, length-append (g .violations) (violatedM (two f (cap at + 1)) r), length-append (flat violated (take k is)) (violated i), ap length (flat-next violated is k d h), a .many, violation-count (two f (cap at + 1)) i r ∙ ap (λ (y : Reading). length (violation-of i (y .failing))) e);
           unknowns =
               ap (λ (y : List Text). insertAll y (g .unknown)) eu
               ∙ ap (insertAll (unknown i)) (a .unknowns)
@@ -182,7 +182,7 @@ module _ (f x : List ℕ) (ts : List Text) (m : Model) (tb : Tabled f x ts m) wh
         }
 
     pub agreed : (us ws : List Text) (g : Gathered) → Agreed us ws 0 g → (d : Invariant) (k : ℕ) → k ≤ length is →
-        Agreed us ws k (firstV f x starts c l k g)
-    unfolding firstV
+        Agreed us ws k (firstM f x starts c l k g)
+    unfolding firstM
     agreed us ws g a d zero h = a
-    agreed us ws g a d (suc k) h = agreed-next us ws k d h (firstV f x starts c l k g) (agreed us ws g a d k (omega arith))
+    agreed us ws g a d (suc k) h = agreed-next us ws k d h (firstM f x starts c l k g) (agreed us ws g a d k (omega arith))

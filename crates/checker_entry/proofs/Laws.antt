@@ -4,7 +4,7 @@ use mathlib.Core.Path.{_≡_, refl, sym, ap, subst, _∙_}
 use mathlib.Core.List.{List}
 use native.Mathlib.Omega.{arith}
 use Rattle.engine_summary.specs.declared.Summary.{Summary}
-use Rattle.engine.specs.Memory.{Lent}
+use Rattle.engine_spec.specs.Memory.{Lent}
 use Rattle.engine_summary.specs.Summary.{simulation-of}
 use Rattle.engine_entry.specs.Answers.{Ground, ground}
 use Rattle.engine_entry.specs.Parts.{Ran}

@@ -9,26 +9,26 @@ use lib.Dec.{eqb}
 use lib.ListN.{length, getD, length-append}
 use Rattle.texts.specs.Lists.{if_then_else_, any, flat}
 use Rattle.texts.specs.Texts.{Text, text, eqT, ltT, memT, insertT, sortedT}
-use Rattle.model.specs.Answer.{answer, refused}
-use Rattle.model.specs.Model.{Event, Invariant, never, guard, transition, response, id-of, Model}
-use Rattle.model.specs.Validate.{accepted}
+use Rattle.model_spec.specs.Answer.{answer, refused}
+use Rattle.model_spec.specs.Model.{Event, Invariant, never, guard, transition, response, id-of, Model}
+use Rattle.model_spec.specs.Validate.{accepted}
 use Rattle.model_index.specs.declared.Index.{Index}
 use Rattle.model_index.specs.Indexed.{Indexed}
-use Rattle.engine.specs.Cells.{Cell}
-use Rattle.engine.specs.Reasons.{space-spent, steps-spent, runs-left}
-use Rattle.engine.specs.Simulate as engine
-use Rattle.engine.proofs.Lists.{eqT-same}
-use Rattle.engine_places.specs.Meaning.{pool-of}
-use Rattle.engine_places.specs.Events.{Among, EventAt}
-use Rattle.engine_places.proofs.Pool.{mem-left, mem-right, among-to}
-use Rattle.engine_places.proofs.Simulated.{static-among}
+use Rattle.engine_spec.specs.Cells.{Cell}
+use Rattle.engine_spec.specs.Reasons.{space-spent, steps-spent, runs-left}
+use Rattle.engine_spec.specs.Simulate as engine
+use Rattle.engine_spec.proofs.Lists.{eqT-same}
+use Rattle.engine_refinement.specs.Meaning.{pool-of}
+use Rattle.engine_refinement.specs.Events.{Among, EventAt}
+use Rattle.engine_refinement.proofs.Pool.{mem-left, mem-right, among-to}
+use Rattle.engine_refinement.proofs.Simulated.{static-among}
 use Rattle.engine_entry.specs.Answers.{Ground, Grounds, incomplete-of}
 use Rattle.engine_entry.proofs.Core.{tb}
 use Rattle.engine_entry.proofs.Promise as simulator
-use Rattle.engine.specs.Unsupported.{unsupported}
-use Rattle.checker.specs.Check.{judged}
-use Rattle.checker.specs.Check as check
-use Rattle.checker.specs.Judge.{Memory, reason-if, read-all, unknown-reasons, incomplete-reasons}
+use Rattle.engine_spec.specs.Unsupported.{unsupported}
+use Rattle.checker_spec.specs.Check.{judged}
+use Rattle.checker_spec.specs.Check as check
+use Rattle.checker_spec.specs.Judge.{Memory, reason-if, read-all, unknown-reasons, incomplete-reasons}
 use Rattle.checker_result.specs.declared.CheckResult.{CheckResult}
 use Rattle.checker_entry.specs.Pool.{invariant-pool, check-pool}
 use Rattle.checker_entry.specs.Parts.{Checked}

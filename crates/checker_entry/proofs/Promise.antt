@@ -21,49 +21,49 @@ use Rattle.reasons.specs.Lists.{insertAll, Holds}
 use Rattle.reasons.specs.Reasons.{render, body, words}
 use Rattle.reasons.proofs.Listing.{reported}
 use Rattle.reasons.proofs.Sorting.{merged, one-by-one, either-way}
-use Rattle.model.specs.Answer.{Answer, answer, refused, _>>=_}
-use Rattle.model.specs.Model.{Event, Invariant, Model}
-use Rattle.model.specs.File.{invariant}
-use Rattle.model.specs.Validate.{accepted}
+use Rattle.model_spec.specs.Answer.{Answer, answer, refused, _>>=_}
+use Rattle.model_spec.specs.Model.{Event, Invariant, Model}
+use Rattle.model_spec.specs.File.{invariant}
+use Rattle.model_spec.specs.Validate.{accepted}
 use Rattle.model_parts.specs.Stand.{Reads}
 use Rattle.model_index.specs.declared.Index.{Index}
 use Rattle.model_index.specs.Indexed.{Indexed}
-use Rattle.engine.specs.Cells.{Cell, initial-cells}
-use Rattle.engine.specs.Reasons.{space-spent, steps-spent, runs-left}
-use Rattle.engine.specs.Records.{Areas}
-use Rattle.engine.specs.Simulate as engine
-use Rattle.engine.specs.Simulate.{simulated}
-use Rattle.engine.specs.Words.{words-in}
-use Rattle.engine.proofs.Closed.{records-fit}
-use Rattle.engine.proofs.Lists.{Each, Case, is-true, is-false, case}
-use Rattle.engine_reads.specs.Reads.{atMost, alone}
-use Rattle.engine_places.specs.Meaning.{cells-of, record-of, Tabled}
-use Rattle.engine_places.proofs.Accepted.{accepted-lawful}
-use Rattle.engine_places.proofs.Lists.{each-imp}
-use Rattle.engine_places.proofs.Numbers.{most-is}
-use Rattle.engine_places.proofs.Pool.{has-text, no-text}
-use Rattle.engine_places.proofs.Relation.{Worded}
-use Rattle.engine_places.specs.Events.{EventAt}
-use Rattle.engine_places.proofs.Truth.{Valued}
-use Rattle.engine_begin.proofs.Begins.{start-valued, start-cells-are}
+use Rattle.engine_spec.specs.Cells.{Cell, initial-cells}
+use Rattle.engine_spec.specs.Reasons.{space-spent, steps-spent, runs-left}
+use Rattle.engine_spec.specs.Records.{Areas}
+use Rattle.engine_spec.specs.Simulate as engine
+use Rattle.engine_spec.specs.Simulate.{simulated}
+use Rattle.engine_spec.specs.Words.{words-in}
+use Rattle.engine_spec.proofs.Closed.{records-fit}
+use Rattle.engine_spec.proofs.Lists.{Each, Case, is-true, is-false, case}
+use Rattle.engine_fields.specs.Reads.{atMost, alone}
+use Rattle.engine_refinement.specs.Meaning.{cells-of, record-of, Tabled}
+use Rattle.engine_refinement.proofs.Accepted.{accepted-lawful}
+use Rattle.engine_refinement.proofs.Lists.{each-imp}
+use Rattle.engine_refinement.proofs.Numbers.{most-is}
+use Rattle.engine_refinement.proofs.Pool.{has-text, no-text}
+use Rattle.engine_refinement.proofs.Relation.{Worded}
+use Rattle.engine_refinement.specs.Events.{EventAt}
+use Rattle.engine_refinement.proofs.Truth.{Valued}
+use Rattle.engine_inputs.proofs.Begins.{start-valued, start-cells-are}
 use Rattle.engine_summary.specs.declared.Simulation.{Simulation}
 use Rattle.engine_summary.specs.Summary.{no-simulation}
 use Rattle.engine_entry.specs.Answers.{Ground, Grounds, incomplete-of, Shows}
 use Rattle.engine_entry.proofs.Core.{tb}
 use Rattle.engine_entry.proofs.Promise.{texts-here, records-here}
 use Rattle.engine_entry.proofs.Promise as simulator
-use Rattle.checker.specs.Check.{Violation, status-of, violation-of, judged, checked}
-use Rattle.checker.specs.Check as check
-use Rattle.checker.specs.Judge.{read-all, unknown-reasons, incomplete-reasons}
-use Rattle.checker_places.proofs.Judge.{Traced}
-use Rattle.checker_verdict.specs.declared.Counts.{Counts}
-use Rattle.checker_verdict.specs.Verdict.{brokenV, Gathered, firstV, Keeps}
+use Rattle.checker_spec.specs.Check.{Violation, status-of, violation-of, judged, checked}
+use Rattle.checker_spec.specs.Check as check
+use Rattle.checker_spec.specs.Judge.{read-all, unknown-reasons, incomplete-reasons}
+use Rattle.checker_refinement.proofs.Judge.{Traced}
+use Rattle.checker_collect.specs.declared.Counts.{Counts}
+use Rattle.checker_collect.specs.Verdict.{brokenM, Gathered, firstM, Keeps}
 use Rattle.checker_result.specs.declared.Status.the-variants as status
 use Rattle.checker_result.specs.declared.CheckResult.{CheckResult}
 use Rattle.checker_result.specs.Result.{no-check}
 use Rattle.checker_entry.specs.Answers.{status-as, violation-words}
 use Rattle.checker_entry.specs.Answers as said
-use Rattle.checker_result.specs.Verdicts.{statusV, stoppedR, leftR, startV, counts}
+use Rattle.checker_result.specs.Verdicts.{statusM, stoppedM, leftM, startM, counts}
 use Rattle.checker_entry.specs.Parts.{Checked, Whole, RefusedAs}
 use Rattle.checker_entry.proofs.Judged.{Agreed, agreed}
 
@@ -73,8 +73,8 @@ module _ (f x : List ℕ) (ts : List Text) (m : Model) (tb : Tabled f x ts m) wh
   alone-is k t n e = rw (n, no-text f x ts m tb, e) (append-nil t)
 
   -- why a simulation is incomplete
-  stopped-is : (w : ℕ) → map (render f) (stoppedR w) ≡ (if eqb w 0 then [] else if eqb w 1 then space-spent ∷ [] else steps-spent ∷ [])
-  unfolding stoppedR words space-spent steps-spent
+  stopped-is : (w : ℕ) → map (render f) (stoppedM w) ≡ (if eqb w 0 then [] else if eqb w 1 then space-spent ∷ [] else steps-spent ∷ [])
+  unfolding stoppedM words space-spent steps-spent
   stopped-is w = by (eqb w 0) (eqb w 1)
     where
       by : (a b : Bool) →
@@ -84,24 +84,24 @@ module _ (f x : List ℕ) (ts : List Text) (m : Model) (tb : Tabled f x ts m) wh
       by false true = ap (λ (t : Text). t ∷ []) (alone-is kinds.space-spent space-spent refl refl)
       by false false = ap (λ (t : Text). t ∷ []) (alone-is kinds.steps-spent steps-spent refl refl)
 
-  left-is : (b : Bool) → map (render f) (leftR b) ≡ (if b then runs-left ∷ [] else [])
-  unfolding leftR words runs-left
+  left-is : (b : Bool) → map (render f) (leftM b) ≡ (if b then runs-left ∷ [] else [])
+  unfolding leftM words runs-left
   left-is true = ap (λ (t : Text). t ∷ []) (alone-is kinds.runs-left runs-left refl refl)
   left-is false = refl
 
-  own-reasons : (w : ℕ) (b : Bool) → insertAll (map (render f) (leftR b)) (insertAll (map (render f) (stoppedR w)) []) ≡ sortedT (incomplete-of w b)
+  own-reasons : (w : ℕ) (b : Bool) → insertAll (map (render f) (leftM b)) (insertAll (map (render f) (stoppedM w)) []) ≡ sortedT (incomplete-of w b)
   unfolding incomplete-of
   own-reasons w b =
-      ap (insertAll (map (render f) (leftR b))) (one-by-one (map (render f) (stoppedR w)))
-      ∙ merged (map (render f) (leftR b)) (map (render f) (stoppedR w))
-      ∙ either-way (map (render f) (leftR b)) (map (render f) (stoppedR w))
-      ∙ ap (λ (l : List Text). sortedT (map (render f) (stoppedR w) ++ l)) (left-is b)
+      ap (insertAll (map (render f) (leftM b))) (one-by-one (map (render f) (stoppedM w)))
+      ∙ merged (map (render f) (leftM b)) (map (render f) (stoppedM w))
+      ∙ either-way (map (render f) (leftM b)) (map (render f) (stoppedM w))
+      ∙ ap (λ (l : List Text). sortedT (map (render f) (stoppedM w) ++ l)) (left-is b)
       ∙ ap (λ (l : List Text). sortedT (l ++ (if b then runs-left ∷ [] else []))) (stopped-is w)
 
 -- the status, by what there is
 status-same : (vs : List Violation) (us ws : List Text) (t : Counts) → t .violations ≡ length vs → t .unknown ≡ length us →
-    t .incomplete ≡ length ws → statusV t ≡ status-as (status-of vs us ws)
-unfolding statusV status-of is-empty
+    t .incomplete ≡ length ws → statusM t ≡ status-as (status-of vs us ws)
+unfolding statusM status-of is-empty
 status-same vs us ws t a b c = rw (a, b, c) (by us vs ws)
   where
     by : (us : List Text) (vs : List Violation) (ws : List Text) →
@@ -157,8 +157,8 @@ module _ (f : List ℕ) (i : Index) (m : Model) (acc : accepted f ≡ answer m) 
     abbrev AgreedAt : ℕ → Gathered → Type 0
     AgreedAt k y = Agreed f x (o .ts) m t is starts stand (t .stated) (g .cells) (g .cells .versions) valued versions-long l traced (sim .unknown) (sim .incomplete) k y
 
-    at-start : AgreedAt 0 (startV f s)
-    unfolding startV areas.words flat
+    at-start : AgreedAt 0 (startM f s)
+    unfolding startM areas.words flat
     at-start = record {
       violations = refl;
       many = refl;
@@ -167,14 +167,14 @@ module _ (f : List ℕ) (i : Index) (m : Model) (acc : accepted f ≡ answer m) 
     }
 
     abbrev all : Gathered
-    all = firstV f x starts (g .cells) l (atMost (i .invariants .count) 32) (startV f s)
+    all = firstM f x starts (g .cells) l (atMost (i .invariants .count) 32) (startM f s)
 
     none-such : Invariant
-    none-such = Rattle.model.specs.Model.never [] []
+    none-such = Rattle.model_spec.specs.Model.never [] []
 
     at-end : AgreedAt (length is) all
-    at-end = subst (λ (k : ℕ). AgreedAt (length is) (firstV f x starts (g .cells) l k (startV f s))) (sym all-invariants)
-        (agreed f x (o .ts) m t is starts stand (t .stated) (g .cells) (g .cells .versions) valued versions-long l traced (sim .unknown) (sim .incomplete) (startV f s) at-start none-such (length is) (omega arith))
+    at-end = subst (λ (k : ℕ). AgreedAt (length is) (firstM f x starts (g .cells) l k (startM f s))) (sym all-invariants)
+        (agreed f x (o .ts) m t is starts stand (t .stated) (g .cells) (g .cells .versions) valued versions-long l traced (sim .unknown) (sim .incomplete) (startM f s) at-start none-such (length is) (omega arith))
 
     abbrev verdict : check.Check
     verdict = judged is cells sim
@@ -192,7 +192,7 @@ module _ (f : List ℕ) (i : Index) (m : Model) (acc : accepted f ≡ answer m) 
     unfolding judged
     incompletes-are = rw (take-all (length is) is (omega arith), ← cells-are, ← trace)
 
-    pub verdict-shows : (r : CheckResult) → r .status ≡ statusV (counts r) → r .simulation ≡ s → length (r .violated) ≡ 256 →
+    pub verdict-shows : (r : CheckResult) → r .status ≡ statusM (counts r) → r .simulation ≡ s → length (r .violated) ≡ 256 →
         Keeps f (r .violated) (r .unknowns) (r .incompletes) (counts r) all → said.Shows f r verdict
     unfolding area judged
     verdict-shows r se re long keeps =
@@ -205,7 +205,7 @@ module _ (f : List ℕ) (i : Index) (m : Model) (acc : accepted f ≡ answer m) 
           violations = nv;
           violated =
               keeps .violations
-              ∙ ap (λ (n : ℕ). areas.words brokenV (all .violations) ++ replicate (n - length (areas.words brokenV (all .violations))) 0) long
+              ∙ ap (λ (n : ℕ). areas.words brokenM (all .violations) ++ replicate (n - length (areas.words brokenM (all .violations))) 0) long
               ∙ ap (λ (y : List ℕ). y ++ replicate (256 - length y) 0) (e .violations ∙ ap (areas.words (violation-words (o .ts))) violations-are)
               ∙ ap (λ (ts : List Text). areas.words (violation-words ts) (verdict .violations) ++ replicate (256 - length (areas.words (violation-words ts) (verdict .violations))) 0) (sym (texts-here f i m acc o bytes g gr));
           unknown = reported (has-text f x (o .ts) m t) hu;

@@ -1,18 +1,18 @@
--- What `check` answers, by the definitions of crate `checker`: each number of the answer, and each word of the lent areas.
+-- What `check` answers, by the definitions of crate `checker_spec`: each number of the answer, and each word of the lent areas.
 use Prim.Native.Nat.{ℕ}
 use mathlib.Core.Path.{_≡_}
 use mathlib.Core.List.{List, [], _∷_, _++_}
 use lib.ListN.{length}
 use Rattle.texts.specs.Texts.{Text}
 use Rattle.areas.specs.Areas.{area}
-use Rattle.model.specs.Answer.{Answer, answer, refused}
-use Rattle.model.specs.Rewrite.{place-of}
+use Rattle.model_spec.specs.Answer.{Answer, answer, refused}
+use Rattle.model_spec.specs.Rewrite.{place-of}
 use Rattle.reasons.specs.Lists.{Reported}
-use Rattle.engine.specs.Memory.{Lent, entries, lent-after}
-use Rattle.engine.specs.Words.{source-words, texts-in, words-in, entry-words}
+use Rattle.engine_spec.specs.Memory.{Lent, entries, lent-after}
+use Rattle.engine_spec.specs.Words.{source-words, texts-in, words-in, entry-words}
 use Rattle.engine_entry.specs.Answers as engine
-use Rattle.checker.specs.Check as check
-use Rattle.checker.specs.Judge as judge
+use Rattle.checker_spec.specs.Check as check
+use Rattle.checker_spec.specs.Judge as judge
 use Rattle.checker_result.specs.declared.Status.{Status}
 use Rattle.checker_result.specs.declared.Status.the-variants as status
 use Rattle.checker_result.specs.declared.CheckResult.{CheckResult}

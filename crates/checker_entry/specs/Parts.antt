@@ -2,12 +2,12 @@
 use Prim.Native.Nat.{ℕ, _≤_}
 use mathlib.Core.Path.{_≡_}
 use mathlib.Core.List.{List}
-use Rattle.model.specs.Answer.{answer}
-use Rattle.model.specs.Model.{Model}
-use Rattle.model.specs.Validate.{accepted}
+use Rattle.model_spec.specs.Answer.{answer}
+use Rattle.model_spec.specs.Model.{Model}
+use Rattle.model_spec.specs.Validate.{accepted}
 use Rattle.model_index.specs.declared.Index.{Index}
 use Rattle.model_index.specs.Indexed.{Indexed}
-use Rattle.engine.specs.Memory.{Lent}
+use Rattle.engine_spec.specs.Memory.{Lent}
 use Rattle.engine_entry.specs.Answers.{Ground}
 use Rattle.engine_entry.specs.Parts.{Ran}
 use Rattle.checker_result.specs.declared.Status.the-variants as status

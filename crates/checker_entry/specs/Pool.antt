@@ -2,9 +2,9 @@
 use mathlib.Core.List.{List, [], _∷_, _++_}
 use Rattle.texts.specs.Lists.{flat}
 use Rattle.texts.specs.Texts.{Text, text}
-use Rattle.model.specs.Model.{Invariant, never, guard, transition, response, Model}
-use Rattle.engine.specs.Reasons.{space-spent, steps-spent, runs-left}
-use Rattle.engine_places.specs.Meaning.{pool-of}
+use Rattle.model_spec.specs.Model.{Invariant, never, guard, transition, response, Model}
+use Rattle.engine_spec.specs.Reasons.{space-spent, steps-spent, runs-left}
+use Rattle.engine_refinement.specs.Meaning.{pool-of}
 
 -- what reading the records for an invariant may tell
 unfoldable pub invariant-pool : Invariant → List Text

@@ -133,9 +133,9 @@ fn run(
         notes: b.count,
         invariants: invariants.count,
     };
-    let v = engine_begin::events_of(file, index);
+    let v = engine_inputs::events_of(file, index);
     let events = v.words;
-    let n = engine_reads::at_most(table[8], 100);
+    let n = engine_fields::at_most(table[8], 100);
     check_settled(
         file,
         &table,

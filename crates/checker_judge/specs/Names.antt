@@ -11,56 +11,56 @@ use Rattle.records.specs.Records.{recorded}
 use Rattle.records.specs.declared.Change.{Change}
 use Rattle.records.specs.declared.Change.the-variants.{NoChange, Write}
 use Rattle.records.specs.declared.Record.{Record}
-use Rattle.engine_reads.specs.Reads.{two}
+use Rattle.engine_fields.specs.Reads.{two}
 use Rattle.engine_state.specs.Machine.{later}
-use Rattle.engine_truth.specs.Truths.{sizeT}
+use Rattle.engine_evaluate.specs.Truths.{sizeM}
 use Rattle.checker_response.specs.declared.Wait.{Wait}
 use Rattle.checker_response.specs.declared.Wait.the-variants.{NoWait, Until}
 use Rattle.checker_judge.specs.Judging.{goal-at}
 
-unfoldable pub hasN : List Bool → (id : ℕ) → Bool
-hasN l id = getD l (id % 64) false
+unfoldable pub hasM : List Bool → (id : ℕ) → Bool
+hasM l id = getD l (id % 64) false
 
-unfoldable pub withN : (id : ℕ) → List Bool → List Bool
-withN id l = set l (id % 64) true
+unfoldable pub withM : (id : ℕ) → List Bool → List Bool
+withM id l = set l (id % 64) true
 
 -- the entity of the predicate at a position, unless it is a note
-unfoldable pub predicateN : List ℕ → (at : ℕ) → List Bool → List Bool
-predicateN f at l = if eqb (getD f at 0) 1 then l else withN (two f (at + 1)) l
+unfoldable pub predicateM : List ℕ → (at : ℕ) → List Bool → List Bool
+predicateM f at l = if eqb (getD f at 0) 1 then l else withM (two f (at + 1)) l
 
 -- `left` predicates from p on
-unfoldable pub eachN : List ℕ → (left p : ℕ) → List Bool → List Bool
-eachN f zero p l = l
-eachN f (suc left) p l = eachN f left (later p (sizeT f p)) (predicateN f p l)
+unfoldable pub eachM : List ℕ → (left p : ℕ) → List Bool → List Bool
+eachM f zero p l = l
+eachM f (suc left) p l = eachM f left (later p (sizeM f p)) (predicateM f p l)
 
 -- the list at a position
-unfoldable pub listN : List ℕ → (at : ℕ) → List Bool → List Bool
-listN f at l = eachN f (two f at) (later at 2) l
+unfoldable pub listM : List ℕ → (at : ℕ) → List Bool → List Bool
+listM f at l = eachM f (two f at) (later at 2) l
 
 -- the invariant at a position
-unfoldable pub namesN : List ℕ → (at : ℕ) → List Bool → List Bool
-namesN f at l =
-    if eqb (getD f at 0) 0 then listN f (later at 3) l
-    else if eqb (getD f at 0) 1 then listN f (later at 7) (withN (two f (at + 3)) l)
-    else if eqb (getD f at 0) 2 then withN (two f (at + 3)) l
-    else predicateN f (goal-at f at) (predicateN f (later at 3) l)
+unfoldable pub namesM : List ℕ → (at : ℕ) → List Bool → List Bool
+namesM f at l =
+    if eqb (getD f at 0) 0 then listM f (later at 3) l
+    else if eqb (getD f at 0) 1 then listM f (later at 7) (withM (two f (at + 3)) l)
+    else if eqb (getD f at 0) 2 then withM (two f (at + 3)) l
+    else predicateM f (goal-at f at) (predicateM f (later at 3) l)
 
 abbrev pub named-in : List ℕ → (at : ℕ) → List Bool
-named-in f at = namesN f at (replicate 64 false)
+named-in f at = namesM f at (replicate 64 false)
 
 -- the change writes an entity whose cell says yes
-unfoldable pub touchesN : List Bool → Change → Bool
-touchesN l NoChange = false
-touchesN l (Write e b v) = hasN l e
+unfoldable pub touchesM : List Bool → Change → Bool
+touchesM l NoChange = false
+touchesM l (Write e b v) = hasM l e
 
-unfoldable pub pendingN : Wait → Bool
-pendingN NoWait = false
-pendingN (Until d) = true
+unfoldable pub pendingM : Wait → Bool
+pendingM NoWait = false
+pendingM (Until d) = true
 
 -- the record at k, whatever records the area a holds, writes no entity whose cell says yes
 pub record Untouched (named : List Bool) (a : List ℕ) (k : ℕ) : Type 0 where
   pub is : (l : List Record) (d : Record) → k < length l → a ≡ recorded (length a) l
-      → touchesN named (getD l k d .change) ≡ false
+      → touchesM named (getD l k d .change) ≡ false
 
 -- yes is said only of one of the n records, and only if it writes no such entity
 pub record Quiet (named : List Bool) (a : List ℕ) (n k : ℕ) (yes : Bool) : Type 0 where
@@ -77,4 +77,4 @@ pub record AllQuiet (named : List Bool) (a : List ℕ) (n k r : ℕ) : Type 0 wh
 pub record Skips (named : List Bool) (wait : Wait) (a : List ℕ) (n k r : ℕ) : Type 0 where
   pub quiet : AllQuiet named a n k r
   pub later-ones : k < r → 0 < k
-  pub idle : k < r → pendingN wait ≡ false
+  pub idle : k < r → pendingM wait ≡ false

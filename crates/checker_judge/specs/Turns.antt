@@ -7,20 +7,20 @@ use lib.ListN.{length, getD}
 use Rattle.records.specs.Records.{recorded}
 use Rattle.records.specs.declared.Change.the-variants.{NoChange}
 use Rattle.records.specs.declared.Record.{Record}
-use Rattle.engine_reads.specs.Reads.{entityOf}
+use Rattle.engine_fields.specs.Reads.{entityOf}
 use Rattle.engine_state.specs.declared.Cells.{Cells}
 use Rattle.checker_response.specs.declared.Failure.the-variants.{NoFailure}
 use Rattle.checker_response.specs.declared.Memory.{Memory}
 use Rattle.checker_response.specs.declared.Shown.{Shown}
-use Rattle.checker_response.specs.Response.{failedJ}
+use Rattle.checker_response.specs.Response.{failedM}
 use Rattle.checker_judge.specs.declared.Reading.{Reading}
-use Rattle.checker_judge.specs.Judging.{readJ, Turn, turnJ}
-use Rattle.checker_judge.specs.Names.{hasN, named-in, pendingN}
+use Rattle.checker_judge.specs.Judging.{readM, Turn, turnM}
+use Rattle.checker_judge.specs.Names.{hasM, named-in, pendingM}
 
 -- the same values for each entity whose cell says yes
 pub record Agree (x : List ℕ) (named : List Bool) (vs ws : List ℕ) : Type 0 where
   pub long : length vs ≡ length ws
-  pub same : (id : ℕ) → hasN named id ≡ true → getD vs (entityOf x id) 0 ≡ getD ws (entityOf x id) 0
+  pub same : (id : ℕ) → hasM named id ≡ true → getD vs (entityOf x id) 0 ≡ getD ws (entityOf x id) 0
 
 -- nothing failed, and nothing is learnt
 abbrev pub nothing-new : Memory → Shown
@@ -28,16 +28,16 @@ nothing-new m = record { failure = NoFailure; memory = m }
 
 -- with these values a record without a change shows nothing new, unless a deadline is awaited
 pub record Fresh (f x : List ℕ) (at : ℕ) (vs : List ℕ) (m : Memory) : Type 0 where
-  pub still : pendingN (m .wait) ≡ false → (r : Record) → r .change ≡ NoChange → readJ f x at vs vs r m ≡ nothing-new m
+  pub still : pendingM (m .wait) ≡ false → (r : Record) → r .change ≡ NoChange → readM f x at vs vs r m ≡ nothing-new m
 
 -- the reading r is that of the definition's turn t, and the values after it agree with the turn's
 pub record Follows (f x : List ℕ) (at : ℕ) (t : Turn) (r : Reading) (after : List ℕ) : Type 0 where
   pub reading : r ≡ t .reading
   pub agree : Agree x (named-in f at) (t .cells .values) after
-  pub fresh : failedJ (r .failure) ≡ false → Fresh f x at after (r .memory)
+  pub fresh : failedM (r .failure) ≡ false → Fresh f x at after (r .memory)
 
 -- the record at k, whatever records the area a holds, from any cells that agree with the values vs
 pub record Turned (f x : List ℕ) (at : ℕ) (vs : List ℕ) (m : Memory) (a : List ℕ) (k : ℕ) (r : Reading) (after : List ℕ)
     : Type 0 where
   pub is : (c : Cells) (l : List Record) (d : Record) → Agree x (named-in f at) (c .values) vs
-      → k < length l → a ≡ recorded (length a) l → Follows f x at (turnJ f x at c m k (getD l k d)) r after
+      → k < length l → a ≡ recorded (length a) l → Follows f x at (turnM f x at c m k (getD l k d)) r after

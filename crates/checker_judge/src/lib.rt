@@ -14,24 +14,24 @@ use checker_response::is_no;
 use checker_response::is_unknown;
 use checker_response::is_yes;
 use checker_response::responded;
-use engine_reads::byte_at;
-use engine_reads::four_at;
-use engine_reads::two_at;
+use engine_evaluate::Truth;
+use engine_evaluate::evaluate;
+use engine_evaluate::evaluate_all;
+use engine_fields::byte_at;
+use engine_fields::four_at;
+use engine_fields::two_at;
 use engine_state::Cells;
 use engine_state::after;
-use engine_truth::Truth;
-use engine_truth::evaluate;
-use engine_truth::evaluate_all;
 use records::Change;
 use records::Record;
 use records::Where;
 ghost use mathlib.Core.Path.{_≡_};
 ghost use Prim.Native.Nat.{_*_, _+_, _≤_};
 ghost use lib.ListN.{length};
-ghost use Rattle.engine_truth.specs.Truths.{sizeT};
+ghost use Rattle.engine_evaluate.specs.Truths.{sizeM};
 ghost use Rattle.engine_state.specs.Machine.{later};
-ghost use Rattle.checker_judge.specs.Judging.{nothingJ, unsureJ, entityJ, valueJ, setJ, neverJ, writesJ, aboutJ, guardedJ, guardJ, passesJ, transitionJ, seenJ, readJ, unfailedJ, Judges};
-ghost use Rattle.checker_judge.specs.Names.{withN, predicateN, listN, namesN, touchesN, pendingN, Quiet, Skips};
+ghost use Rattle.checker_judge.specs.Judging.{nothingM, unsureM, entityM, valueM, setM, neverM, writesM, aboutM, guardedM, guardM, passesM, transitionM, seenM, readM, unfailedM, Judges};
+ghost use Rattle.checker_judge.specs.Names.{withM, predicateM, listM, namesM, touchesM, pendingM, Quiet, Skips};
 ghost use Rattle.checker_judge.specs.Turns.{Turned};
 
 // The failing record: its index, its second, its source; without a failure these are 0 and none.
@@ -45,7 +45,7 @@ pub struct Reading {
 
 // A predicate is unknown at this record.
 fn unsure(b: bool, m: Memory) -> Memory
-    ensures { λ r. ⌜ r ≡ unsureJ b m ⌝ }
+    ensures { λ r. ⌜ r ≡ unsureM b m ⌝ }
 {
     let mut r = m;
     r.unknown = either(m.unknown, b);
@@ -56,7 +56,7 @@ fn unsure(b: bool, m: Memory) -> Memory
 
 // The entity that a change writes, or 32.
 fn entity_in(x: &[u32; 436], change: Change) -> usize
-    ensures { λ r. ⌜ r ≡ entityJ (now (x .entry)) change ⌝ }
+    ensures { λ r. ⌜ r ≡ entityM (now (x .entry)) change ⌝ }
 {
     match change {
         Change::NoChange => 32,
@@ -64,13 +64,13 @@ fn entity_in(x: &[u32; 436], change: Change) -> usize
             entity,
             before: _,
             after: _,
-        } => engine_reads::entity_of(x, entity),
+        } => engine_fields::entity_of(x, entity),
     }
 }
 
 // The value that it writes, or 0.
 fn value_in(change: Change) -> u32
-    ensures { λ r. ⌜ r ≡ valueJ change ⌝ }
+    ensures { λ r. ⌜ r ≡ valueM change ⌝ }
 {
     match change {
         Change::NoChange => 0,
@@ -84,7 +84,7 @@ fn value_in(change: Change) -> u32
 
 // An entity's value changes; with 32, none does.
 fn put(values: &mut [u32; 32], e: usize, value: u32)
-    ensures { λ _. ⌜ now (values .exit) ≡ setJ (now (values .entry)) e value ⌝ }
+    ensures { λ _. ⌜ now (values .exit) ≡ setM (now (values .entry)) e value ⌝ }
 {
     if e < 32 {
         values[e] = value;
@@ -94,7 +94,7 @@ fn put(values: &mut [u32; 32], e: usize, value: u32)
 // ---- never, guard, transition
 
 fn read_never(f: &[u8], x: &[u32; 436], at: u32, present: &[u32; 32], m: Memory) -> Shown
-    ensures { λ r. ⌜ r ≡ neverJ (now (f .entry)) (now (x .entry)) at (now (present .entry)) m ⌝ }
+    ensures { λ r. ⌜ r ≡ neverM (now (f .entry)) (now (x .entry)) at (now (present .entry)) m ⌝ }
 {
     let judged = evaluate_all(f, x, present, 0, after(at, 3));
     let t = judged.truth;
@@ -105,7 +105,7 @@ fn read_never(f: &[u8], x: &[u32; 436], at: u32, present: &[u32; 32], m: Memory)
 
 // Whether a change sets the guard's entity to its value.
 fn writes(f: &[u8], at: u32, change: Change) -> bool
-    ensures { λ r. ⌜ r ≡ writesJ (now (f .entry)) at change ⌝ }
+    ensures { λ r. ⌜ r ≡ writesM (now (f .entry)) at change ⌝ }
 {
     match change {
         Change::NoChange => false,
@@ -122,7 +122,7 @@ fn writes(f: &[u8], at: u32, change: Change) -> bool
 
 // Whether a record is an action that the guard is about.
 fn is_about(f: &[u8], at: u32, r: Record) -> bool
-    ensures { λ b. ⌜ b ≡ aboutJ (now (f .entry)) at r ⌝ }
+    ensures { λ b. ⌜ b ≡ aboutM (now (f .entry)) at r ⌝ }
 {
     let change = r.change;
     if r.kind == 2 {
@@ -132,7 +132,7 @@ fn is_about(f: &[u8], at: u32, r: Record) -> bool
 }
 
 fn guarded(t: Truth, m: Memory) -> Shown
-    ensures { λ r. ⌜ r ≡ guardedJ t m ⌝ }
+    ensures { λ r. ⌜ r ≡ guardedM t m ⌝ }
 {
     let failure = fails_if(is_no(t), Failure::GuardViolated);
     let memory = unsure(is_unknown(t), m);
@@ -141,7 +141,7 @@ fn guarded(t: Truth, m: Memory) -> Shown
 
 // A guard reads the values before the record.
 fn read_guard(f: &[u8], x: &[u32; 436], at: u32, before: &[u32; 32], r: Record, m: Memory) -> Shown
-    ensures { λ s. ⌜ s ≡ guardJ (now (f .entry)) (now (x .entry)) at (now (before .entry)) r m ⌝ }
+    ensures { λ s. ⌜ s ≡ guardM (now (f .entry)) (now (x .entry)) at (now (before .entry)) r m ⌝ }
 {
     if is_about(f, at, r) {
         let judged = evaluate_all(f, x, before, 0, after(at, 7));
@@ -156,7 +156,7 @@ fn read_guard(f: &[u8], x: &[u32; 436], at: u32, before: &[u32; 32], r: Record, 
 
 // Whether a change takes the transition's entity from its first value to its second.
 fn passes(f: &[u8], at: u32, change: Change) -> bool
-    ensures { λ r. ⌜ r ≡ passesJ (now (f .entry)) at change ⌝ }
+    ensures { λ r. ⌜ r ≡ passesM (now (f .entry)) at change ⌝ }
 {
     match change {
         Change::NoChange => false,
@@ -175,7 +175,7 @@ fn passes(f: &[u8], at: u32, change: Change) -> bool
 }
 
 fn read_transition(f: &[u8], at: u32, r: Record, m: Memory) -> Shown
-    ensures { λ s. ⌜ s ≡ transitionJ (now (f .entry)) at r m ⌝ }
+    ensures { λ s. ⌜ s ≡ transitionM (now (f .entry)) at r m ⌝ }
 {
     let change = r.change;
     let failure = fails_if(passes(f, at, change), Failure::ForbiddenTransition);
@@ -186,14 +186,14 @@ fn read_transition(f: &[u8], at: u32, r: Record, m: Memory) -> Shown
 
 // The position after the predicate at a position.
 fn after_predicate(f: &[u8], at: u32) -> u32
-    ensures { λ r. ⌜ r ≡ later at (sizeT (now (f .entry)) at) ⌝ }
+    ensures { λ r. ⌜ r ≡ later at (sizeM (now (f .entry)) at) ⌝ }
 {
-    after(at, engine_truth::predicate_size(f, at))
+    after(at, engine_evaluate::predicate_size(f, at))
 }
 
 // The goal is read before the record and after it, the cause after it.
 fn seen_at(f: &[u8], x: &[u32; 436], at: u32, before: &[u32; 32], present: &[u32; 32]) -> Seen
-    ensures { λ r. ⌜ r ≡ seenJ (now (f .entry)) (now (x .entry)) at (now (before .entry)) (now (present .entry)) ⌝ }
+    ensures { λ r. ⌜ r ≡ seenM (now (f .entry)) (now (x .entry)) at (now (before .entry)) (now (present .entry)) ⌝ }
 {
     let p = after(at, 3);
     let q = after_predicate(f, p);
@@ -221,7 +221,7 @@ fn read(
     r: Record,
     m: Memory,
 ) -> Shown
-    ensures { λ s. ⌜ s ≡ readJ (now (f .entry)) (now (x .entry)) at (now (before .entry)) (now (present .entry)) r m ⌝ }
+    ensures { λ s. ⌜ s ≡ readM (now (f .entry)) (now (x .entry)) at (now (before .entry)) (now (present .entry)) r m ⌝ }
 {
     let kind = byte_at(f, at as usize);
     if kind == 0 {
@@ -240,14 +240,14 @@ fn read(
 
 // An entity's cell is the one at its place's remainder.
 fn name(id: u32, named: &mut [bool; 64])
-    ensures { λ _. ⌜ now (named .exit) ≡ withN id (now (named .entry)) ⌝ }
+    ensures { λ _. ⌜ now (named .exit) ≡ withM id (now (named .entry)) ⌝ }
 {
     named[(id % 64) as usize] = true;
 }
 
 // The entity of a state. A window, which no accepted invariant has, is taken for one: naming more only reads more.
 fn name_predicate(f: &[u8], at: u32, named: &mut [bool; 64])
-    ensures { λ _. ⌜ now (named .exit) ≡ predicateN (now (f .entry)) at (now (named .entry)) ⌝ }
+    ensures { λ _. ⌜ now (named .exit) ≡ predicateM (now (f .entry)) at (now (named .entry)) ⌝ }
 {
     if byte_at(f, at as usize) == 1 {
         return;
@@ -256,7 +256,7 @@ fn name_predicate(f: &[u8], at: u32, named: &mut [bool; 64])
 }
 
 fn name_list(f: &[u8], at: u32, named: &mut [bool; 64])
-    ensures { λ _. ⌜ now (named .exit) ≡ listN (now (f .entry)) at (now (named .entry)) ⌝ }
+    ensures { λ _. ⌜ now (named .exit) ≡ listM (now (f .entry)) at (now (named .entry)) ⌝ }
 {
     let mut left = two_at(f, at as usize);
     let mut p = after(at, 2);
@@ -268,7 +268,7 @@ fn name_list(f: &[u8], at: u32, named: &mut [bool; 64])
 }
 
 fn name_all(f: &[u8], at: u32, named: &mut [bool; 64])
-    ensures { λ _. ⌜ now (named .exit) ≡ namesN (now (f .entry)) at (now (named .entry)) ⌝ }
+    ensures { λ _. ⌜ now (named .exit) ≡ namesM (now (f .entry)) at (now (named .entry)) ⌝ }
 {
     let kind = byte_at(f, at as usize);
     if kind == 0 {
@@ -292,7 +292,7 @@ fn name_all(f: &[u8], at: u32, named: &mut [bool; 64])
 // ---- all records
 
 fn touches(named: &[bool; 64], change: Change) -> bool
-    ensures { λ r. ⌜ r ≡ touchesN (now (named .entry)) change ⌝ }
+    ensures { λ r. ⌜ r ≡ touchesM (now (named .entry)) change ⌝ }
 {
     match change {
         Change::NoChange => false,
@@ -305,7 +305,7 @@ fn touches(named: &[bool; 64], change: Change) -> bool
 }
 
 fn pending(wait: Wait) -> bool
-    ensures { λ r. ⌜ r ≡ pendingN wait ⌝ }
+    ensures { λ r. ⌜ r ≡ pendingM wait ⌝ }
 {
     match wait {
         Wait::NoWait => false,
@@ -378,7 +378,7 @@ fn next_turn(
 }
 
 fn nothing_yet() -> Memory
-    ensures { λ r. ⌜ r ≡ nothingJ ⌝ }
+    ensures { λ r. ⌜ r ≡ nothingM ⌝ }
 {
     Memory {
         wait: Wait::NoWait,
@@ -390,7 +390,7 @@ fn nothing_yet() -> Memory
 }
 
 fn unfailed(m: Memory) -> Reading
-    ensures { λ r. ⌜ r ≡ unfailedJ m ⌝ }
+    ensures { λ r. ⌜ r ≡ unfailedM m ⌝ }
 {
     Reading {
         failure: Failure::NoFailure,
@@ -407,7 +407,7 @@ pub fn judge(f: &[u8], x: &[u32; 436], at: usize, cells: Cells, a: &[u32], n: us
     requires { ⌜ n * 13 ≤ length (now a) ⌝ }
     ensures { λ r. ⌜ Judges (now (f .entry)) (now (x .entry)) at cells (now (a .entry)) n r ⌝ }
 {
-    let p = engine_reads::capped(at);
+    let p = engine_fields::capped(at);
     let mut named = [false; 64];
     name_all(f, p, &mut named);
     let mut before = cells.values;

@@ -16,9 +16,9 @@ use Rattle.reasons.specs.Lists.{listed, insertAll, Grows}
 use Rattle.reasons.specs.declared.Reason.{Reason}
 use Rattle.reasons.proofs.Listing.{grows-none, length-insert}
 use Rattle.reasons.proofs.Cleaning.{one-text}
-use Rattle.engine_reads.proofs.Readable.{position-stands}
+use Rattle.engine_fields.proofs.Readable.{position-stands}
 use Rattle.checker_response.specs.declared.Memory.{Memory}
-use Rattle.checker_reasons.specs.Told.{list-of, renderings, aboutI, ifI, temporalI, unknownI, incompleteI}
+use Rattle.checker_reasons.specs.Told.{list-of, renderings, aboutM, ifM, temporalM, unknownM, incompleteM}
 use Rattle.checker_reasons.specs.declared.Told.{Told}
 use Rattle.checker_reasons.specs.declared.Told.the-variants.{Nothing, One, Two}
 
@@ -75,39 +75,39 @@ module _ (f : List ℕ) (t : Told) where
 -- ---- each reason about an invariant can be read
 
 module _ (f : List ℕ) (h : HasText f) (at : ℕ) where
-  about-readable : {k : ℕ} → OneText k → Readable f (aboutI f at k)
-  unfolding aboutI
+  about-readable : {k : ℕ} → OneText k → Readable f (aboutM f at k)
+  unfolding aboutM
   about-readable o = one-text f o (position-stands f h _)
 
-  if-readable : (b : Bool) (r : Reason) → Readable f r → AllReadable f (list-of (ifI b r))
-  unfolding ifI
+  if-readable : (b : Bool) (r : Reason) → Readable f r → AllReadable f (list-of (ifM b r))
+  unfolding ifM
   if-readable true r y = (y, tt)
   if-readable false r y = tt
 
-  temporal-readable : (m : Memory) (r s : Reason) → Readable f r → Readable f s → AllReadable f (list-of (temporalI m r s))
-  unfolding temporalI
+  temporal-readable : (m : Memory) (r s : Reason) → Readable f r → Readable f s → AllReadable f (list-of (temporalM m r s))
+  unfolding temporalM
   temporal-readable m r s y z = by (m .unclear) (m .unknown)
     where
-      by : (b d : Bool) → AllReadable f (list-of (if b then (if d then Two r s else One r) else ifI d s))
+      by : (b d : Bool) → AllReadable f (list-of (if b then (if d then Two r s else One r) else ifM d s))
       by true true = (y, (z, tt))
       by true false = (y, tt)
       by false d = if-readable d s z
 
-  pub unknown-readable : (m : Memory) → AllReadable f (list-of (unknownI f at m))
-  unfolding unknownI
+  pub unknown-readable : (m : Memory) → AllReadable f (list-of (unknownM f at m))
+  unfolding unknownM
   unknown-readable m = by (eqb (getD f at 0) 0) (eqb (getD f at 0) 1) (eqb (getD f at 0) 2)
     where
       by : (a b c : Bool) → AllReadable f (list-of
-          (if a then ifI (m .unknown) (aboutI f at kinds.state-predicate)
-          else if b then ifI (m .unknown) (aboutI f at kinds.action-guard)
+          (if a then ifM (m .unknown) (aboutM f at kinds.state-predicate)
+          else if b then ifM (m .unknown) (aboutM f at kinds.action-guard)
           else if c then Nothing
-          else temporalI m (aboutI f at kinds.response-at-deadline) (aboutI f at kinds.temporal-predicate)))
+          else temporalM m (aboutM f at kinds.response-at-deadline) (aboutM f at kinds.temporal-predicate)))
       by true b c = if-readable (m .unknown) _ (about-readable (record { known = omega arith; is = refl }))
       by false true c = if-readable (m .unknown) _ (about-readable (record { known = omega arith; is = refl }))
       by false false true = tt
       by false false false =
           temporal-readable m _ _ (about-readable (record { known = omega arith; is = refl })) (about-readable (record { known = omega arith; is = refl }))
 
-  pub incomplete-readable : (m : Memory) → AllReadable f (list-of (incompleteI f at m))
-  unfolding incompleteI
+  pub incomplete-readable : (m : Memory) → AllReadable f (list-of (incompleteM f at m))
+  unfolding incompleteM
   incomplete-readable m = if-readable (m .beyond) _ (about-readable (record { known = omega arith; is = refl }))

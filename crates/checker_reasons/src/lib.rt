@@ -1,9 +1,9 @@
 // The reasons that the reading of one invariant gives, by what it kept; and a sorted list of reasons with them.
 use checker_response::Memory;
-use engine_reads::byte_at;
-use engine_reads::capped;
-use engine_reads::text_position;
-use engine_reads::two_at;
+use engine_fields::byte_at;
+use engine_fields::capped;
+use engine_fields::text_position;
+use engine_fields::two_at;
 use reasons::Reason;
 use reasons::insert_sorted;
 ghost use mathlib.Core.Path.{_≡_};
@@ -11,8 +11,8 @@ ghost use Prim.Native.Nat.{_*_, _≤_};
 ghost use lib.ListN.{length};
 ghost use Rattle.reasons.specs.Readable.{AllReadable};
 ghost use Rattle.reasons.specs.Lists.{listed, insertAll, Grows};
-ghost use Rattle.engine_reads.specs.Reads.{cap};
-ghost use Rattle.checker_reasons.specs.Told.{list-of, renderings, aboutI, ifI, temporalI, unknownI, incompleteI};
+ghost use Rattle.engine_fields.specs.Reads.{cap};
+ghost use Rattle.checker_reasons.specs.Told.{list-of, renderings, aboutM, ifM, temporalM, unknownM, incompleteM};
 
 // An invariant gives at most two.
 pub enum Told {
@@ -23,7 +23,7 @@ pub enum Told {
 
 // A reason about the invariant at a position.
 fn about(f: &[u8], at: u32, kind: u32) -> Reason
-    ensures { λ r. ⌜ r ≡ aboutI (now (f .entry)) at kind ⌝ }
+    ensures { λ r. ⌜ r ≡ aboutM (now (f .entry)) at kind ⌝ }
 {
     Reason {
         kind,
@@ -36,7 +36,7 @@ fn about(f: &[u8], at: u32, kind: u32) -> Reason
 
 // The reason, if it came up.
 fn told_if(b: bool, r: Reason) -> Told
-    ensures { λ t. ⌜ t ≡ ifI b r ⌝ }
+    ensures { λ t. ⌜ t ≡ ifM b r ⌝ }
 {
     if b {
         return Told::One(r);
@@ -46,7 +46,7 @@ fn told_if(b: bool, r: Reason) -> Told
 
 // A response's: whether its goal was unknown at a deadline, and whether a predicate was unknown.
 fn temporal(m: Memory, late: Reason, predicate: Reason) -> Told
-    ensures { λ t. ⌜ t ≡ temporalI m late predicate ⌝ }
+    ensures { λ t. ⌜ t ≡ temporalM m late predicate ⌝ }
 {
     if m.unclear {
         if m.unknown {
@@ -58,7 +58,7 @@ fn temporal(m: Memory, late: Reason, predicate: Reason) -> Told
 }
 
 pub fn unknown_reasons(f: &[u8], at: usize, m: Memory) -> Told
-    ensures { λ t. ⌜ t ≡ unknownI (now (f .entry)) (cap at) m ⌝ }
+    ensures { λ t. ⌜ t ≡ unknownM (now (f .entry)) (cap at) m ⌝ }
 {
     let p = capped(at);
     let kind = byte_at(f, p as usize);
@@ -76,7 +76,7 @@ pub fn unknown_reasons(f: &[u8], at: usize, m: Memory) -> Told
 }
 
 pub fn incomplete_reasons(f: &[u8], at: usize, m: Memory) -> Told
-    ensures { λ t. ⌜ t ≡ incompleteI (now (f .entry)) (cap at) m ⌝ }
+    ensures { λ t. ⌜ t ≡ incompleteM (now (f .entry)) (cap at) m ⌝ }
 {
     told_if(m.beyond, about(f, capped(at), reasons::BEYOND_HORIZON))
 }

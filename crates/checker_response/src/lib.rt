@@ -1,8 +1,8 @@
 // What a truth at a record does to an invariant's reading: why a record fails it, and the waiting of a response.
-use engine_truth::Truth;
+use engine_evaluate::Truth;
 ghost use mathlib.Core.Path.{_≡_};
 ghost use mathlib.Core.Bool.{_&&_, _||_};
-ghost use Rattle.checker_response.specs.Response.{yesJ, noJ, unknownJ, failsJ, failedJ, or-elseJ, overdueJ, missedJ, keptJ, startedJ, begunJ, waitsJ, at-endJ, beyondJ, failureJ, memoryJ, respondedJ};
+ghost use Rattle.checker_response.specs.Response.{yesM, noM, unknownM, failsM, failedM, or-elseM, overdueM, missedM, keptM, startedM, begunM, waitsM, at-endM, beyondM, failureM, memoryM, respondedM};
 
 // Why a record fails an invariant, if it does.
 pub enum Failure {
@@ -46,7 +46,7 @@ pub struct Seen {
 // ---- truths, failures
 
 pub fn is_yes(t: Truth) -> bool
-    ensures { λ r. ⌜ r ≡ yesJ t ⌝ }
+    ensures { λ r. ⌜ r ≡ yesM t ⌝ }
 {
     match t {
         Truth::Yes => true,
@@ -56,7 +56,7 @@ pub fn is_yes(t: Truth) -> bool
 }
 
 pub fn is_no(t: Truth) -> bool
-    ensures { λ r. ⌜ r ≡ noJ t ⌝ }
+    ensures { λ r. ⌜ r ≡ noM t ⌝ }
 {
     match t {
         Truth::Yes => false,
@@ -66,7 +66,7 @@ pub fn is_no(t: Truth) -> bool
 }
 
 pub fn is_unknown(t: Truth) -> bool
-    ensures { λ r. ⌜ r ≡ unknownJ t ⌝ }
+    ensures { λ r. ⌜ r ≡ unknownM t ⌝ }
 {
     match t {
         Truth::Yes => false,
@@ -95,7 +95,7 @@ pub fn either(a: bool, b: bool) -> bool
 
 // The failure, if the test holds.
 pub fn fails_if(b: bool, e: Failure) -> Failure
-    ensures { λ r. ⌜ r ≡ failsJ b e ⌝ }
+    ensures { λ r. ⌜ r ≡ failsM b e ⌝ }
 {
     if b {
         return e;
@@ -104,7 +104,7 @@ pub fn fails_if(b: bool, e: Failure) -> Failure
 }
 
 pub fn failed(e: Failure) -> bool
-    ensures { λ r. ⌜ r ≡ failedJ e ⌝ }
+    ensures { λ r. ⌜ r ≡ failedM e ⌝ }
 {
     match e {
         Failure::NoFailure => false,
@@ -116,7 +116,7 @@ pub fn failed(e: Failure) -> bool
 }
 
 fn or_else(a: Failure, b: Failure) -> Failure
-    ensures { λ r. ⌜ r ≡ or-elseJ a b ⌝ }
+    ensures { λ r. ⌜ r ≡ or-elseM a b ⌝ }
 {
     if failed(a) {
         return a;
@@ -128,7 +128,7 @@ fn or_else(a: Failure, b: Failure) -> Failure
 
 // Whether the deadline, if there is one, has passed.
 fn overdue(now: u32, w: Wait) -> bool
-    ensures { λ r. ⌜ r ≡ overdueJ now w ⌝ }
+    ensures { λ r. ⌜ r ≡ overdueM now w ⌝ }
 {
     match w {
         Wait::NoWait => false,
@@ -138,7 +138,7 @@ fn overdue(now: u32, w: Wait) -> bool
 
 // A deadline that has passed is missed if the goal did not hold before the record.
 fn missed(now: u32, earlier: Truth, w: Wait) -> Failure
-    ensures { λ r. ⌜ r ≡ missedJ now earlier w ⌝ }
+    ensures { λ r. ⌜ r ≡ missedM now earlier w ⌝ }
 {
     match w {
         Wait::NoWait => Failure::NoFailure,
@@ -151,7 +151,7 @@ fn missed(now: u32, earlier: Truth, w: Wait) -> Failure
 
 // A deadline that has passed is dropped.
 fn kept(now: u32, w: Wait) -> Wait
-    ensures { λ r. ⌜ r ≡ keptJ now w ⌝ }
+    ensures { λ r. ⌜ r ≡ keptM now w ⌝ }
 {
     if overdue(now, w) {
         return Wait::NoWait;
@@ -160,7 +160,7 @@ fn kept(now: u32, w: Wait) -> Wait
 }
 
 fn started(deadline: u64, w: Wait) -> Wait
-    ensures { λ r. ⌜ r ≡ startedJ deadline w ⌝ }
+    ensures { λ r. ⌜ r ≡ startedM deadline w ⌝ }
 {
     match w {
         Wait::NoWait => Wait::Until(deadline),
@@ -170,7 +170,7 @@ fn started(deadline: u64, w: Wait) -> Wait
 
 // If `when` rises and nothing waits, a wait begins.
 fn begun(now: u32, within: u32, cause: Truth, held: bool, w: Wait) -> Wait
-    ensures { λ r. ⌜ r ≡ begunJ now within cause held w ⌝ }
+    ensures { λ r. ⌜ r ≡ begunM now within cause held w ⌝ }
 {
     if held {
         return w;
@@ -183,7 +183,7 @@ fn begun(now: u32, within: u32, cause: Truth, held: bool, w: Wait) -> Wait
 
 // What waits after a record. The goal ends it.
 fn waits_after(now: u32, s: Seen, held: bool, w: Wait) -> Wait
-    ensures { λ r. ⌜ r ≡ waitsJ now s held w ⌝ }
+    ensures { λ r. ⌜ r ≡ waitsM now s held w ⌝ }
 {
     let goal = s.goal;
     let cause = s.cause;
@@ -195,7 +195,7 @@ fn waits_after(now: u32, s: Seen, held: bool, w: Wait) -> Wait
 
 // At the horizon what still waits is missed, if its deadline is reached.
 fn missed_at_end(now: u32, goal: Truth, w: Wait) -> Failure
-    ensures { λ r. ⌜ r ≡ at-endJ now goal w ⌝ }
+    ensures { λ r. ⌜ r ≡ at-endM now goal w ⌝ }
 {
     match w {
         Wait::NoWait => Failure::NoFailure,
@@ -207,7 +207,7 @@ fn missed_at_end(now: u32, goal: Truth, w: Wait) -> Failure
 }
 
 fn is_beyond(now: u32, w: Wait) -> bool
-    ensures { λ r. ⌜ r ≡ beyondJ now w ⌝ }
+    ensures { λ r. ⌜ r ≡ beyondM now w ⌝ }
 {
     match w {
         Wait::NoWait => false,
@@ -216,7 +216,7 @@ fn is_beyond(now: u32, w: Wait) -> bool
 }
 
 fn response_failure(s: Seen, now: u32, end: bool, old: Wait, new: Wait) -> Failure
-    ensures { λ r. ⌜ r ≡ failureJ s now end old new ⌝ }
+    ensures { λ r. ⌜ r ≡ failureM s now end old new ⌝ }
 {
     let goal = s.goal;
     let earlier = s.earlier;
@@ -228,7 +228,7 @@ fn response_failure(s: Seen, now: u32, end: bool, old: Wait, new: Wait) -> Failu
 }
 
 fn response_memory(s: Seen, now: u32, end: bool, m: Memory, new: Wait) -> Memory
-    ensures { λ r. ⌜ r ≡ memoryJ s now end m new ⌝ }
+    ensures { λ r. ⌜ r ≡ memoryM s now end m new ⌝ }
 {
     let cause = s.cause;
     let goal = s.goal;
@@ -248,7 +248,7 @@ fn response_memory(s: Seen, now: u32, end: bool, m: Memory, new: Wait) -> Memory
 }
 
 pub fn responded(s: Seen, now: u32, end: bool, m: Memory) -> Shown
-    ensures { λ r. ⌜ r ≡ respondedJ s now end m ⌝ }
+    ensures { λ r. ⌜ r ≡ respondedM s now end m ⌝ }
 {
     let old = m.wait;
     let new = waits_after(now, s, m.held, old);

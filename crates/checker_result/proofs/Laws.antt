@@ -17,40 +17,40 @@ use Rattle.reasons.specs.declared.Reason.{Reason}
 use Rattle.reasons.proofs.Listing as listing
 use Rattle.reasons.proofs.Listing.{grows-none, grown}
 use Rattle.reasons.proofs.Cleaning.{zeros, holds-zeros}
-use Rattle.engine_reads.specs.Reads.{alone}
-use Rattle.engine_reads.proofs.Readable.{alone-readable}
+use Rattle.engine_fields.specs.Reads.{alone}
+use Rattle.engine_fields.proofs.Readable.{alone-readable}
 use Rattle.engine_summary.specs.declared.Simulation.{Simulation}
 use Rattle.engine_summary.specs.declared.Summary.{Summary}
 use Rattle.engine_summary.specs.Summary.{no-simulation, simulation-of}
 use Rattle.engine_summary.specs.Summaries.{Few}
-use Rattle.checker_verdict.specs.declared.Counts.{Counts}
-use Rattle.checker_verdict.specs.Verdict.{brokenV, GathersAll}
-use Rattle.checker_verdict.proofs.Laws.{all-many}
+use Rattle.checker_collect.specs.declared.Counts.{Counts}
+use Rattle.checker_collect.specs.Verdict.{brokenM, GathersAll}
+use Rattle.checker_collect.proofs.Laws.{all-many}
 use Rattle.checker_result.specs.declared.Status.{Status}
 use Rattle.checker_result.specs.declared.Status.the-variants as status
 use Rattle.checker_result.specs.declared.CheckResult.{CheckResult}
 use Rattle.checker_result.specs.declared.Judgement.{Judgement}
 use Rattle.checker_result.specs.declared.Shared.{Shared}
 use Rattle.checker_result.specs.Result.{no-check, result-of}
-use Rattle.checker_result.specs.Verdicts.{Fits, statusV, stoppedR, leftR, Starts, Ends, startV, Judged, Answered}
+use Rattle.checker_result.specs.Verdicts.{Fits, statusM, stoppedM, leftM, Starts, Ends, startM, Judged, Answered}
 
 -- ---- the status
 
 module _ (t : Counts) where
-  pub status-unknown : (t .unknown ≡ 0 → ⊥) → status.Unknown ≡ statusV t
-  unfolding statusV
+  pub status-unknown : (t .unknown ≡ 0 → ⊥) → status.Unknown ≡ statusM t
+  unfolding statusM
   status-unknown z = rw (ne-eqb (t .unknown) 0 z)
 
-  pub status-violation : t .unknown ≡ 0 → (t .violations ≡ 0 → ⊥) → status.Violation ≡ statusV t
-  unfolding statusV
+  pub status-violation : t .unknown ≡ 0 → (t .violations ≡ 0 → ⊥) → status.Violation ≡ statusM t
+  unfolding statusM
   status-violation a z = rw (eq-eqb (t .unknown) 0 a, ne-eqb (t .violations) 0 z)
 
-  pub status-incomplete : t .unknown ≡ 0 → t .violations ≡ 0 → (t .incomplete ≡ 0 → ⊥) → status.Incomplete ≡ statusV t
-  unfolding statusV
+  pub status-incomplete : t .unknown ≡ 0 → t .violations ≡ 0 → (t .incomplete ≡ 0 → ⊥) → status.Incomplete ≡ statusM t
+  unfolding statusM
   status-incomplete a b z = rw (eq-eqb (t .unknown) 0 a, eq-eqb (t .violations) 0 b, ne-eqb (t .incomplete) 0 z)
 
-  pub status-none : t .unknown ≡ 0 → t .violations ≡ 0 → t .incomplete ≡ 0 → status.NoViolationInTrace ≡ statusV t
-  unfolding statusV
+  pub status-none : t .unknown ≡ 0 → t .violations ≡ 0 → t .incomplete ≡ 0 → status.NoViolationInTrace ≡ statusM t
+  unfolding statusM
   status-none a b c = rw (eq-eqb (t .unknown) 0 a, eq-eqb (t .violations) 0 b, eq-eqb (t .incomplete) 0 c)
 
 pub refused-is : (n : ℕ) {s : Simulation} → s ≡ no-simulation n →
@@ -66,10 +66,10 @@ insert-room f a n r h = omega (arith, h, listing.one-more (render f r) (listed f
 
 module _ (f : List ℕ) (why : ℕ) where
   pub starts-none : why ≡ 0 → (w : List ℕ) → Starts f why w 0 w
-  unfolding stoppedR insertAll
+  unfolding stoppedM insertAll
   starts-none z w = record { most = omega arith; grows = rw (eq-eqb why 0 z) (grows-none f refl) }
 
-  starts-one : (w w' : List ℕ) (k : ℕ) {r : Reason} {y : ℕ} → stoppedR why ≡ r ∷ [] → r ≡ alone y → NoText y →
+  starts-one : (w w' : List ℕ) (k : ℕ) {r : Reason} {y : ℕ} → stoppedM why ≡ r ∷ [] → r ≡ alone y → NoText y →
       Grows f (Readable f r) (insertT (render f r) (listed f 0 w)) 0 w k w' → Starts f why w k w'
   unfolding insertAll
   starts-one w w' k {r} e a o h = record {
@@ -79,24 +79,24 @@ module _ (f : List ℕ) (why : ℕ) where
 
   pub starts-space : (why ≡ 0 → ⊥) → why ≡ 1 → {r : Reason} → r ≡ alone kinds.space-spent → (w w' : List ℕ) {k : ℕ} →
       Grows f (Readable f r) (insertT (render f r) (listed f 0 w)) 0 w k w' → Starts f why w k w'
-  unfolding stoppedR
+  unfolding stoppedM
   starts-space z o {r} e w w' {k} h =
       starts-one w w' k (rw (ne-eqb why 0 z, eq-eqb why 1 o, e)) e (record { known = omega arith; is = refl }) h
 
   pub starts-steps : (why ≡ 0 → ⊥) → (why ≡ 1 → ⊥) → {r : Reason} → r ≡ alone kinds.steps-spent → (w w' : List ℕ) {k : ℕ} →
       Grows f (Readable f r) (insertT (render f r) (listed f 0 w)) 0 w k w' → Starts f why w k w'
-  unfolding stoppedR
+  unfolding stoppedM
   starts-steps z o {r} e w w' {k} h =
       starts-one w w' k (rw (ne-eqb why 0 z, ne-eqb why 1 o, e)) e (record { known = omega arith; is = refl }) h
 
 module _ (f : List ℕ) (n : ℕ) (w : List ℕ) where
   pub ends-none : {b : Bool} → b ≡ false → Ends f b n w n w
-  unfolding leftR insertAll
+  unfolding leftM insertAll
   ends-none e = record { most = omega arith; grows = rw e (grows-none f refl) }
 
   pub ends-one : {b : Bool} → b ≡ true → {r : Reason} → r ≡ alone kinds.runs-left → {w' : List ℕ} {k : ℕ} →
       Grows f (Readable f r) (insertT (render f r) (listed f n w)) n w k w' → Ends f b n w k w'
-  unfolding leftR insertAll
+  unfolding leftM insertAll
   ends-one e {r} a {w'} {k} h = record {
     most = omega (arith, h .many, listing.one-more (render f r) (listed f n w), listing.length-listed f n w);
     grows = rw e (rw (← a) (record { many = h .many; texts = h .texts; clean = λ u c. h .clean (alone-readable a (record { known = omega arith; is = refl })) c }));
@@ -121,9 +121,9 @@ module _ {f x starts : List ℕ} {h : Shared} {a : List ℕ} (s : Summary) {told
       Grows f (Clean f many told) (insertAll (listed f many told) (listed f 0 (replicate 2000 0))) 0 (replicate 2000 0) k u₁ →
       {w₁ w₂ : List ℕ} {j i : ℕ} → Starts f (s .why) (replicate 200 0) j w₁ → Ends f (s .waiting) j w₁ i w₂ → {n : ℕ} → Fits (s .records) (length a) n →
       {t : Counts} {v' u₂ w₃ : List ℕ} → GathersAll f x starts (h .invariants) (h .cells) a n (record { violations = 0; unknown = k; incomplete = i }) t (replicate 256 0) v' u₁ u₂ w₂ w₃ →
-      {y : Status} → y ≡ statusV t →
+      {y : Status} → y ≡ statusM t →
       Judged f x starts h a s (record { status = y; violations = t .violations; unknown = t .unknown; incomplete = t .incomplete; simulation = s }) told v' u₂ w₃
-  unfolding startV reasons
+  unfolding startM reasons
   judged-is {many} few {u₁} {k} merged {w₁} {w₂} {j} {i} st en {n} fi {t} {v'} {u₂} {w₃} all {y} e = record {
     simulation = refl;
     verdict = record {
@@ -131,13 +131,13 @@ module _ {f x starts : List ℕ} {h : Shared} {a : List ℕ} (s : Summary) {told
       long = all .long-v ∙ length-replicate {A = ℕ} 256 0;
       few-unknown = omega (arith, all .most-unknown, merged-most f many told (replicate 2000 0) (few .most) merged);
       few-incomplete = omega (arith, all .most-incomplete, st .most, en .most);
-      holds = λ ok clean l long roomy rep. all .does l (long ∙ sym (fi .same roomy)) rep (startV f (simulation-of s told)) (record {
-        violations = sym (areas.area-none brokenV 256) ∙ ap (λ (q : ℕ). Rattle.areas.specs.Areas.area brokenV q []) (sym (length-replicate {A = ℕ} 256 0));
+      holds = λ ok clean l long roomy rep. all .does l (long ∙ sym (fi .same roomy)) rep (startM f (simulation-of s told)) (record {
+        violations = sym (areas.area-none brokenM 256) ∙ ap (λ (q : ℕ). Rattle.areas.specs.Areas.area brokenM q []) (sym (length-replicate {A = ℕ} 256 0));
         many = refl;
         unknown = subst (λ (q : ℕ). Holds f (insertAll (listed f q told) []) k u₁) (few .same ok)
             (grown f (insertAll (listed f many told)) merged (λ h. subst (λ (q : ℕ). Clean f q told) (sym (few .same ok)) (clean h)) (holds-zeros f (zeros 2000)));
-        incomplete = grown f (insertAll (map (render f) (leftR (s .waiting)))) (en .grows) (λ h. tt)
-            (grown f (insertAll (map (render f) (stoppedR (s .why)))) (st .grows) (λ h. tt) (holds-zeros f (zeros 200)));
+        incomplete = grown f (insertAll (map (render f) (leftM (s .waiting)))) (en .grows) (λ h. tt)
+            (grown f (insertAll (map (render f) (stoppedM (s .why)))) (st .grows) (λ h. tt) (holds-zeros f (zeros 200)));
       });
     };
   }

@@ -1,5 +1,5 @@
 // The verdict on a simulation, and the answer of `check` as one value.
-use checker_verdict::Counts;
+use checker_collect::Counts;
 use engine_state::Cells;
 use engine_summary::Simulation;
 use engine_summary::Summary;
@@ -7,7 +7,7 @@ ghost use mathlib.Core.Path.{_≡_};
 ghost use Prim.Native.Nat.{_+_, _*_, _≤_};
 ghost use lib.ListN.{length};
 ghost use Rattle.checker_result.specs.Result.{no-check, result-of};
-ghost use Rattle.checker_result.specs.Verdicts.{Fits, statusV, Starts, Ends, Judged, Answered};
+ghost use Rattle.checker_result.specs.Verdicts.{Fits, statusM, Starts, Ends, Judged, Answered};
 
 pub enum Status {
     Refused(u32),
@@ -49,7 +49,7 @@ pub fn refused(number: u32) -> CheckResult
 
 // Unknown before violation before incomplete.
 fn status_of(t: Counts) -> Status
-    ensures { λ r. ⌜ r ≡ statusV t ⌝ }
+    ensures { λ r. ⌜ r ≡ statusM t ⌝ }
 {
     if t.unknown != 0 {
         return Status::Unknown;
@@ -83,10 +83,10 @@ fn add_stopped(f: &[u8], w: &mut [u32], why: u32) -> usize
         return 0;
     }
     if why == 1 {
-        let space = engine_reads::by_itself(reasons::SPACE_SPENT);
+        let space = engine_fields::by_itself(reasons::SPACE_SPENT);
         return reasons::insert_sorted(f, w, 0, space);
     }
-    let steps = engine_reads::by_itself(reasons::STEPS_SPENT);
+    let steps = engine_fields::by_itself(reasons::STEPS_SPENT);
     reasons::insert_sorted(f, w, 0, steps)
 }
 
@@ -96,7 +96,7 @@ fn add_waiting(f: &[u8], w: &mut [u32], n: usize, waiting: bool) -> usize
     ensures { λ k. ⌜ Ends (now (f .entry)) waiting n (now (w .entry)) k (now (w .exit)) ⌝ }
 {
     if waiting {
-        let left = engine_reads::by_itself(reasons::RUNS_LEFT);
+        let left = engine_fields::by_itself(reasons::RUNS_LEFT);
         return reasons::insert_sorted(f, w, n, left);
     }
     n
@@ -151,7 +151,7 @@ pub fn verdict(
     };
     let n = fitting(s.records, a);
     let cells = shared.cells;
-    let t = checker_verdict::judge_all(
+    let t = checker_collect::judge_all(
         f,
         x,
         starts,

@@ -11,28 +11,28 @@ use Rattle.cone_close.specs.declared.ConeSets.{ConeSets}
 
 module _ (writes : List ℕ) where
   -- the i-th automation isn't in yet and writes one of the entities
-  unfoldable pub addsC : ConeSets → ℕ → Bool
-  addsC c i = if holds (c .automations) i then false else not (eqb (bitAnd (getD writes i 0) (c .entities)) 0)
+  unfoldable pub addsM : ConeSets → ℕ → Bool
+  addsM c i = if holds (c .automations) i then false else not (eqb (bitAnd (getD writes i 0) (c .entities)) 0)
 
   -- the first such of `left` automations from i on, or the number behind them
-  unfoldable pub firstC : ConeSets → (left i : ℕ) → ℕ
-  firstC c zero i = i
-  firstC c (suc left) i = if addsC c i then i else firstC c left (i + 1)
+  unfoldable pub firstM : ConeSets → (left i : ℕ) → ℕ
+  firstM c zero i = i
+  firstM c (suc left) i = if addsM c i then i else firstM c left (i + 1)
 
   module _ (needs : List ℕ) (count : ℕ) where
-    unfoldable pub takenC : ConeSets → ℕ → ConeSets
-    takenC c k = record {
+    unfoldable pub takenM : ConeSets → ℕ → ConeSets
+    takenM c k = record {
       entities = bitOr (c .entities) (getD needs k 0);
       automations = bitOr (c .automations) (2 ^ k);
     }
 
-    unfoldable pub roundC : ConeSets → ConeSets
-    roundC c = if ltb (firstC c count 0) count then takenC c (firstC c count 0) else c
+    unfoldable pub roundM : ConeSets → ConeSets
+    roundM c = if ltb (firstM c count 0) count then takenM c (firstM c count 0) else c
 
-    unfoldable pub roundsC : (rounds : ℕ) → ConeSets → ConeSets
-    roundsC zero c = c
-    roundsC (suc n) c = roundsC n (roundC c)
+    unfoldable pub roundsM : (rounds : ℕ) → ConeSets → ConeSets
+    roundsM zero c = c
+    roundsM (suc n) c = roundsM n (roundM c)
 
     -- as many rounds as automations
-    unfoldable pub closedC : (start : ℕ) → ConeSets
-    closedC x = roundsC count (record { entities = x; automations = 0 })
+    unfoldable pub closedM : (start : ℕ) → ConeSets
+    closedM x = roundsM count (record { entities = x; automations = 0 })

@@ -3,7 +3,7 @@
 ghost use mathlib.Core.Path.{_≡_};
 ghost use Prim.Native.Nat.{_≤_, _<_, _+_};
 ghost use lib.ListN.{length};
-ghost use Rattle.cone_close.specs.Rounds.{addsC, firstC, roundC, closedC};
+ghost use Rattle.cone_close.specs.Rounds.{addsM, firstM, roundM, closedM};
 
 // The entities and the automations that are in.
 pub struct ConeSets {
@@ -14,7 +14,7 @@ pub struct ConeSets {
 // Whether the i-th automation comes in.
 fn adds(writes: [u32; 32], c: ConeSets, i: usize) -> bool
     requires { ⌜ i < 32 ⌝ }
-    ensures { λ r. ⌜ r ≡ addsC writes c i ⌝ }
+    ensures { λ r. ⌜ r ≡ addsM writes c i ⌝ }
 {
     if lint_reach::has(c.automations, i) {
         return false;
@@ -25,7 +25,7 @@ fn adds(writes: [u32; 32], c: ConeSets, i: usize) -> bool
 // The first of `count` automations that comes in, or their number.
 fn first(writes: [u32; 32], c: ConeSets, count: usize) -> usize
     requires { ⌜ count ≤ 32 ⌝ }
-    ensures { λ r. ⌜ r ≡ firstC writes c count 0 ⌝ }
+    ensures { λ r. ⌜ r ≡ firstM writes c count 0 ⌝ }
 {
     let mut i: usize = 0;
     while i < count {
@@ -40,7 +40,7 @@ fn first(writes: [u32; 32], c: ConeSets, count: usize) -> usize
 // One round.
 fn round(writes: [u32; 32], needs: [u32; 32], c: ConeSets, count: usize) -> ConeSets
     requires { ⌜ count ≤ 32 ⌝ }
-    ensures { λ r. ⌜ r ≡ roundC writes needs count c ⌝ }
+    ensures { λ r. ⌜ r ≡ roundM writes needs count c ⌝ }
 {
     let k = first(writes, c, count);
     if k < count {
@@ -55,7 +55,7 @@ fn round(writes: [u32; 32], needs: [u32; 32], c: ConeSets, count: usize) -> Cone
 // All rounds, from the entities that are in at the start; `writes` and `needs` are those of `count` automations.
 pub fn close(writes: [u32; 32], needs: [u32; 32], start: u32, count: usize) -> ConeSets
     requires { ⌜ count ≤ 32 ⌝ }
-    ensures { λ r. ⌜ r ≡ closedC writes needs count start ⌝ }
+    ensures { λ r. ⌜ r ≡ closedM writes needs count start ⌝ }
 {
     let mut c = ConeSets {
         entities: start,

@@ -7,7 +7,7 @@ use mathlib.Core.List.{List, [], _∷_, _++_}
 use mathlib.Core.Option.{Option, none, some}
 use native.Mathlib.Omega.{arith}
 use lib.Dec.{leb, T, leb→le, nleb→lt}
-pub use Rattle.engine.proofs.Lists.{
+pub use Rattle.engine_spec.proofs.Lists.{
   Case,
   is-true,
   is-false,
@@ -23,7 +23,7 @@ pub use Rattle.engine.proofs.Lists.{
   keep-append,
   found-is,
 }
-pub use Rattle.engine.proofs.Distinct.{or-no′}
+pub use Rattle.engine_spec.proofs.Distinct.{or-no′}
 use Rattle.texts.specs.Lists.{if_then_else_, any, all, keep, find, tally, each, flat}
 use Rattle.texts.specs.Texts.{Text, eqT, insertT, sortedT, ltT}
 

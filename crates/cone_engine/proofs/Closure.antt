@@ -10,9 +10,9 @@ use native.Mathlib.Omega.{arith}
 use lib.ListN.{length}
 use Rattle.texts.specs.Lists.{if_then_else_, absent, absent-or, listed, any, all, keep, each, flat}
 use Rattle.texts.specs.Texts.{Text, eqT, memT}
-use Rattle.model.specs.Model.{Automation, Invariant, Model}
-use Rattle.lint.specs.Touches
-use Rattle.lint.specs.Touches.{
+use Rattle.model_spec.specs.Model.{Automation, Invariant, Model}
+use Rattle.lint_spec.specs.Touches
+use Rattle.lint_spec.specs.Touches.{
   Action,
   walk,
   actions-of,
@@ -25,7 +25,7 @@ use Rattle.lint.specs.Touches.{
   writes-of,
   toggles-of,
 }
-use Rattle.cone.specs.Cone.{
+use Rattle.cone_spec.specs.Cone.{
   Cone,
   names,
   needs,
@@ -69,7 +69,7 @@ use Rattle.cone_engine.proofs.Base.{
   any-sorted,
   keep-each,
 }
-use Rattle.engine.proofs.Distinct.{Fresh, accepted-fresh}
+use Rattle.engine_spec.proofs.Distinct.{Fresh, accepted-fresh}
 use Rattle.cone_engine.proofs.Steps
 
 -- ---- membership

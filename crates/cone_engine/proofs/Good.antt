@@ -8,8 +8,8 @@ use mathlib.Core.Option.{Option, none, some}
 use lib.Dec.{eqb}
 use Rattle.texts.specs.Lists.{if_then_else_, absent, any, all, keep, find, tally, each, through}
 use Rattle.texts.specs.Texts.{Text, text, eqT}
-use Rattle.model.specs.Validate.{undecided}
-use Rattle.model.specs.Model.{
+use Rattle.model_spec.specs.Validate.{undecided}
+use Rattle.model_spec.specs.Model.{
   Source,
   Moment,
   Effect,
@@ -28,13 +28,13 @@ use Rattle.model.specs.Model.{
   Input,
   reload,
 }
-use Rattle.engine.specs.Cells.{Cell, cell-of, value-of, put}
-use Rattle.engine.specs.Kleene.{Truth, Yes, No, Unknown}
-use Rattle.engine.specs.Truth.{evaluate, evaluate-all, matches}
-use Rattle.engine.specs.Modes.{Decision, already-running, max-reached, start, stop-and-start, wait-in-line, decide}
-use Rattle.engine.specs.Records.{Key, Waiting, Run, Work, Item, Kind, Engine}
-use Rattle.engine.specs.Changes.{if-some, with-cells, add, append, with-runs, add-run, uncertain, adds}
-use Rattle.engine.specs.Engine.{
+use Rattle.engine_spec.specs.Cells.{Cell, cell-of, value-of, put}
+use Rattle.engine_spec.specs.Kleene.{Truth, Yes, No, Unknown}
+use Rattle.engine_spec.specs.Truth.{evaluate, evaluate-all, matches}
+use Rattle.engine_spec.specs.Modes.{Decision, already-running, max-reached, start, stop-and-start, wait-in-line, decide}
+use Rattle.engine_spec.specs.Records.{Key, Waiting, Run, Work, Item, Kind, Engine}
+use Rattle.engine_spec.specs.Changes.{if-some, with-cells, add, append, with-runs, add-run, uncertain, adds}
+use Rattle.engine_spec.specs.Engine.{
   is-run,
   of-rule,
   other-run,
@@ -86,7 +86,7 @@ use Rattle.engine.specs.Engine.{
   drop-runs,
   process,
 }
-use Rattle.lint.specs.Touches.{Action, within, walk, within-branches, effect-reads}
+use Rattle.lint_spec.specs.Touches.{Action, within, walk, within-branches, effect-reads}
 use Rattle.cone_engine.proofs.Base.{
   and-l,
   and-r,

@@ -8,8 +8,8 @@ use mathlib.Core.Path.{_≡_, refl, sym, ap, _∙_, subst}
 use native.Mathlib.Omega.{arith}
 use lib.Dec.{leb}
 use Rattle.texts.specs.Lists.{if_then_else_, keep}
-use Rattle.engine.specs.Records.{Item}
-use Rattle.engine.specs.Engine.{sooner, pop}
+use Rattle.engine_spec.specs.Records.{Item}
+use Rattle.engine_spec.specs.Engine.{sooner, pop}
 use Rattle.cone_engine.proofs.Base.{
   keep-in,
   keep-out,

@@ -9,11 +9,11 @@ use lib.Dec.{leb, ltb}
 use lib.ListN.{length}
 use Rattle.texts.specs.Lists.{if_then_else_, _▸_, keep, each}
 use Rattle.texts.specs.Texts.{Text}
-use Rattle.model.specs.Model.{Automation}
-use Rattle.engine.specs.Records.{Run, Item, Engine}
-use Rattle.engine.specs.Changes.{with-queue}
-use Rattle.engine.specs.Reasons.{space-spent, steps-spent}
-use Rattle.engine.specs.Engine.{pop, process, Next, stop, exhausted, take, next-of, Ended, loop}
+use Rattle.model_spec.specs.Model.{Automation}
+use Rattle.engine_spec.specs.Records.{Run, Item, Engine}
+use Rattle.engine_spec.specs.Changes.{with-queue}
+use Rattle.engine_spec.specs.Reasons.{space-spent, steps-spent}
+use Rattle.engine_spec.specs.Engine.{pop, process, Next, stop, exhausted, take, next-of, Ended, loop}
 use Rattle.cone_engine.proofs.Base.{
   keep-again,
   keep-each,

@@ -23,8 +23,8 @@ use Rattle.texts.specs.Lists.{
   through,
 }
 use Rattle.texts.specs.Texts.{Text, text, eqT}
-use Rattle.model.specs.Validate.{undecided}
-use Rattle.model.specs.Model.{
+use Rattle.model_spec.specs.Validate.{undecided}
+use Rattle.model_spec.specs.Model.{
   Source,
   Moment,
   Trigger,
@@ -44,14 +44,14 @@ use Rattle.model.specs.Model.{
   Input,
   reload,
 }
-use Rattle.engine.specs.Cells.{Cell, cell-of, value-of, put}
-use Rattle.engine.specs.Kleene.{Truth, Yes, No, Unknown}
-use Rattle.engine.specs.Truth.{moment-after, evaluate, evaluate-all, matches}
-use Rattle.engine.specs.Modes.{Decision, already-running, max-reached, start, stop-and-start, wait-in-line, decide}
-use Rattle.engine.specs.Reasons.{unsupported-wait}
-use Rattle.engine.specs.Records.{Key, Waiting, Run, Work, Kind, Change, Engine}
-use Rattle.engine.specs.Changes.{if-some, add, add-run, adds}
-use Rattle.engine.specs.Engine.{
+use Rattle.engine_spec.specs.Cells.{Cell, cell-of, value-of, put}
+use Rattle.engine_spec.specs.Kleene.{Truth, Yes, No, Unknown}
+use Rattle.engine_spec.specs.Truth.{moment-after, evaluate, evaluate-all, matches}
+use Rattle.engine_spec.specs.Modes.{Decision, already-running, max-reached, start, stop-and-start, wait-in-line, decide}
+use Rattle.engine_spec.specs.Reasons.{unsupported-wait}
+use Rattle.engine_spec.specs.Records.{Key, Waiting, Run, Work, Kind, Change, Engine}
+use Rattle.engine_spec.specs.Changes.{if-some, add, add-run, adds}
+use Rattle.engine_spec.specs.Engine.{
   is-run,
   of-rule,
   other-run,
@@ -104,8 +104,8 @@ use Rattle.engine.specs.Engine.{
   drop-runs,
   process,
 }
-use Rattle.lint.specs.Touches
-use Rattle.lint.specs.Touches.{Action, within, walk, conditions-of, Write, toggles, predicate-reads, effect-reads}
+use Rattle.lint_spec.specs.Touches
+use Rattle.lint_spec.specs.Touches.{Action, within, walk, conditions-of, Write, toggles, predicate-reads, effect-reads}
 use Rattle.cone_engine.proofs.Base.{
   Case,
   is-true,

@@ -7,12 +7,12 @@ use mathlib.Core.List.{List, [], _∷_, _++_}
 use mathlib.Core.Option.{Option, none, some}
 use Rattle.texts.specs.Lists.{if_then_else_, present-and, all, keep, find, tally, each, flat, through}
 use Rattle.texts.specs.Texts.{Text, eqT}
-use Rattle.model.specs.Model.{Source, Moment, Predicate, state, window, Input, reload, Automation}
-use Rattle.engine.specs.Cells.{Cell, is-cell, cell-of, value-of, overwrite, put}
-use Rattle.engine.specs.Truth.{moment-after, evaluate, evaluate-all}
-use Rattle.engine.specs.Records.{Key, Run, Work, Item, Kind, Trace, Engine}
-use Rattle.engine.specs.Changes.{with-cells, add, append, with-runs, add-run, uncertain, with-queue, adds}
-use Rattle.engine.specs.Engine.{
+use Rattle.model_spec.specs.Model.{Source, Moment, Predicate, state, window, Input, reload, Automation}
+use Rattle.engine_spec.specs.Cells.{Cell, is-cell, cell-of, value-of, overwrite, put}
+use Rattle.engine_spec.specs.Truth.{moment-after, evaluate, evaluate-all}
+use Rattle.engine_spec.specs.Records.{Key, Run, Work, Item, Kind, Trace, Engine}
+use Rattle.engine_spec.specs.Changes.{with-cells, add, append, with-runs, add-run, uncertain, with-queue, adds}
+use Rattle.engine_spec.specs.Engine.{
   is-run,
   moment,
   of-rule,
@@ -26,7 +26,7 @@ use Rattle.engine.specs.Engine.{
   expiry-of,
   change-of,
 }
-use Rattle.lint.specs.Touches.{predicate-reads}
+use Rattle.lint_spec.specs.Touches.{predicate-reads}
 use Rattle.cone_engine.proofs.Base.{
   Case,
   is-true,

@@ -7,42 +7,42 @@ use native.Mathlib.Nat.{zero-add}
 use lib.ListN.{length, getD, replicate}
 use Rattle.texts.specs.Lists.{keep, each}
 use Rattle.texts.specs.Texts.{Text, memT, sortedT}
-use Rattle.model.specs.Answer.{Answer, answer, refused, _>>=_}
-use Rattle.model.specs.Model.{Model}
-use Rattle.model.specs.Rewrite.{place-of}
-use Rattle.model.specs.Validate.{accepted}
+use Rattle.model_spec.specs.Answer.{Answer, answer, refused, _>>=_}
+use Rattle.model_spec.specs.Model.{Model}
+use Rattle.model_spec.specs.Rewrite.{place-of}
+use Rattle.model_spec.specs.Validate.{accepted}
 use Rattle.model_index.specs.declared.Index.{Index}
 use Rattle.model_index.specs.declared.File.{File}
 use Rattle.model_index.specs.declared.Status.the-variants as status
 use Rattle.model_index.specs.Indexed.{Indexed}
 use Rattle.model_index.specs.Indexed.{Says as ReadSays}
 use Rattle.model_validate.proofs.Agrees.{accept-read, accept-refused}
-use Rattle.engine.specs.Words.{texts-in}
-use Rattle.engine.proofs.Validated.{accepted-few}
-use Rattle.lint.specs.Reach.{places}
-use Rattle.lint.specs.Words.{ids-set, names-in}
-use Rattle.lint_names.specs.Strange.{undeclaredU}
-use Rattle.lint_entry.specs.Order.{fillL}
-use Rattle.lint_places.specs.Ground.{namesOf}
-use Rattle.lint_places.specs.Numbers.{padded, declared-set, undeclared}
-use Rattle.lint_places.proofs.Columns.{names-are, ids-are, bounds, texts-are, ascends, texts-once}
-use Rattle.lint_places.proofs.Stage.{Stage}
-use Rattle.lint_places.proofs.Staged.{staged}
-use Rattle.lint_places.proofs.Rules.{names, ids}
-use Rattle.lint_places.proofs.ById.{fill-padded}
-use Rattle.cone.specs.Cone as definition
-use Rattle.cone_close.specs.Rounds.{closedC}
+use Rattle.engine_spec.specs.Words.{texts-in}
+use Rattle.engine_spec.proofs.Validated.{accepted-few}
+use Rattle.lint_spec.specs.Reach.{places}
+use Rattle.lint_spec.specs.Words.{ids-set, names-in}
+use Rattle.lint_undeclared.specs.Strange.{undeclaredM}
+use Rattle.lint_collect.specs.Order.{fillM}
+use Rattle.lint_refinement.specs.Ground.{namesOf}
+use Rattle.lint_refinement.specs.Numbers.{padded, declared-set, undeclared}
+use Rattle.lint_refinement.proofs.Columns.{names-are, ids-are, bounds, texts-are, ascends, texts-once}
+use Rattle.lint_refinement.proofs.Stage.{Stage}
+use Rattle.lint_refinement.proofs.Staged.{staged}
+use Rattle.lint_refinement.proofs.Rules.{names, ids}
+use Rattle.lint_refinement.proofs.ById.{fill-padded}
+use Rattle.cone_spec.specs.Cone as definition
+use Rattle.cone_close.specs.Rounds.{closedM}
 use Rattle.cone_names.specs.declared.ConeNames.{ConeNames}
-use Rattle.cone_names.specs.Wanted.{namesN}
-use Rattle.cone_sets.specs.Sets.{namedS}
-use Rattle.cone_places.proofs.Fine.{accepted-invariants}
-use Rattle.cone_places.proofs.Closing.{Kept}
-use Rattle.cone_places.proofs.Start.{shut, kept}
-use Rattle.cone_places.proofs.Ends.{entities-are, automations-are}
-use Rattle.cone_places.proofs.Strays.{getD-front, packedN, strays-are}
+use Rattle.cone_names.specs.Wanted.{namesM}
+use Rattle.cone_sets.specs.Sets.{namedM}
+use Rattle.cone_refinement.proofs.Fine.{accepted-invariants}
+use Rattle.cone_refinement.proofs.Closing.{Kept}
+use Rattle.cone_refinement.proofs.Start.{shut, kept}
+use Rattle.cone_refinement.proofs.Ends.{entities-are, automations-are}
+use Rattle.cone_refinement.proofs.Strays.{getD-front, packedN, strays-are}
 use Rattle.cone_entry.specs.declared.ConeResult.{ConeResult}
 use Rattle.cone_entry.specs.Answers.{no-cone, stray-places, Shows, Says, Answers}
-use Rattle.cone_entry.specs.Parts.{writesL, needsL, setsE, namesE, Bounds, Tells}
+use Rattle.cone_entry.specs.Parts.{writes-eachM, needs-eachM, model-setsM, model-namesM, Bounds, Tells}
 
 -- ---- numbers in a row
 
@@ -59,7 +59,7 @@ unfolding each places
 places-many g zero i = refl
 places-many g (suc n) i = ap suc (places-many g n (i + 1))
 
-filled-at : (g : ℕ → ℕ) (n : ℕ) → n ≤ 32 → (k : ℕ) → k < n → getD (fillL g n 0 (replicate 32 0)) k 0 ≡ g k
+filled-at : (g : ℕ → ℕ) (n : ℕ) → n ≤ 32 → (k : ℕ) → k < n → getD (fillM g n 0 (replicate 32 0)) k 0 ≡ g k
 unfolding padded
 filled-at g n f k h =
     ap (λ (l : List ℕ). getD l k 0) (fill-padded g n f)
@@ -75,13 +75,13 @@ module _ (s : List ℕ) (i : Index) (m : Model) (acc : accepted s ≡ answer m) 
   abbrev closed : definition.Cone
   closed = shut st (accepted-invariants s m acc)
 
-  held : Kept st (closed .entities) (closed .automations) (setsE s i)
-  unfolding setsE writesL needsL namesOf
+  held : Kept st (closed .entities) (closed .automations) (model-setsM s i)
+  unfolding model-setsM writes-eachM needs-eachM namesOf
   held =
       subst (λ (n : ℕ). Kept st (closed .entities) (closed .automations)
-      (closedC (writesL s (i .entities) (i .rules)) (needsL s (i .entities) (i .rules)) n
-      (namedS s (i .entities) (i .invariants)))) (sym (o .rules .counts))
-      (kept st (accepted-invariants s m acc) (writesL s (i .entities) (i .rules)) (needsL s (i .entities) (i .rules))
+      (closedM (writes-eachM s (i .entities) (i .rules)) (needs-eachM s (i .entities) (i .rules)) n
+      (namedM s (i .entities) (i .invariants)))) (sym (o .rules .counts))
+      (kept st (accepted-invariants s m acc) (writes-eachM s (i .entities) (i .rules)) (needs-eachM s (i .entities) (i .rules))
       (λ k b. filled-at _ (i .rules .count) (bounds s m acc i o .rules) k (omega (arith, o .rules .counts)))
       (λ k b. filled-at _ (i .rules .count) (bounds s m acc i o .rules) k (omega (arith, o .rules .counts))))
 
@@ -89,11 +89,11 @@ module _ (s : List ℕ) (i : Index) (m : Model) (acc : accepted s ≡ answer m) 
   unfolding definition.cone _>>=_
   cone-is = ap (λ (a : Answer Model). a >>= λ m. answer (definition.cone-of m)) acc
 
-  strays : namesE s i ≡ packedN (stray-places s (definition.cone-of m))
-  unfolding namesE stray-places definition.cone-of shut namesOf
+  strays : model-namesM s i ≡ packedN (stray-places s (definition.cone-of m))
+  unfolding model-namesM stray-places definition.cone-of shut namesOf
   strays =
-      ap (λ (k : ℕ). namesN (undeclaredU s (i .entities) (i .rules) k) (setsE s i .automations) k) (o .each-text .counts)
-      ∙ strays-are st (ascends s i m o) (texts-once s i m o) (accepted-few s m acc .1) (closed .entities) (closed .automations) (setsE s i) held
+      ap (λ (k : ℕ). namesM (undeclaredM s (i .entities) (i .rules) k) (model-setsM s i .automations) k) (o .each-text .counts)
+      ∙ strays-are st (ascends s i m o) (texts-once s i m o) (accepted-few s m acc .1) (closed .entities) (closed .automations) (model-setsM s i) held
       ∙ ap (λ (t : List Text). packedN
       (each (λ x. place-of x t) (undeclared (names st) (sortedT (closed .entities))))) (sym (texts-are s i m o))
       ∙ ap (λ (t : List Text). packedN
@@ -103,9 +103,9 @@ module _ (s : List ℕ) (i : Index) (m : Model) (acc : accepted s ≡ answer m) 
   unfolding definition.cone-of shut packedN
   shows r t = record {
     accepted = t .accepted;
-    entities = t .entities ∙ sym (entities-are st (closed .entities) (closed .automations) (setsE s i) held)
+    entities = t .entities ∙ sym (entities-are st (closed .entities) (closed .automations) (model-setsM s i) held)
         ∙ ap (λ (n : List Text). declared-set n (sortedT (closed .entities))) (sym (names-are s m acc));
-    automations = t .automations ∙ sym (automations-are st (closed .entities) (closed .automations) (setsE s i) held)
+    automations = t .automations ∙ sym (automations-are st (closed .entities) (closed .automations) (model-setsM s i) held)
         ∙ ap (λ (n : List Text). ids-set n (ids st) (keep (λ id. memT id (closed .automations)) (ids st))) (sym (names-are s m acc))
         ∙ ap (λ (n : List Text). ids-set (names-in s) n (keep (λ id. memT id (closed .automations)) (ids st)))
         (sym (ids-are s m acc));

@@ -7,50 +7,50 @@ use lib.ListN.{getD, replicate}
 use Rattle.model_index.specs.declared.Index.{Index}
 use Rattle.model_parts.specs.declared.Section.{Section}
 use Rattle.lint_walk.specs.declared.Walk.{Walk}
-use Rattle.lint_walk.specs.Walks.{walkBy, walkW}
-use Rattle.lint_touches.specs.Sets.{sectionBy, writesS}
-use Rattle.lint_touches.proofs.Laws.{writes-by}
-use Rattle.lint_names.specs.declared.Undeclared.{Undeclared}
-use Rattle.lint_names.specs.Strange.{undeclaredU}
-use Rattle.lint_entry.specs.Order.{fillL}
-use Rattle.cone_sets.specs.Sets.{namedS, needsS}
+use Rattle.lint_walk.specs.Walks.{walkBy, walkM}
+use Rattle.lint_access.specs.Sets.{sectionBy, writesM}
+use Rattle.lint_access.proofs.Laws.{writes-by}
+use Rattle.lint_undeclared.specs.declared.Undeclared.{Undeclared}
+use Rattle.lint_undeclared.specs.Strange.{undeclaredM}
+use Rattle.lint_collect.specs.Order.{fillM}
+use Rattle.cone_sets.specs.Sets.{namedM, needsM}
 use Rattle.cone_sets.proofs.Laws.{named-by, needs-by}
 use Rattle.cone_close.specs.declared.ConeSets.{ConeSets}
-use Rattle.cone_close.specs.Rounds.{closedC}
+use Rattle.cone_close.specs.Rounds.{closedM}
 use Rattle.cone_names.specs.declared.ConeNames.{ConeNames}
-use Rattle.cone_names.specs.Wanted.{namesN}
+use Rattle.cone_names.specs.Wanted.{namesM}
 use Rattle.cone_entry.specs.declared.Touched.{Touched}
-use Rattle.cone_entry.specs.Parts.{writesL, needsL, Touches, setsE, namesE, Tells}
+use Rattle.cone_entry.specs.Parts.{writes-eachM, needs-eachM, Touches, model-setsM, model-namesM, Tells}
 
 module _ (s : List ℕ) (e rules : Section) where
-  pub writes-are : writesL s e rules
-      ≡ fillL (λ i. writesS s e (walkW s (getD (rules .starts) i 0))) (rules .count - 0) 0 (replicate 32 0)
-  unfolding writesL
+  pub writes-are : writes-eachM s e rules
+      ≡ fillM (λ i. writesM s e (walkM s (getD (rules .starts) i 0))) (rules .count - 0) 0 (replicate 32 0)
+  unfolding writes-eachM
   writes-are =
       let m : rules .count - 0 ≡ rules .count = omega arith in
       rw m
 
-  pub needs-are : needsL s e rules
-      ≡ fillL (λ i. needsS s e (getD (rules .starts) i 0) (walkW s (getD (rules .starts) i 0))) (rules .count - 0) 0
+  pub needs-are : needs-eachM s e rules
+      ≡ fillM (λ i. needsM s e (getD (rules .starts) i 0) (walkM s (getD (rules .starts) i 0))) (rules .count - 0) 0
       (replicate 32 0)
-  unfolding needsL
+  unfolding needs-eachM
   needs-are =
       let m : rules .count - 0 ≡ rules .count = omega arith in
       rw m
 
 -- the walk of the automation at a position
-module _ (s : List ℕ) (e : Section) (p : ℕ) {w : Walk} {x : ℕ} (d : w ≡ walkW s p) where
-  pub write-is : x ≡ writesS s (sectionBy (e .starts) (e .count)) (walkBy (w .list) (w .count)) → x ≡ writesS s e (walkW s p)
-  write-is f = writes-by s e w f ∙ ap (writesS s e) d
+module _ (s : List ℕ) (e : Section) (p : ℕ) {w : Walk} {x : ℕ} (d : w ≡ walkM s p) where
+  pub write-is : x ≡ writesM s (sectionBy (e .starts) (e .count)) (walkBy (w .list) (w .count)) → x ≡ writesM s e (walkM s p)
+  write-is f = writes-by s e w f ∙ ap (writesM s e) d
 
-  pub need-is : x ≡ needsS s (sectionBy (e .starts) (e .count)) p (walkBy (w .list) (w .count)) → x ≡ needsS s e p (walkW s p)
-  need-is f = needs-by s e p w f ∙ ap (needsS s e p) d
+  pub need-is : x ≡ needsM s (sectionBy (e .starts) (e .count)) p (walkBy (w .list) (w .count)) → x ≡ needsM s e p (walkM s p)
+  need-is f = needs-by s e p w f ∙ ap (needsM s e p) d
 
 pub told-is : (s : List ℕ) (i : Index) {t : Touched} {x : ℕ} {c : ConeSets} {u : Undeclared} {n : ConeNames}
-    → x ≡ namedS s (sectionBy (i .entities .starts) (i .entities .count)) (i .invariants) → Touches s (i .entities) (i .rules) t
-    → c ≡ closedC (t .writes) (t .needs) (i .rules .count) x
-    → u ≡ undeclaredU s (i .entities) (i .rules) (i .texts .count)
-    → n ≡ namesN u (c .automations) (i .texts .count)
+    → x ≡ namedM s (sectionBy (i .entities .starts) (i .entities .count)) (i .invariants) → Touches s (i .entities) (i .rules) t
+    → c ≡ closedM (t .writes) (t .needs) (i .rules .count) x
+    → u ≡ undeclaredM s (i .entities) (i .rules) (i .texts .count)
+    → n ≡ namesM u (c .automations) (i .texts .count)
     → Tells s i (record {
       refused = 0;
       entities = c .entities;
@@ -66,8 +66,8 @@ told-is s i {t} {x} {c} {u} {n} d e f g h = record {
   names = ap (λ (y : ConeNames). y .list) found;
 }
   where
-    sets : c ≡ setsE s i
-    sets = unfold setsE in (f ∙ rw (named-by s (i .entities) (i .invariants) d, e .writes, e .needs))
+    sets : c ≡ model-setsM s i
+    sets = unfold model-setsM in (f ∙ rw (named-by s (i .entities) (i .invariants) d, e .writes, e .needs))
 
-    found : n ≡ namesE s i
-    found = unfold namesE in (h ∙ rw (g, sets))
+    found : n ≡ model-namesM s i
+    found = unfold model-namesM in (h ∙ rw (g, sets))

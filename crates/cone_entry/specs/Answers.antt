@@ -1,15 +1,15 @@
--- What `cone` answers, by the definition of crate `cone`: each number of the answer.
+-- What `cone` answers, by the definition of crate `cone_spec`: each number of the answer.
 use Prim.Native.Nat.{ℕ}
 use mathlib.Core.Path.{_≡_}
 use mathlib.Core.List.{List}
 use lib.ListN.{length, replicate}
 use Rattle.texts.specs.Lists.{each}
-use Rattle.model.specs.Answer.{Answer, answer, refused}
-use Rattle.model.specs.Rewrite.{place-of}
-use Rattle.engine.specs.Words.{texts-in}
-use Rattle.lint.specs.Words.{ids-set, names-in, ids-in}
-use Rattle.lint_places.specs.Numbers.{padded, declared-set, undeclared}
-use Rattle.cone.specs.Cone as definition
+use Rattle.model_spec.specs.Answer.{Answer, answer, refused}
+use Rattle.model_spec.specs.Rewrite.{place-of}
+use Rattle.engine_spec.specs.Words.{texts-in}
+use Rattle.lint_spec.specs.Words.{ids-set, names-in, ids-in}
+use Rattle.lint_refinement.specs.Numbers.{padded, declared-set, undeclared}
+use Rattle.cone_spec.specs.Cone as definition
 use Rattle.cone_entry.specs.declared.ConeResult.{ConeResult}
 
 unfoldable pub no-cone : (number : ℕ) → ConeResult

@@ -54,7 +54,7 @@ fn rule_sets(s: &[u8], entities: Section, rules: Section) -> Touched
         let mut list = [0usize; 512];
         let c = lint_walk::rule_walk(s, at, &mut list);
         let count = c.count;
-        writes[i] = lint_touches::writes(s, &entities.starts, many, &list, count);
+        writes[i] = lint_access::writes(s, &entities.starts, many, &list, count);
         needs[i] = cone_sets::needs(s, &entities.starts, many, at, &list, count);
         i += 1;
     }
@@ -84,7 +84,7 @@ fn coned(s: &[u8], index: Index) -> ConeResult
         count: rules.count,
         end: last,
     };
-    let u = lint_names::undeclared_names(
+    let u = lint_undeclared::undeclared_names(
         s,
         &entities.starts,
         declared,

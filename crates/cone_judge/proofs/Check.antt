@@ -8,18 +8,18 @@ use mathlib.Core.Path.{_≡_, refl, sym, ap, _∙_, subst}
 use native.Mathlib.Omega.{arith}
 use Rattle.texts.specs.Lists.{if_then_else_, absent, all, keep, each, flat}
 use Rattle.texts.specs.Texts.{Text, sortedT, insertT, eqT, ltT}
-use Rattle.model.specs.Answer.{answer}
-use Rattle.model.specs.Model.{Moment, Event, Invariant, id-of, Model}
-use Rattle.engine.specs.Cells.{Cell}
-use Rattle.engine.specs.Records.{Item, Kind, Trace, Areas, Engine}
-use Rattle.engine.specs.Changes.{append}
-use Rattle.engine.specs.Unsupported.{unsupported}
-use Rattle.engine.specs.Engine.{log, expiry, loop, event-item, begun, left-over, last-record, closed, Ended}
-use Rattle.engine.specs.Simulate.{Simulation, ended, outcome, unless-full, simulated}
-use Rattle.engine.proofs.Distinct.{answer-eq, refused-answer, bind-inv}
-use Rattle.checker.specs.Judge.{Failing, Reading, read-all, unknown-reasons}
-use Rattle.checker.specs.Check.{Check, violation-of, judged, checked}
-use Rattle.cone.specs.Cone.{names}
+use Rattle.model_spec.specs.Answer.{answer}
+use Rattle.model_spec.specs.Model.{Moment, Event, Invariant, id-of, Model}
+use Rattle.engine_spec.specs.Cells.{Cell}
+use Rattle.engine_spec.specs.Records.{Item, Kind, Trace, Areas, Engine}
+use Rattle.engine_spec.specs.Changes.{append}
+use Rattle.engine_spec.specs.Unsupported.{unsupported}
+use Rattle.engine_spec.specs.Engine.{log, expiry, loop, event-item, begun, left-over, last-record, closed, Ended}
+use Rattle.engine_spec.specs.Simulate.{Simulation, ended, outcome, unless-full, simulated}
+use Rattle.engine_spec.proofs.Distinct.{answer-eq, refused-answer, bind-inv}
+use Rattle.checker_spec.specs.Judge.{Failing, Reading, read-all, unknown-reasons}
+use Rattle.checker_spec.specs.Check.{Check, violation-of, judged, checked}
+use Rattle.cone_spec.specs.Cone.{names}
 use Rattle.cone_judge.specs.Told.{Told, failed, missed, told, About, holds, fails, late, about-failing, about, violation-told}
 use Rattle.cone_engine.proofs.Base.{keep-append, keep-flat, each-flat, Every, every-end, le-leb}
 use Rattle.cone_engine.proofs.Queue

@@ -9,12 +9,12 @@ use native.Mathlib.Omega.{arith}
 use lib.Dec.{ltb}
 use Rattle.texts.specs.Lists.{if_then_else_, absent, present-and, all, keep, flat}
 use Rattle.texts.specs.Texts.{Text, text, eqT}
-use Rattle.model.specs.Model.{Predicate, Invariant, never, guard, transition, response, midnight}
-use Rattle.engine.specs.Cells.{Cell, put}
-use Rattle.engine.specs.Kleene.{Truth, Yes, No, Unknown, is-yes, is-no, is-unknown}
-use Rattle.engine.specs.Records.{Kind, kind-name, Change, Trace}
-use Rattle.lint.specs.Touches.{predicate-reads}
-use Rattle.checker.specs.Judge.{
+use Rattle.model_spec.specs.Model.{Predicate, Invariant, never, guard, transition, response, midnight}
+use Rattle.engine_spec.specs.Cells.{Cell, put}
+use Rattle.engine_spec.specs.Kleene.{Truth, Yes, No, Unknown, is-yes, is-no, is-unknown}
+use Rattle.engine_spec.specs.Records.{Kind, kind-name, Change, Trace}
+use Rattle.lint_spec.specs.Touches.{predicate-reads}
+use Rattle.checker_spec.specs.Judge.{
   Failure,
   prohibited-state,
   deadline-missed,
@@ -41,7 +41,7 @@ use Rattle.checker.specs.Judge.{
   reading,
   read-all,
 }
-use Rattle.cone.specs.Cone.{names}
+use Rattle.cone_spec.specs.Cone.{names}
 use Rattle.cone_judge.specs.Told.{told, About, late, about-failing, about}
 use Rattle.cone_engine.proofs.Base.{
   Case,

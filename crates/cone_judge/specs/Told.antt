@@ -3,8 +3,8 @@ use Prim.Native.Nat.{ℕ}
 use mathlib.Core.List.{List}
 use mathlib.Core.Option.{Option, none, some}
 use Rattle.texts.specs.Texts.{Text}
-use Rattle.model.specs.Model.{Source, Invariant}
-use Rattle.checker.specs.Judge.{
+use Rattle.model_spec.specs.Model.{Source, Invariant}
+use Rattle.checker_spec.specs.Judge.{
   Failure,
   prohibited-state,
   guard-violated,
@@ -13,7 +13,7 @@ use Rattle.checker.specs.Judge.{
   Reading,
   unknown-reasons,
 }
-use Rattle.checker.specs.Check.{Violation}
+use Rattle.checker_spec.specs.Check.{Violation}
 
 -- the failure, its second and its source; of a missed response the deadline alone
 pub data Told : Type 0 where

@@ -1,14 +1,14 @@
 // The undeclared names in the cone: those that one of its automations reads, as places among the texts, ascending.
-use lint_names::Undeclared;
+use lint_undeclared::Undeclared;
 ghost use mathlib.Core.Path.{_≡_};
 ghost use Prim.Native.Nat.{_≤_, _<_, _+_};
 ghost use lib.ListN.{length};
-ghost use Rattle.cone_names.specs.Wanted.{readN, wantedN, withN, nameN, namesN};
+ghost use Rattle.cone_names.specs.Wanted.{readM, wantedM, withM, nameM, namesM};
 
 // Whether the j-th of the names is the one at a place, and its reader is among the automations.
 fn read_by(u: Undeclared, automations: u32, place: u32, j: usize) -> bool
     requires { ⌜ j < 64 ⌝ }
-    ensures { λ r. ⌜ r ≡ readN u automations place j ⌝ }
+    ensures { λ r. ⌜ r ≡ readM u automations place j ⌝ }
 {
     if u.names[j] != place {
         return false;
@@ -22,7 +22,7 @@ fn read_by(u: Undeclared, automations: u32, place: u32, j: usize) -> bool
 
 // Whether one of the automations reads the name at a place.
 fn wanted(u: Undeclared, automations: u32, place: u32) -> bool
-    ensures { λ r. ⌜ r ≡ wantedN u automations place ⌝ }
+    ensures { λ r. ⌜ r ≡ wantedM u automations place ⌝ }
 {
     let count = u.count;
     let mut j: usize = 0;
@@ -45,7 +45,7 @@ pub struct ConeNames {
 }
 
 fn with_name(n: ConeNames, place: u32) -> ConeNames
-    ensures { λ r. ⌜ r ≡ withN n place ⌝ }
+    ensures { λ r. ⌜ r ≡ withM n place ⌝ }
 {
     let count = n.count;
     if count < 64 {
@@ -61,7 +61,7 @@ fn with_name(n: ConeNames, place: u32) -> ConeNames
 
 // With the name at a place, if one of the automations reads it.
 fn with_wanted(u: Undeclared, automations: u32, place: u32, n: ConeNames) -> ConeNames
-    ensures { λ r. ⌜ r ≡ nameN u automations place n ⌝ }
+    ensures { λ r. ⌜ r ≡ nameM u automations place n ⌝ }
 {
     if wanted(u, automations, place) {
         return with_name(n, place);
@@ -71,7 +71,7 @@ fn with_wanted(u: Undeclared, automations: u32, place: u32, n: ConeNames) -> Con
 
 // All of them, of so many texts.
 pub fn names_in(u: Undeclared, automations: u32, texts: u32) -> ConeNames
-    ensures { λ r. ⌜ r ≡ namesN u automations texts ⌝ }
+    ensures { λ r. ⌜ r ≡ namesM u automations texts ⌝ }
 {
     let mut n = ConeNames {
         count: 0,

@@ -4,36 +4,36 @@ use model_parts::Section;
 ghost use mathlib.Core.Path.{_≡_};
 ghost use Prim.Native.Nat.{_≤_, _<_, _+_};
 ghost use Rattle.lint_walk.specs.Walks.{walkBy};
-ghost use Rattle.lint_touches.specs.Sets.{sectionBy};
-ghost use Rattle.cone_sets.specs.Sets.{addI, namedS, addG, needsS};
+ghost use Rattle.lint_access.specs.Sets.{sectionBy};
+ghost use Rattle.cone_sets.specs.Sets.{add-namedM, namedM, add-toggleM, needsM};
 
 // ---- invariants
 
 // What the invariant at a position names.
 fn add_named(s: &[u8], entities: &[usize; 100], many: u32, set: u32, at: usize) -> u32
     requires { ⌜ many ≤ 32 ⌝ }
-    ensures { λ r. ⌜ r ≡ addI (now (s .entry)) (sectionBy (now (entities .entry)) many) at set ⌝ }
+    ensures { λ r. ⌜ r ≡ add-namedM (now (s .entry)) (sectionBy (now (entities .entry)) many) at set ⌝ }
 {
     let kind = lint_walk::byte_at(s, at);
     let p = lint_walk::past(s, at, 3);
     if kind == 0 {
-        return lint_touches::add_predicates(s, entities, many, set, p);
+        return lint_access::add_predicates(s, entities, many, set, p);
     }
     if kind == 1 {
-        let guarded = lint_touches::add_entity(s, entities, many, set, lint_walk::place_at(s, p));
-        return lint_touches::add_predicates(s, entities, many, guarded, lint_walk::past(s, at, 7));
+        let guarded = lint_access::add_entity(s, entities, many, set, lint_walk::place_at(s, p));
+        return lint_access::add_predicates(s, entities, many, guarded, lint_walk::past(s, at, 7));
     }
     if kind == 2 {
-        return lint_touches::add_entity(s, entities, many, set, lint_walk::place_at(s, p));
+        return lint_access::add_entity(s, entities, many, set, lint_walk::place_at(s, p));
     }
-    let when = lint_touches::add_predicate(s, entities, many, set, p);
-    lint_touches::add_predicate(s, entities, many, when, lint_walk::predicate_end(s, p))
+    let when = lint_access::add_predicate(s, entities, many, set, p);
+    lint_access::add_predicate(s, entities, many, when, lint_walk::predicate_end(s, p))
 }
 
 // What all invariants name.
 pub fn named(s: &[u8], entities: &[usize; 100], many: u32, invariants: Section) -> u32
     requires { ⌜ (many ≤ 32) × (invariants .count ≤ 32) ⌝ }
-    ensures { λ r. ⌜ r ≡ namedS (now (s .entry)) (sectionBy (now (entities .entry)) many) invariants ⌝ }
+    ensures { λ r. ⌜ r ≡ namedM (now (s .entry)) (sectionBy (now (entities .entry)) many) invariants ⌝ }
 {
     let count = invariants.count as usize;
     let mut set: u32 = 0;
@@ -50,11 +50,11 @@ pub fn named(s: &[u8], entities: &[usize; 100], many: u32, invariants: Section) 
 // A toggle's entity.
 fn add_toggle(s: &[u8], entities: &[usize; 100], many: u32, set: u32, at: usize) -> u32
     requires { ⌜ many ≤ 32 ⌝ }
-    ensures { λ r. ⌜ r ≡ addG (now (s .entry)) (sectionBy (now (entities .entry)) many) at set ⌝ }
+    ensures { λ r. ⌜ r ≡ add-toggleM (now (s .entry)) (sectionBy (now (entities .entry)) many) at set ⌝ }
 {
     if lint_walk::kind_at(s, at) == 1 {
         let place = lint_walk::place_at(s, lint_walk::past(s, at, 9));
-        return lint_touches::add_entity(s, entities, many, set, place);
+        return lint_access::add_entity(s, entities, many, set, place);
     }
     set
 }
@@ -69,9 +69,9 @@ pub fn needs(
     count: usize,
 ) -> u32
     requires { ⌜ (many ≤ 32) × (count ≤ 512) ⌝ }
-    ensures { λ r. ⌜ r ≡ needsS (now (s .entry)) (sectionBy (now (entities .entry)) many) at (walkBy (now (list .entry)) count) ⌝ }
+    ensures { λ r. ⌜ r ≡ needsM (now (s .entry)) (sectionBy (now (entities .entry)) many) at (walkBy (now (list .entry)) count) ⌝ }
 {
-    let mut set = lint_touches::reads(s, entities, many, at, list, count);
+    let mut set = lint_access::reads(s, entities, many, at, list, count);
     let mut k: usize = 0;
     while k < count {
         set = add_toggle(s, entities, many, set, list[k]);

@@ -10,14 +10,14 @@ use Rattle.runs.specs.declared.Run.{Run}
 use Rattle.runs.specs.declared.Source.{Source}
 use Rattle.reasons.specs.Kinds as kinds
 use Rattle.reasons.specs.declared.Reason.{Reason}
-use Rattle.engine_reads.specs.Reads.{two, four, atMost, entityOf, aboutRule, alone, noteReason}
-use Rattle.engine_truth.specs.Truths.{numberT, undecidedT, evaluateT, selectT}
-use Rattle.engine_truth.specs.declared.Truth.{Truth}
-use Rattle.engine_truth.specs.declared.Branch.{Branch}
+use Rattle.engine_fields.specs.Reads.{two, four, atMost, entityOf, aboutRule, alone, noteReason}
+use Rattle.engine_evaluate.specs.Truths.{numberM, undecidedM, evaluateM, selectM}
+use Rattle.engine_evaluate.specs.declared.Truth.{Truth}
+use Rattle.engine_evaluate.specs.declared.Branch.{Branch}
 use Rattle.engine_state.specs.Machine.{Machine, later}
 use Rattle.engine_state.specs.Changes.{uncertainM, log-actionM, next-stepM}
 use Rattle.engine_modes.specs.Modes.{nowM}
-use Rattle.engine_steps.specs.Runs.{finishM}
+use Rattle.engine_trigger.specs.Runs.{finishM}
 use Rattle.engine_actions.specs.Acts.{setM, toggledM, doubtM, flip-fromM, flip-atM, flipM, afterM, testedM, condition-asM, conditionM, chosenM, chooseM, wait, waitingM, begin-waitM, give-upM}
 
 pub doubt-is : (f x : List ℕ) (r : Run) (kind i : ℕ) (why : Reason) (m : Machine) → i ≡ atMost (r .automation) 31 → why ≡ aboutRule f x i kind → uncertainM f why m ≡ doubtM f x r kind m
@@ -29,7 +29,7 @@ module _ (f x : List ℕ) (r : Run) (s : Source) (e i : ℕ) (m : Machine) (is :
   unfolding flipM flip-atM
   flip-none h = rw (← is, lt-ltb 31 i h)
 
-  module _ (b : Bool) (h : i ≤ 31) (eb : b ≡ undecidedT x (getD (m .values) i 0)) where
+  module _ (b : Bool) (h : i ≤ 31) (eb : b ≡ undecidedM x (getD (m .values) i 0)) where
     pub flip-unknown : b ≡ true → nowM r (doubtM f x r kinds.toggle m) ≡ flipM f x r s e m
     unfolding flipM flip-atM flip-fromM
     flip-unknown t = rw (← is, le-ltb 31 i h, ← eb, t)
@@ -44,11 +44,11 @@ after-is r n second m e = ap (λ z. next-stepM r z m) e
 pub tested-is : (f x : List ℕ) (k : ℕ) (r : Run) (t g : Truth) (m : Machine) → t ≡ g → testedM f x k r g m ≡ testedM f x k r t m
 tested-is f x k r t g m e = ap (λ z. testedM f x k r z m) (sym e)
 
-pub condition-is : (f x : List ℕ) (k : ℕ) (r : Run) (s : Source) (at d : ℕ) (t : Truth) (m : Machine) → t ≡ evaluateT f x (m .values) (m .now) at → d ≡ numberT t → testedM f x k r t (log-actionM 11 d s r m) ≡ conditionM f x k r s at m
+pub condition-is : (f x : List ℕ) (k : ℕ) (r : Run) (s : Source) (at d : ℕ) (t : Truth) (m : Machine) → t ≡ evaluateM f x (m .values) (m .now) at → d ≡ numberM t → testedM f x k r t (log-actionM 11 d s r m) ≡ conditionM f x k r s at m
 unfolding conditionM condition-asM
-condition-is f x k r s at d t m e g = ap (λ z. testedM f x k r t (log-actionM 11 z s r m)) g ∙ ap (λ z. testedM f x k r z (log-actionM 11 (numberT z) s r m)) e
+condition-is f x k r s at d t m e g = ap (λ z. testedM f x k r t (log-actionM 11 z s r m)) g ∙ ap (λ z. testedM f x k r z (log-actionM 11 (numberM z) s r m)) e
 
-pub choose-is : (f x : List ℕ) (k : ℕ) (r : Run) (s : Source) (at : ℕ) (b g : Branch) (m : Machine) → b ≡ g → b ≡ selectT f x (m .values) (m .now) at → chosenM f x k r s g m ≡ chooseM f x k r s at m
+pub choose-is : (f x : List ℕ) (k : ℕ) (r : Run) (s : Source) (at : ℕ) (b g : Branch) (m : Machine) → b ≡ g → b ≡ selectM f x (m .values) (m .now) at → chosenM f x k r s g m ≡ chooseM f x k r s at m
 unfolding chooseM
 choose-is f x k r s at b g m e h = ap (λ z. chosenM f x k r s z m) (sym e ∙ h)
 

@@ -17,21 +17,21 @@ use Rattle.runs.specs.declared.Phase.{Phase}
 use Rattle.runs.specs.declared.Phase.the-variants.{Going, Waiting}
 use Rattle.runs.specs.declared.Found.{Found}
 use Rattle.runs.specs.declared.Found.the-variants.{At, Nothing}
-use Rattle.engine_reads.specs.Reads.{two, four, atMost, entityOf, aboutRule, alone, noteReason}
-use Rattle.engine_truth.specs.Truths.{numberT, undecidedT, evaluateT, selectT}
-use Rattle.engine_truth.specs.Actions.{actionA, listA, topA, steppedA}
-use Rattle.engine_truth.specs.declared.Truth.{Truth}
-use Rattle.engine_truth.specs.declared.Truth.the-variants.{Yes, No, Unknown}
-use Rattle.engine_truth.specs.declared.Branch.{Branch}
-use Rattle.engine_truth.specs.declared.Branch.the-variants.{Take, Unclear, Skip}
-use Rattle.engine_truth.specs.declared.Effect.{Effect}
-use Rattle.engine_truth.specs.declared.Effect.the-variants as effect
-use Rattle.engine_truth.specs.declared.Action.{Action}
+use Rattle.engine_fields.specs.Reads.{two, four, atMost, entityOf, aboutRule, alone, noteReason}
+use Rattle.engine_evaluate.specs.Truths.{numberM, undecidedM, evaluateM, selectM}
+use Rattle.engine_evaluate.specs.Actions.{actionM, listM, topM, steppedM}
+use Rattle.engine_evaluate.specs.declared.Truth.{Truth}
+use Rattle.engine_evaluate.specs.declared.Truth.the-variants.{Yes, No, Unknown}
+use Rattle.engine_evaluate.specs.declared.Branch.{Branch}
+use Rattle.engine_evaluate.specs.declared.Branch.the-variants.{Take, Unclear, Skip}
+use Rattle.engine_evaluate.specs.declared.Effect.{Effect}
+use Rattle.engine_evaluate.specs.declared.Effect.the-variants as effect
+use Rattle.engine_evaluate.specs.declared.Action.{Action}
 use Rattle.engine_state.specs.Machine.{Machine, later}
 use Rattle.engine_state.specs.Changes.{addM, uncertainM, log-actionM, next-stepM}
-use Rattle.engine_writes.specs.Writes.{updateM, setting}
+use Rattle.engine_update.specs.Writes.{updateM, setting}
 use Rattle.engine_modes.specs.Modes.{nowM}
-use Rattle.engine_steps.specs.Runs.{runM, put-runM, phaseR, finishM}
+use Rattle.engine_trigger.specs.Runs.{runM, put-runM, phaseM, finishM}
 use Rattle.reasons.specs.Kinds as kinds
 
 unfoldable pub writtenM : List ℕ → Run → Source → (entity value : ℕ) → Machine → Machine
@@ -49,7 +49,7 @@ unfoldable pub doubtM : (f x : List ℕ) → Run → (kind : ℕ) → Machine �
 doubtM f x r kind m = uncertainM f (aboutRule f x (atMost (r .automation) 31) kind) m
 
 unfoldable pub flip-fromM : (f x : List ℕ) → Run → Source → (entity old : ℕ) → Machine → Machine
-flip-fromM f x r s e old m = if undecidedT x old then nowM r (doubtM f x r kinds.toggle m) else setM x r s e (toggledM x old) m
+flip-fromM f x r s e old m = if undecidedM x old then nowM r (doubtM f x r kinds.toggle m) else setM x r s e (toggledM x old) m
 
 unfoldable pub flip-atM : (f x : List ℕ) → Run → Source → (entity place : ℕ) → Machine → Machine
 flip-atM f x r s e i m = if ltb 31 i then m else flip-fromM f x r s e (getD (m .values) i 0) m
@@ -74,13 +74,13 @@ testedM f x k r No m = finishM k m
 testedM f x k r Unknown m = unclearM f x k r kinds.action-condition m
 
 unfoldable pub condition-asM : (f x : List ℕ) → (k : ℕ) → Run → Source → Truth → Machine → Machine
-condition-asM f x k r s t m = testedM f x k r t (log-actionM 11 (numberT t) s r m)
+condition-asM f x k r s t m = testedM f x k r t (log-actionM 11 (numberM t) s r m)
 
 unfoldable pub conditionM : (f x : List ℕ) → (k : ℕ) → Run → Source → (at : ℕ) → Machine → Machine
-conditionM f x k r s at m = condition-asM f x k r s (evaluateT f x (m .values) (m .now) at) m
+conditionM f x k r s at m = condition-asM f x k r s (evaluateM f x (m .values) (m .now) at) m
 
 unfoldable pub take-listM : (f : List ℕ) → (k : ℕ) → Run → Source → (at : ℕ) → Machine → Machine
-take-listM f k r s at m = nowM r (log-actionM 8 0 s r (put-runM k (listA f r at) m))
+take-listM f k r s at m = nowM r (log-actionM 8 0 s r (put-runM k (listM f r at) m))
 
 unfoldable pub chosenM : (f x : List ℕ) → (k : ℕ) → Run → Source → Branch → Machine → Machine
 chosenM f x k r s (Take p) m = take-listM f k r s p m
@@ -88,13 +88,13 @@ chosenM f x k r s Unclear m = unclearM f x k r kinds.choose-condition m
 chosenM f x k r s (Skip p) m = unclearM f x k r kinds.choose-condition m
 
 unfoldable pub chooseM : (f x : List ℕ) → (k : ℕ) → Run → Source → (at : ℕ) → Machine → Machine
-chooseM f x k r s at m = chosenM f x k r s (selectT f x (m .values) (m .now) at) m
+chooseM f x k r s at m = chosenM f x k r s (selectM f x (m .values) (m .now) at) m
 
 abbrev pub wait : (trigger deadline : ℕ) → Bool → Source → Wait
 wait t d b s = record { trigger = t; deadline = d; onward = b; source = s }
 
 unfoldable pub waitingM : (k : ℕ) → Run → Source → (seconds deadline : ℕ) → Wait → Machine → Machine
-waitingM k r s n d w m = log-actionM 16 n s r (addM d (Timeout (r .automation) (r .sequence)) (put-runM k (phaseR (Waiting w) r) m))
+waitingM k r s n d w m = log-actionM 16 n s r (addM d (Timeout (r .automation) (r .sequence)) (put-runM k (phaseM (Waiting w) r) m))
 
 -- a trigger with a note isn't waited for
 unfoldable pub begin-waitM : (f : List ℕ) → (k : ℕ) → Run → Source → (at : ℕ) → Machine → Machine
@@ -120,10 +120,10 @@ unfoldable pub actM : (f x : List ℕ) → (k : ℕ) → Run → Source → Effe
 actM f x k r s e m = performM f x k r s e (put-runM k r m)
 
 unfoldable pub act-nextM : (f x : List ℕ) → (k : ℕ) → Run → Action → Machine → Machine
-act-nextM f x k r a m = actM f x k (steppedA r (a .next)) (a .source) (a .effect) m
+act-nextM f x k r a m = actM f x k (steppedM r (a .next)) (a .source) (a .effect) m
 
 unfoldable pub go-on-runM : (f x : List ℕ) → (k : ℕ) → Run → Machine → Machine
-go-on-runM f x k r m = if eqb (r .depth) 0 then finishM k m else act-nextM f x k r (actionA f x (topA r .position)) m
+go-on-runM f x k r m = if eqb (r .depth) 0 then finishM k m else act-nextM f x k r (actionM f x (topM r .position)) m
 
 unfoldable pub go-onM : (f x : List ℕ) → (k : ℕ) → Machine → Machine
 go-onM f x k m = go-on-runM f x k (runM k m) m
@@ -132,11 +132,11 @@ unfoldable pub going-phase : Phase → Bool
 going-phase Going = true
 going-phase (Waiting w) = false
 
-unfoldable pub goingR : Run → Bool
-goingR r = if r .queued then false else going-phase (r .phase)
+unfoldable pub goingM : Run → Bool
+goingM r = if r .queued then false else going-phase (r .phase)
 
 unfoldable pub resume-runM : (f x : List ℕ) → (k : ℕ) → Run → Machine → Machine
-resume-runM f x k r m = if goingR r then go-onM f x k m else m
+resume-runM f x k r m = if goingM r then go-onM f x k m else m
 
 unfoldable pub resume-atM : (f x : List ℕ) → Found → Machine → Machine
 resume-atM f x (At k) m = resume-runM f x k (runM k m) m

@@ -1,9 +1,11 @@
 // What a run's next action does.
-use engine_reads::about_rule;
-use engine_reads::at_most;
-use engine_reads::entity_of;
-use engine_reads::four_at;
-use engine_reads::two_at;
+use engine_evaluate::Branch;
+use engine_evaluate::Truth;
+use engine_fields::about_rule;
+use engine_fields::at_most;
+use engine_fields::entity_of;
+use engine_fields::four_at;
+use engine_fields::two_at;
 use engine_state::Setting;
 use engine_state::State;
 use engine_state::add;
@@ -11,11 +13,9 @@ use engine_state::after;
 use engine_state::log_action;
 use engine_state::next_step;
 use engine_state::uncertain;
-use engine_steps::finish;
-use engine_steps::with_phase;
-use engine_truth::Branch;
-use engine_truth::Truth;
-use engine_writes::update;
+use engine_trigger::finish;
+use engine_trigger::with_phase;
+use engine_update::update;
 use queue::Work;
 use records::Rule;
 use records::Where;
@@ -108,7 +108,7 @@ pub fn flip(
         return st;
     }
     let old = values[e];
-    if engine_truth::undecided(x, old) {
+    if engine_evaluate::undecided(x, old) {
         let i = at_most(run.automation, 31);
         let why = about_rule(f, x, i, reasons::TOGGLE);
         let s1 = uncertain(f, u, st, why);
@@ -188,8 +188,8 @@ pub fn condition(
     requires { ⌜ (k < st .active) × Fits st (now q) (now a) (now r) (now u) ⌝ }
     ensures { λ t. ⌜ Moves (conditionM (now (f .entry)) (now (x .entry)) k run s at) st t (goes (now (q .entry)) (now (q .exit))) (goes (now (a .entry)) (now (a .exit))) (goes (now (r .entry)) (now (r .exit))) (told (now (f .entry)) (now (u .entry)) (now (u .exit))) (goes (now (values .entry)) (now (values .entry))) kept kept ⌝ }
 {
-    let t = engine_truth::evaluate(f, x, values, st.now, at);
-    let detail = engine_truth::number_of(t);
+    let t = engine_evaluate::evaluate(f, x, values, st.now, at);
+    let detail = engine_evaluate::number_of(t);
     let s1 = log_action(a, st, 11, detail, s, run);
     tested(f, x, q, a, r, u, s1, k, run, t)
 }
@@ -208,7 +208,7 @@ fn take_list(
     requires { ⌜ (k < st .active) × Fits-qar st (now q) (now a) (now r) ⌝ }
     ensures { λ t. ⌜ Does (take-listM (now (f .entry)) k run s at) st t (goes (now (q .entry)) (now (q .exit))) (goes (now (a .entry)) (now (a .exit))) (goes (now (r .entry)) (now (r .exit))) still ⌝ }
 {
-    let longer = engine_truth::with_list(f, run, at);
+    let longer = engine_evaluate::with_list(f, run, at);
     runs::put_run(r, k, longer);
     let s1 = log_action(a, st, 8, 0, s, run);
     next_step(q, s1, run, s1.now)
@@ -231,7 +231,7 @@ pub fn choose(
     requires { ⌜ (k < st .active) × Fits st (now q) (now a) (now r) (now u) ⌝ }
     ensures { λ t. ⌜ Moves (chooseM (now (f .entry)) (now (x .entry)) k run s at) st t (goes (now (q .entry)) (now (q .exit))) (goes (now (a .entry)) (now (a .exit))) (goes (now (r .entry)) (now (r .exit))) (told (now (f .entry)) (now (u .entry)) (now (u .exit))) (goes (now (values .entry)) (now (values .entry))) kept kept ⌝ }
 {
-    let b = engine_truth::select(f, x, values, st.now, at);
+    let b = engine_evaluate::select(f, x, values, st.now, at);
     match b {
         Branch::Take(list) => take_list(f, q, a, r, st, k, run, s, list),
         Branch::Unclear => unclear(f, x, q, a, r, u, st, k, run, reasons::CHOOSE_CONDITION),
@@ -255,13 +255,13 @@ pub fn begin_wait(
     ensures { λ t. ⌜ Does (begin-waitM (now (f .entry)) k run s at) st t (goes (now (q .entry)) (now (q .exit))) (goes (now (a .entry)) (now (a .exit))) (goes (now (r .entry)) (now (r .exit))) (told (now (f .entry)) (now (u .entry)) (now (u .exit))) ⌝ }
 {
     if two_at(f, at as usize + 14) != 65535 {
-        let why = engine_reads::by_itself(reasons::WAIT);
+        let why = engine_fields::by_itself(reasons::WAIT);
         let s0 = uncertain(f, u, st, why);
         return finish(q, a, r, s0, k);
     }
     let seconds = four_at(f, at as usize + 16);
     let deadline = after(st.now, seconds);
-    let onward = engine_reads::byte_at(f, at as usize + 20) == 1;
+    let onward = engine_fields::byte_at(f, at as usize + 20) == 1;
     let w = Wait {
         trigger: at,
         deadline,
@@ -293,7 +293,7 @@ pub fn give_up(
     requires { ⌜ (k < st .active) × Fits st (now q) (now a) (now r) (now u) ⌝ }
     ensures { λ t. ⌜ Does (give-upM (now (f .entry)) k run s reason) st t (goes (now (q .entry)) (now (q .exit))) (goes (now (a .entry)) (now (a .exit))) (goes (now (r .entry)) (now (r .exit))) (told (now (f .entry)) (now (u .entry)) (now (u .exit))) ⌝ }
 {
-    let why = engine_reads::note_reason(f, reason);
+    let why = engine_fields::note_reason(f, reason);
     let s1 = uncertain(f, u, st, why);
     let s2 = log_action(a, s1, 18, reason, s, run);
     finish(q, a, r, s2, k)

@@ -10,9 +10,9 @@ use lib.ListN.{length, getD, replicate, length-append, length-replicate}
 use borrow.Author.Tests.{eq-eqb, ne-eqb}
 use Rattle.texts.specs.Lists.{if_then_else_, each, flat}
 use Rattle.texts.specs.Texts.{Text}
-use Rattle.model.specs.Answer.{answer, refused}
-use Rattle.model.specs.Model.{Event, Model}
-use Rattle.model.specs.Validate.{accepted}
+use Rattle.model_spec.specs.Answer.{answer, refused}
+use Rattle.model_spec.specs.Model.{Event, Model}
+use Rattle.model_spec.specs.Validate.{accepted}
 use Rattle.model_index.specs.declared.Index.{Index}
 use Rattle.model_index.specs.Indexed.{Indexed}
 use Rattle.areas.specs.Areas.{area}
@@ -20,27 +20,27 @@ use Rattle.areas.proofs.Laws as areas
 use Rattle.records.specs.Records.{recordWords}
 use Rattle.records.specs.declared.Record.{Record}
 use Rattle.reasons.specs.Lists.{Holds}
-use Rattle.engine.specs.Cells.{Cell, initial-cells}
-use Rattle.engine.specs.Records.{Areas}
-use Rattle.engine.specs.Reasons.{unsupported-wait, runs-left}
-use Rattle.engine.specs.Simulate as engine
-use Rattle.engine.specs.Simulate.{simulated}
-use Rattle.engine.specs.Unsupported.{unsupported}
-use Rattle.engine.proofs.Lists.{Each}
-use Rattle.engine_run.specs.Run.{whollyM, beginning, refusalS, answerM, Answers}
+use Rattle.engine_spec.specs.Cells.{Cell, initial-cells}
+use Rattle.engine_spec.specs.Records.{Areas}
+use Rattle.engine_spec.specs.Reasons.{unsupported-wait, runs-left}
+use Rattle.engine_spec.specs.Simulate as engine
+use Rattle.engine_spec.specs.Simulate.{simulated}
+use Rattle.engine_spec.specs.Unsupported.{unsupported}
+use Rattle.engine_spec.proofs.Lists.{Each}
+use Rattle.engine_run.specs.Run.{whollyM, beginning, refusalM, answerM, Answers}
 use Rattle.engine_run.specs.Run as run
 use Rattle.engine_run.specs.declared.Simulation.{Simulation as Run}
 use Rattle.engine_loop.specs.Loop.{Halt}
-use Rattle.engine_places.specs.Meaning.{record-of, cells-of, rule-pool, pool-of, Tabled}
-use Rattle.engine_places.proofs.Accepted.{accepted-notes}
-use Rattle.engine_places.proofs.Loop.{reasons-of}
-use Rattle.engine_places.proofs.Outcome.{Answered, shows, refuses, Kept, shown, simulated-is}
-use Rattle.engine_places.proofs.Pigeons.{Among}
-use Rattle.engine_places.proofs.Relation.{Worded}
-use Rattle.engine_places.proofs.Simulated.{EventAt, Beginning}
-use Rattle.engine_places.proofs.Truth.{Valued}
+use Rattle.engine_refinement.specs.Meaning.{record-of, cells-of, rule-pool, pool-of, Tabled}
+use Rattle.engine_refinement.proofs.Accepted.{accepted-notes}
+use Rattle.engine_refinement.proofs.Loop.{reasons-of}
+use Rattle.engine_refinement.proofs.Outcome.{Answered, shows, refuses, Kept, shown, simulated-is}
+use Rattle.engine_refinement.proofs.Pigeons.{Among}
+use Rattle.engine_refinement.proofs.Relation.{Worded}
+use Rattle.engine_refinement.proofs.Simulated.{EventAt, Beginning}
+use Rattle.engine_refinement.proofs.Truth.{Valued}
 use Rattle.engine_table.proofs.Tabled.{model-table}
-use Rattle.engine_begin.proofs.Begins.{start-valued, start-cells-are}
+use Rattle.engine_inputs.proofs.Begins.{start-valued, start-cells-are}
 use Rattle.engine_unsupported.specs.Rows.{RulesAt}
 use Rattle.engine_unsupported.proofs.Agrees.{unsupported-agrees}
 use Rattle.engine_entry.specs.Answers.{Ground, Grounds, incomplete-of}
@@ -154,7 +154,7 @@ module _ (f : List ℕ) (i : Index) (m : Model) (acc : accepted f ≡ answer m) 
 
     pub data Outcome : Type 0 where
       done : (sim : engine.Simulation) → simulated sizes m cells vs ≡ answer sim → Done sim → Outcome
-      full : (n : ℕ) → 41 ≤ n → n ≤ 43 → simulated sizes m cells vs ≡ refused n → s ≡ refusalS n →
+      full : (n : ℕ) → 41 ≤ n → n ≤ 43 → simulated sizes m cells vs ≡ refused n → s ≡ refusalM n →
           a' ≡ replicate (length a) 0 → Outcome
 
     halted : Answered f x ts m tb halt (simulated sizes m cells vs)
@@ -166,7 +166,7 @@ module _ (f : List ℕ) (i : Index) (m : Model) (acc : accepted f ≡ answer m) 
     unfolding answerM
     answer-done total p z = rw (eq-eqb (p .last .full) 0 z)
 
-    answer-full : (total : ℕ) (p : Halt) → (p .last .full ≡ 0 → ⊥) → answerM total p ≡ refusalS (p .last .full)
+    answer-full : (total : ℕ) (p : Halt) → (p .last .full ≡ 0 → ⊥) → answerM total p ≡ refusalM (p .last .full)
     unfolding answerM
     answer-full total p z = rw (ne-eqb (p .last .full) 0 z)
 
@@ -213,5 +213,5 @@ module _ (f : List ℕ) (i : Index) (m : Model) (acc : accepted f ≡ answer m) 
         by (refuses j z h e) =
             let other : halt .last .full ≡ 0 → ⊥ = λ y. z (sym h ∙ y) in
             let w = area-numbers sizes m cells vs j e in
-            full j (w .0) (w .1) e (told .answer ∙ answer-full (getD x 3 0) halt other ∙ ap refusalS h)
+            full j (w .0) (w .1) e (told .answer ∙ answer-full (getD x 3 0) halt other ∙ ap refusalM h)
             (told .records ∙ rw (ne-eqb (halt .last .full) 0 other) (areas.area-none recordWords (length a)))

@@ -4,9 +4,9 @@ use mathlib.Core.Path.{_≡_, refl, sym, ap, subst, _∙_}
 use mathlib.Core.List.{List}
 use native.Mathlib.Omega.{arith}
 use lib.ListN.{length, getD}
-use Rattle.model.specs.Answer.{Answer, answer, refused, _>>=_}
-use Rattle.model.specs.Model.{Event, Input, Model}
-use Rattle.model.specs.Validate.{accepted}
+use Rattle.model_spec.specs.Answer.{Answer, answer, refused, _>>=_}
+use Rattle.model_spec.specs.Model.{Event, Input, Model}
+use Rattle.model_spec.specs.Validate.{accepted}
 use Rattle.model_index.specs.declared.File.{File}
 use Rattle.model_index.specs.declared.Index.{Index}
 use Rattle.model_index.specs.declared.Status.the-variants as status
@@ -15,24 +15,24 @@ use Rattle.model_index.specs.Indexed.{Indexed}
 use Rattle.model_validate.proofs.Agrees.{accept-read, accept-refused}
 use Rattle.model_validate.proofs.Refusals.{Refuses, Refusal, refusal-numbers}
 use mathlib.Core.Logic.{inl, inr}
-use Rattle.engine.specs.Cells.{initial-cells}
-use Rattle.engine.specs.Memory.{Lent, entries, zeros, all-zeros, lent-after, simulate-lent}
-use Rattle.engine.specs.Records.{Areas}
-use Rattle.engine.specs.Simulate as engine
-use Rattle.engine.specs.Simulate.{simulated, simulate, unsupported-of}
-use Rattle.engine.specs.Unsupported.{unsupported}
-use Rattle.engine.specs.Words.{words-in, entry-words, simulate-memory}
-use Rattle.engine.proofs.Memory.{refusals}
-use Rattle.engine_reads.specs.Reads.{atMost}
+use Rattle.engine_spec.specs.Cells.{initial-cells}
+use Rattle.engine_spec.specs.Memory.{Lent, entries, zeros, all-zeros, lent-after, simulate-lent}
+use Rattle.engine_spec.specs.Records.{Areas}
+use Rattle.engine_spec.specs.Simulate as engine
+use Rattle.engine_spec.specs.Simulate.{simulated, simulate, unsupported-of}
+use Rattle.engine_spec.specs.Unsupported.{unsupported}
+use Rattle.engine_spec.specs.Words.{words-in, entry-words, simulate-memory}
+use Rattle.engine_spec.proofs.Memory.{refusals}
+use Rattle.engine_fields.specs.Reads.{atMost}
 use Rattle.reasons.proofs.Listing.{reported}
-use Rattle.engine_places.specs.Meaning.{Tabled}
-use Rattle.engine_places.proofs.Accepted.{accepted-lawful}
-use Rattle.engine_places.proofs.Numbers.{most-is}
-use Rattle.engine_places.proofs.Pool.{has-text}
-use Rattle.engine_places.proofs.Simulated.{EventAt}
+use Rattle.engine_refinement.specs.Meaning.{Tabled}
+use Rattle.engine_refinement.proofs.Accepted.{accepted-lawful}
+use Rattle.engine_refinement.proofs.Numbers.{most-is}
+use Rattle.engine_refinement.proofs.Pool.{has-text}
+use Rattle.engine_refinement.proofs.Simulated.{EventAt}
 use Rattle.engine_table.proofs.Laws as table
-use Rattle.engine_begin.specs.Begin.{EventsOf}
-use Rattle.engine_begin.proofs.Begins.{event-here}
+use Rattle.engine_inputs.specs.Begin.{EventsOf}
+use Rattle.engine_inputs.proofs.Begins.{event-here}
 use Rattle.engine_entry.specs.declared.Notes.{Notes}
 use Rattle.engine_summary.specs.declared.Simulation.{Simulation}
 use Rattle.engine_summary.specs.Summary.{no-simulation}

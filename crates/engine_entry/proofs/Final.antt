@@ -8,14 +8,14 @@ use lib.ListN.{length, getD, replicate, length-append, length-replicate, List·g
 use lib.Seq.{ext-getD, getD-append-add}
 use Rattle.texts.specs.Lists.{each}
 use Rattle.texts.specs.Texts.{Text}
-use Rattle.model.specs.Model.{Model}
-use Rattle.engine.specs.Cells.{Cell}
-use Rattle.model.specs.Rewrite.{place-of}
-use Rattle.engine_reads.specs.Reads.{entities}
-use Rattle.engine_places.specs.Meaning.{cell-at, cells-from, cells-of, Tabled}
-use Rattle.engine_places.proofs.Truth.{Valued, entities-are}
-use Rattle.engine_places.proofs.Lists.{each-length}
-use Rattle.engine_places.proofs.Words.{text-place}
+use Rattle.model_spec.specs.Model.{Model}
+use Rattle.engine_spec.specs.Cells.{Cell}
+use Rattle.model_spec.specs.Rewrite.{place-of}
+use Rattle.engine_fields.specs.Reads.{entities}
+use Rattle.engine_refinement.specs.Meaning.{cell-at, cells-from, cells-of, Tabled}
+use Rattle.engine_refinement.proofs.Truth.{Valued, entities-are}
+use Rattle.engine_refinement.proofs.Lists.{each-length}
+use Rattle.engine_refinement.proofs.Words.{text-place}
 use Rattle.engine_entry.specs.Answers.{values-of}
 use Rattle.engine_summary.specs.Summaries.{Firsts}
 use Rattle.engine_summary.proofs.Laws.{zeros}

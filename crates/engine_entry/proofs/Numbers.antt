@@ -8,14 +8,14 @@ use native.Mathlib.Omega.{arith}
 use lib.Dec.{leb}
 use lib.ListN.{length}
 use Rattle.texts.specs.Lists.{if_then_else_}
-use Rattle.model.specs.Answer.{Answer, refused}
-use Rattle.model.specs.Model.{Event, Model}
-use Rattle.engine.specs.Cells.{Cell}
-use Rattle.engine.specs.Records.{Areas, Engine}
-use Rattle.engine.specs.Changes.{noted, with-cells, add, append, with-runs, add-run, uncertain, with-queue}
-use Rattle.engine.specs.Simulate.{Simulation, ended, outcome, unless-full, simulated}
-use Rattle.engine.proofs.Closed.{Closed, ended-closed}
-use Rattle.engine.proofs.Distinct.{refused-answer}
+use Rattle.model_spec.specs.Answer.{Answer, refused}
+use Rattle.model_spec.specs.Model.{Event, Model}
+use Rattle.engine_spec.specs.Cells.{Cell}
+use Rattle.engine_spec.specs.Records.{Areas, Engine}
+use Rattle.engine_spec.specs.Changes.{noted, with-cells, add, append, with-runs, add-run, uncertain, with-queue}
+use Rattle.engine_spec.specs.Simulate.{Simulation, ended, outcome, unless-full, simulated}
+use Rattle.engine_spec.proofs.Closed.{Closed, ended-closed}
+use Rattle.engine_spec.proofs.Distinct.{refused-answer}
 
 abbrev AreaNumber : ℕ → Type 0
 AreaNumber n = (41 ≤ n) × (n ≤ 43)

@@ -12,28 +12,28 @@ use Rattle.records.specs.Records.{recordWords}
 use Rattle.records.specs.declared.Record.{Record}
 use Rattle.reasons.specs.Lists.{Holds}
 use Rattle.reasons.proofs.Listing.{reported}
-use Rattle.model.specs.Answer.{Answer, answer, refused}
-use Rattle.model.specs.Model.{Event, Automation, Model}
-use Rattle.model.specs.Validate.{accepted}
+use Rattle.model_spec.specs.Answer.{Answer, answer, refused}
+use Rattle.model_spec.specs.Model.{Event, Automation, Model}
+use Rattle.model_spec.specs.Validate.{accepted}
 use Rattle.model_index.specs.declared.Index.{Index}
 use Rattle.model_index.specs.Indexed.{Indexed}
-use Rattle.engine.specs.Cells.{Cell, initial-cells}
-use Rattle.engine.specs.Records.{Trace, Areas}
-use Rattle.engine.specs.Simulate as engine
-use Rattle.engine.specs.Simulate.{simulated}
-use Rattle.engine.specs.Words.{trace-words, texts-in, words-in}
-use Rattle.engine_reads.specs.Reads.{atMost}
-use Rattle.engine_run.specs.Run.{refusalS}
+use Rattle.engine_spec.specs.Cells.{Cell, initial-cells}
+use Rattle.engine_spec.specs.Records.{Trace, Areas}
+use Rattle.engine_spec.specs.Simulate as engine
+use Rattle.engine_spec.specs.Simulate.{simulated}
+use Rattle.engine_spec.specs.Words.{trace-words, texts-in, words-in}
+use Rattle.engine_fields.specs.Reads.{atMost}
+use Rattle.engine_run.specs.Run.{refusalM}
 use Rattle.engine_run.specs.declared.Simulation.{Simulation as Run}
-use Rattle.engine_places.specs.Meaning.{record-of, cells-of, pool-of, Tabled}
-use Rattle.engine.proofs.Lists.{Each}
-use Rattle.engine_places.proofs.Pool.{has-text}
-use Rattle.engine_places.proofs.Lists.{each-length}
-use Rattle.engine_places.proofs.Pigeons.{Among}
-use Rattle.engine_places.proofs.Relation.{Worded}
-use Rattle.engine_places.proofs.Simulated.{EventAt}
-use Rattle.engine_places.proofs.Truth.{entities-are}
-use Rattle.engine_places.proofs.Words.{record-area}
+use Rattle.engine_refinement.specs.Meaning.{record-of, cells-of, pool-of, Tabled}
+use Rattle.engine_spec.proofs.Lists.{Each}
+use Rattle.engine_refinement.proofs.Pool.{has-text}
+use Rattle.engine_refinement.proofs.Lists.{each-length}
+use Rattle.engine_refinement.proofs.Pigeons.{Among}
+use Rattle.engine_refinement.proofs.Relation.{Worded}
+use Rattle.engine_refinement.proofs.Simulated.{EventAt}
+use Rattle.engine_refinement.proofs.Truth.{entities-are}
+use Rattle.engine_refinement.proofs.Words.{record-area}
 use Rattle.engine_summary.specs.declared.Simulation.{Simulation}
 use Rattle.engine_entry.specs.Answers.{Ground, Grounds, incomplete-of, values-of, Shows}
 use Rattle.engine_summary.specs.Summaries.{Firsts}
@@ -100,7 +100,7 @@ module _ (f : List ℕ) (i : Index) (m : Model) (acc : accepted f ≡ answer m) 
     Said sim = Done f i m acc o bytes g gr v d vs evs (ran-so .told) q q' a a' r r' (ran-so .words) sim
 
     many-entities : atMost (getD x 0 0) 32 ≡ length (m .scenario .entities)
-    many-entities = unfold Rattle.engine_reads.specs.Reads.entities in entities-are f x (o .ts) m t
+    many-entities = unfold Rattle.engine_fields.specs.Reads.entities in entities-are f x (o .ts) m t
 
     shows-here : (sim : engine.Simulation) → Said sim → Shows f ans sim
     shows-here sim e =
@@ -123,9 +123,9 @@ module _ (f : List ℕ) (i : Index) (m : Model) (acc : accepted f ≡ answer m) 
           incomplete = ap (λ (w : ℕ). incomplete-of w (ans .waiting)) (y .why) ∙ ap (incomplete-of (s .why)) (y .waiting) ∙ e .incomplete;
         }
 
-    refused-as : (n : ℕ) → 41 ≤ n → ran-so .told ≡ refusalS n → ans .refused ≡ n
+    refused-as : (n : ℕ) → 41 ≤ n → ran-so .told ≡ refusalM n → ans .refused ≡ n
     refused-as n lo is =
-        let no : ran-so .told .refused ≡ n = ap (λ (y : Run). y .refused) is ∙ unfold refusalS in refl in
+        let no : ran-so .told .refused ≡ n = ap (λ (y : Run). y .refused) is ∙ unfold refusalM in refl in
         ran-so .shown .full (λ y. absurd (omega (arith, no, y))) ∙ no
 
     pub promise : Promise

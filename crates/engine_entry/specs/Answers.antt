@@ -1,4 +1,4 @@
--- What the entries answer, by the definitions of crate `engine`: each number of the answer, and each word of the lent areas.
+-- What the entries answer, by the definitions of crate `engine_spec`: each number of the answer, and each word of the lent areas.
 use Prim.Native.Nat.{ℕ, _-_, _≤_}
 use mathlib.Core.Path.{_≡_}
 use mathlib.Core.Bool.{Bool}
@@ -7,18 +7,18 @@ use lib.Dec.{eqb}
 use lib.ListN.{length, replicate}
 use Rattle.texts.specs.Lists.{if_then_else_, each}
 use Rattle.texts.specs.Texts.{Text}
-use Rattle.model.specs.Answer.{Answer, answer, refused}
+use Rattle.model_spec.specs.Answer.{Answer, answer, refused}
 use Rattle.model_index.specs.declared.Index.{Index}
 use Rattle.reasons.specs.Lists.{Reported, Holds}
-use Rattle.engine.specs.Memory.{Lent, entries}
-use Rattle.engine.specs.Reasons.{space-spent, steps-spent, runs-left}
-use Rattle.engine.specs.Simulate as engine
-use Rattle.model.specs.Rewrite.{place-of}
-use Rattle.engine.specs.Words.{texts-in, entry-words, simulate-memory}
-use Rattle.engine_unsupported.specs.Listing.{unsupportedL}
+use Rattle.engine_spec.specs.Memory.{Lent, entries}
+use Rattle.engine_spec.specs.Reasons.{space-spent, steps-spent, runs-left}
+use Rattle.engine_spec.specs.Simulate as engine
+use Rattle.model_spec.specs.Rewrite.{place-of}
+use Rattle.engine_spec.specs.Words.{texts-in, entry-words, simulate-memory}
+use Rattle.engine_unsupported.specs.Listing.{unsupportedM}
 use Rattle.engine_state.specs.declared.Cells.{Cells}
 use Rattle.engine_table.specs.Table.{TableOf}
-use Rattle.engine_begin.specs.Begin.{CellsOf}
+use Rattle.engine_inputs.specs.Begin.{CellsOf}
 use Rattle.engine_entry.specs.declared.Notes.{Notes}
 use Rattle.engine_summary.specs.declared.Simulation.{Simulation}
 use Rattle.engine_summary.specs.Summary.{no-simulation}
@@ -84,4 +84,4 @@ ground x c n w = record { table = x; cells = c; count = n; reasons = w }
 pub record Grounds (f : List ℕ) (i : Index) (g : Ground) : Type 0 where
   pub table : TableOf f i (g .table)
   pub cells : CellsOf f i (g .cells)
-  pub reasons : Holds f (unsupportedL f (g .table)) (g .count) (g .reasons)
+  pub reasons : Holds f (unsupportedM f (g .table)) (g .count) (g .reasons)

@@ -3,13 +3,13 @@ use Prim.Native.Nat.{ℕ}
 use mathlib.Core.Path.{_≡_}
 use mathlib.Core.List.{List}
 use lib.ListN.{length, getD}
-use Rattle.model.specs.Answer.{answer}
-use Rattle.model.specs.Model.{Model}
-use Rattle.model.specs.Validate.{accepted}
+use Rattle.model_spec.specs.Answer.{answer}
+use Rattle.model_spec.specs.Model.{Model}
+use Rattle.model_spec.specs.Validate.{accepted}
 use Rattle.model_index.specs.declared.Index.{Index}
 use Rattle.model_index.specs.Indexed.{Indexed}
-use Rattle.engine.specs.Memory.{Lent}
-use Rattle.engine_reads.specs.Reads.{atMost}
+use Rattle.engine_spec.specs.Memory.{Lent}
+use Rattle.engine_fields.specs.Reads.{atMost}
 use Rattle.engine_run.specs.Run as run
 use Rattle.engine_run.specs.declared.Simulation.{Simulation as Run}
 use Rattle.engine_summary.specs.declared.Simulation.{Simulation}

@@ -7,7 +7,7 @@ use model_index::Status;
 ghost use mathlib.Core.Path.{_≡_};
 ghost use Prim.Native.Nat.{_*_, _≤_};
 ghost use lib.ListN.{length};
-ghost use Rattle.engine.specs.Simulate.{unsupported-of};
+ghost use Rattle.engine_spec.specs.Simulate.{unsupported-of};
 ghost use Rattle.engine_summary.specs.Summary.{simulation-of};
 ghost use Rattle.engine_entry.specs.Answers.{ground, Grounds, no-notes, NotesSay, lent, Simulates};
 ghost use Rattle.engine_entry.specs.Parts.{Ran, RunsAs};
@@ -27,7 +27,7 @@ pub fn prepared(file: &[u8], index: Index, reasons: &mut [u32; 1500]) -> Base
 {
     let t = engine_table::table_of(file, index);
     let table = t.words;
-    let cells = engine_begin::cells_of(file, index);
+    let cells = engine_inputs::cells_of(file, index);
     *reasons = [0u32; 1500];
     let count = engine_unsupported::unsupported(file, &table, reasons);
     Base {
@@ -108,7 +108,7 @@ pub fn run_events(
         runs,
         reasons,
     );
-    let entities = engine_reads::at_most(table[0], 32);
+    let entities = engine_fields::at_most(table[0], 32);
     engine_summary::summed(s, entities, table[2])
 }
 
@@ -126,9 +126,9 @@ fn run(
     let b = prepared(file, index, reasons);
     let table = b.table;
     let cells = b.cells;
-    let v = engine_begin::events_of(file, index);
+    let v = engine_inputs::events_of(file, index);
     let events = v.words;
-    let n = engine_reads::at_most(table[8], 100);
+    let n = engine_fields::at_most(table[8], 100);
     let s = run_events(
         file,
         &table,

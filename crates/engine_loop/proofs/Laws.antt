@@ -18,7 +18,7 @@ use Rattle.engine_state.specs.Steps as steps
 use Rattle.engine_state.specs.Steps.{Held, Lent, kept, goes, Listing, still, Steps, Turns, Does}
 use Rattle.engine_state.proofs.Laws as states
 use Rattle.engine_state.proofs.Laws.{both, same}
-use Rattle.engine_queue.specs.Next.{whyM, Why, with-turn}
+use Rattle.engine_schedule.specs.Next.{whyM, Why, with-turn}
 use Rattle.engine_loop.specs.Loop.{tookM, turn-withM, turnM, Halt, halt, loopM, Halts, Ends, horizonM, closedM, Closes}
 use Rattle.engine_loop.specs.declared.Ended.{Ended}
 

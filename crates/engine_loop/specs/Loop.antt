@@ -15,9 +15,9 @@ use Rattle.engine_state.specs.declared.State.{State}
 use Rattle.engine_state.specs.Machine.{Machine, Content, entire, machine, put-now, put-queue}
 use Rattle.engine_state.specs.Changes.{log-plainM}
 use Rattle.engine_state.specs.Steps.{Held, Stands, Side, goes, told, Side-told}
-use Rattle.engine_process.specs.Process.{processM}
+use Rattle.engine_dispatch.specs.Process.{processM}
 use Rattle.engine_loop.specs.declared.Ended.{Ended}
-use Rattle.engine_queue.specs.Next.{whyM}
+use Rattle.engine_schedule.specs.Next.{whyM}
 
 -- ---- a turn
 

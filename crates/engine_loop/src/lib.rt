@@ -34,8 +34,8 @@ fn turn(
         return st;
     };
     let work = it.work;
-    let s = engine_queue::at_second(st, it.second);
-    engine_process::process(f, x, q, a, r, u, values, versions, sequences, s, work)
+    let s = engine_schedule::at_second(st, it.second);
+    engine_dispatch::process(f, x, q, a, r, u, values, versions, sequences, s, work)
 }
 
 // The state at the end, the steps taken, and why the loop ended.
@@ -62,11 +62,11 @@ pub fn run_loop(
 {
     let mut s = st;
     let mut left = x[3];
-    let mut why = engine_queue::why_stop(x, q, s, left);
+    let mut why = engine_schedule::why_stop(x, q, s, left);
     while why == 4 {
         s = turn(f, x, q, a, r, u, values, versions, sequences, s);
         left -= 1;
-        why = engine_queue::why_stop(x, q, s, left);
+        why = engine_schedule::why_stop(x, q, s, left);
     }
     let steps = x[3] - left;
     Ended {

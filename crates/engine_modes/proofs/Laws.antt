@@ -9,7 +9,7 @@ use Rattle.areas.specs.Areas.{area}
 use Rattle.runs.specs.Lists.{tally, keep}
 use Rattle.runs.specs.Runs.{runWords, other, Counted, Dropped}
 use Rattle.runs.specs.declared.Run.{Run}
-use Rattle.engine_reads.specs.Reads.{word}
+use Rattle.engine_fields.specs.Reads.{word}
 use Rattle.engine_state.specs.declared.State.{State}
 use Rattle.engine_state.specs.Machine.{Machine, Entire, entire, machine, with-active}
 use Rattle.engine_state.specs.Steps.{Running, Lent, kept, goes, Listing, still, Steps, Moves}

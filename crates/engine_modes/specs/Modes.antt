@@ -9,8 +9,8 @@ use Rattle.runs.specs.Lists.{tally, keep}
 use Rattle.runs.specs.Runs.{runOf, other}
 use Rattle.runs.specs.declared.Run.{Run}
 use Rattle.runs.specs.declared.Phase.the-variants.{Going}
-use Rattle.engine_reads.specs.Reads.{word}
-use Rattle.engine_truth.specs.Actions.{listA}
+use Rattle.engine_fields.specs.Reads.{word}
+use Rattle.engine_evaluate.specs.Actions.{listM}
 use Rattle.engine_state.specs.Machine.{Machine, more, put-runs}
 use Rattle.engine_state.specs.Changes.{log-ruleM, add-runM, next-stepM}
 use Rattle.engine_modes.specs.declared.Decision.{Decision}
@@ -24,7 +24,7 @@ nowM r m = next-stepM r (m .now) m
 
 unfoldable pub newRun : (f x : List ℕ) → (i : ℕ) → Bool → (made : ℕ) → (sequences : List ℕ) → Run
 newRun f x i later made sequences =
-    listA f (record { automation = i; sequence = getD sequences i 0; number = more made; queued = later; phase = Going; depth = 0; places = replicate 17 0 }) (word x i 5)
+    listM f (record { automation = i; sequence = getD sequences i 0; number = more made; queued = later; phase = Going; depth = 0; places = replicate 17 0 }) (word x i 5)
 
 unfoldable pub begin-runM : (i : ℕ) → Run → Machine → Machine
 begin-runM i r m = nowM r (log-ruleM 12 (r .number) (r .automation) (add-runM i r m))

@@ -1,5 +1,5 @@
 // Runs that begin, as an automation's mode decides.
-use engine_reads::rule_word;
+use engine_fields::rule_word;
 use engine_state::State;
 use engine_state::log_rule;
 use engine_state::next_step;
@@ -26,7 +26,7 @@ fn new_run(f: &[u8], x: &[u32; 436], sequences: &[u32; 32], made: u32, i: usize,
         depth: 0,
         places: [0u32; 17],
     };
-    engine_truth::with_list(f, run, rule_word(x, i, 5))
+    engine_evaluate::with_list(f, run, rule_word(x, i, 5))
 }
 
 fn begin_now(

@@ -4,17 +4,17 @@ use mathlib.Core.List.{List, [], _∷_, _++_}
 use Prim.Native.Nat.{_+_}
 use Rattle.texts.specs.Lists.{each, flat}
 use Rattle.texts.specs.Texts.{Text}
-use Rattle.engine_notes.specs.Listing.{insertG}
+use Rattle.engine_notes.specs.Listing.{insertM}
 
 -- each text of a list added, the first one first
 unfoldable pub addAll : List Text → List Text → List Text
 addAll [] l = l
-addAll (t ∷ ts) l = addAll ts (insertG t l)
+addAll (t ∷ ts) l = addAll ts (insertM t l)
 
 pub add-both : (a b l : List Text) → addAll b (addAll a l) ≡ addAll (a ++ b) l
 unfolding addAll
 add-both [] b l = refl
-add-both (t ∷ a) b l = add-both a b (insertG t l)
+add-both (t ∷ a) b l = add-both a b (insertM t l)
 
 -- ---- lists of lists
 

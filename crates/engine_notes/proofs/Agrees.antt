@@ -11,10 +11,10 @@ use borrow.Author.Tests.{lt-ltb, le-ltb, ne-eqb}
 use Rattle.texts.specs.Lists.{if_then_else_, listed, each, flat}
 use Rattle.texts.specs.Texts.{Text, text}
 use Rattle.texts.specs.Places.{textAt, startFrom}
-use Rattle.model.specs.Model.{Predicate, state, window, Trigger}
-use Rattle.model.specs.File.{_>>=_ as _>>=ᵣ_}
-use Rattle.model.specs.File.{got, Reader, give, refuse, u8, u16, u32, times, counted, place, predicate, trigger}
-use Rattle.model.specs.Notes.{of-predicate, of-trigger}
+use Rattle.model_spec.specs.Model.{Predicate, state, window, Trigger}
+use Rattle.model_spec.specs.File.{_>>=_ as _>>=ᵣ_}
+use Rattle.model_spec.specs.File.{got, Reader, give, refuse, u8, u16, u32, times, counted, place, predicate, trigger}
+use Rattle.model_spec.specs.Notes.{of-predicate, of-trigger}
 use Rattle.model_walk.specs.Walk.{found, predicate-size}
 use Rattle.model_walk.specs.declared.Num.the-variants as num
 use Rattle.model_walk.proofs.Found.{bound, given, Wide, wide-sum, u8-wide, u16-wide, u8-value, source-wide, counted-found, Kind, kind-found, place-found, predicate-wide, Value?, Place?, trigger-found}
@@ -23,9 +23,9 @@ use Rattle.model_walk.proofs.Laws.{size-some}
 use Rattle.reasons.specs.Kinds as kinds
 use Rattle.reasons.specs.Reasons.{words, body, render}
 use Rattle.reasons.specs.Readable.{text-count}
-use Rattle.engine_reads.specs.Reads.{cap, textPosition, noteReason}
+use Rattle.engine_fields.specs.Reads.{cap, textPosition, noteReason}
 use Rattle.engine_notes.specs.declared.Part.the-variants as part
-use Rattle.engine_notes.specs.Listing.{After, after, Listing, _⨾_, by, stay, skipL, timesL, idNote, noteOf, addT, addL, noteL, triggerL, predicateL, partL, partsL}
+use Rattle.engine_notes.specs.Listing.{After, after, Listing, _⨾_, by, stay, skipM, timesM, idNote, noteOf, add-noteM, addM, noteM, triggerM, predicateM, partM, partsM}
 use Rattle.engine_notes.proofs.Laws as laws
 use Rattle.engine_notes.proofs.Adding.{addAll, add-both, flat-one, flat-each}
 
@@ -40,8 +40,8 @@ module _ (f : List ℕ) (p : ℕ) (l : List Text) where
   unfolding _⨾_
   next k m e = ap (λ (y : After). m f (y .next) (y .list)) e
 
-  pub skips : (w : ℕ) {q : ℕ} → Wide w f p q → skipL w f p l ≡ after q l
-  unfolding skipL
+  pub skips : (w : ℕ) {q : ℕ} → Wide w f p q → skipM w f p l ≡ after q l
+  unfolding skipM
   skips w h = ap (λ (y : ℕ). after y l) (sym (laws.skip-in w f p (h .inside)) ∙ sym (h .ends))
 
 pub after-same : (q : ℕ) {a b : List Text} → a ≡ b → after q a ≡ after q b
@@ -114,37 +114,37 @@ module _ (f : List ℕ) (ts : List Text) (size : length f ≤ 32768) (few : leng
 
   -- ---- parts that hold no list: a note m of a part is rendered as g of its text
   module _ (i : ℕ) (g : Text → Text) (is : Renders f ts i g) where
-    added : (m : ℕ) (l : List Text) → m < length ts → addT f i m l ≡ addAll (g (T m) ∷ []) l
-    unfolding addT addAll
+    added : (m : ℕ) (l : List Text) → m < length ts → add-noteM f i m l ≡ addAll (g (T m) ∷ []) l
+    unfolding add-noteM addAll
     added m l h = rw (ne-eqb m 65535 (λ e. absurd (omega arith)), is m h)
 
-    note-agrees : Adds f (place ts) (λ t. g t ∷ []) (noteL i)
-    unfolding noteL addL
+    note-agrees : Adds f (place ts) (λ t. g t ∷ []) (noteM i)
+    unfolding noteM addM
     note-agrees p l t q e =
         let a = place-found ts e in
-        by-got f p l u16 (addL i) (a .is-place)
+        by-got f p l u16 (addM i) (a .is-place)
         ∙ after-same q (added (a .at) l (a .is-in) ∙ ap (λ (y : Text). addAll (g y ∷ []) l) (sym (a .is-text)))
 
-    value-agrees : (m : ℕ) (o : Option Text) (l : List Text) → Value? ts m o → addT f i m l ≡ addAll (each g (listed o)) l
+    value-agrees : (m : ℕ) (o : Option Text) (l : List Text) → Value? ts m o → add-noteM f i m l ≡ addAll (each g (listed o)) l
     unfolding each listed addAll
     value-agrees m none l (found.absent h) = sym (laws.add-none f i m l h)
     value-agrees m (some t) l (found.present h k) = added m l k
 
     note?-agrees : (p : ℕ) (l : List Text) (o : Option Text) (q : ℕ) → Place? ts f p o q →
-        noteL i f p l ≡ after q (addAll (each g (listed o)) l)
-    unfolding noteL addL
+        noteM i f p l ≡ after q (addAll (each g (listed o)) l)
+    unfolding noteM addM
     note?-agrees p l o q a =
-        by-got f p l u16 (addL i) (a .is-place)
+        by-got f p l u16 (addM i) (a .is-place)
         ∙ after-same q (value-agrees (a .at) o l (a .is-value))
 
-    pub trigger-agrees : Adds f (trigger ts) (λ t. each g (of-trigger t)) (triggerL i)
-    unfolding triggerL of-trigger
+    pub trigger-agrees : Adds f (trigger ts) (λ t. each g (of-trigger t)) (triggerM i)
+    unfolding triggerM of-trigger
     trigger-agrees p l t q e =
         let a = trigger-found ts e in
         let to = wide-sum (u16-wide f (a .at-to) (a .to-at .is-place)) (source-wide f (a .at-source) (a .source-at)) in
         let from = wide-sum (u16-wide f (a .at-from) (a .from-at .is-place)) to in
         let w = wide-sum (u16-wide f p (a .entity-at .is-place)) from in
-        next f p l (skipL 14) (noteL i) (skips f p l 14 w) ∙ note?-agrees (a .at-note) l (t .note) q (a .note-at)
+        next f p l (skipM 14) (noteM i) (skips f p l 14 w) ∙ note?-agrees (a .at-note) l (t .note) q (a .note-at)
 
     state-adds : (x v : Text) (l : List Text) → l ≡ addAll (each g (of-predicate (state x v))) l
     unfolding each of-predicate addAll
@@ -159,10 +159,10 @@ module _ (f : List ℕ) (ts : List Text) (size : length f ≤ 32768) (few : leng
     unfolding each of-predicate
     unknown-adds t l = refl
 
-    pub predicate-agrees : Adds f (predicate ts) (λ a. each g (of-predicate a)) (predicateL i)
-    unfolding predicate predicateL
+    pub predicate-agrees : Adds f (predicate ts) (λ a. each g (of-predicate a)) (predicateM i)
+    unfolding predicate predicateM
     predicate-agrees p l a q e =
-        by-got f p l u8 (λ k. if eqb k 1 then noteL i else skipL (predicate-size k - 1)) (k .is-kind)
+        by-got f p l u8 (λ k. if eqb k 1 then noteM i else skipM (predicate-size k - 1)) (k .is-kind)
         ∙ cases (k .kind) rest (k .holds)
       where
         pairs : List (Reader Predicate)
@@ -187,7 +187,7 @@ module _ (f : List ℕ) (ts : List Text) (size : length f ≤ 32768) (few : leng
             record { ends = omega (arith, w .ends, u .ends, z, m); inside = omega (arith, w .inside, u .ends, z, m) }
 
         cases : (n : ℕ) → Wide (predicate-size n - 1) f o q → getD pairs n refuse f o ≡ got a q →
-            (if eqb n 1 then noteL i else skipL (predicate-size n - 1)) f o l ≡ after q (addAll (each g (of-predicate a)) l)
+            (if eqb n 1 then noteM i else skipM (predicate-size n - 1)) f o l ≡ after q (addAll (each g (of-predicate a)) l)
         cases zero w h =
             let x = bound (place ts) _ h in
             let v = bound (place ts) _ (x .rest) in
@@ -213,8 +213,8 @@ module _ (f : List ℕ) (ts : List Text) (size : length f ≤ 32768) (few : leng
 
   -- ---- lists
   module _ {A : Type 0} (r : Reader A) (h : A → List Text) (k : Listing) (one : Adds f r h k) where
-    times-agree : (c : ℕ) → Adds f (times c r) (flat h) (timesL c k)
-    unfolding times timesL stay flat addAll
+    times-agree : (c : ℕ) → Adds f (times c r) (flat h) (timesM c k)
+    unfolding times timesM stay flat addAll
     times-agree zero p l xs q e =
         let z = given _ _ _ e in
         ap (λ (x : ℕ). after x l) (z .1) ∙ ap (λ (y : List A). after q (addAll (flat h y) l)) (z .0)
@@ -222,32 +222,32 @@ module _ (f : List ℕ) (ts : List Text) (size : length f ≤ 32768) (few : leng
         let x = bound r _ e in
         let y = bound (times c r) _ (x .rest) in
         let z = given _ _ _ (y .rest) in
-        next f p l k (timesL c k) (one p l (x .value) (x .next) (x .first))
+        next f p l k (timesM c k) (one p l (x .value) (x .next) (x .first))
         ∙ times-agree c (x .next) (addAll (h (x .value)) l) (y .value) q (y .first ∙ ap (got (y .value)) (z .1))
         ∙ after-same q (add-both (h (x .value)) (flat h (y .value)) l)
         ∙ ap (λ (y : List A). after q (addAll (flat h y) l)) (z .0)
 
-    counted-agrees : Adds f (counted r) (flat h) (by u16 (λ c. timesL c k))
+    counted-agrees : Adds f (counted r) (flat h) (by u16 (λ c. timesM c k))
     counted-agrees p l xs q e =
         let c = counted-found r e in
-        by-got f p l u16 (λ c. timesL c k) (c .is-count) ∙ times-agree (c .count) (c .start) l xs q (c .are-values)
+        by-got f p l u16 (λ c. timesM c k) (c .is-count) ∙ times-agree (c .count) (c .start) l xs q (c .are-values)
 
   -- lists of parts behind an identifier
   module _ (i : ℕ) (g : Text → Text) (is : Renders f ts i g) where
-    pub notes-agree : Adds f (counted (place ts)) (each g) (partsL part.Note i)
-    unfolding partsL partL
+    pub notes-agree : Adds f (counted (place ts)) (each g) (partsM part.Note i)
+    unfolding partsM partM
     notes-agree p l xs q e =
-        counted-agrees (place ts) (λ t. g t ∷ []) (noteL i) (note-agrees i g is) p l xs q e
+        counted-agrees (place ts) (λ t. g t ∷ []) (noteM i) (note-agrees i g is) p l xs q e
         ∙ after-same q (ap (λ (y : List Text). addAll y l) (flat-one g xs))
 
-    pub triggers-agree : Adds f (counted (trigger ts)) (λ xs. each g (flat of-trigger xs)) (partsL part.Trigger i)
-    unfolding partsL partL
+    pub triggers-agree : Adds f (counted (trigger ts)) (λ xs. each g (flat of-trigger xs)) (partsM part.Trigger i)
+    unfolding partsM partM
     triggers-agree p l xs q e =
-        counted-agrees (trigger ts) (λ t. each g (of-trigger t)) (triggerL i) (trigger-agrees i g is) p l xs q e
+        counted-agrees (trigger ts) (λ t. each g (of-trigger t)) (triggerM i) (trigger-agrees i g is) p l xs q e
         ∙ after-same q (ap (λ (y : List Text). addAll y l) (flat-each g of-trigger xs))
 
-    pub predicates-agree : Adds f (counted (predicate ts)) (λ xs. each g (flat of-predicate xs)) (partsL part.Predicate i)
-    unfolding partsL partL
+    pub predicates-agree : Adds f (counted (predicate ts)) (λ xs. each g (flat of-predicate xs)) (partsM part.Predicate i)
+    unfolding partsM partM
     predicates-agree p l xs q e =
-        counted-agrees (predicate ts) (λ t. each g (of-predicate t)) (predicateL i) (predicate-agrees i g is) p l xs q e
+        counted-agrees (predicate ts) (λ t. each g (of-predicate t)) (predicateM i) (predicate-agrees i g is) p l xs q e
         ∙ after-same q (ap (λ (y : List Text). addAll y l) (flat-each g of-predicate xs))

@@ -10,7 +10,7 @@ use lib.Dec.{eqb}
 use borrow.Author.Tests.{lt-ltb, le-ltb, le-leb, lt-leb, eq-eqb, ne-eqb}
 use Rattle.texts.specs.Lists.{if_then_else_}
 use Rattle.texts.specs.Texts.{Text, insertT}
-use Rattle.model.specs.File.{Reader, u8, u16}
+use Rattle.model_spec.specs.File.{Reader, u8, u16}
 use Rattle.model_walk.specs.declared.Num.{Num}
 use Rattle.model_walk.specs.declared.Num.the-variants as num
 use Rattle.model_walk.specs.Walk.{found, predicate-size}
@@ -21,13 +21,13 @@ use Rattle.reasons.specs.Reasons.{render}
 use Rattle.reasons.specs.Readable.{Readable, HasText}
 use Rattle.reasons.specs.Lists.{listed, Grows}
 use Rattle.reasons.proofs.Listing.{one-more, length-listed}
-use Rattle.engine_reads.specs.Reads.{textPosition, noteReason}
-use Rattle.engine_reads.proofs.Readable.{position-stands}
-use Rattle.engine_reads.proofs.Readable as reads
+use Rattle.engine_fields.specs.Reads.{textPosition, noteReason}
+use Rattle.engine_fields.proofs.Readable.{position-stands}
+use Rattle.engine_fields.proofs.Readable as reads
 use Rattle.engine_notes.specs.declared.Noted.{Noted}
 use Rattle.engine_notes.specs.declared.Part.{Part}
 use Rattle.engine_notes.specs.declared.Part.the-variants as part
-use Rattle.engine_notes.specs.Listing.{After, after, told, Listing, _⨾_, read, by, stay, skipped, skipL, timesL, idNote, noteOf, insertG, Makes, addT, addL, noteL, triggerL, predicateL, partL, partsL}
+use Rattle.engine_notes.specs.Listing.{After, after, told, Listing, _⨾_, read, by, stay, skipped, skipM, timesM, idNote, noteOf, insertM, Makes, add-noteM, addM, noteM, triggerM, predicateM, partM, partsM}
 
 -- ---- one listing after the other
 
@@ -64,13 +64,13 @@ module _ (f : List ℕ) (p : ℕ) (l : List Text) where
   no-list k m h = rw h
 
 module _ (k : Listing) (f : List ℕ) (p : ℕ) (l : List Text) where
-  pub times-more : (i : ℕ) → 0 < i → timesL i k f p l ≡ (k ⨾ timesL (i - 1) k) f p l
-  unfolding timesL
+  pub times-more : (i : ℕ) → 0 < i → timesM i k f p l ≡ (k ⨾ timesM (i - 1) k) f p l
+  unfolding timesM
   times-more zero h = absurd (omega arith)
   times-more (suc i) h = rw (sub-one (suc i))
 
-  pub times-none : (i : ℕ) → i ≤ 0 → timesL i k f p l ≡ after p l
-  unfolding timesL stay
+  pub times-none : (i : ℕ) → i ≤ 0 → timesM i k f p l ≡ after p l
+  unfolding timesM stay
   times-none zero h = refl
   times-none (suc i) h = absurd (omega arith)
 
@@ -107,30 +107,30 @@ pub put-fits : (f a : List ℕ) (n : ℕ) (r : Reason) → n ≤ 299 → 1500 �
 put-fits f a n r h l = omega (arith, one-more (render f r) (listed f n a), length-listed f n a)
 
 module _ (f a : List ℕ) (n : ℕ) (r : Reason) where
-  full-is : 299 < n → listed f n a ≡ insertG (render f r) (listed f n a)
-  unfolding insertG
+  full-is : 299 < n → listed f n a ≡ insertM (render f r) (listed f n a)
+  unfolding insertM
   full-is h = rw (lt-ltb 299 (length (listed f n a)) (omega (arith, length-listed f n a)))
 
-  in-is : n ≤ 299 → insertT (render f r) (listed f n a) ≡ insertG (render f r) (listed f n a)
-  unfolding insertG
+  in-is : n ≤ 299 → insertT (render f r) (listed f n a) ≡ insertM (render f r) (listed f n a)
+  unfolding insertM
   in-is h = rw (le-ltb 299 (length (listed f n a)) (omega (arith, length-listed f n a)))
 
-  pub put-full : 299 < n → Makes (insertG (render f r)) f n a n a
+  pub put-full : 299 < n → Makes (insertM (render f r)) f n a n a
   put-full h = record { is = full-is h; clean = λ t k. k }
 
   pub put-in : {k : ℕ} {b : List ℕ} → n ≤ 299 → Grows f (Readable f r) (insertT (render f r) (listed f n a)) n a k b →
-      (HasText f → Readable f r) → Makes (insertG (render f r)) f n a k b
+      (HasText f → Readable f r) → Makes (insertM (render f r)) f n a k b
   put-in h e y = record { is = e .texts ∙ in-is h; clean = λ t k. e .clean (y t) k }
 
 module _ (f : List ℕ) (i m : ℕ) (l : List Text) where
-  pub add-none : m ≡ 65535 → l ≡ addT f i m l
-  unfolding addT
+  pub add-none : m ≡ 65535 → l ≡ add-noteM f i m l
+  unfolding add-noteM
   add-none h = rw (eq-eqb m 65535 h)
 
-  pub add-some : {r : Reason} {t : List Text} → (m ≡ 65535 → ⊥) → r ≡ noteOf f i m → t ≡ insertG (render f r) l →
-      t ≡ addT f i m l
-  unfolding addT
-  add-some h e g = rw (ne-eqb m 65535 h) (g ∙ ap (λ (y : Reason). insertG (render f y) l) e)
+  pub add-some : {r : Reason} {t : List Text} → (m ≡ 65535 → ⊥) → r ≡ noteOf f i m → t ≡ insertM (render f r) l →
+      t ≡ add-noteM f i m l
+  unfolding add-noteM
+  add-some h e g = rw (ne-eqb m 65535 h) (g ∙ ap (λ (y : Reason). insertM (render f y) l) e)
 
 -- ---- parts that hold no list
 
@@ -142,51 +142,51 @@ pub skip-out : (w : ℕ) (f : List ℕ) (p : ℕ) → length f < p + w → p ≡
 unfolding skipped
 skip-out w f p h = rw (lt-leb (p + w) (length f) h)
 
-pub skip-is : (w : ℕ) (f : List ℕ) (p : ℕ) (l : List Text) {q : ℕ} → q ≡ skipped w f p → after q l ≡ skipL w f p l
-unfolding skipL
+pub skip-is : (w : ℕ) (f : List ℕ) (p : ℕ) (l : List Text) {q : ℕ} → q ≡ skipped w f p → after q l ≡ skipM w f p l
+unfolding skipM
 skip-is w f p l e = rw e
 
 pub skip-then : (w : ℕ) (m : Listing) (f : List ℕ) (p : ℕ) (l : List Text) {q : ℕ} → q ≡ skipped w f p →
-    m f q l ≡ (skipL w ⨾ m) f p l
-unfolding skipL _⨾_
+    m f q l ≡ (skipM w ⨾ m) f p l
+unfolding skipM _⨾_
 skip-then w m f p l e = rw e
 
 module _ (f : List ℕ) (p : ℕ) (l : List Text) where
-  pub add-put : (i m : ℕ) {t : List Text} → t ≡ addT f i m l → addL i m f p l ≡ after p t
-  unfolding addL
+  pub add-put : (i m : ℕ) {t : List Text} → t ≡ add-noteM f i m l → addM i m f p l ≡ after p t
+  unfolding addM
   add-put i m e = ap (after p) (sym e)
 
-  pub note-is : (i : ℕ) → noteL i f p l ≡ by u16 (addL i) f p l
-  unfolding noteL
+  pub note-is : (i : ℕ) → noteM i f p l ≡ by u16 (addM i) f p l
+  unfolding noteM
   note-is i = refl
 
-  pub trigger-is : (i : ℕ) → triggerL i f p l ≡ (skipL 14 ⨾ noteL i) f p l
-  unfolding triggerL
+  pub trigger-is : (i : ℕ) → triggerM i f p l ≡ (skipM 14 ⨾ noteM i) f p l
+  unfolding triggerM
   trigger-is i = refl
 
   -- a predicate of the kind k has w bytes, the kind itself counted
   pub skip-size : (k : ℕ) {q w : ℕ} → q ≡ skipped (w - 1) f p → w ≡ predicate-size k →
-      after q l ≡ skipL (predicate-size k - 1) f p l
-  skip-size k e h = skip-is _ f p l e ∙ ap (λ (x : ℕ). skipL (x - 1) f p l) h
+      after q l ≡ skipM (predicate-size k - 1) f p l
+  skip-size k e h = skip-is _ f p l e ∙ ap (λ (x : ℕ). skipM (x - 1) f p l) h
 
   pub predicate-is : (i : ℕ) →
-      predicateL i f p l ≡ by u8 (λ k. if eqb k 1 then noteL i else skipL (predicate-size k - 1)) f p l
-  unfolding predicateL
+      predicateM i f p l ≡ by u8 (λ k. if eqb k 1 then noteM i else skipM (predicate-size k - 1)) f p l
+  unfolding predicateM
   predicate-is i = refl
 
   module _ (i : ℕ) {k : Part} where
-    pub part-note : k ≡ part.Note → partL k i f p l ≡ noteL i f p l
-    unfolding partL
+    pub part-note : k ≡ part.Note → partM k i f p l ≡ noteM i f p l
+    unfolding partM
     part-note h = rw h
 
-    pub part-trigger : k ≡ part.Trigger → partL k i f p l ≡ triggerL i f p l
-    unfolding partL
+    pub part-trigger : k ≡ part.Trigger → partM k i f p l ≡ triggerM i f p l
+    unfolding partM
     part-trigger h = rw h
 
-    pub part-predicate : k ≡ part.Predicate → partL k i f p l ≡ predicateL i f p l
-    unfolding partL
+    pub part-predicate : k ≡ part.Predicate → partM k i f p l ≡ predicateM i f p l
+    unfolding partM
     part-predicate h = rw h
 
-  pub parts-is : (k : Part) (i : ℕ) → partsL k i f p l ≡ by u16 (λ c. timesL c (partL k i)) f p l
-  unfolding partsL
+  pub parts-is : (k : Part) (i : ℕ) → partsM k i f p l ≡ by u16 (λ c. timesM c (partM k i)) f p l
+  unfolding partsM
   parts-is k i = refl

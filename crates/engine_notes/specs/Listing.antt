@@ -8,14 +8,14 @@ use lib.Dec.{ltb, leb, eqb}
 use lib.ListN.{length}
 use Rattle.texts.specs.Lists.{if_then_else_}
 use Rattle.texts.specs.Texts.{Text, insertT}
-use Rattle.model.specs.File.{got, broken, Reader, u8, u16}
+use Rattle.model_spec.specs.File.{got, broken, Reader, u8, u16}
 use Rattle.model_walk.specs.Walk.{predicate-size}
 use Rattle.reasons.specs.Kinds as kinds
 use Rattle.reasons.specs.declared.Reason.{Reason}
 use Rattle.reasons.specs.Reasons.{render}
 use Rattle.reasons.specs.Readable.{HasText}
 use Rattle.reasons.specs.Lists.{listed, Clean}
-use Rattle.engine_reads.specs.Reads.{textPosition, noteReason}
+use Rattle.engine_fields.specs.Reads.{textPosition, noteReason}
 use Rattle.engine_notes.specs.declared.Noted.{Noted}
 use Rattle.engine_notes.specs.declared.Part.{Part}
 use Rattle.engine_notes.specs.declared.Part.the-variants as part
@@ -64,12 +64,12 @@ unfoldable pub skipped : ℕ → List ℕ → ℕ → ℕ
 skipped w f p = if leb (p + w) (length f) then p + w else p
 
 -- w bytes that aren't looked at
-unfoldable pub skipL : ℕ → Listing
-skipL w f p l = after (skipped w f p) l
+unfoldable pub skipM : ℕ → Listing
+skipM w f p l = after (skipped w f p) l
 
-unfoldable pub timesL : ℕ → Listing → Listing
-timesL zero k = stay
-timesL (suc i) k = k ⨾ timesL i k
+unfoldable pub timesM : ℕ → Listing → Listing
+timesM zero k = stay
+timesM (suc i) k = k ⨾ timesM i k
 
 -- ---- reasons
 
@@ -81,32 +81,32 @@ unfoldable pub noteOf : List ℕ → (id note : ℕ) → Reason
 noteOf f i m = if eqb i 65535 then noteReason f m else idNote f i m
 
 -- a text among the others, which ascend, while there are fewer than 300
-unfoldable pub insertG : Text → List Text → List Text
-insertG t l = if ltb 299 (length l) then l else insertT t l
+unfoldable pub insertM : Text → List Text → List Text
+insertM t l = if ltb 299 (length l) then l else insertT t l
 
 -- a note, or 65,535 for none
-unfoldable pub addT : List ℕ → (id note : ℕ) → List Text → List Text
-addT f i m l = if eqb m 65535 then l else insertG (render f (noteOf f i m)) l
+unfoldable pub add-noteM : List ℕ → (id note : ℕ) → List Text → List Text
+add-noteM f i m l = if eqb m 65535 then l else insertM (render f (noteOf f i m)) l
 
 -- ---- parts that hold no list
 
-unfoldable pub addL : (id note : ℕ) → Listing
-addL i m f p l = after p (addT f i m l)
+unfoldable pub addM : (id note : ℕ) → Listing
+addM i m f p l = after p (add-noteM f i m l)
 
-unfoldable pub noteL : (id : ℕ) → Listing
-noteL i = by u16 (addL i)
+unfoldable pub noteM : (id : ℕ) → Listing
+noteM i = by u16 (addM i)
 
-unfoldable pub triggerL : (id : ℕ) → Listing
-triggerL i = skipL 14 ⨾ noteL i
+unfoldable pub triggerM : (id : ℕ) → Listing
+triggerM i = skipM 14 ⨾ noteM i
 
-unfoldable pub predicateL : (id : ℕ) → Listing
-predicateL i = by u8 (λ k. if eqb k 1 then noteL i else skipL (predicate-size k - 1))
+unfoldable pub predicateM : (id : ℕ) → Listing
+predicateM i = by u8 (λ k. if eqb k 1 then noteM i else skipM (predicate-size k - 1))
 
-unfoldable pub partL : Part → (id : ℕ) → Listing
-partL part.Note i = noteL i
-partL part.Trigger i = triggerL i
-partL part.Predicate i = predicateL i
+unfoldable pub partM : Part → (id : ℕ) → Listing
+partM part.Note i = noteM i
+partM part.Trigger i = triggerM i
+partM part.Predicate i = predicateM i
 
 -- a count, and as many parts
-unfoldable pub partsL : Part → (id : ℕ) → Listing
-partsL k i = by u16 (λ c. timesL c (partL k i))
+unfoldable pub partsM : Part → (id : ℕ) → Listing
+partsM k i = by u16 (λ c. timesM c (partM k i))

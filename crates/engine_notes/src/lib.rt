@@ -7,7 +7,7 @@ ghost use Prim.Native.Nat.{_≤_};
 ghost use lib.ListN.{length};
 ghost use Rattle.reasons.specs.Reasons.{render};
 ghost use Rattle.reasons.specs.Readable.{Readable, HasText};
-ghost use Rattle.engine_notes.specs.Listing.{idNote, noteOf, insertG, addT, skipped, Lists, Makes, noteL, triggerL, predicateL, partL, partsL};
+ghost use Rattle.engine_notes.specs.Listing.{idNote, noteOf, insertM, add-noteM, skipped, Lists, Makes, noteM, triggerM, predicateM, partM, partsM};
 
 // How many reasons there are, and the position after what was read.
 pub struct Noted {
@@ -29,8 +29,8 @@ fn id_note(f: &[u8], id: u32, note: u32) -> Reason
 {
     Reason {
         kind: reasons::ID_NOTE,
-        first: engine_reads::text_position(f, id),
-        second: engine_reads::text_position(f, note),
+        first: engine_fields::text_position(f, id),
+        second: engine_fields::text_position(f, note),
         line: 0,
         column: 0,
     }
@@ -41,7 +41,7 @@ fn note_of(f: &[u8], id: u32, note: u32) -> Reason
     ensures { λ r. ⌜ r ≡ noteOf (now (f .entry)) id note ⌝ }
 {
     if id == 65535 {
-        return engine_reads::note_reason(f, note);
+        return engine_fields::note_reason(f, note);
     }
     id_note(f, id, note)
 }
@@ -49,7 +49,7 @@ fn note_of(f: &[u8], id: u32, note: u32) -> Reason
 // A reason among the first n, while there is place.
 pub fn put(f: &[u8], u: &mut [u32], n: usize, r: Reason) -> usize
     requires { ⌜ (1500 ≤ length (now u)) × (HasText (now f) → Readable (now f) r) ⌝ }
-    ensures { λ k. ⌜ Makes (insertG (render (now (f .entry)) r)) (now (f .entry)) n (now (u .entry)) k (now (u .exit)) ⌝ }
+    ensures { λ k. ⌜ Makes (insertM (render (now (f .entry)) r)) (now (f .entry)) n (now (u .entry)) k (now (u .exit)) ⌝ }
 {
     if 299 < n {
         return n;
@@ -59,7 +59,7 @@ pub fn put(f: &[u8], u: &mut [u32], n: usize, r: Reason) -> usize
 
 fn add_note(f: &[u8], u: &mut [u32], id: u32, note: u32, n: usize) -> usize
     requires { ⌜ 1500 ≤ length (now u) ⌝ }
-    ensures { λ k. ⌜ Makes (addT (now (f .entry)) id note) (now (f .entry)) n (now (u .entry)) k (now (u .exit)) ⌝ }
+    ensures { λ k. ⌜ Makes (add-noteM (now (f .entry)) id note) (now (f .entry)) n (now (u .entry)) k (now (u .exit)) ⌝ }
 {
     if note == 65535 {
         return n;
@@ -85,7 +85,7 @@ pub fn skip(f: &[u8], size: usize, at: usize) -> usize
 
 fn note_at(f: &[u8], u: &mut [u32], id: u32, at: usize, n: usize) -> Noted
     requires { ⌜ 1500 ≤ length (now u) ⌝ }
-    ensures { λ r. ⌜ Lists (noteL id) (now (f .entry)) at n (now (u .entry)) r (now (u .exit)) ⌝ }
+    ensures { λ r. ⌜ Lists (noteM id) (now (f .entry)) at n (now (u .entry)) r (now (u .exit)) ⌝ }
 {
     let x = model_walk::u16_at(f, at);
     let Num::Is(note, next) = x else {
@@ -97,7 +97,7 @@ fn note_at(f: &[u8], u: &mut [u32], id: u32, at: usize, n: usize) -> Noted
 
 pub fn trigger_note(f: &[u8], u: &mut [u32], id: u32, at: usize, n: usize) -> Noted
     requires { ⌜ 1500 ≤ length (now u) ⌝ }
-    ensures { λ r. ⌜ Lists (triggerL id) (now (f .entry)) at n (now (u .entry)) r (now (u .exit)) ⌝ }
+    ensures { λ r. ⌜ Lists (triggerM id) (now (f .entry)) at n (now (u .entry)) r (now (u .exit)) ⌝ }
 {
     let p = skip(f, 14, at);
     note_at(f, u, id, p, n)
@@ -105,7 +105,7 @@ pub fn trigger_note(f: &[u8], u: &mut [u32], id: u32, at: usize, n: usize) -> No
 
 pub fn predicate_note(f: &[u8], u: &mut [u32], id: u32, at: usize, n: usize) -> Noted
     requires { ⌜ 1500 ≤ length (now u) ⌝ }
-    ensures { λ r. ⌜ Lists (predicateL id) (now (f .entry)) at n (now (u .entry)) r (now (u .exit)) ⌝ }
+    ensures { λ r. ⌜ Lists (predicateM id) (now (f .entry)) at n (now (u .entry)) r (now (u .exit)) ⌝ }
 {
     let x = model_walk::u8_at(f, at);
     let Num::Is(kind, p) = x else {
@@ -122,7 +122,7 @@ pub fn predicate_note(f: &[u8], u: &mut [u32], id: u32, at: usize, n: usize) -> 
 
 fn part_note(f: &[u8], u: &mut [u32], part: Part, id: u32, at: usize, n: usize) -> Noted
     requires { ⌜ 1500 ≤ length (now u) ⌝ }
-    ensures { λ r. ⌜ Lists (partL part id) (now (f .entry)) at n (now (u .entry)) r (now (u .exit)) ⌝ }
+    ensures { λ r. ⌜ Lists (partM part id) (now (f .entry)) at n (now (u .entry)) r (now (u .exit)) ⌝ }
 {
     match part {
         Part::Note => note_at(f, u, id, at, n),
@@ -134,7 +134,7 @@ fn part_note(f: &[u8], u: &mut [u32], part: Part, id: u32, at: usize, n: usize) 
 // A count, and as many parts.
 pub fn part_notes(f: &[u8], u: &mut [u32], part: Part, id: u32, at: usize, n: usize) -> Noted
     requires { ⌜ 1500 ≤ length (now u) ⌝ }
-    ensures { λ r. ⌜ Lists (partsL part id) (now (f .entry)) at n (now (u .entry)) r (now (u .exit)) ⌝ }
+    ensures { λ r. ⌜ Lists (partsM part id) (now (f .entry)) at n (now (u .entry)) r (now (u .exit)) ⌝ }
 {
     let x = model_walk::u16_at(f, at);
     let Num::Is(count, start) = x else {

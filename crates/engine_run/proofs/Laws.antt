@@ -18,11 +18,11 @@ use Rattle.engine_state.specs.declared.Cells.{Cells}
 use Rattle.engine_state.specs.declared.State.{State}
 use Rattle.engine_state.specs.Machine.{entire, machine}
 use Rattle.engine_state.specs.Steps.{Held, kept, goes, still, Moves}
-use Rattle.engine_works.proofs.Laws.{none-of-runs}
-use Rattle.engine_queue.specs.Events.{begunM}
+use Rattle.engine_handlers.proofs.Laws.{none-of-runs}
+use Rattle.engine_schedule.specs.Events.{begunM}
 use Rattle.engine_loop.specs.Loop.{Halt, Halts, Ends, Closes, loopM}
 use Rattle.engine_loop.specs.declared.Ended.{Ended}
-use Rattle.engine_run.specs.Run.{whollyM, Wholly, start-of, nothing-yet, beginning, refusalS, answerS, answerM, Answers, Simulates}
+use Rattle.engine_run.specs.Run.{whollyM, Wholly, start-of, nothing-yet, beginning, refusalM, answer-endedM, answerM, Answers, Simulates}
 use Rattle.engine_run.specs.declared.Simulation.{Simulation}
 
 module _ {f x l : List ℕ} {n : ℕ} {st s : State} {d e : Ended} {q q' q₂ a a' a₂ a₃ r r' u u' v v' i i' c c' : List ℕ} where
@@ -42,7 +42,7 @@ module _ {f x l : List ℕ} {n : ℕ} {st s : State} {d e : Ended} {q q' q₂ a 
 
 -- ---- the answer
 
-no-is : (total : ℕ) (p : Halt) → (p .last .full ≡ 0 → ⊥) → refusalS (p .last .full) ≡ answerM total p
+no-is : (total : ℕ) (p : Halt) → (p .last .full ≡ 0 → ⊥) → refusalM (p .last .full) ≡ answerM total p
 unfolding answerM
 no-is total p g = rw (ne-eqb (p .last .full) 0 g)
 
@@ -54,8 +54,8 @@ yes-is total p g = rw (eq-eqb (p .last .full) 0 g)
 unfoldable simulation : (steps records reasons why active : ℕ) → List ℕ → Simulation
 simulation s r n w a v = record { refused = 0; steps = s; records = r; reasons = n; why = w; waiting = not (eqb a 0); values = v }
 
-pub told-is : {f q a r u v n c : List ℕ} {total : ℕ} {e : Ended} (p : Halt) → Halts f q a r u v n c total e p → p .last .full ≡ 0 → answerS e v ≡ answerM total p
-unfolding answerS simulation
+pub told-is : {f q a r u v n c : List ℕ} {total : ℕ} {e : Ended} (p : Halt) → Halts f q a r u v n c total e p → p .last .full ≡ 0 → answer-endedM e v ≡ answerM total p
+unfolding answer-endedM simulation
 told-is {v = v} {total = total} {e = e} p g z =
     let m = p .last in
     let er : e .state .records ≡ length (m .records) = g .stands .held .records .many ∙ ap (λ n. length (n .records)) (g .stands .is) in
@@ -113,7 +113,7 @@ module _ (f : List ℕ) (c : Cells) (so-far : ℕ) (q q₁ a a₁ r r₁ u : Lis
     texts-are : {g y : List ℕ} {t : List Text} {k : ℕ} → Holds g t k y → Holds g t (length t) y
     texts-are {g} {y} {t} h = subst (λ k. Holds g t k y) (h .many) h
 
-    pub answered : (q₃ r₃ : List ℕ) (s : Simulation) → q₃ ≡ cleared q₂ (e .state .first * 5) (e .state .items * 5) → r₃ ≡ cleared r₂ 0 (e .state .active * 28) → e .state .full ≡ 0 → s ≡ answerS e v → Simulates f x l n c so-far s q q₃ a a₂ r r₃ u u₂
+    pub answered : (q₃ r₃ : List ℕ) (s : Simulation) → q₃ ≡ cleared q₂ (e .state .first * 5) (e .state .items * 5) → r₃ ≡ cleared r₂ 0 (e .state .active * 28) → e .state .full ≡ 0 → s ≡ answer-endedM e v → Simulates f x l n c so-far s q q₃ a a₂ r r₃ u u₂
     answered q₃ r₃ s cq cr z es = record {
       queue = λ t h. no-items t h q₃ cq ∙ ap (λ k. replicate k 0) (w .queue ∙ zeros q q₁ eq);
       runs = λ t h. no-runs t h r₃ cr ∙ ap (λ k. replicate k 0) (w .runs ∙ zeros r r₁ er);
@@ -129,7 +129,7 @@ module _ (f : List ℕ) (c : Cells) (so-far : ℕ) (q q₁ a a₁ r r₁ u : Lis
               reasons = subst (λ m. Holds f (m .reasons) (length (m .reasons)) u₂) (g .stands .is) (texts-are (g .stands .held .reasons));
             }
 
-    pub refused : (q₃ r₃ a₃ : List ℕ) (s : Simulation) → q₃ ≡ cleared q₂ (e .state .first * 5) (e .state .items * 5) → r₃ ≡ cleared r₂ 0 (e .state .active * 28) → a₃ ≡ replicate (length a₂) 0 → (e .state .full ≡ 0 → ⊥) → s ≡ refusalS (e .state .full) → Simulates f x l n c so-far s q q₃ a a₃ r r₃ u u₂
+    pub refused : (q₃ r₃ a₃ : List ℕ) (s : Simulation) → q₃ ≡ cleared q₂ (e .state .first * 5) (e .state .items * 5) → r₃ ≡ cleared r₂ 0 (e .state .active * 28) → a₃ ≡ replicate (length a₂) 0 → (e .state .full ≡ 0 → ⊥) → s ≡ refusalM (e .state .full) → Simulates f x l n c so-far s q q₃ a a₃ r r₃ u u₂
     refused q₃ r₃ a₃ s cq cr ca z es = record {
       queue = λ t h. no-items t h q₃ cq ∙ ap (λ k. replicate k 0) (w .queue ∙ zeros q q₁ eq);
       runs = λ t h. no-runs t h r₃ cr ∙ ap (λ k. replicate k 0) (w .runs ∙ zeros r r₁ er);
@@ -140,7 +140,7 @@ module _ (f : List ℕ) (c : Cells) (so-far : ℕ) (q q₁ a a₁ r r₁ u : Lis
         by p g =
             let full : e .state .full ≡ p .last .full = ap (λ m. m .full) (g .stands .is) in
             record {
-              answer = es ∙ ap refusalS full ∙ no-is (getD x 3 0) p (λ k. z (full ∙ k));
+              answer = es ∙ ap refusalM full ∙ no-is (getD x 3 0) p (λ k. z (full ∙ k));
               records = rw (ne-eqb (p .last .full) 0 (λ k. z (full ∙ k))) (ca ∙ ap (λ k. replicate k 0) same-records ∙ sym (areas.area-none recordWords (length a)));
               reasons = subst (λ m. Holds f (m .reasons) (length (m .reasons)) u₂) (g .stands .is) (texts-are (g .stands .held .reasons));
             }

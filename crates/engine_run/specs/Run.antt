@@ -14,7 +14,7 @@ use Rattle.engine_state.specs.declared.Cells.{Cells}
 use Rattle.engine_state.specs.declared.State.{State}
 use Rattle.engine_state.specs.Machine.{Machine, Content, entire, machine}
 use Rattle.engine_state.specs.Steps.{Held}
-use Rattle.engine_queue.specs.Events.{begunM}
+use Rattle.engine_schedule.specs.Events.{begunM}
 use Rattle.engine_loop.specs.Loop.{Halt, Halts, loopM, closedM}
 use Rattle.engine_loop.specs.declared.Ended.{Ended}
 use Rattle.engine_run.specs.declared.Simulation.{Simulation}
@@ -50,17 +50,17 @@ pub record Clears (a : List ℕ) (from n : ℕ) (b : List ℕ) : Type 0 where
 
 -- ---- the answer
 
-unfoldable pub refusalS : ℕ → Simulation
-refusalS n = record { refused = n; steps = 0; records = 0; reasons = 0; why = 0; waiting = false; values = replicate 32 0 }
+unfoldable pub refusalM : ℕ → Simulation
+refusalM n = record { refused = n; steps = 0; records = 0; reasons = 0; why = 0; waiting = false; values = replicate 32 0 }
 
-unfoldable pub answerS : Ended → (values : List ℕ) → Simulation
-answerS e v = record { refused = 0; steps = e .steps; records = e .state .records; reasons = e .state .reasons; why = e .why; waiting = not (eqb (e .state .active) 0); values = v }
+unfoldable pub answer-endedM : Ended → (values : List ℕ) → Simulation
+answer-endedM e v = record { refused = 0; steps = e .steps; records = e .state .records; reasons = e .state .reasons; why = e .why; waiting = not (eqb (e .state .active) 0); values = v }
 
 unfoldable pub answerM : (total : ℕ) → Halt → Simulation
 answerM total p =
     if eqb (p .last .full) 0 then
     record { refused = 0; steps = total - p .left; records = length (p .last .records); reasons = length (p .last .reasons); why = p .why; waiting = not (eqb (length (p .last .runs)) 0); values = p .last .values }
-    else refusalS (p .last .full)
+    else refusalM (p .last .full)
 
 -- the answer is that of the machine, and so are the areas afterwards
 pub record Answers (f x : List ℕ) (s : Simulation) (a a' u' : List ℕ) (p : Halt) : Type 0 where

@@ -6,7 +6,7 @@ ghost use mathlib.Core.Path.{_≡_};
 ghost use Prim.Native.Nat.{_+_, _*_, _≤_, _<_};
 ghost use lib.ListN.{length};
 ghost use Rattle.engine_state.specs.Steps.{Fits};
-ghost use Rattle.engine_run.specs.Run.{Clears, Wholly, start-of, refusalS, answerS, Simulates};
+ghost use Rattle.engine_run.specs.Run.{Clears, Wholly, start-of, refusalM, answer-endedM, Simulates};
 
 // All of the loop, with what begins and what closes it.
 fn run_all(
@@ -26,7 +26,7 @@ fn run_all(
     requires { ⌜ (count * 4 ≤ length (now events)) × Fits st (now q) (now a) (now r) (now u) ⌝ }
     ensures { λ e. ⌜ Wholly (now (f .entry)) (now (x .entry)) (now (events .entry)) count st e (now (q .entry)) (now (q .exit)) (now (a .entry)) (now (a .exit)) (now (r .entry)) (now (r .exit)) (now (u .entry)) (now (u .exit)) (now (values .entry)) (now (values .exit)) (now (versions .entry)) (now (versions .exit)) (now (sequences .entry)) (now (sequences .exit)) ⌝ }
 {
-    let s = engine_queue::begun(x, events, count, q, a, versions, st);
+    let s = engine_schedule::begun(x, events, count, q, a, versions, st);
     let d = engine_loop::run_loop(f, x, q, a, r, u, values, versions, sequences, s);
     engine_loop::closed(x, a, d)
 }
@@ -59,7 +59,7 @@ pub struct Simulation {
 }
 
 fn refusal(number: u32) -> Simulation
-    ensures { λ r. ⌜ r ≡ refusalS number ⌝ }
+    ensures { λ r. ⌜ r ≡ refusalM number ⌝ }
 {
     Simulation {
         refused: number,
@@ -73,7 +73,7 @@ fn refusal(number: u32) -> Simulation
 }
 
 fn answer(e: Ended, values: [u32; 32]) -> Simulation
-    ensures { λ r. ⌜ r ≡ answerS e values ⌝ }
+    ensures { λ r. ⌜ r ≡ answer-endedM e values ⌝ }
 {
     let st = e.state;
     let waiting = st.active != 0;

@@ -114,8 +114,8 @@ with-cells c st = record { now = st .now; items = st .items; first = st .first; 
 abbrev pub with-run : (active made : ℕ) (sequences : List ℕ) → Entire → Entire
 with-run n i l st = record { now = st .now; items = st .items; first = st .first; records = st .records; active = n; reasons = st .reasons; made = i; full = st .full; sequences = l; cells = st .cells }
 
-abbrev pub storedC : Cells → (e value : ℕ) → Cells
-storedC c e v = record { values = set (c .values) e v; versions = c .versions }
+abbrev pub storedM : Cells → (e value : ℕ) → Cells
+storedM c e v = record { values = set (c .values) e v; versions = c .versions }
 
-abbrev pub raisedC : Cells → (e : ℕ) → Cells
-raisedC c e = record { values = c .values; versions = set (c .versions) e (more (getD (c .versions) e 0)) }
+abbrev pub raisedM : Cells → (e : ℕ) → Cells
+raisedM c e = record { values = c .values; versions = set (c .versions) e (more (getD (c .versions) e 0)) }

@@ -13,10 +13,10 @@ use Rattle.texts.specs.Texts.{text}
 use Rattle.model_walk.specs.declared.Walked.{Walked}
 use Rattle.model_walk.specs.declared.Walked.the-variants as walked
 use Rattle.model_walk.specs.declared.Piece.the-variants as piece
-use Rattle.model_walk.specs.Walk.{piecesW, actionsW}
+use Rattle.model_walk.specs.Walk.{piecesM, actionsM}
 use Rattle.model_order.specs.Order.{place-from}
 use Rattle.model_index.specs.declared.Index.{Index}
-use Rattle.engine_reads.specs.Reads.{two, four, cap}
+use Rattle.engine_fields.specs.Reads.{two, four, cap}
 use Rattle.engine_table.specs.Table.{end-of, stale-at, conditions-at, actions-at, source-at, rule-word, count-word, fixed-word, start-word, head-word, part-word, table-word, Headed}
 
 pub end-to : {w : Walked} (at : ℕ) {p n : ℕ} → w ≡ walked.To p n → p ≡ end-of w at
@@ -36,13 +36,13 @@ module _ (s : List ℕ) (p : ℕ) where
   unfolding conditions-at
   conditions-are e = ap (λ (n : ℕ). p + 9 + 16 * n) e
 
-  pub actions-are : (ts : ℕ) {c r : ℕ} {w : Walked} → c ≡ conditions-at s p → w ≡ piecesW ts piece.Predicate s c 0 → r ≡ end-of w c → r ≡ actions-at ts s p
+  pub actions-are : (ts : ℕ) {c r : ℕ} {w : Walked} → c ≡ conditions-at s p → w ≡ piecesM ts piece.Predicate s c 0 → r ≡ end-of w c → r ≡ actions-at ts s p
   unfolding actions-at
-  actions-are ts {c} {r} {w} e f g = g ∙ ap (λ (y : Walked). end-of y c) f ∙ ap (λ (y : ℕ). end-of (piecesW ts piece.Predicate s y 0) y) e
+  actions-are ts {c} {r} {w} e f g = g ∙ ap (λ (y : Walked). end-of y c) f ∙ ap (λ (y : ℕ). end-of (piecesM ts piece.Predicate s y 0) y) e
 
-  pub source-is : (ts : ℕ) {a r : ℕ} {w : Walked} → a ≡ actions-at ts s p → w ≡ actionsW ts 18 s a 0 → r ≡ end-of w a → r ≡ source-at ts s p
+  pub source-is : (ts : ℕ) {a r : ℕ} {w : Walked} → a ≡ actions-at ts s p → w ≡ actionsM ts 18 s a 0 → r ≡ end-of w a → r ≡ source-at ts s p
   unfolding source-at
-  source-is ts {a} {r} {w} e f g = g ∙ ap (λ (y : Walked). end-of y a) f ∙ ap (λ (y : ℕ). end-of (actionsW ts 18 s y 0) y) e
+  source-is ts {a} {r} {w} e f g = g ∙ ap (λ (y : Walked). end-of y a) f ∙ ap (λ (y : ℕ). end-of (actionsM ts 18 s y 0) y) e
 
 pub cap-far : (q p : ℕ) → p ≡ q → 4294967287 < p → 4294967295 ≡ cap (q + 8)
 unfolding cap

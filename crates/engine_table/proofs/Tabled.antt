@@ -12,15 +12,15 @@ use lib.Dec.{eqb}
 use borrow.Author.Tests.{lt-ltb, le-ltb}
 use Rattle.texts.specs.Lists.{if_then_else_}
 use Rattle.texts.specs.Texts.{Text, text, memT}
-use Rattle.model.specs.Answer.{answer, refused}
-use Rattle.model.specs.Model.{Predicate, Actions, Entity, Mode, single, queued, parallel, Automation, Limits, Moment, Model, midnight}
-use Rattle.model.specs.File.{got, Reader, _>>=_, give, or-zeros, start, u8, u16, u32, times, counted, number?, source, mode, limits, texts, place, predicate, trigger, entity, actions, automation}
-use Rattle.model.specs.Validate.{accepted}
+use Rattle.model_spec.specs.Answer.{answer, refused}
+use Rattle.model_spec.specs.Model.{Predicate, Actions, Entity, Mode, single, queued, parallel, Automation, Limits, Moment, Model, midnight}
+use Rattle.model_spec.specs.File.{got, Reader, _>>=_, give, or-zeros, start, u8, u16, u32, times, counted, number?, source, mode, limits, texts, place, predicate, trigger, entity, actions, automation}
+use Rattle.model_spec.specs.Validate.{accepted}
 use Rattle.model_walk.proofs.Found as found
 use Rattle.model_walk.proofs.Found.{bound, given, Wide, u8-wide, u16-wide, u32-wide, kind-wide, source-wide, counted-found, place-found, kind-found, EntityParts, entity-found}
 use Rattle.model_walk.proofs.Laws.{u8-in, u16-in, u32-in}
 use Rattle.model_walk.proofs.Sees.{sees-conditions, sees-actions, sees-mode}
-use Rattle.model_walk.specs.Walk.{seen, capped, pieceW, piecesW, actionsW}
+use Rattle.model_walk.specs.Walk.{seen, capped, pieceM, piecesM, actionsM}
 use Rattle.model_walk.specs.declared.Walked.{Walked}
 use Rattle.model_walk.specs.declared.Piece.the-variants as piece
 use Rattle.model_parts.specs.Stand.{Reads}
@@ -29,13 +29,13 @@ use Rattle.model_order.specs.Order.{place-from, Fixed}
 use Rattle.model_order.proofs.Places.{fixed-at, fixed-texts}
 use Rattle.model_index.specs.declared.Index.{Index}
 use Rattle.model_index.specs.Indexed.{Indexed}
-use Rattle.engine_reads.specs.Reads.{two, four, cap, atMost, name, stale, word}
-use Rattle.engine_reads.proofs.Laws.{most-yes}
-use Rattle.engine_window.specs.Window.{startW}
-use Rattle.engine_places.specs.Meaning.{stale-of, mode-number, Tabled}
-use Rattle.engine_places.proofs.Accepted.{accepted-lawful, accepted-small}
-use Rattle.engine_places.proofs.Tables.{NameWord, RuleWords, Words, tabled}
-use Rattle.engine_places.proofs.Numbers.{cap-is}
+use Rattle.engine_fields.specs.Reads.{two, four, cap, atMost, name, stale, word}
+use Rattle.engine_fields.proofs.Laws.{most-yes}
+use Rattle.engine_window.specs.Window.{startM}
+use Rattle.engine_refinement.specs.Meaning.{stale-of, mode-number, Tabled}
+use Rattle.engine_refinement.proofs.Accepted.{accepted-lawful, accepted-small}
+use Rattle.engine_refinement.proofs.Tables.{NameWord, RuleWords, Words, tabled}
+use Rattle.engine_refinement.proofs.Numbers.{cap-is}
 use Rattle.engine_table.specs.Table.{end-of, stale-at, conditions-at, actions-at, source-at, rule-word, count-word, fixed-word, start-word, head-word, TableOf}
 use Rattle.engine_table.proofs.Laws as laws
 
@@ -166,14 +166,14 @@ module _ (s : List ℕ) (size : length s ≤ 32768) where
       k : found.Kind mode-kinds s p v q
       k = kind-found mode-kinds e
 
-      cases : (i : ℕ) → getD mode-kinds i Rattle.model.specs.File.refuse s (k .next) ≡ got v q → i ≡ mode-number v
+      cases : (i : ℕ) → getD mode-kinds i Rattle.model_spec.specs.File.refuse s (k .next) ≡ got v q → i ≡ mode-number v
       cases zero h = ap mode-number (given _ _ _ h .0)
       cases (suc zero) h = ap mode-number (given _ _ _ h .0)
       cases (suc (suc zero)) h = ap mode-number (given _ _ _ h .0)
       cases (suc (suc (suc zero))) h = ap mode-number (given _ _ _ h .0)
       cases (suc (suc (suc (suc i)))) h = absurd (found.refused s (k .next) h)
 
-  trigger-wide : (ts : List Text) (p : ℕ) (a : Rattle.model.specs.Model.Trigger) (q : ℕ) → trigger ts s p ≡ got a q → Wide 16 s p q
+  trigger-wide : (ts : List Text) (p : ℕ) (a : Rattle.model_spec.specs.Model.Trigger) (q : ℕ) → trigger ts s p ≡ got a q → Wide 16 s p q
   trigger-wide ts p a q e =
       let f = found.trigger-found ts e in
       let a = u16-wide s p (f .entity-at .is-place) in
@@ -233,11 +233,11 @@ module _ (s : List ℕ) (size : length s ≤ 32768) where
       })
 
   -- where the walks over conditions and actions end
-  conditions-end : (ts : List Text) (p : ℕ) {l : List Predicate} {q : ℕ} → counted (predicate ts) s p ≡ got l q → q ≡ end-of (piecesW (length ts) piece.Predicate s p 0) p
-  unfolding seen capped pieceW
+  conditions-end : (ts : List Text) (p : ℕ) {l : List Predicate} {q : ℕ} → counted (predicate ts) s p ≡ got l q → q ≡ end-of (piecesM (length ts) piece.Predicate s p 0) p
+  unfolding seen capped pieceM
   conditions-end ts p e = laws.end-to p (sees-conditions ts 0 s p ∙ ap (seen _ 0) e)
 
-  actions-end : (ts : List Text) (p : ℕ) {l : Actions} {q : ℕ} → actions ts 18 s p ≡ got l q → q ≡ end-of (actionsW (length ts) 18 s p 0) p
+  actions-end : (ts : List Text) (p : ℕ) {l : Actions} {q : ℕ} → actions ts 18 s p ≡ got l q → q ≡ end-of (actionsM (length ts) 18 s p 0) p
   unfolding seen capped
   actions-end ts p e = laws.end-to p (sees-actions ts 18 0 s p ∙ ap (seen _ 0) e)
 
@@ -265,14 +265,14 @@ module _ (s : List ℕ) (size : length s ≤ 32768) where
       let t : f .at-triggers ≡ p + 7 = omega (arith, i .ends, m .ends, x .ends) in
       let n : two s (p + 7) ≡ c .count = ap (two s) (sym t) ∙ two-read s (f .at-triggers) (c .is-count) in
       let cs : f .at-conditions ≡ p + 9 + 16 * two s (p + 7) = omega (arith, n, t, w .ends, v .ends) in
-      let as′ : f .at-actions ≡ actions-at (length ts) s p = conditions-end ts (f .at-conditions) (f .conditions-read) ∙ ap (λ (k : ℕ). end-of (piecesW (length ts) piece.Predicate s k 0) k) cs in
+      let as′ : f .at-actions ≡ actions-at (length ts) s p = conditions-end ts (f .at-conditions) (f .conditions-read) ∙ ap (λ (k : ℕ). end-of (piecesM (length ts) piece.Predicate s k 0) k) cs in
       record {
         mode-is = i .ends;
         max-is = omega (arith, i .ends, m .ends);
         triggers-is = t;
         conditions-is = cs;
         actions-is = as′;
-        source-is = actions-end ts (f .at-actions) (f .actions-read) ∙ ap (λ (k : ℕ). end-of (actionsW (length ts) 18 s k 0) k) as′;
+        source-is = actions-end ts (f .at-actions) (f .actions-read) ∙ ap (λ (k : ℕ). end-of (actionsM (length ts) 18 s k 0) k) as′;
         notes-is = o .ends;
         inside = omega (arith, o .ends, o .inside);
       }
@@ -321,7 +321,7 @@ module _ (s : List ℕ) (i : Index) (x : List ℕ) (m : Model) (t : TableOf s i 
       (ap (four s) a ∙ four-read s (i .limits) (h .first) ∙ ap (λ (l : Limits). l .horizon) (z .0), ap (four s) b ∙ four-read s (h .next) (n .first) ∙ ap (λ (l : Limits). l .max-steps) (z .0))
 
   -- the start: behind the automations, or zeros if the file ends there
-  start-read : startW x ≡ m .start
+  start-read : startM x ≡ m .start
   unfolding or-zeros start start-word head-word end-of
   start-read =
       let p = o .behind-rules in

@@ -9,10 +9,10 @@ use Rattle.texts.specs.Texts.{text}
 use Rattle.model_walk.specs.declared.Walked.{Walked}
 use Rattle.model_walk.specs.declared.Walked.the-variants as walked
 use Rattle.model_walk.specs.declared.Piece.the-variants as piece
-use Rattle.model_walk.specs.Walk.{piecesW, actionsW}
+use Rattle.model_walk.specs.Walk.{piecesM, actionsM}
 use Rattle.model_order.specs.Order.{place-from}
 use Rattle.model_index.specs.declared.Index.{Index}
-use Rattle.engine_reads.specs.Reads.{two, four, cap, atMost}
+use Rattle.engine_fields.specs.Reads.{two, four, cap, atMost}
 
 -- where a walk ended; a file that was read has all its parts
 unfoldable pub end-of : Walked → (at : ℕ) → ℕ
@@ -30,10 +30,10 @@ unfoldable pub conditions-at : List ℕ → (p : ℕ) → ℕ
 conditions-at s p = p + 9 + 16 * two s (p + 7)
 
 unfoldable pub actions-at : (texts : ℕ) → List ℕ → (p : ℕ) → ℕ
-actions-at ts s p = end-of (piecesW ts piece.Predicate s (conditions-at s p) 0) (conditions-at s p)
+actions-at ts s p = end-of (piecesM ts piece.Predicate s (conditions-at s p) 0) (conditions-at s p)
 
 unfoldable pub source-at : (texts : ℕ) → List ℕ → (p : ℕ) → ℕ
-source-at ts s p = end-of (actionsW ts 18 s (actions-at ts s p) 0) (actions-at ts s p)
+source-at ts s p = end-of (actionsM ts 18 s (actions-at ts s p) 0) (actions-at ts s p)
 
 -- the k-th word of the automation at p
 unfoldable pub rule-word : (texts : ℕ) → List ℕ → (p k : ℕ) → ℕ

@@ -5,7 +5,7 @@ use model_walk::Walked;
 ghost use mathlib.Core.Path.{_≡_};
 ghost use Prim.Native.Nat.{_+_, _*_, _≤_, _<_};
 ghost use lib.ListN.{length, getD};
-ghost use Rattle.engine_reads.specs.Reads.{four, cap};
+ghost use Rattle.engine_fields.specs.Reads.{four, cap};
 ghost use Rattle.engine_table.specs.Table.{end-of, stale-at, conditions-at, actions-at, source-at, rule-word, count-word, fixed-word, start-word, head-word, part-word, Headed, TableOf};
 
 pub struct Table {
@@ -28,15 +28,15 @@ fn stale_at(s: &[u8], p: usize) -> u32
     requires { ⌜ p ≤ 4294967295 ⌝ }
     ensures { λ r. ⌜ r ≡ stale-at (now (s .entry)) p ⌝ }
 {
-    let many = engine_reads::two_at(s, p + 2) as usize;
-    engine_reads::four_at(s, p + 7 + 2 * many)
+    let many = engine_fields::two_at(s, p + 2) as usize;
+    engine_fields::four_at(s, p + 7 + 2 * many)
 }
 
 fn conditions_at(s: &[u8], p: usize) -> usize
     requires { ⌜ p ≤ 4294967295 ⌝ }
     ensures { λ r. ⌜ (r ≡ conditions-at (now (s .entry)) p) × (r ≤ p + 9 + 16 * 65535) ⌝ }
 {
-    let many = engine_reads::two_at(s, p + 7) as usize;
+    let many = engine_fields::two_at(s, p + 7) as usize;
     p + 9 + 16 * many
 }
 
@@ -63,25 +63,25 @@ fn rule_word(s: &[u8], texts: u32, p: usize, k: usize) -> u32
     ensures { λ r. ⌜ r ≡ rule-word texts (now (s .entry)) p k ⌝ }
 {
     if k == 0 {
-        return engine_reads::two_at(s, p);
+        return engine_fields::two_at(s, p);
     }
     if k == 1 {
-        return engine_reads::byte_at(s, p + 2);
+        return engine_fields::byte_at(s, p + 2);
     }
     if k == 2 {
-        return engine_reads::four_at(s, p + 3);
+        return engine_fields::four_at(s, p + 3);
     }
     if k == 3 {
-        return engine_reads::capped(p + 7);
+        return engine_fields::capped(p + 7);
     }
     if k == 4 {
-        return engine_reads::capped(conditions_at(s, p));
+        return engine_fields::capped(conditions_at(s, p));
     }
     if k == 5 {
-        return engine_reads::capped(actions_at(s, texts, p));
+        return engine_fields::capped(actions_at(s, texts, p));
     }
     if k == 6 {
-        return engine_reads::capped(source_at(s, texts, p));
+        return engine_fields::capped(source_at(s, texts, p));
     }
     notes_word(s, texts, p)
 }
@@ -95,7 +95,7 @@ fn notes_word(s: &[u8], texts: u32, p: usize) -> u32
     if 4294967287 < source {
         return 4294967295;
     }
-    engine_reads::capped(source + 8)
+    engine_fields::capped(source + 8)
 }
 
 // The number at the k-th byte behind a position.
@@ -103,8 +103,8 @@ fn number_at(s: &[u8], at: usize, k: usize) -> u32
     requires { ⌜ k ≤ 8 ⌝ }
     ensures { λ r. ⌜ r ≡ four (now (s .entry)) (cap at + k) ⌝ }
 {
-    let p = engine_reads::capped(at) as usize;
-    engine_reads::four_at(s, p + k)
+    let p = engine_fields::capped(at) as usize;
+    engine_fields::four_at(s, p + k)
 }
 
 // The start: its weekday, and four bytes on its second. It stands behind the automations, or the file ends there.
@@ -189,14 +189,14 @@ fn part_word(s: &[u8], texts: u32, names: &[usize; 100], rules: &[usize; 100], k
     ensures { λ r. ⌜ r ≡ part-word texts (now (s .entry)) (now (names .entry)) (now (rules .entry)) k ⌝ }
 {
     if k < 48 {
-        let p = engine_reads::capped(names[k - 16]) as usize;
-        return engine_reads::two_at(s, p);
+        let p = engine_fields::capped(names[k - 16]) as usize;
+        return engine_fields::two_at(s, p);
     }
     if k < 80 {
-        let q = engine_reads::capped(names[k - 48]) as usize;
+        let q = engine_fields::capped(names[k - 48]) as usize;
         return stale_at(s, q);
     }
-    let t = engine_reads::capped(rules[(k - 80) / 8]) as usize;
+    let t = engine_fields::capped(rules[(k - 80) / 8]) as usize;
     rule_word(s, texts, t, (k - 80) % 8)
 }
 
@@ -223,7 +223,7 @@ pub fn table_of(s: &[u8], index: Index) -> Table
     let rules = automations.starts;
     let texts = index.texts;
     let count = texts.count;
-    let n = engine_reads::at_most(automations.count, 32);
+    let n = engine_fields::at_most(automations.count, 32);
     let t = headed(s, index);
     let mut words = t.words;
     let mut k: usize = 16;

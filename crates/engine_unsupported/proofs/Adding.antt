@@ -5,20 +5,20 @@ use Prim.Native.Nat.{_+_, _≤_}
 use native.Mathlib.Omega.{arith}
 use lib.ListN.{length, length-append}
 use borrow.Author.Tests.{le-ltb}
-use Rattle.engine.proofs.Bounds.{length-each}
+use Rattle.engine_spec.proofs.Bounds.{length-each}
 use Rattle.texts.specs.Lists.{each, flat}
 use Rattle.texts.specs.Texts.{Text, text, insertT, sortedT}
-use Rattle.model.specs.Model.{Effect, toggle, delay, condition, choose, wait, Source, Actions, done, act, Branches, no-branch, branch, Automation}
-use Rattle.model.specs.Notes.{of-predicate, of-trigger, of-effect, of-actions, of-branches, of-rule}
-use Rattle.engine.specs.Unsupported.{effect-reasons, action-reasons, branch-reasons, rule-reasons}
+use Rattle.model_spec.specs.Model.{Effect, toggle, delay, condition, choose, wait, Source, Actions, done, act, Branches, no-branch, branch, Automation}
+use Rattle.model_spec.specs.Notes.{of-predicate, of-trigger, of-effect, of-actions, of-branches, of-rule}
+use Rattle.engine_spec.specs.Unsupported.{effect-reasons, action-reasons, branch-reasons, rule-reasons}
 use Rattle.reasons.specs.Lists.{insertAll}
 use Rattle.reasons.proofs.Listing.{one-more}
 use Rattle.reasons.proofs.Sorting.{one-by-one}
-use Rattle.engine_notes.specs.Listing.{insertG}
+use Rattle.engine_notes.specs.Listing.{insertM}
 use Rattle.engine_notes.proofs.Adding.{addAll}
 
-with-place : (t : Text) (l : List Text) → length l ≤ 299 → insertG t l ≡ insertT t l
-unfolding insertG
+with-place : (t : Text) (l : List Text) → length l ≤ 299 → insertM t l ≡ insertT t l
+unfolding insertM
 with-place t l h = rw (le-ltb 299 (length l) h)
 
 add-insert : (ts l : List Text) → length ts + length l ≤ 300 → addAll ts l ≡ insertAll ts l

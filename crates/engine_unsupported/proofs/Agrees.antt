@@ -7,26 +7,26 @@ use lib.ListN.{length, getD, length-append}
 use Rattle.texts.specs.Lists.{each, flat}
 use Rattle.texts.specs.Texts.{Text, text, decimal}
 use Rattle.texts.specs.Places.{textAt, startFrom}
-use Rattle.model.specs.Model.{Source, Trigger, Effect, Actions, Branches, Automation, Model}
-use Rattle.model.specs.File.{got, Reader, refuse, u8, u16, u32, counted, flag, source, place, predicate, trigger, branches, effect-kinds, effect, actions-of, actions}
-use Rattle.model.specs.Notes.{of-predicate, of-trigger, of-invariant, of-rule, notes-of}
+use Rattle.model_spec.specs.Model.{Source, Trigger, Effect, Actions, Branches, Automation, Model}
+use Rattle.model_spec.specs.File.{got, Reader, refuse, u8, u16, u32, counted, flag, source, place, predicate, trigger, branches, effect-kinds, effect, actions-of, actions}
+use Rattle.model_spec.specs.Notes.{of-predicate, of-trigger, of-invariant, of-rule, notes-of}
 use Rattle.model_walk.specs.Walk.{found}
 use Rattle.model_walk.specs.declared.Num.the-variants as num
 use Rattle.model_walk.proofs.Found.{bound, given, Wide, wide-sum, u32-wide, kind-wide, Kind, kind-found, place-found}
 use Rattle.model_walk.proofs.Found as found
 use Rattle.model_walk.proofs.Sees.{sees-flag}
-use Rattle.engine.specs.Unsupported.{placed, effect-reasons, action-reasons, branch-reasons, rule-reasons, unsupported}
+use Rattle.engine_spec.specs.Unsupported.{placed, effect-reasons, action-reasons, branch-reasons, rule-reasons, unsupported}
 use Rattle.reasons.specs.Kinds as kinds
 use Rattle.reasons.specs.Reasons.{words, body, render}
 use Rattle.reasons.specs.Readable.{text-count}
 use Rattle.reasons.specs.Reasons as reasons
-use Rattle.engine_reads.specs.Reads.{word, atMost, rules}
-use Rattle.engine_reads.proofs.Laws.{most-yes}
+use Rattle.engine_fields.specs.Reads.{word, atMost, rules}
+use Rattle.engine_fields.proofs.Laws.{most-yes}
 use Rattle.engine_unsupported.specs.Rows.{RuleAt, RulesAt}
 use Rattle.engine_unsupported.specs.declared.Head.{Head}
 use Rattle.engine_notes.specs.declared.Part.the-variants as part
-use Rattle.engine_notes.specs.Listing.{After, after, Listing, _⨾_, read, stay, skipL, timesL, insertG, triggerL, predicateL, partsL}
-use Rattle.engine_unsupported.specs.Listing.{sourceNote, headOf, sourceL, unknownL, waitL, branchL, effectL, actionL, actionsL, ownL, ruleL, rulesL, unsupportedL}
+use Rattle.engine_notes.specs.Listing.{After, after, Listing, _⨾_, read, stay, skipM, timesM, insertM, triggerM, predicateM, partsM}
+use Rattle.engine_unsupported.specs.Listing.{sourceNote, headOf, sourceM, unknownM, waitM, branchM, effectM, actionM, actionsM, ownM, ruleM, rulesM, unsupportedM}
 use Rattle.engine_notes.proofs.Laws as notes
 use Rattle.engine_notes.proofs.Adding.{addAll, add-both, each-both}
 use Rattle.engine_notes.proofs.Agrees.{by-got, next, skips, after-same, Adds, Renders, nothing, position-text, plain-note, id-note, place-wide, trigger-agrees, predicate-agrees, notes-agree, triggers-agree, predicates-agree}
@@ -78,34 +78,34 @@ module _ (f : List ℕ) (ts : List Text) (size : length f ≤ 32768) (few : leng
       ∙ read-got f (c .next) u8 _ _ (ap (u8 f) (z .1) ∙ b)
       ∙ ap (λ (s : Source). record { line = s .line; column = s .column; kind = k; next = w }) (z .0)
 
-  trigger-plain : Adds f (trigger ts) of-trigger (triggerL 65535)
+  trigger-plain : Adds f (trigger ts) of-trigger (triggerM 65535)
   trigger-plain p l t q e =
       trigger-agrees f ts size few counted-as text-at 65535 same-text (plain-note f ts size few counted-as text-at) p l t q e
       ∙ after-same q (ap (λ (y : List Text). addAll y l) (each-same (of-trigger t)))
 
-  predicate-plain : Adds f (predicate ts) of-predicate (predicateL 65535)
+  predicate-plain : Adds f (predicate ts) of-predicate (predicateM 65535)
   predicate-plain p l a q e =
       predicate-agrees f ts size few counted-as text-at 65535 same-text (plain-note f ts size few counted-as text-at) p l a q e
       ∙ after-same q (ap (λ (y : List Text). addAll y l) (each-same (of-predicate a)))
 
   wait-agrees : (p : ℕ) (l : List Text) {t : Trigger} {o q : ℕ} → trigger ts f p ≡ got t o → Wide 5 f o q →
-      waitL f p l ≡ after q (addAll (of-trigger t) l)
+      waitM f p l ≡ after q (addAll (of-trigger t) l)
   wait-agrees p l {t} {o} {q} a w =
       laws.wait-is f p l
-      ∙ next f p l (triggerL 65535) (skipL 5) (trigger-plain p l t o a)
+      ∙ next f p l (triggerM 65535) (skipM 5) (trigger-plain p l t o a)
       ∙ skips f o (addAll (of-trigger t) l) 5 w
 
   unknown-agrees : (s : Source) →
-      Adds f (place ts) (λ t. (placed s ++ text ": " ++ t) ∷ []) (unknownL (s .line) (s .column))
-  unfolding unknownL sourceL addAll
+      Adds f (place ts) (λ t. (placed s ++ text ": " ++ t) ∷ []) (unknownM (s .line) (s .column))
+  unfolding unknownM sourceM addAll
   unknown-agrees s p l t q e =
       let a = place-found ts e in
-      by-got f p l u16 (sourceL (s .line) (s .column)) (a .is-place)
-      ∙ after-same q (ap (λ (y : Text). insertG y l) (source-note s (a .at) (a .is-in) ∙ ap (λ (y : Text). placed s ++ text ": " ++ y) (sym (a .is-text))))
+      by-got f p l u16 (sourceM (s .line) (s .column)) (a .is-place)
+      ∙ after-same q (ap (λ (y : Text). insertM y l) (source-note s (a .at) (a .is-in) ∙ ap (λ (y : Text). placed s ++ text ": " ++ y) (sym (a .is-text))))
 
   module _ (inner : Reader Actions) (lst : Listing) (ih : Adds f inner action-reasons lst) where
-    branches-agree : (i : ℕ) → Adds f (branches ts inner i) branch-reasons (timesL i (branchL lst))
-    unfolding branches timesL stay branch-reasons addAll
+    branches-agree : (i : ℕ) → Adds f (branches ts inner i) branch-reasons (timesM i (branchM lst))
+    unfolding branches timesM stay branch-reasons addAll
     branches-agree zero p l b q e =
         let z = given _ _ _ e in
         ap (λ (x : ℕ). after x l) (z .1) ∙ ap (λ (y : Branches). after q (addAll (branch-reasons y) l)) (z .0)
@@ -116,8 +116,8 @@ module _ (f : List ℕ) (ts : List Text) (size : length f ≤ 32768) (few : leng
         let z = given _ _ _ (r .rest) in
         let ps = flat of-predicate (c .value) in
         let as′ = action-reasons (a .value) in
-        next f p l (branchL lst) (timesL i (branchL lst)) {t = addAll (ps ++ as′) l}
-        (next f p l (partsL part.Predicate 65535) lst (predicates-agree f ts size few counted-as text-at 65535 same-text (plain-note f ts size few counted-as text-at) p l (c .value) (c .next) (c .first))
+        next f p l (branchM lst) (timesM i (branchM lst)) {t = addAll (ps ++ as′) l}
+        (next f p l (partsM part.Predicate 65535) lst (predicates-agree f ts size few counted-as text-at 65535 same-text (plain-note f ts size few counted-as text-at) p l (c .value) (c .next) (c .first))
         ∙ ih (c .next) (addAll (each same-text ps) l) (a .value) (a .next) (a .first)
         ∙ after-same (a .next) (ap (λ (y : List Text). addAll as′ (addAll y l)) (each-same ps) ∙ add-both ps as′ l))
         ∙ branches-agree i (a .next) (addAll (ps ++ as′) l) (r .value) q (r .first ∙ ap (got (r .value)) (z .1))
@@ -125,7 +125,7 @@ module _ (f : List ℕ) (ts : List Text) (size : length f ≤ 32768) (few : leng
         ∙ ap (λ (y : Branches). after q (addAll (branch-reasons y) l)) (z .0)
 
     action-agrees : (p : ℕ) (l : List Text) {s : Source} {e : Effect} {o q : ℕ} → source f p ≡ got s o →
-        effect ts inner f o ≡ got e q → actionL lst f p l ≡ after q (addAll (effect-reasons e s) l)
+        effect ts inner f o ≡ got e q → actionM lst f p l ≡ after q (addAll (effect-reasons e s) l)
     unfolding effect effect-reasons addAll
     action-agrees p l {s} {e} {o} {q} a b =
         laws.action-is f p l lst (h (k .kind)) (sym (head-found p a (k .is-kind)))
@@ -144,11 +144,11 @@ module _ (f : List ℕ) (ts : List Text) (size : length f ≤ 32768) (few : leng
         same z = ap (λ (y : Effect). after q (addAll (effect-reasons y s) l)) z
 
         four : (n : ℕ) → (n ≡ 4 → ⊥) → (n ≡ 3 → ⊥) → (n ≡ 5 → ⊥) → (n ≡ 6 → ⊥) → (n ≡ 1 → ⊥) → Wide 4 f w q →
-            effectL lst (h n) f w l ≡ after q l
+            effectM lst (h n) f w l ≡ after q l
         four n a b c d e v = laws.effect-simple f w l (h n) lst a ∙ laws.simple-else f w l (h n) b c d e ∙ skips f w l 4 v
 
         cases : (n : ℕ) → getD (effect-kinds ts inner) n refuse f w ≡ got e q →
-            effectL lst (h n) f w l ≡ after q (addAll (effect-reasons e s) l)
+            effectM lst (h n) f w l ≡ after q (addAll (effect-reasons e s) l)
         cases zero g =
             let x = bound (place ts) _ g in
             let v = bound (place ts) _ (x .rest) in
@@ -182,8 +182,8 @@ module _ (f : List ℕ) (ts : List Text) (size : length f ≤ 32768) (few : leng
             let a = bound inner _ (b .rest) in
             let z = given _ _ _ (a .rest) in
             laws.effect-choice f w l (h 4) lst refl
-            ∙ by-got f w l u16 (λ c. timesL c (branchL lst) ⨾ lst) (c .first)
-            ∙ next f (c .next) l (timesL (c .value) (branchL lst)) lst (branches-agree (c .value) (c .next) l (b .value) (b .next) (b .first))
+            ∙ by-got f w l u16 (λ c. timesM c (branchM lst) ⨾ lst) (c .first)
+            ∙ next f (c .next) l (timesM (c .value) (branchM lst)) lst (branches-agree (c .value) (c .next) l (b .value) (b .next) (b .first))
             ∙ ih (b .next) (addAll (branch-reasons (b .value)) l) (a .value) q (a .first ∙ ap (got (a .value)) (z .1))
             ∙ after-same q (add-both (branch-reasons (b .value)) (action-reasons (a .value)) l)
             ∙ same (z .0)
@@ -205,8 +205,8 @@ module _ (f : List ℕ) (ts : List Text) (size : length f ≤ 32768) (few : leng
             ∙ same (z .0)
         cases (suc (suc (suc (suc (suc (suc (suc n))))))) g = absurd (found.refused f w g)
 
-    list-agrees : (i : ℕ) → Adds f (actions-of ts inner i) action-reasons (timesL i (actionL lst))
-    unfolding actions-of timesL stay action-reasons addAll
+    list-agrees : (i : ℕ) → Adds f (actions-of ts inner i) action-reasons (timesM i (actionM lst))
+    unfolding actions-of timesM stay action-reasons addAll
     list-agrees zero p l a q e =
         let z = given _ _ _ e in
         ap (λ (x : ℕ). after x l) (z .1) ∙ ap (λ (y : Actions). after q (addAll (action-reasons y) l)) (z .0)
@@ -215,18 +215,18 @@ module _ (f : List ℕ) (ts : List Text) (size : length f ≤ 32768) (few : leng
         let x = bound (effect ts inner) _ (c .rest) in
         let r = bound (actions-of ts inner i) _ (x .rest) in
         let z = given _ _ _ (r .rest) in
-        next f p l (actionL lst) (timesL i (actionL lst)) (action-agrees p l (c .first) (x .first))
+        next f p l (actionM lst) (timesM i (actionM lst)) (action-agrees p l (c .first) (x .first))
         ∙ list-agrees i (x .next) (addAll (effect-reasons (x .value) (c .value)) l) (r .value) q (r .first ∙ ap (got (r .value)) (z .1))
         ∙ after-same q (add-both (effect-reasons (x .value) (c .value)) (action-reasons (r .value)) l)
         ∙ ap (λ (y : Actions). after q (addAll (action-reasons y) l)) (z .0)
 
-  actions-agree : (left : ℕ) → Adds f (actions ts left) action-reasons (actionsL left)
-  unfolding actions actionsL
+  actions-agree : (left : ℕ) → Adds f (actions ts left) action-reasons (actionsM left)
+  unfolding actions actionsM
   actions-agree zero p l a q e = absurd (found.refused f p e)
   actions-agree (suc left) p l a q e =
       let c = bound u16 (actions-of ts (actions ts left)) e in
-      by-got f p l u16 (λ c. timesL c (actionL (actionsL left))) (c .first)
-      ∙ list-agrees (actions ts left) (actionsL left) (actions-agree left) (c .value) (c .next) l a q (c .rest)
+      by-got f p l u16 (λ c. timesM c (actionM (actionsM left))) (c .first)
+      ∙ list-agrees (actions ts left) (actionsM left) (actions-agree left) (c .value) (c .next) l a q (c .rest)
 
   -- ---- automations
   abbrev own-reasons : Automation → List Text
@@ -234,8 +234,8 @@ module _ (f : List ℕ) (ts : List Text) (size : length f ≤ 32768) (few : leng
 
   module _ (x : List ℕ) where
     own-agrees : (i : ℕ) (r : Automation) (l : List Text) → RuleAt f x ts i r →
-        ownL f x i l ≡ addAll (own-reasons r) l
-    unfolding ownL
+        ownM f x i l ≡ addAll (own-reasons r) l
+    unfolding ownM
     own-agrees i r l a =
         let v = word x i 0 in
         let g : Text → Text = λ t. r .id ++ text ": " ++ t in
@@ -245,28 +245,28 @@ module _ (f : List ℕ) (ts : List Text) (size : length f ≤ 32768) (few : leng
         let c = flat of-predicate (r .conditions) in
         let l₁ = addAll (each g n) l in
         let l₂ = addAll (each g t) l₁ in
-        ap (λ (y : After). partsL part.Predicate v f (word x i 4) (partsL part.Trigger v f (word x i 3) (y .list) .list) .list) (notes-agree f ts size few counted-as text-at v g is (word x i 7) l n (a .notes .0) (a .notes .1))
-        ∙ ap (λ (y : After). partsL part.Predicate v f (word x i 4) (y .list) .list) (triggers-agree f ts size few counted-as text-at v g is (word x i 3) l₁ (r .triggers) (a .triggers .0) (a .triggers .1))
+        ap (λ (y : After). partsM part.Predicate v f (word x i 4) (partsM part.Trigger v f (word x i 3) (y .list) .list) .list) (notes-agree f ts size few counted-as text-at v g is (word x i 7) l n (a .notes .0) (a .notes .1))
+        ∙ ap (λ (y : After). partsM part.Predicate v f (word x i 4) (y .list) .list) (triggers-agree f ts size few counted-as text-at v g is (word x i 3) l₁ (r .triggers) (a .triggers .0) (a .triggers .1))
         ∙ ap (λ (y : After). y .list) (predicates-agree f ts size few counted-as text-at v g is (word x i 4) l₂ (r .conditions) (a .conditions .0) (a .conditions .1))
         ∙ ap (addAll (each g c)) (add-both (each g n) (each g t) l ∙ ap (λ (y : List Text). addAll y l) (each-both g n t))
         ∙ add-both (each g (n ++ t)) (each g c) l
         ∙ ap (λ (y : List Text). addAll y l) (each-both g (n ++ t) c)
 
-    rule-agrees : (i : ℕ) (r : Automation) (l : List Text) → RuleAt f x ts i r → ruleL f x i l ≡ addAll (rule-reasons r) l
-    unfolding ruleL rule-reasons
+    rule-agrees : (i : ℕ) (r : Automation) (l : List Text) → RuleAt f x ts i r → ruleM f x i l ≡ addAll (rule-reasons r) l
+    unfolding ruleM rule-reasons
     rule-agrees i r l a =
-        ap (λ (y : List Text). actionsL 18 f (word x i 5) y .list) (own-agrees i r l a)
+        ap (λ (y : List Text). actionsM 18 f (word x i 5) y .list) (own-agrees i r l a)
         ∙ ap (λ (y : After). y .list) (actions-agree 18 (word x i 5) (addAll (own-reasons r) l) (r .actions) (a .actions .0) (a .actions .1))
         ∙ add-both (own-reasons r) (action-reasons (r .actions)) l
 
     rules-agree : (rs : List Automation) (i : ℕ) (l : List Text) →
         ((d : Automation) (j : ℕ) → j < length rs → RuleAt f x ts (i + j) (getD rs j d)) →
-        rulesL f x (length rs) i l ≡ addAll (flat rule-reasons rs) l
-    unfolding rulesL flat addAll
+        rulesM f x (length rs) i l ≡ addAll (flat rule-reasons rs) l
+    unfolding rulesM flat addAll
     rules-agree [] i l a = refl
     rules-agree (r ∷ rs) i l a =
         let z : i + 0 ≡ i = omega arith in
-        ap (rulesL f x (length rs) (i + 1)) (rule-agrees i r l (subst (λ (k : ℕ). RuleAt f x ts k r) z (a r 0 (omega arith))))
+        ap (rulesM f x (length rs) (i + 1)) (rule-agrees i r l (subst (λ (k : ℕ). RuleAt f x ts k r) z (a r 0 (omega arith))))
         ∙ rules-agree rs (i + 1) (addAll (rule-reasons r) l) (λ d j h. let s : i + suc j ≡ i + 1 + j = omega arith in subst (λ (k : ℕ). RuleAt f x ts k (getD rs j d)) s (a d (suc j) (omega arith)))
         ∙ add-both (rule-reasons r) (flat rule-reasons rs) l
 
@@ -274,18 +274,18 @@ module _ (f : List ℕ) (ts : List Text) (size : length f ≤ 32768) (few : leng
 
 -- with at most 64 notes the area's place suffices, and the code's list is the definition's
 pub unsupported-agrees : {f x : List ℕ} {ts : List Text} (m : Model) → RulesAt f x ts (m .rules) →
-    length (notes-of m) ≤ 64 → unsupportedL f x ≡ unsupported (m .rules)
-unfolding unsupportedL rules unsupported notes-of
+    length (notes-of m) ≤ 64 → unsupportedM f x ≡ unsupported (m .rules)
+unfolding unsupportedM rules unsupported notes-of
 unsupported-agrees {f} {x} {ts} m a h =
     let rs = m .rules in
-    ap (λ (n : ℕ). rulesL f x n 0 []) (ap (λ (n : ℕ). atMost n 32) (a .automations) ∙ sym (most-yes (length rs) 32 (a .few-automations)))
+    ap (λ (n : ℕ). rulesM f x n 0 []) (ap (λ (n : ℕ). atMost n 32) (a .automations) ∙ sym (most-yes (length rs) 32 (a .few-automations)))
     ∙ rules-agree f ts (a .size) (a .few-texts) (a .counted) (a .text-at) x rs 0 [] (λ d j k. let z : j ≡ 0 + j = omega arith in subst (λ (n : ℕ). RuleAt f x ts n (getD rs j d)) z (a .rows d j k))
     ∙ add-sorted (flat rule-reasons rs) (omega (arith, many-rules rs, length-append (flat of-invariant (m .scenario .invariants)) (flat of-rule rs)))
 
 -- the notes of one automation
 pub alone-agrees : {f x : List ℕ} {ts : List Text} → length f ≤ 32768 → length ts ≤ 65535 → text-count f ≡ length ts →
     ((k : ℕ) → k < length ts → textAt f (startFrom f 6 k) ≡ getD ts k []) →
-    (i : ℕ) (r : Automation) → RuleAt f x ts i r → length (of-rule r) ≤ 64 → ruleL f x i [] ≡ unsupported (r ∷ [])
+    (i : ℕ) (r : Automation) → RuleAt f x ts i r → length (of-rule r) ≤ 64 → ruleM f x i [] ≡ unsupported (r ∷ [])
 unfolding unsupported flat
 alone-agrees {f} {x} {ts} size few counted-as text-at i r a h =
     rule-agrees f ts size few counted-as text-at x i r [] a

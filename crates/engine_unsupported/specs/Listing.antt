@@ -6,14 +6,14 @@ use mathlib.Core.List.{List, []}
 use lib.Dec.{eqb}
 use Rattle.texts.specs.Lists.{if_then_else_}
 use Rattle.texts.specs.Texts.{Text}
-use Rattle.model.specs.File.{u8, u16, u32}
+use Rattle.model_spec.specs.File.{u8, u16, u32}
 use Rattle.reasons.specs.Kinds as kinds
 use Rattle.reasons.specs.declared.Reason.{Reason}
 use Rattle.reasons.specs.Reasons.{render}
-use Rattle.engine_reads.specs.Reads.{word, rules, textPosition}
+use Rattle.engine_fields.specs.Reads.{word, rules, textPosition}
 use Rattle.engine_unsupported.specs.declared.Head.{Head}
 use Rattle.engine_notes.specs.declared.Part.the-variants as part
-use Rattle.engine_notes.specs.Listing.{after, Listing, _⨾_, read, by, stay, skipL, timesL, insertG, triggerL, predicateL, partsL}
+use Rattle.engine_notes.specs.Listing.{after, Listing, _⨾_, read, by, stay, skipM, timesM, insertM, triggerM, predicateM, partsM}
 
 -- ---- actions
 
@@ -28,57 +28,57 @@ headOf f p =
 unfoldable pub sourceNote : List ℕ → (line column note : ℕ) → Reason
 sourceNote f l c m = record { kind = kinds.source-note; first = 4294967295; second = textPosition f m; line = l; column = c }
 
-unfoldable pub sourceL : (line column note : ℕ) → Listing
-sourceL l c m f p t = after p (insertG (render f (sourceNote f l c m)) t)
+unfoldable pub sourceM : (line column note : ℕ) → Listing
+sourceM l c m f p t = after p (insertM (render f (sourceNote f l c m)) t)
 
-unfoldable pub unknownL : (line column : ℕ) → Listing
-unknownL l c = by u16 (sourceL l c)
+unfoldable pub unknownM : (line column : ℕ) → Listing
+unknownM l c = by u16 (sourceM l c)
 
-unfoldable pub waitL : Listing
-waitL = triggerL 65535 ⨾ skipL 5
+unfoldable pub waitM : Listing
+waitM = triggerM 65535 ⨾ skipM 5
 
 -- an effect that holds no list
-unfoldable pub simpleL : Head → Listing
-simpleL h =
-    if eqb (h .kind) 3 then predicateL 65535
-    else if eqb (h .kind) 5 then waitL
-    else if eqb (h .kind) 6 then unknownL (h .line) (h .column)
-    else if eqb (h .kind) 1 then skipL 2
-    else skipL 4
+unfoldable pub simpleM : Head → Listing
+simpleM h =
+    if eqb (h .kind) 3 then predicateM 65535
+    else if eqb (h .kind) 5 then waitM
+    else if eqb (h .kind) 6 then unknownM (h .line) (h .column)
+    else if eqb (h .kind) 1 then skipM 2
+    else skipM 4
 
-abbrev pub branchL : Listing → Listing
-branchL inner = partsL part.Predicate 65535 ⨾ inner
+abbrev pub branchM : Listing → Listing
+branchM inner = partsM part.Predicate 65535 ⨾ inner
 
-abbrev pub choiceL : Listing → Listing
-choiceL inner = by u16 (λ c. timesL c (branchL inner) ⨾ inner)
+abbrev pub choiceM : Listing → Listing
+choiceM inner = by u16 (λ c. timesM c (branchM inner) ⨾ inner)
 
-unfoldable pub effectL : Listing → Head → Listing
-effectL inner h = if eqb (h .kind) 4 then choiceL inner else simpleL h
+unfoldable pub effectM : Listing → Head → Listing
+effectM inner h = if eqb (h .kind) 4 then choiceM inner else simpleM h
 
-unfoldable pub actionL : Listing → Listing
-actionL inner f p = effectL inner (headOf f p) f (headOf f p .next)
+unfoldable pub actionM : Listing → Listing
+actionM inner f p = effectM inner (headOf f p) f (headOf f p .next)
 
 -- a list of actions in which lists stand at most `left` deep, itself counted
-unfoldable pub actionsL : (left : ℕ) → Listing
-actionsL zero = stay
-actionsL (suc left) = by u16 (λ c. timesL c (actionL (actionsL left)))
+unfoldable pub actionsM : (left : ℕ) → Listing
+actionsM zero = stay
+actionsM (suc left) = by u16 (λ c. timesM c (actionM (actionsM left)))
 
 -- ---- automations, rows of the table x
 
 -- the automation's own notes and those of its triggers and conditions
-unfoldable pub ownL : (f x : List ℕ) → (i : ℕ) → List Text → List Text
-ownL f x i l =
-    let a = partsL part.Note (word x i 0) f (word x i 7) l .list in
-    let b = partsL part.Trigger (word x i 0) f (word x i 3) a .list in
-    partsL part.Predicate (word x i 0) f (word x i 4) b .list
+unfoldable pub ownM : (f x : List ℕ) → (i : ℕ) → List Text → List Text
+ownM f x i l =
+    let a = partsM part.Note (word x i 0) f (word x i 7) l .list in
+    let b = partsM part.Trigger (word x i 0) f (word x i 3) a .list in
+    partsM part.Predicate (word x i 0) f (word x i 4) b .list
 
-unfoldable pub ruleL : (f x : List ℕ) → (i : ℕ) → List Text → List Text
-ruleL f x i l = actionsL 18 f (word x i 5) (ownL f x i l) .list
+unfoldable pub ruleM : (f x : List ℕ) → (i : ℕ) → List Text → List Text
+ruleM f x i l = actionsM 18 f (word x i 5) (ownM f x i l) .list
 
 -- as many as `left` from the i-th on
-unfoldable pub rulesL : (f x : List ℕ) → (left i : ℕ) → List Text → List Text
-rulesL f x zero i l = l
-rulesL f x (suc left) i l = rulesL f x left (i + 1) (ruleL f x i l)
+unfoldable pub rulesM : (f x : List ℕ) → (left i : ℕ) → List Text → List Text
+rulesM f x zero i l = l
+rulesM f x (suc left) i l = rulesM f x left (i + 1) (ruleM f x i l)
 
-unfoldable pub unsupportedL : (f x : List ℕ) → List Text
-unsupportedL f x = rulesL f x (rules x) 0 []
+unfoldable pub unsupportedM : (f x : List ℕ) → List Text
+unsupportedM f x = rulesM f x (rules x) 0 []

@@ -5,11 +5,11 @@ use mathlib.Core.List.{List, []}
 use lib.ListN.{length, getD}
 use Rattle.texts.specs.Texts.{Text}
 use Rattle.texts.specs.Places.{textAt, startFrom}
-use Rattle.model.specs.Model.{Automation}
-use Rattle.model.specs.File.{counted, place, predicate, trigger, actions}
+use Rattle.model_spec.specs.Model.{Automation}
+use Rattle.model_spec.specs.File.{counted, place, predicate, trigger, actions}
 use Rattle.model_parts.specs.Stand.{Reads}
 use Rattle.reasons.specs.Readable.{text-count}
-use Rattle.engine_reads.specs.Reads.{word}
+use Rattle.engine_fields.specs.Reads.{word}
 
 -- the i-th row of the table x is the automation r
 pub record RuleAt (f x : List ℕ) (ts : List Text) (i : ℕ) (r : Automation) : Type 0 where

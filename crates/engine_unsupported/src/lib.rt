@@ -9,7 +9,7 @@ ghost use Prim.Native.Nat.{ℕ, _≤_, _<_};
 ghost use lib.ListN.{length, getD};
 ghost use Rattle.reasons.specs.Lists.{Holds};
 ghost use Rattle.engine_notes.specs.Listing.{Lists, Makes};
-ghost use Rattle.engine_unsupported.specs.Listing.{sourceNote, headOf, unknownL, waitL, simpleL, actionL, choiceL, actionsL, ownL, ruleL, unsupportedL};
+ghost use Rattle.engine_unsupported.specs.Listing.{sourceNote, headOf, unknownM, waitM, simpleM, actionM, choiceM, actionsM, ownM, ruleM, unsupportedM};
 
 // What stands before an action's effect.
 pub struct Head {
@@ -65,7 +65,7 @@ fn source_note(f: &[u8], line: u32, column: u32, note: u32) -> Reason
     Reason {
         kind: reasons::SOURCE_NOTE,
         first: reasons::ABSENT,
-        second: engine_reads::text_position(f, note),
+        second: engine_fields::text_position(f, note),
         line,
         column,
     }
@@ -74,7 +74,7 @@ fn source_note(f: &[u8], line: u32, column: u32, note: u32) -> Reason
 // The note of an unknown effect stands behind its source.
 fn unknown_note(f: &[u8], u: &mut [u32], line: u32, column: u32, at: usize, n: usize) -> Noted
     requires { ⌜ 1500 ≤ length (now u) ⌝ }
-    ensures { λ r. ⌜ Lists (unknownL line column) (now (f .entry)) at n (now (u .entry)) r (now (u .exit)) ⌝ }
+    ensures { λ r. ⌜ Lists (unknownM line column) (now (f .entry)) at n (now (u .entry)) r (now (u .exit)) ⌝ }
 {
     let x = model_walk::u16_at(f, at);
     let Num::Is(note, next) = x else {
@@ -87,7 +87,7 @@ fn unknown_note(f: &[u8], u: &mut [u32], line: u32, column: u32, at: usize, n: u
 
 fn wait_note(f: &[u8], u: &mut [u32], at: usize, n: usize) -> Noted
     requires { ⌜ 1500 ≤ length (now u) ⌝ }
-    ensures { λ r. ⌜ Lists waitL (now (f .entry)) at n (now (u .entry)) r (now (u .exit)) ⌝ }
+    ensures { λ r. ⌜ Lists waitM (now (f .entry)) at n (now (u .entry)) r (now (u .exit)) ⌝ }
 {
     let d = engine_notes::trigger_note(f, u, 65535, at, n);
     let k = d.count;
@@ -99,7 +99,7 @@ fn wait_note(f: &[u8], u: &mut [u32], at: usize, n: usize) -> Noted
 // An effect that holds no list.
 fn simple_note(f: &[u8], u: &mut [u32], h: Head, n: usize) -> Noted
     requires { ⌜ 1500 ≤ length (now u) ⌝ }
-    ensures { λ r. ⌜ Lists (simpleL h) (now (f .entry)) (h .next) n (now (u .entry)) r (now (u .exit)) ⌝ }
+    ensures { λ r. ⌜ Lists (simpleM h) (now (f .entry)) (h .next) n (now (u .entry)) r (now (u .exit)) ⌝ }
 {
     let kind = h.kind;
     let at = h.next;
@@ -123,7 +123,7 @@ fn simple_note(f: &[u8], u: &mut [u32], h: Head, n: usize) -> Noted
 // A list of actions in which lists stand at most `left` deep, itself counted.
 fn actions_notes(f: &[u8], u: &mut [u32], left: usize, at: usize, n: usize) -> Noted
     requires { ⌜ 1500 ≤ length (now u) ⌝ }
-    ensures { λ r. ⌜ Lists (actionsL left) (now (f .entry)) at n (now (u .entry)) r (now (u .exit)) ⌝ }
+    ensures { λ r. ⌜ Lists (actionsM left) (now (f .entry)) at n (now (u .entry)) r (now (u .exit)) ⌝ }
 {
     if left == 0 {
         return Noted { count: n, next: at };
@@ -147,7 +147,7 @@ fn actions_notes(f: &[u8], u: &mut [u32], left: usize, at: usize, n: usize) -> N
 // An action whose lists stand at most `left` deep.
 fn action_notes(f: &[u8], u: &mut [u32], left: usize, at: usize, n: usize) -> Noted
     requires { ⌜ 1500 ≤ length (now u) ⌝ }
-    ensures { λ r. ⌜ Lists (actionL (actionsL left)) (now (f .entry)) at n (now (u .entry)) r (now (u .exit)) ⌝ }
+    ensures { λ r. ⌜ Lists (actionM (actionsM left)) (now (f .entry)) at n (now (u .entry)) r (now (u .exit)) ⌝ }
 {
     let h = head_at(f, at);
     let kind = h.kind;
@@ -161,7 +161,7 @@ fn action_notes(f: &[u8], u: &mut [u32], left: usize, at: usize, n: usize) -> No
 // The branches of a choice and its default; its lists stand at most `left` deep.
 fn choice_notes(f: &[u8], u: &mut [u32], left: usize, at: usize, n: usize) -> Noted
     requires { ⌜ 1500 ≤ length (now u) ⌝ }
-    ensures { λ r. ⌜ Lists (choiceL (actionsL left)) (now (f .entry)) at n (now (u .entry)) r (now (u .exit)) ⌝ }
+    ensures { λ r. ⌜ Lists (choiceM (actionsM left)) (now (f .entry)) at n (now (u .entry)) r (now (u .exit)) ⌝ }
 {
     let x = model_walk::u16_at(f, at);
     let Num::Is(count, start) = x else {
@@ -185,12 +185,12 @@ fn choice_notes(f: &[u8], u: &mut [u32], left: usize, at: usize, n: usize) -> No
 // The notes of the i-th automation, of its triggers and of its conditions: they stand behind its identifier.
 fn own_notes(f: &[u8], x: &[u32; 436], u: &mut [u32], i: usize, n: usize) -> usize
     requires { ⌜ (1500 ≤ length (now u)) × (i < 32) ⌝ }
-    ensures { λ k. ⌜ Makes (ownL (now (f .entry)) (now (x .entry)) i) (now (f .entry)) n (now (u .entry)) k (now (u .exit)) ⌝ }
+    ensures { λ k. ⌜ Makes (ownM (now (f .entry)) (now (x .entry)) i) (now (f .entry)) n (now (u .entry)) k (now (u .exit)) ⌝ }
 {
-    let id = engine_reads::rule_word(x, i, 0);
-    let notes = engine_reads::rule_word(x, i, 7) as usize;
-    let triggers = engine_reads::rule_word(x, i, 3) as usize;
-    let conditions = engine_reads::rule_word(x, i, 4) as usize;
+    let id = engine_fields::rule_word(x, i, 0);
+    let notes = engine_fields::rule_word(x, i, 7) as usize;
+    let triggers = engine_fields::rule_word(x, i, 3) as usize;
+    let conditions = engine_fields::rule_word(x, i, 4) as usize;
     let a = engine_notes::part_notes(f, u, Part::Note, id, notes, n);
     let b = engine_notes::part_notes(f, u, Part::Trigger, id, triggers, a.count);
     let c = engine_notes::part_notes(f, u, Part::Predicate, id, conditions, b.count);
@@ -200,9 +200,9 @@ fn own_notes(f: &[u8], x: &[u32; 436], u: &mut [u32], i: usize, n: usize) -> usi
 // All notes of the i-th automation.
 pub fn rule_notes(f: &[u8], x: &[u32; 436], u: &mut [u32], i: usize, n: usize) -> usize
     requires { ⌜ (1500 ≤ length (now u)) × (i < 32) ⌝ }
-    ensures { λ k. ⌜ Makes (ruleL (now (f .entry)) (now (x .entry)) i) (now (f .entry)) n (now (u .entry)) k (now (u .exit)) ⌝ }
+    ensures { λ k. ⌜ Makes (ruleM (now (f .entry)) (now (x .entry)) i) (now (f .entry)) n (now (u .entry)) k (now (u .exit)) ⌝ }
 {
-    let actions = engine_reads::rule_word(x, i, 5) as usize;
+    let actions = engine_fields::rule_word(x, i, 5) as usize;
     let k = own_notes(f, x, u, i, n);
     let d = actions_notes(f, u, 18, actions, k);
     d.count
@@ -212,9 +212,9 @@ pub fn rule_notes(f: &[u8], x: &[u32; 436], u: &mut [u32], i: usize, n: usize) -
 // with zeros.
 pub fn unsupported(f: &[u8], x: &[u32; 436], u: &mut [u32]) -> usize
     requires { ⌜ (1500 ≤ length (now u)) × ((i : ℕ) → getD (now u) i 0 ≡ 0) ⌝ }
-    ensures { λ k. ⌜ Holds (now (f .entry)) (unsupportedL (now (f .entry)) (now (x .entry))) k (now (u .exit)) ⌝ }
+    ensures { λ k. ⌜ Holds (now (f .entry)) (unsupportedM (now (f .entry)) (now (x .entry))) k (now (u .exit)) ⌝ }
 {
-    let rules = engine_reads::at_most(x[1], 32);
+    let rules = engine_fields::at_most(x[1], 32);
     let mut k: usize = 0;
     let mut i: usize = 0;
     while i < rules {

@@ -6,10 +6,10 @@ use mathlib.Core.List.{List}
 use lib.Dec.{ltb, leb, eqb}
 use lib.ListN.{getD}
 use borrow.Author.Tests.{lt-ltb, le-ltb, le-leb, lt-leb}
-use Rattle.model.specs.Model.{Moment}
-use Rattle.engine.specs.Truth.{moment-after, marked, day-before, is-open}
-use Rattle.engine_reads.specs.Reads.{four}
-use Rattle.engine_window.specs.Window.{startW, openW}
+use Rattle.model_spec.specs.Model.{Moment}
+use Rattle.engine_spec.specs.Truth.{moment-after, marked, day-before, is-open}
+use Rattle.engine_fields.specs.Reads.{four}
+use Rattle.engine_window.specs.Window.{startM, openM}
 
 pub marks-is : (d n : ℕ) → eqb (d / 2 ^ n % 2) 1 ≡ marked d n
 unfolding marked
@@ -91,9 +91,9 @@ module _ (w s n : ℕ) where
   second-is = refl
 
 pub open-is : (f x : List ℕ) (n at d b e w s : ℕ) (r : Bool) → d ≡ getD f (at + 1) 0 → b ≡ four f (at + 2) → e ≡ four f (at + 6)
-    → w ≡ moment-after (startW x) n .weekday → s ≡ moment-after (startW x) n .second
-    → r ≡ is-open d b e (record { weekday = w; second = s }) → r ≡ openW f x n at
-unfolding openW
+    → w ≡ moment-after (startM x) n .weekday → s ≡ moment-after (startM x) n .second
+    → r ≡ is-open d b e (record { weekday = w; second = s }) → r ≡ openM f x n at
+unfolding openM
 open-is f x n at d b e w s r ed eb ee ew es er =
     er
     ∙ (λ i. is-open (ed i) (eb i) (ee i) (record { weekday = ew i; second = es i }))

@@ -3,14 +3,14 @@ use Prim.Native.Nat.{ℕ, _+_}
 use mathlib.Core.Bool.{Bool}
 use mathlib.Core.List.{List}
 use lib.ListN.{getD}
-use Rattle.model.specs.Model.{Moment}
-use Rattle.engine.specs.Truth.{moment-after, is-open}
-use Rattle.engine_reads.specs.Reads.{four}
+use Rattle.model_spec.specs.Model.{Moment}
+use Rattle.engine_spec.specs.Truth.{moment-after, is-open}
+use Rattle.engine_fields.specs.Reads.{four}
 
 -- the moment of second 0
-abbrev pub startW : List ℕ → Moment
-startW x = record { weekday = getD x 10 0; second = getD x 11 0 }
+abbrev pub startM : List ℕ → Moment
+startM x = record { weekday = getD x 10 0; second = getD x 11 0 }
 
 -- its days, start and end stand behind its kind
-unfoldable pub openW : (f x : List ℕ) → (second at : ℕ) → Bool
-openW f x n at = is-open (getD f (at + 1) 0) (four f (at + 2)) (four f (at + 6)) (moment-after (startW x) n)
+unfoldable pub openM : (f x : List ℕ) → (second at : ℕ) → Bool
+openM f x n at = is-open (getD f (at + 1) 0) (four f (at + 2)) (four f (at + 6)) (moment-after (startM x) n)

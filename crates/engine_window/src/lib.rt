@@ -1,12 +1,12 @@
 // Windows of the day: whether the window at a position of the file is open at a second of the simulation.
-use engine_reads::byte_at;
-use engine_reads::four_at;
+use engine_fields::byte_at;
+use engine_fields::four_at;
 ghost use mathlib.Core.Path.{_≡_};
 ghost use Prim.Native.Nat.{_<_};
 ghost use mathlib.Core.Bool.{_&&_};
 ghost use lib.Dec.{ltb};
-ghost use Rattle.engine.specs.Truth.{marked, day-before, is-open, moment-after};
-ghost use Rattle.engine_window.specs.Window.{openW};
+ghost use Rattle.engine_spec.specs.Truth.{marked, day-before, is-open, moment-after};
+ghost use Rattle.engine_window.specs.Window.{openM};
 
 // Whether bit n of the days is set for weekday n.
 fn marks(days: u32, weekday: u32) -> bool
@@ -67,7 +67,7 @@ fn second_after(weekday: u32, second: u32, n: u32) -> u32
 
 // The window at a position, so many seconds after the table's start.
 pub fn open_at(f: &[u8], x: &[u32; 436], n: u32, at: u32) -> bool
-    ensures { λ r. ⌜ r ≡ openW (now (f .entry)) (now (x .entry)) n at ⌝ }
+    ensures { λ r. ⌜ r ≡ openM (now (f .entry)) (now (x .entry)) n at ⌝ }
 {
     let weekday = weekday_after(x[10], x[11], n);
     let second = second_after(x[10], x[11], n);

@@ -4,17 +4,17 @@ use mathlib.Core.Path.{_≡_, refl}
 use mathlib.Core.List.{List, [], _∷_}
 use mathlib.Core.Option.{Option, none, some}
 use Rattle.texts.specs.Texts.{Text, text}
-use Rattle.model.specs.Answer.{Answer, answer, refused, Verdict, accept, _>>=_}
-use Rattle.model.specs.Model.{Source, Entity, comfort, Predicate, state, single, toggle, done, act, Automation, Input, reload, Event, Invariant, never, response, Model, midnight}
-use Rattle.model.specs.Validate.{accepted}
-use Rattle.engine.specs.Cells.{Cell, initial-cells}
-use Rattle.engine.specs.Kleene.{Yes, No, Unknown}
-use Rattle.engine.specs.Truth.{evaluate, evaluate-all}
-use Rattle.engine.specs.Records.{Kind, Change, Trace, Areas}
-use Rattle.engine.specs.Simulate.{simulated}
-use Rattle.checker.specs.Judge.{deadline-missed}
-use Rattle.checker.specs.Check.{Status, no-violation-in-trace, Violation, checked}
-use Rattle.checker.specs.Verify.{Found, no-counterexample-within-bounds, verified, all-verify}
+use Rattle.model_spec.specs.Answer.{Answer, answer, refused, Verdict, accept, _>>=_}
+use Rattle.model_spec.specs.Model.{Source, Entity, comfort, Predicate, state, single, toggle, done, act, Automation, Input, reload, Event, Invariant, never, response, Model, midnight}
+use Rattle.model_spec.specs.Validate.{accepted}
+use Rattle.engine_spec.specs.Cells.{Cell, initial-cells}
+use Rattle.engine_spec.specs.Kleene.{Yes, No, Unknown}
+use Rattle.engine_spec.specs.Truth.{evaluate, evaluate-all}
+use Rattle.engine_spec.specs.Records.{Kind, Change, Trace, Areas}
+use Rattle.engine_spec.specs.Simulate.{simulated}
+use Rattle.checker_spec.specs.Judge.{deadline-missed}
+use Rattle.checker_spec.specs.Check.{Status, no-violation-in-trace, Violation, checked}
+use Rattle.checker_spec.specs.Verify.{Found, no-counterexample-within-bounds, verified, all-verify}
 use Rattle.examples.specs.Files as files
 
 -- ---- models about a lamp

@@ -6,8 +6,8 @@ use mathlib.Core.List.{List, [], _∷_, _++_}
 use mathlib.Core.Option.{none, some}
 use lib.ListN.{length}
 use Rattle.texts.specs.Texts.{Text, text}
-use Rattle.model.specs.Answer.{Answer, answer, refused, Verdict, accept, _>>=_}
-use Rattle.model.specs.Model.{
+use Rattle.model_spec.specs.Answer.{Answer, answer, refused, Verdict, accept, _>>=_}
+use Rattle.model_spec.specs.Model.{
   Moment,
   Predicate,
   state,
@@ -29,16 +29,16 @@ use Rattle.model.specs.Model.{
   response,
   Model,
 }
-use Rattle.model.specs.Windows.{with-start}
-use Rattle.model.specs.Validate.{check-predicate, check-stated, validate}
-use Rattle.engine.specs.Kleene.{Truth, Yes, No, Unknown}
-use Rattle.engine.specs.Truth.{moment-after, evaluate, evaluate-all}
-use Rattle.engine.specs.Records.{Areas}
-use Rattle.engine.specs.Simulate.{simulated}
-use Rattle.checker.specs.Judge.{prohibited-state}
-use Rattle.checker.specs.Check.{Status, no-violation-in-trace, Violation, check}
-use Rattle.checker.specs.Verify.{all-verify}
-use Rattle.lint.specs.Findings.{contradictory, mismatched, clash}
+use Rattle.model_spec.specs.Windows.{with-start}
+use Rattle.model_spec.specs.Validate.{check-predicate, check-stated, validate}
+use Rattle.engine_spec.specs.Kleene.{Truth, Yes, No, Unknown}
+use Rattle.engine_spec.specs.Truth.{moment-after, evaluate, evaluate-all}
+use Rattle.engine_spec.specs.Records.{Areas}
+use Rattle.engine_spec.specs.Simulate.{simulated}
+use Rattle.checker_spec.specs.Judge.{prohibited-state}
+use Rattle.checker_spec.specs.Check.{Status, no-violation-in-trace, Violation, check}
+use Rattle.checker_spec.specs.Verify.{all-verify}
+use Rattle.lint_spec.specs.Findings.{contradictory, mismatched, clash}
 use Rattle.examples.specs.Files as files
 use Rattle.examples.specs.Examples as examples
 use Rattle.examples.specs.Examples.{lamp-is, at, final, verdict}

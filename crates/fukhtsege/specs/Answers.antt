@@ -3,9 +3,9 @@ use Prim.Native.Nat.{ℕ, _≤_, _<_}
 use mathlib.Core.Path.{_≡_}
 use mathlib.Core.List.{List}
 use lib.ListN.{length}
-use Rattle.engine.specs.Memory.{Lent}
+use Rattle.engine_spec.specs.Memory.{Lent}
 use Rattle.engine_summary.specs.declared.Simulation.{Simulation}
-use Rattle.engine.specs.Simulate.{unsupported-of}
+use Rattle.engine_spec.specs.Simulate.{unsupported-of}
 use Rattle.engine_entry.specs.declared.Notes.{Notes}
 use Rattle.engine_entry.specs.Answers.{NotesSay, Simulates}
 use Rattle.checker_result.specs.declared.CheckResult.{CheckResult}
@@ -14,12 +14,12 @@ use Rattle.search_answer.specs.declared.Verification.{Verification}
 use Rattle.search_entry.specs.Answers.{Verifies}
 use Rattle.reduce_result.specs.declared.Minimized.{Minimized}
 use Rattle.reduce_entry.specs.Answers.{Minimizes}
-use Rattle.lint.specs.Memory as lint
-use Rattle.lint_answer.specs.declared.Report.{Report}
-use Rattle.lint_answer.specs.Answers as lints
+use Rattle.lint_spec.specs.Memory as lint
+use Rattle.lint_entry.specs.declared.Report.{Report}
+use Rattle.lint_entry.specs.Answers as lints
 use Rattle.cone_entry.specs.declared.ConeResult.{ConeResult}
 use Rattle.cone_entry.specs.Answers as cones
-use Rattle.answer_numbers.specs.Numbers.{refusalOf, notesIn, simulationIn, checkIn, verificationIn, minimizedIn, reportIn, coneIn}
+use Rattle.c_encoding.specs.Numbers.{refusalOf, notesIn, simulationIn, checkIn, verificationIn, minimizedIn, reportIn, coneIn}
 
 -- some result r with this promise: n is its refusal, and its numbers stand in the answer
 pub record Told {A : Type 0} (Promise : A → Type 0) (refusal : A → ℕ) (numbers : A → List ℕ → List ℕ) (n : ℕ) (a a′ : List ℕ) : Type 0 where

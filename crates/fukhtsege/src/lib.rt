@@ -3,9 +3,9 @@
 use model_validate::Validity;
 ghost use mathlib.Core.Path.{_≡_};
 ghost use Rattle.engine_entry.specs.Answers.{lent};
-ghost use Rattle.lint.specs.Memory as lint;
+ghost use Rattle.lint_spec.specs.Memory as lint;
 ghost use Rattle.model_validate.specs.Answers.{validated};
-ghost use Rattle.answer_numbers.specs.Numbers.{validityNumber};
+ghost use Rattle.c_encoding.specs.Numbers.{validityNumber};
 ghost use Rattle.fukhtsege.specs.Answers.{ListsC, SimulatesC, ChecksC, VerifiesC, MinimizesC, LintsC, ConesC};
 
 // The result if the answer is too short.
@@ -34,7 +34,7 @@ pub extern "C" fn fukhtsege_unsupported(file: &[u8], answer: &mut [u64]) -> u32
         return SHORT_ANSWER;
     }
     let r = engine_entry::unsupported(file);
-    answer_numbers::put_notes(answer, r);
+    c_encoding::put_notes(answer, r);
     r.refused
 }
 
@@ -55,7 +55,7 @@ pub extern "C" fn fukhtsege_simulate(
     }
     let mut reasons = [0u32; 1500];
     let s = engine_entry::simulate_lent(file, queue, records, runs, &mut reasons);
-    answer_numbers::put_simulation(answer, 0, s, &reasons);
+    c_encoding::put_simulation(answer, 0, s, &reasons);
     s.refused
 }
 
@@ -88,7 +88,7 @@ pub extern "C" fn fukhtsege_check(
         &mut unknowns,
         &mut incompletes,
     );
-    answer_numbers::put_check(answer, 0, j, &reasons, &violated, &unknowns, &incompletes);
+    c_encoding::put_check(answer, 0, j, &reasons, &violated, &unknowns, &incompletes);
     let s = j.simulation;
     s.refused
 }
@@ -126,7 +126,7 @@ pub extern "C" fn fukhtsege_verify(
         &mut unknowns,
         &mut incompletes,
     );
-    answer_numbers::put_verification(
+    c_encoding::put_verification(
         answer,
         v,
         &told,
@@ -136,7 +136,7 @@ pub extern "C" fn fukhtsege_verify(
         &incompletes,
     );
     let status = v.status;
-    answer_numbers::refusal_of(status)
+    c_encoding::refusal_of(status)
 }
 
 // ---- minimize
@@ -156,7 +156,7 @@ pub extern "C" fn fukhtsege_minimize(
         return SHORT_ANSWER;
     }
     let m = reduce_entry::minimize(file, queue, records, runs, output);
-    answer_numbers::put_minimized(answer, m);
+    c_encoding::put_minimized(answer, m);
     m.refused
 }
 
@@ -174,8 +174,8 @@ pub extern "C" fn fukhtsege_lint(
     if answer.len() < 228 {
         return SHORT_ANSWER;
     }
-    let r = lint_answer::lint(file, findings, interactions);
-    answer_numbers::put_report(answer, r);
+    let r = lint_entry::lint(file, findings, interactions);
+    c_encoding::put_report(answer, r);
     r.refused
 }
 
@@ -189,6 +189,6 @@ pub extern "C" fn fukhtsege_cone(file: &[u8], answer: &mut [u64]) -> u32
         return SHORT_ANSWER;
     }
     let r = cone_entry::cone(file);
-    answer_numbers::put_cone(answer, r);
+    c_encoding::put_cone(answer, r);
     r.refused
 }

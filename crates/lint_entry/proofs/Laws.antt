@@ -1,144 +1,111 @@
--- The laws that the proofs of the order of entries cite.
-use mathlib.Core.Path.{_≡_, refl, ap, _∙_}
-use mathlib.Core.Bool.{Bool, true, false}
-use mathlib.Core.List.{List, [], _∷_}
+-- The laws that the proofs of the entry's parts cite.
+use mathlib.Core.Path.{_≡_, refl, ap, _∙_, subst}
+use mathlib.Core.List.{List}
+use Prim.Native.Nat.{ℕ, _-_, _≤_}
 use native.Mathlib.Omega.{arith}
-use Prim.Native.Nat.{ℕ, suc, _+_, _-_, _^_, _≤_, _<_}
-use lib.Bits.{bitOr}
-use lib.ListN.{getD, set, replicate}
-use borrow.Author.Tests.{lt-ltb, le-ltb}
+use lib.ListN.{length, getD, replicate}
+use Rattle.texts.specs.Texts.{text}
+use Rattle.model_order.specs.Order.{place-from}
+use Rattle.model_index.specs.declared.Index.{Index}
 use Rattle.model_parts.specs.declared.Section.{Section}
-use Rattle.lint_walk.specs.declared.Walk.{Walk}
-use Rattle.lint_walk.specs.Raw.{placeZ, numberZ, past, kindZ}
-use Rattle.lint_walk.specs.Walks.{walkBy, walkW}
-use Rattle.lint_touches.specs.Sets.{sectionBy, readsS, writesS}
-use Rattle.lint_board.specs.Board.{Item, finding, Board, pushes}
+use Rattle.lint_areas.specs.declared.Out.{Out}
 use Rattle.lint_reach.specs.declared.Components.{Components}
-use Rattle.lint_reach.specs.Sets.{holds}
-use Rattle.lint_reach.specs.Steps.{Square}
-use Rattle.lint_reach.specs.Cycles.{Cycles}
-use Rattle.lint_tests.specs.declared.Names.{Names}
-use Rattle.lint_tests.specs.Tests.{anyL, highestZ, leadsZ}
-use Rattle.lint_findings.specs.declared.About.{About}
-use Rattle.lint_findings.specs.Entries.{itemsN, valueZ, ruleItems}
-use Rattle.lint_pairs.specs.Pairs.{pairItems}
-use Rattle.lint_touches.proofs.Laws.{reads-by, writes-by}
-use Rattle.lint_findings.proofs.Laws.{numbers-start, numbers-end, rule-by}
-use Rattle.lint_pairs.proofs.Laws.{pair-by}
-use Rattle.lint_entry.specs.Order.{aboutAt, ruleAt, rulesItems, pairAt, laterItems, opposingItems, actionLeadsZ, leadsToZ, fillL, rowZ, edgesZ, cycleWritesFrom, cycleWritesZ, cycleZ, cyclesItems}
+use Rattle.lint_walk.specs.declared.Walk.{Walk}
+use Rattle.lint_walk.specs.Walks.{walkBy, walkM}
+use Rattle.lint_access.specs.Sets.{sectionBy, readsM, writesM}
+use Rattle.lint_access.proofs.Laws.{reads-by, writes-by}
+use Rattle.model_parts.specs.declared.Extent.{Extent}
+use Rattle.lint_conditions.specs.declared.Given.{Given}
+use Rattle.lint_conditions.specs.Given.{sectionOf, namesBy}
+use Rattle.lint_undeclared.specs.declared.Undeclared.{Undeclared}
+use Rattle.lint_undeclared.specs.Strange.{undeclaredM}
+use Rattle.lint_areas.specs.Board.{Board, board}
+use Rattle.lint_collect.specs.Order.{fillM, Lints}
+use Rattle.lint_collect.specs.declared.Linted.{Linted}
+use Rattle.lint_notes.specs.Notes.{AllNotes}
+use Rattle.lint_refinement.specs.Ground.{namesOf}
+use Rattle.lint_entry.specs.Parts.{givenBy, firstM, readSets, writeSets, Bounds, Inserts, Tells}
 
-module _ (s : List ℕ) where
-  pub about-is : (e : Section) (i source writes : ℕ) {l q c b t : ℕ} → l ≡ numberZ s source → q ≡ past s source 4 → c ≡ numberZ s q → b ≡ bitOr 0 (2 ^ i) → t ≡ highestZ s e writes →
-      record { number = i; set = b; tier = t; line = l; column = c } ≡ aboutAt s e i source writes
-  unfolding aboutAt
-  about-is e i source writes d f g h k = rw (d, g, f, h, k)
+pub first-is : (l : List ℕ) (n : ℕ) → firstM l n ≡ fillM (λ i. getD l i 0) (n - 0) 0 (replicate 32 0)
+unfolding firstM
+first-is l n =
+    let m : n - 0 ≡ n = omega arith in
+    rw m
 
-  pub rule-is : (d : Names) (rules : Section) (i : ℕ) {w : Walk} {writes reads : ℕ} {a : About} (x : Board) {y : Board} →
-      w ≡ walkW s (getD (rules .starts) i 0) → writes ≡ writesS s (sectionBy (d .entities .starts) (d .entities .count)) (walkBy (w .list) (w .count)) → reads ≡ readsS s (sectionBy (d .entities .starts) (d .entities .count)) (getD (rules .starts) i 0) (walkBy (w .list) (w .count)) →
-      a ≡ aboutAt s (d .entities) i (w .next) writes → y ≡ pushes (ruleItems s d rules a (getD (rules .starts) i 0) (walkBy (w .list) (w .count)) reads writes) x → y ≡ pushes (ruleAt s d rules i) x
-  unfolding ruleAt
-  rule-is d rules i {w} {writes} {reads} {a} x e f g h k =
-      rw (← e) (rw (← writes-by s (d .entities) w f) (rw (← reads-by s (d .entities) (getD (rules .starts) i 0) w g) (rw (← h)
-      (k ∙ ap (λ (l : List Item). pushes l x) (rule-by s d rules a (getD (rules .starts) i 0) w reads writes)))))
-
-  pub rules-is : (d : Names) (rules : Section) (x : Board) → pushes (rulesItems s d rules) x ≡ pushes (itemsN (ruleAt s d rules) (rules .count - 0) 0) x
-  unfolding rulesItems
-  rules-is d rules x = numbers-start (ruleAt s d rules) {n = rules .count} {m = rules .count} x refl
-
-  pub pair-is : (d : Names) (rules : Section) (i : ℕ) (v : Walk) (j : ℕ) {w : Walk} {a b : ℕ} (x : Board) {y : Board} →
-      w ≡ walkW s (getD (rules .starts) j 0) → a ≡ bitOr 0 (2 ^ i) → b ≡ bitOr a (2 ^ j) → y ≡ pushes (pairItems s d b (walkBy (v .list) (v .count)) (walkBy (w .list) (w .count))) x → y ≡ pushes (pairAt s d rules i v j) x
-  unfolding pairAt
-  pair-is d rules i v j {w} {a} {b} x e f g h = rw (← e) (rw (← f) (rw (← g) (h ∙ ap (λ (l : List Item). pushes l x) (pair-by s d b v w))))
-
-  pub later-none : (d : Names) (rules : Section) (i : ℕ) (x : Board) → rules .count ≤ i + 1 → pushes (laterItems s d rules i) x ≡ x
-  unfolding laterItems
-  later-none d rules i x h = numbers-end (pairAt s d rules i (walkW s (getD (rules .starts) i 0))) (rules .count) (i + 1) x h
-
-  pub later-is : (d : Names) (rules : Section) (i : ℕ) {v : Walk} (x : Board) → v ≡ walkW s (getD (rules .starts) i 0) →
-      pushes (laterItems s d rules i) x ≡ pushes (itemsN (pairAt s d rules i (walkBy (v .list) (v .count))) (rules .count - (i + 1)) (i + 1)) x
-  unfolding laterItems pairAt pairItems
-  later-is d rules i x e = rw (← e)
-
-  pub opposing-is : (d : Names) (rules : Section) (x : Board) → pushes (opposingItems s d rules) x ≡ pushes (itemsN (laterItems s d rules) (rules .count - 0) 0) x
-  unfolding opposingItems
-  opposing-is d rules x = numbers-start (laterItems s d rules) {n = rules .count} {m = rules .count} x refl
-
-  module _ (star p a : ℕ) {k : ℕ} (h : k ≡ kindZ s a) where
-    pub action-no : 1 < k → actionLeadsZ s star p a ≡ false
-    unfolding actionLeadsZ
-    action-no i = rw (← h) (rw (lt-ltb 1 k i))
-
-    pub action-is : {q x v : ℕ} → k ≤ 1 → q ≡ past s a 9 → x ≡ placeZ s q → v ≡ valueZ s star a → leadsZ s star x v p ≡ actionLeadsZ s star p a
-    unfolding actionLeadsZ
-    action-is i d e f = rw (← h) (rw (le-ltb 1 k i) (rw (f, e, d)))
-
-  pub leads-is : (star : ℕ) (w : Walk) (p : ℕ) → leadsToZ s star w p ≡ anyL (actionLeadsZ s star p) (w .list) (w .count) 0
-  unfolding leadsToZ
-  leads-is star w p = refl
-
-  pub row-is : (star : ℕ) (rules : Section) (w : Walk) → rowZ s star rules w ≡ fillL (λ j. leadsToZ s star w (getD (rules .starts) j 0)) (rules .count - 0) 0 (replicate 32 false)
-  unfolding rowZ
-  row-is star rules w =
+module _ (s : List ℕ) (e rules : Section) where
+  pub reads-are : readSets s e rules ≡ fillM (λ i. readsM s e (getD (rules .starts) i 0) (walkM s (getD (rules .starts) i 0))) (rules .count - 0) 0 (replicate 32 0)
+  unfolding readSets
+  reads-are =
       let m : rules .count - 0 ≡ rules .count = omega arith in
       rw m
 
-  pub edges-is : (star : ℕ) (rules : Section) → edgesZ s star rules ≡ fillL (λ i. rowZ s star rules (walkW s (getD (rules .starts) i 0))) (rules .count - 0) 0 (replicate 32 (replicate 32 false))
-  unfolding edgesZ
-  edges-is star rules =
+  pub writes-are : writeSets s e rules ≡ fillM (λ i. writesM s e (walkM s (getD (rules .starts) i 0))) (rules .count - 0) 0 (replicate 32 0)
+  unfolding writeSets
+  writes-are =
       let m : rules .count - 0 ≡ rules .count = omega arith in
       rw m
 
-  pub edge-row : (star : ℕ) (rules : Section) (i : ℕ) {w : Walk} {r : List Bool} → w ≡ walkW s (getD (rules .starts) i 0) → r ≡ rowZ s star rules (walkBy (w .list) (w .count)) → r ≡ rowZ s star rules (walkW s (getD (rules .starts) i 0))
-  unfolding rowZ leadsToZ
-  edge-row star rules i e f = f ∙ ap (rowZ s star rules) e
+-- the walk of the automation at a position
+module _ (s : List ℕ) (e : Section) (p : ℕ) {w : Walk} {x : ℕ} (d : w ≡ walkM s p) where
+  pub read-is : x ≡ readsM s (sectionBy (e .starts) (e .count)) p (walkBy (w .list) (w .count)) → x ≡ readsM s e p (walkM s p)
+  read-is f = reads-by s e p w f ∙ ap (readsM s e p) d
 
-  module _ (e rules : Section) (z : ℕ) where
-    pub writes-start : cycleWritesZ s e rules z ≡ cycleWritesFrom s e rules z (rules .count - 0) 0 0
-    unfolding cycleWritesZ
-    writes-start =
-        let m : rules .count - 0 ≡ rules .count = omega arith in
-        rw m
+  pub write-is : x ≡ writesM s (sectionBy (e .starts) (e .count)) (walkBy (w .list) (w .count)) → x ≡ writesM s e (walkM s p)
+  write-is f = writes-by s e w f ∙ ap (writesM s e) d
 
-    module _ (n i x : ℕ) (h : i < n) {r : Bool} (f : r ≡ holds z i) where
-      pub writes-yes : {w : Walk} {y u : ℕ} → r ≡ true → w ≡ walkW s (getD (rules .starts) i 0) → y ≡ writesS s (sectionBy (e .starts) (e .count)) (walkBy (w .list) (w .count)) → u ≡ bitOr x y →
-          cycleWritesFrom s e rules z (n - i) i x ≡ cycleWritesFrom s e rules z (n - (i + 1)) (i + 1) u
-      unfolding cycleWritesFrom
-      writes-yes {w} a b c d =
-          let m : n - i ≡ suc (n - (i + 1)) = omega arith in
-          rw (d, writes-by s e w c, b) (rw (m, cycleWritesFrom) (rw (← f) (rw a)))
+pub given-is : (s : List ℕ) (e i r : Extent) (n : ℕ) {a b c : ℕ} → a ≡ place-from n 0 (text "on") s 6 → b ≡ place-from n 0 (text "off") s 6 → c ≡ place-from n 0 (text "*") s 6 →
+    record { entities = e; invariants = i; rules = r; on = a; off = b; star = c } ≡ givenBy s e i r n
+given-is s e i r n d f g = rw (d, f, g)
 
-      pub writes-no : r ≡ false → cycleWritesFrom s e rules z (n - i) i x ≡ cycleWritesFrom s e rules z (n - (i + 1)) (i + 1) x
-      unfolding cycleWritesFrom
-      writes-no a =
-          let m : n - i ≡ suc (n - (i + 1)) = omega arith in
-          rw (m, cycleWritesFrom) (rw (← f) (rw a))
+-- of the model whose index this is
+abbrev givenOf : List ℕ → Index → Given
+givenOf s i = givenBy s (record { count = i .entities .count; end = i .entities .end }) (record { count = i .invariants .count; end = i .invariants .end }) (record { count = i .rules .count; end = i .rules .end }) (i .texts .count)
 
-    pub writes-end : (n i x : ℕ) → n ≤ i → cycleWritesFrom s e rules z (n - i) i x ≡ x
-    unfolding cycleWritesFrom
-    writes-end n i x h =
-        let m : n - i ≡ 0 = omega arith in
-        rw m
+pub told-is : (s : List ℕ) (i : Index) (o : Out) (c : Components) {a b e : List ℕ} {u : Undeclared} → a ≡ firstM (c .sets) (c .count) → b ≡ readSets s (i .entities) (i .rules) → e ≡ writeSets s (i .entities) (i .rules) → u ≡ undeclaredM s (i .entities) (i .rules) (i .texts .count) →
+    Tells s i o c (record {
+      refused = 0;
+      findings = o .findings;
+      interactions = o .interactions;
+      components = c .count;
+      cycles = a;
+      reads = b;
+      writes = e;
+      undeclared = u .count;
+      names = u .names;
+      readers = u .readers;
+    })
+told-is s i o c d f g h = record {
+  accepted = refl;
+  findings = refl;
+  interactions = refl;
+  components = refl;
+  cycles = d;
+  reads = f;
+  writes = g;
+  undeclared = ap (λ (x : Undeclared). x .count) h;
+  names = ap (λ (x : Undeclared). x .names) h;
+  readers = ap (λ (x : Undeclared). x .readers) h;
+}
 
-    pub cycle-is : {y t : ℕ} → y ≡ cycleWritesZ s e rules z → t ≡ highestZ s e y → (5 ∷ 1 ∷ t ∷ 0 ∷ z ∷ 0 ∷ 0 ∷ 0 ∷ 0 ∷ 0 ∷ 0 ∷ 0 ∷ 0 ∷ 0 ∷ []) ≡ cycleZ s e rules z
-    unfolding cycleZ
-    cycle-is a b = rw (b, a)
+pub given-few : (s : List ℕ) (i : Index) {d : Given} → d ≡ givenOf s i → Bounds i → (d .entities .count ≤ 32) × (d .invariants .count ≤ 32) × (d .rules .count ≤ 32)
+given-few s i e b = rw e (b .entities, b .invariants, b .rules)
 
-  pub cycles-is : (e rules : Section) (c : Components) (x : Board) → pushes (cyclesItems s e rules c) x ≡ pushes (itemsN (λ k. finding (cycleZ s e rules (getD (c .sets) k 0)) ∷ []) (c .count - 0) 0) x
-  unfolding cyclesItems
-  cycles-is e rules c x = numbers-start (λ k. finding (cycleZ s e rules (getD (c .sets) k 0)) ∷ []) {n = c .count} {m = c .count} x refl
+-- the areas as they were cleared, the entries, and the notes
+pub inserts : (s : List ℕ) (i : Index) (F I : List ℕ) {d : Given} {f₀ i₀ f k g : List ℕ} (x : Linted) (o : Out) →
+    (f₀ ≡ replicate (length F) 0) × (i₀ ≡ replicate (length I) 0) → d ≡ givenOf s i →
+    Lints s (namesBy (i .entities .starts) (i .invariants .starts) d) (sectionOf (i .rules .starts) (d .rules)) (board f₀ i₀ (record { findings = 0; interactions = 0; refusal = 0 })) x (board f k (x .out)) →
+    ((y : List ℕ) → AllNotes s (i .rules) (i .rules .count) 0 (board f y (x .out)) (board g y o)) → Inserts s i F I (record { out = o; found = x .found }) (board g k o)
+unfolding namesOf
+inserts s i F I {d} {f₀} {i₀} {f} {k} {g} x o z e h n = record {
+  first = x;
+  between = board f k (x .out);
+  entries =
+      subst (λ (a : List ℕ). Lints s (namesOf s i) (i .rules) (board a (replicate (length I) 0) (record { findings = 0; interactions = 0; refusal = 0 })) x (board f k (x .out))) (z .0)
+      (subst (λ (a : List ℕ). Lints s (namesOf s i) (i .rules) (board f₀ a (record { findings = 0; interactions = 0; refusal = 0 })) x (board f k (x .out))) (z .1)
+      (subst (λ (a : Given). Lints s (namesBy (i .entities .starts) (i .invariants .starts) a) (sectionOf (i .rules .starts) (a .rules)) (board f₀ i₀ (record { findings = 0; interactions = 0; refusal = 0 })) x (board f k (x .out))) e h));
+  found = refl;
+  notes = n k;
+}
 
-module _ {A : Type 0} (f : ℕ → A) (n k : ℕ) (l : List A) where
-  pub fill-more : {a : A} → k < n → a ≡ f k → fillL f (n - k) k l ≡ fillL f (n - (k + 1)) (k + 1) (set l k a)
-  unfolding fillL
-  fill-more h e =
-      let m : n - k ≡ suc (n - (k + 1)) = omega arith in
-      rw (e, m)
-
-  pub fill-end : n ≤ k → fillL f (n - k) k l ≡ l
-  unfolding fillL
-  fill-end h =
-      let m : n - k ≡ 0 = omega arith in
-      rw m
-
-pub few : (e : Square) (n : ℕ) (c : Components) → Cycles e n c → n ≤ 32 → c .count ≤ 32
-few e n c h k = omega (arith, h .few)
+pub found-few : (s : List ℕ) (i : Index) (F I : List ℕ) (r : Linted) (e : Board) → Inserts s i F I r e → Bounds i → r .found .count ≤ 32
+found-few s i F I r e h b = omega (arith, ap (λ (c : Components). c .count) (h .found), h .entries .components .few, b .rules)

@@ -1,2 +1,3 @@
 pub mod Laws
-pub mod Array
+pub mod Held
+pub mod Core

@@ -1,410 +1,238 @@
-// The entries of all automations, in the order in which Rust adds them.
-use lint_board::Out;
-use lint_findings::About;
+// The entry `lint`: the findings and interactions of a model file in two lent areas, and with the answer the components of
+// trigger cycles, and what each automation reads and writes.
+use lint_areas::Out;
+use lint_collect::Linted;
+use lint_conditions::Given;
 use lint_reach::Components;
-use lint_tests::Given;
+use model_index::Index;
+use model_index::Status;
 use model_parts::Extent;
 ghost use mathlib.Core.Path.{_≡_};
-ghost use mathlib.Core.List.{List};
-ghost use Prim.Native.Nat.{ℕ, _≤_, _<_, _+_, _-_};
-ghost use Rattle.lint_reach.specs.Cycles.{Cycles};
-ghost use Rattle.lint_board.specs.Board.{board, pushes};
-ghost use Rattle.lint_walk.specs.Walks.{walkBy};
-ghost use Rattle.lint_tests.specs.Given.{sectionOf, namesBy};
-ghost use Rattle.lint_entry.specs.Order.{Lints, aboutAt, ruleAt, rulesItems, pairAt, laterItems, opposingItems, actionLeadsZ, leadsToZ, rowZ, edgesZ, cycleWritesZ, cycleZ, cyclesItems};
+ghost use Prim.Native.Nat.{_≤_, _<_, _+_, _-_};
+ghost use lib.ListN.{length};
+ghost use Rattle.lint_spec.specs.Memory.{lent};
+ghost use Rattle.lint_areas.specs.Board.{board};
+ghost use Rattle.lint_conditions.specs.Given.{sectionOf};
+ghost use Rattle.lint_entry.specs.Answers.{no-lint, Answers};
+ghost use Rattle.lint_entry.specs.Parts.{givenBy, firstM, readSets, writeSets, Bounds, Inserts, Tells, AnswersAs};
 
-// ---- each automation
+// `refused` is 0 or the refusal's number; then the rest is 0. As many `findings` and `interactions` stand in their areas.
+// The first `components` of `cycles` are the components, as sets of automations by number. `reads` and `writes` are sets of
+// declared entities, by automation. The first `undeclared` of `names` are the places of names that no entity has and that
+// the automations at the same places of `readers` read.
+pub struct Report {
+    pub refused: u32,
+    pub findings: usize,
+    pub interactions: usize,
+    pub components: usize,
+    pub cycles: [u32; 32],
+    pub reads: [u32; 32],
+    pub writes: [u32; 32],
+    pub undeclared: usize,
+    pub names: [u32; 64],
+    pub readers: [u32; 64],
+}
 
-// The automation with the number i, whose source stands at a position, and the set of what it writes.
-fn about(
-    s: &[u8],
-    entities: &[usize; 100],
-    extent: Extent,
-    i: usize,
-    source: usize,
-    writes: u32,
-) -> About
-    requires { ⌜ (extent .count ≤ 32) × (i < 32) ⌝ }
-    ensures { λ r. ⌜ r ≡ aboutAt (now (s .entry)) (sectionOf (now (entities .entry)) extent) i source writes ⌝ }
+fn refused(number: u32) -> Report
+    ensures { λ r. ⌜ r ≡ no-lint number ⌝ }
 {
-    let line = lint_walk::number_at(s, source);
-    let column = lint_walk::number_at(s, lint_walk::past(s, source, 4));
-    About {
-        number: i as u32,
-        set: lint_reach::with(0, i),
-        tier: lint_tests::highest(s, entities, extent, writes),
-        line,
-        column,
+    Report {
+        refused: number,
+        findings: 0,
+        interactions: 0,
+        components: 0,
+        cycles: [0u32; 32],
+        reads: [0u32; 32],
+        writes: [0u32; 32],
+        undeclared: 0,
+        names: [0u32; 64],
+        readers: [0u32; 64],
     }
 }
 
-// The entries of the i-th automation.
-fn rule_entries(
-    s: &[u8],
-    entities: &[usize; 100],
-    invariants: &[usize; 100],
-    rules: &[usize; 100],
-    given: Given,
-    i: usize,
-    findings: &mut [u32],
-    interactions: &mut [u32],
-    o: Out,
-) -> Out
-    requires { ⌜ (given .entities .count ≤ 32) × (given .invariants .count ≤ 32) × (given .rules .count ≤ 32) × (i < 32) ⌝ }
-    ensures { λ r. ⌜ board (now (findings .exit)) (now (interactions .exit)) r ≡ pushes (ruleAt (now (s .entry)) (namesBy (now (entities .entry)) (now (invariants .entry)) given) (sectionOf (now (rules .entry)) (given .rules)) i) (board (now (findings .entry)) (now (interactions .entry)) o) ⌝ }
-{
-    let at = rules[i];
-    let mut list = [0usize; 512];
-    let c = lint_walk::rule_walk(s, at, &mut list);
-    let count = c.count;
-    let extent = given.entities;
-    let many = extent.count;
-    let writes = lint_touches::writes(s, entities, many, &list, count);
-    let reads = lint_touches::reads(s, entities, many, at, &list, count);
-    let a = about(s, entities, extent, i, c.next, writes);
-    lint_findings::rule_findings(
-        s,
-        entities,
-        invariants,
-        rules,
-        given,
-        a,
-        at,
-        &list,
-        count,
-        reads,
-        writes,
-        findings,
-        interactions,
-        o,
-    )
+// ---- sets
+
+pub struct Sets {
+    pub list: [u32; 32],
 }
 
-// The entries of all automations.
-pub fn rules_entries(
-    s: &[u8],
-    entities: &[usize; 100],
-    invariants: &[usize; 100],
-    rules: &[usize; 100],
-    given: Given,
-    findings: &mut [u32],
-    interactions: &mut [u32],
-    o: Out,
-) -> Out
-    requires { ⌜ (given .entities .count ≤ 32) × (given .invariants .count ≤ 32) × (given .rules .count ≤ 32) ⌝ }
-    ensures { λ r. ⌜ board (now (findings .exit)) (now (interactions .exit)) r ≡ pushes (rulesItems (now (s .entry)) (namesBy (now (entities .entry)) (now (invariants .entry)) given) (sectionOf (now (rules .entry)) (given .rules))) (board (now (findings .entry)) (now (interactions .entry)) o) ⌝ }
+// The first n sets, then zeros.
+fn first_sets(sets: [u32; 32], n: usize) -> Sets
+    requires { ⌜ n ≤ 32 ⌝ }
+    ensures { λ r. ⌜ r .list ≡ firstM sets n ⌝ }
 {
-    let extent = given.rules;
-    let count = extent.count as usize;
-    let mut out = o;
+    let mut list = [0u32; 32];
     let mut i: usize = 0;
-    while i < count {
-        out = rule_entries(
-            s,
-            entities,
-            invariants,
-            rules,
-            given,
-            i,
-            findings,
-            interactions,
-            out,
-        );
+    while i < n {
+        list[i] = sets[i];
         i += 1;
     }
-    out
+    Sets { list }
 }
 
-// ---- each pair of automations
+// The declared entities that each automation reads, and those that it writes.
+pub struct Touched {
+    pub reads: [u32; 32],
+    pub writes: [u32; 32],
+}
 
-// The i-th automation's actions, the first `count` of `list`, against those of the j-th.
-fn pair_entries(
+fn rule_sets(
     s: &[u8],
     entities: &[usize; 100],
-    invariants: &[usize; 100],
-    rules: &[usize; 100],
-    given: Given,
-    i: usize,
-    list: &[usize; 512],
-    count: usize,
-    j: usize,
-    findings: &mut [u32],
-    o: Out,
-) -> Out
-    requires { ⌜ (given .entities .count ≤ 32) × (i < 32) × (j < 32) × (count ≤ 512) ⌝ }
-    ensures { λ r. ⌜ ((k : List ℕ) → board (now (findings .exit)) k r ≡ pushes (pairAt (now (s .entry)) (namesBy (now (entities .entry)) (now (invariants .entry)) given) (sectionOf (now (rules .entry)) (given .rules)) i (walkBy (now (list .entry)) count) j) (board (now (findings .entry)) k o)) ⌝ }
-{
-    let mut others = [0usize; 512];
-    let c = lint_walk::rule_walk(s, rules[j], &mut others);
-    let set = lint_reach::with(lint_reach::with(0, i), j);
-    lint_pairs::oppose_pair(
-        s,
-        entities,
-        invariants,
-        given,
-        set,
-        list,
-        count,
-        &others,
-        c.count,
-        findings,
-        o,
-    )
-}
-
-// The i-th automation against each later one.
-fn later_entries(
-    s: &[u8],
-    entities: &[usize; 100],
-    invariants: &[usize; 100],
-    rules: &[usize; 100],
-    given: Given,
-    i: usize,
-    findings: &mut [u32],
-    o: Out,
-) -> Out
-    requires { ⌜ (given .entities .count ≤ 32) × (given .rules .count ≤ 32) × (i < 32) ⌝ }
-    ensures { λ r. ⌜ ((k : List ℕ) → board (now (findings .exit)) k r ≡ pushes (laterItems (now (s .entry)) (namesBy (now (entities .entry)) (now (invariants .entry)) given) (sectionOf (now (rules .entry)) (given .rules)) i) (board (now (findings .entry)) k o)) ⌝ }
-{
-    let extent = given.rules;
-    let count = extent.count as usize;
-    let mut j = i + 1;
-    if count <= j {
-        return o;
-    }
-    let mut list = [0usize; 512];
-    let c = lint_walk::rule_walk(s, rules[i], &mut list);
-    let m = c.count;
-    let mut out = o;
-    while j < count {
-        out = pair_entries(
-            s,
-            entities,
-            invariants,
-            rules,
-            given,
-            i,
-            &list,
-            m,
-            j,
-            findings,
-            out,
-        );
-        j += 1;
-    }
-    out
-}
-
-// Each automation against each later one.
-pub fn opposing_entries(
-    s: &[u8],
-    entities: &[usize; 100],
-    invariants: &[usize; 100],
-    rules: &[usize; 100],
-    given: Given,
-    findings: &mut [u32],
-    o: Out,
-) -> Out
-    requires { ⌜ (given .entities .count ≤ 32) × (given .rules .count ≤ 32) ⌝ }
-    ensures { λ r. ⌜ ((k : List ℕ) → board (now (findings .exit)) k r ≡ pushes (opposingItems (now (s .entry)) (namesBy (now (entities .entry)) (now (invariants .entry)) given) (sectionOf (now (rules .entry)) (given .rules))) (board (now (findings .entry)) k o)) ⌝ }
-{
-    let extent = given.rules;
-    let count = extent.count as usize;
-    let mut out = o;
-    let mut i: usize = 0;
-    while i < count {
-        out = later_entries(s, entities, invariants, rules, given, i, findings, out);
-        i += 1;
-    }
-    out
-}
-
-// ---- reach
-
-// Whether a write among the first `count` actions of `list` can set off the automation at a position.
-fn leads_to(s: &[u8], star: u32, list: &[usize; 512], count: usize, at: usize) -> bool
-    requires { ⌜ count ≤ 512 ⌝ }
-    ensures { λ r. ⌜ r ≡ leadsToZ (now (s .entry)) star (walkBy (now (list .entry)) count) at ⌝ }
-{
-    let mut k: usize = 0;
-    while k < count {
-        if action_leads(s, star, list[k], at) {
-            return true;
-        }
-        k += 1;
-    }
-    false
-}
-
-// Whether the action at a position writes and can set off the automation at another.
-fn action_leads(s: &[u8], star: u32, action: usize, at: usize) -> bool
-    ensures { λ r. ⌜ r ≡ actionLeadsZ (now (s .entry)) star at action ⌝ }
-{
-    if 1 < lint_walk::kind_at(s, action) {
-        return false;
-    }
-    let x = lint_walk::place_at(s, lint_walk::past(s, action, 9));
-    let v = lint_findings::value(s, star, action);
-    lint_tests::leads(s, star, x, v, at)
-}
-
-// Which automations the first `count` actions of `list` can set off.
-fn reach_row(
-    s: &[u8],
-    star: u32,
+    declared: Extent,
     rules: &[usize; 100],
     extent: Extent,
-    list: &[usize; 512],
-    count: usize,
-) -> [bool; 32]
-    requires { ⌜ (extent .count ≤ 32) × (count ≤ 512) ⌝ }
-    ensures { λ r. ⌜ r ≡ rowZ (now (s .entry)) star (sectionOf (now (rules .entry)) extent) (walkBy (now (list .entry)) count) ⌝ }
+) -> Touched
+    requires { ⌜ (declared .count ≤ 32) × (extent .count ≤ 32) ⌝ }
+    ensures { λ r. ⌜ (r .reads ≡ readSets (now (s .entry)) (sectionOf (now (entities .entry)) declared) (sectionOf (now (rules .entry)) extent)) × (r .writes ≡ writeSets (now (s .entry)) (sectionOf (now (entities .entry)) declared) (sectionOf (now (rules .entry)) extent)) ⌝ }
 {
     let n = extent.count as usize;
-    let mut row = [false; 32];
-    let mut j: usize = 0;
-    while j < n {
-        row[j] = leads_to(s, star, list, count, rules[j]);
-        j += 1;
-    }
-    row
-}
-
-// Which automations lead to which.
-pub fn edges(s: &[u8], star: u32, rules: &[usize; 100], extent: Extent) -> [[bool; 32]; 32]
-    requires { ⌜ extent .count ≤ 32 ⌝ }
-    ensures { λ r. ⌜ r ≡ edgesZ (now (s .entry)) star (sectionOf (now (rules .entry)) extent) ⌝ }
-{
-    let count = extent.count as usize;
-    let mut start = [[false; 32]; 32];
+    let many = declared.count;
+    let mut reads = [0u32; 32];
+    let mut writes = [0u32; 32];
     let mut i: usize = 0;
-    while i < count {
+    while i < n {
+        let at = rules[i];
         let mut list = [0usize; 512];
-        let c = lint_walk::rule_walk(s, rules[i], &mut list);
-        start[i] = reach_row(s, star, rules, extent, &list, c.count);
+        let c = lint_walk::rule_walk(s, at, &mut list);
+        let count = c.count;
+        reads[i] = lint_access::reads(s, entities, many, at, &list, count);
+        writes[i] = lint_access::writes(s, entities, many, &list, count);
         i += 1;
     }
-    start
+    Touched { reads, writes }
 }
 
-// The components of the automations that lead to each other.
-pub fn find_components(s: &[u8], star: u32, rules: &[usize; 100], extent: Extent) -> Components
-    requires { ⌜ extent .count ≤ 32 ⌝ }
-    ensures { λ r. ⌜ Cycles (edgesZ (now (s .entry)) star (sectionOf (now (rules .entry)) extent)) (extent .count) r ⌝ }
+// ---- the answer
+
+// What the tests need of a model with so many texts, beside positions.
+fn given_of(s: &[u8], entities: Extent, invariants: Extent, rules: Extent, texts: u32) -> Given
+    ensures { λ r. ⌜ r ≡ givenBy (now (s .entry)) entities invariants rules texts ⌝ }
 {
-    lint_reach::cycles(edges(s, star, rules, extent), extent.count as usize)
-}
-
-// ---- cycles
-
-// The entities that the automations of a set write.
-fn cycle_writes(
-    s: &[u8],
-    entities: &[usize; 100],
-    rules: &[usize; 100],
-    given: Given,
-    set: u32,
-) -> u32
-    requires { ⌜ (given .entities .count ≤ 32) × (given .rules .count ≤ 32) ⌝ }
-    ensures { λ r. ⌜ r ≡ cycleWritesZ (now (s .entry)) (sectionOf (now (entities .entry)) (given .entities)) (sectionOf (now (rules .entry)) (given .rules)) set ⌝ }
-{
-    let extent = given.rules;
-    let count = extent.count as usize;
-    let written = given.entities;
-    let many = written.count;
-    let mut writes: u32 = 0;
-    let mut i: usize = 0;
-    while i < count {
-        if lint_reach::has(set, i) {
-            let mut list = [0usize; 512];
-            let c = lint_walk::rule_walk(s, rules[i], &mut list);
-            let more = lint_touches::writes(s, entities, many, &list, c.count);
-            writes = lint_reach::union(writes, more);
-            i += 1;
-        } else {
-            i += 1;
-        }
-    }
-    writes
-}
-
-// The words of a trigger_cycle; its sources are those of its automations.
-fn cycle_words(
-    s: &[u8],
-    entities: &[usize; 100],
-    rules: &[usize; 100],
-    given: Given,
-    set: u32,
-) -> [u32; 14]
-    requires { ⌜ (given .entities .count ≤ 32) × (given .rules .count ≤ 32) ⌝ }
-    ensures { λ w. ⌜ w ≡ cycleZ (now (s .entry)) (sectionOf (now (entities .entry)) (given .entities)) (sectionOf (now (rules .entry)) (given .rules)) set ⌝ }
-{
-    let writes = cycle_writes(s, entities, rules, given, set);
-    let tier = lint_tests::highest(s, entities, given.entities, writes);
-    [5, 1, tier, 0, set, 0, 0, 0, 0, 0, 0, 0, 0, 0]
-}
-
-// A finding for each component.
-pub fn cycle_entries(
-    s: &[u8],
-    entities: &[usize; 100],
-    rules: &[usize; 100],
-    given: Given,
-    found: Components,
-    findings: &mut [u32],
-    o: Out,
-) -> Out
-    requires { ⌜ (given .entities .count ≤ 32) × (given .rules .count ≤ 32) × (found .count ≤ 32) ⌝ }
-    ensures { λ r. ⌜ ((k : List ℕ) → board (now (findings .exit)) k r ≡ pushes (cyclesItems (now (s .entry)) (sectionOf (now (entities .entry)) (given .entities)) (sectionOf (now (rules .entry)) (given .rules)) found) (board (now (findings .entry)) k o)) ⌝ }
-{
-    let count = found.count;
-    let mut out = o;
-    let mut i: usize = 0;
-    while i < count {
-        out = lint_board::push_finding(
-            findings,
-            out,
-            cycle_words(s, entities, rules, given, found.sets[i]),
-        );
-        i += 1;
-    }
-    out
-}
-
-// ---- all but the notes
-
-// The counts of entries or the refusal, and the components.
-pub struct Linted {
-    pub out: Out,
-    pub found: Components,
-}
-
-// The entries of all automations, of all pairs and of all cycles.
-pub fn entries(
-    s: &[u8],
-    entities: &[usize; 100],
-    invariants: &[usize; 100],
-    rules: &[usize; 100],
-    given: Given,
-    findings: &mut [u32],
-    interactions: &mut [u32],
-    o: Out,
-) -> Linted
-    requires { ⌜ (given .entities .count ≤ 32) × (given .invariants .count ≤ 32) × (given .rules .count ≤ 32) ⌝ }
-    ensures { λ r. ⌜ Lints (now (s .entry)) (namesBy (now (entities .entry)) (now (invariants .entry)) given) (sectionOf (now (rules .entry)) (given .rules)) (board (now (findings .entry)) (now (interactions .entry)) o) r (board (now (findings .exit)) (now (interactions .exit)) (r .out)) ⌝ }
-{
-    let p = rules_entries(
-        s,
+    Given {
         entities,
         invariants,
         rules,
+        on: model_order::place_of(s, b"on", texts),
+        off: model_order::place_of(s, b"off", texts),
+        star: model_order::place_of(s, b"*", texts),
+    }
+}
+
+// The answer of a model whose entries all have their place.
+fn told(s: &[u8], index: Index, out: Out, found: Components) -> Report
+    requires { ⌜ Bounds index × (found .count ≤ 32) ⌝ }
+    ensures { λ r. ⌜ Tells (now (s .entry)) index out found r ⌝ }
+{
+    let entities = index.entities;
+    let end = entities.end;
+    let declared = Extent {
+        count: entities.count,
+        end,
+    };
+    let rules = index.rules;
+    let last = rules.end;
+    let extent = Extent {
+        count: rules.count,
+        end: last,
+    };
+    let sets = found.sets;
+    let c = first_sets(sets, found.count);
+    let t = rule_sets(s, &entities.starts, declared, &rules.starts, extent);
+    let u = lint_undeclared::undeclared_names(
+        s,
+        &entities.starts,
+        declared,
+        &rules.starts,
+        extent,
+        index.texts.count,
+    );
+    let cycles = c.list;
+    let reads = t.reads;
+    let writes = t.writes;
+    let names = u.names;
+    let readers = u.readers;
+    Report {
+        refused: 0,
+        findings: out.findings,
+        interactions: out.interactions,
+        components: found.count,
+        cycles,
+        reads,
+        writes,
+        undeclared: u.count,
+        names,
+        readers,
+    }
+}
+
+// All entries of an accepted model into areas of zeros: their counts or the refusal, and the components.
+fn inserted(s: &[u8], index: Index, findings: &mut [u32], interactions: &mut [u32]) -> Linted
+    requires { ⌜ Bounds index ⌝ }
+    ensures { λ r. ⌜ Inserts (now (s .entry)) index (now (findings .entry)) (now (interactions .entry)) r (board (now (findings .exit)) (now (interactions .exit)) (r .out)) ⌝ }
+{
+    let entities = index.entities;
+    let end = entities.end;
+    let declared = Extent {
+        count: entities.count,
+        end,
+    };
+    let invariants = index.invariants;
+    let close = invariants.end;
+    let kept = Extent {
+        count: invariants.count,
+        end: close,
+    };
+    let rules = index.rules;
+    let last = rules.end;
+    let extent = Extent {
+        count: rules.count,
+        end: last,
+    };
+    let given = given_of(s, declared, kept, extent, index.texts.count);
+    let start = Out {
+        findings: 0,
+        interactions: 0,
+        refusal: 0,
+    };
+    lint_areas::clear(findings, interactions);
+    let l = lint_collect::entries(
+        s,
+        &entities.starts,
+        &invariants.starts,
+        &rules.starts,
         given,
         findings,
         interactions,
-        o,
+        start,
     );
-    let q = opposing_entries(s, entities, invariants, rules, given, findings, p);
-    let found = find_components(s, given.star, rules, given.rules);
-    let out = cycle_entries(s, entities, rules, given, found, findings, q);
+    let out = lint_notes::notes(s, rules, findings, l.out);
+    let found = l.found;
     Linted { out, found }
+}
+
+// The lint of an accepted model.
+fn linted(s: &[u8], index: Index, findings: &mut [u32], interactions: &mut [u32]) -> Report
+    requires { ⌜ Bounds index ⌝ }
+    ensures { λ r. ⌜ AnswersAs (now (s .entry)) index r (lent (now (findings .entry)) (now (interactions .entry))) (lent (now (findings .exit)) (now (interactions .exit))) ⌝ }
+{
+    let l = inserted(s, index, findings, interactions);
+    let out = l.out;
+    if out.refusal != 0 {
+        lint_areas::clear(findings, interactions);
+        return refused(out.refusal);
+    }
+    told(s, index, out, l.found)
+}
+
+// The lint of a model file, with lent areas of any size.
+pub fn lint(file: &[u8], findings: &mut [u32], interactions: &mut [u32]) -> Report
+    ensures { λ r. ⌜ Answers (now (file .entry)) r (lent (now (findings .entry)) (now (interactions .entry))) (lent (now (findings .exit)) (now (interactions .exit))) ⌝ }
+{
+    let x = model_validate::accept(file);
+    let status = x.status;
+    match status {
+        Status::Refused(number) => refused(number),
+        Status::Read => linted(file, x.index, findings, interactions),
+    }
 }

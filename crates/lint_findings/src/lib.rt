@@ -1,14 +1,14 @@
 // The findings and interactions of each automation, in the order in which Rust adds them.
-use lint_board::Out;
-use lint_tests::Given;
+use lint_areas::Out;
+use lint_conditions::Given;
 use model_parts::Extent;
 ghost use mathlib.Core.Path.{_≡_};
 ghost use mathlib.Core.List.{List};
 ghost use Prim.Native.Nat.{ℕ, _≤_, _<_, _+_, _-_};
 ghost use Rattle.lint_walk.specs.Walks.{walkBy};
-ghost use Rattle.lint_board.specs.Board.{board, pushes};
-ghost use Rattle.lint_tests.specs.Given.{sectionOf, namesBy};
-ghost use Rattle.lint_findings.specs.Entries.{aboutZ, actionZ, delayedZ, ownItems, branchItems, branchesItems, staleHereZ, freshItems, valueZ, riskyZ, interactItems, writeItems, writesItems, firstItems, ruleItems};
+ghost use Rattle.lint_areas.specs.Board.{board, pushes};
+ghost use Rattle.lint_conditions.specs.Given.{sectionOf, namesBy};
+ghost use Rattle.lint_findings.specs.Entries.{aboutM, actionM, delayedM, ownItems, branchItems, branchesItems, staleHereM, freshItems, valueM, riskyM, interactItems, writeItems, writesItems, firstItems, ruleItems};
 
 // An automation: its number, the set of it alone, the highest tier that it writes, its source.
 pub struct About {
@@ -23,7 +23,7 @@ pub struct About {
 
 // A finding about one automation: code, certainty, tier, entity, automations, source, no second source, no reason.
 fn finding(a: About, code: u32, certainty: u32, entity: u32, line: u32, column: u32) -> [u32; 14]
-    ensures { λ w. ⌜ w ≡ aboutZ a code certainty entity line column ⌝ }
+    ensures { λ w. ⌜ w ≡ aboutM a code certainty entity line column ⌝ }
 {
     [
         code,
@@ -45,7 +45,7 @@ fn finding(a: About, code: u32, certainty: u32, entity: u32, line: u32, column: 
 
 // The same at the source of the action at a position.
 fn at_action(s: &[u8], a: About, code: u32, certainty: u32, entity: u32, at: usize) -> [u32; 14]
-    ensures { λ w. ⌜ w ≡ actionZ (now (s .entry)) a code certainty entity at ⌝ }
+    ensures { λ w. ⌜ w ≡ actionM (now (s .entry)) a code certainty entity at ⌝ }
 {
     let line = lint_walk::number_at(s, at);
     let column = lint_walk::number_at(s, lint_walk::past(s, at, 4));
@@ -56,12 +56,12 @@ fn at_action(s: &[u8], a: About, code: u32, certainty: u32, entity: u32, at: usi
 
 fn delayed(s: &[u8], list: &[usize; 512], count: usize, writes: u32) -> bool
     requires { ⌜ count ≤ 512 ⌝ }
-    ensures { λ r. ⌜ r ≡ delayedZ (now (s .entry)) (walkBy (now (list .entry)) count) writes ⌝ }
+    ensures { λ r. ⌜ r ≡ delayedM (now (s .entry)) (walkBy (now (list .entry)) count) writes ⌝ }
 {
     if writes == 0 {
         return false;
     }
-    lint_tests::delays(s, list, count)
+    lint_conditions::delays(s, list, count)
 }
 
 fn own_findings(
@@ -79,12 +79,12 @@ fn own_findings(
 {
     let line = a.line;
     let column = a.column;
-    let first = lint_tests::contradictory(s, lint_walk::conditions_at(s, at));
-    let p = lint_board::push_if(findings, o, first, finding(a, 0, 0, 0, line, column));
-    let second = lint_tests::mismatched(s, at);
-    let q = lint_board::push_if(findings, p, second, finding(a, 1, 1, 0, line, column));
+    let first = lint_conditions::contradictory(s, lint_walk::conditions_at(s, at));
+    let p = lint_areas::push_if(findings, o, first, finding(a, 0, 0, 0, line, column));
+    let second = lint_conditions::mismatched(s, at);
+    let q = lint_areas::push_if(findings, p, second, finding(a, 1, 1, 0, line, column));
     let third = delayed(s, list, count, writes);
-    lint_board::push_if(findings, q, third, finding(a, 2, 1, 0, line, column))
+    lint_areas::push_if(findings, q, third, finding(a, 2, 1, 0, line, column))
 }
 
 // ---- branches
@@ -99,7 +99,7 @@ fn choice_findings(s: &[u8], a: About, at: usize, findings: &mut [u32], o: Out) 
     let mut p = lint_walk::past(s, start, 2);
     let mut out = o;
     while 0 < left {
-        out = lint_board::push_if(findings, out, lint_tests::contradictory(s, p), words);
+        out = lint_areas::push_if(findings, out, lint_conditions::contradictory(s, p), words);
         p = lint_walk::list_end(s, lint_walk::predicates_end(s, p));
         left -= 1;
     }
@@ -135,10 +135,10 @@ fn branch_findings(
 
 fn stale_here(s: &[u8], entities: &[usize; 100], extent: Extent, reads: u32, k: usize) -> bool
     requires { ⌜ k < 32 ⌝ }
-    ensures { λ r. ⌜ r ≡ staleHereZ (now (s .entry)) (sectionOf (now (entities .entry)) extent) reads k ⌝ }
+    ensures { λ r. ⌜ r ≡ staleHereM (now (s .entry)) (sectionOf (now (entities .entry)) extent) reads k ⌝ }
 {
     if lint_reach::has(reads, k) {
-        return lint_tests::stale(s, entities[k]);
+        return lint_conditions::stale(s, entities[k]);
     }
     false
 }
@@ -162,7 +162,7 @@ fn fresh_findings(
     let mut k: usize = 0;
     while k < count {
         let test = stale_here(s, entities, extent, reads, k);
-        out = lint_board::push_if(
+        out = lint_areas::push_if(
             findings,
             out,
             test,
@@ -177,7 +177,7 @@ fn fresh_findings(
 
 // The value that the action at a position writes: a toggle's is `*`.
 pub fn value(s: &[u8], star: u32, at: usize) -> u32
-    ensures { λ r. ⌜ r ≡ valueZ (now (s .entry)) star at ⌝ }
+    ensures { λ r. ⌜ r ≡ valueM (now (s .entry)) star at ⌝ }
 {
     if lint_walk::kind_at(s, at) == 1 {
         return star;
@@ -196,12 +196,12 @@ fn risky(
     e: usize,
 ) -> bool
     requires { ⌜ (given .invariants .count ≤ 32) × (e < 100) ⌝ }
-    ensures { λ r. ⌜ r ≡ riskyZ (now (s .entry)) (namesBy (now (entities .entry)) (now (invariants .entry)) given) x v e ⌝ }
+    ensures { λ r. ⌜ r ≡ riskyM (now (s .entry)) (namesBy (now (entities .entry)) (now (invariants .entry)) given) x v e ⌝ }
 {
-    if lint_tests::tier(s, entities[e]) < 2 {
+    if lint_conditions::tier(s, entities[e]) < 2 {
         return false;
     }
-    lint_tests::unguarded(s, entities, invariants, given, x, v)
+    lint_conditions::unguarded(s, entities, invariants, given, x, v)
 }
 
 // The automations that a write of v to x, the entity with the number e, can set off.
@@ -224,8 +224,8 @@ fn interactions_of(
     let mut out = o;
     let mut k: usize = 0;
     while k < count {
-        let test = lint_tests::leads(s, star, x, v, rules[k]);
-        out = lint_board::interact_if(interactions, out, test, [from, k as u32, e]);
+        let test = lint_conditions::leads(s, star, x, v, rules[k]);
+        out = lint_areas::interact_if(interactions, out, test, [from, k as u32, e]);
         k += 1;
     }
     out
@@ -260,7 +260,7 @@ fn write_findings(
     let v = value(s, given.star, at);
     let words = at_action(s, a, 7, 1, e as u32, at);
     let test = risky(s, entities, invariants, given, x, v, e);
-    let p = lint_board::push_if(findings, o, test, words);
+    let p = lint_areas::push_if(findings, o, test, words);
     interactions_of(
         s,
         a.number,
@@ -331,7 +331,7 @@ fn first_findings(
     let q = branch_findings(s, a, list, count, findings, p);
     let line = a.line;
     let column = a.column;
-    lint_board::push_if(
+    lint_areas::push_if(
         findings,
         q,
         lint_reach::many(writes),

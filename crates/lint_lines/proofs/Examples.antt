@@ -4,7 +4,7 @@ use mathlib.Core.List.{[], _∷_}
 use Rattle.texts.specs.Lists.{all-lists}
 use Rattle.texts.specs.Texts.{text, all-texts}
 use Rattle.reasons.specs.Reasons.{placed}
-use Rattle.lint.specs.Findings.{freshness-assumption, Finding, code-name, message}
+use Rattle.lint_spec.specs.Findings.{freshness-assumption, Finding, code-name, message}
 use Rattle.show.specs.Lines as show
 use Rattle.lint_words.specs.Lines as words
 use Rattle.lint_lines.specs.Lines.{counts-line, finding-line, interaction-line, component-line, all-lines}

@@ -11,14 +11,14 @@ use Rattle.texts.specs.Lists.{each, flat}
 use Rattle.texts.specs.Texts.{Text, text, digits, decimal}
 use Rattle.reasons.specs.declared.Reason.{Reason}
 use Rattle.reasons.specs.Reasons.{render, placed}
-use Rattle.model.specs.Model.{Source}
+use Rattle.model_spec.specs.Model.{Source}
 use Rattle.model_parts.specs.declared.Section.{Section}
 use Rattle.model_index.specs.declared.Index.{Index}
-use Rattle.lint.specs.Findings.{code-name, message}
+use Rattle.lint_spec.specs.Findings.{code-name, message}
 use Rattle.lint_reach.specs.Sets.{members}
-use Rattle.lint_walk.specs.Raw.{numberZ, past}
-use Rattle.lint_walk.specs.Walks.{walkW}
-use Rattle.lint_answer.specs.declared.Report.{Report}
+use Rattle.lint_walk.specs.Raw.{numberM, past}
+use Rattle.lint_walk.specs.Walks.{walkM}
+use Rattle.lint_entry.specs.declared.Report.{Report}
 use Rattle.show.specs.declared.Source.the-variants.{At}
 use Rattle.show.specs.Lines.{newline, quoted, source}
 use Rattle.lint_words.specs.Lines.{spaced, listed, quoted-list}
@@ -35,7 +35,7 @@ sources-listed f s x k e small =
     counted (λ i. placed (rule-source f s i .line) (rule-source f s i .column)) (members x) k (many x k e small)
     ∙ ap listed (sym (each-each (λ (q : Source). placed (q .line) (q .column)) (rule-source f s) (members x)))
 
-pub rule-placed : (f : List ℕ) (s : Section) (i p w line q column : ℕ) → p ≡ start-at s i → w ≡ walkW f p .next → line ≡ numberZ f w → q ≡ past f w 4 → column ≡ numberZ f q →
+pub rule-placed : (f : List ℕ) (s : Section) (i p w line q column : ℕ) → p ≡ start-at s i → w ≡ walkM f p .next → line ≡ numberM f w → q ≡ past f w 4 → column ≡ numberM f q →
     32 ∷ placed line column ≡ 32 ∷ placed (rule-source f s i .line) (rule-source f s i .column)
 unfolding rule-source source-at
 rule-placed f s i p w line q column a b c d e = rw (c, e, d, b, a)

@@ -4,8 +4,8 @@ use mathlib.Core.List.{List, [], _∷_, _++_}
 use Rattle.texts.specs.Lists.{each}
 use Rattle.texts.specs.Texts.{Text, text, decimal}
 use Rattle.reasons.specs.Reasons.{placed}
-use Rattle.model.specs.Model.{Source}
-use Rattle.lint.specs.Findings.{Finding, Interaction, code-name, message}
+use Rattle.model_spec.specs.Model.{Source}
+use Rattle.lint_spec.specs.Findings.{Finding, Interaction, code-name, message}
 use Rattle.show.specs.Lines.{newline, quoted}
 use Rattle.lint_words.specs.Lines.{listed, quoted-list}
 

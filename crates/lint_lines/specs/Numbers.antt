@@ -9,14 +9,14 @@ use Rattle.texts.specs.Lists.{if_then_else_, each}
 use Rattle.texts.specs.Texts.{Text}
 use Rattle.reasons.specs.declared.Reason.{Reason}
 use Rattle.reasons.specs.Reasons.{render}
-use Rattle.model.specs.Model.{Source}
+use Rattle.model_spec.specs.Model.{Source}
 use Rattle.model_parts.specs.declared.Section.{Section}
 use Rattle.model_index.specs.declared.Index.{Index}
-use Rattle.lint.specs.Findings.{Finding, Interaction}
+use Rattle.lint_spec.specs.Findings.{Finding, Interaction}
 use Rattle.lint_reach.specs.Sets.{members}
-use Rattle.lint_walk.specs.Raw.{numberZ, past}
-use Rattle.lint_walk.specs.Walks.{walkW}
-use Rattle.lint_answer.specs.declared.Report.{Report}
+use Rattle.lint_walk.specs.Raw.{numberM, past}
+use Rattle.lint_walk.specs.Walks.{walkM}
+use Rattle.lint_entry.specs.declared.Report.{Report}
 use Rattle.lint_words.specs.Numbers.{start-at, name-of, names-of, problem-of, certainty-of, tier-of}
 use Rattle.lint_lines.specs.Lines.{finding-line, interaction-line, component-line}
 
@@ -24,11 +24,11 @@ use Rattle.lint_lines.specs.Lines.{finding-line, interaction-line, compo
 
 -- the source that stands at a position
 unfoldable pub source-at : (f : List ℕ) → (at : ℕ) → Source
-source-at f p = record { line = numberZ f p; column = numberZ f (past f p 4) }
+source-at f p = record { line = numberM f p; column = numberM f (past f p 4) }
 
 -- an automation's: it stands behind its actions
 unfoldable pub rule-source : (f : List ℕ) → (rules : Section) → (i : ℕ) → Source
-rule-source f s i = source-at f (walkW f (start-at s i) .next)
+rule-source f s i = source-at f (walkM f (start-at s i) .next)
 
 -- ---- a finding's 14 words
 

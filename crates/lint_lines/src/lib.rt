@@ -1,6 +1,6 @@
 // The lines of the findings, interactions and components of `lint`'s answer, and of their counts. The writers put texts behind
 // the first n bytes of a lent area, as those of `show` do. f is the model file.
-use lint_answer::Report;
+use lint_entry::Report;
 use lint_words::long;
 use lint_words::put_certainty;
 use lint_words::put_code;
@@ -21,7 +21,7 @@ ghost use lib.ListN.{length, getD};
 ghost use Rattle.texts.specs.Lists.{if_then_else_, each};
 ghost use Rattle.texts.specs.Texts.{Text};
 ghost use Rattle.reasons.specs.Reasons.{placed};
-ghost use Rattle.lint.specs.Findings.{code-name};
+ghost use Rattle.lint_spec.specs.Findings.{code-name};
 ghost use Rattle.lint_reach.specs.Sets.{holds, members};
 ghost use Rattle.show.specs.Writing.{Written};
 ghost use Rattle.lint_lines.specs.Lines.{source-list, kind-part, places-part, counts-line, interaction-line, component-line};

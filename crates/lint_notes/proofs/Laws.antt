@@ -10,29 +10,29 @@ use Rattle.texts.specs.Texts.{Text}
 use Rattle.reasons.specs.Readable.{HasText}
 use Rattle.reasons.specs.Lists.{listed, reasons, Clean}
 use Rattle.reasons.proofs.Cleaning.{zeros, clean-zeros}
-use Rattle.engine_reads.specs.Reads.{cap}
-use Rattle.engine_unsupported.specs.Listing.{ruleL}
-use Rattle.lint_walk.specs.Raw.{placeZ, numberZ, past, triggersZ, conditionsZ, actionsZ, predicatesEnd}
-use Rattle.lint_walk.specs.Walks.{walkW}
-use Rattle.lint_board.specs.Board.{finding, Board, pushes}
-use Rattle.lint_findings.specs.Entries.{itemsN}
+use Rattle.engine_fields.specs.Reads.{cap}
+use Rattle.engine_unsupported.specs.Listing.{ruleM}
+use Rattle.lint_walk.specs.Raw.{placeM, numberM, past, triggersM, conditionsM, actionsM, predicatesEnd}
+use Rattle.lint_walk.specs.Walks.{walkM}
+use Rattle.lint_areas.specs.Board.{finding, Board, pushes}
+use Rattle.lint_findings.specs.Entries.{items-numbersM}
 use Rattle.lint_findings.proofs.Laws.{numbers-start}
-use Rattle.lint_notes.specs.Notes.{noteZ, noteItems, RowOf, Few, RuleNotes, NotesAt, AllNotes, no-notes, more-notes}
+use Rattle.lint_notes.specs.Notes.{noteM, noteItems, RowOf, Few, RuleNotes, NotesAt, AllNotes, no-notes, more-notes}
 
 pub words-is : (set line column : ℕ) (u : List ℕ) (j k : ℕ) → k ≡ 5 * j →
-    (9 ∷ 2 ∷ 5 ∷ 0 ∷ set ∷ line ∷ column ∷ 0 ∷ 0 ∷ getD u k 0 ∷ getD u (k + 1) 0 ∷ getD u (k + 2) 0 ∷ getD u (k + 3) 0 ∷ getD u (k + 4) 0 ∷ []) ≡ noteZ set line column u j
-unfolding noteZ
+    (9 ∷ 2 ∷ 5 ∷ 0 ∷ set ∷ line ∷ column ∷ 0 ∷ 0 ∷ getD u k 0 ∷ getD u (k + 1) 0 ∷ getD u (k + 2) 0 ∷ getD u (k + 3) 0 ∷ getD u (k + 4) 0 ∷ []) ≡ noteM set line column u j
+unfolding noteM
 words-is set line column u j k e = rw e
 
-pub items-is : (set line column : ℕ) (u : List ℕ) (n : ℕ) (x : Board) → pushes (noteItems set line column u n) x ≡ pushes (itemsN (λ j. finding (noteZ set line column u j) ∷ []) (n - 0) 0) x
+pub items-is : (set line column : ℕ) (u : List ℕ) (n : ℕ) (x : Board) → pushes (noteItems set line column u n) x ≡ pushes (items-numbersM (λ j. finding (noteM set line column u j) ∷ []) (n - 0) 0) x
 unfolding noteItems
-items-is set line column u n x = numbers-start (λ j. finding (noteZ set line column u j) ∷ []) {n = n} {m = n} x refl
+items-is set line column u n x = numbers-start (λ j. finding (noteM set line column u j) ∷ []) {n = n} {m = n} x refl
 
-pub actions-is : (s : List ℕ) (p : ℕ) {c : ℕ} → c ≡ conditionsZ s p → predicatesEnd s c ≡ actionsZ s p
-unfolding actionsZ
+pub actions-is : (s : List ℕ) (p : ℕ) {c : ℕ} → c ≡ conditionsM s p → predicatesEnd s c ≡ actionsM s p
+unfolding actionsM
 actions-is s p e = rw e
 
-pub row-is : (s : List ℕ) (p q : ℕ) {a k t b c l d n e : ℕ} → k ≡ conditionsZ s p → a ≡ placeZ s p → t ≡ triggersZ s p → b ≡ cap t → c ≡ cap k → l ≡ predicatesEnd s k → d ≡ cap l → n ≡ past s q 8 → e ≡ cap n →
+pub row-is : (s : List ℕ) (p q : ℕ) {a k t b c l d n e : ℕ} → k ≡ conditionsM s p → a ≡ placeM s p → t ≡ triggersM s p → b ≡ cap t → c ≡ cap k → l ≡ predicatesEnd s k → d ≡ cap l → n ≡ past s q 8 → e ≡ cap n →
     RowOf s p q (set (set (set (set (set (replicate 436 0) 80 a) 83 b) 84 c) 85 d) 87 e)
 row-is s p q z₁ z₂ z₃ z₄ z₅ z₆ z₇ z₈ z₉ = record {
   id = z₂;
@@ -51,23 +51,23 @@ pub none-clean : (f : List ℕ) (n : ℕ) → Clean f 0 (replicate n 0)
 none-clean f n = clean-zeros f (zeros n)
 
 pub rule-is : (s : List ℕ) (i : ℕ) {at w : ℕ} {row : List ℕ} (u : List ℕ) {n k line q column x : ℕ} (b : Board) {c : Board} {l : List Text} →
-    w ≡ walkW s at .next → RowOf s at w row → l ≡ [] → listed s n u ≡ ruleL s row 0 l → (HasText s → Clean s n u) → Few n k →
-    line ≡ numberZ s w → q ≡ past s w 4 → column ≡ numberZ s q → x ≡ bitOr 0 (2 ^ i) → c ≡ pushes (noteItems x line column u k) b → NotesAt s at i b c
+    w ≡ walkM s at .next → RowOf s at w row → l ≡ [] → listed s n u ≡ ruleM s row 0 l → (HasText s → Clean s n u) → Few n k →
+    line ≡ numberM s w → q ≡ past s w 4 → column ≡ numberM s q → x ≡ bitOr 0 (2 ^ i) → c ≡ pushes (noteItems x line column u k) b → NotesAt s at i b c
 rule-is s i {at} {w} {row} u {n} {k} {line} {q} {column} {x} b e₀ f₀ z g v h l m o p j rules y =
-    let e : w ≡ walkW s (getD (rules .starts) i 0) .next = e₀ ∙ ap (λ (a : ℕ). walkW s a .next) y in
+    let e : w ≡ walkM s (getD (rules .starts) i 0) .next = e₀ ∙ ap (λ (a : ℕ). walkM s a .next) y in
     record {
       row = row;
       reasons = u;
       many = n;
       count = k;
-      is-row = subst (λ (a : ℕ). RowOf s a (walkW s (getD (rules .starts) i 0) .next) row) y (subst (λ (v : ℕ). RowOf s at v row) e f₀);
-      are-reasons = g ∙ ap (ruleL s row 0) z;
+      is-row = subst (λ (a : ℕ). RowOf s a (walkM s (getD (rules .starts) i 0) .next) row) y (subst (λ (v : ℕ). RowOf s at v row) e f₀);
+      are-reasons = g ∙ ap (ruleM s row 0) z;
       clean = v;
       counts = h;
       inserted = j
           ∙ ap (λ (y : ℕ). pushes (noteItems y line column u k) b) p
-          ∙ ap (λ (y : ℕ). pushes (noteItems (bitOr 0 (2 ^ i)) y column u k) b) (l ∙ ap (numberZ s) e)
-          ∙ ap (λ (y : ℕ). pushes (noteItems (bitOr 0 (2 ^ i)) (numberZ s (walkW s (getD (rules .starts) i 0) .next)) y u k) b) (o ∙ ap (numberZ s) (m ∙ ap (λ (v : ℕ). past s v 4) e));
+          ∙ ap (λ (y : ℕ). pushes (noteItems (bitOr 0 (2 ^ i)) y column u k) b) (l ∙ ap (numberM s) e)
+          ∙ ap (λ (y : ℕ). pushes (noteItems (bitOr 0 (2 ^ i)) (numberM s (walkM s (getD (rules .starts) i 0) .next)) y u k) b) (o ∙ ap (numberM s) (m ∙ ap (λ (v : ℕ). past s v 4) e));
     }
 
 module _ (s : List ℕ) (rules : Section) where

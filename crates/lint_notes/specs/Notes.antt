@@ -7,27 +7,27 @@ use lib.ListN.{getD}
 use Rattle.model_parts.specs.declared.Section.{Section}
 use Rattle.reasons.specs.Readable.{HasText}
 use Rattle.reasons.specs.Lists.{listed, Clean}
-use Rattle.engine_reads.specs.Reads.{cap, word}
-use Rattle.engine_unsupported.specs.Listing.{ruleL}
-use Rattle.lint_walk.specs.Raw.{placeZ, numberZ, past, triggersZ, conditionsZ, actionsZ}
-use Rattle.lint_walk.specs.Walks.{walkW}
-use Rattle.lint_board.specs.Board.{Item, finding, Board, pushes}
-use Rattle.lint_findings.specs.Entries.{itemsN}
+use Rattle.engine_fields.specs.Reads.{cap, word}
+use Rattle.engine_unsupported.specs.Listing.{ruleM}
+use Rattle.lint_walk.specs.Raw.{placeM, numberM, past, triggersM, conditionsM, actionsM}
+use Rattle.lint_walk.specs.Walks.{walkM}
+use Rattle.lint_areas.specs.Board.{Item, finding, Board, pushes}
+use Rattle.lint_findings.specs.Entries.{items-numbersM}
 
 -- the words of the j-th reason's finding
-unfoldable pub noteZ : (set line column : ℕ) → (reasons : List ℕ) → (j : ℕ) → List ℕ
-noteZ set line column u j =
+unfoldable pub noteM : (set line column : ℕ) → (reasons : List ℕ) → (j : ℕ) → List ℕ
+noteM set line column u j =
     9 ∷ 2 ∷ 5 ∷ 0 ∷ set ∷ line ∷ column ∷ 0 ∷ 0 ∷ getD u (5 * j) 0 ∷ getD u (5 * j + 1) 0 ∷ getD u (5 * j + 2) 0 ∷ getD u (5 * j + 3) 0 ∷ getD u (5 * j + 4) 0 ∷ []
 
 unfoldable pub noteItems : (set line column : ℕ) → (reasons : List ℕ) → (count : ℕ) → List Item
-noteItems set line column u n = itemsN (λ j. finding (noteZ set line column u j) ∷ []) n 0
+noteItems set line column u n = items-numbersM (λ j. finding (noteM set line column u j) ∷ []) n 0
 
 -- the first row of the table x is the automation at p, whose source stands at q
 pub record RowOf (s : List ℕ) (p q : ℕ) (x : List ℕ) : Type 0 where
-  pub id : word x 0 0 ≡ placeZ s p
-  pub triggers : word x 0 3 ≡ cap (triggersZ s p)
-  pub conditions : word x 0 4 ≡ cap (conditionsZ s p)
-  pub actions : word x 0 5 ≡ cap (actionsZ s p)
+  pub id : word x 0 0 ≡ placeM s p
+  pub triggers : word x 0 3 ≡ cap (triggersM s p)
+  pub conditions : word x 0 4 ≡ cap (conditionsM s p)
+  pub actions : word x 0 5 ≡ cap (actionsM s p)
   pub notes : word x 0 7 ≡ cap (past s q 8)
 
 -- at most 300
@@ -41,11 +41,11 @@ pub record RuleNotes (s : List ℕ) (rules : Section) (i : ℕ) (b c : Board) : 
   pub reasons : List ℕ
   pub many : ℕ
   pub count : ℕ
-  pub is-row : RowOf s (getD (rules .starts) i 0) (walkW s (getD (rules .starts) i 0) .next) row
-  pub are-reasons : listed s many reasons ≡ ruleL s row 0 []
+  pub is-row : RowOf s (getD (rules .starts) i 0) (walkM s (getD (rules .starts) i 0) .next) row
+  pub are-reasons : listed s many reasons ≡ ruleM s row 0 []
   pub clean : HasText s → Clean s many reasons
   pub counts : Few many count
-  pub inserted : c ≡ pushes (noteItems (bitOr 0 (2 ^ i)) (numberZ s (walkW s (getD (rules .starts) i 0) .next)) (numberZ s (past s (walkW s (getD (rules .starts) i 0) .next) 4)) reasons count) b
+  pub inserted : c ≡ pushes (noteItems (bitOr 0 (2 ^ i)) (numberM s (walkM s (getD (rules .starts) i 0) .next)) (numberM s (past s (walkM s (getD (rules .starts) i 0) .next) 4)) reasons count) b
 
 -- the i-th automation stands at p
 abbrev pub NotesAt : (s : List ℕ) → (p i : ℕ) → (b c : Board) → Type 0

@@ -1,11 +1,11 @@
 // The notes of each automation as findings: unsupported.
-use lint_board::Out;
+use lint_areas::Out;
 use model_parts::Section;
 ghost use mathlib.Core.Path.{_≡_};
 ghost use mathlib.Core.List.{List};
 ghost use Prim.Native.Nat.{ℕ, _≤_, _<_, _+_, _*_, _-_};
-ghost use Rattle.lint_board.specs.Board.{board, pushes};
-ghost use Rattle.lint_notes.specs.Notes.{noteZ, noteItems, RowOf, Few, NotesAt, AllNotes};
+ghost use Rattle.lint_areas.specs.Board.{board, pushes};
+ghost use Rattle.lint_notes.specs.Notes.{noteM, noteItems, RowOf, Few, NotesAt, AllNotes};
 
 // ---- where the notes of an automation stand
 
@@ -16,10 +16,10 @@ fn put_row(s: &[u8], at: usize, source: usize, words: &mut [u32; 436])
     let conditions = lint_walk::conditions_at(s, at);
     *words = [0u32; 436];
     words[80] = lint_walk::place_at(s, at);
-    words[83] = engine_reads::capped(lint_walk::triggers_at(s, at));
-    words[84] = engine_reads::capped(conditions);
-    words[85] = engine_reads::capped(lint_walk::predicates_end(s, conditions));
-    words[87] = engine_reads::capped(lint_walk::past(s, source, 8));
+    words[83] = engine_fields::capped(lint_walk::triggers_at(s, at));
+    words[84] = engine_fields::capped(conditions);
+    words[85] = engine_fields::capped(lint_walk::predicates_end(s, conditions));
+    words[87] = engine_fields::capped(lint_walk::past(s, source, 8));
 }
 
 // At most 300.
@@ -37,7 +37,7 @@ fn few(n: usize) -> usize
 // The words of a finding about the automation of a set, with the j-th reason.
 fn note_words(set: u32, line: u32, column: u32, reasons: &[u32; 1500], j: usize) -> [u32; 14]
     requires { ⌜ j < 300 ⌝ }
-    ensures { λ w. ⌜ w ≡ noteZ set line column (now (reasons .entry)) j ⌝ }
+    ensures { λ w. ⌜ w ≡ noteM set line column (now (reasons .entry)) j ⌝ }
 {
     let k = 5 * j;
     [
@@ -74,7 +74,7 @@ fn note_findings(
     let mut out = o;
     let mut j: usize = 0;
     while j < count {
-        out = lint_board::push_finding(findings, out, note_words(set, line, column, reasons, j));
+        out = lint_areas::push_finding(findings, out, note_words(set, line, column, reasons, j));
         j += 1;
     }
     out

@@ -1,18 +1,18 @@
 // The findings of pairs of automations: writes of two automations against each other, in the order in which Rust adds them.
-use lint_board::Out;
-use lint_tests::Given;
+use lint_areas::Out;
+use lint_conditions::Given;
 use model_parts::Extent;
 ghost use mathlib.Core.Path.{_≡_};
 ghost use mathlib.Core.List.{List};
 ghost use Prim.Native.Nat.{ℕ, _≤_, _<_};
 ghost use Rattle.lint_walk.specs.Walks.{walkBy};
-ghost use Rattle.lint_board.specs.Board.{board, pushes};
-ghost use Rattle.lint_tests.specs.Given.{sectionOf, namesBy};
-ghost use Rattle.lint_pairs.specs.Pairs.{spelledZ, pairZ, opposingZ, foundItems, rowItems, pairItems};
+ghost use Rattle.lint_areas.specs.Board.{board, pushes};
+ghost use Rattle.lint_conditions.specs.Given.{sectionOf, namesBy};
+ghost use Rattle.lint_pairs.specs.Pairs.{spelledM, pairM, opposingM, foundItems, rowItems, pairItems};
 
 // The tier's word where Rust spells `accesssafety`.
 fn spelled(tier: u32) -> u32
-    ensures { λ r. ⌜ r ≡ spelledZ tier ⌝ }
+    ensures { λ r. ⌜ r ≡ spelledM tier ⌝ }
 {
     if tier == 3 {
         return 4;
@@ -31,9 +31,9 @@ fn pair_words(
     other: usize,
 ) -> [u32; 14]
     requires { ⌜ e < 100 ⌝ }
-    ensures { λ w. ⌜ w ≡ pairZ (now (s .entry)) (sectionOf (now (entities .entry)) extent) set e at other ⌝ }
+    ensures { λ w. ⌜ w ≡ pairM (now (s .entry)) (sectionOf (now (entities .entry)) extent) set e at other ⌝ }
 {
-    let tier = spelled(lint_tests::tier(s, entities[e]));
+    let tier = spelled(lint_conditions::tier(s, entities[e]));
     let line = lint_walk::number_at(s, at);
     let column = lint_walk::number_at(s, lint_walk::past(s, at, 4));
     let line2 = lint_walk::number_at(s, other);
@@ -58,7 +58,7 @@ fn pair_words(
 
 // Whether the action at a position writes against a write of v to the entity x.
 fn opposing(s: &[u8], star: u32, x: u32, v: u32, other: usize) -> bool
-    ensures { λ r. ⌜ r ≡ opposingZ (now (s .entry)) star x v other ⌝ }
+    ensures { λ r. ⌜ r ≡ opposingM (now (s .entry)) star x v other ⌝ }
 {
     if 1 < lint_walk::kind_at(s, other) {
         return false;
@@ -67,7 +67,7 @@ fn opposing(s: &[u8], star: u32, x: u32, v: u32, other: usize) -> bool
     if x != y {
         return false;
     }
-    lint_tests::opposed(star, x, v, y, lint_findings::value(s, star, other))
+    lint_conditions::opposed(star, x, v, y, lint_findings::value(s, star, other))
 }
 
 // Two writes against each other, at two positions, the first of them to the entity x: a finding if it is declared.
@@ -90,7 +90,7 @@ fn oppose(
     if count <= e {
         return o;
     }
-    lint_board::push_finding(
+    lint_areas::push_finding(
         findings,
         o,
         pair_words(s, entities, extent, set, e, at, other),

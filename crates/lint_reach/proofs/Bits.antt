@@ -14,8 +14,8 @@ use lib.ListN.{length}
 use lib.Count.{ones, ones-step}
 use borrow.Author.Tests.{eq-eqb, ne-eqb}
 use Rattle.texts.specs.Lists.{if_then_else_, keep}
-use Rattle.lint.specs.Reach.{places}
-use Rattle.lint_reach.specs.Sets.{holds, members, withS, collect}
+use Rattle.lint_spec.specs.Reach.{places}
+use Rattle.lint_reach.specs.Sets.{holds, members, withM, collect}
 
 bit : ℕ → ℕ → ℕ
 bit x j = x / 2 ^ j % 2
@@ -111,8 +111,8 @@ or-false false = refl
 
 module _ (f : ℕ → Bool) where
   -- one step's places
-  pub step-holds : (b : Bool) (i x j : ℕ) → holds (withS x i b) j ≡ (holds x j || (b && eqb i j))
-  unfolding withS
+  pub step-holds : (b : Bool) (i x j : ℕ) → holds (withM x i b) j ≡ (holds x j || (b && eqb i j))
+  unfolding withM
   step-holds true i x j = holds-with x i j
   step-holds false i x j = sym (or-false (holds x j))
 
@@ -123,7 +123,7 @@ module _ (f : ℕ → Bool) where
   collect-outside (suc n) i x j h =
       let o : (j < i + 1) ⊎ (i + 1 + n ≤ j) = ⊎-elim (λ w. inl (omega arith)) (λ w. inr (omega arith)) h in
       let d : i ≡ j → ⊥ = λ e. ⊎-elim (λ w. omega arith) (λ w. omega arith) h in
-      collect-outside n (i + 1) (withS x i (f i)) j o
+      collect-outside n (i + 1) (withM x i (f i)) j o
       ∙ step-holds (f i) i x j
       ∙ ap (λ (b : Bool). holds x j || (f i && b)) (ne-eqb i j d)
       ∙ ap (λ (b : Bool). holds x j || b) (and-false (f i))
@@ -136,10 +136,10 @@ module _ (f : ℕ → Bool) where
   pub collect-inside : (n i x j : ℕ) → i ≤ j → j < i + n → holds x j ≡ false → holds (collect f n i x) j ≡ f j
   unfolding collect
   collect-inside zero i x j h k e = absurd (omega arith)
-  collect-inside (suc n) i x j h k e = cases (three i j) (λ a b d. collect-inside n (i + 1) (withS x i (f i)) j a b d)
+  collect-inside (suc n) i x j h k e = cases (three i j) (λ a b d. collect-inside n (i + 1) (withM x i (f i)) j a b d)
     where
       y : ℕ
-      y = withS x i (f i)
+      y = withM x i (f i)
 
       here : i ≡ j → holds y j ≡ f j
       here z =

@@ -10,7 +10,7 @@ use lib.ListN.{length, getD, set, length-set, List·getD-eq-default}
 use lib.Dec.{eqb, ltb}
 use lib.Seq.{getD-set-same, getD-set-other}
 use borrow.Author.Tests.{eqb-true, eqb-false, ltb-true, ltb-false}
-use Rattle.lint_reach.specs.Steps.{Square, cell, put, steps, stepI, stepJ, stepK, closed}
+use Rattle.lint_reach.specs.Steps.{Square, cell, put, steps, step-rowM, step-cellM, step-passM, closed}
 use Rattle.lint_reach.specs.Paths.{Full, Reaches, edge, joined}
 use Rattle.lint_reach.proofs.Laws.{when-true, when-false}
 
@@ -104,7 +104,7 @@ module _ (x : Square) (s : Full x) (k : ℕ) (hk : k < 32) where
       done : Rows x k i y
       row : (b : ℕ) → b < j → cell x k b ≡ true → cell y i b ≡ true
 
-    row-step : (j : ℕ) (y : Square) → j < 32 → Row j y → Row (j + 1) (stepJ k i j y)
+    row-step : (j : ℕ) (y : Square) → j < 32 → Row j y → Row (j + 1) (step-cellM k i j y)
     unfolding Rows
     row-step j y hj p =
         let f = p .at .full in
@@ -133,28 +133,28 @@ module _ (x : Square) (s : Full x) (k : ℕ) (hk : k < 32) where
     at : Stage x k y
     done : Rows x k i y
 
-  rows-step : (i : ℕ) (y : Square) → i < 32 → Done i y → Done (i + 1) (stepI k i y)
+  rows-step : (i : ℕ) (y : Square) → i < 32 → Done i y → Done (i + 1) (step-rowM k i y)
   unfolding Rows
   rows-step i y hi p =
       either (cell y i k)
       (λ t.
       let h : cell x i k ≡ true = ⊎-elim (λ u. u) (λ u. u .0) (p .at .only i k t) in
-      let r = all-steps (Row i hi h) (stepJ k i) (row-step i hi h) y (record { at = p .at; done = p .done; row = λ b l u. absurd (omega arith) }) in
-      rw (when-true (cell y i k) (steps (stepJ k i) 32 0 y) y t)
+      let r = all-steps (Row i hi h) (step-cellM k i) (row-step i hi h) y (record { at = p .at; done = p .done; row = λ b l u. absurd (omega arith) }) in
+      rw (when-true (cell y i k) (steps (step-cellM k i) 32 0 y) y t)
       record {
         at = r .at;
         done = λ a b l u v. below a i l (λ m. r .done a b m u v) (λ m. rw m (r .row b (bound-col x s k b v) v));
       })
       (λ t.
-      rw (when-false (cell y i k) (steps (stepJ k i) 32 0 y) y t)
+      rw (when-false (cell y i k) (steps (step-cellM k i) 32 0 y) y t)
       record {
         at = p .at;
         done = λ a b l u v. below a i l (λ m. p .done a b m u v) (λ m. never (p .at .keeps i k (rw m at u)) t);
       })
 
-  stage : Done 32 (stepK k x)
+  stage : Done 32 (step-passM k x)
   unfolding Rows
-  stage = all-steps Done (stepI k) rows-step x (record { at = record { full = s; keeps = λ a b u. u; only = λ a b u. inl u }; done = λ a b l u v. absurd (omega arith) })
+  stage = all-steps Done (step-rowM k) rows-step x (record { at = record { full = s; keeps = λ a b u. u; only = λ a b u. inl u }; done = λ a b l u v. absurd (omega arith) })
 
 -- the whole, before stage k
 record Closing (e : Square) (k : ℕ) (y : Square) : Type 0 where
@@ -163,12 +163,12 @@ record Closing (e : Square) (k : ℕ) (y : Square) : Type 0 where
   sound : (a b : ℕ) → cell y a b ≡ true → Reaches e a b
   joins : (m a b : ℕ) → m < k → cell y a m ≡ true → cell y m b ≡ true → cell y a b ≡ true
 
-closing-step : (e : Square) (k : ℕ) (x : Square) → k < 32 → Closing e k x → Closing e (k + 1) (stepK k x)
+closing-step : (e : Square) (k : ℕ) (x : Square) → k < 32 → Closing e k x → Closing e (k + 1) (step-passM k x)
 unfolding Rows
 closing-step e k x hk p =
     let d = stage x (p .full) k hk in
     let t = d .at in
-    let via : (a b : ℕ) → cell x a k ≡ true → cell x k b ≡ true → cell (stepK k x) a b ≡ true = λ a b u v. d .done a b (bound-row x (p .full) a k u) u v in
+    let via : (a b : ℕ) → cell x a k ≡ true → cell x k b ≡ true → cell (step-passM k x) a b ≡ true = λ a b u v. d .done a b (bound-row x (p .full) a k u) u v in
     record {
       full = t .full;
       keeps = λ a b u. t .keeps a b (p .keeps a b u);
@@ -188,7 +188,7 @@ closing-step e k x hk p =
 module _ (e : Square) (s : Full e) where
   whole : Closing e 32 (closed e)
   unfolding closed
-  whole = all-steps (Closing e) stepK (closing-step e) e (record { full = s; keeps = λ a b u. u; sound = λ a b u. edge u; joins = λ m a b l u v. absurd (omega arith) })
+  whole = all-steps (Closing e) step-passM (closing-step e) e (record { full = s; keeps = λ a b u. u; sound = λ a b u. edge u; joins = λ m a b l u v. absurd (omega arith) })
 
   pub closed-full : Full (closed e)
   closed-full = whole .full

@@ -13,13 +13,13 @@ use lib.Dec.{eqb}
 use lib.ListN.{length, getD, take, List·getD-eq-default}
 use borrow.Author.Tests.{eq-eqb, ne-eqb}
 use Rattle.texts.specs.Lists.{if_then_else_, any, keep, each, through}
-use Rattle.lint.specs.Reach.{places, square, by-way-of, closure, component, components-from}
-use Rattle.lint.specs.Reach as lint
+use Rattle.lint_spec.specs.Reach.{places, square, by-way-of, closure, component, components-from}
+use Rattle.lint_spec.specs.Reach as lint
 use Rattle.lint_reach.specs.declared.Components.{Components}
 use Rattle.lint_reach.specs.Steps.{Square, cell}
 use Rattle.lint_reach.specs.Paths.{Reaches, edge, joined, Closes}
 use Rattle.lint_reach.specs.Sets.{holds, members}
-use Rattle.lint_reach.specs.Cycles.{bothS, componentS, startsS, componentsFrom, componentsS, Copies}
+use Rattle.lint_reach.specs.Cycles.{bothM, componentM, startsM, componentsFrom, componentsM, Copies}
 use Rattle.lint_reach.proofs.Closure.{below}
 use Rattle.lint_reach.proofs.Bits.{Three, less, same, more, three, holds-or, holds-none, keep-same, collect-inside, collect-members}
 
@@ -257,38 +257,38 @@ module _ (start r : Square) (n : ℕ) (sq : Square) (c : Copies start n sq) (clo
 
   -- ---- components
 
-  both-is : (i j : ℕ) → bothS r i j ≡ (lint.cell (closure sq) i j && lint.cell (closure sq) j i)
-  unfolding bothS
+  both-is : (i j : ℕ) → bothM r i j ≡ (lint.cell (closure sq) i j && lint.cell (closure sq) j i)
+  unfolding bothM
   both-is i j = rw (same-cell i j, same-cell j i, cell-is (closure sq) i j, cell-is (closure sq) j i) (if-and (cell (closure sq) i j) (cell (closure sq) j i))
     where
       if-and : (a b : Bool) → (if a then b else false) ≡ (a && b)
       if-and true b = refl
       if-and false b = refl
 
-  component-is : n ≤ 32 → (i : ℕ) → members (componentS r n i) ≡ component (closure sq) i
-  unfolding componentS component
+  component-is : n ≤ 32 → (i : ℕ) → members (componentM r n i) ≡ component (closure sq) i
+  unfolding componentM component
   component-is h i =
-      collect-members (bothS r i) n h
-      ∙ keep-same (bothS r i) (λ j. lint.cell (closure sq) i j && lint.cell (closure sq) j i) n 0 (λ j a b. both-is i j)
+      collect-members (bothM r i) n h
+      ∙ keep-same (bothM r i) (λ j. lint.cell (closure sq) i j && lint.cell (closure sq) j i) n 0 (λ j a b. both-is i j)
       ∙ ap (λ (m : ℕ). keep (λ j. lint.cell (closure sq) i j && lint.cell (closure sq) j i) (places m 0)) (sym size)
 
   -- the assigned places, as a set and as a list
   Assigned : ℕ → List ℕ → Type 0
   Assigned a l = (j : ℕ) → j < n → holds a j ≡ any (eqb j) l
 
-  assigned-more : (a i : ℕ) (l : List ℕ) → Assigned a l → Assigned (bitOr a (componentS r n i)) (l ++ component (closure sq) i)
-  unfolding Assigned componentS component
+  assigned-more : (a i : ℕ) (l : List ℕ) → Assigned a l → Assigned (bitOr a (componentM r n i)) (l ++ component (closure sq) i)
+  unfolding Assigned componentM component
   assigned-more a i l f j h =
-      holds-or a (componentS r n i) j
+      holds-or a (componentM r n i) j
       ∙ rw (f j h) (ap (λ (b : Bool). any (eqb j) l || b) (
-      collect-inside (bothS r i) n 0 0 j (omega arith) (omega arith) (holds-none j)
+      collect-inside (bothM r i) n 0 0 j (omega arith) (omega arith) (holds-none j)
       ∙ both-is i j
       ∙ sym (any-inside (λ k. lint.cell (closure sq) i k && lint.cell (closure sq) k i) n 0 j (omega arith) (omega arith))
       ∙ ap (λ (m : ℕ). any (eqb j) (keep (λ k. lint.cell (closure sq) i k && lint.cell (closure sq) k i) (places m 0))) (sym size)))
       ∙ sym (any-append (eqb j) l (component (closure sq) i))
 
-  starts-is : (a i : ℕ) (l : List ℕ) → holds a i ≡ any (eqb i) l → startsS r a i ≡ not (any (eqb i) l || not (lint.cell (closure sq) i i))
-  unfolding startsS
+  starts-is : (a i : ℕ) (l : List ℕ) → holds a i ≡ any (eqb i) l → startsM r a i ≡ not (any (eqb i) l || not (lint.cell (closure sq) i i))
+  unfolding startsM
   starts-is a i l e = rw (e, same-cell i i, cell-is (closure sq) i i) (tests (any (eqb i) l) (cell (closure sq) i i))
     where
       tests : (x y : Bool) → (if x then false else y) ≡ not (x || not y)
@@ -304,14 +304,14 @@ module _ (start r : Square) (n : ℕ) (sq : Square) (c : Copies start n sq) (clo
   comps-step h left i a l e ih f = cases (any (eqb i) l || not (lint.cell (closure sq) i i)) refl
     where
       x : ℕ
-      x = componentS r n i
+      x = componentM r n i
 
       cases : (b : Bool) → (any (eqb i) l || not (lint.cell (closure sq) i i)) ≡ b → each members (componentsFrom r n (suc left) i a) ≡ components-from (closure sq) l (i ∷ places left (i + 1))
       cases true d =
-          let s : startsS r a i ≡ false = starts-is a i l e ∙ ap not d in
+          let s : startsM r a i ≡ false = starts-is a i l e ∙ ap not d in
           rw (s, componentsFrom) (rw (d, components-from) (ih a l f))
       cases false d =
-          let s : startsS r a i ≡ true = starts-is a i l e ∙ ap not d in
+          let s : startsM r a i ≡ true = starts-is a i l e ∙ ap not d in
           rw (s, componentsFrom) (rw (d, components-from) (
           ap (λ (y : List ℕ). y ∷ each members (componentsFrom r n left (i + 1) (bitOr a x))) (component-is h i)
           ∙ ap (λ (ys : List (List ℕ)). component (closure sq) i ∷ ys) (ih (bitOr a x) (l ++ component (closure sq) i) (assigned-more a i l f))))
@@ -323,8 +323,8 @@ module _ (start r : Square) (n : ℕ) (sq : Square) (c : Copies start n sq) (clo
       comps-step h left i a l (f i (omega arith)) (λ b m d. comps-are h left (i + 1) b m (omega arith) d) f
 
   -- the sets that the code gathers are the definition's components
-  pub cycles-are : (c : Components) → n ≤ 32 → take (c .count) (c .sets) ≡ componentsS r n → each members (take (c .count) (c .sets)) ≡ lint.components (closure sq)
-  unfolding componentsS lint.components Assigned any
+  pub cycles-are : (c : Components) → n ≤ 32 → take (c .count) (c .sets) ≡ componentsM r n → each members (take (c .count) (c .sets)) ≡ lint.components (closure sq)
+  unfolding componentsM lint.components Assigned any
   cycles-are c h e =
       ap (each members) e
       ∙ comps-are h n 0 0 [] (omega arith) (λ j k. holds-none j)

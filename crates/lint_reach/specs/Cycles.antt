@@ -6,37 +6,37 @@ use mathlib.Core.List.{List, [], _∷_}
 use lib.Bits.{bitOr}
 use lib.ListN.{length, getD, take, set}
 use Rattle.texts.specs.Lists.{if_then_else_, each}
-use Rattle.lint.specs.Reach.{closure}
-use Rattle.lint.specs.Reach as lint
+use Rattle.lint_spec.specs.Reach.{closure}
+use Rattle.lint_spec.specs.Reach as lint
 use Rattle.lint_reach.specs.declared.Components.{Components}
 use Rattle.lint_reach.specs.Steps.{Square, cell}
 use Rattle.lint_reach.specs.Sets.{holds, members, collect}
 
-unfoldable pub bothS : Square → ℕ → ℕ → Bool
-bothS r i j = if cell r i j then cell r j i else false
+unfoldable pub bothM : Square → ℕ → ℕ → Bool
+bothM r i j = if cell r i j then cell r j i else false
 
-unfoldable pub componentS : Square → (n i : ℕ) → ℕ
-componentS r n i = collect (bothS r i) n 0 0
+unfoldable pub componentM : Square → (n i : ℕ) → ℕ
+componentM r n i = collect (bothM r i) n 0 0
 
-unfoldable pub startsS : Square → (assigned i : ℕ) → Bool
-startsS r a i = if holds a i then false else cell r i i
+unfoldable pub startsM : Square → (assigned i : ℕ) → Bool
+startsM r a i = if holds a i then false else cell r i i
 
-unfoldable pub nextS : Square → (n i : ℕ) → Components → Components
-nextS r n i c =
-    if startsS r (c .assigned) i
-    then record { count = c .count + 1; assigned = bitOr (c .assigned) (componentS r n i); sets = set (c .sets) (c .count) (componentS r n i) }
+unfoldable pub nextM : Square → (n i : ℕ) → Components → Components
+nextM r n i c =
+    if startsM r (c .assigned) i
+    then record { count = c .count + 1; assigned = bitOr (c .assigned) (componentM r n i); sets = set (c .sets) (c .count) (componentM r n i) }
     else c
 
 -- of `left` places from i on
 unfoldable pub componentsFrom : Square → (n : ℕ) → (left i assigned : ℕ) → List ℕ
 componentsFrom r n zero i a = []
-componentsFrom r n (suc left) i a = elim (startsS r a i) [
-  | true ↦ componentS r n i ∷ componentsFrom r n left (i + 1) (bitOr a (componentS r n i))
+componentsFrom r n (suc left) i a = elim (startsM r a i) [
+  | true ↦ componentM r n i ∷ componentsFrom r n left (i + 1) (bitOr a (componentM r n i))
   | false ↦ componentsFrom r n left (i + 1) a
 ]
 
-unfoldable pub componentsS : Square → (n : ℕ) → List ℕ
-componentsS r n = componentsFrom r n n 0 0
+unfoldable pub componentsM : Square → (n : ℕ) → List ℕ
+componentsM r n = componentsFrom r n n 0 0
 
 -- the array's first n rows and columns are the square, and its other cells say no
 pub record Copies (start : Square) (n : ℕ) (sq : Square) : Type 0 where

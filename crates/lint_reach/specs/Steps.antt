@@ -19,23 +19,23 @@ when true a b = a
 when false a b = b
 
 -- whether a row leads to a place below n
-unfoldable pub leadsS : List Bool → (n : ℕ) → Bool
-leadsS row zero = false
-leadsS row (suc j) = if getD row j false then true else leadsS row j
+unfoldable pub leadsM : List Bool → (n : ℕ) → Bool
+leadsM row zero = false
+leadsM row (suc j) = if getD row j false then true else leadsM row j
 
 -- n steps from a on
 unfoldable pub steps : (ℕ → Square → Square) → ℕ → ℕ → Square → Square
 steps f zero a r = r
 steps f (suc n) a r = steps f n (a + 1) (f a r)
 
-abbrev pub stepJ : ℕ → ℕ → ℕ → Square → Square
-stepJ k i j r = when (cell r k j) (put r i j) r
+abbrev pub step-cellM : ℕ → ℕ → ℕ → Square → Square
+step-cellM k i j r = when (cell r k j) (put r i j) r
 
-abbrev pub stepI : ℕ → ℕ → Square → Square
-stepI k i r = when (cell r i k) (steps (stepJ k i) 32 0 r) r
+abbrev pub step-rowM : ℕ → ℕ → Square → Square
+step-rowM k i r = when (cell r i k) (steps (step-cellM k i) 32 0 r) r
 
-abbrev pub stepK : ℕ → Square → Square
-stepK k r = steps (stepI k) 32 0 r
+abbrev pub step-passM : ℕ → Square → Square
+step-passM k r = steps (step-rowM k) 32 0 r
 
 unfoldable pub closed : Square → Square
-closed r = steps stepK 32 0 r
+closed r = steps step-passM 32 0 r

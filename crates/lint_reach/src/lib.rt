@@ -4,11 +4,11 @@ ghost use Prim.Native.Nat.{_<_, _≤_, _^_};
 ghost use lib.Bits.{bitOr};
 ghost use lib.Count.{ones};
 ghost use lib.Dec.{ltb};
-ghost use Rattle.lint_reach.specs.Sets.{holds, withS};
-ghost use Rattle.lint_reach.specs.Steps.{leadsS};
+ghost use Rattle.lint_reach.specs.Sets.{holds, withM};
+ghost use Rattle.lint_reach.specs.Steps.{leadsM};
 ghost use Rattle.lint_reach.specs.Paths.{Full, Closes};
 ghost use lib.ListN.{length, take};
-ghost use Rattle.lint_reach.specs.Cycles.{bothS, componentS, startsS, nextS, componentsS, Cycles};
+ghost use Rattle.lint_reach.specs.Cycles.{bothM, componentM, startsM, nextM, componentsM, Cycles};
 
 // ---- sets of places below 32
 
@@ -23,7 +23,7 @@ pub fn with(set: u32, i: usize) -> u32
 // The set with one place more, if the test holds.
 pub fn with_if(set: u32, i: usize, test: bool) -> u32
     requires { ⌜ i < 32 ⌝ }
-    ensures { λ r. ⌜ r ≡ withS set i test ⌝ }
+    ensures { λ r. ⌜ r ≡ withM set i test ⌝ }
 {
     if test {
         return with(set, i);
@@ -49,7 +49,7 @@ pub fn many(set: u32) -> bool
 
 // Whether a row leads anywhere.
 fn leads(row: [bool; 32]) -> bool
-    ensures { λ r. ⌜ r ≡ leadsS row 32 ⌝ }
+    ensures { λ r. ⌜ r ≡ leadsM row 32 ⌝ }
 {
     let mut some = false;
     let mut j: usize = 0;
@@ -96,7 +96,7 @@ pub fn close(start: [[bool; 32]; 32]) -> [[bool; 32]; 32]
 // The places below n that i reaches and that reach i.
 fn component(reach: [[bool; 32]; 32], n: usize, i: usize) -> u32
     requires { ⌜ (n ≤ 32) × (i < 32) × Full reach ⌝ }
-    ensures { λ r. ⌜ r ≡ componentS reach n i ⌝ }
+    ensures { λ r. ⌜ r ≡ componentM reach n i ⌝ }
 {
     let mut set: u32 = 0;
     let mut j: usize = 0;
@@ -109,7 +109,7 @@ fn component(reach: [[bool; 32]; 32], n: usize, i: usize) -> u32
 
 fn both(reach: [[bool; 32]; 32], i: usize, j: usize) -> bool
     requires { ⌜ (i < 32) × (j < 32) × Full reach ⌝ }
-    ensures { λ r. ⌜ r ≡ bothS reach i j ⌝ }
+    ensures { λ r. ⌜ r ≡ bothM reach i j ⌝ }
 {
     if reach[i][j] {
         return reach[j][i];
@@ -127,7 +127,7 @@ pub struct Components {
 // With the component of i, if i reaches itself and has none yet.
 fn with_component(reach: [[bool; 32]; 32], n: usize, i: usize, found: Components) -> Components
     requires { ⌜ (n ≤ 32) × (i < 32) × (found .count < 32) × Full reach ⌝ }
-    ensures { λ r. ⌜ r ≡ nextS reach n i found ⌝ }
+    ensures { λ r. ⌜ r ≡ nextM reach n i found ⌝ }
 {
     if starts(reach, found.assigned, i) {
         let set = component(reach, n, i);
@@ -146,7 +146,7 @@ fn with_component(reach: [[bool; 32]; 32], n: usize, i: usize, found: Components
 // The components of the places below n that reach themselves, each once.
 fn gather(reach: [[bool; 32]; 32], n: usize) -> Components
     requires { ⌜ (n ≤ 32) × Full reach ⌝ }
-    ensures { λ r. ⌜ (take (r .count) (r .sets) ≡ componentsS reach n) × (r .count ≤ n) × (length (r .sets) ≡ 32) ⌝ }
+    ensures { λ r. ⌜ (take (r .count) (r .sets) ≡ componentsM reach n) × (r .count ≤ n) × (length (r .sets) ≡ 32) ⌝ }
 {
     let mut found = Components {
         count: 0,
@@ -164,7 +164,7 @@ fn gather(reach: [[bool; 32]; 32], n: usize) -> Components
 // Whether a place reaches itself and has no component yet.
 fn starts(reach: [[bool; 32]; 32], assigned: u32, i: usize) -> bool
     requires { ⌜ (i < 32) × Full reach ⌝ }
-    ensures { λ r. ⌜ r ≡ startsS reach assigned i ⌝ }
+    ensures { λ r. ⌜ r ≡ startsM reach assigned i ⌝ }
 {
     if has(assigned, i) {
         return false;

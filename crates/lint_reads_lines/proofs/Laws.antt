@@ -12,9 +12,9 @@ use Rattle.texts.specs.Texts.{Text, text, decimal}
 use Rattle.texts.specs.Places.{textAt, startFrom}
 use Rattle.model_parts.specs.declared.Section.{Section}
 use Rattle.model_index.specs.declared.Index.{Index}
-use Rattle.lint.specs.Reach.{places}
+use Rattle.lint_spec.specs.Reach.{places}
 use Rattle.lint_reach.specs.Sets.{members}
-use Rattle.lint_answer.specs.declared.Report.{Report}
+use Rattle.lint_entry.specs.declared.Report.{Report}
 use Rattle.show.specs.Lines.{newline, quoted}
 use Rattle.lint_words.specs.Lines.{spaced, listed, quoted-list}
 use Rattle.lint_words.specs.Numbers.{text-at, name-place, name-of, names-of}

@@ -11,7 +11,7 @@ use lib.ListN.{length}
 use Rattle.texts.specs.Lists.{if_then_else_, each, flat, through}
 use Rattle.texts.specs.Texts.{Text}
 use Rattle.texts.proofs.Ordering.{lt-or-ge}
-use Rattle.lint.specs.Reach.{places}
+use Rattle.lint_spec.specs.Reach.{places}
 use Rattle.lint_reach.specs.Sets.{holds, members}
 use Rattle.lint_words.specs.Lines.{spaced}
 use Rattle.lint_words.proofs.Loops.{from-on, from-turn, from-none, members-are}

@@ -9,9 +9,9 @@ use Rattle.texts.specs.Lists.{if_then_else_, keep, each, through}
 use Rattle.texts.specs.Texts.{Text, text}
 use Rattle.model_parts.specs.declared.Section.{Section}
 use Rattle.model_index.specs.declared.Index.{Index}
-use Rattle.lint.specs.Reach.{places}
+use Rattle.lint_spec.specs.Reach.{places}
 use Rattle.lint_reach.specs.Sets.{members}
-use Rattle.lint_answer.specs.declared.Report.{Report}
+use Rattle.lint_entry.specs.declared.Report.{Report}
 use Rattle.lint_words.specs.Numbers.{text-at, name-place, name-of, names-of}
 use Rattle.lint_reads_lines.specs.Lines.{touched-line}
 

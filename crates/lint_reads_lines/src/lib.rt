@@ -1,6 +1,6 @@
 // The lines of what each automation reads and writes, in `lint`'s answer. The writers put texts behind the first n bytes of a
 // lent area, as those of `show` do. f is the model file.
-use lint_answer::Report;
+use lint_entry::Report;
 use lint_words::name_place;
 use lint_words::put_members;
 use lint_words::put_name;

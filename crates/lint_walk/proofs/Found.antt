@@ -7,14 +7,14 @@ use native.Mathlib.Omega.{arith}
 use native.Mathlib.Nat.{mul-suc}
 use lib.ListN.{length, getD}
 use Rattle.texts.specs.Texts.{Text}
-use Rattle.model.specs.Model.{Source, Predicate, state, window, Trigger, Effect, toggle, delay, condition, choose, wait, Actions, Branches, Automation}
-use Rattle.model.specs.File.{got, Reader, _>>=_, give, refuse, u8, u16, u32, times, counted, flag, source, mode, place, predicate, trigger, branches, effect, actions, automation, effect-kinds}
+use Rattle.model_spec.specs.Model.{Source, Predicate, state, window, Trigger, Effect, toggle, delay, condition, choose, wait, Actions, Branches, Automation}
+use Rattle.model_spec.specs.File.{got, Reader, _>>=_, give, refuse, u8, u16, u32, times, counted, flag, source, mode, place, predicate, trigger, branches, effect, actions, automation, effect-kinds}
 use Rattle.model_walk.proofs.Found.{bound, given, Wide, wide-sum, u8-wide, u16-wide, u32-wide, source-wide, kind-wide, counted-found, Kind, kind-found, place-found, predicate-wide, u8-value, Value?, trigger-found}
 use Rattle.model_walk.proofs.Found as found
 use Rattle.model_walk.proofs.Sees.{sees-flag, sees-mode}
 use Rattle.model_parts.proofs.Stands.{more}
-use Rattle.lint.specs.Touches.{Action}
-use Rattle.lint_walk.specs.Raw.{value-of, byteZ, placeZ, numberZ, past, repeat, predicateEnd, predicatesEnd, simpleEnd, kindZ, triggersZ, conditionsZ, actionsZ}
+use Rattle.lint_spec.specs.Touches.{Action}
+use Rattle.lint_walk.specs.Raw.{value-of, byteM, placeM, numberM, past, repeat, predicateEnd, predicatesEnd, simpleEnd, kindM, triggersM, conditionsM, actionsM}
 use Rattle.lint_walk.proofs.Laws as laws
 
 -- ---- numbers
@@ -24,22 +24,22 @@ module _ (s : List ℕ) where
   past-is {w} {p} h = laws.past-in s p w (h .inside) ∙ sym (h .ends)
 
   module _ (p : ℕ) {v q : ℕ} where
-    pub byte-got : u8 s p ≡ got v q → byteZ s p ≡ v
+    pub byte-got : u8 s p ≡ got v q → byteM s p ≡ v
     unfolding value-of
     byte-got e = laws.byte-is s p ∙ ap value-of e
 
-    pub place-got : u16 s p ≡ got v q → placeZ s p ≡ v
+    pub place-got : u16 s p ≡ got v q → placeM s p ≡ v
     unfolding value-of
     place-got e = laws.place-is s p ∙ ap value-of e
 
-    pub number-got : u32 s p ≡ got v q → numberZ s p ≡ v
+    pub number-got : u32 s p ≡ got v q → numberM s p ≡ v
     unfolding value-of
     number-got e = laws.number-is s p ∙ ap value-of e
 
 -- a source: its two numbers
 pub record SourceAt (s : List ℕ) (p : ℕ) (x : Source) (q : ℕ) : Type 0 where
-  pub line : numberZ s p ≡ x .line
-  pub column : numberZ s (past s p 4) ≡ x .column
+  pub line : numberM s p ≡ x .line
+  pub column : numberM s (past s p 4) ≡ x .column
   pub wide : Wide 8 s p q
 
 pub source-found : {s : List ℕ} {p : ℕ} {x : Source} {q : ℕ} → source s p ≡ got x q → SourceAt s p x q
@@ -50,7 +50,7 @@ source-found {s} {p} {x} {q} e =
     let g = given _ _ _ (c .rest) in
     record {
       line = number-got s _ (l .first) ∙ ap (λ (y : Source). y .line) (g .0);
-      column = ap (numberZ s) (past-is s (u32-wide s p (l .first))) ∙ number-got s _ (c .first) ∙ ap (λ (y : Source). y .column) (g .0);
+      column = ap (numberM s) (past-is s (u32-wide s p (l .first))) ∙ number-got s _ (c .first) ∙ ap (λ (y : Source). y .column) (g .0);
       wide = source-wide s p e;
     }
 
@@ -58,10 +58,10 @@ module _ (ts : List Text) (s : List ℕ) where
   -- ---- predicates
 
   pub data PredicateAt (p : ℕ) (q : ℕ) : Predicate → Type 0 where
-    state-at : (x v : ℕ) → byteZ s p ≡ 0 → placeZ s (past s p 1) ≡ x → placeZ s (past s p 3) ≡ v →
+    state-at : (x v : ℕ) → byteM s p ≡ 0 → placeM s (past s p 1) ≡ x → placeM s (past s p 3) ≡ v →
         x < length ts → v < length ts → predicateEnd s p ≡ q → PredicateAt p q (state (getD ts x []) (getD ts v []))
-    note-at : (r : Text) → byteZ s p ≡ 1 → predicateEnd s p ≡ q → PredicateAt p q (Predicate.unknown r)
-    window-at : (d b e : ℕ) → byteZ s p ≡ 2 → predicateEnd s p ≡ q → PredicateAt p q (window d b e)
+    note-at : (r : Text) → byteM s p ≡ 1 → predicateEnd s p ≡ q → PredicateAt p q (Predicate.unknown r)
+    window-at : (d b e : ℕ) → byteM s p ≡ 2 → predicateEnd s p ≡ q → PredicateAt p q (window d b e)
 
   predicate-kinds : List (Reader Predicate)
   predicate-kinds =
@@ -96,8 +96,8 @@ module _ (ts : List Text) (s : List ℕ) where
           let w₁ = wide-sum w (u16-wide s o (f .is-place)) in
           subst (λ (b : Predicate). PredicateAt p q b) (ap (λ (t : Text). state t (getD ts (g .at) [])) (sym (f .is-text)) ∙ ap (state (x .value)) (sym (g .is-text)) ∙ z .0)
           (state-at (f .at) (g .at) (byte-got s _ d)
-          (ap (placeZ s) (past-is s w) ∙ place-got s _ (f .is-place))
-          (ap (placeZ s) (past-is s w₁) ∙ place-got s _ (g .is-place))
+          (ap (placeM s) (past-is s w) ∙ place-got s _ (f .is-place))
+          (ap (placeM s) (past-is s w₁) ∙ place-got s _ (g .is-place))
           (f .is-in) (g .is-in) ended)
       cases (suc zero) d h =
           let x = bound (place ts) _ h in
@@ -136,10 +136,10 @@ module _ (ts : List Text) (s : List ℕ) where
   pub record TriggerAt (p : ℕ) (t : Trigger) (q : ℕ) : Type 0 where
     pub x : ℕ
     pub is-in : x < length ts
-    pub at-entity : placeZ s p ≡ x
+    pub at-entity : placeM s p ≡ x
     pub is-entity : t .entity ≡ getD ts x []
-    pub to-at : Value? ts (placeZ s (past s p 4)) (t .to)
-    pub note-at : Value? ts (placeZ s (past s p 14)) (t .note)
+    pub to-at : Value? ts (placeM s (past s p 4)) (t .to)
+    pub note-at : Value? ts (placeM s (past s p 14)) (t .note)
     pub wide : Wide 16 s p q
 
   pub trigger-at : {p : ℕ} {t : Trigger} {q : ℕ} → trigger ts s p ≡ got t q → TriggerAt p t q
@@ -158,8 +158,8 @@ module _ (ts : List Text) (s : List ℕ) where
         is-in = f .entity-at .is-in;
         at-entity = place-got s _ (f .entity-at .is-place);
         is-entity = f .entity-at .is-text;
-        to-at = subst (λ (n : ℕ). Value? ts n (t .to)) (sym (ap (placeZ s) (past-is s v₂) ∙ place-got s _ (f .to-at .is-place))) (f .to-at .is-value);
-        note-at = subst (λ (n : ℕ). Value? ts n (t .note)) (sym (ap (placeZ s) (past-is s v₄) ∙ place-got s _ (f .note-at .is-place))) (f .note-at .is-value);
+        to-at = subst (λ (n : ℕ). Value? ts n (t .to)) (sym (ap (placeM s) (past-is s v₂) ∙ place-got s _ (f .to-at .is-place))) (f .to-at .is-value);
+        note-at = subst (λ (n : ℕ). Value? ts n (t .note)) (sym (ap (placeM s) (past-is s v₄) ∙ place-got s _ (f .note-at .is-place))) (f .note-at .is-value);
         wide = wide-sum v₄ w₅;
       }
 
@@ -176,15 +176,15 @@ module _ (ts : List Text) (s : List ℕ) where
   -- ---- effects: from the position of the action on
 
   pub data EffectAt (left p q : ℕ) : Effect → Type 0 where
-    set-at : (x v : ℕ) → kindZ s p ≡ 0 → placeZ s (past s p 9) ≡ x → placeZ s (past s p 11) ≡ v → x < length ts → v < length ts → simpleEnd s 0 (past s p 9) ≡ q →
+    set-at : (x v : ℕ) → kindM s p ≡ 0 → placeM s (past s p 9) ≡ x → placeM s (past s p 11) ≡ v → x < length ts → v < length ts → simpleEnd s 0 (past s p 9) ≡ q →
         EffectAt left p q (Effect.set (getD ts x []) (getD ts v []))
-    toggle-at : (x : ℕ) → kindZ s p ≡ 1 → placeZ s (past s p 9) ≡ x → x < length ts → simpleEnd s 1 (past s p 9) ≡ q → EffectAt left p q (toggle (getD ts x []))
-    delay-at : (n : ℕ) → kindZ s p ≡ 2 → simpleEnd s 2 (past s p 9) ≡ q → EffectAt left p q (delay n)
-    condition-at : (a : Predicate) → kindZ s p ≡ 3 → PredicateAt (past s p 9) q a → simpleEnd s 3 (past s p 9) ≡ q → EffectAt left p q (condition a)
-    choose-at : (bs : Branches) (d : Actions) (n r : ℕ) → kindZ s p ≡ 4 → u16 s (past s p 9) ≡ got n (past s p 11) → branches ts (actions ts left) n s (past s p 11) ≡ got bs r → actions ts left s r ≡ got d q →
+    toggle-at : (x : ℕ) → kindM s p ≡ 1 → placeM s (past s p 9) ≡ x → x < length ts → simpleEnd s 1 (past s p 9) ≡ q → EffectAt left p q (toggle (getD ts x []))
+    delay-at : (n : ℕ) → kindM s p ≡ 2 → simpleEnd s 2 (past s p 9) ≡ q → EffectAt left p q (delay n)
+    condition-at : (a : Predicate) → kindM s p ≡ 3 → PredicateAt (past s p 9) q a → simpleEnd s 3 (past s p 9) ≡ q → EffectAt left p q (condition a)
+    choose-at : (bs : Branches) (d : Actions) (n r : ℕ) → kindM s p ≡ 4 → u16 s (past s p 9) ≡ got n (past s p 11) → branches ts (actions ts left) n s (past s p 11) ≡ got bs r → actions ts left s r ≡ got d q →
         EffectAt left p q (choose bs d)
-    wait-at : (t : Trigger) (m : ℕ) (c : Bool) (r : ℕ) → kindZ s p ≡ 5 → TriggerAt (past s p 9) t r → simpleEnd s 5 (past s p 9) ≡ q → EffectAt left p q (wait t m c)
-    unknown-at : (n : ℕ) → kindZ s p ≡ 6 → placeZ s (past s p 9) ≡ n → n < length ts → simpleEnd s 6 (past s p 9) ≡ q → EffectAt left p q (Effect.unknown (getD ts n []))
+    wait-at : (t : Trigger) (m : ℕ) (c : Bool) (r : ℕ) → kindM s p ≡ 5 → TriggerAt (past s p 9) t r → simpleEnd s 5 (past s p 9) ≡ q → EffectAt left p q (wait t m c)
+    unknown-at : (n : ℕ) → kindM s p ≡ 6 → placeM s (past s p 9) ≡ n → n < length ts → simpleEnd s 6 (past s p 9) ≡ q → EffectAt left p q (Effect.unknown (getD ts n []))
 
   pub effect-found : (left : ℕ) {p o : ℕ} {f : Effect} {q : ℕ} → Wide 8 s p o → effect ts (actions ts left) s o ≡ got f q → EffectAt left p q f
   unfolding effect
@@ -196,7 +196,7 @@ module _ (ts : List Text) (s : List ℕ) where
       n : ℕ
       n = k .next
 
-      kind : (i : ℕ) → u8 s o ≡ got i n → kindZ s p ≡ i
+      kind : (i : ℕ) → u8 s o ≡ got i n → kindM s p ≡ i
       kind i d = sym (laws.kind-is s p o (sym (past-is s w))) ∙ byte-got s _ d
 
       w₉ : (i : ℕ) → u8 s o ≡ got i n → Wide 9 s p n
@@ -218,15 +218,15 @@ module _ (ts : List Text) (s : List ℕ) where
           let u₁ = u16-wide s n (a .is-place) in
           let u₂ = u16-wide s (x .next) (b .is-place) in
           same (ap (λ (t : Text). Effect.set t (getD ts (b .at) [])) (sym (a .is-text)) ∙ ap (Effect.set (x .value)) (sym (b .is-text)) ∙ z .0)
-          (set-at (a .at) (b .at) (kind 0 d) (ap (placeZ s) (nine 0 d) ∙ place-got s _ (a .is-place))
-          (ap (placeZ s) (past-is s (wide-sum (w₉ 0 d) u₁)) ∙ place-got s _ (b .is-place)) (a .is-in) (b .is-in)
+          (set-at (a .at) (b .at) (kind 0 d) (ap (placeM s) (nine 0 d) ∙ place-got s _ (a .is-place))
+          (ap (placeM s) (past-is s (wide-sum (w₉ 0 d) u₁)) ∙ place-got s _ (b .is-place)) (a .is-in) (b .is-in)
           (ap (simpleEnd s 0) (nine 0 d) ∙ laws.simple-0 s n refl ∙ past-is s (wide-sum u₁ u₂)))
       cases (suc zero) d h =
           let x = bound (place ts) _ h in
           let z = given _ _ _ (x .rest) in
           let a = place-found ts (x .first ∙ ap (got (x .value)) (z .1)) in
           same (ap toggle (sym (a .is-text)) ∙ z .0)
-          (toggle-at (a .at) (kind 1 d) (ap (placeZ s) (nine 1 d) ∙ place-got s _ (a .is-place)) (a .is-in)
+          (toggle-at (a .at) (kind 1 d) (ap (placeM s) (nine 1 d) ∙ place-got s _ (a .is-place)) (a .is-in)
           (ap (simpleEnd s 1) (nine 1 d) ∙ laws.simple-else s n (λ y. omega arith) (λ y. omega arith) (λ y. omega arith) (λ y. omega arith) ∙ past-is s (u16-wide s n (a .is-place))))
       cases (suc (suc zero)) d h =
           let x = bound u32 _ h in
@@ -266,7 +266,7 @@ module _ (ts : List Text) (s : List ℕ) where
           let z = given _ _ _ (x .rest) in
           let a = place-found ts (x .first ∙ ap (got (x .value)) (z .1)) in
           same (ap Effect.unknown (sym (a .is-text)) ∙ z .0)
-          (unknown-at (a .at) (kind 6 d) (ap (placeZ s) (nine 6 d) ∙ place-got s _ (a .is-place)) (a .is-in)
+          (unknown-at (a .at) (kind 6 d) (ap (placeM s) (nine 6 d) ∙ place-got s _ (a .is-place)) (a .is-in)
           (ap (simpleEnd s 6) (nine 6 d) ∙ laws.simple-else s n (λ y. omega arith) (λ y. omega arith) (λ y. omega arith) (λ y. omega arith) ∙ past-is s (u16-wide s n (a .is-place))))
       cases (suc (suc (suc (suc (suc (suc (suc i))))))) d h = absurd (found.refused s n h)
 
@@ -283,12 +283,12 @@ module _ (ts : List Text) (s : List ℕ) where
 
   pub record RuleAt (p : ℕ) (r : Automation) : Type 0 where
     pub start : ℕ
-    pub triggers : u16 s (triggersZ s p) ≡ got (length (r .triggers)) start
-    pub are-triggers : times (length (r .triggers)) (trigger ts) s start ≡ got (r .triggers) (conditionsZ s p)
-    pub conditions : counted (predicate ts) s (conditionsZ s p) ≡ got (r .conditions) (actionsZ s p)
+    pub triggers : u16 s (triggersM s p) ≡ got (length (r .triggers)) start
+    pub are-triggers : times (length (r .triggers)) (trigger ts) s start ≡ got (r .triggers) (conditionsM s p)
+    pub conditions : counted (predicate ts) s (conditionsM s p) ≡ got (r .conditions) (actionsM s p)
     pub at-source : ℕ
     pub at-notes : ℕ
-    pub are-actions : actions ts 18 s (actionsZ s p) ≡ got (r .actions) at-source
+    pub are-actions : actions ts 18 s (actionsM s p) ≡ got (r .actions) at-source
     pub source-at : source s at-source ≡ got (r .source) at-notes
     pub behind-id : ℕ
     pub id-at : place ts s p ≡ got (r .id) behind-id
@@ -316,12 +316,12 @@ module _ (ts : List Text) (s : List ℕ) where
       let w₂ = kind-wide 4 mode sees-mode (m .first) in
       let w₃ = u32-wide s (m .next) (x .first) in
       let w₇ : Wide 7 s p (x .next) = wide-sum (wide-sum w₁ w₂) w₃ in
-      let zt : triggersZ s p ≡ x .next = laws.triggers-is s p ∙ past-is s w₇ in
+      let zt : triggersM s p ≡ x .next = laws.triggers-is s p ∙ past-is s w₇ in
       let f = counted-found (trigger ts) (t .first) in
       let wc = u16-wide s (x .next) (f .is-count) in
       let wt = times-wide (trigger ts) 16 (λ p a q d. trigger-at d .wide) (f .count) (f .start) (t .value) (t .next) (omega (arith, wc .ends, wc .inside)) (f .are-values) in
-      let zc : conditionsZ s p ≡ t .next = sym (laws.conditions-is s p (x .next) (f .count) (f .start) (sym zt) (sym (place-got s _ (f .is-count))) (sym (past-is s wc))) ∙ past-is s wt in
-      let za : actionsZ s p ≡ c .next = sym (laws.actions-is s p (t .next) (sym zc)) ∙ predicates-end (t .next) (c .first) in
+      let zc : conditionsM s p ≡ t .next = sym (laws.conditions-is s p (x .next) (f .count) (f .start) (sym zt) (sym (place-got s _ (f .is-count))) (sym (past-is s wc))) ∙ past-is s wt in
+      let za : actionsM s p ≡ c .next = sym (laws.actions-is s p (t .next) (sym zc)) ∙ predicates-end (t .next) (c .first) in
       let ln = times-length (trigger ts) (f .count) (f .start) (t .value) (t .next) (f .are-values) in
       subst (λ (y : Automation). RuleAt p y) (z .0) (record {
         start = f .start;

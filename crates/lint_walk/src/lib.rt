@@ -4,13 +4,13 @@ use model_walk::Num;
 ghost use mathlib.Core.Path.{_≡_};
 ghost use Prim.Native.Nat.{_+_, _≤_, _<_};
 ghost use lib.ListN.{replicate};
-ghost use Rattle.lint_walk.specs.Raw.{byteZ, placeZ, numberZ, past, predicateEnd, predicatesEnd, simpleEnd, kindZ, triggersZ, conditionsZ, actionsZ};
-ghost use Rattle.lint_walk.specs.Walks.{walkOf, movedC, notedW, enteredW, simpleW, listW, choiceW, walkW, listEnd};
+ghost use Rattle.lint_walk.specs.Raw.{byteM, placeM, numberM, past, predicateEnd, predicatesEnd, simpleEnd, kindM, triggersM, conditionsM, actionsM};
+ghost use Rattle.lint_walk.specs.Walks.{walkOf, moved-cursorM, notedM, enteredM, simpleM, listM, choiceM, walkM, listEnd};
 
 // ---- numbers
 
 pub fn byte_at(s: &[u8], at: usize) -> u32
-    ensures { λ r. ⌜ r ≡ byteZ (now (s .entry)) at ⌝ }
+    ensures { λ r. ⌜ r ≡ byteM (now (s .entry)) at ⌝ }
 {
     let x = model_walk::u8_at(s, at);
     let Num::Is(v, _) = x else {
@@ -20,7 +20,7 @@ pub fn byte_at(s: &[u8], at: usize) -> u32
 }
 
 pub fn place_at(s: &[u8], at: usize) -> u32
-    ensures { λ r. ⌜ r ≡ placeZ (now (s .entry)) at ⌝ }
+    ensures { λ r. ⌜ r ≡ placeM (now (s .entry)) at ⌝ }
 {
     let x = model_walk::u16_at(s, at);
     let Num::Is(v, _) = x else {
@@ -30,7 +30,7 @@ pub fn place_at(s: &[u8], at: usize) -> u32
 }
 
 pub fn number_at(s: &[u8], at: usize) -> u32
-    ensures { λ r. ⌜ r ≡ numberZ (now (s .entry)) at ⌝ }
+    ensures { λ r. ⌜ r ≡ numberM (now (s .entry)) at ⌝ }
 {
     let x = model_walk::u32_at(s, at);
     let Num::Is(v, _) = x else {
@@ -95,7 +95,7 @@ fn simple_end(s: &[u8], kind: u32, at: usize) -> usize
 
 // The kind of the action at a position.
 pub fn kind_at(s: &[u8], at: usize) -> u32
-    ensures { λ r. ⌜ r ≡ kindZ (now (s .entry)) at ⌝ }
+    ensures { λ r. ⌜ r ≡ kindM (now (s .entry)) at ⌝ }
 {
     byte_at(s, past(s, at, 8))
 }
@@ -104,14 +104,14 @@ pub fn kind_at(s: &[u8], at: usize) -> u32
 
 // The count of its triggers.
 pub fn triggers_at(s: &[u8], at: usize) -> usize
-    ensures { λ r. ⌜ r ≡ triggersZ (now (s .entry)) at ⌝ }
+    ensures { λ r. ⌜ r ≡ triggersM (now (s .entry)) at ⌝ }
 {
     past(s, at, 7)
 }
 
 // The count of its conditions; a trigger has 16 bytes.
 pub fn conditions_at(s: &[u8], at: usize) -> usize
-    ensures { λ r. ⌜ r ≡ conditionsZ (now (s .entry)) at ⌝ }
+    ensures { λ r. ⌜ r ≡ conditionsM (now (s .entry)) at ⌝ }
 {
     let p = triggers_at(s, at);
     let count = place_at(s, p) as usize;
@@ -120,7 +120,7 @@ pub fn conditions_at(s: &[u8], at: usize) -> usize
 
 // The count of its actions.
 fn actions_at(s: &[u8], at: usize) -> usize
-    ensures { λ r. ⌜ r ≡ actionsZ (now (s .entry)) at ⌝ }
+    ensures { λ r. ⌜ r ≡ actionsM (now (s .entry)) at ⌝ }
 {
     predicates_end(s, conditions_at(s, at))
 }
@@ -141,7 +141,7 @@ pub struct Cursor {
 }
 
 fn moved(c: Cursor, next: usize) -> Cursor
-    ensures { λ r. ⌜ r ≡ movedC c next ⌝ }
+    ensures { λ r. ⌜ r ≡ moved-cursorM c next ⌝ }
 {
     Cursor {
         count: c.count,
@@ -151,7 +151,7 @@ fn moved(c: Cursor, next: usize) -> Cursor
 
 // One action more, at the position that is next.
 fn noted(list: &mut [usize; 512], c: Cursor) -> Cursor
-    ensures { λ r. ⌜ walkOf (now (list .exit)) r ≡ notedW (walkOf (now (list .entry)) c) ⌝ }
+    ensures { λ r. ⌜ walkOf (now (list .exit)) r ≡ notedM (walkOf (now (list .entry)) c) ⌝ }
 {
     let count = c.count;
     if count < 512 {
@@ -166,14 +166,14 @@ fn noted(list: &mut [usize; 512], c: Cursor) -> Cursor
 
 // The action that is next is a choice: its branches are next.
 fn entered(s: &[u8], list: &mut [usize; 512], c: Cursor) -> Cursor
-    ensures { λ r. ⌜ walkOf (now (list .exit)) r ≡ enteredW (now (s .entry)) (walkOf (now (list .entry)) c) ⌝ }
+    ensures { λ r. ⌜ walkOf (now (list .exit)) r ≡ enteredM (now (s .entry)) (walkOf (now (list .entry)) c) ⌝ }
 {
     moved(noted(list, c), past(s, c.next, 9))
 }
 
 // The action that is next holds no list.
 fn simple_walk(s: &[u8], list: &mut [usize; 512], c: Cursor) -> Cursor
-    ensures { λ r. ⌜ walkOf (now (list .exit)) r ≡ simpleW (now (s .entry)) (walkOf (now (list .entry)) c) ⌝ }
+    ensures { λ r. ⌜ walkOf (now (list .exit)) r ≡ simpleM (now (s .entry)) (walkOf (now (list .entry)) c) ⌝ }
 {
     let kind = kind_at(s, c.next);
     let end = simple_end(s, kind, past(s, c.next, 9));
@@ -182,7 +182,7 @@ fn simple_walk(s: &[u8], list: &mut [usize; 512], c: Cursor) -> Cursor
 
 // A list of actions in which lists stand at most `left` deep, itself counted.
 fn list_walk(s: &[u8], left: usize, list: &mut [usize; 512], c: Cursor) -> Cursor
-    ensures { λ r. ⌜ walkOf (now (list .exit)) r ≡ listW left (now (s .entry)) (walkOf (now (list .entry)) c) ⌝ }
+    ensures { λ r. ⌜ walkOf (now (list .exit)) r ≡ listM left (now (s .entry)) (walkOf (now (list .entry)) c) ⌝ }
 {
     if left == 0 {
         return c;
@@ -204,7 +204,7 @@ fn list_walk(s: &[u8], left: usize, list: &mut [usize; 512], c: Cursor) -> Curso
 
 // The branches of a choice and its default; its lists stand at most `left` deep.
 fn choice_walk(s: &[u8], left: usize, list: &mut [usize; 512], c: Cursor) -> Cursor
-    ensures { λ r. ⌜ walkOf (now (list .exit)) r ≡ choiceW (now (s .entry)) (listW left (now (s .entry))) (walkOf (now (list .entry)) c) ⌝ }
+    ensures { λ r. ⌜ walkOf (now (list .exit)) r ≡ choiceM (now (s .entry)) (listM left (now (s .entry))) (walkOf (now (list .entry)) c) ⌝ }
 {
     let mut i = place_at(s, c.next);
     let mut v = moved(c, past(s, c.next, 2));
@@ -218,7 +218,7 @@ fn choice_walk(s: &[u8], left: usize, list: &mut [usize; 512], c: Cursor) -> Cur
 // The actions of the automation at a position, into a list of zeros; its source is next.
 pub fn rule_walk(s: &[u8], at: usize, list: &mut [usize; 512]) -> Cursor
     requires { ⌜ now list ≡ replicate 512 0 ⌝ }
-    ensures { λ r. ⌜ walkOf (now (list .exit)) r ≡ walkW (now (s .entry)) at ⌝ }
+    ensures { λ r. ⌜ walkOf (now (list .exit)) r ≡ walkM (now (s .entry)) at ⌝ }
 {
     let start = Cursor {
         count: 0,
@@ -238,7 +238,7 @@ pub fn list_end(s: &[u8], at: usize) -> usize
 
 // The source of the automation at a position: it stands behind the actions.
 pub fn source_at(s: &[u8], at: usize) -> usize
-    ensures { λ r. ⌜ r ≡ walkW (now (s .entry)) at .next ⌝ }
+    ensures { λ r. ⌜ r ≡ walkM (now (s .entry)) at .next ⌝ }
 {
     list_end(s, actions_at(s, at))
 }

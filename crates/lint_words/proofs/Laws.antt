@@ -8,17 +8,17 @@ use native.Mathlib.Omega.{arith}
 use borrow.Author.Tests.{lt-ltb, le-ltb}
 use lib.Count.{ones}
 use lib.ListN.{length, getD, take, List·getD-eq-default}
-use Rattle.engine.proofs.Bounds.{length-each}
+use Rattle.engine_spec.proofs.Bounds.{length-each}
 use Rattle.texts.specs.Lists.{if_then_else_, each, flat}
 use Rattle.texts.specs.Texts.{Text, text, decimal}
 use Rattle.texts.specs.Places.{textAt, startFrom}
 use Rattle.texts.proofs.Ordering.{lt-or-ge}
 use Rattle.model_parts.specs.declared.Section.{Section}
-use Rattle.lint.specs.Findings.{unsupported-note, code-name, message}
-use Rattle.lint.specs.Words.{tiers}
+use Rattle.lint_spec.specs.Findings.{unsupported-note, code-name, message}
+use Rattle.lint_spec.specs.Words.{tiers}
 use Rattle.lint_reach.specs.Sets.{members}
 use Rattle.lint_reach.proofs.Bits.{ones-members}
-use Rattle.lint_walk.specs.Raw.{placeZ}
+use Rattle.lint_walk.specs.Raw.{placeM}
 use Rattle.show.specs.Lines.{escape, quoted, all-lines}
 use Rattle.show.proofs.Laws as show
 use Rattle.lint_words.specs.Lines.{spaced, listed, quoted-list}
@@ -145,9 +145,9 @@ module _ (s : Section) (i : ℕ) where
   start-out h = rw (le-ltb i 100 h)
 
   module _ (f : List ℕ) where
-    pub place-is : (p r : ℕ) → p ≡ start-at s i → r ≡ placeZ f p → r ≡ name-place f s i
+    pub place-is : (p r : ℕ) → p ≡ start-at s i → r ≡ placeM f p → r ≡ name-place f s i
     unfolding name-place
-    place-is p r e h = h ∙ ap (placeZ f) e
+    place-is p r e h = h ∙ ap (placeM f) e
 
     name-is : (q at : ℕ) → q ≡ name-place f s i → at ≡ startFrom f 6 q → textAt f at ≡ name-of f s i
     unfolding name-of text-at

@@ -6,7 +6,7 @@ use Prim.Native.Nat.{ℕ, suc, _+_, _-_, _≤_, _<_}
 use native.Mathlib.Omega.{arith}
 use Rattle.texts.specs.Lists.{if_then_else_, keep, each, flat}
 use Rattle.texts.specs.Texts.{Text}
-use Rattle.lint.specs.Reach.{places}
+use Rattle.lint_spec.specs.Reach.{places}
 use Rattle.lint_reach.specs.Sets.{holds, members}
 use Rattle.show.specs.Writing.{Written}
 use Rattle.show.proofs.Laws as show

@@ -8,10 +8,10 @@ use Rattle.texts.specs.Lists.{if_then_else_, each}
 use Rattle.texts.specs.Texts.{Text, text}
 use Rattle.texts.specs.Places.{textAt, startFrom}
 use Rattle.model_parts.specs.declared.Section.{Section}
-use Rattle.lint.specs.Findings.{Problem, unreachable-conditions, trigger-condition-mismatch, delayed-write, unreachable-branch, high-fanout, trigger-cycle, freshness-assumption, missing-safety-guard, opposing-writes, unsupported-note}
-use Rattle.lint.specs.Words.{tiers}
+use Rattle.lint_spec.specs.Findings.{Problem, unreachable-conditions, trigger-condition-mismatch, delayed-write, unreachable-branch, high-fanout, trigger-cycle, freshness-assumption, missing-safety-guard, opposing-writes, unsupported-note}
+use Rattle.lint_spec.specs.Words.{tiers}
 use Rattle.lint_reach.specs.Sets.{members}
-use Rattle.lint_walk.specs.Raw.{placeZ}
+use Rattle.lint_walk.specs.Raw.{placeM}
 
 -- ---- texts and names
 
@@ -24,7 +24,7 @@ start-at s i = if ltb i 100 then getD (s .starts) i 0 else 0
 
 -- the place of its name: an automation's identifier, an entity's name
 unfoldable pub name-place : (f : List ℕ) → Section → (i : ℕ) → ℕ
-name-place f s i = placeZ f (start-at s i)
+name-place f s i = placeM f (start-at s i)
 
 unfoldable pub name-of : (f : List ℕ) → Section → (i : ℕ) → Text
 name-of f s i = text-at f (name-place f s i)

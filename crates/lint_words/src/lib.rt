@@ -9,7 +9,7 @@ ghost use Rattle.texts.specs.Lists.{if_then_else_, flat};
 ghost use Rattle.texts.specs.Texts.{Text};
 ghost use Rattle.texts.specs.Places.{textAt};
 ghost use Rattle.reasons.specs.Reasons.{render};
-ghost use Rattle.lint.specs.Findings.{code-name, message};
+ghost use Rattle.lint_spec.specs.Findings.{code-name, message};
 ghost use Rattle.lint_reach.specs.Sets.{holds};
 ghost use Rattle.show.specs.Lines.{quoted, escape};
 ghost use Rattle.show.specs.Writing.{Written};

@@ -10,12 +10,12 @@ use lib.Dec.{ltb, eqb}
 use borrow.Author.Tests.{lt-leb, eq-eqb, ne-eqb, eqb-true, eqb-false}
 use Rattle.texts.specs.Lists.{if_then_else_, absent, listed, any, find}
 use Rattle.texts.specs.Texts.{Text, text, eqT, memT}
-use Rattle.model.specs.Answer.{Answer, answer, refused, Verdict, accept, _>>=_, _and_, _when_, each-accepted}
-use Rattle.model.specs.Model.{observational, Entity, Predicate, state, window, Trigger, named, is-window}
-use Rattle.model.specs.File.{_>>=_ as _>>=ᵣ_}
-use Rattle.model.specs.File.{refuse as refuse-reader}
-use Rattle.model.specs.File.{got, Reader, give, u8, u16, u32, times, counted, place, predicate, trigger, entity}
-use Rattle.model.specs.Validate.{day, undecided, bad-window, check-value, check-predicate, check-stated, check-trigger}
+use Rattle.model_spec.specs.Answer.{Answer, answer, refused, Verdict, accept, _>>=_, _and_, _when_, each-accepted}
+use Rattle.model_spec.specs.Model.{observational, Entity, Predicate, state, window, Trigger, named, is-window}
+use Rattle.model_spec.specs.File.{_>>=_ as _>>=ᵣ_}
+use Rattle.model_spec.specs.File.{refuse as refuse-reader}
+use Rattle.model_spec.specs.File.{got, Reader, give, u8, u16, u32, times, counted, place, predicate, trigger, entity}
+use Rattle.model_spec.specs.Validate.{day, undecided, bad-window, check-value, check-predicate, check-stated, check-trigger}
 use Rattle.model_walk.proofs.Found.{Case, is-true, is-false, case, bound, given, Wide, u16-wide, source-wide, counted-found, Kind, kind-found, place-found, Value?, entity-found, TriggerParts, trigger-found}
 use Rattle.model_walk.proofs.Found as found
 use Rattle.model_walk.specs.Walk.{predicate-size}
@@ -24,7 +24,7 @@ use Rattle.model_parts.proofs.Stands.{More, more}
 use Rattle.model_order.specs.Order.{Fixed}
 use Rattle.model_check.specs.declared.Checked.{Checked}
 use Rattle.model_check.specs.declared.Checked.the-variants as checked
-use Rattle.model_check.specs.Checks.{Check, and-then, _⨾_, by, stay, refuse, refuse-if, skipC, timesC, place-is, among, listed-at, first-from, Declaration, entity-number, entity-valueC, valueC, pairC, windowC, predicateC, predicatesC, declaredC, optionalC, trigger-ofC, triggerC, triggersC}
+use Rattle.model_check.specs.Checks.{Check, and-then, _⨾_, by, stay, refuse, refuse-if, skipM, timesM, place-is, among, listed-at, first-from, Declaration, entity-number, entity-valueM, valueM, pairM, windowM, predicateM, predicatesM, declaredM, optionalM, trigger-ofM, triggerM, triggersM}
 use Rattle.model_check.proofs.Laws as laws
 
 -- ---- verdicts
@@ -71,12 +71,12 @@ module _ (s : List ℕ) where
   pub next-and : (k l : Check) (p n q t : ℕ) (v : Verdict) (f : ℕ → Answer ℕ) → k s p n ≡ after q (v and answer n) → ((m : ℕ) → l s q m ≡ after t (f m)) → (k ⨾ l) s p n ≡ after t (v and f n)
   next-and k l p n q t v f e h = next k l p n q t (v and answer n) f e h ∙ after-same t (and-bind v n f)
 
-  pub skip-wide : (w p n : ℕ) {q : ℕ} → Wide w s p q → skipC w s p n ≡ checked.To q n
+  pub skip-wide : (w p n : ℕ) {q : ℕ} → Wide w s p q → skipM w s p n ≡ checked.To q n
   skip-wide w p n h = laws.skip-in s p n w (h .inside) ∙ ap (λ (x : ℕ). checked.To x n) (sym (h .ends))
 
   -- bytes that aren't looked at, and then a check
-  pub skip-then : (w : ℕ) (l : Check) (p n : ℕ) {q : ℕ} → Wide w s p q → (skipC w ⨾ l) s p n ≡ l s q n
-  skip-then w l p n h = laws.to s p n (skipC w) l refl (skip-wide w p n h)
+  pub skip-then : (w : ℕ) (l : Check) (p n : ℕ) {q : ℕ} → Wide w s p q → (skipM w ⨾ l) s p n ≡ l s q n
+  skip-then w l p n h = laws.to s p n (skipM w) l refl (skip-wide w p n h)
 
   pub refuse-if-is : (k : ℕ) (b : Bool) (p n : ℕ) → refuse-if k b s p n ≡ after p (k when b and answer n)
   unfolding _when_ _and_ after
@@ -87,29 +87,29 @@ module _ (s : List ℕ) where
   unfolding stay after _and_
   stays p n = refl
 
-  pub skips : (w p n : ℕ) {q : ℕ} → Wide w s p q → skipC w s p n ≡ after q (accept and answer n)
+  pub skips : (w p n : ℕ) {q : ℕ} → Wide w s p q → skipM w s p n ≡ after q (accept and answer n)
   unfolding after _and_
   skips w p n h = skip-wide w p n h
 
   -- a list: its members' verdicts, one after the other
   module _ {A : Type 0} (r : Reader A) (c : A → Verdict) (k : Check) (h : (p n : ℕ) (a : A) (q : ℕ) → r s p ≡ got a q → k s p n ≡ after q (c a and answer n)) where
-    none-agrees : (p n : ℕ) (l : List A) (q : ℕ) → times zero r s p ≡ got l q → timesC zero k s p n ≡ after q (each-accepted c l and answer n)
-    unfolding times give timesC stay each-accepted after _and_
+    none-agrees : (p n : ℕ) (l : List A) (q : ℕ) → times zero r s p ≡ got l q → timesM zero k s p n ≡ after q (each-accepted c l and answer n)
+    unfolding times give timesM stay each-accepted after _and_
     none-agrees p n l q e = let z : l ≡ [] = cc in let y : p ≡ q = cc in rw (z, y)
 
-    more-agrees : (i p n : ℕ) (l : List A) (q : ℕ) (m : More r s i p q l) → (k ⨾ timesC i k) s p n ≡ after q (c (m .first) and (each-accepted c (m .others) and answer n)) → timesC (suc i) k s p n ≡ after q (each-accepted c l and answer n)
-    unfolding timesC each-accepted
+    more-agrees : (i p n : ℕ) (l : List A) (q : ℕ) (m : More r s i p q l) → (k ⨾ timesM i k) s p n ≡ after q (c (m .first) and (each-accepted c (m .others) and answer n)) → timesM (suc i) k s p n ≡ after q (each-accepted c l and answer n)
+    unfolding timesM each-accepted
     more-agrees i p n l q m g =
         g
         ∙ after-same q (sym (and-assoc (c (m .first)) (each-accepted c (m .others)) (answer n))
         ∙ ap (λ (x : List A). each-accepted c x and answer n) (sym (m .both)))
 
-    pub times-agrees : (i p n : ℕ) (l : List A) (q : ℕ) → times i r s p ≡ got l q → timesC i k s p n ≡ after q (each-accepted c l and answer n)
+    pub times-agrees : (i p n : ℕ) (l : List A) (q : ℕ) → times i r s p ≡ got l q → timesM i k s p n ≡ after q (each-accepted c l and answer n)
     times-agrees zero p n l q e = none-agrees p n l q e
     times-agrees (suc i) p n l q e =
         let m = more r s i p e in
         more-agrees i p n l q m (
-        next-and k (timesC i k) p n (m .after) q (c (m .first)) (λ j. each-accepted c (m .others) and answer j)
+        next-and k (timesM i k) p n (m .after) q (c (m .first)) (λ j. each-accepted c (m .others) and answer j)
         (h p n (m .first) (m .after) (m .is-first))
         (λ j. times-agrees i (m .after) j (m .others) q (m .are-others)))
 
@@ -239,15 +239,15 @@ module _ (s : List ℕ) (d : Declaration) (ts : List Text) (es : List Entity) (g
   check-some x v f = rw (f, check-value)
 
   -- a value of the i-th entity
-  entity-value-agrees : (i v p n : ℕ) (e : Entity) → i < length es → v < length ts → Reads (entity ts) s (getD (d .starts) i 0) e → entity-valueC d i v s p n ≡ after p (8 when not (undecided (T v) || memT (T v) (e .domain)) and answer n)
-  unfolding entity-valueC
+  entity-value-agrees : (i v p n : ℕ) (e : Entity) → i < length es → v < length ts → Reads (entity ts) s (getD (d .starts) i 0) e → entity-valueM d i v s p n ≡ after p (8 when not (undecided (T v) || memT (T v) (e .domain)) and answer n)
+  unfolding entity-valueM
   entity-value-agrees i v p n e h k r =
       rw (lt-leb (d .count) i (omega (arith, g .counts))) (
       ap (λ (b : Bool). if eqb v (d .unknown) then checked.To p n else if eqb v (d .unavailable) then checked.To p n else if b then checked.To p n else checked.Refused 8) (domain-agrees v k (getD (d .starts) i 0) e r)
       ∙ tests-agree (eqb v (d .unknown)) (eqb v (d .unavailable)) (memT (T v) (e .domain)) p n
       ∙ ap (λ (b : Bool). after p (8 when not (b || memT (T v) (e .domain)) and answer n)) (sym (undecided-is v k)))
 
-  pub value-agrees : (x v : ℕ) → x < length ts → v < length ts → (p n : ℕ) → valueC d x v s p n ≡ after p (check-value es (T x) (T v) and answer n)
+  pub value-agrees : (x v : ℕ) → x < length ts → v < length ts → (p n : ℕ) → valueM d x v s p n ≡ after p (check-value es (T x) (T v) and answer n)
   unfolding _and_ after
   value-agrees x v h k p n = laws.value-is d s p n x v _ refl ∙ cases (number-agrees x h e₀)
     where
@@ -255,10 +255,10 @@ module _ (s : List ℕ) (d : Declaration) (ts : List Text) (es : List Entity) (g
       e₀ : Entity
       e₀ = record { name = []; domain = []; initial = []; tier = observational; stale-after = none }
 
-      cases : First (T x) es e₀ (entity-number d x s) 0 → entity-valueC d (entity-number d x s) v s p n ≡ after p (check-value es (T x) (T v) and answer n)
+      cases : First (T x) es e₀ (entity-number d x s) 0 → entity-valueM d (entity-number d x s) v s p n ≡ after p (check-value es (T x) (T v) and answer n)
       cases (here j q f o) =
           let z : entity-number d x s ≡ j = omega arith in
-          ap (λ (i : ℕ). entity-valueC d i v s p n) z
+          ap (λ (i : ℕ). entity-valueM d i v s p n) z
           ∙ entity-value-agrees j v p n (getD es j e₀) q k (g .stand e₀ j (omega (arith, g .few)) q)
           ∙ ap (λ (y : Verdict). after p (y and answer n)) (sym (check-some (T x) (T v) f))
       cases (nowhere f o) =
@@ -266,20 +266,20 @@ module _ (s : List ℕ) (d : Declaration) (ts : List Text) (es : List Entity) (g
           ∙ ap (λ (y : Verdict). after p (y and answer n)) (sym (check-none (T x) (T v) f))
 
   -- 15
-  pub declared-agrees : (x : ℕ) → x < length ts → (p n : ℕ) → declaredC d x s p n ≡ after p (15 when absent (find (named (T x)) es) and answer n)
+  pub declared-agrees : (x : ℕ) → x < length ts → (p n : ℕ) → declaredM d x s p n ≡ after p (15 when absent (find (named (T x)) es) and answer n)
   unfolding absent _when_ _and_ after
   declared-agrees x h p n = cases (number-agrees x h e₀)
     where
       e₀ : Entity
       e₀ = record { name = []; domain = []; initial = []; tier = observational; stale-after = none }
 
-      cases : First (T x) es e₀ (entity-number d x s) 0 → declaredC d x s p n ≡ after p (15 when absent (find (named (T x)) es) and answer n)
+      cases : First (T x) es e₀ (entity-number d x s) 0 → declaredM d x s p n ≡ after p (15 when absent (find (named (T x)) es) and answer n)
       cases (here j q f o) = laws.declared-yes d s p n x _ refl (omega (arith, g .counts)) ∙ ap (λ (y : Option Entity). after p (15 when absent y and answer n)) (sym f)
       cases (nowhere f o) = laws.declared-no d s p n x _ refl (omega (arith, g .counts)) ∙ ap (λ (y : Option Entity). after p (15 when absent y and answer n)) (sym f)
 
   -- ---- predicates
 
-  pub pair-agrees : (p n : ℕ) {x v : Text} {q t : ℕ} → place ts s p ≡ got x q → place ts s q ≡ got v t → pairC d s p n ≡ after t (check-value es x v and answer n)
+  pub pair-agrees : (p n : ℕ) {x v : Text} {q t : ℕ} → place ts s p ≡ got x q → place ts s q ≡ got v t → pairM d s p n ≡ after t (check-value es x v and answer n)
   pair-agrees p n {x} {v} {q} {t} e f =
       let a = place-found ts e in
       let b = place-found ts f in
@@ -295,7 +295,7 @@ module _ (s : List ℕ) (d : Declaration) (ts : List Text) (es : List Entity) (g
   windows = u8 >>=ᵣ λ k. u32 >>=ᵣ λ b. u32 >>=ᵣ λ e. give (window k b e)
 
   window-agrees : (p n : ℕ) (a : Predicate) (q : ℕ) → windows s p ≡ got a q →
-      windowC s p n ≡ after q (check-predicate es a and answer n)
+      windowM s p n ≡ after q (check-predicate es a and answer n)
   unfolding windows check-predicate
   window-agrees p n a q h =
       let k = bound u8 _ h in
@@ -323,9 +323,9 @@ module _ (s : List ℕ) (d : Declaration) (ts : List Text) (es : List Entity) (g
   module _ (banned : ℕ) (c : Predicate → Verdict) (on-state : (x v : Text) → c (state x v) ≡ check-value es x v)
       (on-note : (r : Text) → c (Predicate.unknown r) ≡ accept)
       (on-window : (p n : ℕ) (a : Predicate) (q : ℕ) → windows s p ≡ got a q →
-      (if eqb banned 0 then windowC else refuse banned) s p n ≡ after q (c a and answer n)) where
+      (if eqb banned 0 then windowM else refuse banned) s p n ≡ after q (c a and answer n)) where
     with-agrees : (p n : ℕ) (a : Predicate) (q : ℕ) → predicate ts s p ≡ got a q →
-        predicateC d banned s p n ≡ after q (c a and answer n)
+        predicateM d banned s p n ≡ after q (c a and answer n)
     unfolding predicate windows predicate-size
     with-agrees p n a q e = laws.predicate-is d s p n banned ∙ by-got s u8 _ p n (k .is-kind) ∙ cases (k .kind) (k .holds)
       where
@@ -340,7 +340,7 @@ module _ (s : List ℕ) (d : Declaration) (ts : List Text) (es : List Entity) (g
         k = kind-found rs e
 
         cases : (i : ℕ) → getD rs i refuse-reader s (k .next) ≡ got a q →
-            (if eqb i 0 then pairC d else if eqb i 1 then skipC (predicate-size i - 1) else if eqb banned 0 then windowC
+            (if eqb i 0 then pairM d else if eqb i 1 then skipM (predicate-size i - 1) else if eqb banned 0 then windowM
             else refuse banned) s (k .next) n ≡ after q (c a and answer n)
         cases zero h =
             let x = bound (place ts) _ h in
@@ -360,37 +360,37 @@ module _ (s : List ℕ) (d : Declaration) (ts : List Text) (es : List Entity) (g
         cases (suc (suc (suc i))) h = absurd (found.refused s (k .next) h)
 
   pub predicate-agrees : (p n : ℕ) (a : Predicate) (q : ℕ) → predicate ts s p ≡ got a q →
-      predicateC d 0 s p n ≡ after q (check-predicate es a and answer n)
+      predicateM d 0 s p n ≡ after q (check-predicate es a and answer n)
   unfolding check-predicate
   predicate-agrees = with-agrees 0 (check-predicate es) (λ x v. refl) (λ r. refl) window-agrees
 
   -- of an invariant
   pub stated-agrees : (p n : ℕ) (a : Predicate) (q : ℕ) → predicate ts s p ≡ got a q →
-      predicateC d 51 s p n ≡ after q (check-stated es a and answer n)
+      predicateM d 51 s p n ≡ after q (check-stated es a and answer n)
   unfolding check-stated check-predicate is-window _and_ _when_
   stated-agrees = with-agrees 51 (check-stated es) (λ x v. refl) (λ r. refl) banned-agrees
 
   pub predicates-agree : (p n : ℕ) (l : List Predicate) (q : ℕ) → counted (predicate ts) s p ≡ got l q →
-      predicatesC d 0 s p n ≡ after q (each-accepted (check-predicate es) l and answer n)
+      predicatesM d 0 s p n ≡ after q (each-accepted (check-predicate es) l and answer n)
   predicates-agree p n l q e =
       let c = counted-found (predicate ts) e in
       laws.predicates-is d s p n 0
       ∙ by-got s u16 _ p n (c .is-count)
-      ∙ times-agrees s (predicate ts) (check-predicate es) (predicateC d 0) predicate-agrees
+      ∙ times-agrees s (predicate ts) (check-predicate es) (predicateM d 0) predicate-agrees
       (c .count) (c .start) n l q (c .are-values)
 
   pub all-stated-agree : (p n : ℕ) (l : List Predicate) (q : ℕ) → counted (predicate ts) s p ≡ got l q →
-      predicatesC d 51 s p n ≡ after q (each-accepted (check-stated es) l and answer n)
+      predicatesM d 51 s p n ≡ after q (each-accepted (check-stated es) l and answer n)
   all-stated-agree p n l q e =
       let c = counted-found (predicate ts) e in
       laws.predicates-is d s p n 51
       ∙ by-got s u16 _ p n (c .is-count)
-      ∙ times-agrees s (predicate ts) (check-stated es) (predicateC d 51) stated-agrees
+      ∙ times-agrees s (predicate ts) (check-stated es) (predicateM d 51) stated-agrees
       (c .count) (c .start) n l q (c .are-values)
 
   -- ---- triggers
 
-  optional-agrees : (x v : ℕ) (o : Option Text) → x < length ts → Value? ts v o → (p n : ℕ) → optionalC d x v s p n ≡ after p (each-accepted (check-value es (T x)) (listed o) and answer n)
+  optional-agrees : (x v : ℕ) (o : Option Text) → x < length ts → Value? ts v o → (p n : ℕ) → optionalM d x v s p n ≡ after p (each-accepted (check-value es (T x)) (listed o) and answer n)
   unfolding listed each-accepted stay after
   optional-agrees x v none h (found.absent e) p n = laws.optional-none d s p n x v e ∙ stays s p n
   optional-agrees x v (some t) h (found.present e k) p n =
@@ -404,16 +404,16 @@ module _ (s : List ℕ) (d : Declaration) (ts : List Text) (es : List Entity) (g
   accepted-append f (x ∷ a) b n = and-assoc (f x) (each-accepted f (a ++ b)) (answer n) ∙ ap (λ (y : Answer ℕ). f x and y) (accepted-append f a b n) ∙ sym (and-assoc (f x) (each-accepted f a) (each-accepted f b and answer n))
 
   trigger-of-agrees : (x f t : ℕ) (from to : Option Text) → x < length ts → Value? ts f from → Value? ts t to → (p n : ℕ) →
-      trigger-ofC d x f t s p n ≡ after p ((15 when absent (find (named (T x)) es) and each-accepted (check-value es (T x)) (listed from ++ listed to)) and answer n)
+      trigger-ofM d x f t s p n ≡ after p ((15 when absent (find (named (T x)) es) and each-accepted (check-value es (T x)) (listed from ++ listed to)) and answer n)
   trigger-of-agrees x f t from to h a b p n =
       laws.trigger-of-is d s p n x f t
-      ∙ next-and s (declaredC d x) (optionalC d x f ⨾ optionalC d x t) p n p p (15 when absent (find (named (T x)) es)) (λ m. each-accepted (check-value es (T x)) (listed from) and (each-accepted (check-value es (T x)) (listed to) and answer m))
+      ∙ next-and s (declaredM d x) (optionalM d x f ⨾ optionalM d x t) p n p p (15 when absent (find (named (T x)) es)) (λ m. each-accepted (check-value es (T x)) (listed from) and (each-accepted (check-value es (T x)) (listed to) and answer m))
       (declared-agrees x h p n)
-      (λ m. next-and s (optionalC d x f) (optionalC d x t) p m p p (each-accepted (check-value es (T x)) (listed from)) (λ k. each-accepted (check-value es (T x)) (listed to) and answer k)
+      (λ m. next-and s (optionalM d x f) (optionalM d x t) p m p p (each-accepted (check-value es (T x)) (listed from)) (λ k. each-accepted (check-value es (T x)) (listed to) and answer k)
       (optional-agrees x f from h a p m) (λ k. optional-agrees x t to h b p k))
       ∙ after-same p (ap (λ (y : Answer ℕ). 15 when absent (find (named (T x)) es) and y) (sym (accepted-append (check-value es (T x)) (listed from) (listed to) n)) ∙ sym (and-assoc (15 when absent (find (named (T x)) es)) (each-accepted (check-value es (T x)) (listed from ++ listed to)) (answer n)))
 
-  pub trigger-agrees : (p n : ℕ) (a : Trigger) (q : ℕ) → trigger ts s p ≡ got a q → triggerC d s p n ≡ after q (check-trigger es a and answer n)
+  pub trigger-agrees : (p n : ℕ) (a : Trigger) (q : ℕ) → trigger ts s p ≡ got a q → triggerM d s p n ≡ after q (check-trigger es a and answer n)
   unfolding check-trigger
   trigger-agrees p n a q e =
       laws.trigger-is d s p n
@@ -430,7 +430,7 @@ module _ (s : List ℕ) (d : Declaration) (ts : List Text) (es : List Entity) (g
       x : ℕ
       x = f .entity-at .at
 
-      cases : (m : ℕ) (o : Option Text) → Value? ts m o → (if eqb m 65535 then trigger-ofC d x (f .from-at .at) (f .to-at .at) else stay) s q n
+      cases : (m : ℕ) (o : Option Text) → Value? ts m o → (if eqb m 65535 then trigger-ofM d x (f .from-at .at) (f .to-at .at) else stay) s q n
           ≡ after q ((elim o [ some n ↦ accept | none ↦ 15 when absent (find (named (a .entity)) es) and each-accepted (check-value es (a .entity)) (listed (a .from) ++ listed (a .to)) ]) and answer n)
       cases m none (found.absent h) =
           laws.yes-check _ _ s q n (eq-eqb m 65535 h)
@@ -438,8 +438,8 @@ module _ (s : List ℕ) (d : Declaration) (ts : List Text) (es : List Entity) (g
           ∙ ap (λ (y : Text). after q ((15 when absent (find (named y) es) and each-accepted (check-value es y) (listed (a .from) ++ listed (a .to))) and answer n)) (sym (f .entity-at .is-text))
       cases m (some t) (found.present h k) = laws.no-check _ _ s q n (ne-eqb m 65535 h) ∙ stays s q n
 
-  pub triggers-agree : (c p n : ℕ) (l : List Trigger) (q : ℕ) → times c (trigger ts) s p ≡ got l q → triggersC d c s p n ≡ after q (each-accepted (check-trigger es) l and answer n)
-  triggers-agree c p n l q e = laws.triggers-is d s p n c ∙ times-agrees s (trigger ts) (check-trigger es) (triggerC d) trigger-agrees c p n l q e
+  pub triggers-agree : (c p n : ℕ) (l : List Trigger) (q : ℕ) → times c (trigger ts) s p ≡ got l q → triggersM d c s p n ≡ after q (each-accepted (check-trigger es) l and answer n)
+  triggers-agree c p n l q e = laws.triggers-is d s p n c ∙ times-agrees s (trigger ts) (check-trigger es) (triggerM d) trigger-agrees c p n l q e
 
   -- ---- days
 

@@ -9,15 +9,15 @@ use lib.ListN.{length, getD}
 use lib.Dec.{ltb, leb, eqb}
 use borrow.Author.Tests.{le-leb, lt-leb, eq-eqb, ne-eqb}
 use Rattle.texts.specs.Lists.{if_then_else_}
-use Rattle.model.specs.File.{Reader, u8, u16, u32}
-use Rattle.model.specs.Validate.{bad-window}
+use Rattle.model_spec.specs.File.{Reader, u8, u16, u32}
+use Rattle.model_spec.specs.Validate.{bad-window}
 use Rattle.model_walk.specs.declared.Num.{Num}
 use Rattle.model_walk.specs.declared.Num.the-variants as num
 use Rattle.model_walk.specs.Walk.{found, predicate-size}
 use Rattle.model_walk.proofs.Laws.{is-got, is-broken, u16-out}
 use Rattle.model_check.specs.declared.Checked.{Checked}
 use Rattle.model_check.specs.declared.Checked.the-variants as checked
-use Rattle.model_check.specs.Checks.{Check, and-then, _⨾_, by, stay, refuse, refuse-if, skipC, timesC, place-is, among, listed-at, first-from, Declaration, entity-valueC, valueC, pairC, windowC, predicateC, predicatesC, declaredC, optionalC, trigger-ofC, triggerC, triggersC}
+use Rattle.model_check.specs.Checks.{Check, and-then, _⨾_, by, stay, refuse, refuse-if, skipM, timesM, place-is, among, listed-at, first-from, Declaration, entity-valueM, valueM, pairM, windowM, predicateM, predicatesM, declaredM, optionalM, trigger-ofM, triggerM, triggersM}
 
 -- ---- one check after the other
 
@@ -54,12 +54,12 @@ module _ (s : List ℕ) (p n : ℕ) where
   unfolding refuse-if stay
   refuse-no k h = rw h
 
-  pub skip-in : (w : ℕ) → p + w ≤ length s → skipC w s p n ≡ checked.To (p + w) n
-  unfolding skipC
+  pub skip-in : (w : ℕ) → p + w ≤ length s → skipM w s p n ≡ checked.To (p + w) n
+  unfolding skipM
   skip-in w h = rw (le-leb (p + w) (length s) h)
 
-  pub skip-out : (w : ℕ) → length s < p + w → skipC w s p n ≡ checked.Refused 30
-  unfolding skipC
+  pub skip-out : (w : ℕ) → length s < p + w → skipM w s p n ≡ checked.Refused 30
+  unfolding skipM
   skip-out w h = rw (lt-leb (p + w) (length s) h)
 
 -- the test of a choice between two checks
@@ -72,13 +72,13 @@ no-check k l s p n h = rw h
 -- ---- lists
 
 module _ (k : Check) (s : List ℕ) (p n : ℕ) where
-  pub times-more : (i : ℕ) → 0 < i → timesC i k s p n ≡ (k ⨾ timesC (i - 1) k) s p n
-  unfolding timesC
+  pub times-more : (i : ℕ) → 0 < i → timesM i k s p n ≡ (k ⨾ timesM (i - 1) k) s p n
+  unfolding timesM
   times-more zero h = absurd (omega arith)
   times-more (suc i) h = rw (sub-one (suc i))
 
-  pub times-none : (i : ℕ) → i ≤ 0 → timesC i k s p n ≡ checked.To p n
-  unfolding timesC stay
+  pub times-none : (i : ℕ) → i ≤ 0 → timesM i k s p n ≡ checked.To p n
+  unfolding timesM stay
   times-none zero h = refl
   times-none (suc i) h = absurd (omega arith)
 
@@ -175,8 +175,8 @@ module _ (d b e : ℕ) where
             (rw (lt-leb 86400 b (omega arith)) (rw (lt-leb 86400 e (omega arith)) (rw (ne-eqb d 0 z))))
 
 pub window-is : (s : List ℕ) (p n : ℕ)
-    → windowC s p n ≡ by u8 (λ k. by u32 (λ b. by u32 (λ e. refuse-if 50 (bad-window k b e)))) s p n
-unfolding windowC
+    → windowM s p n ≡ by u8 (λ k. by u32 (λ b. by u32 (λ e. refuse-if 50 (bad-window k b e)))) s p n
+unfolding windowM
 window-is s p n = refl
 
 pub refused-is : (s : List ℕ) (p n k : ℕ) → refuse k s p n ≡ checked.Refused k
@@ -187,76 +187,76 @@ refused-is s p n k = refl
 
 -- a predicate of the kind k has w bytes, the kind itself counted
 pub skip-size : (w k : ℕ) (s : List ℕ) (p n : ℕ) → w ≡ predicate-size k →
-    skipC (w - 1) s p n ≡ skipC (predicate-size k - 1) s p n
-skip-size w k s p n e = ap (λ (x : ℕ). skipC (x - 1) s p n) e
+    skipM (w - 1) s p n ≡ skipM (predicate-size k - 1) s p n
+skip-size w k s p n e = ap (λ (x : ℕ). skipM (x - 1) s p n) e
 
 module _ (d : Declaration) (s : List ℕ) (p n : ℕ) where
   -- a value of the i-th entity, by the tests on the way
   module _ (i v : ℕ) where
-    pub value-7 : d .count ≤ i → entity-valueC d i v s p n ≡ checked.Refused 7
-    unfolding entity-valueC
+    pub value-7 : d .count ≤ i → entity-valueM d i v s p n ≡ checked.Refused 7
+    unfolding entity-valueM
     value-7 h = rw (le-leb (d .count) i h)
 
     module _ (h : i < d .count) where
-      pub value-unknown : v ≡ d .unknown → entity-valueC d i v s p n ≡ checked.To p n
-      unfolding entity-valueC
+      pub value-unknown : v ≡ d .unknown → entity-valueM d i v s p n ≡ checked.To p n
+      unfolding entity-valueM
       value-unknown a = rw (lt-leb (d .count) i h) (rw (eq-eqb v (d .unknown) a))
 
       module _ (a : v ≡ d .unknown → ⊥) where
-        pub value-unavailable : v ≡ d .unavailable → entity-valueC d i v s p n ≡ checked.To p n
-        unfolding entity-valueC
+        pub value-unavailable : v ≡ d .unavailable → entity-valueM d i v s p n ≡ checked.To p n
+        unfolding entity-valueM
         value-unavailable b = rw (lt-leb (d .count) i h) (rw (ne-eqb v (d .unknown) a) (rw (eq-eqb v (d .unavailable) b)))
 
         module _ (b : v ≡ d .unavailable → ⊥) where
-          pub value-listed : listed-at s (getD (d .starts) i 0 + 2) v ≡ true → entity-valueC d i v s p n ≡ checked.To p n
-          unfolding entity-valueC
+          pub value-listed : listed-at s (getD (d .starts) i 0 + 2) v ≡ true → entity-valueM d i v s p n ≡ checked.To p n
+          unfolding entity-valueM
           value-listed c = rw (lt-leb (d .count) i h) (rw (ne-eqb v (d .unknown) a) (rw (ne-eqb v (d .unavailable) b) (rw c)))
 
-          pub value-8 : listed-at s (getD (d .starts) i 0 + 2) v ≡ false → entity-valueC d i v s p n ≡ checked.Refused 8
-          unfolding entity-valueC
+          pub value-8 : listed-at s (getD (d .starts) i 0 + 2) v ≡ false → entity-valueM d i v s p n ≡ checked.Refused 8
+          unfolding entity-valueM
           value-8 c = rw (lt-leb (d .count) i h) (rw (ne-eqb v (d .unknown) a) (rw (ne-eqb v (d .unavailable) b) (rw c)))
 
-  pub value-is : (x v i : ℕ) → i ≡ first-from (d .starts) x s (d .count) 0 → valueC d x v s p n ≡ entity-valueC d i v s p n
-  unfolding valueC
-  value-is x v i e = ap (λ (j : ℕ). entity-valueC d j v s p n) (sym e)
+  pub value-is : (x v i : ℕ) → i ≡ first-from (d .starts) x s (d .count) 0 → valueM d x v s p n ≡ entity-valueM d i v s p n
+  unfolding valueM
+  value-is x v i e = ap (λ (j : ℕ). entity-valueM d j v s p n) (sym e)
 
-  pub pair-is : pairC d s p n ≡ by u16 (λ x. by u16 (λ v. valueC d x v)) s p n
-  unfolding pairC
+  pub pair-is : pairM d s p n ≡ by u16 (λ x. by u16 (λ v. valueM d x v)) s p n
+  unfolding pairM
   pair-is = refl
 
-  pub predicate-is : (banned : ℕ) → predicateC d banned s p n ≡ by u8 (λ k. if eqb k 0 then pairC d
-      else if eqb k 1 then skipC (predicate-size k - 1) else if eqb banned 0 then windowC else refuse banned) s p n
-  unfolding predicateC
+  pub predicate-is : (banned : ℕ) → predicateM d banned s p n ≡ by u8 (λ k. if eqb k 0 then pairM d
+      else if eqb k 1 then skipM (predicate-size k - 1) else if eqb banned 0 then windowM else refuse banned) s p n
+  unfolding predicateM
   predicate-is banned = refl
 
-  pub predicates-is : (banned : ℕ) → predicatesC d banned s p n ≡ by u16 (λ c. timesC c (predicateC d banned)) s p n
-  unfolding predicatesC
+  pub predicates-is : (banned : ℕ) → predicatesM d banned s p n ≡ by u16 (λ c. timesM c (predicateM d banned)) s p n
+  unfolding predicatesM
   predicates-is banned = refl
 
-  pub declared-no : (x i : ℕ) → i ≡ first-from (d .starts) x s (d .count) 0 → d .count ≤ i → declaredC d x s p n ≡ checked.Refused 15
-  unfolding declaredC
+  pub declared-no : (x i : ℕ) → i ≡ first-from (d .starts) x s (d .count) 0 → d .count ≤ i → declaredM d x s p n ≡ checked.Refused 15
+  unfolding declaredM
   declared-no x i e h = refuse-yes s p n 15 (ap (leb (d .count)) (sym e) ∙ le-leb (d .count) i h)
 
-  pub declared-yes : (x i : ℕ) → i ≡ first-from (d .starts) x s (d .count) 0 → i < d .count → declaredC d x s p n ≡ checked.To p n
-  unfolding declaredC
+  pub declared-yes : (x i : ℕ) → i ≡ first-from (d .starts) x s (d .count) 0 → i < d .count → declaredM d x s p n ≡ checked.To p n
+  unfolding declaredM
   declared-yes x i e h = refuse-no s p n 15 (ap (leb (d .count)) (sym e) ∙ lt-leb (d .count) i h)
 
-  pub optional-none : (x v : ℕ) → v ≡ 65535 → optionalC d x v s p n ≡ checked.To p n
-  unfolding optionalC stay
+  pub optional-none : (x v : ℕ) → v ≡ 65535 → optionalM d x v s p n ≡ checked.To p n
+  unfolding optionalM stay
   optional-none x v h = rw (eq-eqb v 65535 h)
 
-  pub optional-some : (x v : ℕ) → (v ≡ 65535 → ⊥) → optionalC d x v s p n ≡ valueC d x v s p n
-  unfolding optionalC
+  pub optional-some : (x v : ℕ) → (v ≡ 65535 → ⊥) → optionalM d x v s p n ≡ valueM d x v s p n
+  unfolding optionalM
   optional-some x v h = rw (ne-eqb v 65535 h)
 
-  pub trigger-of-is : (x f t : ℕ) → trigger-ofC d x f t s p n ≡ (declaredC d x ⨾ optionalC d x f ⨾ optionalC d x t) s p n
-  unfolding trigger-ofC
+  pub trigger-of-is : (x f t : ℕ) → trigger-ofM d x f t s p n ≡ (declaredM d x ⨾ optionalM d x f ⨾ optionalM d x t) s p n
+  unfolding trigger-ofM
   trigger-of-is x f t = refl
 
-  pub trigger-is : triggerC d s p n ≡ by u16 (λ x. by u16 (λ f. by u16 (λ t. skipC 8 ⨾ by u16 (λ m. if eqb m 65535 then trigger-ofC d x f t else stay)))) s p n
-  unfolding triggerC
+  pub trigger-is : triggerM d s p n ≡ by u16 (λ x. by u16 (λ f. by u16 (λ t. skipM 8 ⨾ by u16 (λ m. if eqb m 65535 then trigger-ofM d x f t else stay)))) s p n
+  unfolding triggerM
   trigger-is = refl
 
-  pub triggers-is : (c : ℕ) → triggersC d c s p n ≡ timesC c (triggerC d) s p n
-  unfolding triggersC
+  pub triggers-is : (c : ℕ) → triggersM d c s p n ≡ timesM c (triggerM d) s p n
+  unfolding triggersM
   triggers-is c = refl

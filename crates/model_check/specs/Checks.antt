@@ -7,8 +7,8 @@ use mathlib.Core.List.{List}
 use lib.Dec.{ltb, leb, eqb}
 use lib.ListN.{length, getD}
 use Rattle.texts.specs.Lists.{if_then_else_}
-use Rattle.model.specs.File.{got, broken, Reader, u8, u16, u32}
-use Rattle.model.specs.Validate.{day, bad-window}
+use Rattle.model_spec.specs.File.{got, broken, Reader, u8, u16, u32}
+use Rattle.model_spec.specs.Validate.{day, bad-window}
 use Rattle.model_walk.specs.Walk.{predicate-size}
 use Rattle.model_parts.specs.declared.Section.{Section}
 use Rattle.model_check.specs.declared.Checked.{Checked}
@@ -42,16 +42,16 @@ unfoldable pub refuse-if : ℕ → Bool → Check
 refuse-if k b = if b then refuse k else stay
 
 -- w bytes that aren't looked at
-unfoldable pub skipC : ℕ → Check
-skipC w s p n = if leb (p + w) (length s) then checked.To (p + w) n else checked.Refused 30
+unfoldable pub skipM : ℕ → Check
+skipM w s p n = if leb (p + w) (length s) then checked.To (p + w) n else checked.Refused 30
 
-unfoldable pub timesC : ℕ → Check → Check
-timesC zero k = stay
-timesC (suc i) k = k ⨾ timesC i k
+unfoldable pub timesM : ℕ → Check → Check
+timesM zero k = stay
+timesM (suc i) k = k ⨾ timesM i k
 
 -- a number of seconds, at most a day
-abbrev pub dayC : (number : ℕ) → Check
-dayC k = by u32 (λ x. refuse-if k (ltb day x))
+abbrev pub dayM : (number : ℕ) → Check
+dayM k = by u32 (λ x. refuse-if k (ltb day x))
 
 -- ---- places
 
@@ -94,8 +94,8 @@ abbrev pub declaration : Declared → (starts : List ℕ) → Declaration
 declaration d l = record { count = d .count; starts = l; on = d .on; off = d .off; unknown = d .unknown; unavailable = d .unavailable }
 
 -- 50: a window's days, start and end
-unfoldable pub windowC : Check
-windowC = by u8 (λ k. by u32 (λ b. by u32 (λ e. refuse-if 50 (bad-window k b e))))
+unfoldable pub windowM : Check
+windowM = by u8 (λ k. by u32 (λ b. by u32 (λ e. refuse-if 50 (bad-window k b e))))
 
 -- ---- parts, against the entities that the model declares
 module _ (d : Declaration) where
@@ -104,44 +104,44 @@ module _ (d : Declaration) where
   entity-number x s = first-from (d .starts) x s (d .count) 0
 
   -- the i-th entity may have the value v; 7: there is no such entity; 8: the value isn't in its domain
-  unfoldable pub entity-valueC : (i v : ℕ) → Check
-  entity-valueC i v s p n =
+  unfoldable pub entity-valueM : (i v : ℕ) → Check
+  entity-valueM i v s p n =
       if leb (d .count) i then checked.Refused 7
       else if eqb v (d .unknown) then checked.To p n
       else if eqb v (d .unavailable) then checked.To p n
       else if listed-at s (getD (d .starts) i 0 + 2) v then checked.To p n
       else checked.Refused 8
 
-  unfoldable pub valueC : (x v : ℕ) → Check
-  valueC x v s = entity-valueC (entity-number x s) v s
+  unfoldable pub valueM : (x v : ℕ) → Check
+  valueM x v s = entity-valueM (entity-number x s) v s
 
   -- an entity and a value
-  unfoldable pub pairC : Check
-  pairC = by u16 (λ x. by u16 (λ v. valueC x v))
+  unfoldable pub pairM : Check
+  pairM = by u16 (λ x. by u16 (λ v. valueM x v))
 
   -- `banned` is the number that a window gets, or 0 where windows may stand
-  unfoldable pub predicateC : (banned : ℕ) → Check
-  predicateC banned = by u8 (λ k.
-      if eqb k 0 then pairC else if eqb k 1 then skipC (predicate-size k - 1)
-      else if eqb banned 0 then windowC else refuse banned)
+  unfoldable pub predicateM : (banned : ℕ) → Check
+  predicateM banned = by u8 (λ k.
+      if eqb k 0 then pairM else if eqb k 1 then skipM (predicate-size k - 1)
+      else if eqb banned 0 then windowM else refuse banned)
 
-  unfoldable pub predicatesC : (banned : ℕ) → Check
-  predicatesC banned = by u16 (λ c. timesC c (predicateC banned))
+  unfoldable pub predicatesM : (banned : ℕ) → Check
+  predicatesM banned = by u16 (λ c. timesM c (predicateM banned))
 
   -- 15: the entity isn't declared
-  unfoldable pub declaredC : (x : ℕ) → Check
-  declaredC x s = refuse-if 15 (leb (d .count) (entity-number x s)) s
+  unfoldable pub declaredM : (x : ℕ) → Check
+  declaredM x s = refuse-if 15 (leb (d .count) (entity-number x s)) s
 
   -- a value, or none
-  unfoldable pub optionalC : (x v : ℕ) → Check
-  optionalC x v = if eqb v 65535 then stay else valueC x v
+  unfoldable pub optionalM : (x v : ℕ) → Check
+  optionalM x v = if eqb v 65535 then stay else valueM x v
 
-  unfoldable pub trigger-ofC : (x from to : ℕ) → Check
-  trigger-ofC x f t = declaredC x ⨾ optionalC x f ⨾ optionalC x t
+  unfoldable pub trigger-ofM : (x from to : ℕ) → Check
+  trigger-ofM x f t = declaredM x ⨾ optionalM x f ⨾ optionalM x t
 
   -- a trigger with a note isn't checked
-  unfoldable pub triggerC : Check
-  triggerC = by u16 (λ x. by u16 (λ f. by u16 (λ t. skipC 8 ⨾ by u16 (λ m. if eqb m 65535 then trigger-ofC x f t else stay))))
+  unfoldable pub triggerM : Check
+  triggerM = by u16 (λ x. by u16 (λ f. by u16 (λ t. skipM 8 ⨾ by u16 (λ m. if eqb m 65535 then trigger-ofM x f t else stay))))
 
-  unfoldable pub triggersC : ℕ → Check
-  triggersC c = timesC c triggerC
+  unfoldable pub triggersM : ℕ → Check
+  triggersM c = timesM c triggerM

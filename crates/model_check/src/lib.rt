@@ -4,8 +4,8 @@ use model_parts::Section;
 use model_walk::Num;
 ghost use mathlib.Core.Path.{_≡_};
 ghost use Prim.Native.Nat.{_+_, _≤_, _<_};
-ghost use Rattle.model.specs.Validate.{bad-window};
-ghost use Rattle.model_check.specs.Checks.{declaration, skipC, dayC, place-is, among, listed-at, first-from, number-of, entity-valueC, valueC, pairC, windowC, predicateC, predicatesC, declaredC, optionalC, trigger-ofC, triggerC, triggersC};
+ghost use Rattle.model_spec.specs.Validate.{bad-window};
+ghost use Rattle.model_check.specs.Checks.{declaration, skipM, dayM, place-is, among, listed-at, first-from, number-of, entity-valueM, valueM, pairM, windowM, predicateM, predicatesM, declaredM, optionalM, trigger-ofM, triggerM, triggersM};
 
 // The position after a part that passed and the actions counted so far, or the refusal.
 pub enum Checked {
@@ -26,7 +26,7 @@ pub struct Declared {
 // ---- leaves
 
 pub fn skip(s: &[u8], size: usize, at: usize, n: u32) -> Checked
-    ensures { λ r. ⌜ r ≡ skipC size (now (s .entry)) at n ⌝ }
+    ensures { λ r. ⌜ r ≡ skipM size (now (s .entry)) at n ⌝ }
 {
     if s.len() < size {
         return Checked::Refused(30);
@@ -39,7 +39,7 @@ pub fn skip(s: &[u8], size: usize, at: usize, n: u32) -> Checked
 
 // A number of seconds, at most a day, or the refusal.
 pub fn day_check(s: &[u8], refusal: u32, at: usize, n: u32) -> Checked
-    ensures { λ r. ⌜ r ≡ dayC refusal (now (s .entry)) at n ⌝ }
+    ensures { λ r. ⌜ r ≡ dayM refusal (now (s .entry)) at n ⌝ }
 {
     let x = model_walk::u32_at(s, at);
     let Num::Is(seconds, next) = x else {
@@ -134,7 +134,7 @@ fn entity_value_check(
     n: u32,
 ) -> Checked
     requires { ⌜ d .count ≤ 100 ⌝ }
-    ensures { λ r. ⌜ r ≡ entity-valueC (declaration d (now (entities .entry))) i value (now (s .entry)) at n ⌝ }
+    ensures { λ r. ⌜ r ≡ entity-valueM (declaration d (now (entities .entry))) i value (now (s .entry)) at n ⌝ }
 {
     let count = d.count as usize;
     if count <= i {
@@ -166,7 +166,7 @@ pub fn value_check(
     n: u32,
 ) -> Checked
     requires { ⌜ d .count ≤ 100 ⌝ }
-    ensures { λ r. ⌜ r ≡ valueC (declaration d (now (entities .entry))) entity value (now (s .entry)) at n ⌝ }
+    ensures { λ r. ⌜ r ≡ valueM (declaration d (now (entities .entry))) entity value (now (s .entry)) at n ⌝ }
 {
     let i = first_of(s, entities, d.count, entity);
     entity_value_check(s, d, entities, i, value, at, n)
@@ -175,7 +175,7 @@ pub fn value_check(
 // An entity and a value.
 pub fn pair_check(s: &[u8], d: Declared, entities: &[usize; 100], at: usize, n: u32) -> Checked
     requires { ⌜ d .count ≤ 100 ⌝ }
-    ensures { λ r. ⌜ r ≡ pairC (declaration d (now (entities .entry))) (now (s .entry)) at n ⌝ }
+    ensures { λ r. ⌜ r ≡ pairM (declaration d (now (entities .entry))) (now (s .entry)) at n ⌝ }
 {
     let x = model_walk::u16_at(s, at);
     let Num::Is(entity, p) = x else {
@@ -211,7 +211,7 @@ fn window_bad(days: u32, start: u32, end: u32) -> bool
 
 // A window's days, start and end.
 fn window_check(s: &[u8], at: usize, n: u32) -> Checked
-    ensures { λ r. ⌜ r ≡ windowC (now (s .entry)) at n ⌝ }
+    ensures { λ r. ⌜ r ≡ windowM (now (s .entry)) at n ⌝ }
 {
     let x = model_walk::u8_at(s, at);
     let Num::Is(days, p) = x else {
@@ -241,7 +241,7 @@ pub fn predicate_check(
     n: u32,
 ) -> Checked
     requires { ⌜ d .count ≤ 100 ⌝ }
-    ensures { λ r. ⌜ r ≡ predicateC (declaration d (now (entities .entry))) banned (now (s .entry)) at n ⌝ }
+    ensures { λ r. ⌜ r ≡ predicateM (declaration d (now (entities .entry))) banned (now (s .entry)) at n ⌝ }
 {
     let x = model_walk::u8_at(s, at);
     let Num::Is(kind, p) = x else {
@@ -269,7 +269,7 @@ pub fn predicates_check(
     n: u32,
 ) -> Checked
     requires { ⌜ d .count ≤ 100 ⌝ }
-    ensures { λ r. ⌜ r ≡ predicatesC (declaration d (now (entities .entry))) banned (now (s .entry)) at n ⌝ }
+    ensures { λ r. ⌜ r ≡ predicatesM (declaration d (now (entities .entry))) banned (now (s .entry)) at n ⌝ }
 {
     let x = model_walk::u16_at(s, at);
     let Num::Is(count, start) = x else {
@@ -301,7 +301,7 @@ fn declared_check(
     n: u32,
 ) -> Checked
     requires { ⌜ d .count ≤ 100 ⌝ }
-    ensures { λ r. ⌜ r ≡ declaredC (declaration d (now (entities .entry))) entity (now (s .entry)) at n ⌝ }
+    ensures { λ r. ⌜ r ≡ declaredM (declaration d (now (entities .entry))) entity (now (s .entry)) at n ⌝ }
 {
     let count = d.count as usize;
     let i = first_of(s, entities, d.count, entity);
@@ -321,7 +321,7 @@ fn optional_check(
     n: u32,
 ) -> Checked
     requires { ⌜ d .count ≤ 100 ⌝ }
-    ensures { λ r. ⌜ r ≡ optionalC (declaration d (now (entities .entry))) entity value (now (s .entry)) at n ⌝ }
+    ensures { λ r. ⌜ r ≡ optionalM (declaration d (now (entities .entry))) entity value (now (s .entry)) at n ⌝ }
 {
     if value == 65535 {
         return Checked::To(at, n);
@@ -341,7 +341,7 @@ fn trigger_of_check(
     n: u32,
 ) -> Checked
     requires { ⌜ d .count ≤ 100 ⌝ }
-    ensures { λ r. ⌜ r ≡ trigger-ofC (declaration d (now (entities .entry))) entity from to (now (s .entry)) at n ⌝ }
+    ensures { λ r. ⌜ r ≡ trigger-ofM (declaration d (now (entities .entry))) entity from to (now (s .entry)) at n ⌝ }
 {
     let a = declared_check(s, d, entities, entity, at, n);
     let Checked::To(p, k) = a else {
@@ -356,7 +356,7 @@ fn trigger_of_check(
 
 pub fn trigger_check(s: &[u8], d: Declared, entities: &[usize; 100], at: usize, n: u32) -> Checked
     requires { ⌜ d .count ≤ 100 ⌝ }
-    ensures { λ r. ⌜ r ≡ triggerC (declaration d (now (entities .entry))) (now (s .entry)) at n ⌝ }
+    ensures { λ r. ⌜ r ≡ triggerM (declaration d (now (entities .entry))) (now (s .entry)) at n ⌝ }
 {
     let x = model_walk::u16_at(s, at);
     let Num::Is(entity, p) = x else {
@@ -394,7 +394,7 @@ pub fn triggers_check(
     n: u32,
 ) -> Checked
     requires { ⌜ d .count ≤ 100 ⌝ }
-    ensures { λ r. ⌜ r ≡ triggersC (declaration d (now (entities .entry))) count (now (s .entry)) at n ⌝ }
+    ensures { λ r. ⌜ r ≡ triggersM (declaration d (now (entities .entry))) count (now (s .entry)) at n ⌝ }
 {
     let mut left = count;
     let mut p = at;

@@ -10,10 +10,10 @@ use lib.Dec.{ltb}
 use borrow.Author.Tests.{lt-ltb, le-ltb}
 use Rattle.texts.specs.Lists.{if_then_else_, flat, each}
 use Rattle.texts.specs.Texts.{Text}
-use Rattle.model.specs.Answer.{Answer, answer, refused}
-use Rattle.model.specs.Model.{Model, Entity, Event, Input, Invariant, midnight}
-use Rattle.model.specs.Notes.{of-invariant, of-rule, notes-of}
-use Rattle.model.specs.File.{
+use Rattle.model_spec.specs.Answer.{Answer, answer, refused}
+use Rattle.model_spec.specs.Model.{Model, Entity, Event, Input, Invariant, midnight}
+use Rattle.model_spec.specs.Notes.{of-invariant, of-rule, notes-of}
+use Rattle.model_spec.specs.File.{
   Got,
   got,
   broken,
@@ -49,21 +49,21 @@ use Rattle.model.specs.File.{
 }
 use Rattle.model_walk.specs.declared.Walked.{Walked}
 use Rattle.model_walk.specs.declared.Walked.the-variants as walked
-use Rattle.model_walk.specs.Walk.{capped, seen, Walk, placeW, bytesW, or-zerosW}
+use Rattle.model_walk.specs.Walk.{capped, seen, Walk, placeM, bytesM, or-zerosM}
 use Rattle.model_walk.proofs.Laws.{bind-got, bind-broken, u32-in, u32-out}
 use Rattle.model_walk.proofs.Sees.{Sees, bind, last, quiet, marks, sees-counted, sees-place, sees-u32, sees-zeros, bytes-sum}
 use Rattle.model_parts.specs.declared.Section.{Section}
 use Rattle.model_parts.specs.declared.Part.the-variants as part
-use Rattle.model_parts.specs.Parts.{partW, sectionW, textW, entityW, eventW, invariantW, inputW, ruleW}
+use Rattle.model_parts.specs.Parts.{partM, sectionM, textM, entityM, eventM, invariantM, inputM, ruleM}
 use Rattle.model_parts.specs.Stand.{Reads}
 use Rattle.model_parts.proofs.Sees.{sees-text, sees-entity, sees-event, sees-invariant, sees-input, sees-rule}
 use Rattle.model_parts.proofs.Stands.{more, section-ends, section-counts, section-stands}
-use Rattle.model_order.specs.Order.{ascendingW, textsW}
+use Rattle.model_order.specs.Order.{ascendingM, textsM}
 use Rattle.model_order.proofs.Sees.{sees-texts, sees-entities}
 use Rattle.model_index.specs.declared.File.{File}
 use Rattle.model_index.specs.declared.Status.the-variants as status
 use Rattle.model_index.specs.declared.Index.{Index}
-use Rattle.model_index.specs.Index.{refusedW, on, on-section, given, closed, restW, bodyW, readW}
+use Rattle.model_index.specs.Index.{refusedM, on, on-section, given, closed, restM, bodyM, readM}
 use Rattle.model_index.specs.Indexed.{Holds, Indexed, Says}
 use Rattle.model_index.proofs.Laws as laws
 
@@ -90,7 +90,7 @@ module _ {A : Type 0} (r : Reader A) (s : List ℕ) where
       cases broken d = let z : _≡_ {A = ℕ} 0 1 = cc (bind-broken u16 (λ n. times n r) d) in absurd (omega arith)
 
 module _ {A : Type 0} (w : A → ℕ) (r : Reader A) (k : Walk) (e : Sees w r k) (s : List ℕ) where
-  holds : (p n : ℕ) {l : List A} {q : ℕ} → counted r s p ≡ got l q → Holds r s (sectionW k s p (capped n)) l
+  holds : (p n : ℕ) {l : List A} {q : ℕ} → counted r s p ≡ got l q → Holds r s (sectionM k s p (capped n)) l
   holds p n {l} {q} h =
       let x = split r s p h in
       record {
@@ -103,7 +103,7 @@ module _ {A : Type 0} (w : A → ℕ) (r : Reader A) (k : Walk) (e : Sees w r k)
 -- a file is read to the index of the model, or it is refused
 abbrev Finds : List ℕ → File → Answer Model → Type 0
 Finds s r (answer m) = (r .status ≡ status.Read) × Indexed s (r .index) m
-Finds s r (refused n) = r ≡ refusedW n
+Finds s r (refused n) = r ≡ refusedM n
 
 module _ (s : List ℕ) (size : ℕ) where
   module _ {A : Type 0} (v : A → ℕ) (n : ℕ) (r : Reader A) (p : ℕ) (k : A → Reader Model) where
@@ -115,16 +115,16 @@ module _ (s : List ℕ) (size : ℕ) where
       where
         cases : (g : Got A) → r s p ≡ g → Finds s (on w f) (decoded ((r >>= k) s p) size)
         cases (got a q) d = subst (λ (x : File). Finds s x (decoded ((r >>= k) s p) size)) (sym (ap (λ (y : Walked). on y f) (e ∙ ap (seen v n) d))) (subst (λ (y : Got Model). Finds s (f q (capped (n + v a))) (decoded y size)) (sym (bind-got r k d)) (h a q d))
-        cases broken d = subst (λ (x : File). Finds s x (decoded ((r >>= k) s p) size)) (sym (ap (λ (y : Walked). on y f) (e ∙ ap (seen v n) d))) (subst (λ (y : Got Model). Finds s (refusedW 30) (decoded y size)) (sym (bind-broken r k d)) refl)
+        cases broken d = subst (λ (x : File). Finds s x (decoded ((r >>= k) s p) size)) (sym (ap (λ (y : Walked). on y f) (e ∙ ap (seen v n) d))) (subst (λ (y : Got Model). Finds s (refusedM 30) (decoded y size)) (sym (bind-broken r k d)) refl)
 
   -- a section: its reader is a count and its parts
   pub sec-bind : {A : Type 0} (v : A → ℕ) (u : List A → ℕ) → u [] ≡ 0 → ((x : A) (l : List A) → u (x ∷ l) ≡ v x + u l) → (r : Reader A) (j : Walk) → Sees v r j → (n p : ℕ) (k : List A → Reader Model) (f : Section → ℕ → ℕ → File) →
-      ((l : List A) (q : ℕ) → sectionW j s p (capped n) .end ≡ walked.To q (capped (n + u l)) → Holds r s (sectionW j s p (capped n)) l → Finds s (f (sectionW j s p (capped n)) q (capped (n + u l))) (decoded (k l s q) size)) →
-      Finds s (on-section (sectionW j s p (capped n)) f) (decoded ((counted r >>= k) s p) size)
+      ((l : List A) (q : ℕ) → sectionM j s p (capped n) .end ≡ walked.To q (capped (n + u l)) → Holds r s (sectionM j s p (capped n)) l → Finds s (f (sectionM j s p (capped n)) q (capped (n + u l))) (decoded (k l s q) size)) →
+      Finds s (on-section (sectionM j s p (capped n)) f) (decoded ((counted r >>= k) s p) size)
   unfolding on-section seen
   sec-bind v u z c r j e n p k f h =
       let w = section-ends j s p (capped n) ∙ sees-counted v u z c r j e n s p in
-      on-bind u n (counted r) p k (sectionW j s p (capped n) .end) w (f (sectionW j s p (capped n)))
+      on-bind u n (counted r) p k (sectionM j s p (capped n) .end) w (f (sectionM j s p (capped n)))
       (λ l q d. h l q (w ∙ ap (seen u n) d) (holds v r j e s p n d))
 
 -- ---- what a text section's reader found
@@ -167,23 +167,23 @@ entities-passed : (ts : List Text) (s : List ℕ) (p : ℕ) {es : List Entity} {
 unfolding entities
 entities-passed ts s p e = passed (counted (entity ts)) (λ l. ascending (each (λ e. e .name) l)) s p e
 
-sees-limits : Sees quiet limits (bytesW 16)
+sees-limits : Sees quiet limits (bytesM 16)
 unfolding limits
 sees-limits n s p =
     bytes-sum 4 12 s p (capped n)
-    ∙ bind quiet n n quiet u32 (bytesW 4) sees-u32 _ (bytesW 12) (λ h s p.
+    ∙ bind quiet n n quiet u32 (bytesM 4) sees-u32 _ (bytesM 12) (λ h s p.
     bytes-sum 4 8 s p (capped (n + 0))
-    ∙ bind quiet n (n + 0) quiet u32 (bytesW 4) sees-u32 _ (bytesW 8) (λ m s p.
+    ∙ bind quiet n (n + 0) quiet u32 (bytesM 4) sees-u32 _ (bytesM 8) (λ m s p.
     bytes-sum 4 4 s p (capped (n + 0 + 0))
-    ∙ bind quiet n (n + 0 + 0) quiet u32 (bytesW 4) sees-u32 _ (bytesW 4) (λ d.
-    last quiet n (n + 0 + 0 + 0) quiet u32 (bytesW 4) sees-u32 _ (λ c. omega arith)) s p) s p) s p
+    ∙ bind quiet n (n + 0 + 0) quiet u32 (bytesM 4) sees-u32 _ (bytesM 4) (λ d.
+    last quiet n (n + 0 + 0 + 0) quiet u32 (bytesM 4) sees-u32 _ (λ c. omega arith)) s p) s p) s p
 
-sees-start : Sees quiet start (bytesW 8)
+sees-start : Sees quiet start (bytesM 8)
 unfolding start
 sees-start n s p =
     bytes-sum 4 4 s p (capped n)
-    ∙ bind quiet n n quiet u32 (bytesW 4) sees-u32 _ _
-    (λ w. last quiet n (n + 0) quiet u32 (bytesW 4) sees-u32 _ (λ c. omega arith)) s p
+    ∙ bind quiet n n quiet u32 (bytesM 4) sees-u32 _ _
+    (λ w. last quiet n (n + 0) quiet u32 (bytesM 4) sees-u32 _ (λ c. omega arith)) s p
 
 -- ---- notes
 
@@ -211,38 +211,38 @@ ends : (s : List ℕ) (p n : ℕ) (i : Index) (m : Model) → n ≡ length (note
 unfolding closed decoded
 ends s p n i m e x = rw (capped-test n, e) (cases (ltb 64 (length (notes-of m))) (ltb p (length s)))
   where
-    cases : (a b : Bool) → Finds s (if a then refusedW 30 else if b then refusedW 31 else record { status = status.Read; index = i }) (if a then refused 30 else if b then refused 31 else answer m)
+    cases : (a b : Bool) → Finds s (if a then refusedM 30 else if b then refusedM 31 else record { status = status.Read; index = i }) (if a then refused 30 else if b then refused 31 else answer m)
     cases true b = refl
     cases false true = refl
     cases false false = (refl, x)
 
 -- ---- the body
 
-body-with : (c : ℕ) (s : List ℕ) (v : ℕ) (x : Section) (at : ℕ) → x .count ≡ c → bodyW s v x at ≡ (
-    on (placeW c s at 0) λ p₀ n₀.
-    on (ascendingW c part.Entity false s p₀) λ p₁ n₁.
-    given (sectionW (partW c part.Entity) s p₀ 0) λ entities.
-    on-section (sectionW (partW c part.Event) s p₁ 0) λ events p₂ n₂.
-    on-section (sectionW (partW c part.Invariant) s p₂ n₂) λ invariants p₃ n₃.
-    on-section (sectionW (partW c part.Input) s p₃ n₃) λ alphabet p₄ n₄.
-    on-section (sectionW (partW c part.Gap) s p₄ n₄) λ gaps p₅ n₅.
-    on (bytesW 16 s p₅ n₅) λ p₆ n₆.
-    on-section (sectionW (partW c part.Rule) s p₆ n₆) λ rules p₇ n₇.
-    on (or-zerosW (bytesW 8) s p₇ n₇) λ p₈ n₈.
+body-with : (c : ℕ) (s : List ℕ) (v : ℕ) (x : Section) (at : ℕ) → x .count ≡ c → bodyM s v x at ≡ (
+    on (placeM c s at 0) λ p₀ n₀.
+    on (ascendingM c part.Entity false s p₀) λ p₁ n₁.
+    given (sectionM (partM c part.Entity) s p₀ 0) λ entities.
+    on-section (sectionM (partM c part.Event) s p₁ 0) λ events p₂ n₂.
+    on-section (sectionM (partM c part.Invariant) s p₂ n₂) λ invariants p₃ n₃.
+    on-section (sectionM (partM c part.Input) s p₃ n₃) λ alphabet p₄ n₄.
+    on-section (sectionM (partM c part.Gap) s p₄ n₄) λ gaps p₅ n₅.
+    on (bytesM 16 s p₅ n₅) λ p₆ n₆.
+    on-section (sectionM (partM c part.Rule) s p₆ n₆) λ rules p₇ n₇.
+    on (or-zerosM (bytesM 8) s p₇ n₇) λ p₈ n₈.
     closed s p₈ n₈ (record { version = v; texts = x; title = at; entities = entities; events = events; invariants = invariants; alphabet = alphabet; gaps = gaps; limits = p₅; rules = rules })
     )
-unfolding bodyW restW
-body-with c s v x at e = subst (λ (d : ℕ). bodyW s v x at ≡ (
-    on (placeW d s at 0) λ p₀ n₀.
-    on (ascendingW d part.Entity false s p₀) λ p₁ n₁.
-    given (sectionW (partW d part.Entity) s p₀ 0) λ entities.
-    on-section (sectionW (partW d part.Event) s p₁ 0) λ events p₂ n₂.
-    on-section (sectionW (partW d part.Invariant) s p₂ n₂) λ invariants p₃ n₃.
-    on-section (sectionW (partW d part.Input) s p₃ n₃) λ alphabet p₄ n₄.
-    on-section (sectionW (partW d part.Gap) s p₄ n₄) λ gaps p₅ n₅.
-    on (bytesW 16 s p₅ n₅) λ p₆ n₆.
-    on-section (sectionW (partW d part.Rule) s p₆ n₆) λ rules p₇ n₇.
-    on (or-zerosW (bytesW 8) s p₇ n₇) λ p₈ n₈.
+unfolding bodyM restM
+body-with c s v x at e = subst (λ (d : ℕ). bodyM s v x at ≡ (
+    on (placeM d s at 0) λ p₀ n₀.
+    on (ascendingM d part.Entity false s p₀) λ p₁ n₁.
+    given (sectionM (partM d part.Entity) s p₀ 0) λ entities.
+    on-section (sectionM (partM d part.Event) s p₁ 0) λ events p₂ n₂.
+    on-section (sectionM (partM d part.Invariant) s p₂ n₂) λ invariants p₃ n₃.
+    on-section (sectionM (partM d part.Input) s p₃ n₃) λ alphabet p₄ n₄.
+    on-section (sectionM (partM d part.Gap) s p₄ n₄) λ gaps p₅ n₅.
+    on (bytesM 16 s p₅ n₅) λ p₆ n₆.
+    on-section (sectionM (partM d part.Rule) s p₆ n₆) λ rules p₇ n₇.
+    on (or-zerosM (bytesM 8) s p₇ n₇) λ p₈ n₈.
     closed s p₈ n₈ (record { version = v; texts = x; title = at; entities = entities; events = events; invariants = invariants; alphabet = alphabet; gaps = gaps; limits = p₅; rules = rules })
     )) e refl
 
@@ -260,19 +260,19 @@ after h =
 
 module _ (s : List ℕ) (ts : List Text) (v at : ℕ) (x : Section) where
   body-says : ascending ts ≡ true → x .count ≡ length ts → Reads texts s 4 ts → Holds one-text s x ts →
-      Finds s (bodyW s v x at) (decoded ((place ts >>= λ t. entities ts >>= λ es. after (record { version = v; texts = ts; title = t; entities = es })) s at) (length s))
-  unfolding partW given capped after events give
+      Finds s (bodyM s v x at) (decoded ((place ts >>= λ t. entities ts >>= λ es. after (record { version = v; texts = ts; title = t; entities = es })) s at) (length s))
+  unfolding partM given capped after events give
   body-says asc e rt ht =
       subst (λ (y : File). Finds s y (decoded ((place ts >>= λ t. entities ts >>= λ es. after (record { version = v; texts = ts; title = t; entities = es })) s at) (length s))) (sym (body-with (length ts) s v x at e)) (
       on-bind s (length s) quiet 0 (place ts) at _ _ (sees-place ts 0 s at) _ λ t p₀ at-title.
       on-bind s (length s) quiet 0 (entities ts) p₀ _ _ (sees-entities ts asc s p₀) _ λ es p₁ are-entities.
-      sec-bind s (length s) quiet quiet refl (λ x l. refl) (event ts) (eventW (length ts)) (sees-event ts) 0 p₁ _ _ λ evs p₂ _ h-events.
-      sec-bind s (length s) (marks of-invariant) (marks (flat of-invariant)) (flat-nil of-invariant) (flat-more of-invariant) (invariant ts) (invariantW (length ts)) (sees-invariant ts) (0 + 0) p₂ _ _ λ is p₃ _ h-invariants.
-      sec-bind s (length s) quiet quiet refl (λ x l. refl) (input ts) (inputW (length ts)) (sees-input ts) (0 + 0 + length (flat of-invariant is)) p₃ _ _ λ al p₄ _ h-alphabet.
-      sec-bind s (length s) quiet quiet refl (λ x l. refl) u32 (bytesW 4) sees-u32 (0 + 0 + length (flat of-invariant is) + 0) p₄ _ _ λ gs p₅ _ h-gaps.
+      sec-bind s (length s) quiet quiet refl (λ x l. refl) (event ts) (eventM (length ts)) (sees-event ts) 0 p₁ _ _ λ evs p₂ _ h-events.
+      sec-bind s (length s) (marks of-invariant) (marks (flat of-invariant)) (flat-nil of-invariant) (flat-more of-invariant) (invariant ts) (invariantM (length ts)) (sees-invariant ts) (0 + 0) p₂ _ _ λ is p₃ _ h-invariants.
+      sec-bind s (length s) quiet quiet refl (λ x l. refl) (input ts) (inputM (length ts)) (sees-input ts) (0 + 0 + length (flat of-invariant is)) p₃ _ _ λ al p₄ _ h-alphabet.
+      sec-bind s (length s) quiet quiet refl (λ x l. refl) u32 (bytesM 4) sees-u32 (0 + 0 + length (flat of-invariant is) + 0) p₄ _ _ λ gs p₅ _ h-gaps.
       on-bind s (length s) quiet (0 + 0 + length (flat of-invariant is) + 0 + 0) limits p₅ _ _ (sees-limits (0 + 0 + length (flat of-invariant is) + 0 + 0) s p₅) _ λ ls p₆ at-limits.
-      sec-bind s (length s) (marks of-rule) (marks (flat of-rule)) (flat-nil of-rule) (flat-more of-rule) (automation ts) (ruleW (length ts)) (sees-rule ts) (0 + 0 + length (flat of-invariant is) + 0 + 0 + 0) p₆ _ _ λ rs p₇ rules-end h-rules.
-      on-bind s (length s) quiet (0 + 0 + length (flat of-invariant is) + 0 + 0 + 0 + length (flat of-rule rs)) (or-zeros midnight start) p₇ _ _ (sees-zeros quiet midnight start (bytesW 8) refl sees-start (0 + 0 + length (flat of-invariant is) + 0 + 0 + 0 + length (flat of-rule rs)) s p₇) _ λ st p₈ at-start.
+      sec-bind s (length s) (marks of-rule) (marks (flat of-rule)) (flat-nil of-rule) (flat-more of-rule) (automation ts) (ruleM (length ts)) (sees-rule ts) (0 + 0 + length (flat of-invariant is) + 0 + 0 + 0) p₆ _ _ λ rs p₇ rules-end h-rules.
+      on-bind s (length s) quiet (0 + 0 + length (flat of-invariant is) + 0 + 0 + 0 + length (flat of-rule rs)) (or-zeros midnight start) p₇ _ _ (sees-zeros quiet midnight start (bytesM 8) refl sees-start (0 + 0 + length (flat of-invariant is) + 0 + 0 + 0 + length (flat of-rule rs)) s p₇) _ λ st p₈ at-start.
       ends s p₈ (0 + 0 + length (flat of-invariant is) + 0 + 0 + 0 + length (flat of-rule rs) + 0) _
       (made (record { version = v; texts = ts; title = t; entities = es }) evs is al gs ls rs st)
       (omega (arith, in-model (made (record { version = v; texts = ts; title = t; entities = es }) evs is al gs ls rs st)))
@@ -282,7 +282,7 @@ module _ (s : List ℕ) (ts : List Text) (v at : ℕ) (x : Section) where
         each-text = ht;
         version = refl;
         title = (p₀, at-title);
-        entities = holds quiet (entity ts) (entityW (length ts)) (sees-entity ts) s p₀ 0 (entities-passed ts s p₀ are-entities .read);
+        entities = holds quiet (entity ts) (entityM (length ts)) (sees-entity ts) s p₀ 0 (entities-passed ts s p₀ are-entities .read);
         names = entities-passed ts s p₀ are-entities .holds;
         events = h-events;
         invariants = h-invariants;
@@ -351,43 +351,43 @@ u32-next s {v} {p} e = elim (decLt (length s) 4) [
   | no h ↦ cc (u32-in s 0 (omega arith))
 ]
 
-read-short : (s : List ℕ) → u32 s 0 ≡ broken → length s ≤ 32768 → readW s ≡ refusedW 30
-unfolding readW
-read-short s e h = rw (le-ltb 32768 (length s) h, e, readW)
+read-short : (s : List ℕ) → u32 s 0 ≡ broken → length s ≤ 32768 → readM s ≡ refusedM 30
+unfolding readM
+read-short s e h = rw (le-ltb 32768 (length s) h, e, readM)
 
-read-on : (s : List ℕ) {v p : ℕ} → u32 s 0 ≡ got v p → length s ≤ 32768 → readW s ≡ on (textsW s p) (λ p₁ n₁. bodyW s v (sectionW (partW 0 part.Text) s p 0) p₁)
-unfolding readW given
-read-on s e h = rw (le-ltb 32768 (length s) h, e, readW)
+read-on : (s : List ℕ) {v p : ℕ} → u32 s 0 ≡ got v p → length s ≤ 32768 → readM s ≡ on (textsM s p) (λ p₁ n₁. bodyM s v (sectionM (partM 0 part.Text) s p 0) p₁)
+unfolding readM given
+read-on s e h = rw (le-ltb 32768 (length s) h, e, readM)
 
-text-holds : (s : List ℕ) (p : ℕ) {ts : List Text} {q : ℕ} → texts s p ≡ got ts q → Holds one-text s (sectionW (partW 0 part.Text) s p 0) ts
-unfolding partW capped
-text-holds s p e = holds quiet one-text textW sees-text s p 0 (texts-passed s p e .read)
+text-holds : (s : List ℕ) (p : ℕ) {ts : List Text} {q : ℕ} → texts s p ≡ got ts q → Holds one-text s (sectionM (partM 0 part.Text) s p 0) ts
+unfolding partM capped
+text-holds s p e = holds quiet one-text textM sees-text s p 0 (texts-passed s p e .read)
 
 texts-ascend : (s : List ℕ) (p : ℕ) {ts : List Text} {q : ℕ} → texts s p ≡ got ts q → ascending ts ≡ true
 texts-ascend s p {ts} e = and-true (ascending ts) (has-fixed ts) (texts-passed s p e .holds)
 
-small : (s : List ℕ) → length s ≤ 32768 → Finds s (readW s) (decoded (model s 0) (length s))
+small : (s : List ℕ) → length s ≤ 32768 → Finds s (readM s) (decoded (model s 0) (length s))
 unfolding decoded
-small s h = subst (λ (y : Got Model). Finds s (readW s) (decoded y (length s))) (sym (model-flat s 0)) (cases (u32 s 0) refl)
+small s h = subst (λ (y : Got Model). Finds s (readM s) (decoded y (length s))) (sym (model-flat s 0)) (cases (u32 s 0) refl)
   where
-    cases : (g : Got ℕ) → u32 s 0 ≡ g → Finds s (readW s) (decoded ((u32 >>= λ v. flat₁ v) s 0) (length s))
+    cases : (g : Got ℕ) → u32 s 0 ≡ g → Finds s (readM s) (decoded ((u32 >>= λ v. flat₁ v) s 0) (length s))
     cases (got v p) e =
         subst (λ (y : File). Finds s y (decoded ((u32 >>= λ v. flat₁ v) s 0) (length s))) (sym (read-on s e h))
-        (subst (λ (y : Got Model). Finds s (on (textsW s p) (λ p₁ n₁. bodyW s v (sectionW (partW 0 part.Text) s p 0) p₁)) (decoded y (length s))) (sym (bind-got u32 (λ v. flat₁ v) e))
-        (on-bind s (length s) quiet 0 texts p (λ ts. flat₂ v ts) (textsW s p) (sees-texts s p) (λ p₁ n₁. bodyW s v (sectionW (partW 0 part.Text) s p 0) p₁)
-        (λ ts q d. body-says s ts v q (sectionW (partW 0 part.Text) s p 0) (texts-ascend s p d) (text-holds s p d .counts) (q, ap (texts s) (sym (u32-next s e)) ∙ d) (text-holds s p d))))
+        (subst (λ (y : Got Model). Finds s (on (textsM s p) (λ p₁ n₁. bodyM s v (sectionM (partM 0 part.Text) s p 0) p₁)) (decoded y (length s))) (sym (bind-got u32 (λ v. flat₁ v) e))
+        (on-bind s (length s) quiet 0 texts p (λ ts. flat₂ v ts) (textsM s p) (sees-texts s p) (λ p₁ n₁. bodyM s v (sectionM (partM 0 part.Text) s p 0) p₁)
+        (λ ts q d. body-says s ts v q (sectionM (partM 0 part.Text) s p 0) (texts-ascend s p d) (text-holds s p d .counts) (q, ap (texts s) (sym (u32-next s e)) ∙ d) (text-holds s p d))))
     cases broken e =
         subst (λ (y : File). Finds s y (decoded ((u32 >>= λ v. flat₁ v) s 0) (length s))) (sym (read-short s e h))
-        (subst (λ (y : Got Model). Finds s (refusedW 30) (decoded y (length s))) (sym (bind-broken u32 (λ v. flat₁ v) e)) refl)
+        (subst (λ (y : Got Model). Finds s (refusedM 30) (decoded y (length s))) (sym (bind-broken u32 (λ v. flat₁ v) e)) refl)
 
-whole : (s : List ℕ) → Finds s (readW s) (decode s)
+whole : (s : List ℕ) → Finds s (readM s) (decode s)
 unfolding decode
 whole s = elim (decLt 32768 (length s)) [
   | yes h ↦ rw (lt-ltb 32768 (length s) h) (laws.too-long s h)
   | no h ↦ rw (le-ltb 32768 (length s) (omega arith)) (small s (omega arith))
 ]
 
-pub says : (s : List ℕ) {r : File} → r ≡ readW s → Says s r (decode s)
+pub says : (s : List ℕ) {r : File} → r ≡ readM s → Says s r (decode s)
 says s {r} e = by (decode s) (subst (λ (y : File). Finds s y (decode s)) (sym e) (whole s))
   where
     by : (a : Answer Model) → Finds s r a → Says s r a

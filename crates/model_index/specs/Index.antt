@@ -6,15 +6,15 @@ use mathlib.Core.List.{List}
 use lib.Dec.{ltb}
 use lib.ListN.{length}
 use Rattle.texts.specs.Lists.{if_then_else_}
-use Rattle.model.specs.File.{got, broken, u32}
+use Rattle.model_spec.specs.File.{got, broken, u32}
 use Rattle.model_walk.specs.declared.Walked.{Walked}
 use Rattle.model_walk.specs.declared.Walked.the-variants as walked
-use Rattle.model_walk.specs.Walk.{placeW, bytesW, or-zerosW}
+use Rattle.model_walk.specs.Walk.{placeM, bytesM, or-zerosM}
 use Rattle.model_parts.specs.declared.Section.{Section}
 use Rattle.model_parts.specs.declared.Extent.{Extent}
 use Rattle.model_parts.specs.declared.Part.the-variants as part
-use Rattle.model_parts.specs.Parts.{partW, none, sectionW, section}
-use Rattle.model_order.specs.Order.{ascendingW, textsW}
+use Rattle.model_parts.specs.Parts.{partM, none, sectionM, section}
+use Rattle.model_order.specs.Order.{ascendingM, textsM}
 use Rattle.model_index.specs.declared.File.{File}
 use Rattle.model_index.specs.declared.Status.the-variants as status
 use Rattle.model_index.specs.declared.Index.{Index}
@@ -24,8 +24,8 @@ use Rattle.model_index.specs.declared.Outline.{Outline}
 abbrev pub empty : Section
 empty = record { count = 0; starts = none; end = walked.Broken }
 
-unfoldable pub refusedW : ℕ → File
-refusedW n = record {
+unfoldable pub refusedM : ℕ → File
+refusedM n = record {
   status = status.Refused n;
   index = record {
     version = 0;
@@ -45,8 +45,8 @@ abbrev pub no-extent : Extent
 no-extent = record { count = 0; end = walked.Broken }
 
 -- the outline of a refused file
-abbrev pub refusalW : ℕ → Outline
-refusalW n = record {
+abbrev pub refusalM : ℕ → Outline
+refusalM n = record {
   status = status.Refused n;
   front = record { version = 0; texts = no-extent; title = 0; entities = no-extent; events = no-extent; invariants = no-extent };
   alphabet = no-extent;
@@ -55,13 +55,13 @@ refusalW n = record {
   rules = no-extent;
 }
 
-abbrev pub wholeW : Index → File
-wholeW i = record { status = status.Read; index = i }
+abbrev pub wholeM : Index → File
+wholeM i = record { status = status.Read; index = i }
 
 -- go on behind a walk, or refuse
 unfoldable pub on : Walked → (ℕ → ℕ → File) → File
 on (walked.To p n) f = f p n
-on walked.Broken f = refusedW 30
+on walked.Broken f = refusedM 30
 
 -- go on behind a section
 unfoldable pub on-section : Section → (Section → ℕ → ℕ → File) → File
@@ -72,7 +72,7 @@ unfoldable pub given : Section → (Section → File) → File
 given x f = f x
 
 unfoldable pub closed : List ℕ → ℕ → ℕ → Index → File
-closed s p n i = if ltb 64 n then refusedW 30 else if ltb p (length s) then refusedW 31 else wholeW i
+closed s p n i = if ltb 64 n then refusedM 30 else if ltb p (length s) then refusedM 31 else wholeM i
 
 -- an index from the front, the positions of its sections, and what follows it
 abbrev pub index-of : Front → (texts entities events invariants : List ℕ) → (alphabet gaps : Section) → (limits : ℕ) → (rules : Section) → Index
@@ -92,8 +92,8 @@ index-of f t e v i alphabet gaps limits rules = record {
 -- the file of an outline and its positions; a refused one has none
 unfoldable pub file-of : Outline → (texts entities events invariants alphabet gaps rules : List ℕ) → File
 file-of o t e v i a g r = elim (o .status) [
-  | status.Read ↦ wholeW (index-of (o .front) t e v i (section (o .alphabet) a) (section (o .gaps) g) (o .limits) (section (o .rules) r))
-  | status.Refused n ↦ refusedW n
+  | status.Read ↦ wholeM (index-of (o .front) t e v i (section (o .alphabet) a) (section (o .gaps) g) (o .limits) (section (o .rules) r))
+  | status.Refused n ↦ refusedM n
 ]
 
 -- three arrays of zeros
@@ -103,29 +103,29 @@ pub record Zeros (a b c : List ℕ) : Type 0 where
   pub third : c ≡ none
 
 -- what follows the invariants, for a file with so many texts
-unfoldable pub restW : List ℕ → (texts : ℕ) → ((alphabet gaps : Section) → ℕ → (rules : Section) → Index) → ℕ → ℕ → File
-restW s c f p₃ n₃ =
-    on-section (sectionW (partW c part.Input) s p₃ n₃) λ alphabet p₄ n₄.
-    on-section (sectionW (partW c part.Gap) s p₄ n₄) λ gaps p₅ n₅.
-    on (bytesW 16 s p₅ n₅) λ p₆ n₆.
-    on-section (sectionW (partW c part.Rule) s p₆ n₆) λ rules p₇ n₇.
-    on (or-zerosW (bytesW 8) s p₇ n₇) λ p₈ n₈.
+unfoldable pub restM : List ℕ → (texts : ℕ) → ((alphabet gaps : Section) → ℕ → (rules : Section) → Index) → ℕ → ℕ → File
+restM s c f p₃ n₃ =
+    on-section (sectionM (partM c part.Input) s p₃ n₃) λ alphabet p₄ n₄.
+    on-section (sectionM (partM c part.Gap) s p₄ n₄) λ gaps p₅ n₅.
+    on (bytesM 16 s p₅ n₅) λ p₆ n₆.
+    on-section (sectionM (partM c part.Rule) s p₆ n₆) λ rules p₇ n₇.
+    on (or-zerosM (bytesM 8) s p₇ n₇) λ p₈ n₈.
     closed s p₈ n₈ (f alphabet gaps p₅ rules)
 
 -- what follows the texts
-unfoldable pub bodyW : List ℕ → (version : ℕ) → Section → ℕ → File
-bodyW s v texts at =
-    on (placeW (texts .count) s at 0) λ p₀ n₀.
-    on (ascendingW (texts .count) part.Entity false s p₀) λ p₁ n₁.
-    given (sectionW (partW (texts .count) part.Entity) s p₀ 0) λ entities.
-    on-section (sectionW (partW (texts .count) part.Event) s p₁ 0) λ events p₂ n₂.
-    on-section (sectionW (partW (texts .count) part.Invariant) s p₂ n₂) λ invariants p₃ n₃.
-    restW s (texts .count) (λ alphabet gaps limits rules. record { version = v; texts = texts; title = at; entities = entities; events = events; invariants = invariants; alphabet = alphabet; gaps = gaps; limits = limits; rules = rules }) p₃ n₃
+unfoldable pub bodyM : List ℕ → (version : ℕ) → Section → ℕ → File
+bodyM s v texts at =
+    on (placeM (texts .count) s at 0) λ p₀ n₀.
+    on (ascendingM (texts .count) part.Entity false s p₀) λ p₁ n₁.
+    given (sectionM (partM (texts .count) part.Entity) s p₀ 0) λ entities.
+    on-section (sectionM (partM (texts .count) part.Event) s p₁ 0) λ events p₂ n₂.
+    on-section (sectionM (partM (texts .count) part.Invariant) s p₂ n₂) λ invariants p₃ n₃.
+    restM s (texts .count) (λ alphabet gaps limits rules. record { version = v; texts = texts; title = at; entities = entities; events = events; invariants = invariants; alphabet = alphabet; gaps = gaps; limits = limits; rules = rules }) p₃ n₃
 
-unfoldable pub readW : List ℕ → File
-readW s =
-    if ltb 32768 (length s) then refusedW 30
+unfoldable pub readM : List ℕ → File
+readM s =
+    if ltb 32768 (length s) then refusedM 30
     else elim (u32 s 0) [
-      | got v p ↦ on (textsW s p) λ p₁ n₁. given (sectionW (partW 0 part.Text) s p 0) λ texts. bodyW s v texts p₁
-      | broken ↦ refusedW 30
+      | got v p ↦ on (textsM s p) λ p₁ n₁. given (sectionM (partM 0 part.Text) s p 0) λ texts. bodyM s v texts p₁
+      | broken ↦ refusedM 30
     ]

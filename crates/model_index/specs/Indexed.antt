@@ -6,17 +6,17 @@ use mathlib.Core.List.{List}
 use lib.ListN.{length}
 use Rattle.texts.specs.Lists.{each}
 use Rattle.texts.specs.Texts.{Text}
-use Rattle.model.specs.Answer.{Answer, answer, refused}
-use Rattle.model.specs.Model.{Model, midnight}
-use Rattle.model.specs.File.{u32, or-zeros, start, limits, texts, one-text, place, entity, event, invariant, input, automation, ascending}
+use Rattle.model_spec.specs.Answer.{Answer, answer, refused}
+use Rattle.model_spec.specs.Model.{Model, midnight}
+use Rattle.model_spec.specs.File.{u32, or-zeros, start, limits, texts, one-text, place, entity, event, invariant, input, automation, ascending}
 use Rattle.model_walk.specs.declared.Walked.the-variants as walked
 use Rattle.model_parts.specs.declared.Section.{Section}
 use Rattle.model_parts.specs.Stand.{Reads, Stand}
-use Rattle.model.specs.File.{Reader}
+use Rattle.model_spec.specs.File.{Reader}
 use Rattle.model_index.specs.declared.File.{File}
 use Rattle.model_index.specs.declared.Status.the-variants as status
 use Rattle.model_index.specs.declared.Index.{Index}
-use Rattle.model_index.specs.Index.{refusedW, readW}
+use Rattle.model_index.specs.Index.{refusedM, readM}
 
 -- the section's parts are these values: as many, and the first hundred of them at its positions
 pub record Holds {A : Type 0} (r : Reader A) (s : List ℕ) (x : Section) (l : List A) : Type 0 where
@@ -47,11 +47,11 @@ pub record Indexed (s : List ℕ) (i : Index) (m : Model) : Type 0 where
 -- the answer for a file that decodes to a model: all that the walk over the file finds, with the ends of the sections and
 -- the zeros behind the last positions, and its index is the model's
 pub record Read (s : List ℕ) (r : File) (m : Model) : Type 0 where
-  pub whole : r ≡ readW s
+  pub whole : r ≡ readM s
   pub is-read : r .status ≡ status.Read
   pub indexed : Indexed s (r .index) m
 
 -- or for one that is refused
 abbrev pub Says : List ℕ → File → Answer Model → Type 0
 Says s r (answer m) = Read s r m
-Says s r (refused n) = r ≡ refusedW n
+Says s r (refused n) = r ≡ refusedM n

@@ -7,9 +7,9 @@ use model_walk::Walked;
 ghost use mathlib.Core.Path.{_≡_};
 ghost use mathlib.Core.List.{List};
 ghost use Prim.Native.Nat.{ℕ};
-ghost use Rattle.model.specs.File.{decode};
+ghost use Rattle.model_spec.specs.File.{decode};
 ghost use Rattle.model_parts.specs.Parts.{none, section};
-ghost use Rattle.model_index.specs.Index.{empty, refusedW, refusalW, index-of, file-of, Zeros, restW, bodyW};
+ghost use Rattle.model_index.specs.Index.{empty, refusedM, refusalM, index-of, file-of, Zeros, restM, bodyM};
 ghost use Rattle.model_index.specs.Indexed.{Says};
 
 // Where the parts of a model file stand.
@@ -69,7 +69,7 @@ fn no_section() -> Section
 
 // A refused file has the empty index.
 pub fn refused(number: u32) -> File
-    ensures { λ r. ⌜ r ≡ refusedW number ⌝ }
+    ensures { λ r. ⌜ r ≡ refusedM number ⌝ }
 {
     let x = no_section();
     let index = Index {
@@ -92,7 +92,7 @@ pub fn refused(number: u32) -> File
 
 // The outline of a refused file.
 pub fn refusal(number: u32) -> Outline
-    ensures { λ r. ⌜ r ≡ refusalW number ⌝ }
+    ensures { λ r. ⌜ r ≡ refusalM number ⌝ }
 {
     let x = Extent {
         count: 0,
@@ -173,7 +173,7 @@ fn rest_at(
     rules: &mut [usize; 100],
 ) -> Outline
     requires { ⌜ Zeros (now alphabet) (now gaps) (now rules) ⌝ }
-    ensures { λ r. ⌜ ((t e v i : List ℕ) → file-of r t e v i (now (alphabet .exit)) (now (gaps .exit)) (now (rules .exit)) ≡ restW (now (s .entry)) (front .texts .count) (index-of front t e v i) at notes) ⌝ }
+    ensures { λ r. ⌜ ((t e v i : List ℕ) → file-of r t e v i (now (alphabet .exit)) (now (gaps .exit)) (now (rules .exit)) ≡ restM (now (s .entry)) (front .texts .count) (index-of front t e v i) at notes) ⌝ }
 {
     let count = front.texts.count;
     let a = model_parts::section_into(s, count, Part::Input, at, notes, alphabet);
@@ -229,7 +229,7 @@ fn body_at(
     rules: &mut [usize; 100],
 ) -> Outline
     requires { ⌜ Zeros (now entities) (now events) (now invariants) × Zeros (now alphabet) (now gaps) (now rules) ⌝ }
-    ensures { λ r. ⌜ ((t : List ℕ) → file-of r t (now (entities .exit)) (now (events .exit)) (now (invariants .exit)) (now (alphabet .exit)) (now (gaps .exit)) (now (rules .exit)) ≡ bodyW (now (s .entry)) version (section texts t) at) ⌝ }
+    ensures { λ r. ⌜ ((t : List ℕ) → file-of r t (now (entities .exit)) (now (events .exit)) (now (invariants .exit)) (now (alphabet .exit)) (now (gaps .exit)) (now (rules .exit)) ≡ bodyM (now (s .entry)) version (section texts t) at) ⌝ }
 {
     let count = texts.count;
     let a = model_walk::place_at(s, count, at, 0);

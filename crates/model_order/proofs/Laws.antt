@@ -12,7 +12,7 @@ use Rattle.texts.specs.Texts.{Text, text, eqT, ltT}
 use Rattle.texts.specs.Places.{textAt}
 use Rattle.texts.proofs.Laws.{text-length, text-byte}
 use Rattle.texts.proofs.FromIndex.{lt-shorter, lt-longer, lt-less, lt-more, lt-same, eq-ended, eq-longer, eq-other, eq-same}
-use Rattle.model.specs.File.{u16}
+use Rattle.model_spec.specs.File.{u16}
 use Rattle.model_walk.specs.declared.Num.{Num}
 use Rattle.model_walk.specs.declared.Num.the-variants as num
 use Rattle.model_walk.specs.declared.Walked.{Walked}
@@ -21,8 +21,8 @@ use Rattle.model_walk.specs.Walk.{found, Walk, and-then}
 use Rattle.model_walk.proofs.Laws.{is-got, is-broken}
 use Rattle.model_parts.specs.declared.Part.{Part}
 use Rattle.model_parts.specs.declared.Part.the-variants as part
-use Rattle.model_parts.specs.Parts.{partW, textW}
-use Rattle.model_order.specs.Order.{place-from, fits, text-before, place-before, before, chain, chained, ascendingW, among, has, textsW}
+use Rattle.model_parts.specs.Parts.{partM, textM}
+use Rattle.model_order.specs.Order.{place-from, fits, text-before, place-before, before, chain, chained, ascendingM, among, has, textsM}
 
 -- ---- a text in the file
 
@@ -134,13 +134,13 @@ module _ (s : List ℕ) (a b : ℕ) where
 -- ---- chains
 
 module _ (ts : ℕ) (t : Part) (x : Bool) (s : List ℕ) (p : ℕ) {f : Num} (e : found f ≡ u16 s p) where
-  pub ascending-none : f ≡ num.Broken → ascendingW ts t x s p ≡ walked.Broken
-  unfolding ascendingW
-  ascending-none h = rw (is-broken e h, ascendingW)
+  pub ascending-none : f ≡ num.Broken → ascendingM ts t x s p ≡ walked.Broken
+  unfolding ascendingM
+  ascending-none h = rw (is-broken e h, ascendingM)
 
-  pub ascending-is : {c q : ℕ} → f ≡ num.Is c q → ascendingW ts t x s p ≡ chained (partW ts t) c x s q
-  unfolding ascendingW
-  ascending-is h = rw (is-got e h, ascendingW)
+  pub ascending-is : {c q : ℕ} → f ≡ num.Is c q → ascendingM ts t x s p ≡ chained (partM ts t) c x s q
+  unfolding ascendingM
+  ascending-is h = rw (is-got e h, ascendingM)
 
 module _ (k : Walk) (x : Bool) (s : List ℕ) (p : ℕ) where
   pub chained-none : (c : ℕ) → c ≡ 0 → chained k c x s p ≡ walked.To p 0
@@ -197,7 +197,7 @@ module _ (w s : List ℕ) (p : ℕ) where
   among-end zero h = refl
   among-end (suc c) h = absurd (omega arith)
 
-  module _ {y : Walked} (e : y ≡ textW s p 0) where
+  module _ {y : Walked} (e : y ≡ textM s p 0) where
     pub among-broken : (c : ℕ) → 0 < c → y ≡ walked.Broken → among c w s p ≡ false
     unfolding among
     among-broken zero n h = absurd (omega arith)
@@ -217,27 +217,27 @@ module _ (w s : List ℕ) (p : ℕ) where
 -- ---- the section of texts
 
 module _ (s : List ℕ) (p : ℕ) where
-  pub no-on : has (text "on") s p ≡ false → textsW s p ≡ walked.Broken
-  unfolding textsW
+  pub no-on : has (text "on") s p ≡ false → textsM s p ≡ walked.Broken
+  unfolding textsM
   no-on e = rw e
 
   module _ (a : has (text "on") s p ≡ true) where
-    pub no-off : has (text "off") s p ≡ false → textsW s p ≡ walked.Broken
-    unfolding textsW
+    pub no-off : has (text "off") s p ≡ false → textsM s p ≡ walked.Broken
+    unfolding textsM
     no-off e = rw (a, e)
 
     module _ (b : has (text "off") s p ≡ true) where
-      pub no-unknown : has (text "unknown") s p ≡ false → textsW s p ≡ walked.Broken
-      unfolding textsW
+      pub no-unknown : has (text "unknown") s p ≡ false → textsM s p ≡ walked.Broken
+      unfolding textsM
       no-unknown e = rw (a, b, e)
 
       module _ (c : has (text "unknown") s p ≡ true) where
-        pub no-unavailable : has (text "unavailable") s p ≡ false → textsW s p ≡ walked.Broken
-        unfolding textsW
+        pub no-unavailable : has (text "unavailable") s p ≡ false → textsM s p ≡ walked.Broken
+        unfolding textsM
         no-unavailable e = rw (a, b, c, e)
 
-        pub all-there : has (text "unavailable") s p ≡ true → textsW s p ≡ ascendingW 0 part.Text true s p
-        unfolding textsW
+        pub all-there : has (text "unavailable") s p ≡ true → textsM s p ≡ ascendingM 0 part.Text true s p
+        unfolding textsM
         all-there e = rw (a, b, c, e)
 
 -- ---- the place of a word

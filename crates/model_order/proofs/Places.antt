@@ -16,7 +16,7 @@ use Rattle.texts.specs.Texts.{Text, text, eqT, ltT, memT}
 use Rattle.texts.specs.Places.{textAt, startFrom, textsFrom}
 use Rattle.texts.proofs.Laws.{text-at-place, texts-many, length-byte}
 use Rattle.texts.proofs.Ordering.{not-both, eq-is, Before, trans, lt-is, lt-yes, lt-no, eq-no, no-eq, eq-refl, lt-irrefl}
-use Rattle.model.specs.File.{Got, got, broken, give, require, u8, u16, times, counted, printable, one-text, ascending, has-fixed, texts}
+use Rattle.model_spec.specs.File.{Got, got, broken, give, require, u8, u16, times, counted, printable, one-text, ascending, has-fixed, texts}
 use Rattle.model_walk.proofs.Laws.{bind-got, bind-broken, u8-in, u8-out, u16-in, u16-out}
 use Rattle.model_parts.proofs.Stands.{more}
 use Rattle.model_order.specs.Order.{fits, place-from, Fixed}

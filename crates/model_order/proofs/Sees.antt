@@ -10,18 +10,18 @@ use borrow.Author.Tests.{ltb-true}
 use Rattle.texts.specs.Lists.{if_then_else_, any, each}
 use Rattle.texts.specs.Texts.{Text, text, eqT, ltT, memT}
 use Rattle.texts.specs.Places.{textAt}
-use Rattle.model.specs.Model.{Entity}
-use Rattle.model.specs.File.{Got, got, broken, Reader, _>>=_, give, require, u16, times, counted, one-text, ascending, has-fixed, texts, tier, number?, place, entity, entities}
+use Rattle.model_spec.specs.Model.{Entity}
+use Rattle.model_spec.specs.File.{Got, got, broken, Reader, _>>=_, give, require, u16, times, counted, one-text, ascending, has-fixed, texts, tier, number?, place, entity, entities}
 use Rattle.model_walk.specs.declared.Walked.{Walked}
 use Rattle.model_walk.specs.declared.Walked.the-variants as walked
 use Rattle.model_walk.specs.Walk.{capped, seen, Walk, and-then}
 use Rattle.model_walk.proofs.Laws.{bind-got, bind-broken}
 use Rattle.model_walk.proofs.Sees.{Sees, quiet}
 use Rattle.model_parts.specs.declared.Part.the-variants as part
-use Rattle.model_parts.specs.Parts.{partW, textW, entityW}
+use Rattle.model_parts.specs.Parts.{partM, textM, entityM}
 use Rattle.model_parts.proofs.Sees.{sees-text, sees-entity}
 use Rattle.model_parts.proofs.Stands.{More, more}
-use Rattle.model_order.specs.Order.{place-before, before, chain, chained, ascendingW, among, has, textsW}
+use Rattle.model_order.specs.Order.{place-before, before, chain, chained, ascendingM, among, has, textsM}
 use Rattle.model_order.proofs.Laws as laws
 use Rattle.model_order.proofs.Places.{Case, is-true, is-false, case, place-order, told}
 
@@ -156,8 +156,8 @@ module _ (ts : List Text) where
       ∙ sym (place-order ts h (m .at) (n .at) (m .is-in) (n .is-in))
       ∙ ap₂ ltT (sym (m .is-name)) (sym (n .is-name))
 
-  pub sees-entities : ascending ts ≡ true → (s : List ℕ) (p : ℕ) → ascendingW (length ts) part.Entity false s p ≡ seen quiet 0 (entities ts s p)
-  unfolding ascendingW partW entities counted _>>=_ require seen capped judge
+  pub sees-entities : ascending ts ≡ true → (s : List ℕ) (p : ℕ) → ascendingM (length ts) part.Entity false s p ≡ seen quiet 0 (entities ts s p)
+  unfolding ascendingM partM entities counted _>>=_ require seen capped judge
   sees-entities h s p = cases (u16 s p)
     where
       last : (g : Got (List Entity)) → judge (λ l. ascending (each (λ e. e .name) l)) g ≡ seen quiet 0 (((λ _ _. g) >>= λ es. require (ascending (each (λ e. e .name) es)) es) s p)
@@ -168,8 +168,8 @@ module _ (ts : List Text) where
           tested false = refl
       last broken = refl
 
-      cases : (g : Got ℕ) → (elim g [ got c q ↦ chained (entityW (length ts)) c false s q | broken ↦ walked.Broken ]) ≡ seen quiet 0 ((((λ _ _. g) >>= λ c. times c (entity ts)) >>= λ es. require (ascending (each (λ e. e .name) es)) es) s p)
-      cases (got c q) = sees-chained (entity ts) (entityW (length ts)) (sees-entity ts) (λ e. e .name) false s (names-before h s) c q ∙ last (times c (entity ts) s q)
+      cases : (g : Got ℕ) → (elim g [ got c q ↦ chained (entityM (length ts)) c false s q | broken ↦ walked.Broken ]) ≡ seen quiet 0 ((((λ _ _. g) >>= λ c. times c (entity ts)) >>= λ es. require (ascending (each (λ e. e .name) es)) es) s p)
+      cases (got c q) = sees-chained (entity ts) (entityM (length ts)) (sees-entity ts) (λ e. e .name) false s (names-before h s) c q ∙ last (times c (entity ts) s q)
       cases broken = refl
 
 -- ---- texts
@@ -186,7 +186,7 @@ none-read : (s : List ℕ) (p : ℕ) (l : List Text) (next : ℕ) → times 0 on
 unfolding times give
 none-read s p l next h = cc
 
-text-walks : (s : List ℕ) (p : ℕ) {t : Text} {q : ℕ} → one-text s p ≡ got t q → textW s p 0 ≡ walked.To q 0
+text-walks : (s : List ℕ) (p : ℕ) {t : Text} {q : ℕ} → one-text s p ≡ got t q → textM s p 0 ≡ walked.To q 0
 unfolding capped seen
 text-walks s p f = sees-text 0 s p ∙ ap (seen quiet 0) f
 
@@ -223,9 +223,9 @@ has-in : (w : Text) (s : List ℕ) (p : ℕ) {c q : ℕ} → u16 s p ≡ got c q
 unfolding has
 has-in w s p e = rw (e, has)
 
-ascending-in : (s : List ℕ) (p : ℕ) {c q : ℕ} → u16 s p ≡ got c q → ascendingW 0 part.Text true s p ≡ judge (λ l. ascending (each (λ t. t) l)) (times c one-text s q)
-unfolding ascendingW partW
-ascending-in s p {c} {q} e = rw (e, ascendingW) (sees-chained one-text textW sees-text (λ t. t) true s (texts-before s) c q)
+ascending-in : (s : List ℕ) (p : ℕ) {c q : ℕ} → u16 s p ≡ got c q → ascendingM 0 part.Text true s p ≡ judge (λ l. ascending (each (λ t. t) l)) (times c one-text s q)
+unfolding ascendingM partM
+ascending-in s p {c} {q} e = rw (e, ascendingM) (sees-chained one-text textM sees-text (λ t. t) true s (texts-before s) c q)
 
 nothing : (a b c d : Bool) (x : Walked) → x ≡ walked.Broken → (if a then if b then if c then if d then x else walked.Broken else walked.Broken else walked.Broken else walked.Broken) ≡ walked.Broken
 nothing true true true true x e = e
@@ -252,32 +252,32 @@ module _ (s : List ℕ) (p : ℕ) where
   unfolding counted
   text-count e = bind-got u16 _ e
 
-  texts-read : {c q : ℕ} {l : List Text} {o : ℕ} → u16 s p ≡ got c q → times c one-text s q ≡ got l o → textsW s p ≡ seen quiet 0 (texts s p)
-  unfolding texts textsW has-fixed require judge
+  texts-read : {c q : ℕ} {l : List Text} {o : ℕ} → u16 s p ≡ got c q → times c one-text s q ≡ got l o → textsM s p ≡ seen quiet 0 (texts s p)
+  unfolding texts textsM has-fixed require judge
   texts-read {c} {q} {l} {o} e f =
       let m : (w : Text) → has w s p ≡ memT w l = λ w. has-in w s p e ∙ sees-among w s c q l o f in
-      let a : ascendingW 0 part.Text true s p ≡ (if ascending l then walked.To o 0 else walked.Broken) = ascending-in s p e ∙ ap (judge (λ l. ascending (each (λ t. t) l))) f ∙ ap (λ (x : List Text). if ascending x then walked.To o 0 else walked.Broken) (each-same l) in
+      let a : ascendingM 0 part.Text true s p ≡ (if ascending l then walked.To o 0 else walked.Broken) = ascending-in s p e ∙ ap (judge (λ l. ascending (each (λ t. t) l))) f ∙ ap (λ (x : List Text). if ascending x then walked.To o 0 else walked.Broken) (each-same l) in
       rw (m (text "on"), m (text "off"), m (text "unknown"), m (text "unavailable"), a)
       (something l o (ascending l) (memT (text "on") l) (memT (text "off") l) (memT (text "unknown") l) (memT (text "unavailable") l)
       ∙ ap (seen quiet 0) (sym (bind-got (counted one-text) (λ ts. require (ascending ts && has-fixed ts) ts) (text-count e ∙ f))))
 
-  texts-broken : {c q : ℕ} → u16 s p ≡ got c q → times c one-text s q ≡ broken → textsW s p ≡ seen quiet 0 (texts s p)
-  unfolding texts textsW judge seen
+  texts-broken : {c q : ℕ} → u16 s p ≡ got c q → times c one-text s q ≡ broken → textsM s p ≡ seen quiet 0 (texts s p)
+  unfolding texts textsM judge seen
   texts-broken e f =
       nothing (has (text "on") s p) (has (text "off") s p) (has (text "unknown") s p) (has (text "unavailable") s p) _ (ascending-in s p e ∙ ap (judge (λ l. ascending (each (λ t. t) l))) f)
       ∙ sym (ap (seen quiet 0) (bind-broken (counted one-text) (λ ts. require (ascending ts && has-fixed ts) ts) (text-count e ∙ f)))
 
-  texts-short : u16 s p ≡ broken → textsW s p ≡ seen quiet 0 (texts s p)
+  texts-short : u16 s p ≡ broken → textsM s p ≡ seen quiet 0 (texts s p)
   unfolding texts counted seen has
   texts-short e = laws.no-on s p (rw (e, has)) ∙ sym (ap (seen quiet 0) (bind-broken (counted one-text) (λ ts. require (ascending ts && has-fixed ts) ts) (bind-broken u16 _ e)))
 
-  pub sees-texts : textsW s p ≡ seen quiet 0 (texts s p)
+  pub sees-texts : textsM s p ≡ seen quiet 0 (texts s p)
   sees-texts = cases (u16 s p) refl
     where
-      read : (c q : ℕ) → u16 s p ≡ got c q → (g : Got (List Text)) → times c one-text s q ≡ g → textsW s p ≡ seen quiet 0 (texts s p)
+      read : (c q : ℕ) → u16 s p ≡ got c q → (g : Got (List Text)) → times c one-text s q ≡ g → textsM s p ≡ seen quiet 0 (texts s p)
       read c q e (got l o) f = texts-read e f
       read c q e broken f = texts-broken e f
 
-      cases : (g : Got ℕ) → u16 s p ≡ g → textsW s p ≡ seen quiet 0 (texts s p)
+      cases : (g : Got ℕ) → u16 s p ≡ g → textsM s p ≡ seen quiet 0 (texts s p)
       cases (got c q) e = read c q e (times c one-text s q) refl
       cases broken e = texts-short e

@@ -8,13 +8,13 @@ use lib.ListN.{length, getD}
 use Rattle.texts.specs.Lists.{if_then_else_}
 use Rattle.texts.specs.Texts.{Text, text, eqT, ltT}
 use Rattle.texts.specs.Places.{textAt}
-use Rattle.model.specs.File.{got, broken, u16}
+use Rattle.model_spec.specs.File.{got, broken, u16}
 use Rattle.model_walk.specs.declared.Walked.{Walked}
 use Rattle.model_walk.specs.declared.Walked.the-variants as walked
 use Rattle.model_walk.specs.Walk.{Walk, and-then}
 use Rattle.model_parts.specs.declared.Part.{Part}
 use Rattle.model_parts.specs.declared.Part.the-variants as part
-use Rattle.model_parts.specs.Parts.{partW, textW}
+use Rattle.model_parts.specs.Parts.{partM, textM}
 
 -- the text at p stands in the file as a whole
 unfoldable pub fits : List ℕ → ℕ → Bool
@@ -46,13 +46,13 @@ unfoldable pub chained : Walk → (left : ℕ) → Bool → List ℕ → ℕ →
 chained k zero x s p = walked.To p 0
 chained k (suc left) x s p = and-then (k s p 0) (λ q m. chain k left x p s q)
 
-unfoldable pub ascendingW : (ts : ℕ) → Part → Bool → List ℕ → ℕ → Walked
-ascendingW ts part x s p = elim (u16 s p) [ got c q ↦ chained (partW ts part) c x s q | broken ↦ walked.Broken ]
+unfoldable pub ascendingM : (ts : ℕ) → Part → Bool → List ℕ → ℕ → Walked
+ascendingM ts part x s p = elim (u16 s p) [ got c q ↦ chained (partM ts part) c x s q | broken ↦ walked.Broken ]
 
 -- one of `left` texts is w
 unfoldable pub among : (left : ℕ) → Text → List ℕ → ℕ → Bool
 among zero w s p = false
-among (suc left) w s p = elim (textW s p 0) [
+among (suc left) w s p = elim (textM s p 0) [
   | walked.To q m ↦ elim (fits s p && eqT w (textAt s p)) [ true ↦ true | false ↦ among left w s q ]
   | walked.Broken ↦ false
 ]
@@ -69,12 +69,12 @@ place-from (suc left) k w s p = elim (fits s p && eqT w (textAt s p)) [
 ]
 
 -- the section of texts
-unfoldable pub textsW : List ℕ → ℕ → Walked
-textsW s p =
+unfoldable pub textsM : List ℕ → ℕ → Walked
+textsM s p =
     if has (text "on") s p then
     if has (text "off") s p then
     if has (text "unknown") s p then
-    if has (text "unavailable") s p then ascendingW 0 part.Text true s p
+    if has (text "unavailable") s p then ascendingM 0 part.Text true s p
     else walked.Broken
     else walked.Broken
     else walked.Broken

@@ -8,7 +8,7 @@ ghost use lib.ListN.{length, getD};
 ghost use mathlib.Core.Bool.{_&&_};
 ghost use Rattle.texts.specs.Texts.{eqT};
 ghost use Rattle.texts.specs.Places.{textAt};
-ghost use Rattle.model_order.specs.Order.{fits, text-before, place-before, before, ascendingW, has, place-from, textsW};
+ghost use Rattle.model_order.specs.Order.{fits, text-before, place-before, before, ascendingM, has, place-from, textsM};
 
 fn text_fits(s: &[u8], p: usize) -> bool
     ensures { λ r. ⌜ r ≡ fits (now (s .entry)) p ⌝ }
@@ -103,7 +103,7 @@ fn precedes(s: &[u8], as_texts: bool, a: usize, b: usize) -> bool
 
 // A section of texts or entities, each after the one before it.
 pub fn ascending_at(s: &[u8], texts: u32, part: Part, as_texts: bool, at: usize) -> Walked
-    ensures { λ r. ⌜ r ≡ ascendingW texts part as_texts (now (s .entry)) at ⌝ }
+    ensures { λ r. ⌜ r ≡ ascendingM texts part as_texts (now (s .entry)) at ⌝ }
 {
     let x = model_walk::u16_at(s, at);
     let Num::Is(count, start) = x else {
@@ -176,7 +176,7 @@ pub fn place_of(s: &[u8], word: &[u8], count: u32) -> u32
 
 // The section of texts: they ascend, and the four fixed texts are there.
 pub fn texts_at(s: &[u8], at: usize) -> Walked
-    ensures { λ r. ⌜ r ≡ textsW (now (s .entry)) at ⌝ }
+    ensures { λ r. ⌜ r ≡ textsM (now (s .entry)) at ⌝ }
 {
     if !has(s, b"on", at) {
         return Walked::Broken;

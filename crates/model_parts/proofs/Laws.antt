@@ -9,21 +9,21 @@ use lib.ListN.{set}
 use lib.Dec.{ltb, eqb, leb}
 use borrow.Author.Tests.{lt-ltb, le-ltb, le-leb, lt-leb, ne-eqb}
 use Rattle.texts.specs.Lists.{if_then_else_}
-use Rattle.model.specs.File.{Got, got, broken, u8, u16, printable}
+use Rattle.model_spec.specs.File.{Got, got, broken, u8, u16, printable}
 use Rattle.model_walk.specs.declared.Num.{Num}
 use Rattle.model_walk.specs.declared.Num.the-variants as num
 use Rattle.model_walk.specs.declared.Walked.{Walked}
 use Rattle.model_walk.specs.declared.Walked.the-variants as walked
 use Rattle.model_walk.specs.declared.Piece.the-variants as piece
-use Rattle.model_walk.specs.Walk.{found, Walk, _⨾_, by, stop, staying, bytesW, timesW, kindW, placeW, piecesW, predicateW, actionsW}
+use Rattle.model_walk.specs.Walk.{found, Walk, _⨾_, by, stop, staying, bytesM, timesM, kindM, placeM, piecesM, predicateM, actionsM}
 use Rattle.model_walk.proofs.Laws.{is-got, is-broken}
 use Rattle.model_parts.specs.declared.Part.{Part}
 use Rattle.model_parts.specs.declared.Part.the-variants as part
 use Rattle.model_parts.specs.declared.Section.{Section}
-use Rattle.model_parts.specs.Parts.{letterW, textW, entityW, inputW, eventW, conditionW, invariantW, ruleW, partW, put, none, fill, sectionW}
+use Rattle.model_parts.specs.Parts.{letterM, textM, entityM, inputM, eventM, conditionM, invariantM, ruleM, partM, put, none, fill, sectionM}
 
-pub text-is : (s : List ℕ) (p n : ℕ) → textW s p n ≡ by u8 (λ i. timesW i letterW) s p n
-unfolding textW
+pub text-is : (s : List ℕ) (p n : ℕ) → textM s p n ≡ by u8 (λ i. timesM i letterM) s p n
+unfolding textM
 text-is s p n = refl
 
 pub printable-in : (b : ℕ) → 32 ≤ b → b ≤ 126 → printable b ≡ true
@@ -39,74 +39,74 @@ unfolding printable
 printable-high b k h = simp (le-leb _ _ k, lt-leb _ _ h)
 
 module _ (ts : ℕ) (s : List ℕ) (p n : ℕ) where
-  pub entity-is : entityW ts s p n ≡ (placeW ts ⨾ piecesW ts piece.Place ⨾ placeW ts ⨾ kindW 4 ⨾ bytesW 4) s p n
-  unfolding entityW
+  pub entity-is : entityM ts s p n ≡ (placeM ts ⨾ piecesM ts piece.Place ⨾ placeM ts ⨾ kindM 4 ⨾ bytesM 4) s p n
+  unfolding entityM
   entity-is = refl
 
-  pub input-is : inputW ts s p n ≡ by u8 (λ k. if eqb k 0 then placeW ts ⨾ placeW ts else staying (ltb k 3)) s p n
-  unfolding inputW
+  pub input-is : inputM ts s p n ≡ by u8 (λ k. if eqb k 0 then placeM ts ⨾ placeM ts else staying (ltb k 3)) s p n
+  unfolding inputM
   input-is = refl
 
-  pub event-is : eventW ts s p n ≡ (bytesW 4 ⨾ inputW ts) s p n
-  unfolding eventW
+  pub event-is : eventM ts s p n ≡ (bytesM 4 ⨾ inputM ts) s p n
+  unfolding eventM
   event-is = refl
 
-  pub invariant-is : invariantW ts s p n ≡ by u8 (λ k. placeW ts ⨾ conditionW ts k) s p n
-  unfolding invariantW
+  pub invariant-is : invariantM ts s p n ≡ by u8 (λ k. placeM ts ⨾ conditionM ts k) s p n
+  unfolding invariantM
   invariant-is = refl
 
-  pub rule-is : ruleW ts s p n ≡ (placeW ts ⨾ kindW 4 ⨾ bytesW 4 ⨾ piecesW ts piece.Trigger ⨾ piecesW ts piece.Predicate ⨾ actionsW ts 18 ⨾ bytesW 8 ⨾ piecesW ts piece.Note) s p n
-  unfolding ruleW
+  pub rule-is : ruleM ts s p n ≡ (placeM ts ⨾ kindM 4 ⨾ bytesM 4 ⨾ piecesM ts piece.Trigger ⨾ piecesM ts piece.Predicate ⨾ actionsM ts 18 ⨾ bytesM 8 ⨾ piecesM ts piece.Note) s p n
+  unfolding ruleM
   rule-is = refl
 
   module _ {k : ℕ} where
-    pub condition-0 : k ≡ 0 → conditionW ts k s p n ≡ piecesW ts piece.Predicate s p n
-    unfolding conditionW
+    pub condition-0 : k ≡ 0 → conditionM ts k s p n ≡ piecesM ts piece.Predicate s p n
+    unfolding conditionM
     condition-0 e = rw e
 
-    pub condition-1 : k ≡ 1 → conditionW ts k s p n ≡ ((placeW ts ⨾ placeW ts) ⨾ piecesW ts piece.Predicate) s p n
-    unfolding conditionW
+    pub condition-1 : k ≡ 1 → conditionM ts k s p n ≡ ((placeM ts ⨾ placeM ts) ⨾ piecesM ts piece.Predicate) s p n
+    unfolding conditionM
     condition-1 e = rw e
 
-    pub condition-2 : k ≡ 2 → conditionW ts k s p n ≡ ((placeW ts ⨾ placeW ts) ⨾ placeW ts) s p n
-    unfolding conditionW
+    pub condition-2 : k ≡ 2 → conditionM ts k s p n ≡ ((placeM ts ⨾ placeM ts) ⨾ placeM ts) s p n
+    unfolding conditionM
     condition-2 e = rw e
 
-    pub condition-3 : k ≡ 3 → conditionW ts k s p n ≡ (predicateW ts ⨾ predicateW ts ⨾ bytesW 4) s p n
-    unfolding conditionW
+    pub condition-3 : k ≡ 3 → conditionM ts k s p n ≡ (predicateM ts ⨾ predicateM ts ⨾ bytesM 4) s p n
+    unfolding conditionM
     condition-3 e = rw e
 
-    pub condition-else : (k ≡ 0 → ⊥) → (k ≡ 1 → ⊥) → (k ≡ 2 → ⊥) → (k ≡ 3 → ⊥) → conditionW ts k s p n ≡ walked.Broken
-    unfolding conditionW stop
+    pub condition-else : (k ≡ 0 → ⊥) → (k ≡ 1 → ⊥) → (k ≡ 2 → ⊥) → (k ≡ 3 → ⊥) → conditionM ts k s p n ≡ walked.Broken
+    unfolding conditionM stop
     condition-else a b c d = rw (ne-eqb _ _ a, ne-eqb _ _ b, ne-eqb _ _ c, ne-eqb _ _ d)
 
   module _ {x : Part} where
-    pub part-text : x ≡ part.Text → partW ts x s p n ≡ textW s p n
-    unfolding partW
+    pub part-text : x ≡ part.Text → partM ts x s p n ≡ textM s p n
+    unfolding partM
     part-text e = rw e
 
-    pub part-entity : x ≡ part.Entity → partW ts x s p n ≡ entityW ts s p n
-    unfolding partW
+    pub part-entity : x ≡ part.Entity → partM ts x s p n ≡ entityM ts s p n
+    unfolding partM
     part-entity e = rw e
 
-    pub part-event : x ≡ part.Event → partW ts x s p n ≡ eventW ts s p n
-    unfolding partW
+    pub part-event : x ≡ part.Event → partM ts x s p n ≡ eventM ts s p n
+    unfolding partM
     part-event e = rw e
 
-    pub part-invariant : x ≡ part.Invariant → partW ts x s p n ≡ invariantW ts s p n
-    unfolding partW
+    pub part-invariant : x ≡ part.Invariant → partM ts x s p n ≡ invariantM ts s p n
+    unfolding partM
     part-invariant e = rw e
 
-    pub part-action : x ≡ part.Input → partW ts x s p n ≡ inputW ts s p n
-    unfolding partW
+    pub part-action : x ≡ part.Input → partM ts x s p n ≡ inputM ts s p n
+    unfolding partM
     part-action e = rw e
 
-    pub part-gap : x ≡ part.Gap → partW ts x s p n ≡ bytesW 4 s p n
-    unfolding partW
+    pub part-gap : x ≡ part.Gap → partM ts x s p n ≡ bytesM 4 s p n
+    unfolding partM
     part-gap e = rw e
 
-    pub part-rule : x ≡ part.Rule → partW ts x s p n ≡ ruleW ts s p n
-    unfolding partW
+    pub part-rule : x ≡ part.Rule → partM ts x s p n ≡ ruleM ts s p n
+    unfolding partM
     part-rule e = rw e
 
 -- ---- sections
@@ -121,13 +121,13 @@ put-out i p l h = rw (le-ltb i 100 h)
 
 module _ (k : Walk) (s : List ℕ) (p n : ℕ) {x : Num} (e : found x ≡ u16 s p) where
   module _ {l : List ℕ} (f : l ≡ none) where
-    pub section-is : {c q : ℕ} → x ≡ num.Is c q → sectionW k s p n ≡ fill c 0 c k l s q n
-    unfolding sectionW
-    section-is h = rw (is-got e h, f, sectionW)
+    pub section-is : {c q : ℕ} → x ≡ num.Is c q → sectionM k s p n ≡ fill c 0 c k l s q n
+    unfolding sectionM
+    section-is h = rw (is-got e h, f, sectionM)
 
-    pub section-broken : x ≡ num.Broken → sectionW k s p n ≡ record { count = 0; starts = l; end = walked.Broken }
-    unfolding sectionW
-    section-broken h = rw (is-broken e h, f, sectionW)
+    pub section-broken : x ≡ num.Broken → sectionM k s p n ≡ record { count = 0; starts = l; end = walked.Broken }
+    unfolding sectionM
+    section-broken h = rw (is-broken e h, f, sectionM)
 
 module _ (k : Walk) (s : List ℕ) (p n i c : ℕ) (l : List ℕ) where
   pub fill-end : (left : ℕ) → left ≤ 0 → fill left i c k l s p n ≡ record { count = c; starts = l; end = walked.To p n }

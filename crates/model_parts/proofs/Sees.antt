@@ -10,7 +10,7 @@ use lib.Dec.{ltb, eqb}
 use borrow.Author.Tests.{le-ltb, ne-eqb}
 use Rattle.texts.specs.Lists.{if_then_else_, all, flat}
 use Rattle.texts.specs.Texts.{Text}
-use Rattle.model.specs.Model.{
+use Rattle.model_spec.specs.Model.{
   Predicate,
   Trigger,
   Entity,
@@ -24,8 +24,8 @@ use Rattle.model.specs.Model.{
   response,
   Automation,
 }
-use Rattle.model.specs.Notes.{of-predicate, of-trigger, of-actions, of-invariant, of-rule}
-use Rattle.model.specs.File.{
+use Rattle.model_spec.specs.Notes.{of-predicate, of-trigger, of-actions, of-invariant, of-rule}
+use Rattle.model_spec.specs.File.{
   Got,
   got,
   broken,
@@ -69,17 +69,17 @@ use Rattle.model_walk.specs.Walk.{
   stop,
   stay,
   staying,
-  bytesW,
-  timesW,
-  countedW,
-  kindW,
-  placeW,
-  noteW,
-  predicateW,
-  triggerW,
-  pieceW,
-  piecesW,
-  actionsW,
+  bytesM,
+  timesM,
+  countedM,
+  kindM,
+  placeM,
+  noteM,
+  predicateM,
+  triggerM,
+  pieceM,
+  piecesM,
+  actionsM,
 }
 use Rattle.model_walk.proofs.Laws as walks
 use Rattle.model_walk.proofs.Sees.{
@@ -107,7 +107,7 @@ use Rattle.model_walk.proofs.Sees.{
   two-places,
   above,
 }
-use Rattle.model_parts.specs.Parts.{letterW, textW, entityW, inputW, eventW, conditionW, invariantW, ruleW}
+use Rattle.model_parts.specs.Parts.{letterM, textM, entityM, inputM, eventM, conditionM, invariantM, ruleM}
 
 -- ---- a text
 
@@ -122,9 +122,9 @@ module _ {B : Type 0} (w : B → ℕ) (n m : ℕ) where
       cases broken = refl
 
   -- one byte, by its test
-  letter : (i x : ℕ) (f : List ℕ → B) → Runs w n (times i u8 >>= λ t. require (all printable t) (f (x ∷ t))) m (timesW i letterW) → (b : Bool) → Runs w n (times i u8 >>= λ t. require (b && all printable t) (f (x ∷ t))) m (staying b ⨾ timesW i letterW)
-  letter i x f h true s p = walks.stay-then (timesW i letterW) s p (capped m) refl ∙ h s p
-  letter i x f h false s p = walks.stop-then (timesW i letterW) s p (capped m) refl ∙ sym (never-found i (λ t. f (x ∷ t)) s p)
+  letter : (i x : ℕ) (f : List ℕ → B) → Runs w n (times i u8 >>= λ t. require (all printable t) (f (x ∷ t))) m (timesM i letterM) → (b : Bool) → Runs w n (times i u8 >>= λ t. require (b && all printable t) (f (x ∷ t))) m (staying b ⨾ timesM i letterM)
+  letter i x f h true s p = walks.stay-then (timesM i letterM) s p (capped m) refl ∙ h s p
+  letter i x f h false s p = walks.stop-then (timesM i letterM) s p (capped m) refl ∙ sym (never-found i (λ t. f (x ∷ t)) s p)
 
   -- the byte's test stands with the others'
   tested : (i x : ℕ) (f : List ℕ → B) (s : List ℕ) (q : ℕ) → (times i u8 >>= λ t. require (printable x && all printable t) (f (x ∷ t))) s q ≡ ((times i u8 >>= λ t. give (x ∷ t)) >>= λ t. require (all printable t) (f t)) s q
@@ -143,23 +143,23 @@ module _ {B : Type 0} (w : B → ℕ) (n m : ℕ) where
       cases (got x q) = tested i x f s q
       cases broken = refl
 
-  sees-letters : (i : ℕ) (f : List ℕ → B) → ((t : List ℕ) → m ≡ n + w (f t)) → Runs w n (times i u8 >>= λ t. require (all printable t) (f t)) m (timesW i letterW)
-  unfolding timesW times _>>=_ give all stay staying
+  sees-letters : (i : ℕ) (f : List ℕ → B) → ((t : List ℕ) → m ≡ n + w (f t)) → Runs w n (times i u8 >>= λ t. require (all printable t) (f t)) m (timesM i letterM)
+  unfolding timesM times _>>=_ give all stay staying
   sees-letters zero f h s p = requires w n m true (f []) (h []) s p
   sees-letters (suc i) f h s p =
-      walks.by-then s p (capped m) u8 (λ b. staying (printable b)) (timesW i letterW)
-      ∙ choice w n m u8 (λ x. times i u8 >>= λ t. require (printable x && all printable t) (f (x ∷ t))) (λ x. staying (printable x) ⨾ timesW i letterW) (λ x. letter i x f (sees-letters i (λ t. f (x ∷ t)) (λ t. h (x ∷ t))) (printable x)) s p
+      walks.by-then s p (capped m) u8 (λ b. staying (printable b)) (timesM i letterM)
+      ∙ choice w n m u8 (λ x. times i u8 >>= λ t. require (printable x && all printable t) (f (x ∷ t))) (λ x. staying (printable x) ⨾ timesM i letterM) (λ x. letter i x f (sees-letters i (λ t. f (x ∷ t)) (λ t. h (x ∷ t))) (printable x)) s p
       ∙ ap (seen w n) (bound i f s p)
 
-pub sees-text : Sees quiet one-text textW
-unfolding one-text textW
+pub sees-text : Sees quiet one-text textM
+unfolding one-text textM
 sees-text n = choice quiet n n u8 _ _ (λ i. sees-letters quiet n n i (λ t. t) (λ t. omega arith))
 
 -- ---- parts that name texts
 
-number-sees : Sees quiet number? (bytesW 4)
+number-sees : Sees quiet number? (bytesM 4)
 unfolding number?
-number-sees n = last quiet n n quiet u32 (bytesW 4) sees-u32 _ (λ x. omega arith)
+number-sees n = last quiet n n quiet u32 (bytesM 4) sees-u32 _ (λ x. omega arith)
 
 -- two walks in one
 regroup : {B : Type 0} (w : B → ℕ) (n m : ℕ) (r : Reader B) (a b c : Walk) → Runs w n r m (a ⨾ (b ⨾ c)) → Runs w n r m ((a ⨾ b) ⨾ c)
@@ -174,37 +174,37 @@ then-stop k s p n = cases (k s p n)
     cases walked.Broken = refl
 
 module _ (ts : List Text) where
-  pub sees-entity : Sees quiet (entity ts) (entityW (length ts))
-  unfolding entity entityW pieceW
+  pub sees-entity : Sees quiet (entity ts) (entityM (length ts))
+  unfolding entity entityM pieceM
   sees-entity n =
-      bind quiet n n quiet (place ts) (placeW (length ts)) (sees-place ts) _ _ λ x.
-      bind quiet n (n + 0) quiet (counted (place ts)) (countedW (placeW (length ts))) (sees-counted quiet quiet refl (λ x l. refl) (place ts) (placeW (length ts)) (sees-place ts)) _ _ λ d.
-      bind quiet n (n + 0 + 0) quiet (place ts) (placeW (length ts)) (sees-place ts) _ _ λ i.
-      bind quiet n (n + 0 + 0 + 0) quiet tier (kindW 4) sees-tier _ _ λ t.
-      last quiet n (n + 0 + 0 + 0 + 0) quiet number? (bytesW 4) number-sees _ (λ a. omega arith)
+      bind quiet n n quiet (place ts) (placeM (length ts)) (sees-place ts) _ _ λ x.
+      bind quiet n (n + 0) quiet (counted (place ts)) (countedM (placeM (length ts))) (sees-counted quiet quiet refl (λ x l. refl) (place ts) (placeM (length ts)) (sees-place ts)) _ _ λ d.
+      bind quiet n (n + 0 + 0) quiet (place ts) (placeM (length ts)) (sees-place ts) _ _ λ i.
+      bind quiet n (n + 0 + 0 + 0) quiet tier (kindM 4) sees-tier _ _ λ t.
+      last quiet n (n + 0 + 0 + 0 + 0) quiet number? (bytesM 4) number-sees _ (λ a. omega arith)
 
-  pub sees-input : Sees quiet (input ts) (inputW (length ts))
-  unfolding input kinds inputW staying
+  pub sees-input : Sees quiet (input ts) (inputM (length ts))
+  unfolding input kinds inputM staying
   sees-input n = choice quiet n n u8 _ _ cases
     where
-      cases : (k : ℕ) → Runs quiet n (getD ((place ts >>= λ e. place ts >>= λ v. give (Input.set e v)) ∷ give Input.restart ∷ give reload ∷ []) k refuse) n (if eqb k 0 then placeW (length ts) ⨾ placeW (length ts) else staying (ltb k 3))
+      cases : (k : ℕ) → Runs quiet n (getD ((place ts >>= λ e. place ts >>= λ v. give (Input.set e v)) ∷ give Input.restart ∷ give reload ∷ []) k refuse) n (if eqb k 0 then placeM (length ts) ⨾ placeM (length ts) else staying (ltb k 3))
       cases zero = two-places ts quiet n n Input.set (λ t u. omega arith)
       cases (suc zero) = gives quiet n n Input.restart (omega arith)
       cases (suc (suc zero)) = gives quiet n n reload (omega arith)
       cases (suc (suc (suc k))) = rw (above (suc (suc (suc k))) 0 (omega arith), le-ltb (suc (suc (suc k))) 3 (omega arith)) (refuses quiet n n)
 
-  pub sees-event : Sees quiet (event ts) (eventW (length ts))
-  unfolding event eventW
+  pub sees-event : Sees quiet (event ts) (eventM (length ts))
+  unfolding event eventM
   sees-event n =
-      bind quiet n n quiet u32 (bytesW 4) sees-u32 _ _ λ a.
-      last quiet n (n + 0) quiet (input ts) (inputW (length ts)) sees-input _ (λ i. omega arith)
+      bind quiet n n quiet u32 (bytesM 4) sees-u32 _ _ λ a.
+      last quiet n (n + 0) quiet (input ts) (inputM (length ts)) sees-input _ (λ i. omega arith)
 
   in-response : (i : Text) (p q : Predicate) (x : ℕ) → length (of-invariant (response i p q x)) ≡ length (of-predicate p) + length (of-predicate q)
   unfolding of-invariant
   in-response i p q x = length-append (of-predicate p) (of-predicate q)
 
-  pub sees-invariant : Sees (marks of-invariant) (invariant ts) (invariantW (length ts))
-  unfolding invariant kinds invariantW conditionW of-invariant pieceW seen refuse
+  pub sees-invariant : Sees (marks of-invariant) (invariant ts) (invariantM (length ts))
+  unfolding invariant kinds invariantM conditionM of-invariant pieceM seen refuse
   sees-invariant n = choice w n n u8 _ _ cases
     where
       w : Invariant → ℕ
@@ -224,28 +224,28 @@ module _ (ts : List Text) where
       refuses-is : (s : List ℕ) (p : ℕ) → walked.Broken ≡ seen w n (refuse s p)
       refuses-is s p = refl
 
-      cases : (k : ℕ) → Runs w n (getD table k refuse) n (placeW (length ts) ⨾ conditionW (length ts) k)
+      cases : (k : ℕ) → Runs w n (getD table k refuse) n (placeM (length ts) ⨾ conditionM (length ts) k)
       cases zero =
-          bind w n n quiet (place ts) (placeW (length ts)) (sees-place ts) _ _ λ i.
-          last w n (n + 0) (marks (flat of-predicate)) (counted (predicate ts)) (countedW (predicateW (length ts))) (sees-conditions ts) (never i) (λ ps. omega arith)
+          bind w n n quiet (place ts) (placeM (length ts)) (sees-place ts) _ _ λ i.
+          last w n (n + 0) (marks (flat of-predicate)) (counted (predicate ts)) (countedM (predicateM (length ts))) (sees-conditions ts) (never i) (λ ps. omega arith)
       cases (suc zero) =
-          bind w n n quiet (place ts) (placeW (length ts)) (sees-place ts) _ _ λ i.
-          regroup w n (n + 0) (place ts >>= λ e. place ts >>= λ v. counted (predicate ts) >>= λ ps. give (guard i e v ps)) (placeW (length ts)) (placeW (length ts)) (piecesW (length ts) piece.Predicate) (
-          bind w n (n + 0) quiet (place ts) (placeW (length ts)) (sees-place ts) _ _ λ e.
-          bind w n (n + 0 + 0) quiet (place ts) (placeW (length ts)) (sees-place ts) _ _ λ v.
-          last w n (n + 0 + 0 + 0) (marks (flat of-predicate)) (counted (predicate ts)) (countedW (predicateW (length ts))) (sees-conditions ts) (guard i e v) (λ ps. omega arith))
+          bind w n n quiet (place ts) (placeM (length ts)) (sees-place ts) _ _ λ i.
+          regroup w n (n + 0) (place ts >>= λ e. place ts >>= λ v. counted (predicate ts) >>= λ ps. give (guard i e v ps)) (placeM (length ts)) (placeM (length ts)) (piecesM (length ts) piece.Predicate) (
+          bind w n (n + 0) quiet (place ts) (placeM (length ts)) (sees-place ts) _ _ λ e.
+          bind w n (n + 0 + 0) quiet (place ts) (placeM (length ts)) (sees-place ts) _ _ λ v.
+          last w n (n + 0 + 0 + 0) (marks (flat of-predicate)) (counted (predicate ts)) (countedM (predicateM (length ts))) (sees-conditions ts) (guard i e v) (λ ps. omega arith))
       cases (suc (suc zero)) =
-          bind w n n quiet (place ts) (placeW (length ts)) (sees-place ts) _ _ λ i.
-          regroup w n (n + 0) (place ts >>= λ e. place ts >>= λ f. place ts >>= λ t. give (transition i e f t)) (placeW (length ts)) (placeW (length ts)) (placeW (length ts)) (
-          bind w n (n + 0) quiet (place ts) (placeW (length ts)) (sees-place ts) _ _ λ e.
-          bind w n (n + 0 + 0) quiet (place ts) (placeW (length ts)) (sees-place ts) _ _ λ f.
-          last w n (n + 0 + 0 + 0) quiet (place ts) (placeW (length ts)) (sees-place ts) (transition i e f) (λ t. omega arith))
+          bind w n n quiet (place ts) (placeM (length ts)) (sees-place ts) _ _ λ i.
+          regroup w n (n + 0) (place ts >>= λ e. place ts >>= λ f. place ts >>= λ t. give (transition i e f t)) (placeM (length ts)) (placeM (length ts)) (placeM (length ts)) (
+          bind w n (n + 0) quiet (place ts) (placeM (length ts)) (sees-place ts) _ _ λ e.
+          bind w n (n + 0 + 0) quiet (place ts) (placeM (length ts)) (sees-place ts) _ _ λ f.
+          last w n (n + 0 + 0 + 0) quiet (place ts) (placeM (length ts)) (sees-place ts) (transition i e f) (λ t. omega arith))
       cases (suc (suc (suc zero))) =
-          bind w n n quiet (place ts) (placeW (length ts)) (sees-place ts) _ _ λ i.
-          bind w n (n + 0) (marks of-predicate) (predicate ts) (predicateW (length ts)) (sees-predicate ts) _ _ λ p.
-          bind w n (n + 0 + length (of-predicate p)) (marks of-predicate) (predicate ts) (predicateW (length ts)) (sees-predicate ts) _ _ λ q.
-          last w n (n + 0 + length (of-predicate p) + length (of-predicate q)) quiet u32 (bytesW 4) sees-u32 (response i p q) (λ x. omega (arith, in-response i p q x))
-      cases (suc (suc (suc (suc k)))) = rw (above (suc (suc (suc (suc k)))) 0 (omega arith), above (suc (suc (suc (suc k)))) 1 (omega arith), above (suc (suc (suc (suc k)))) 2 (omega arith), above (suc (suc (suc (suc k)))) 3 (omega arith)) (λ s p. then-stop (placeW (length ts)) s p (capped n) ∙ refuses-is s p)
+          bind w n n quiet (place ts) (placeM (length ts)) (sees-place ts) _ _ λ i.
+          bind w n (n + 0) (marks of-predicate) (predicate ts) (predicateM (length ts)) (sees-predicate ts) _ _ λ p.
+          bind w n (n + 0 + length (of-predicate p)) (marks of-predicate) (predicate ts) (predicateM (length ts)) (sees-predicate ts) _ _ λ q.
+          last w n (n + 0 + length (of-predicate p) + length (of-predicate q)) quiet u32 (bytesM 4) sees-u32 (response i p q) (λ x. omega (arith, in-response i p q x))
+      cases (suc (suc (suc (suc k)))) = rw (above (suc (suc (suc (suc k)))) 0 (omega arith), above (suc (suc (suc (suc k)))) 1 (omega arith), above (suc (suc (suc (suc k)))) 2 (omega arith), above (suc (suc (suc (suc k)))) 3 (omega arith)) (λ s p. then-stop (placeM (length ts)) s p (capped n) ∙ refuses-is s p)
 
   -- a rule's notes
   trigger-nil : length (flat of-trigger []) ≡ 0
@@ -256,11 +256,11 @@ module _ (ts : List Text) where
   unfolding flat
   trigger-more x l = length-append (of-trigger x) (flat of-trigger l)
 
-  sees-triggers : Sees (marks (flat of-trigger)) (counted (trigger ts)) (countedW (triggerW (length ts)))
-  sees-triggers = sees-counted (marks of-trigger) (marks (flat of-trigger)) trigger-nil trigger-more (trigger ts) (triggerW (length ts)) (sees-trigger ts)
+  sees-triggers : Sees (marks (flat of-trigger)) (counted (trigger ts)) (countedM (triggerM (length ts)))
+  sees-triggers = sees-counted (marks of-trigger) (marks (flat of-trigger)) trigger-nil trigger-more (trigger ts) (triggerM (length ts)) (sees-trigger ts)
 
   -- places that are all notes
-  sees-noted : Sees (λ t. 1) (place ts) (noteW (length ts))
+  sees-noted : Sees (λ t. 1) (place ts) (noteM (length ts))
   unfolding _>>=_ place seen give
   sees-noted n s p = note-of ts (λ t. 1) n n (λ t. t) (λ t. omega arith) s p ∙ ap (seen (λ t. 1) n) (give-again (place ts s p))
     where
@@ -268,8 +268,8 @@ module _ (ts : List Text) where
       give-again (got t q) = refl
       give-again broken = refl
 
-  sees-notes : Sees length (counted (place ts)) (countedW (noteW (length ts)))
-  sees-notes = sees-counted (λ t. 1) length refl (λ x l. omega arith) (place ts) (noteW (length ts)) sees-noted
+  sees-notes : Sees length (counted (place ts)) (countedM (noteM (length ts)))
+  sees-notes = sees-counted (λ t. 1) length refl (λ x l. omega arith) (place ts) (noteM (length ts)) sees-noted
 
   in-rule : (r : Automation) → length (of-rule r) ≡ length (r .notes) + length (flat of-trigger (r .triggers)) + length (flat of-predicate (r .conditions)) + length (of-actions (r .actions))
   unfolding of-rule
@@ -279,17 +279,17 @@ module _ (ts : List Text) where
       let c = flat of-predicate (r .conditions) in
       omega (arith, length-append (a ++ b ++ c) (of-actions (r .actions)), length-append (a ++ b) c, length-append a b)
 
-  pub sees-rule : Sees (marks of-rule) (automation ts) (ruleW (length ts))
-  unfolding automation ruleW pieceW
+  pub sees-rule : Sees (marks of-rule) (automation ts) (ruleM (length ts))
+  unfolding automation ruleM pieceM
   sees-rule n =
-      bind w n n quiet (place ts) (placeW (length ts)) (sees-place ts) _ _ λ i.
-      bind w n (n + 0) quiet mode (kindW 4) sees-mode _ _ λ m.
-      bind w n (n + 0 + 0) quiet u32 (bytesW 4) sees-u32 _ _ λ x.
+      bind w n n quiet (place ts) (placeM (length ts)) (sees-place ts) _ _ λ i.
+      bind w n (n + 0) quiet mode (kindM 4) sees-mode _ _ λ m.
+      bind w n (n + 0 + 0) quiet u32 (bytesM 4) sees-u32 _ _ λ x.
       bind w n (n + 0 + 0 + 0) (marks (flat of-trigger)) (counted (trigger ts)) _ sees-triggers _ _ λ tr.
-      bind w n (n + 0 + 0 + 0 + length (flat of-trigger tr)) (marks (flat of-predicate)) (counted (predicate ts)) (countedW (predicateW (length ts))) (sees-conditions ts) _ _ λ ps.
-      bind w n (n + 0 + 0 + 0 + length (flat of-trigger tr) + length (flat of-predicate ps)) (marks of-actions) (actions ts 18) (actionsW (length ts) 18) (sees-actions ts 18) _ _ λ l.
-      bind w n (n + 0 + 0 + 0 + length (flat of-trigger tr) + length (flat of-predicate ps) + length (of-actions l)) quiet source (bytesW 8) sees-source _ _ λ src.
-      last w n (n + 0 + 0 + 0 + length (flat of-trigger tr) + length (flat of-predicate ps) + length (of-actions l) + 0) length (counted (place ts)) (countedW (noteW (length ts))) sees-notes (λ ns. record { id = i; mode = m; max = x; triggers = tr; conditions = ps; actions = l; source = src; notes = ns }) (λ ns. omega (arith, in-rule (record { id = i; mode = m; max = x; triggers = tr; conditions = ps; actions = l; source = src; notes = ns })))
+      bind w n (n + 0 + 0 + 0 + length (flat of-trigger tr)) (marks (flat of-predicate)) (counted (predicate ts)) (countedM (predicateM (length ts))) (sees-conditions ts) _ _ λ ps.
+      bind w n (n + 0 + 0 + 0 + length (flat of-trigger tr) + length (flat of-predicate ps)) (marks of-actions) (actions ts 18) (actionsM (length ts) 18) (sees-actions ts 18) _ _ λ l.
+      bind w n (n + 0 + 0 + 0 + length (flat of-trigger tr) + length (flat of-predicate ps) + length (of-actions l)) quiet source (bytesM 8) sees-source _ _ λ src.
+      last w n (n + 0 + 0 + 0 + length (flat of-trigger tr) + length (flat of-predicate ps) + length (of-actions l) + 0) length (counted (place ts)) (countedM (noteM (length ts))) sees-notes (λ ns. record { id = i; mode = m; max = x; triggers = tr; conditions = ps; actions = l; source = src; notes = ns }) (λ ns. omega (arith, in-rule (record { id = i; mode = m; max = x; triggers = tr; conditions = ps; actions = l; source = src; notes = ns })))
     where
       w : Automation → ℕ
       w = marks of-rule

@@ -9,14 +9,14 @@ use lib.ListN.{length, getD, set, length-set, length-replicate}
 use lib.Seq.{getD-set-same, getD-set-other}
 use borrow.Author.Tests.{lt-ltb, le-ltb}
 use Rattle.texts.specs.Lists.{if_then_else_}
-use Rattle.model.specs.File.{Got, got, broken, Reader, _>>=_, give, u16, times, counted}
+use Rattle.model_spec.specs.File.{Got, got, broken, Reader, _>>=_, give, u16, times, counted}
 use Rattle.model_walk.specs.declared.Walked.{Walked}
 use Rattle.model_walk.specs.declared.Walked.the-variants as walked
-use Rattle.model_walk.specs.Walk.{capped, seen, Walk, and-then, _⨾_, by, stay, timesW, countedW}
+use Rattle.model_walk.specs.Walk.{capped, seen, Walk, and-then, _⨾_, by, stay, timesM, countedM}
 use Rattle.model_walk.proofs.Sees.{Sees}
 use Rattle.model_walk.proofs.Laws as walks
 use Rattle.model_parts.specs.declared.Section.{Section}
-use Rattle.model_parts.specs.Parts.{put, none, fill, sectionW}
+use Rattle.model_parts.specs.Parts.{put, none, fill, sectionM}
 use Rattle.model_parts.specs.Stand.{Reads, Stand}
 use Rattle.model_parts.proofs.Laws as laws
 
@@ -33,31 +33,31 @@ module _ (left i c : ℕ) (k : Walk) (l s : List ℕ) (p n : ℕ) (P : Walked �
       cases walked.Broken = g
 
 module _ (k : Walk) (s : List ℕ) where
-  fill-ends : (left i c : ℕ) (l : List ℕ) (p n : ℕ) → fill left i c k l s p n .end ≡ timesW left k s p n
-  unfolding fill timesW stay _⨾_ and-then
+  fill-ends : (left i c : ℕ) (l : List ℕ) (p n : ℕ) → fill left i c k l s p n .end ≡ timesM left k s p n
+  unfolding fill timesM stay _⨾_ and-then
   fill-ends zero i c l p n = refl
-  fill-ends (suc left) i c l p n = next-case left i c k l s p n (λ x y. y .end ≡ and-then x (timesW left k s)) (λ q m. fill-ends left (i + 1) c (put i p l) q m) refl
+  fill-ends (suc left) i c l p n = next-case left i c k l s p n (λ x y. y .end ≡ and-then x (timesM left k s)) (λ q m. fill-ends left (i + 1) c (put i p l) q m) refl
 
   fill-counts : (left i c : ℕ) (l : List ℕ) (p n : ℕ) → fill left i c k l s p n .count ≡ c
   unfolding fill
   fill-counts zero i c l p n = refl
   fill-counts (suc left) i c l p n = next-case left i c k l s p n (λ x y. y .count ≡ c) (λ q m. fill-counts left (i + 1) c (put i p l) q m) refl
 
-  pub section-ends : (p n : ℕ) → sectionW k s p n .end ≡ countedW k s p n
-  unfolding sectionW by
+  pub section-ends : (p n : ℕ) → sectionM k s p n .end ≡ countedM k s p n
+  unfolding sectionM by
   section-ends p n = cases (u16 s p)
     where
       section : Got ℕ → Section
       section (got c q) = fill c 0 c k none s q n
       section broken = record { count = 0; starts = none; end = walked.Broken }
 
-      cases : (x : Got ℕ) → section x .end ≡ elim x [ got c q ↦ timesW c k s q n | broken ↦ walked.Broken ]
+      cases : (x : Got ℕ) → section x .end ≡ elim x [ got c q ↦ timesM c k s q n | broken ↦ walked.Broken ]
       cases (got c q) = fill-ends c 0 c none q n
       cases broken = refl
 
-  pub section-counts : (p n : ℕ) {c q : ℕ} → u16 s p ≡ got c q → sectionW k s p n .count ≡ c
-  unfolding sectionW
-  section-counts p n {c} {q} e = rw (e, sectionW) (fill-counts c 0 c none q n)
+  pub section-counts : (p n : ℕ) {c q : ℕ} → u16 s p ≡ got c q → sectionM k s p n .count ≡ c
+  unfolding sectionM
+  section-counts p n {c} {q} e = rw (e, sectionM) (fill-counts c 0 c none q n)
 
 -- ---- its positions
 
@@ -143,9 +143,9 @@ module _ {A : Type 0} (w : A → ℕ) (r : Reader A) (k : Walk) (e : Sees w r k)
 
 -- a section's positions are those of its parts
 module _ {A : Type 0} (w : A → ℕ) (r : Reader A) (k : Walk) (e : Sees w r k) (s : List ℕ) where
-  pub section-stands : (p n : ℕ) {c q : ℕ} → u16 s p ≡ got c q → (xs : List A) (next : ℕ) → times c r s q ≡ got xs next → Stand r s (sectionW k s p (capped n) .starts) xs
-  unfolding sectionW
+  pub section-stands : (p n : ℕ) {c q : ℕ} → u16 s p ≡ got c q → (xs : List A) (next : ℕ) → times c r s q ≡ got xs next → Stand r s (sectionM k s p (capped n) .starts) xs
+  unfolding sectionM
   section-stands p n {c} {q} f xs next h d j a b =
       let g = stands w r k e s d c 0 c none (length-replicate {A = ℕ} 100 0) q n xs next h j (omega arith) b in
       let z : 0 + j ≡ j = omega arith in
-      rw (f, sectionW) (subst (λ (x : ℕ). Reads r s (getD (fill c 0 c k none s q (capped n) .starts) x 0) (getD xs j d)) z g)
+      rw (f, sectionM) (subst (λ (x : ℕ). Reads r s (getD (fill c 0 c k none s q (capped n) .starts) x 0) (getD xs j d)) z g)

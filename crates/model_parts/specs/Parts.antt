@@ -4,55 +4,55 @@ use mathlib.Core.List.{List}
 use lib.Dec.{ltb, eqb}
 use lib.ListN.{set, replicate}
 use Rattle.texts.specs.Lists.{if_then_else_}
-use Rattle.model.specs.File.{got, broken, u8, u16, printable}
+use Rattle.model_spec.specs.File.{got, broken, u8, u16, printable}
 use Rattle.model_walk.specs.declared.Walked.the-variants as walked
 use Rattle.model_walk.specs.declared.Piece.the-variants as piece
-use Rattle.model_walk.specs.Walk.{Walk, _⨾_, by, stop, staying, bytesW, timesW, kindW, placeW, piecesW, predicateW, actionsW}
+use Rattle.model_walk.specs.Walk.{Walk, _⨾_, by, stop, staying, bytesM, timesM, kindM, placeM, piecesM, predicateM, actionsM}
 use Rattle.model_parts.specs.declared.Part.{Part}
 use Rattle.model_parts.specs.declared.Part.the-variants as part
 use Rattle.model_parts.specs.declared.Section.{Section}
 use Rattle.model_parts.specs.declared.Extent.{Extent}
 
 -- a byte from 32 to 126
-abbrev pub letterW : Walk
-letterW = by u8 (λ b. staying (printable b))
+abbrev pub letterM : Walk
+letterM = by u8 (λ b. staying (printable b))
 
-unfoldable pub textW : Walk
-textW = by u8 (λ n. timesW n letterW)
+unfoldable pub textM : Walk
+textM = by u8 (λ n. timesM n letterM)
 
 module _ (ts : ℕ) where
-  unfoldable pub entityW : Walk
-  entityW = placeW ts ⨾ piecesW ts piece.Place ⨾ placeW ts ⨾ kindW 4 ⨾ bytesW 4
+  unfoldable pub entityM : Walk
+  entityM = placeM ts ⨾ piecesM ts piece.Place ⨾ placeM ts ⨾ kindM 4 ⨾ bytesM 4
 
-  unfoldable pub inputW : Walk
-  inputW = by u8 (λ k. if eqb k 0 then placeW ts ⨾ placeW ts else staying (ltb k 3))
+  unfoldable pub inputM : Walk
+  inputM = by u8 (λ k. if eqb k 0 then placeM ts ⨾ placeM ts else staying (ltb k 3))
 
-  unfoldable pub eventW : Walk
-  eventW = bytesW 4 ⨾ inputW
+  unfoldable pub eventM : Walk
+  eventM = bytesM 4 ⨾ inputM
 
   -- what follows an invariant's kind and its identifier
-  unfoldable pub conditionW : ℕ → Walk
-  conditionW k =
-      if eqb k 0 then piecesW ts piece.Predicate
-      else if eqb k 1 then (placeW ts ⨾ placeW ts) ⨾ piecesW ts piece.Predicate
-      else if eqb k 2 then (placeW ts ⨾ placeW ts) ⨾ placeW ts
-      else if eqb k 3 then predicateW ts ⨾ predicateW ts ⨾ bytesW 4
+  unfoldable pub conditionM : ℕ → Walk
+  conditionM k =
+      if eqb k 0 then piecesM ts piece.Predicate
+      else if eqb k 1 then (placeM ts ⨾ placeM ts) ⨾ piecesM ts piece.Predicate
+      else if eqb k 2 then (placeM ts ⨾ placeM ts) ⨾ placeM ts
+      else if eqb k 3 then predicateM ts ⨾ predicateM ts ⨾ bytesM 4
       else stop
 
-  unfoldable pub invariantW : Walk
-  invariantW = by u8 (λ k. placeW ts ⨾ conditionW k)
+  unfoldable pub invariantM : Walk
+  invariantM = by u8 (λ k. placeM ts ⨾ conditionM k)
 
-  unfoldable pub ruleW : Walk
-  ruleW = placeW ts ⨾ kindW 4 ⨾ bytesW 4 ⨾ piecesW ts piece.Trigger ⨾ piecesW ts piece.Predicate ⨾ actionsW ts 18 ⨾ bytesW 8 ⨾ piecesW ts piece.Note
+  unfoldable pub ruleM : Walk
+  ruleM = placeM ts ⨾ kindM 4 ⨾ bytesM 4 ⨾ piecesM ts piece.Trigger ⨾ piecesM ts piece.Predicate ⨾ actionsM ts 18 ⨾ bytesM 8 ⨾ piecesM ts piece.Note
 
-  unfoldable pub partW : Part → Walk
-  partW part.Text = textW
-  partW part.Entity = entityW
-  partW part.Event = eventW
-  partW part.Invariant = invariantW
-  partW part.Input = inputW
-  partW part.Gap = bytesW 4
-  partW part.Rule = ruleW
+  unfoldable pub partM : Part → Walk
+  partM part.Text = textM
+  partM part.Entity = entityM
+  partM part.Event = eventM
+  partM part.Invariant = invariantM
+  partM part.Input = inputM
+  partM part.Gap = bytesM 4
+  partM part.Rule = ruleM
 
 -- ---- a section
 
@@ -71,8 +71,8 @@ fill (suc left) i c k l s p n = elim (k s p n) [
   | walked.Broken ↦ record { count = c; starts = put i p l; end = walked.Broken }
 ]
 
-unfoldable pub sectionW : Walk → List ℕ → ℕ → ℕ → Section
-sectionW k s p n = elim (u16 s p) [
+unfoldable pub sectionM : Walk → List ℕ → ℕ → ℕ → Section
+sectionM k s p n = elim (u16 s p) [
   | got c q ↦ fill c 0 c k none s q n
   | broken ↦ record { count = 0; starts = none; end = walked.Broken }
 ]

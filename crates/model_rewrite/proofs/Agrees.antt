@@ -9,17 +9,17 @@ use lib.Seq.{take-suc, take-all}
 use borrow.Author.Tests.{eq-eqb, ne-eqb}
 use Rattle.texts.specs.Lists.{flat}
 use Rattle.texts.specs.Texts.{Text}
-use Rattle.model.specs.Answer.{answer}
-use Rattle.model.specs.Model.{Model, Entity, Event, Input, reload}
-use Rattle.model.specs.File.{got, Reader, u8, times, counted, one-text, texts, place, entity, entities, event, events, head, ascending, decode}
-use Rattle.model.specs.Events.{InputWords, EventWords}
-use Rattle.model.specs.Rewrite.{bytes2, bytes4, place-of, input-bytes, event-bytes, events-bytes, rewritten}
-use Rattle.model.proofs.Places.{place-first}
+use Rattle.model_spec.specs.Answer.{answer}
+use Rattle.model_spec.specs.Model.{Model, Entity, Event, Input, reload}
+use Rattle.model_spec.specs.File.{got, Reader, u8, times, counted, one-text, texts, place, entity, entities, event, events, head, ascending, decode}
+use Rattle.model_spec.specs.Events.{InputWords, EventWords}
+use Rattle.model_spec.specs.Rewrite.{bytes2, bytes4, place-of, input-bytes, event-bytes, events-bytes, rewritten}
+use Rattle.model_spec.proofs.Places.{place-first}
 use Rattle.model_walk.specs.declared.Walked.the-variants as walked
-use Rattle.model_walk.specs.Walk.{capped, seen, Walk, placeW}
+use Rattle.model_walk.specs.Walk.{capped, seen, Walk, placeM}
 use Rattle.model_walk.proofs.Found.{bound, given, required, counted-found, u8-wide}
 use Rattle.model_walk.proofs.Sees.{Sees, quiet, sees-counted, sees-place}
-use Rattle.model_parts.specs.Parts.{partW, sectionW, textW, entityW, eventW}
+use Rattle.model_parts.specs.Parts.{partM, sectionM, textM, entityM, eventM}
 use Rattle.model_parts.specs.Stand.{Reads}
 use Rattle.model_parts.proofs.Sees.{sees-text, sees-entity, sees-event}
 use Rattle.model_parts.proofs.Stands.{section-ends, section-counts}
@@ -28,7 +28,7 @@ use Rattle.model_index.specs.declared.Index.{Index}
 use Rattle.model_index.specs.Indexed.{Indexed}
 use Rattle.model_index.proofs.Whole.{and-true}
 use Rattle.model_rewrite.specs.declared.Span.{Span}
-use Rattle.model_rewrite.specs.Span.{behind, bodyW, spanW}
+use Rattle.model_rewrite.specs.Span.{behind, bodyM, spanM}
 use Rattle.model_rewrite.specs.Written.{event-start, two-places, event-of, event-at, first-events, section-bytes, file-with, EventFits, Room, Wrote}
 use Rattle.model_rewrite.proofs.Spelled.{Spelled, local-u8, local-times, local-place, local-entities, local-counted, local-event, local-head}
 use Rattle.model_rewrite.proofs.Opened.{Opened, opened, Headed, headed}
@@ -110,11 +110,11 @@ times-length r s (suc n) p l q e =
     ap length (sym (given _ _ _ (y .rest) .0)) ∙ ap suc (times-length r s n (x .next) (y .value) (y .next) (y .first))
 
 module _ {A : Type 0} (r : Reader A) (k : Walk) (e : Sees quiet r k) (s : List ℕ) (p : ℕ) {l : List A} {q : ℕ} (h : counted r s p ≡ got l q) where
-  section-end : sectionW k s p 0 .end ≡ walked.To q 0
+  section-end : sectionM k s p 0 .end ≡ walked.To q 0
   unfolding seen capped
   section-end = section-ends k s p 0 ∙ sees-counted quiet quiet refl (λ x l. refl) r k e 0 s p ∙ ap (seen quiet 0) h
 
-  section-count : sectionW k s p 0 .count ≡ length l
+  section-count : sectionM k s p 0 .count ≡ length l
   section-count = let x = counted-found r h in section-counts k s p 0 (x .is-count) ∙ sym (times-length r s (x .count) (x .start) l q (x .are-values))
 
 -- the texts, and that they ascend
@@ -138,7 +138,7 @@ entities-found ts s p e =
     let w = g .1 .1 in
     cc
 
-place-end : (ts : List Text) (s : List ℕ) (p : ℕ) {t : Text} {q : ℕ} → place ts s p ≡ got t q → placeW (length ts) s p 0 ≡ walked.To q 0
+place-end : (ts : List Text) (s : List ℕ) (p : ℕ) {t : Text} {q : ℕ} → place ts s p ≡ got t q → placeM (length ts) s p 0 ≡ walked.To q 0
 unfolding seen capped
 place-end ts s p h = sees-place ts 0 s p ∙ ap (seen quiet 0) h
 
@@ -169,18 +169,18 @@ module _ (f : List ℕ) (m : Model) (o : Opened f m) where
   pub head-ascends : ascending ts ≡ true
   head-ascends = texts-found f 4 (parted .are-texts) .1
 
-  body-agrees : bodyW f (length ts) (parted .at-title) ≡ record { start = o .start; end = o .end }
-  unfolding bodyW behind partW events
+  body-agrees : bodyM f (length ts) (parted .at-title) ≡ record { start = o .start; end = o .end }
+  unfolding bodyM behind partM events
   body-agrees =
       rw (place-end ts f (parted .at-title) (parted .is-title), behind)
-      (rw (section-end (entity ts) (entityW (length ts)) (sees-entity ts) f (parted .at-entities) (entities-found ts f (parted .at-entities) (parted .are-entities)), behind)
-      (rw (section-end (event ts) (eventW (length ts)) (sees-event ts) f (o .start) (o .are-events), behind)))
+      (rw (section-end (entity ts) (entityM (length ts)) (sees-entity ts) f (parted .at-entities) (entities-found ts f (parted .at-entities) (parted .are-entities)), behind)
+      (rw (section-end (event ts) (eventM (length ts)) (sees-event ts) f (o .start) (o .are-events), behind)))
 
-  pub span-agrees : spanW f ≡ record { start = o .start; end = o .end }
-  unfolding spanW behind partW
+  pub span-agrees : spanM f ≡ record { start = o .start; end = o .end }
+  unfolding spanM behind partM
   span-agrees =
-      rw (section-end one-text textW sees-text f 4 (texts-found f 4 (parted .are-texts) .0), behind)
-      (rw (section-count one-text textW sees-text f 4 (texts-found f 4 (parted .are-texts) .0)) body-agrees)
+      rw (section-end one-text textM sees-text f 4 (texts-found f 4 (parted .are-texts) .0), behind)
+      (rw (section-count one-text textM sees-text f 4 (texts-found f 4 (parted .are-texts) .0)) body-agrees)
 
   -- ---- and that they stand in the file
 
@@ -223,7 +223,7 @@ module _ (f : List ℕ) (m : Model) (o : Opened f m) where
 module _ (f : List ℕ) (m : Model) (i : Index) (dec : decode f ≡ answer m) (x : Indexed f i m)
     (l : List ℕ) (d : Event) (vs : List Event) (ws : (k : ℕ) → k < length vs → EventWords (x .ts) l k (getD vs k d)) where
   -- what `rewrite` writes, at the place that `events_in` finds, is the file with these events
-  pub file-agrees : file-with f (spanW f) l (length vs) ≡ rewritten f vs
+  pub file-agrees : file-with f (spanM f) l (length vs) ≡ rewritten f vs
   unfolding file-with
   file-agrees =
       let o = opened f m dec in
@@ -234,7 +234,7 @@ module _ (f : List ℕ) (m : Model) (i : Index) (dec : decode f ≡ answer m) (x
   few : length (x .ts) ≤ 65536
   few = let o = opened f m dec in omega (arith, ap length (same-texts f m o (x .ts) (x .all-texts)), few-texts f m o)
 
-  module _ {s : Span} {n : ℕ} (is-span : s ≡ spanW f) (many : n ≡ length vs) where
+  module _ {s : Span} {n : ℕ} (is-span : s ≡ spanM f) (many : n ≡ length vs) where
     -- what `rewrite` asks for holds where the new file has room
     pub asked : (o : List ℕ) → n * 4 ≤ length l → n < 65536 → length (rewritten f vs) ≤ length o → Room f s l n o
     asked o h c r =

@@ -11,8 +11,8 @@ use lib.ListN.{length, drop, length-drop}
 use lib.Seq.{drop-drop, drop-at}
 use borrow.Author.Tests.{lt-ltb, le-ltb}
 use Rattle.texts.specs.Lists.{_▸_}
-use Rattle.model.specs.Model.{Moment, midnight}
-use Rattle.model.specs.File.{Got, got, broken, Reader, _>>=_, give, or-zeros, start, counted, u32}
+use Rattle.model_spec.specs.Model.{Moment, midnight}
+use Rattle.model_spec.specs.File.{Got, got, broken, Reader, _>>=_, give, or-zeros, start, counted, u32}
 use Rattle.model_walk.proofs.Laws.{bind-got}
 use Rattle.model_walk.proofs.Found.{bound, given}
 use Rattle.model_rewrite.proofs.Spelled.{Local, local-bind, local-give, local-u32, local-counted}

@@ -9,15 +9,15 @@ use lib.Seq.{drop-cons, set-at, take-suc, append-snoc, length-take-le, take-leng
 use lib.Dec.{eqb}
 use borrow.Author.Tests.{ne-eqb}
 use borrow.Rule.Slice.PartMut.{putMid}
-use Rattle.model.specs.Rewrite.{bytes2, bytes4}
+use Rattle.model_spec.specs.Rewrite.{bytes2, bytes4}
 use Rattle.model_walk.specs.declared.Walked.{Walked}
 use Rattle.model_walk.specs.declared.Walked.the-variants as walked
-use Rattle.model_walk.specs.Walk.{placeW}
+use Rattle.model_walk.specs.Walk.{placeM}
 use Rattle.model_parts.specs.declared.Section.{Section}
 use Rattle.model_parts.specs.declared.Part.the-variants as part
-use Rattle.model_parts.specs.Parts.{partW, sectionW}
+use Rattle.model_parts.specs.Parts.{partM, sectionM}
 use Rattle.model_rewrite.specs.declared.Span.{Span}
-use Rattle.model_rewrite.specs.Span.{nowhere, behind, bodyW, spanW}
+use Rattle.model_rewrite.specs.Span.{nowhere, behind, bodyM, spanM}
 use Rattle.model_rewrite.specs.Written.{event-start, two-places, event-of, event-at, first-events, section-bytes, file-with, Wrote}
 
 -- ---- copies to the front of a list
@@ -260,15 +260,15 @@ module _ (w : Walked) (f : ℕ → Span) {x : Walked} (e : x ≡ w) where
   unfolding behind
   behind-broken h = ap (λ (y : Walked). behind y f) (sym e ∙ h)
 
-pub body-is : (s : List ℕ) (ts at : ℕ) → bodyW s ts at ≡ (
-    behind (placeW ts s at 0) λ p.
-    behind (sectionW (partW ts part.Entity) s p 0 .end) λ start.
-    behind (sectionW (partW ts part.Event) s start 0 .end) λ end.
+pub body-is : (s : List ℕ) (ts at : ℕ) → bodyM s ts at ≡ (
+    behind (placeM ts s at 0) λ p.
+    behind (sectionM (partM ts part.Entity) s p 0 .end) λ start.
+    behind (sectionM (partM ts part.Event) s start 0 .end) λ end.
     record { start = start; end = end }
     )
-unfolding bodyW
+unfolding bodyM
 body-is s ts at = refl
 
-pub span-is : (s : List ℕ) {x : Section} → x ≡ sectionW (partW 0 part.Text) s 4 0 → spanW s ≡ behind (x .end) (bodyW s (x .count))
-unfolding spanW
-span-is s e = ap (λ (x : Section). behind (x .end) (bodyW s (x .count))) (sym e)
+pub span-is : (s : List ℕ) {x : Section} → x ≡ sectionM (partM 0 part.Text) s 4 0 → spanM s ≡ behind (x .end) (bodyM s (x .count))
+unfolding spanM
+span-is s e = ap (λ (x : Section). behind (x .end) (bodyM s (x .count))) (sym e)

@@ -7,11 +7,11 @@ use lib.ListN.{length}
 use lib.Dec.{ltb}
 use borrow.Author.Tests.{ltb-false}
 use Rattle.texts.specs.Lists.{if_then_else_}
-use Rattle.model.specs.Answer.{answer, refused}
-use Rattle.model.specs.Notes.{notes-of}
-use Rattle.model.specs.Model.{Model, Event, midnight}
-use Rattle.model.specs.File
-use Rattle.model.specs.File.{Got, got, broken, Reader, _>>=_, give, u32, counted, or-zeros, limits, texts, place, input, invariant, automation, Head, head, events, entities, model, decoded, decode, made}
+use Rattle.model_spec.specs.Answer.{answer, refused}
+use Rattle.model_spec.specs.Notes.{notes-of}
+use Rattle.model_spec.specs.Model.{Model, Event, midnight}
+use Rattle.model_spec.specs.File
+use Rattle.model_spec.specs.File.{Got, got, broken, Reader, _>>=_, give, u32, counted, or-zeros, limits, texts, place, input, invariant, automation, Head, head, events, entities, model, decoded, decode, made}
 use Rattle.model_walk.proofs.Found.{Case, is-true, is-false, case, bound, given, u32-wide}
 
 -- what follows the events

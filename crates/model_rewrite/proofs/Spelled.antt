@@ -11,8 +11,8 @@ use lib.Seq.{drop-cons, drop-drop, drop-at}
 use lib.Dec.{ltb, eqb}
 use Rattle.texts.specs.Lists.{if_then_else_}
 use Rattle.texts.specs.Texts.{Text}
-use Rattle.model.specs.Model.{Actions}
-use Rattle.model.specs.File.{got, Reader, _>>=_, give, refuse, require, u8, u16, u32, times, counted, kinds, flag, number?, one-text, texts, source, tier, mode, limits, place, place?, predicate, trigger, entity, entities, input, event, invariant, branches, effect, actions-of, actions, automation, head}
+use Rattle.model_spec.specs.Model.{Actions}
+use Rattle.model_spec.specs.File.{got, Reader, _>>=_, give, refuse, require, u8, u16, u32, times, counted, kinds, flag, number?, one-text, texts, source, tier, mode, limits, place, place?, predicate, trigger, entity, entities, input, event, invariant, branches, effect, actions-of, actions, automation, head}
 use Rattle.model_walk.proofs.Laws.{bind-got, u8-in}
 use Rattle.model_walk.proofs.Found.{bound, given, required, refused, u8-wide}
 

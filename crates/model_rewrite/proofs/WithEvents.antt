@@ -10,12 +10,12 @@ use lib.Dec.{ltb}
 use borrow.Author.Tests.{lt-ltb, le-ltb}
 use Rattle.texts.specs.Lists.{flat}
 use Rattle.texts.specs.Texts.{Text}
-use Rattle.model.specs.Answer.{Answer, answer}
-use Rattle.model.specs.Notes.{notes-of}
-use Rattle.model.specs.Model.{Model, Event, Input, reload, with-events}
-use Rattle.model.specs.File.{got, refuse, require, u8, u16, u32, times, counted, kinds, texts, place, input, event, events, Head, head, ascending, model, decoded, decode, input-kinds}
-use Rattle.model.specs.Events.{Some, no-more, skip, keep}
-use Rattle.model.specs.Rewrite.{bytes2, bytes4, place-of, input-bytes, event-bytes, events-bytes, rewritten}
+use Rattle.model_spec.specs.Answer.{Answer, answer}
+use Rattle.model_spec.specs.Notes.{notes-of}
+use Rattle.model_spec.specs.Model.{Model, Event, Input, reload, with-events}
+use Rattle.model_spec.specs.File.{got, refuse, require, u8, u16, u32, times, counted, kinds, texts, place, input, event, events, Head, head, ascending, model, decoded, decode, input-kinds}
+use Rattle.model_spec.specs.Events.{Some, no-more, skip, keep}
+use Rattle.model_spec.specs.Rewrite.{bytes2, bytes4, place-of, input-bytes, event-bytes, events-bytes, rewritten}
 use Rattle.model_walk.proofs.Laws.{bind-got}
 use Rattle.model_walk.proofs.Found.{bound, given, refused, kind-found, counted-found, place-found, u8-wide, u16-wide, u32-wide}
 use Rattle.model_parts.specs.Stand.{Reads}

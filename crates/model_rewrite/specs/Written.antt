@@ -6,7 +6,7 @@ use mathlib.Core.List.{List, [], _∷_, _++_}
 use lib.Dec.{eqb}
 use lib.ListN.{length, getD, take, drop}
 use Rattle.texts.specs.Lists.{if_then_else_}
-use Rattle.model.specs.Rewrite.{bytes2, bytes4}
+use Rattle.model_spec.specs.Rewrite.{bytes2, bytes4}
 use Rattle.model_rewrite.specs.declared.Span.{Span}
 
 -- the second and the kind

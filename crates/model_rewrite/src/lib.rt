@@ -5,8 +5,8 @@ ghost use mathlib.Core.Path.{_≡_};
 ghost use mathlib.Core.List.{_++_};
 ghost use Prim.Native.Nat.{_+_, _*_, _≤_, _<_};
 ghost use lib.ListN.{length, drop};
-ghost use Rattle.model.specs.Rewrite.{bytes2};
-ghost use Rattle.model_rewrite.specs.Span.{spanW, bodyW, nowhere};
+ghost use Rattle.model_spec.specs.Rewrite.{bytes2};
+ghost use Rattle.model_rewrite.specs.Span.{spanM, bodyM, nowhere};
 ghost use Rattle.model_rewrite.specs.Written.{event-start, two-places, event-at, first-events, section-bytes, file-with};
 ghost use Rattle.model_rewrite.specs.Written.{EventFits, EventsFit, Room, Wrote};
 
@@ -24,7 +24,7 @@ fn no_span() -> Span
 
 // From the title on, for a file with this many texts.
 fn events_behind(file: &[u8], texts: u32, at: usize) -> Span
-    ensures { λ r. ⌜ r ≡ bodyW (now (file .entry)) texts at ⌝ }
+    ensures { λ r. ⌜ r ≡ bodyM (now (file .entry)) texts at ⌝ }
 {
     let a = model_walk::place_at(file, texts, at, 0);
     let Walked::To(p, _) = a else {
@@ -45,7 +45,7 @@ fn events_behind(file: &[u8], texts: u32, at: usize) -> Span
 
 // Where the events of a model file stand.
 pub fn events_in(file: &[u8]) -> Span
-    ensures { λ r. ⌜ r ≡ spanW (now (file .entry)) ⌝ }
+    ensures { λ r. ⌜ r ≡ spanM (now (file .entry)) ⌝ }
 {
     let texts = model_parts::section_at(file, 0, Part::Text, 4, 0);
     let count = texts.count;

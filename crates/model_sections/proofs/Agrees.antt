@@ -11,11 +11,11 @@ use lib.Dec.{ltb, leb, eqb}
 use borrow.Author.Tests.{lt-ltb, le-ltb, le-leb, ne-eqb, leb-true, leb-false}
 use Rattle.texts.specs.Lists.{if_then_else_, present-and, is-empty, any}
 use Rattle.texts.specs.Texts.{Text, eqT, memT}
-use Rattle.model.specs.Answer.{Answer, answer, refused, Verdict, accept, _>>=_, _and_, _when_, each-accepted}
-use Rattle.model.specs.Model.{Entity, Predicate, Trigger, Automation, Input, reload, Event, Invariant, never, guard, transition, response, id-of}
-use Rattle.model.specs.File.{_>>=_ as _>>=ᵣ_}
-use Rattle.model.specs.File.{got, Reader, give, refuse, u8, u16, u32, times, counted, number?, source, mode, texts, place, predicate, trigger, entity, input, event, invariant, actions, automation}
-use Rattle.model.specs.Validate.{day, bad-length, doubles, ordered, bad-entity, bad-bounds, check-value, check-predicate, check-stated, check-trigger, check-input, check-entity, check-conditions, check-invariant, check-invariants, check-actions, check-rule, check-rules}
+use Rattle.model_spec.specs.Answer.{Answer, answer, refused, Verdict, accept, _>>=_, _and_, _when_, each-accepted}
+use Rattle.model_spec.specs.Model.{Entity, Predicate, Trigger, Automation, Input, reload, Event, Invariant, never, guard, transition, response, id-of}
+use Rattle.model_spec.specs.File.{_>>=_ as _>>=ᵣ_}
+use Rattle.model_spec.specs.File.{got, Reader, give, refuse, u8, u16, u32, times, counted, number?, source, mode, texts, place, predicate, trigger, entity, input, event, invariant, actions, automation}
+use Rattle.model_spec.specs.Validate.{day, bad-length, doubles, ordered, bad-entity, bad-bounds, check-value, check-predicate, check-stated, check-trigger, check-input, check-entity, check-conditions, check-invariant, check-invariants, check-actions, check-rule, check-rules}
 use Rattle.model_walk.proofs.Found as found
 use Rattle.model_walk.proofs.Found.{Case, is-true, is-false, case, bound, given, Wide, u16-wide, u32-wide, kind-wide, Counted, counted-found, Kind, kind-found, place-found, EntityParts, entity-found}
 use Rattle.model_walk.proofs.Sees.{sees-mode}
@@ -27,14 +27,14 @@ use Rattle.model_index.specs.declared.Status.the-variants as status
 use Rattle.model_index.specs.Indexed.{Holds}
 use Rattle.model_check.specs.declared.Checked.{Checked}
 use Rattle.model_check.specs.declared.Checked.the-variants as checked
-use Rattle.model_check.specs.Checks.{Declaration, and-then, _⨾_, stay, skipC, dayC, place-is, among, valueC, pairC, predicateC, predicatesC, triggersC}
-use Rattle.model_actions.specs.Actions.{actionsC}
+use Rattle.model_check.specs.Checks.{Declaration, and-then, _⨾_, stay, skipM, dayM, place-is, among, valueM, pairM, predicateM, predicatesM, triggersM}
+use Rattle.model_actions.specs.Actions.{actionsM}
 use Rattle.model_check.proofs.Laws as checks
 use Rattle.model_check.proofs.Agrees.{after, after-same, and-bind, and-assoc, eqb-sym, or-is, by-got, next, next-and, skip-wide, skip-then, stays, Grounded, among-agrees, value-agrees, pair-agrees, stated-agrees, predicates-agree, all-stated-agree, triggers-agree, day-agrees}
 use Rattle.model_actions.proofs.Agrees.{actions-agree}
 use Rattle.model_sections.specs.declared.Part.{Part}
 use Rattle.model_sections.specs.declared.Part.the-variants as part
-use Rattle.model_sections.specs.Sections.{bad-place, any-bad, doubled, bad-domain, stale-bad, entity-ofC, entity-restC, entityC, inputC, eventC, seconds-bad, gaps-bad, id-is, seen, bad-id, conditionsC, guardC, transitionC, responseC, invariant-ofC, invariantC, bad-counts, listsC, rule-listsC, rule-ofC, ruleC, partC, partsC}
+use Rattle.model_sections.specs.Sections.{bad-place, any-bad, doubled, bad-domain, stale-bad, entity-ofM, entity-restM, entityM, inputM, eventM, seconds-bad, gaps-bad, id-is, seen, bad-id, conditionsM, guardM, transitionM, responseM, invariant-ofM, invariantM, bad-counts, listsM, rule-listsM, rule-ofM, ruleM, partM, partsM}
 use Rattle.model_sections.proofs.Laws as laws
 
 -- ---- lists
@@ -133,17 +133,17 @@ module _ (s : List ℕ) (ts : List Text) (all-texts : Reads texts s 4 ts) where
         ∙ ap (λ (c : ℕ). bad-length (e .name) || eqb c 0 || ltb 16 c || any bad-length (e .domain) || doubles (e .domain)) n
         ∙ ap (λ (b : Bool). bad-length (e .name) || b || ltb 16 (length (e .domain)) || any bad-length (e .domain) || doubles (e .domain)) (sym (empty-is (e .domain))))
 
-    entity-tests : (e : Entity) (x v a c q p n : ℕ) → bad-domain x c s q ≡ bad-entity e → stale-bad a ≡ present-and (ltb day) (e .stale-after) → valueC d x v s p n ≡ after p (check-value es (e .name) (e .initial) and answer n) →
-        entity-ofC d x c q v a s p n ≡ after p (check-entity es e and answer n)
-    unfolding entity-ofC check-entity
+    entity-tests : (e : Entity) (x v a c q p n : ℕ) → bad-domain x c s q ≡ bad-entity e → stale-bad a ≡ present-and (ltb day) (e .stale-after) → valueM d x v s p n ≡ after p (check-value es (e .name) (e .initial) and answer n) →
+        entity-ofM d x c q v a s p n ≡ after p (check-entity es e and answer n)
+    unfolding entity-ofM check-entity
     entity-tests e x v a c q p n h k m =
         rw (h, k, m) (tests (present-and (ltb day) (e .stale-after)) (bad-entity e) (check-value es (e .name) (e .initial)) p n)
 
-    entity-reads : (p n : ℕ) {x o c q : ℕ} → u16 s p ≡ got x o → u16 s o ≡ got c q → entityC d s p n ≡ (skipC (2 * c) ⨾ entity-restC d x c q) s q n
-    unfolding entityC _⨾_
-    entity-reads p n e f = rw (e, entityC) (rw (f, entityC))
+    entity-reads : (p n : ℕ) {x o c q : ℕ} → u16 s p ≡ got x o → u16 s o ≡ got c q → entityM d s p n ≡ (skipM (2 * c) ⨾ entity-restM d x c q) s q n
+    unfolding entityM _⨾_
+    entity-reads p n e f = rw (e, entityM) (rw (f, entityM))
 
-    pub entity-agrees : (p n : ℕ) (e : Entity) (q : ℕ) → entity ts s p ≡ got e q → entityC d s p n ≡ after q (check-entity es e and answer n)
+    pub entity-agrees : (p n : ℕ) (e : Entity) (q : ℕ) → entity ts s p ≡ got e q → entityM d s p n ≡ after q (check-entity es e and answer n)
     entity-agrees p n e q h =
         let f = entity-found ts h in
         let a = stale-agrees (f .at-stale) (e .stale-after) q (f .stale) in
@@ -151,7 +151,7 @@ module _ (s : List ℕ) (ts : List Text) (all-texts : Reads texts s 4 ts) where
         let w = u16-wide s (f .at-domain) (c .is-count) in
         let v = places-wide (c .count) (c .start) (e .domain) (f .at-initial) (omega (arith, w .ends, w .inside)) (c .are-values) in
         entity-reads p n (f .name .is-place) (c .is-count)
-        ∙ checks.to s (c .start) n (skipC (2 * c .count)) (entity-restC d (f .name .at) (c .count) (c .start)) refl (skip-wide s (2 * c .count) (c .start) n v)
+        ∙ checks.to s (c .start) n (skipM (2 * c .count)) (entity-restM d (f .name .at) (c .count) (c .start)) refl (skip-wide s (2 * c .count) (c .start) n v)
         ∙ laws.entity-rest-is d s (f .at-initial) n (f .name .at) (c .count) (c .start)
         ∙ by-got s u16 _ (f .at-initial) n (f .initial .is-place)
         ∙ skip-then s 1 _ (f .at-tier) n (f .tier-wide)
@@ -166,7 +166,7 @@ module _ (s : List ℕ) (ts : List Text) (all-texts : Reads texts s 4 ts) where
     input-kinds : List (Reader Input)
     input-kinds = (place ts >>=ᵣ λ x. place ts >>=ᵣ λ v. give (Input.set x v)) ∷ give Input.restart ∷ give reload ∷ []
 
-    pub input-agrees : (p n : ℕ) (a : Input) (q : ℕ) → input ts s p ≡ got a q → inputC d s p n ≡ after q (check-input es a and answer n)
+    pub input-agrees : (p n : ℕ) (a : Input) (q : ℕ) → input ts s p ≡ got a q → inputM d s p n ≡ after q (check-input es a and answer n)
     unfolding input input-kinds check-input
     input-agrees p n a q e = laws.input-is d s p n ∙ by-got s u8 _ p n (k .is-kind) ∙ cases (k .kind) (k .holds)
       where
@@ -176,7 +176,7 @@ module _ (s : List ℕ) (ts : List Text) (all-texts : Reads texts s 4 ts) where
         same-input : {x y : Input} → x ≡ y → after q (check-input es x and answer n) ≡ after q (check-input es y and answer n)
         same-input z = ap (λ (y : Input). after q (check-input es y and answer n)) z
 
-        cases : (i : ℕ) → getD input-kinds i refuse s (k .next) ≡ got a q → (if eqb i 0 then pairC d else stay) s (k .next) n ≡ after q (check-input es a and answer n)
+        cases : (i : ℕ) → getD input-kinds i refuse s (k .next) ≡ got a q → (if eqb i 0 then pairM d else stay) s (k .next) n ≡ after q (check-input es a and answer n)
         cases zero h =
             let x = bound (place ts) _ h in
             let v = bound (place ts) _ (x .rest) in
@@ -186,29 +186,29 @@ module _ (s : List ℕ) (ts : List Text) (all-texts : Reads texts s 4 ts) where
         cases (suc (suc zero)) h = let z = given _ _ _ h in stays s (k .next) n ∙ ap (λ (o : ℕ). after o (accept and answer n)) (z .1) ∙ same-input (z .0)
         cases (suc (suc (suc i))) h = absurd (found.refused s (k .next) h)
 
-    pub event-agrees : (p n : ℕ) (a : Event) (q : ℕ) → event ts s p ≡ got a q → eventC d s p n ≡ after q (check-input es (a .input) and answer n)
+    pub event-agrees : (p n : ℕ) (a : Event) (q : ℕ) → event ts s p ≡ got a q → eventM d s p n ≡ after q (check-input es (a .input) and answer n)
     unfolding event
     event-agrees p n a q e =
         let t = bound u32 _ e in
         let i = bound (input ts) _ (t .rest) in
         let z = given _ _ _ (i .rest) in
         laws.event-is d s p n
-        ∙ skip-then s 4 (inputC d) p n (u32-wide s p (t .first))
+        ∙ skip-then s 4 (inputM d) p n (u32-wide s p (t .first))
         ∙ input-agrees (t .next) n (i .value) q (i .first ∙ ap (got (i .value)) (z .1))
         ∙ ap (λ (v : Event). after q (check-input es (v .input) and answer n)) (z .0)
 
     -- ---- sections whose parts are checked one by one
 
-    parts-step : (k : Part) (starts : List ℕ) (left j n q : ℕ) (x : Answer ℕ) (f : ℕ → Answer ℕ) → partC d k starts j s (getD starts j 0) n ≡ after q x → ((m : ℕ) → partsC d k starts left (j + 1) s m ≡ after 0 (f m)) → partsC d k starts (suc left) j s n ≡ after 0 (x >>= f)
-    unfolding partsC and-then after _>>=_
-    parts-step k starts left j n q x f e h = ap (λ (y : Checked). and-then y (λ o m. partsC d k starts left (j + 1) s m)) e ∙ cases x
+    parts-step : (k : Part) (starts : List ℕ) (left j n q : ℕ) (x : Answer ℕ) (f : ℕ → Answer ℕ) → partM d k starts j s (getD starts j 0) n ≡ after q x → ((m : ℕ) → partsM d k starts left (j + 1) s m ≡ after 0 (f m)) → partsM d k starts (suc left) j s n ≡ after 0 (x >>= f)
+    unfolding partsM and-then after _>>=_
+    parts-step k starts left j n q x f e h = ap (λ (y : Checked). and-then y (λ o m. partsM d k starts left (j + 1) s m)) e ∙ cases x
       where
-        cases : (y : Answer ℕ) → and-then (after q y) (λ o m. partsC d k starts left (j + 1) s m) ≡ after 0 (y >>= f)
+        cases : (y : Answer ℕ) → and-then (after q y) (λ o m. partsM d k starts left (j + 1) s m) ≡ after 0 (y >>= f)
         cases (answer m) = h m
         cases (refused i) = refl
 
-    parts-none : (k : Part) (starts : List ℕ) (j n : ℕ) → partsC d k starts zero j s n ≡ checked.To 0 n
-    unfolding partsC
+    parts-none : (k : Part) (starts : List ℕ) (j n : ℕ) → partsM d k starts zero j s n ≡ checked.To 0 n
+    unfolding partsM
     parts-none k starts j n = refl
 
     -- the first of the values that stand from the j-th position on, and the others
@@ -223,8 +223,8 @@ module _ (s : List ℕ) (ts : List Text) (all-texts : Reads texts s 4 ts) where
     pub from-start : {A : Type 0} (r : Reader A) (x : Section) (l : List A) → Holds r s x l → length l ≤ 100 → (a₀ : A) (i : ℕ) → i < length l → Reads r s (getD (x .starts) (0 + i) 0) (getD l i a₀)
     from-start r x l f o a₀ i g = let z : i ≡ 0 + i = omega arith in subst (λ (k : ℕ). Reads r s (getD (x .starts) k 0) (getD l i a₀)) z (f .stand a₀ i (omega arith) g)
 
-    module _ {A : Type 0} (r : Reader A) (c : A → Verdict) (k : Part) (starts : List ℕ) (h : (j p n : ℕ) (a : A) (q : ℕ) → r s p ≡ got a q → partC d k starts j s p n ≡ after q (c a and answer n)) where
-      parts-agree : (l : List A) (j n : ℕ) → ((a₀ : A) (i : ℕ) → i < length l → Reads r s (getD starts (j + i) 0) (getD l i a₀)) → partsC d k starts (length l) j s n ≡ after 0 (each-accepted c l and answer n)
+    module _ {A : Type 0} (r : Reader A) (c : A → Verdict) (k : Part) (starts : List ℕ) (h : (j p n : ℕ) (a : A) (q : ℕ) → r s p ≡ got a q → partM d k starts j s p n ≡ after q (c a and answer n)) where
+      parts-agree : (l : List A) (j n : ℕ) → ((a₀ : A) (i : ℕ) → i < length l → Reads r s (getD starts (j + i) 0) (getD l i a₀)) → partsM d k starts (length l) j s n ≡ after 0 (each-accepted c l and answer n)
       unfolding each-accepted after _and_
       parts-agree [] j n f = parts-none k starts j n
       parts-agree (a ∷ l) j n f =
@@ -233,9 +233,9 @@ module _ (s : List ℕ) (ts : List Text) (all-texts : Reads texts s 4 ts) where
           (λ m. parts-agree l (j + 1) m (others-of r starts a l j f))
           ∙ after-same 0 (and-bind (c a) n (λ m. each-accepted c l and answer m) ∙ sym (and-assoc (c a) (each-accepted c l) (answer n)))
 
-    pub section-agrees : {A : Type 0} (r : Reader A) (c : A → Verdict) (k : Part) (x : Section) (l : List A) → ((j p n : ℕ) (a : A) (q : ℕ) → r s p ≡ got a q → partC d k (x .starts) j s p n ≡ after q (c a and answer n)) → Holds r s x l → length l ≤ 100 → (n : ℕ) →
-        partsC d k (x .starts) (x .count) 0 s n ≡ after 0 (each-accepted c l and answer n)
-    section-agrees r c k x l h f o n = ap (λ (i : ℕ). partsC d k (x .starts) i 0 s n) (f .counts) ∙ parts-agree r c k (x .starts) h l 0 n (from-start r x l f o)
+    pub section-agrees : {A : Type 0} (r : Reader A) (c : A → Verdict) (k : Part) (x : Section) (l : List A) → ((j p n : ℕ) (a : A) (q : ℕ) → r s p ≡ got a q → partM d k (x .starts) j s p n ≡ after q (c a and answer n)) → Holds r s x l → length l ≤ 100 → (n : ℕ) →
+        partsM d k (x .starts) (x .count) 0 s n ≡ after 0 (each-accepted c l and answer n)
+    section-agrees r c k x l h f o n = ap (λ (i : ℕ). partsM d k (x .starts) i 0 s n) (f .counts) ∙ parts-agree r c k (x .starts) h l 0 n (from-start r x l f o)
 
     -- ---- identifiers
 
@@ -263,12 +263,12 @@ module _ (s : List ℕ) (ts : List Text) (all-texts : Reads texts s 4 ts) where
 
     -- ---- invariants
 
-    conditions-agree : (p n : ℕ) (l : List Predicate) (q : ℕ) → counted (predicate ts) s p ≡ got l q → conditionsC d s p n ≡ after q (check-conditions es l and answer n)
-    unfolding conditionsC check-conditions
+    conditions-agree : (p n : ℕ) (l : List Predicate) (q : ℕ) → counted (predicate ts) s p ≡ got l q → conditionsM d s p n ≡ after q (check-conditions es l and answer n)
+    unfolding conditionsM check-conditions
     conditions-agree p n l q e =
         let c = counted-found (predicate ts) e in
         let o : c .count ≡ length l = sym (times-length (predicate ts) s (c .count) (c .start) (c .are-values)) in
-        rw (c .is-count, conditionsC) (
+        rw (c .is-count, conditionsM) (
         ap (λ (y : Checked). if eqb (c .count) 0 || ltb 32 (c .count) then checked.Refused 11 else y) (all-stated-agree s d ts es g p n l q e)
         ∙ ap (λ (i : ℕ). if eqb i 0 || ltb 32 i then checked.Refused 11 else after q (each-accepted (check-stated es) l and answer n)) o
         ∙ ap (λ (b : Bool). if b || ltb 32 (length l) then checked.Refused 11 else after q (each-accepted (check-stated es) l and answer n)) (sym (empty-is l))
@@ -289,22 +289,22 @@ module _ (s : List ℕ) (ts : List Text) (all-texts : Reads texts s 4 ts) where
       pub at-rest : ℕ
       pub is-kind : u8 s p ≡ got kind at-id
       pub id : found.Place ts s at-id (id-of a) at-rest
-      pub rest : (n : ℕ) → invariant-ofC d kind s at-rest n ≡ after q (check-invariant es a and answer n)
+      pub rest : (n : ℕ) → invariant-ofM d kind s at-rest n ≡ after q (check-invariant es a and answer n)
 
-    guard-agrees : (p n : ℕ) {x v : Text} {l : List Predicate} {o t q : ℕ} → place ts s p ≡ got x o → place ts s o ≡ got v t → counted (predicate ts) s t ≡ got l q → guardC d s p n ≡ after q ((check-conditions es l and check-value es x v) and answer n)
+    guard-agrees : (p n : ℕ) {x v : Text} {l : List Predicate} {o t q : ℕ} → place ts s p ≡ got x o → place ts s o ≡ got v t → counted (predicate ts) s t ≡ got l q → guardM d s p n ≡ after q ((check-conditions es l and check-value es x v) and answer n)
     guard-agrees p n {x} {v} {l} {o} {t} {q} a b c =
         let y = place-found ts a in
         let z = place-found ts b in
         laws.guard-is d s p n
         ∙ by-got s u16 _ p n (y .is-place)
         ∙ by-got s u16 _ o n (z .is-place)
-        ∙ next-and s (conditionsC d) (valueC d (y .at) (z .at)) t n q q (check-conditions es l) (λ m. check-value es (T (y .at)) (T (z .at)) and answer m)
+        ∙ next-and s (conditionsM d) (valueM d (y .at) (z .at)) t n q q (check-conditions es l) (λ m. check-value es (T (y .at)) (T (z .at)) and answer m)
         (conditions-agree t n l q c) (λ m. value-agrees s d ts es g (y .at) (z .at) (y .is-in) (z .is-in) q m)
         ∙ ap (λ (w : Text). after q (check-conditions es l and (check-value es w (T (z .at)) and answer n))) (sym (y .is-text))
         ∙ ap (λ (w : Text). after q (check-conditions es l and (check-value es x w and answer n))) (sym (z .is-text))
         ∙ after-same q (sym (and-assoc (check-conditions es l) (check-value es x v) (answer n)))
 
-    transition-agrees : (p n : ℕ) {x f t : Text} {o r q : ℕ} → place ts s p ≡ got x o → place ts s o ≡ got f r → place ts s r ≡ got t q → transitionC d s p n ≡ after q ((check-value es x f and check-value es x t) and answer n)
+    transition-agrees : (p n : ℕ) {x f t : Text} {o r q : ℕ} → place ts s p ≡ got x o → place ts s o ≡ got f r → place ts s r ≡ got t q → transitionM d s p n ≡ after q ((check-value es x f and check-value es x t) and answer n)
     transition-agrees p n {x} {f} {t} {o} {r} {q} a b c =
         let y = place-found ts a in
         let z = place-found ts b in
@@ -313,19 +313,19 @@ module _ (s : List ℕ) (ts : List Text) (all-texts : Reads texts s 4 ts) where
         ∙ by-got s u16 _ p n (y .is-place)
         ∙ by-got s u16 _ o n (z .is-place)
         ∙ by-got s u16 _ r n (u .is-place)
-        ∙ next-and s (valueC d (y .at) (z .at)) (valueC d (y .at) (u .at)) q n q q (check-value es (T (y .at)) (T (z .at))) (λ m. check-value es (T (y .at)) (T (u .at)) and answer m)
+        ∙ next-and s (valueM d (y .at) (z .at)) (valueM d (y .at) (u .at)) q n q q (check-value es (T (y .at)) (T (z .at))) (λ m. check-value es (T (y .at)) (T (u .at)) and answer m)
         (value-agrees s d ts es g (y .at) (z .at) (y .is-in) (z .is-in) q n) (λ m. value-agrees s d ts es g (y .at) (u .at) (y .is-in) (u .is-in) q m)
         ∙ ap (λ (w : Text). after q (check-value es w (T (z .at)) and (check-value es w (T (u .at)) and answer n))) (sym (y .is-text))
         ∙ ap (λ (w : Text). after q (check-value es x w and (check-value es x (T (u .at)) and answer n))) (sym (z .is-text))
         ∙ ap (λ (w : Text). after q (check-value es x f and (check-value es x w and answer n))) (sym (u .is-text))
         ∙ after-same q (sym (and-assoc (check-value es x f) (check-value es x t) (answer n)))
 
-    response-agrees : (p n : ℕ) {a b : Predicate} {k o r q : ℕ} → predicate ts s p ≡ got a o → predicate ts s o ≡ got b r → u32 s r ≡ got k q → responseC d s p n ≡ after q ((check-stated es a and check-stated es b and 12 when ltb day k) and answer n)
+    response-agrees : (p n : ℕ) {a b : Predicate} {k o r q : ℕ} → predicate ts s p ≡ got a o → predicate ts s o ≡ got b r → u32 s r ≡ got k q → responseM d s p n ≡ after q ((check-stated es a and check-stated es b and 12 when ltb day k) and answer n)
     response-agrees p n {a} {b} {k} {o} {r} {q} e f h =
         laws.response-is d s p n
-        ∙ next-and s (predicateC d 51) (predicateC d 51 ⨾ dayC 12) p n o q (check-stated es a) (λ m. check-stated es b and (12 when ltb day k and answer m))
+        ∙ next-and s (predicateM d 51) (predicateM d 51 ⨾ dayM 12) p n o q (check-stated es a) (λ m. check-stated es b and (12 when ltb day k and answer m))
         (stated-agrees s d ts es g p n a o e)
-        (λ m. next-and s (predicateC d 51) (dayC 12) o m r q (check-stated es b) (λ i. 12 when ltb day k and answer i) (stated-agrees s d ts es g o m b r f) (λ i. day-agrees s d ts es g 12 r i k q h))
+        (λ m. next-and s (predicateM d 51) (dayM 12) o m r q (check-stated es b) (λ i. 12 when ltb day k and answer i) (stated-agrees s d ts es g o m b r f) (λ i. day-agrees s d ts es g 12 r i k q h))
         ∙ after-same q (sym (and-assoc (check-stated es a) (check-stated es b and 12 when ltb day k) (answer n) ∙ ap (λ (w : Answer ℕ). check-stated es a and w) (and-assoc (check-stated es b) (12 when ltb day k) (answer n))))
 
     invariant-found : (p : ℕ) (a : Invariant) (q : ℕ) → invariant ts s p ≡ got a q → InvariantParts p a q
@@ -395,27 +395,27 @@ module _ (s : List ℕ) (ts : List Text) (all-texts : Reads texts s 4 ts) where
             })
         cases (suc (suc (suc (suc i)))) b h = absurd (found.refused s o h)
 
-    invariant-reads : (starts : List ℕ) (j p n : ℕ) {k o x q : ℕ} → u8 s p ≡ got k o → u16 s o ≡ got x q → invariantC d starts j s p n ≡ (if bad-id part.Invariant starts j s x then checked.Refused 10 else invariant-ofC d k s q n)
-    unfolding invariantC
-    invariant-reads starts j p n e f = rw (e, invariantC) (rw (f, invariantC))
+    invariant-reads : (starts : List ℕ) (j p n : ℕ) {k o x q : ℕ} → u8 s p ≡ got k o → u16 s o ≡ got x q → invariantM d starts j s p n ≡ (if bad-id part.Invariant starts j s x then checked.Refused 10 else invariant-ofM d k s q n)
+    unfolding invariantM
+    invariant-reads starts j p n e f = rw (e, invariantM) (rw (f, invariantM))
 
     invariant-id : (p x : ℕ) {k o y q : ℕ} → u8 s p ≡ got k o → u16 s o ≡ got y q → id-is part.Invariant s p x ≡ eqb y x
     unfolding id-is place-is
     invariant-id p x e f = rw (e, id-is) (rw (f, place-is))
 
     invariant-agrees : (starts : List ℕ) (j p n : ℕ) (a : Invariant) (q : ℕ) (ids : List Text) → Ids part.Invariant starts j ids → InvariantParts p a q →
-        invariantC d starts j s p n ≡ after q ((10 when (bad-length (id-of a) || memT (id-of a) ids) and check-invariant es a) and answer n)
+        invariantM d starts j s p n ≡ after q ((10 when (bad-length (id-of a) || memT (id-of a) ids) and check-invariant es a) and answer n)
     invariant-agrees starts j p n a q ids f x =
         invariant-reads starts j p n (x .is-kind) (x .id .is-place)
         ∙ ap (λ (y : Checked). if bad-id part.Invariant starts j s (x .id .at) then checked.Refused 10 else y) (x .rest n)
         ∙ ap (λ (b : Bool). if b then checked.Refused 10 else after q (check-invariant es a and answer n)) (bad-id-agrees part.Invariant starts j (x .id .at) ids (x .id .is-in) f ∙ ap (λ (t : Text). bad-length t || memT t ids) (sym (x .id .is-text)))
         ∙ tested 10 (bad-length (id-of a) || memT (id-of a) ids) (check-invariant es a) q n
 
-    part-invariant : (starts : List ℕ) (j p n : ℕ) → partC d part.Invariant starts j s p n ≡ invariantC d starts j s p n
+    part-invariant : (starts : List ℕ) (j p n : ℕ) → partM d part.Invariant starts j s p n ≡ invariantM d starts j s p n
     part-invariant starts j p n = laws.part-invariant d s p n starts j refl
 
     pub invariants-agree : (starts : List ℕ) (l : List Invariant) (j n : ℕ) (ids : List Text) → Ids part.Invariant starts j ids → ((a₀ : Invariant) (i : ℕ) → i < length l → Reads (invariant ts) s (getD starts (j + i) 0) (getD l i a₀)) →
-        partsC d part.Invariant starts (length l) j s n ≡ after 0 (check-invariants es ids l and answer n)
+        partsM d part.Invariant starts (length l) j s n ≡ after 0 (check-invariants es ids l and answer n)
     unfolding check-invariants after _and_
     invariants-agree starts [] j n ids f r = parts-none part.Invariant starts j n
     invariants-agree starts (a ∷ l) j n ids f r =
@@ -493,13 +493,13 @@ module _ (s : List ℕ) (ts : List Text) (all-texts : Reads texts s 4 ts) where
         })
 
     -- triggers, conditions and actions
-    lists-agree : (n : ℕ) (p : ℕ) (a : Automation) (x : RuleParts p a) → listsC d (x .triggers .count) s (x .triggers .start) n ≡
+    lists-agree : (n : ℕ) (p : ℕ) (a : Automation) (x : RuleParts p a) → listsM d (x .triggers .count) s (x .triggers .start) n ≡
         after (x .end) (each-accepted (check-trigger es) (a .triggers) and (each-accepted (check-predicate es) (a .conditions) and check-actions es (a .actions) 0 n))
     lists-agree n p a x =
         laws.lists-are d s (x .triggers .start) n (x .triggers .count)
-        ∙ next-and s (triggersC d (x .triggers .count)) (predicatesC d 0 ⨾ actionsC d 17) (x .triggers .start) n (x .at-conditions) (x .end) (each-accepted (check-trigger es) (a .triggers)) (λ m. each-accepted (check-predicate es) (a .conditions) and check-actions es (a .actions) 0 m)
+        ∙ next-and s (triggersM d (x .triggers .count)) (predicatesM d 0 ⨾ actionsM d 17) (x .triggers .start) n (x .at-conditions) (x .end) (each-accepted (check-trigger es) (a .triggers)) (λ m. each-accepted (check-predicate es) (a .conditions) and check-actions es (a .actions) 0 m)
         (triggers-agree s d ts es g (x .triggers .count) (x .triggers .start) n (a .triggers) (x .at-conditions) (x .triggers .are-values))
-        (λ m. next-and s (predicatesC d 0) (actionsC d 17) (x .at-conditions) m (x .at-actions) (x .end) (each-accepted (check-predicate es) (a .conditions)) (λ i. check-actions es (a .actions) 0 i)
+        (λ m. next-and s (predicatesM d 0) (actionsM d 17) (x .at-conditions) m (x .at-actions) (x .end) (each-accepted (check-predicate es) (a .conditions)) (λ i. check-actions es (a .actions) 0 i)
         (predicates-agree s d ts es g (x .at-conditions) m (a .conditions) (x .at-actions) (x .conditions-at))
         (λ i. actions-agree s d ts es g 17 0 refl (x .at-actions) i (a .actions) (x .end) (x .actions-at)))
 
@@ -512,25 +512,25 @@ module _ (s : List ℕ) (ts : List Text) (all-texts : Reads texts s 4 ts) where
         ∙ ap (λ (i : ℕ). eqb (a .max) 0 || ltb 16 (a .max) || eqb (length (a .triggers)) 0 || ltb 16 (length (a .triggers)) || ltb 32 i) o
         ∙ ap (λ (b : Bool). eqb (a .max) 0 || ltb 16 (a .max) || b || ltb 16 (length (a .triggers)) || ltb 32 (length (a .conditions))) (sym (empty-is (a .triggers)))
 
-    rule-lists-read : (m p n : ℕ) {t q r c e : ℕ} → u16 s p ≡ got t q → Wide (16 * t) s q r → u16 s r ≡ got c e → rule-listsC d m s p n ≡ (if bad-counts m t c then checked.Refused 14 else listsC d t s q n)
-    unfolding rule-listsC and-then
-    rule-lists-read m p n {t} {q} {r} a w b = rw (a, rule-listsC) (rw (skip-wide s (16 * t) q n w, and-then) (rw (b, rule-listsC)))
+    rule-lists-read : (m p n : ℕ) {t q r c e : ℕ} → u16 s p ≡ got t q → Wide (16 * t) s q r → u16 s r ≡ got c e → rule-listsM d m s p n ≡ (if bad-counts m t c then checked.Refused 14 else listsM d t s q n)
+    unfolding rule-listsM and-then
+    rule-lists-read m p n {t} {q} {r} a w b = rw (a, rule-listsM) (rw (skip-wide s (16 * t) q n w, and-then) (rw (b, rule-listsM)))
 
-    rule-lists-agree : (n : ℕ) (p : ℕ) (a : Automation) (x : RuleParts p a) → rule-listsC d (a .max) s (x .at-triggers) n ≡
+    rule-lists-agree : (n : ℕ) (p : ℕ) (a : Automation) (x : RuleParts p a) → rule-listsM d (a .max) s (x .at-triggers) n ≡
         after (x .end) (14 when bad-bounds a and (each-accepted (check-trigger es) (a .triggers) and (each-accepted (check-predicate es) (a .conditions) and check-actions es (a .actions) 0 n)))
     rule-lists-agree n p a x =
         let c = counted-found (predicate ts) (x .conditions-at) in
         let w = u16-wide s (x .at-triggers) (x .triggers .is-count) in
         rule-lists-read (a .max) (x .at-triggers) n (x .triggers .is-count) (triggers-wide (x .triggers .count) (x .triggers .start) (a .triggers) (x .at-conditions) (omega (arith, w .ends, w .inside)) (x .triggers .are-values)) (c .is-count)
-        ∙ ap (λ (b : Bool). if b then checked.Refused 14 else listsC d (x .triggers .count) s (x .triggers .start) n) (counts-agree p a x c)
+        ∙ ap (λ (b : Bool). if b then checked.Refused 14 else listsM d (x .triggers .count) s (x .triggers .start) n) (counts-agree p a x c)
         ∙ ap (λ (y : Checked). if bad-bounds a then checked.Refused 14 else y) (lists-agree n p a x)
         ∙ tested-answer 14 (bad-bounds a) _ (x .end)
 
-    rule-reads : (starts : List ℕ) (j p n : ℕ) {x q : ℕ} → u16 s p ≡ got x q → ruleC d starts j s p n ≡ (if bad-id part.Rule starts j s x then checked.Refused 13 else rule-ofC d s q n)
-    unfolding ruleC
-    rule-reads starts j p n e = rw (e, ruleC)
+    rule-reads : (starts : List ℕ) (j p n : ℕ) {x q : ℕ} → u16 s p ≡ got x q → ruleM d starts j s p n ≡ (if bad-id part.Rule starts j s x then checked.Refused 13 else rule-ofM d s q n)
+    unfolding ruleM
+    rule-reads starts j p n e = rw (e, ruleM)
 
-    rule-agrees : (starts : List ℕ) (j p n : ℕ) (a : Automation) (ids : List Text) → Ids part.Rule starts j ids → (x : RuleParts p a) → ruleC d starts j s p n ≡ after (x .end) (check-rule es ids a n)
+    rule-agrees : (starts : List ℕ) (j p n : ℕ) (a : Automation) (ids : List Text) → Ids part.Rule starts j ids → (x : RuleParts p a) → ruleM d starts j s p n ≡ after (x .end) (check-rule es ids a n)
     unfolding check-rule
     rule-agrees starts j p n a ids f x =
         let rest : Answer ℕ = 14 when bad-bounds a and (each-accepted (check-trigger es) (a .triggers) and (each-accepted (check-predicate es) (a .conditions) and check-actions es (a .actions) 0 n)) in
@@ -548,7 +548,7 @@ module _ (s : List ℕ) (ts : List Text) (all-texts : Reads texts s 4 ts) where
     rule-id p x e = rw (e, place-is)
 
     pub rules-agree : (starts : List ℕ) (l : List Automation) (j n : ℕ) (ids : List Text) → Ids part.Rule starts j ids → ((a₀ : Automation) (i : ℕ) → i < length l → Reads (automation ts) s (getD starts (j + i) 0) (getD l i a₀)) →
-        partsC d part.Rule starts (length l) j s n ≡ after 0 (check-rules es ids l n)
+        partsM d part.Rule starts (length l) j s n ≡ after 0 (check-rules es ids l n)
     unfolding check-rules after
     rules-agree starts [] j n ids f r = parts-none part.Rule starts j n
     rules-agree starts (a ∷ l) j n ids f r =

@@ -11,20 +11,20 @@ use borrow.Author.Tests.{lt-ltb, le-ltb, eq-eqb, ne-eqb}
 use Rattle.texts.specs.Lists.{if_then_else_, is-empty}
 use Rattle.texts.specs.Texts.{Text}
 use Rattle.texts.specs.Places.{textAt, startFrom}
-use Rattle.model.specs.File.{u8, u16, u32}
-use Rattle.model.specs.Validate.{bad-length}
+use Rattle.model_spec.specs.File.{u8, u16, u32}
+use Rattle.model_spec.specs.Validate.{bad-length}
 use Rattle.model_walk.specs.declared.Num.{Num}
 use Rattle.model_walk.specs.declared.Num.the-variants as num
 use Rattle.model_walk.specs.Walk.{found}
 use Rattle.model_walk.proofs.Laws.{is-got, is-broken}
 use Rattle.model_check.specs.declared.Checked.{Checked}
 use Rattle.model_check.specs.declared.Checked.the-variants as checked
-use Rattle.model_check.specs.Checks.{Declaration, and-then, _⨾_, by, stay, skipC, dayC, place-is, among, valueC, pairC, predicateC, predicatesC, triggersC}
-use Rattle.model_actions.specs.Actions.{actionsC}
+use Rattle.model_check.specs.Checks.{Declaration, and-then, _⨾_, by, stay, skipM, dayM, place-is, among, valueM, pairM, predicateM, predicatesM, triggersM}
+use Rattle.model_actions.specs.Actions.{actionsM}
 use Rattle.model_check.proofs.Laws as checks
 use Rattle.model_sections.specs.declared.Part.{Part}
 use Rattle.model_sections.specs.declared.Part.the-variants as part
-use Rattle.model_sections.specs.Sections.{bad-place, any-bad, doubled, bad-domain, stale-bad, entity-ofC, entity-restC, entityC, inputC, eventC, seconds-bad, gaps-bad, id-is, seen, bad-id, conditionsC, guardC, transitionC, responseC, invariant-ofC, invariantC, bad-counts, listsC, rule-listsC, rule-ofC, ruleC, partC, partsC}
+use Rattle.model_sections.specs.Sections.{bad-place, any-bad, doubled, bad-domain, stale-bad, entity-ofM, entity-restM, entityM, inputM, eventM, seconds-bad, gaps-bad, id-is, seen, bad-id, conditionsM, guardM, transitionM, responseM, invariant-ofM, invariantM, bad-counts, listsM, rule-listsM, rule-ofM, ruleM, partM, partsM}
 
 -- ---- tests in a row
 
@@ -139,45 +139,45 @@ stale-some a h = rw (ne-eqb a 4294967295 h)
 
 module _ (d : Declaration) (s : List ℕ) (p n : ℕ) where
   module _ (x c q v a : ℕ) where
-    pub entity-5 : stale-bad a ≡ true → entity-ofC d x c q v a s p n ≡ checked.Refused 5
-    unfolding entity-ofC
+    pub entity-5 : stale-bad a ≡ true → entity-ofM d x c q v a s p n ≡ checked.Refused 5
+    unfolding entity-ofM
     entity-5 h = rw h
 
-    pub entity-6 : stale-bad a ≡ false → bad-domain x c s q ≡ true → entity-ofC d x c q v a s p n ≡ checked.Refused 6
-    unfolding entity-ofC
+    pub entity-6 : stale-bad a ≡ false → bad-domain x c s q ≡ true → entity-ofM d x c q v a s p n ≡ checked.Refused 6
+    unfolding entity-ofM
     entity-6 h k = rw (h, k)
 
-    pub entity-value : stale-bad a ≡ false → bad-domain x c s q ≡ false → entity-ofC d x c q v a s p n ≡ valueC d x v s p n
-    unfolding entity-ofC
+    pub entity-value : stale-bad a ≡ false → bad-domain x c s q ≡ false → entity-ofM d x c q v a s p n ≡ valueM d x v s p n
+    unfolding entity-ofM
     entity-value h k = rw (h, k)
 
-  pub entity-rest-is : (x c q : ℕ) → entity-restC d x c q s p n ≡ by u16 (λ v. skipC 1 ⨾ by u32 (λ a. entity-ofC d x c q v a)) s p n
-  unfolding entity-restC
+  pub entity-rest-is : (x c q : ℕ) → entity-restM d x c q s p n ≡ by u16 (λ v. skipM 1 ⨾ by u32 (λ a. entity-ofM d x c q v a)) s p n
+  unfolding entity-restM
   entity-rest-is x c q = refl
 
   module _ {a : Num} (e : found a ≡ u16 s p) where
-    pub entity-none : a ≡ num.Broken → entityC d s p n ≡ checked.Refused 30
-    unfolding entityC
-    entity-none h = rw (is-broken e h, entityC)
+    pub entity-none : a ≡ num.Broken → entityM d s p n ≡ checked.Refused 30
+    unfolding entityM
+    entity-none h = rw (is-broken e h, entityM)
 
     module _ {x o : ℕ} (h : a ≡ num.Is x o) {b : Num} (f : found b ≡ u16 s o) where
-      pub entity-no-count : b ≡ num.Broken → entityC d s p n ≡ checked.Refused 30
-      unfolding entityC
-      entity-no-count k = rw (is-got e h, entityC) (rw (is-broken f k, entityC))
+      pub entity-no-count : b ≡ num.Broken → entityM d s p n ≡ checked.Refused 30
+      unfolding entityM
+      entity-no-count k = rw (is-got e h, entityM) (rw (is-broken f k, entityM))
 
       module _ {c q : ℕ} (k : b ≡ num.Is c q) where
-        pub entity-is : entityC d s p n ≡ (skipC (2 * c) ⨾ entity-restC d x c q) s q n
-        unfolding entityC _⨾_
-        entity-is = rw (is-got e h, entityC) (rw (is-got f k, entityC))
+        pub entity-is : entityM d s p n ≡ (skipM (2 * c) ⨾ entity-restM d x c q) s q n
+        unfolding entityM _⨾_
+        entity-is = rw (is-got e h, entityM) (rw (is-got f k, entityM))
 
   -- ---- events
 
-  pub input-is : inputC d s p n ≡ by u8 (λ k. if eqb k 0 then pairC d else stay) s p n
-  unfolding inputC
+  pub input-is : inputM d s p n ≡ by u8 (λ k. if eqb k 0 then pairM d else stay) s p n
+  unfolding inputM
   input-is = refl
 
-  pub event-is : eventC d s p n ≡ (skipC 4 ⨾ inputC d) s p n
-  unfolding eventC
+  pub event-is : eventM d s p n ≡ (skipM 4 ⨾ inputM d) s p n
+  unfolding eventM
   event-is = refl
 
 module _ (h : ℕ) (starts s : List ℕ) where
@@ -293,140 +293,140 @@ module _ (k : Part) (starts : List ℕ) (j : ℕ) (s : List ℕ) (x : ℕ) where
 -- ---- invariants
 module _ (d : Declaration) (s : List ℕ) (p n : ℕ) where
   module _ {a : Num} (e : found a ≡ u16 s p) where
-    pub conditions-broken : a ≡ num.Broken → conditionsC d s p n ≡ checked.Refused 30
-    unfolding conditionsC
-    conditions-broken h = rw (is-broken e h, conditionsC)
+    pub conditions-broken : a ≡ num.Broken → conditionsM d s p n ≡ checked.Refused 30
+    unfolding conditionsM
+    conditions-broken h = rw (is-broken e h, conditionsM)
 
     module _ {c q : ℕ} (h : a ≡ num.Is c q) where
-      pub conditions-none : c ≡ 0 → conditionsC d s p n ≡ checked.Refused 11
-      unfolding conditionsC
-      conditions-none k = rw (is-got e h, conditionsC) (rw (eq-eqb c 0 k))
+      pub conditions-none : c ≡ 0 → conditionsM d s p n ≡ checked.Refused 11
+      unfolding conditionsM
+      conditions-none k = rw (is-got e h, conditionsM) (rw (eq-eqb c 0 k))
 
-      pub conditions-many : (c ≡ 0 → ⊥) → 32 < c → conditionsC d s p n ≡ checked.Refused 11
-      unfolding conditionsC
-      conditions-many k m = rw (is-got e h, conditionsC) (rw (ne-eqb c 0 k, lt-ltb 32 c m))
+      pub conditions-many : (c ≡ 0 → ⊥) → 32 < c → conditionsM d s p n ≡ checked.Refused 11
+      unfolding conditionsM
+      conditions-many k m = rw (is-got e h, conditionsM) (rw (ne-eqb c 0 k, lt-ltb 32 c m))
 
-      pub conditions-are : (c ≡ 0 → ⊥) → c ≤ 32 → conditionsC d s p n ≡ predicatesC d 51 s p n
-      unfolding conditionsC
-      conditions-are k m = rw (is-got e h, conditionsC) (rw (ne-eqb c 0 k, le-ltb 32 c m))
+      pub conditions-are : (c ≡ 0 → ⊥) → c ≤ 32 → conditionsM d s p n ≡ predicatesM d 51 s p n
+      unfolding conditionsM
+      conditions-are k m = rw (is-got e h, conditionsM) (rw (ne-eqb c 0 k, le-ltb 32 c m))
 
-  pub guard-is : guardC d s p n ≡ by u16 (λ x. by u16 (λ v. conditionsC d ⨾ valueC d x v)) s p n
-  unfolding guardC
+  pub guard-is : guardM d s p n ≡ by u16 (λ x. by u16 (λ v. conditionsM d ⨾ valueM d x v)) s p n
+  unfolding guardM
   guard-is = refl
 
-  pub transition-is : transitionC d s p n ≡ by u16 (λ x. by u16 (λ f. by u16 (λ t. valueC d x f ⨾ valueC d x t))) s p n
-  unfolding transitionC
+  pub transition-is : transitionM d s p n ≡ by u16 (λ x. by u16 (λ f. by u16 (λ t. valueM d x f ⨾ valueM d x t))) s p n
+  unfolding transitionM
   transition-is = refl
 
-  pub response-is : responseC d s p n ≡ (predicateC d 51 ⨾ predicateC d 51 ⨾ dayC 12) s p n
-  unfolding responseC
+  pub response-is : responseM d s p n ≡ (predicateM d 51 ⨾ predicateM d 51 ⨾ dayM 12) s p n
+  unfolding responseM
   response-is = refl
 
   module _ {k : ℕ} where
-    pub invariant-0 : k ≡ 0 → invariant-ofC d k s p n ≡ conditionsC d s p n
-    unfolding invariant-ofC
+    pub invariant-0 : k ≡ 0 → invariant-ofM d k s p n ≡ conditionsM d s p n
+    unfolding invariant-ofM
     invariant-0 e = rw e
 
-    pub invariant-1 : k ≡ 1 → invariant-ofC d k s p n ≡ guardC d s p n
-    unfolding invariant-ofC
+    pub invariant-1 : k ≡ 1 → invariant-ofM d k s p n ≡ guardM d s p n
+    unfolding invariant-ofM
     invariant-1 e = rw e
 
-    pub invariant-2 : k ≡ 2 → invariant-ofC d k s p n ≡ transitionC d s p n
-    unfolding invariant-ofC
+    pub invariant-2 : k ≡ 2 → invariant-ofM d k s p n ≡ transitionM d s p n
+    unfolding invariant-ofM
     invariant-2 e = rw e
 
-    pub invariant-else : (k ≡ 0 → ⊥) → (k ≡ 1 → ⊥) → (k ≡ 2 → ⊥) → invariant-ofC d k s p n ≡ responseC d s p n
-    unfolding invariant-ofC
+    pub invariant-else : (k ≡ 0 → ⊥) → (k ≡ 1 → ⊥) → (k ≡ 2 → ⊥) → invariant-ofM d k s p n ≡ responseM d s p n
+    unfolding invariant-ofM
     invariant-else a b c = rw (ne-eqb _ _ a, ne-eqb _ _ b, ne-eqb _ _ c)
 
   module _ (starts : List ℕ) (j : ℕ) {a : Num} (e : found a ≡ u8 s p) where
-    pub invariant-none : a ≡ num.Broken → invariantC d starts j s p n ≡ checked.Refused 30
-    unfolding invariantC
-    invariant-none h = rw (is-broken e h, invariantC)
+    pub invariant-none : a ≡ num.Broken → invariantM d starts j s p n ≡ checked.Refused 30
+    unfolding invariantM
+    invariant-none h = rw (is-broken e h, invariantM)
 
     module _ {k o : ℕ} (h : a ≡ num.Is k o) {b : Num} (f : found b ≡ u16 s o) where
-      pub invariant-no-id : b ≡ num.Broken → invariantC d starts j s p n ≡ checked.Refused 30
-      unfolding invariantC
-      invariant-no-id g = rw (is-got e h, invariantC) (rw (is-broken f g, invariantC))
+      pub invariant-no-id : b ≡ num.Broken → invariantM d starts j s p n ≡ checked.Refused 30
+      unfolding invariantM
+      invariant-no-id g = rw (is-got e h, invariantM) (rw (is-broken f g, invariantM))
 
       module _ {x q : ℕ} (g : b ≡ num.Is x q) where
-        pub invariant-10 : bad-id part.Invariant starts j s x ≡ true → invariantC d starts j s p n ≡ checked.Refused 10
-        unfolding invariantC
-        invariant-10 m = rw (is-got e h, invariantC) (rw (is-got f g, invariantC) (rw m))
+        pub invariant-10 : bad-id part.Invariant starts j s x ≡ true → invariantM d starts j s p n ≡ checked.Refused 10
+        unfolding invariantM
+        invariant-10 m = rw (is-got e h, invariantM) (rw (is-got f g, invariantM) (rw m))
 
-        pub invariant-is : bad-id part.Invariant starts j s x ≡ false → invariantC d starts j s p n ≡ invariant-ofC d k s q n
-        unfolding invariantC
-        invariant-is m = rw (is-got e h, invariantC) (rw (is-got f g, invariantC) (rw m))
+        pub invariant-is : bad-id part.Invariant starts j s x ≡ false → invariantM d starts j s p n ≡ invariant-ofM d k s q n
+        unfolding invariantM
+        invariant-is m = rw (is-got e h, invariantM) (rw (is-got f g, invariantM) (rw m))
 
   -- ---- automations
 
-  pub lists-are : (t : ℕ) → listsC d t s p n ≡ (triggersC d t ⨾ predicatesC d 0 ⨾ actionsC d 17) s p n
-  unfolding listsC
+  pub lists-are : (t : ℕ) → listsM d t s p n ≡ (triggersM d t ⨾ predicatesM d 0 ⨾ actionsM d 17) s p n
+  unfolding listsM
   lists-are t = refl
 
   module _ (m : ℕ) {a : Num} (e : found a ≡ u16 s p) where
-    pub rule-lists-broken : a ≡ num.Broken → rule-listsC d m s p n ≡ checked.Refused 30
-    unfolding rule-listsC
-    rule-lists-broken h = rw (is-broken e h, rule-listsC)
+    pub rule-lists-broken : a ≡ num.Broken → rule-listsM d m s p n ≡ checked.Refused 30
+    unfolding rule-listsM
+    rule-lists-broken h = rw (is-broken e h, rule-listsM)
 
-    module _ {t q : ℕ} (h : a ≡ num.Is t q) {x : Checked} (f : x ≡ skipC (16 * t) s q n) where
-      pub rule-lists-short : {i : ℕ} → x ≡ checked.Refused i → rule-listsC d m s p n ≡ x
-      unfolding rule-listsC and-then
-      rule-lists-short g = rw (is-got e h, rule-listsC) (rw (sym f ∙ g, and-then) (sym g))
+    module _ {t q : ℕ} (h : a ≡ num.Is t q) {x : Checked} (f : x ≡ skipM (16 * t) s q n) where
+      pub rule-lists-short : {i : ℕ} → x ≡ checked.Refused i → rule-listsM d m s p n ≡ x
+      unfolding rule-listsM and-then
+      rule-lists-short g = rw (is-got e h, rule-listsM) (rw (sym f ∙ g, and-then) (sym g))
 
       module _ {r o : ℕ} (g : x ≡ checked.To r o) {b : Num} (u : found b ≡ u16 s r) where
-        pub rule-lists-no-count : b ≡ num.Broken → rule-listsC d m s p n ≡ checked.Refused 30
-        unfolding rule-listsC and-then
-        rule-lists-no-count v = rw (is-got e h, rule-listsC) (rw (sym f ∙ g, and-then) (rw (is-broken u v, rule-listsC)))
+        pub rule-lists-no-count : b ≡ num.Broken → rule-listsM d m s p n ≡ checked.Refused 30
+        unfolding rule-listsM and-then
+        rule-lists-no-count v = rw (is-got e h, rule-listsM) (rw (sym f ∙ g, and-then) (rw (is-broken u v, rule-listsM)))
 
         module _ {c w : ℕ} (v : b ≡ num.Is c w) where
-          pub rule-lists-14 : bad-counts m t c ≡ true → rule-listsC d m s p n ≡ checked.Refused 14
-          unfolding rule-listsC and-then
-          rule-lists-14 y = rw (is-got e h, rule-listsC) (rw (sym f ∙ g, and-then) (rw (is-got u v, rule-listsC) (rw y)))
+          pub rule-lists-14 : bad-counts m t c ≡ true → rule-listsM d m s p n ≡ checked.Refused 14
+          unfolding rule-listsM and-then
+          rule-lists-14 y = rw (is-got e h, rule-listsM) (rw (sym f ∙ g, and-then) (rw (is-got u v, rule-listsM) (rw y)))
 
-          pub rule-lists-are : bad-counts m t c ≡ false → rule-listsC d m s p n ≡ listsC d t s q n
-          unfolding rule-listsC and-then
-          rule-lists-are y = rw (is-got e h, rule-listsC) (rw (sym f ∙ g, and-then) (rw (is-got u v, rule-listsC) (rw y)))
+          pub rule-lists-are : bad-counts m t c ≡ false → rule-listsM d m s p n ≡ listsM d t s q n
+          unfolding rule-listsM and-then
+          rule-lists-are y = rw (is-got e h, rule-listsM) (rw (sym f ∙ g, and-then) (rw (is-got u v, rule-listsM) (rw y)))
 
-  pub rule-of-is : rule-ofC d s p n ≡ (skipC 1 ⨾ by u32 (λ m. rule-listsC d m)) s p n
-  unfolding rule-ofC
+  pub rule-of-is : rule-ofM d s p n ≡ (skipM 1 ⨾ by u32 (λ m. rule-listsM d m)) s p n
+  unfolding rule-ofM
   rule-of-is = refl
 
   module _ (starts : List ℕ) (j : ℕ) {a : Num} (e : found a ≡ u16 s p) where
-    pub rule-none : a ≡ num.Broken → ruleC d starts j s p n ≡ checked.Refused 30
-    unfolding ruleC
-    rule-none h = rw (is-broken e h, ruleC)
+    pub rule-none : a ≡ num.Broken → ruleM d starts j s p n ≡ checked.Refused 30
+    unfolding ruleM
+    rule-none h = rw (is-broken e h, ruleM)
 
     module _ {x q : ℕ} (h : a ≡ num.Is x q) where
-      pub rule-13 : bad-id part.Rule starts j s x ≡ true → ruleC d starts j s p n ≡ checked.Refused 13
-      unfolding ruleC
-      rule-13 m = rw (is-got e h, ruleC) (rw m)
+      pub rule-13 : bad-id part.Rule starts j s x ≡ true → ruleM d starts j s p n ≡ checked.Refused 13
+      unfolding ruleM
+      rule-13 m = rw (is-got e h, ruleM) (rw m)
 
-      pub rule-is : bad-id part.Rule starts j s x ≡ false → ruleC d starts j s p n ≡ rule-ofC d s q n
-      unfolding ruleC
-      rule-is m = rw (is-got e h, ruleC) (rw m)
+      pub rule-is : bad-id part.Rule starts j s x ≡ false → ruleM d starts j s p n ≡ rule-ofM d s q n
+      unfolding ruleM
+      rule-is m = rw (is-got e h, ruleM) (rw m)
 
   -- ---- sections
 
   module _ (starts : List ℕ) (j : ℕ) {k : Part} where
-    pub part-entity : k ≡ part.Entity → partC d k starts j s p n ≡ entityC d s p n
-    unfolding partC
+    pub part-entity : k ≡ part.Entity → partM d k starts j s p n ≡ entityM d s p n
+    unfolding partM
     part-entity h = rw h
 
-    pub part-event : k ≡ part.Event → partC d k starts j s p n ≡ eventC d s p n
-    unfolding partC
+    pub part-event : k ≡ part.Event → partM d k starts j s p n ≡ eventM d s p n
+    unfolding partM
     part-event h = rw h
 
-    pub part-input : k ≡ part.Input → partC d k starts j s p n ≡ inputC d s p n
-    unfolding partC
+    pub part-input : k ≡ part.Input → partM d k starts j s p n ≡ inputM d s p n
+    unfolding partM
     part-input h = rw h
 
-    pub part-invariant : k ≡ part.Invariant → partC d k starts j s p n ≡ invariantC d starts j s p n
-    unfolding partC
+    pub part-invariant : k ≡ part.Invariant → partM d k starts j s p n ≡ invariantM d starts j s p n
+    unfolding partM
     part-invariant h = rw h
 
-    pub part-rule : k ≡ part.Rule → partC d k starts j s p n ≡ ruleC d starts j s p n
-    unfolding partC
+    pub part-rule : k ≡ part.Rule → partM d k starts j s p n ≡ ruleM d starts j s p n
+    unfolding partM
     part-rule h = rw h
 
 module _ (m t c : ℕ) where
@@ -451,21 +451,21 @@ module _ (m t c : ℕ) where
   counts-5 a b d h = rw (ne-eqb m 0 a, le-ltb 16 m b, ne-eqb t 0 d, le-ltb 16 t h)
 
 module _ (d : Declaration) (k : Part) (starts s : List ℕ) where
-  pub parts-end : (left j n : ℕ) → left ≤ 0 → partsC d k starts left j s n ≡ checked.To 0 n
-  unfolding partsC
+  pub parts-end : (left j n : ℕ) → left ≤ 0 → partsM d k starts left j s n ≡ checked.To 0 n
+  unfolding partsM
   parts-end zero j n h = refl
   parts-end (suc left) j n h = absurd (omega arith)
 
-  pub parts-left : {a b : ℕ} (j n : ℕ) → a ≡ b → partsC d k starts a j s n ≡ partsC d k starts b j s n
-  parts-left j n e = ap (λ (x : ℕ). partsC d k starts x j s n) e
+  pub parts-left : {a b : ℕ} (j n : ℕ) → a ≡ b → partsM d k starts a j s n ≡ partsM d k starts b j s n
+  parts-left j n e = ap (λ (x : ℕ). partsM d k starts x j s n) e
 
-  module _ (j n : ℕ) {x : Checked} (e : x ≡ partC d k starts j s (getD starts j 0) n) where
-    pub parts-refused : (left : ℕ) {i : ℕ} → 0 < left → x ≡ checked.Refused i → partsC d k starts left j s n ≡ x
-    unfolding partsC and-then
+  module _ (j n : ℕ) {x : Checked} (e : x ≡ partM d k starts j s (getD starts j 0) n) where
+    pub parts-refused : (left : ℕ) {i : ℕ} → 0 < left → x ≡ checked.Refused i → partsM d k starts left j s n ≡ x
+    unfolding partsM and-then
     parts-refused zero o h = absurd (omega arith)
     parts-refused (suc left) o h = rw (sym e ∙ h, and-then) (sym h)
 
-    pub parts-next : (left : ℕ) {q m : ℕ} → 0 < left → x ≡ checked.To q m → partsC d k starts left j s n ≡ partsC d k starts (left - 1) (j + 1) s m
-    unfolding partsC and-then
+    pub parts-next : (left : ℕ) {q m : ℕ} → 0 < left → x ≡ checked.To q m → partsM d k starts left j s n ≡ partsM d k starts (left - 1) (j + 1) s m
+    unfolding partsM and-then
     parts-next zero o h = absurd (omega arith)
     parts-next (suc left) o h = rw (sub-one (suc left)) (rw (sym e ∙ h, and-then))

@@ -8,12 +8,12 @@ use lib.ListN.{getD}
 use Rattle.texts.specs.Lists.{if_then_else_}
 use Rattle.texts.specs.Texts.{Text}
 use Rattle.texts.specs.Places.{textAt, startFrom}
-use Rattle.model.specs.File.{got, broken, u8, u16, u32}
-use Rattle.model.specs.Validate.{day, bad-length}
+use Rattle.model_spec.specs.File.{got, broken, u8, u16, u32}
+use Rattle.model_spec.specs.Validate.{day, bad-length}
 use Rattle.model_check.specs.declared.Checked.{Checked}
 use Rattle.model_check.specs.declared.Checked.the-variants as checked
-use Rattle.model_check.specs.Checks.{Declaration, Check, and-then, _⨾_, by, stay, skipC, dayC, place-is, among, valueC, pairC, predicateC, predicatesC, triggersC}
-use Rattle.model_actions.specs.Actions.{actionsC}
+use Rattle.model_check.specs.Checks.{Declaration, Check, and-then, _⨾_, by, stay, skipM, dayM, place-is, among, valueM, pairM, predicateM, predicatesM, triggersM}
+use Rattle.model_actions.specs.Actions.{actionsM}
 use Rattle.model_sections.specs.declared.Part.{Part}
 use Rattle.model_sections.specs.declared.Part.the-variants as part
 
@@ -53,20 +53,20 @@ unfoldable pub stale-bad : ℕ → Bool
 stale-bad a = if eqb a 4294967295 then false else ltb day a
 
 -- the tests of an entity, in their order: 5, 6, then 7 and 8; its domain stands at q
-unfoldable pub entity-ofC : Declaration → (x c q v a : ℕ) → Check
-entity-ofC d x c q v a s p n =
+unfoldable pub entity-ofM : Declaration → (x c q v a : ℕ) → Check
+entity-ofM d x c q v a s p n =
     if stale-bad a then checked.Refused 5
     else if bad-domain x c s q then checked.Refused 6
-    else valueC d x v s p n
+    else valueM d x v s p n
 
 -- what stands behind an entity's domain
-unfoldable pub entity-restC : Declaration → (x c q : ℕ) → Check
-entity-restC d x c q = by u16 (λ v. skipC 1 ⨾ by u32 (λ a. entity-ofC d x c q v a))
+unfoldable pub entity-restM : Declaration → (x c q : ℕ) → Check
+entity-restM d x c q = by u16 (λ v. skipM 1 ⨾ by u32 (λ a. entity-ofM d x c q v a))
 
-unfoldable pub entityC : Declaration → Check
-entityC d s p n = elim (u16 s p) [
+unfoldable pub entityM : Declaration → Check
+entityM d s p n = elim (u16 s p) [
   | got x o ↦ elim (u16 s o) [
-    | got c q ↦ and-then (skipC (2 * c) s q n) (entity-restC d x c q s)
+    | got c q ↦ and-then (skipM (2 * c) s q n) (entity-restM d x c q s)
     | broken ↦ checked.Refused 30
   ]
   | broken ↦ checked.Refused 30
@@ -74,11 +74,11 @@ entityC d s p n = elim (u16 s p) [
 
 -- ---- events and the alphabet
 
-unfoldable pub inputC : Declaration → Check
-inputC d = by u8 (λ k. if eqb k 0 then pairC d else stay)
+unfoldable pub inputM : Declaration → Check
+inputM d = by u8 (λ k. if eqb k 0 then pairM d else stay)
 
-unfoldable pub eventC : Declaration → Check
-eventC d = skipC 4 ⨾ inputC d
+unfoldable pub eventM : Declaration → Check
+eventM d = skipM 4 ⨾ inputM d
 
 -- one of `left` seconds, the j-th on, passes the horizon or is below the one before it
 unfoldable pub seconds-bad : (horizon : ℕ) → (starts s : List ℕ) → (left j last : ℕ) → Bool
@@ -122,33 +122,33 @@ bad-counts m t c = eqb m 0 || ltb 16 m || eqb t 0 || ltb 16 t || ltb 32 c
 -- ---- invariants
 module _ (d : Declaration) where
   -- 11: no predicate, or too many; 51: one is a window
-  unfoldable pub conditionsC : Check
-  conditionsC s p n = elim (u16 s p) [
-    | got c q ↦ if eqb c 0 || ltb 32 c then checked.Refused 11 else predicatesC d 51 s p n
+  unfoldable pub conditionsM : Check
+  conditionsM s p n = elim (u16 s p) [
+    | got c q ↦ if eqb c 0 || ltb 32 c then checked.Refused 11 else predicatesM d 51 s p n
     | broken ↦ checked.Refused 30
   ]
 
-  unfoldable pub guardC : Check
-  guardC = by u16 (λ x. by u16 (λ v. conditionsC ⨾ valueC d x v))
+  unfoldable pub guardM : Check
+  guardM = by u16 (λ x. by u16 (λ v. conditionsM ⨾ valueM d x v))
 
-  unfoldable pub transitionC : Check
-  transitionC = by u16 (λ x. by u16 (λ f. by u16 (λ t. valueC d x f ⨾ valueC d x t)))
+  unfoldable pub transitionM : Check
+  transitionM = by u16 (λ x. by u16 (λ f. by u16 (λ t. valueM d x f ⨾ valueM d x t)))
 
-  unfoldable pub responseC : Check
-  responseC = predicateC d 51 ⨾ predicateC d 51 ⨾ dayC 12
+  unfoldable pub responseM : Check
+  responseM = predicateM d 51 ⨾ predicateM d 51 ⨾ dayM 12
 
   -- what follows an invariant's kind and its identifier
-  unfoldable pub invariant-ofC : (kind : ℕ) → Check
-  invariant-ofC k =
-      if eqb k 0 then conditionsC
-      else if eqb k 1 then guardC
-      else if eqb k 2 then transitionC
-      else responseC
+  unfoldable pub invariant-ofM : (kind : ℕ) → Check
+  invariant-ofM k =
+      if eqb k 0 then conditionsM
+      else if eqb k 1 then guardM
+      else if eqb k 2 then transitionM
+      else responseM
 
-  unfoldable pub invariantC : (starts : List ℕ) → (j : ℕ) → Check
-  invariantC starts j s p n = elim (u8 s p) [
+  unfoldable pub invariantM : (starts : List ℕ) → (j : ℕ) → Check
+  invariantM starts j s p n = elim (u8 s p) [
     | got k o ↦ elim (u16 s o) [
-      | got x q ↦ if bad-id part.Invariant starts j s x then checked.Refused 10 else invariant-ofC k s q n
+      | got x q ↦ if bad-id part.Invariant starts j s x then checked.Refused 10 else invariant-ofM k s q n
       | broken ↦ checked.Refused 30
     ]
     | broken ↦ checked.Refused 30
@@ -157,43 +157,43 @@ module _ (d : Declaration) where
   -- ---- automations
 
   -- triggers, conditions and actions, whose counts are right
-  unfoldable pub listsC : (triggers : ℕ) → Check
-  listsC t = triggersC d t ⨾ predicatesC d 0 ⨾ actionsC d 17
+  unfoldable pub listsM : (triggers : ℕ) → Check
+  listsM t = triggersM d t ⨾ predicatesM d 0 ⨾ actionsM d 17
 
   -- what stands from the triggers' count on
-  unfoldable pub rule-listsC : (max : ℕ) → Check
-  rule-listsC m s p n = elim (u16 s p) [
-    | got t q ↦ and-then (skipC (16 * t) s q n) (λ r o. elim (u16 s r) [
-      | got c e ↦ if bad-counts m t c then checked.Refused 14 else listsC t s q n
+  unfoldable pub rule-listsM : (max : ℕ) → Check
+  rule-listsM m s p n = elim (u16 s p) [
+    | got t q ↦ and-then (skipM (16 * t) s q n) (λ r o. elim (u16 s r) [
+      | got c e ↦ if bad-counts m t c then checked.Refused 14 else listsM t s q n
       | broken ↦ checked.Refused 30
     ])
     | broken ↦ checked.Refused 30
   ]
 
   -- what follows an automation's identifier
-  unfoldable pub rule-ofC : Check
-  rule-ofC = skipC 1 ⨾ by u32 (λ m. rule-listsC m)
+  unfoldable pub rule-ofM : Check
+  rule-ofM = skipM 1 ⨾ by u32 (λ m. rule-listsM m)
 
-  unfoldable pub ruleC : (starts : List ℕ) → (j : ℕ) → Check
-  ruleC starts j s p n = elim (u16 s p) [
-    | got x q ↦ if bad-id part.Rule starts j s x then checked.Refused 13 else rule-ofC s q n
+  unfoldable pub ruleM : (starts : List ℕ) → (j : ℕ) → Check
+  ruleM starts j s p n = elim (u16 s p) [
+    | got x q ↦ if bad-id part.Rule starts j s x then checked.Refused 13 else rule-ofM s q n
     | broken ↦ checked.Refused 30
   ]
 
   -- ---- sections
 
   -- the j-th part of a section
-  unfoldable pub partC : Part → (starts : List ℕ) → (j : ℕ) → Check
-  partC part.Entity starts j = entityC d
-  partC part.Event starts j = eventC d
-  partC part.Input starts j = inputC d
-  partC part.Invariant starts j = invariantC starts j
-  partC part.Rule starts j = ruleC starts j
+  unfoldable pub partM : Part → (starts : List ℕ) → (j : ℕ) → Check
+  partM part.Entity starts j = entityM d
+  partM part.Event starts j = eventM d
+  partM part.Input starts j = inputM d
+  partM part.Invariant starts j = invariantM starts j
+  partM part.Rule starts j = ruleM starts j
 
   -- `left` parts, the j-th on. Only the actions counted are carried along.
-  unfoldable pub partsC : Part → (starts : List ℕ) → (left j : ℕ) → List ℕ → ℕ → Checked
-  partsC k starts zero j s n = checked.To 0 n
-  partsC k starts (suc left) j s n = and-then (partC k starts j s (getD starts j 0) n) (λ q m. partsC k starts left (j + 1) s m)
+  unfoldable pub partsM : Part → (starts : List ℕ) → (left j : ℕ) → List ℕ → ℕ → Checked
+  partsM k starts zero j s n = checked.To 0 n
+  partsM k starts (suc left) j s n = and-then (partM k starts j s (getD starts j 0) n) (λ q m. partsM k starts left (j + 1) s m)
 
-  abbrev pub sectionC : Part → (count : ℕ) → (starts : List ℕ) → Check
-  sectionC k c starts s p n = partsC k starts c 0 s n
+  abbrev pub sectionM : Part → (count : ℕ) → (starts : List ℕ) → Check
+  sectionM k c starts s p n = partsM k starts c 0 s n

@@ -5,7 +5,7 @@ use model_walk::Num;
 ghost use mathlib.Core.Path.{_≡_};
 ghost use Prim.Native.Nat.{_≤_};
 ghost use Rattle.model_check.specs.Checks.{declaration};
-ghost use Rattle.model_sections.specs.Sections.{bad-place, any-bad, doubled, bad-domain, stale-bad, entity-ofC, entity-restC, entityC, inputC, eventC, seconds-bad, gaps-bad, id-is, seen, bad-id, conditionsC, guardC, transitionC, responseC, invariant-ofC, invariantC, bad-counts, listsC, rule-listsC, rule-ofC, ruleC, partC, partsC};
+ghost use Rattle.model_sections.specs.Sections.{bad-place, any-bad, doubled, bad-domain, stale-bad, entity-ofM, entity-restM, entityM, inputM, eventM, seconds-bad, gaps-bad, id-is, seen, bad-id, conditionsM, guardM, transitionM, responseM, invariant-ofM, invariantM, bad-counts, listsM, rule-listsM, rule-ofM, ruleM, partM, partsM};
 
 // What a section is a list of.
 pub enum Part {
@@ -111,7 +111,7 @@ fn entity_of_check(
     n: u32,
 ) -> Checked
     requires { ⌜ d .count ≤ 100 ⌝ }
-    ensures { λ r. ⌜ r ≡ entity-ofC (declaration d (now (entities .entry))) name count domain value stale (now (s .entry)) at n ⌝ }
+    ensures { λ r. ⌜ r ≡ entity-ofM (declaration d (now (entities .entry))) name count domain value stale (now (s .entry)) at n ⌝ }
 {
     if stale_bad(stale) {
         return Checked::Refused(5);
@@ -134,7 +134,7 @@ fn entity_rest_check(
     n: u32,
 ) -> Checked
     requires { ⌜ d .count ≤ 100 ⌝ }
-    ensures { λ r. ⌜ r ≡ entity-restC (declaration d (now (entities .entry))) name count domain (now (s .entry)) at n ⌝ }
+    ensures { λ r. ⌜ r ≡ entity-restM (declaration d (now (entities .entry))) name count domain (now (s .entry)) at n ⌝ }
 {
     let x = model_walk::u16_at(s, at);
     let Num::Is(value, p) = x else {
@@ -153,7 +153,7 @@ fn entity_rest_check(
 
 fn entity_check(s: &[u8], d: Declared, entities: &[usize; 100], at: usize, n: u32) -> Checked
     requires { ⌜ d .count ≤ 100 ⌝ }
-    ensures { λ r. ⌜ r ≡ entityC (declaration d (now (entities .entry))) (now (s .entry)) at n ⌝ }
+    ensures { λ r. ⌜ r ≡ entityM (declaration d (now (entities .entry))) (now (s .entry)) at n ⌝ }
 {
     let x = model_walk::u16_at(s, at);
     let Num::Is(name, p) = x else {
@@ -174,7 +174,7 @@ fn entity_check(s: &[u8], d: Declared, entities: &[usize; 100], at: usize, n: u3
 
 fn input_check(s: &[u8], d: Declared, entities: &[usize; 100], at: usize, n: u32) -> Checked
     requires { ⌜ d .count ≤ 100 ⌝ }
-    ensures { λ r. ⌜ r ≡ inputC (declaration d (now (entities .entry))) (now (s .entry)) at n ⌝ }
+    ensures { λ r. ⌜ r ≡ inputM (declaration d (now (entities .entry))) (now (s .entry)) at n ⌝ }
 {
     let x = model_walk::u8_at(s, at);
     let Num::Is(kind, p) = x else {
@@ -188,7 +188,7 @@ fn input_check(s: &[u8], d: Declared, entities: &[usize; 100], at: usize, n: u32
 
 fn event_check(s: &[u8], d: Declared, entities: &[usize; 100], at: usize, n: u32) -> Checked
     requires { ⌜ d .count ≤ 100 ⌝ }
-    ensures { λ r. ⌜ r ≡ eventC (declaration d (now (entities .entry))) (now (s .entry)) at n ⌝ }
+    ensures { λ r. ⌜ r ≡ eventM (declaration d (now (entities .entry))) (now (s .entry)) at n ⌝ }
 {
     let a = model_check::skip(s, 4, at, n);
     let Checked::To(p, m) = a else {
@@ -295,7 +295,7 @@ fn bad_id(s: &[u8], part: Part, starts: &[usize; 100], j: usize, place: u32) -> 
 // At least one predicate and at most 32.
 fn conditions_check(s: &[u8], d: Declared, entities: &[usize; 100], at: usize, n: u32) -> Checked
     requires { ⌜ d .count ≤ 100 ⌝ }
-    ensures { λ r. ⌜ r ≡ conditionsC (declaration d (now (entities .entry))) (now (s .entry)) at n ⌝ }
+    ensures { λ r. ⌜ r ≡ conditionsM (declaration d (now (entities .entry))) (now (s .entry)) at n ⌝ }
 {
     let x = model_walk::u16_at(s, at);
     let Num::Is(count, _) = x else {
@@ -312,7 +312,7 @@ fn conditions_check(s: &[u8], d: Declared, entities: &[usize; 100], at: usize, n
 
 fn guard_check(s: &[u8], d: Declared, entities: &[usize; 100], at: usize, n: u32) -> Checked
     requires { ⌜ d .count ≤ 100 ⌝ }
-    ensures { λ r. ⌜ r ≡ guardC (declaration d (now (entities .entry))) (now (s .entry)) at n ⌝ }
+    ensures { λ r. ⌜ r ≡ guardM (declaration d (now (entities .entry))) (now (s .entry)) at n ⌝ }
 {
     let x = model_walk::u16_at(s, at);
     let Num::Is(entity, p) = x else {
@@ -331,7 +331,7 @@ fn guard_check(s: &[u8], d: Declared, entities: &[usize; 100], at: usize, n: u32
 
 fn transition_check(s: &[u8], d: Declared, entities: &[usize; 100], at: usize, n: u32) -> Checked
     requires { ⌜ d .count ≤ 100 ⌝ }
-    ensures { λ r. ⌜ r ≡ transitionC (declaration d (now (entities .entry))) (now (s .entry)) at n ⌝ }
+    ensures { λ r. ⌜ r ≡ transitionM (declaration d (now (entities .entry))) (now (s .entry)) at n ⌝ }
 {
     let x = model_walk::u16_at(s, at);
     let Num::Is(entity, p) = x else {
@@ -354,7 +354,7 @@ fn transition_check(s: &[u8], d: Declared, entities: &[usize; 100], at: usize, n
 
 fn response_check(s: &[u8], d: Declared, entities: &[usize; 100], at: usize, n: u32) -> Checked
     requires { ⌜ d .count ≤ 100 ⌝ }
-    ensures { λ r. ⌜ r ≡ responseC (declaration d (now (entities .entry))) (now (s .entry)) at n ⌝ }
+    ensures { λ r. ⌜ r ≡ responseM (declaration d (now (entities .entry))) (now (s .entry)) at n ⌝ }
 {
     let a = model_check::predicate_check(s, d, entities, 51, at, n);
     let Checked::To(p, k) = a else {
@@ -377,7 +377,7 @@ fn invariant_of_check(
     n: u32,
 ) -> Checked
     requires { ⌜ d .count ≤ 100 ⌝ }
-    ensures { λ r. ⌜ r ≡ invariant-ofC (declaration d (now (entities .entry))) kind (now (s .entry)) at n ⌝ }
+    ensures { λ r. ⌜ r ≡ invariant-ofM (declaration d (now (entities .entry))) kind (now (s .entry)) at n ⌝ }
 {
     if kind == 0 {
         return conditions_check(s, d, entities, at, n);
@@ -401,7 +401,7 @@ fn invariant_check(
     n: u32,
 ) -> Checked
     requires { ⌜ (d .count ≤ 100) × (j ≤ 100) ⌝ }
-    ensures { λ r. ⌜ r ≡ invariantC (declaration d (now (entities .entry))) (now (starts .entry)) j (now (s .entry)) at n ⌝ }
+    ensures { λ r. ⌜ r ≡ invariantM (declaration d (now (entities .entry))) (now (starts .entry)) j (now (s .entry)) at n ⌝ }
 {
     let x = model_walk::u8_at(s, at);
     let Num::Is(kind, p) = x else {
@@ -447,7 +447,7 @@ fn lists_check(
     n: u32,
 ) -> Checked
     requires { ⌜ d .count ≤ 100 ⌝ }
-    ensures { λ r. ⌜ r ≡ listsC (declaration d (now (entities .entry))) triggers (now (s .entry)) at n ⌝ }
+    ensures { λ r. ⌜ r ≡ listsM (declaration d (now (entities .entry))) triggers (now (s .entry)) at n ⌝ }
 {
     let a = model_check::triggers_check(s, d, entities, triggers, at, n);
     let Checked::To(p, k) = a else {
@@ -470,7 +470,7 @@ fn rule_lists_check(
     n: u32,
 ) -> Checked
     requires { ⌜ d .count ≤ 100 ⌝ }
-    ensures { λ r. ⌜ r ≡ rule-listsC (declaration d (now (entities .entry))) max (now (s .entry)) at n ⌝ }
+    ensures { λ r. ⌜ r ≡ rule-listsM (declaration d (now (entities .entry))) max (now (s .entry)) at n ⌝ }
 {
     let x = model_walk::u16_at(s, at);
     let Num::Is(triggers, start) = x else {
@@ -493,7 +493,7 @@ fn rule_lists_check(
 // What follows an automation's identifier.
 fn rule_of_check(s: &[u8], d: Declared, entities: &[usize; 100], at: usize, n: u32) -> Checked
     requires { ⌜ d .count ≤ 100 ⌝ }
-    ensures { λ r. ⌜ r ≡ rule-ofC (declaration d (now (entities .entry))) (now (s .entry)) at n ⌝ }
+    ensures { λ r. ⌜ r ≡ rule-ofM (declaration d (now (entities .entry))) (now (s .entry)) at n ⌝ }
 {
     let a = model_check::skip(s, 1, at, n);
     let Checked::To(p, m) = a else {
@@ -516,7 +516,7 @@ fn rule_check(
     n: u32,
 ) -> Checked
     requires { ⌜ (d .count ≤ 100) × (j ≤ 100) ⌝ }
-    ensures { λ r. ⌜ r ≡ ruleC (declaration d (now (entities .entry))) (now (starts .entry)) j (now (s .entry)) at n ⌝ }
+    ensures { λ r. ⌜ r ≡ ruleM (declaration d (now (entities .entry))) (now (starts .entry)) j (now (s .entry)) at n ⌝ }
 {
     let x = model_walk::u16_at(s, at);
     let Num::Is(id, p) = x else {
@@ -542,7 +542,7 @@ fn part_check(
     n: u32,
 ) -> Checked
     requires { ⌜ (d .count ≤ 100) × (j ≤ 100) ⌝ }
-    ensures { λ r. ⌜ r ≡ partC (declaration d (now (entities .entry))) part (now (starts .entry)) j (now (s .entry)) at n ⌝ }
+    ensures { λ r. ⌜ r ≡ partM (declaration d (now (entities .entry))) part (now (starts .entry)) j (now (s .entry)) at n ⌝ }
 {
     match part {
         Part::Entity => entity_check(s, d, entities, at, n),
@@ -563,7 +563,7 @@ pub fn section_check(
     n: u32,
 ) -> Checked
     requires { ⌜ (d .count ≤ 100) × (count ≤ 100) ⌝ }
-    ensures { λ r. ⌜ r ≡ partsC (declaration d (now (entities .entry))) part (now (starts .entry)) count 0 (now (s .entry)) n ⌝ }
+    ensures { λ r. ⌜ r ≡ partsM (declaration d (now (entities .entry))) part (now (starts .entry)) count 0 (now (s .entry)) n ⌝ }
 {
     let end = count as usize;
     let mut j: usize = 0;

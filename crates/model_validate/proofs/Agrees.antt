@@ -10,11 +10,11 @@ use borrow.Author.Tests.{ltb-false}
 use Rattle.texts.specs.Lists.{if_then_else_, any, each}
 use Rattle.texts.specs.Texts.{Text, text, memT}
 use Rattle.texts.specs.Places.{textAt, startFrom}
-use Rattle.model.specs.Answer.{Answer, answer, refused, Verdict, _>>=_, _and_, _when_, each-accepted}
-use Rattle.model.specs.Model.{Entity, Input, Event, Invariant, Limits, Scenario, Model}
-use Rattle.model.specs.File.{_>>=_ as _>>=ᵣ_}
-use Rattle.model.specs.File.{got, Reader, u32, limits, texts, entity, input, event, invariant, automation, decode}
-use Rattle.model.specs.Validate.{day, ordered, bad-title, bad-size, bad-limits, bad-start, bad-alphabet, bad-events, check-input, check-entity, check-invariants, check-rules, validate, accepted}
+use Rattle.model_spec.specs.Answer.{Answer, answer, refused, Verdict, _>>=_, _and_, _when_, each-accepted}
+use Rattle.model_spec.specs.Model.{Entity, Input, Event, Invariant, Limits, Scenario, Model}
+use Rattle.model_spec.specs.File.{_>>=_ as _>>=ᵣ_}
+use Rattle.model_spec.specs.File.{got, Reader, u32, limits, texts, entity, input, event, invariant, automation, decode}
+use Rattle.model_spec.specs.Validate.{day, ordered, bad-title, bad-size, bad-limits, bad-start, bad-alphabet, bad-events, check-input, check-entity, check-invariants, check-rules, validate, accepted}
 use Rattle.model_walk.proofs.Found as found
 use Rattle.model_walk.proofs.Found.{Case, is-true, is-false, case, bound, given, place-found}
 use Rattle.model_parts.specs.declared.Section.{Section}
@@ -26,7 +26,7 @@ use Rattle.model_index.specs.declared.Index.{Index}
 use Rattle.model_index.specs.declared.File.{File}
 use Rattle.model_index.specs.declared.Status.the-variants as status
 use Rattle.model_index.specs.declared.Outline.{Outline}
-use Rattle.model_index.specs.Index.{refusedW, refusalW, wholeW, index-of, file-of}
+use Rattle.model_index.specs.Index.{refusedM, refusalM, wholeM, index-of, file-of}
 use Rattle.model_index.proofs.Laws as index
 use Rattle.model_index.specs.Indexed.{Holds, Indexed, Says}
 use Rattle.model_check.specs.declared.Checked.{Checked}
@@ -39,8 +39,8 @@ use Rattle.model_validate.specs.declared.Validity.the-variants as validi
 use Rattle.model_validate.specs.Answers.{validity-of, validated}
 use Rattle.model_validate.specs.declared.Numbers.{Numbers}
 use Rattle.model_sections.specs.declared.Part.the-variants as part
-use Rattle.model_sections.specs.Sections.{seconds-bad, gaps-bad, partsC}
-use Rattle.model_validate.specs.Whole.{title-bad, size-bad, limits-bad, start-bad, alphabet-bad, ordersC, Small, sectionsC, modelC, declared-in, declared-of, numbers-of, indexC}
+use Rattle.model_sections.specs.Sections.{seconds-bad, gaps-bad, partsM}
+use Rattle.model_validate.specs.Whole.{title-bad, size-bad, limits-bad, start-bad, alphabet-bad, ordersM, Small, sectionsM, modelM, declared-in, declared-of, numbers-of, indexM}
 use Rattle.model_sections.proofs.Laws as parts
 use Rattle.model_sections.proofs.Agrees.{empty-is, from-start, section-agrees, no-ids, entity-agrees, event-agrees, input-agrees, invariants-agree, rules-agree, ordered-all, seconds-agree, gaps-agree}
 use Rattle.model_validate.proofs.Laws as laws
@@ -170,16 +170,16 @@ module _ (s : List ℕ) (i : Index) (m : Model) (x : Indexed s i m) where
     start : {A : Type 0} (r : Reader A) (y : Section) (l : List A) → Holds r s y l → y .count ≤ 100 → (a₀ : A) (k : ℕ) → k < length l → Reads r s (getD (y .starts) (0 + k) 0) (getD l k a₀)
     start r y l h o = from-start s (x .ts) (x .all-texts) dd (sc .entities) grounded r y l h (few r y l h o)
 
-    orders-agree : (n : ℕ) → ordersC nn (i .events .starts) s 0 n ≡ after 0 (9 when bad-events (sc .limits .horizon) (sc .events) and answer n)
-    unfolding ordersC bad-events
+    orders-agree : (n : ℕ) → ordersM nn (i .events .starts) s 0 n ≡ after 0 (9 when bad-events (sc .limits .horizon) (sc .events) and answer n)
+    unfolding ordersM bad-events
     orders-agree n =
         let h = sc .limits .horizon in
-        rw (horizon-read .1, ordersC) (
+        rw (horizon-read .1, ordersM) (
         ap (λ (c : ℕ). refuse-if 9 (seconds-bad h (i .events .starts) s c 0 0) s 0 n) (x .events .counts)
         ∙ ap (λ (b : Bool). refuse-if 9 b s 0 n) (seconds-agree s (x .ts) (i .events .starts) h (sc .events) 0 0 (start (event (x .ts)) (i .events) (sc .events) (x .events) (small .events)) ∙ ap (λ (b : Bool). any (λ e. ltb h (e .at)) (sc .events) || not b) (ordered-all (sc .events)))
         ∙ refuse-if-is s 9 (any (λ e. ltb h (e .at)) (sc .events) || not (ordered (sc .events))) 0 n)
 
-    sections-agree : sectionsC dd nn (i .events .starts) (i .invariants .starts) (i .alphabet .starts) (i .rules .starts) s 0 0 ≡ after 0 (
+    sections-agree : sectionsM dd nn (i .events .starts) (i .invariants .starts) (i .alphabet .starts) (i .rules .starts) s 0 0 ≡ after 0 (
         each-accepted (check-entity (sc .entities)) (sc .entities)
         and (each-accepted (λ e. check-input (sc .entities) (e .input)) (sc .events)
         and (each-accepted (check-input (sc .entities)) (sc .alphabet)
@@ -197,7 +197,7 @@ module _ (s : List ℕ) (i : Index) (m : Model) (x : Indexed s i m) where
         let t = x .all-texts in
         laws.sections-are dd nn (i .events .starts) (i .invariants .starts) (i .alphabet .starts) (i .rules .starts) s 0 0
         ∙ next-and s _ _ 0 0 0 0 v₁ (λ n. v₂ and (v₃ and (v₄ and (v₅ and rs n))))
-        (ap (λ (c : ℕ). partsC dd part.Entity (i .entities .starts) c 0 s 0) (laws.declared-count s (i .texts .count) (i .entities .count)) ∙ section-agrees s (x .ts) t dd es grounded (entity (x .ts)) (check-entity es) part.Entity (i .entities) es (λ j p n a q e. parts.part-entity dd s p n (i .entities .starts) j refl ∙ entity-agrees s (x .ts) t dd es grounded p n a q e) (x .entities) (few (entity (x .ts)) (i .entities) es (x .entities) (small .entities)) 0)
+        (ap (λ (c : ℕ). partsM dd part.Entity (i .entities .starts) c 0 s 0) (laws.declared-count s (i .texts .count) (i .entities .count)) ∙ section-agrees s (x .ts) t dd es grounded (entity (x .ts)) (check-entity es) part.Entity (i .entities) es (λ j p n a q e. parts.part-entity dd s p n (i .entities .starts) j refl ∙ entity-agrees s (x .ts) t dd es grounded p n a q e) (x .entities) (few (entity (x .ts)) (i .entities) es (x .entities) (small .entities)) 0)
         (λ n₁. next-and s _ _ 0 n₁ 0 0 v₂ (λ n. v₃ and (v₄ and (v₅ and rs n)))
         (section-agrees s (x .ts) t dd es grounded (event (x .ts)) (λ e. check-input es (e .input)) part.Event (i .events) (sc .events) (λ j p n a q e. parts.part-event dd s p n (i .events .starts) j refl ∙ event-agrees s (x .ts) t dd es grounded p n a q e) (x .events) (few (event (x .ts)) (i .events) (sc .events) (x .events) (small .events)) n₁)
         (λ n₂. next-and s _ _ 0 n₂ 0 0 v₃ (λ n. v₄ and (v₅ and rs n))
@@ -205,21 +205,21 @@ module _ (s : List ℕ) (i : Index) (m : Model) (x : Indexed s i m) where
         (λ n₃. next-and s _ _ 0 n₃ 0 0 v₄ (λ n. v₅ and rs n)
         (orders-agree n₃)
         (λ n₄. next-and s _ _ 0 n₄ 0 0 v₅ rs
-        (ap (λ (c : ℕ). partsC dd part.Invariant (i .invariants .starts) c 0 s n₄) (x .invariants .counts) ∙ invariants-agree s (x .ts) t dd es grounded (i .invariants .starts) (sc .invariants) 0 n₄ [] (no-ids s (x .ts) t dd es grounded part.Invariant (i .invariants .starts)) (start (invariant (x .ts)) (i .invariants) (sc .invariants) (x .invariants) (small .invariants)))
-        (λ n₅. ap (λ (c : ℕ). partsC dd part.Rule (i .rules .starts) c 0 s n₅) (x .rules .counts) ∙ rules-agree s (x .ts) t dd es grounded (i .rules .starts) (m .rules) 0 n₅ [] (no-ids s (x .ts) t dd es grounded part.Rule (i .rules .starts)) (start (automation (x .ts)) (i .rules) (m .rules) (x .rules) (small .rules)))))))
+        (ap (λ (c : ℕ). partsM dd part.Invariant (i .invariants .starts) c 0 s n₄) (x .invariants .counts) ∙ invariants-agree s (x .ts) t dd es grounded (i .invariants .starts) (sc .invariants) 0 n₄ [] (no-ids s (x .ts) t dd es grounded part.Invariant (i .invariants .starts)) (start (invariant (x .ts)) (i .invariants) (sc .invariants) (x .invariants) (small .invariants)))
+        (λ n₅. ap (λ (c : ℕ). partsM dd part.Rule (i .rules .starts) c 0 s n₅) (x .rules .counts) ∙ rules-agree s (x .ts) t dd es grounded (i .rules .starts) (m .rules) 0 n₅ [] (no-ids s (x .ts) t dd es grounded part.Rule (i .rules .starts)) (start (automation (x .ts)) (i .rules) (m .rules) (x .rules) (small .rules)))))))
 
   -- the whole model
-  pub model-agrees : outcome m (indexC i s) ≡ validate m
-  unfolding modelC validate
+  pub model-agrees : outcome m (indexM i s) ≡ validate m
+  unfolding modelM validate
   model-agrees =
       let es = sc .entities in
       rw (title-agrees, limits-agree, start-agrees) (
       ahead m 1 (bad-title sc) _ _ λ a.
-      ap (λ (b : Bool). outcome m (if b then checked.Refused 2 else if bad-limits (sc .limits) then checked.Refused 3 else if bad-start (m .start) then checked.Refused 3 else if alphabet-bad s nn (i .gaps .starts) then checked.Refused 4 else sectionsC dd nn (i .events .starts) (i .invariants .starts) (i .alphabet .starts) (i .rules .starts) s 0 0)) size-agrees
+      ap (λ (b : Bool). outcome m (if b then checked.Refused 2 else if bad-limits (sc .limits) then checked.Refused 3 else if bad-start (m .start) then checked.Refused 3 else if alphabet-bad s nn (i .gaps .starts) then checked.Refused 4 else sectionsM dd nn (i .events .starts) (i .invariants .starts) (i .alphabet .starts) (i .rules .starts) s 0 0)) size-agrees
       ∙ (ahead m 2 (bad-size m) _ _ λ b.
       ap (outcome m) (or-if (bad-limits (sc .limits)) (bad-start (m .start)) _ _) ∙ (
       ahead m 3 (bad-limits (sc .limits) || bad-start (m .start)) _ _ λ c.
-      ap (λ (b : Bool). outcome m (if b then checked.Refused 4 else sectionsC dd nn (i .events .starts) (i .invariants .starts) (i .alphabet .starts) (i .rules .starts) s 0 0)) alphabet-agrees
+      ap (λ (b : Bool). outcome m (if b then checked.Refused 4 else sectionsM dd nn (i .events .starts) (i .invariants .starts) (i .alphabet .starts) (i .rules .starts) s 0 0)) alphabet-agrees
       ∙ (ahead m 4 (bad-alphabet sc) _ _ λ d.
       ap (outcome m) (sections-agree (laws.small s (i .entities .count) nn (i .gaps .starts) (sized ∙ b) (alphabet-agrees ∙ d)))
       ∙ outcome-after m _
@@ -241,8 +241,8 @@ module _ (s : List ℕ) (file : File) where
   read-or-not : {k : ℕ} → file .status ≡ status.Read → file .status ≡ status.Refused k → ⊥
   read-or-not a b = let z : _≡_ {A = ℕ} 0 1 = cc in omega arith
 
-  refused-status : (k : ℕ) → file ≡ refusedW k → file .status ≡ status.Refused k
-  unfolding refusedW
+  refused-status : (k : ℕ) → file ≡ refusedM k → file .status ≡ status.Refused k
+  unfolding refusedM
   refused-status k e = ap (λ (f : File). f .status) e
 
   pub stays-refused : Says s file (decode s) → {k : ℕ} → file .status ≡ status.Refused k → Says s file (accepted s)
@@ -253,7 +253,7 @@ module _ (s : List ℕ) (file : File) where
       cases (answer m) h = absurd (read-or-not (h .is-read) e)
       cases (refused k) h = h
 
-  module _ (r : file .status ≡ status.Read) {x : Checked} (e : x ≡ indexC (file .index) s) where
+  module _ (r : file .status ≡ status.Read) {x : Checked} (e : x ≡ indexM (file .index) s) where
     -- what the check says of the model that was read
     verdict : (m : Model) → Indexed s (file .index) m → outcome m x ≡ validate m
     verdict m i = ap (outcome m) e ∙ model-agrees s (file .index) m i
@@ -266,7 +266,7 @@ module _ (s : List ℕ) (file : File) where
         cases (answer m) y = subst (Says s file) (sym (ap (outcome m) h) ∙ verdict m (y .indexed)) y
         cases (refused k) y = absurd (read-or-not r (refused-status k y))
 
-    pub is-refused : Says s file (decode s) → {k : ℕ} → x ≡ checked.Refused k → {f : File} → f ≡ refusedW k → Says s f (accepted s)
+    pub is-refused : Says s file (decode s) → {k : ℕ} → x ≡ checked.Refused k → {f : File} → f ≡ refusedM k → Says s f (accepted s)
     unfolding accepted _>>=_ outcome
     is-refused says {k} h {f} o = cases (decode s) says
       where
@@ -317,7 +317,7 @@ module _ (o : Outline) (t e v i a g r : List ℕ) where
   is-read h = ap (λ (f : File). f .status) (index.file-read o t e v i a g r h)
 
   pub is-refusal : {k : ℕ} → o .status ≡ status.Refused k → file-of o t e v i a g r .status ≡ status.Refused k
-  unfolding refusedW
+  unfolding refusedM
   is-refusal h = ap (λ (f : File). f .status) (index.file-refused o t e v i a g r h)
 
   module _ (s : List ℕ) (says : Says s (file-of o t e v i a g r) (decode s)) where
@@ -325,19 +325,19 @@ module _ (o : Outline) (t e v i a g r : List ℕ) where
     outline-refused h = stays-refused s (file-of o t e v i a g r) says (is-refusal h)
 
     module _ (h : o .status ≡ status.Read) {d : Declared} {x : Checked}
-        (c : x ≡ modelC (declaration d e) (numbers-of (index-of (o .front) t e v i (section (o .alphabet) a) (section (o .gaps) g) (o .limits) (section (o .rules) r))) v i a g r s)
+        (c : x ≡ modelM (declaration d e) (numbers-of (index-of (o .front) t e v i (section (o .alphabet) a) (section (o .gaps) g) (o .limits) (section (o .rules) r))) v i a g r s)
         (f : d ≡ declared-in s (o .front .texts .count) (o .front .entities .count)) where
       abbrev ii : Index
       ii = index-of (o .front) t e v i (section (o .alphabet) a) (section (o .gaps) g) (o .limits) (section (o .rules) r)
 
-      read-says : Says s (wholeW ii) (decode s)
+      read-says : Says s (wholeM ii) (decode s)
       read-says = subst (λ (y : File). Says s y (decode s)) (index.file-read o t e v i a g r h) says
 
       pub outline-accepted : {p n : ℕ} → x ≡ checked.To p n → Says s (file-of o t e v i a g r) (accepted s)
-      outline-accepted k = subst (λ (y : File). Says s y (accepted s)) (sym (index.file-read o t e v i a g r h)) (is-accepted s (wholeW ii) refl (laws.model-with s ii c f) read-says k)
+      outline-accepted k = subst (λ (y : File). Says s y (accepted s)) (sym (index.file-read o t e v i a g r h)) (is-accepted s (wholeM ii) refl (laws.model-with s ii c f) read-says k)
 
-      pub outline-checked : {k : ℕ} → x ≡ checked.Refused k → (u : Outline) → u ≡ refusalW k → Says s (file-of u t e v i a g r) (accepted s)
-      outline-checked k u m = is-refused s (wholeW ii) refl (laws.model-with s ii c f) read-says k (index.file-refusal u t e v i a g r m)
+      pub outline-checked : {k : ℕ} → x ≡ checked.Refused k → (u : Outline) → u ≡ refusalM k → Says s (file-of u t e v i a g r) (accepted s)
+      outline-checked k u m = is-refused s (wholeM ii) refl (laws.model-with s ii c f) read-says k (index.file-refusal u t e v i a g r m)
 
 pub file-says : (s : List ℕ) {f x : File} → f ≡ x → Says s x (accepted s) → Says s f (accepted s)
 file-says s e h = subst (λ (y : File). Says s y (accepted s)) (sym e) h

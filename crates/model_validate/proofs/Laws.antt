@@ -11,9 +11,9 @@ use borrow.Author.Tests.{lt-ltb, le-ltb, le-leb, lt-leb, eq-eqb, ne-eqb, ltb-fal
 use Rattle.texts.specs.Texts.{text}
 use Rattle.texts.specs.Places.{textAt, startFrom}
 use Rattle.texts.proofs.Ordering.{not-both}
-use Rattle.model.specs.Model.{Limits, Moment, midnight}
-use Rattle.model.specs.File.{got, broken, give, u16, u32, or-zeros, start, limits}
-use Rattle.model.specs.Validate.{bad-limits, bad-start}
+use Rattle.model_spec.specs.Model.{Limits, Moment, midnight}
+use Rattle.model_spec.specs.File.{got, broken, give, u16, u32, or-zeros, start, limits}
+use Rattle.model_spec.specs.Validate.{bad-limits, bad-start}
 use Rattle.model_walk.specs.declared.Walked.{Walked}
 use Rattle.model_walk.specs.declared.Walked.the-variants as walked
 use Rattle.model_walk.specs.declared.Num.{Num}
@@ -29,8 +29,8 @@ use Rattle.model_check.specs.Checks.{Declaration, declaration, _⨾_}
 use Rattle.model_check.proofs.Laws as checks
 use Rattle.model_validate.specs.declared.Numbers.{Numbers}
 use Rattle.model_sections.specs.declared.Part.the-variants as part
-use Rattle.model_sections.specs.Sections.{seconds-bad, gaps-bad, partsC}
-use Rattle.model_validate.specs.Whole.{title-bad, size-bad, limits-bad, start-bad, alphabet-bad, ordersC, Small, sectionsC, modelC, declared-in, numbers-of, indexC}
+use Rattle.model_sections.specs.Sections.{seconds-bad, gaps-bad, partsM}
+use Rattle.model_validate.specs.Whole.{title-bad, size-bad, limits-bad, start-bad, alphabet-bad, ordersM, Small, sectionsM, modelM, declared-in, numbers-of, indexM}
 
 -- ---- the tests before the sections
 
@@ -214,59 +214,59 @@ module _ (s : List ℕ) (i : Numbers) (gaps : List ℕ) where
 -- ---- the model
 
 module _ (i : Numbers) (events s : List ℕ) (p n : ℕ) {a : Num} (e : found a ≡ u32 s (i .limits)) where
-  pub orders-broken : a ≡ num.Broken → ordersC i events s p n ≡ checked.Refused 30
-  unfolding ordersC
-  orders-broken h = rw (is-broken e h, ordersC)
+  pub orders-broken : a ≡ num.Broken → ordersM i events s p n ≡ checked.Refused 30
+  unfolding ordersM
+  orders-broken h = rw (is-broken e h, ordersM)
 
   module _ {x q : ℕ} (h : a ≡ num.Is x q) where
-    pub orders-9 : seconds-bad x events s (i .events) 0 0 ≡ true → ordersC i events s p n ≡ checked.Refused 9
-    unfolding ordersC
-    orders-9 k = rw (is-got e h, ordersC) (checks.refuse-yes s p n 9 k)
+    pub orders-9 : seconds-bad x events s (i .events) 0 0 ≡ true → ordersM i events s p n ≡ checked.Refused 9
+    unfolding ordersM
+    orders-9 k = rw (is-got e h, ordersM) (checks.refuse-yes s p n 9 k)
 
-    pub orders-right : seconds-bad x events s (i .events) 0 0 ≡ false → ordersC i events s p n ≡ checked.To p n
-    unfolding ordersC
-    orders-right k = rw (is-got e h, ordersC) (checks.refuse-no s p n 9 k)
+    pub orders-right : seconds-bad x events s (i .events) 0 0 ≡ false → ordersM i events s p n ≡ checked.To p n
+    unfolding ordersM
+    orders-right k = rw (is-got e h, ordersM) (checks.refuse-no s p n 9 k)
 
-pub sections-are : (d : Declaration) (i : Numbers) (events invariants alphabet rules s : List ℕ) (p n : ℕ) → sectionsC d i events invariants alphabet rules s p n ≡ (
-    (λ s p n. partsC d part.Entity (d .starts) (d .count) 0 s n)
-    ⨾ (λ s p n. partsC d part.Event events (i .events) 0 s n)
-    ⨾ (λ s p n. partsC d part.Input alphabet (i .alphabet) 0 s n)
-    ⨾ ordersC i events
-    ⨾ (λ s p n. partsC d part.Invariant invariants (i .invariants) 0 s n)
-    ⨾ (λ s p n. partsC d part.Rule rules (i .rules) 0 s n)) s p n
-unfolding sectionsC
+pub sections-are : (d : Declaration) (i : Numbers) (events invariants alphabet rules s : List ℕ) (p n : ℕ) → sectionsM d i events invariants alphabet rules s p n ≡ (
+    (λ s p n. partsM d part.Entity (d .starts) (d .count) 0 s n)
+    ⨾ (λ s p n. partsM d part.Event events (i .events) 0 s n)
+    ⨾ (λ s p n. partsM d part.Input alphabet (i .alphabet) 0 s n)
+    ⨾ ordersM i events
+    ⨾ (λ s p n. partsM d part.Invariant invariants (i .invariants) 0 s n)
+    ⨾ (λ s p n. partsM d part.Rule rules (i .rules) 0 s n)) s p n
+unfolding sectionsM
 sections-are d i events invariants alphabet rules s p n = refl
 
 module _ (d : Declaration) (i : Numbers) (events invariants alphabet gaps rules s : List ℕ) where
-  pub model-1 : title-bad s i ≡ true → modelC d i events invariants alphabet gaps rules s ≡ checked.Refused 1
-  unfolding modelC
+  pub model-1 : title-bad s i ≡ true → modelM d i events invariants alphabet gaps rules s ≡ checked.Refused 1
+  unfolding modelM
   model-1 h = rw h
 
   module _ (a : title-bad s i ≡ false) where
-    pub model-2 : size-bad (d .count) i ≡ true → modelC d i events invariants alphabet gaps rules s ≡ checked.Refused 2
-    unfolding modelC
+    pub model-2 : size-bad (d .count) i ≡ true → modelM d i events invariants alphabet gaps rules s ≡ checked.Refused 2
+    unfolding modelM
     model-2 h = rw (a, h)
 
     module _ (b : size-bad (d .count) i ≡ false) where
-      pub model-3 : limits-bad s (i .limits) ≡ true → modelC d i events invariants alphabet gaps rules s ≡ checked.Refused 3
-      unfolding modelC
+      pub model-3 : limits-bad s (i .limits) ≡ true → modelM d i events invariants alphabet gaps rules s ≡ checked.Refused 3
+      unfolding modelM
       model-3 h = rw (a, b, h)
 
       module _ (c : limits-bad s (i .limits) ≡ false) where
         pub model-start : start-bad s (i .behind) ≡ true →
-            modelC d i events invariants alphabet gaps rules s ≡ checked.Refused 3
-        unfolding modelC
+            modelM d i events invariants alphabet gaps rules s ≡ checked.Refused 3
+        unfolding modelM
         model-start h = rw (a, b, c, h)
 
         module _ (e : start-bad s (i .behind) ≡ false) where
           pub model-4 : alphabet-bad s i gaps ≡ true →
-              modelC d i events invariants alphabet gaps rules s ≡ checked.Refused 4
-          unfolding modelC
+              modelM d i events invariants alphabet gaps rules s ≡ checked.Refused 4
+          unfolding modelM
           model-4 h = rw (a, b, c, e, h)
 
           pub model-is : alphabet-bad s i gaps ≡ false →
-              modelC d i events invariants alphabet gaps rules s ≡ sectionsC d i events invariants alphabet rules s 0 0
-          unfolding modelC
+              modelM d i events invariants alphabet gaps rules s ≡ sectionsM d i events invariants alphabet rules s 0 0
+          unfolding modelM
           model-is h = rw (a, b, c, e, h)
 
 pub declared-is : (s : List ℕ) (t n : ℕ) {a b c e : ℕ} →
@@ -308,6 +308,6 @@ unfolding declared-in
 declared-count s t n = refl
 
 pub model-with : (s : List ℕ) (i : Index) {d : Declared} {x : Checked} →
-    x ≡ modelC (declaration d (i .entities .starts)) (numbers-of i) (i .events .starts) (i .invariants .starts) (i .alphabet .starts) (i .gaps .starts) (i .rules .starts) s →
-    d ≡ declared-in s (i .texts .count) (i .entities .count) → x ≡ indexC i s
-model-with s i e f = e ∙ ap (λ (d : Declared). modelC (declaration d (i .entities .starts)) (numbers-of i) (i .events .starts) (i .invariants .starts) (i .alphabet .starts) (i .gaps .starts) (i .rules .starts) s) f
+    x ≡ modelM (declaration d (i .entities .starts)) (numbers-of i) (i .events .starts) (i .invariants .starts) (i .alphabet .starts) (i .gaps .starts) (i .rules .starts) s →
+    d ≡ declared-in s (i .texts .count) (i .entities .count) → x ≡ indexM i s
+model-with s i e f = e ∙ ap (λ (d : Declared). modelM (declaration d (i .entities .starts)) (numbers-of i) (i .events .starts) (i .invariants .starts) (i .alphabet .starts) (i .gaps .starts) (i .rules .starts) s) f

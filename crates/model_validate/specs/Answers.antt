@@ -1,9 +1,9 @@
--- What the entries of this crate answer, by the definitions of crate `model`.
+-- What the entries of this crate answer, by the definitions of crate `model_spec`.
 use Prim.Native.Nat.{ℕ}
 use mathlib.Core.List.{List}
-use Rattle.model.specs.Answer.{Answer, answer, refused}
-use Rattle.model.specs.Model.{Model}
-use Rattle.model.specs.Validate.{accepted}
+use Rattle.model_spec.specs.Answer.{Answer, answer, refused}
+use Rattle.model_spec.specs.Model.{Model}
+use Rattle.model_spec.specs.Validate.{accepted}
 use Rattle.model_validate.specs.declared.Validity.{Validity}
 use Rattle.model_validate.specs.declared.Validity.the-variants as validity
 

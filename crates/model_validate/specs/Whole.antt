@@ -7,9 +7,9 @@ use lib.Dec.{ltb, eqb}
 use lib.ListN.{length}
 use Rattle.texts.specs.Lists.{if_then_else_}
 use Rattle.texts.specs.Texts.{text}
-use Rattle.model.specs.Model.{midnight}
-use Rattle.model.specs.File.{got, broken, u16, u32, or-zeros, start, limits}
-use Rattle.model.specs.Validate.{bad-limits, bad-start}
+use Rattle.model_spec.specs.Model.{midnight}
+use Rattle.model_spec.specs.File.{got, broken, u16, u32, or-zeros, start, limits}
+use Rattle.model_spec.specs.Validate.{bad-limits, bad-start}
 use Rattle.model_walk.specs.declared.Walked.{Walked}
 use Rattle.model_walk.specs.declared.Walked.the-variants as walked
 use Rattle.model_order.specs.Order.{place-from}
@@ -20,7 +20,7 @@ use Rattle.model_check.specs.declared.Declared.{Declared}
 use Rattle.model_check.specs.Checks.{Declaration, declaration, Check, _⨾_, refuse-if}
 use Rattle.model_validate.specs.declared.Numbers.{Numbers}
 use Rattle.model_sections.specs.declared.Part.the-variants as part
-use Rattle.model_sections.specs.Sections.{text-of, seconds-bad, gaps-bad, sectionC}
+use Rattle.model_sections.specs.Sections.{text-of, seconds-bad, gaps-bad, sectionM}
 
 -- ---- the tests before the sections
 
@@ -45,8 +45,8 @@ unfoldable pub alphabet-bad : List ℕ → Numbers → (gaps : List ℕ) → Boo
 alphabet-bad s i gaps = ltb 12 (i .alphabet) || eqb (i .gaps) 0 || ltb 4 (i .gaps) || gaps-bad gaps s (i .gaps) 0
 
 -- 9
-unfoldable pub ordersC : Numbers → (events : List ℕ) → Check
-ordersC i events s p n = elim (u32 s (i .limits)) [
+unfoldable pub ordersM : Numbers → (events : List ℕ) → Check
+ordersM i events s p n = elim (u32 s (i .limits)) [
   | got h q ↦ refuse-if 9 (seconds-bad h events s (i .events) 0 0) s p n
   | broken ↦ checked.Refused 30
 ]
@@ -59,24 +59,24 @@ pub record Small (count : ℕ) (i : Numbers) : Type 0 where
   pub invariants : i .invariants ≤ 100
   pub rules : i .rules ≤ 100
 
-unfoldable pub sectionsC : Declaration → Numbers → (events invariants alphabet rules : List ℕ) → Check
-sectionsC d i events invariants alphabet rules =
-    sectionC d part.Entity (d .count) (d .starts)
-    ⨾ sectionC d part.Event (i .events) events
-    ⨾ sectionC d part.Input (i .alphabet) alphabet
-    ⨾ ordersC i events
-    ⨾ sectionC d part.Invariant (i .invariants) invariants
-    ⨾ sectionC d part.Rule (i .rules) rules
+unfoldable pub sectionsM : Declaration → Numbers → (events invariants alphabet rules : List ℕ) → Check
+sectionsM d i events invariants alphabet rules =
+    sectionM d part.Entity (d .count) (d .starts)
+    ⨾ sectionM d part.Event (i .events) events
+    ⨾ sectionM d part.Input (i .alphabet) alphabet
+    ⨾ ordersM i events
+    ⨾ sectionM d part.Invariant (i .invariants) invariants
+    ⨾ sectionM d part.Rule (i .rules) rules
 
 -- all of it, in the order of `validate`
-unfoldable pub modelC : Declaration → Numbers → (events invariants alphabet gaps rules : List ℕ) → List ℕ → Checked
-modelC d i events invariants alphabet gaps rules s =
+unfoldable pub modelM : Declaration → Numbers → (events invariants alphabet gaps rules : List ℕ) → List ℕ → Checked
+modelM d i events invariants alphabet gaps rules s =
     if title-bad s i then checked.Refused 1
     else if size-bad (d .count) i then checked.Refused 2
     else if limits-bad s (i .limits) then checked.Refused 3
     else if start-bad s (i .behind) then checked.Refused 3
     else if alphabet-bad s i gaps then checked.Refused 4
-    else sectionsC d i events invariants alphabet rules s 0 0
+    else sectionsM d i events invariants alphabet rules s 0 0
 
 -- ---- the index
 
@@ -107,5 +107,5 @@ numbers-of i = record {
 }
 
 -- the check of the model that the index finds
-abbrev pub indexC : Index → List ℕ → Checked
-indexC i s = modelC (declared-of s i) (numbers-of i) (i .events .starts) (i .invariants .starts) (i .alphabet .starts) (i .gaps .starts) (i .rules .starts) s
+abbrev pub indexM : Index → List ℕ → Checked
+indexM i s = modelM (declared-of s i) (numbers-of i) (i .events .starts) (i .invariants .starts) (i .alphabet .starts) (i .gaps .starts) (i .rules .starts) s

@@ -9,12 +9,12 @@ use model_walk::Num;
 use model_walk::Walked;
 ghost use mathlib.Core.Path.{_≡_};
 ghost use Prim.Native.Nat.{_≤_};
-ghost use Rattle.model.specs.Validate.{accepted, bad-limits};
+ghost use Rattle.model_spec.specs.Validate.{accepted, bad-limits};
 ghost use Rattle.model_parts.specs.Parts.{none};
 ghost use Rattle.model_index.specs.Index.{file-of, Zeros};
 ghost use Rattle.model_index.specs.Indexed.{Says};
 ghost use Rattle.model_check.specs.Checks.{declaration};
-ghost use Rattle.model_validate.specs.Whole.{title-bad, size-bad, limits-bad, start-bad, alphabet-bad, ordersC, Small, sectionsC, modelC, declared-in};
+ghost use Rattle.model_validate.specs.Whole.{title-bad, size-bad, limits-bad, start-bad, alphabet-bad, ordersM, Small, sectionsM, modelM, declared-in};
 ghost use Rattle.model_validate.specs.Answers.{validated};
 
 // lib.rs: the version of the model file.
@@ -160,7 +160,7 @@ fn alphabet_bad(s: &[u8], numbers: Numbers, gaps: &[usize; 100]) -> bool
 
 fn orders_check(s: &[u8], numbers: Numbers, events: &[usize; 100], at: usize, n: u32) -> Checked
     requires { ⌜ numbers .events ≤ 100 ⌝ }
-    ensures { λ r. ⌜ r ≡ ordersC numbers (now (events .entry)) (now (s .entry)) at n ⌝ }
+    ensures { λ r. ⌜ r ≡ ordersM numbers (now (events .entry)) (now (s .entry)) at n ⌝ }
 {
     let x = model_walk::u32_at(s, numbers.limits);
     let Num::Is(horizon, _) = x else {
@@ -184,7 +184,7 @@ fn sections_check(
     rules: &[usize; 100],
 ) -> Checked
     requires { ⌜ Small (d .count) numbers ⌝ }
-    ensures { λ r. ⌜ r ≡ sectionsC (declaration d (now (entities .entry))) numbers (now (events .entry)) (now (invariants .entry)) (now (alphabet .entry)) (now (rules .entry)) (now (s .entry)) 0 0 ⌝ }
+    ensures { λ r. ⌜ r ≡ sectionsM (declaration d (now (entities .entry))) numbers (now (events .entry)) (now (invariants .entry)) (now (alphabet .entry)) (now (rules .entry)) (now (s .entry)) 0 0 ⌝ }
 {
     let a = model_sections::section_check(s, d, entities, Part::Entity, entities, d.count, 0);
     let Checked::To(p0, n0) = a else {
@@ -223,7 +223,7 @@ fn whole_check(
     gaps: &[usize; 100],
     rules: &[usize; 100],
 ) -> Checked
-    ensures { λ r. ⌜ r ≡ modelC (declaration d (now (entities .entry))) numbers (now (events .entry)) (now (invariants .entry)) (now (alphabet .entry)) (now (gaps .entry)) (now (rules .entry)) (now (s .entry)) ⌝ }
+    ensures { λ r. ⌜ r ≡ modelM (declaration d (now (entities .entry))) numbers (now (events .entry)) (now (invariants .entry)) (now (alphabet .entry)) (now (gaps .entry)) (now (rules .entry)) (now (s .entry)) ⌝ }
 {
     if title_bad(s, numbers) {
         return Checked::Refused(1);

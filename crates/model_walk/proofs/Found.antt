@@ -11,10 +11,10 @@ use lib.Dec.{ltb, eqb}
 use borrow.Author.Tests.{ltb-true, eqb-true, eqb-false}
 use Rattle.texts.specs.Lists.{if_then_else_}
 use Rattle.texts.specs.Texts.{Text}
-use Rattle.model.specs.Model.{Source, Predicate, state, window, Trigger, Entity}
-use Rattle.model.specs.File.{Got, got, broken, Reader, _>>=_, give, refuse, require, u8, u16, u32, times, counted, kinds, number?, source, tier, place, place?, predicate, trigger, entity}
+use Rattle.model_spec.specs.Model.{Source, Predicate, state, window, Trigger, Entity}
+use Rattle.model_spec.specs.File.{Got, got, broken, Reader, _>>=_, give, refuse, require, u8, u16, u32, times, counted, kinds, number?, source, tier, place, place?, predicate, trigger, entity}
 use Rattle.model_walk.specs.declared.Walked.the-variants as walked
-use Rattle.model_walk.specs.Walk.{seen, capped, predicate-size, kindW, by, staying, stay, stop}
+use Rattle.model_walk.specs.Walk.{seen, capped, predicate-size, kindM, by, staying, stay, stop}
 use Rattle.model_walk.proofs.Sees.{Sees, quiet, sees-tier}
 use Rattle.model_walk.proofs.Laws.{bind-got, bind-broken, u8-in, u8-out, u16-in, u16-out, u32-in, u32-out}
 
@@ -124,11 +124,11 @@ unfolding kinds
 kind-found rs e = let b = bound u8 (λ k. getD rs k refuse) e in record { kind = b .value; next = b .next; is-kind = b .first; holds = b .rest }
 
 -- a kind that holds nothing
-pub kind-wide : {A : Type 0} (limit : ℕ) (r : Reader A) → Sees quiet r (kindW limit) → {s : List ℕ} {p : ℕ} {a : A} {q : ℕ} → r s p ≡ got a q → Wide 1 s p q
+pub kind-wide : {A : Type 0} (limit : ℕ) (r : Reader A) → Sees quiet r (kindM limit) → {s : List ℕ} {p : ℕ} {a : A} {q : ℕ} → r s p ≡ got a q → Wide 1 s p q
 unfolding seen by staying stay stop capped
 kind-wide limit r f {s} {p} {a} {q} e = cases (u8 s p) refl
   where
-    told : kindW limit s p 0 ≡ walked.To q 0
+    told : kindM limit s p 0 ≡ walked.To q 0
     told = f 0 s p ∙ ap (seen quiet 0) e
 
     ended : (x o : ℕ) (b : Bool) → (if b then stay else stop) s o 0 ≡ walked.To q 0 → o ≡ q

@@ -10,12 +10,12 @@ use lib.ListN.{length, getD}
 use lib.Dec.{eqb}
 use borrow.Author.Tests.{lt-ltb, le-ltb, le-leb, lt-leb, ne-eqb}
 use Rattle.texts.specs.Lists.{if_then_else_}
-use Rattle.model.specs.File.{Got, got, broken, Reader, _>>=_, give, u8, u16, u32}
+use Rattle.model_spec.specs.File.{Got, got, broken, Reader, _>>=_, give, u8, u16, u32}
 use Rattle.model_walk.specs.declared.Num.{Num}
 use Rattle.model_walk.specs.declared.Num.the-variants as num
 use Rattle.model_walk.specs.declared.Walked.{Walked}
 use Rattle.model_walk.specs.declared.Walked.the-variants as walked
-use Rattle.model_walk.specs.Walk.{found, capped, Walk, and-then, _⨾_, by, stop, stay, noted, staying, bytesW, or-zerosW, timesW, kindW, placeW, place?W, note?W, noteW, predicate-size, predicateW, triggerW, pieceW, simpleW, actionsW, actionW, countedW}
+use Rattle.model_walk.specs.Walk.{found, capped, Walk, and-then, _⨾_, by, stop, stay, noted, staying, bytesM, or-zerosM, timesM, kindM, placeM, place?M, note?M, noteM, predicate-size, predicateM, triggerM, pieceM, simpleM, actionsM, actionM, countedM}
 use Rattle.model_walk.specs.declared.Piece.{Piece}
 use Rattle.model_walk.specs.declared.Piece.the-variants as piece
 
@@ -138,21 +138,21 @@ module _ (s : List ℕ) (p n : ℕ) where
   unfolding staying stop
   stop-if h = rw h
 
-  pub bytes-in : (w : ℕ) → p + w ≤ length s → bytesW w s p n ≡ walked.To (p + w) n
-  unfolding bytesW
+  pub bytes-in : (w : ℕ) → p + w ≤ length s → bytesM w s p n ≡ walked.To (p + w) n
+  unfolding bytesM
   bytes-in w h = rw (le-leb (p + w) (length s) h)
 
-  pub bytes-out : (w : ℕ) → length s < p + w → bytesW w s p n ≡ walked.Broken
-  unfolding bytesW
+  pub bytes-out : (w : ℕ) → length s < p + w → bytesM w s p n ≡ walked.Broken
+  unfolding bytesM
   bytes-out w h = rw (lt-leb (p + w) (length s) h)
 
 module _ (s : List ℕ) (p n : ℕ) (k : Walk) where
-  pub zeros-before : p < length s → or-zerosW k s p n ≡ k s p n
-  unfolding or-zerosW
+  pub zeros-before : p < length s → or-zerosM k s p n ≡ k s p n
+  unfolding or-zerosM
   zeros-before h = rw (lt-ltb p (length s) h)
 
-  pub zeros-at-end : length s ≤ p → or-zerosW k s p n ≡ walked.To p n
-  unfolding or-zerosW
+  pub zeros-at-end : length s ≤ p → or-zerosM k s p n ≡ walked.To p n
+  unfolding or-zerosM
   zeros-at-end h = rw (le-ltb p (length s) h)
 
 pub to-same : {p n m : ℕ} → m ≡ n → walked.To p n ≡ walked.To p m
@@ -191,9 +191,9 @@ size-some w k e = cases (eqb k 0) (eqb k 1) e
     cases false false h = omega (arith, h)
 
 -- a window's bytes behind its kind
-pub window-bytes : (w k : ℕ) (s : List ℕ) (p n : ℕ) → w ≡ predicate-size k → k ≡ 2 → bytesW (w - 1) s p n ≡ bytesW 9 s p n
+pub window-bytes : (w k : ℕ) (s : List ℕ) (p n : ℕ) → w ≡ predicate-size k → k ≡ 2 → bytesM (w - 1) s p n ≡ bytesM 9 s p n
 unfolding predicate-size
-window-bytes w k s p n e h = ap (λ (x : ℕ). bytesW (x - 1) s p n) (e ∙ ap predicate-size h)
+window-bytes w k s p n e h = ap (λ (x : ℕ). bytesM (x - 1) s p n) (e ∙ ap predicate-size h)
 
 -- the test of a choice between two walks
 pub yes-walk : {b : Bool} (k l : Walk) (s : List ℕ) (p n : ℕ) → b ≡ true → (if b then k else l) s p n ≡ k s p n
@@ -226,32 +226,32 @@ module _ (s : List ℕ) (p n : ℕ) where
 -- ---- lists
 
 module _ (k : Walk) (s : List ℕ) (p n : ℕ) where
-  pub times-more : (i : ℕ) → 0 < i → timesW i k s p n ≡ (k ⨾ timesW (i - 1) k) s p n
-  unfolding timesW
+  pub times-more : (i : ℕ) → 0 < i → timesM i k s p n ≡ (k ⨾ timesM (i - 1) k) s p n
+  unfolding timesM
   times-more zero h = absurd (omega arith)
   times-more (suc i) h = rw (sub-one (suc i))
 
-  pub times-none : (i : ℕ) → i ≤ 0 → timesW i k s p n ≡ walked.To p n
-  unfolding timesW stay
+  pub times-none : (i : ℕ) → i ≤ 0 → timesM i k s p n ≡ walked.To p n
+  unfolding timesM stay
   times-none zero h = refl
   times-none (suc i) h = absurd (omega arith)
 
-pub times-then : (k l : Walk) (s : List ℕ) (p n : ℕ) (i : ℕ) → 0 < i → (timesW i k ⨾ l) s p n ≡ (k ⨾ (timesW (i - 1) k ⨾ l)) s p n
-unfolding timesW
+pub times-then : (k l : Walk) (s : List ℕ) (p n : ℕ) (i : ℕ) → 0 < i → (timesM i k ⨾ l) s p n ≡ (k ⨾ (timesM (i - 1) k ⨾ l)) s p n
+unfolding timesM
 times-then k l s p n zero h = absurd (omega arith)
-times-then k l s p n (suc i) h = rw (sub-one (suc i)) (assoc s p n k (timesW i k) l)
+times-then k l s p n (suc i) h = rw (sub-one (suc i)) (assoc s p n k (timesM i k) l)
 
-pub none-then : (k l : Walk) (s : List ℕ) (p n : ℕ) (i : ℕ) → i ≤ 0 → (timesW i k ⨾ l) s p n ≡ l s p n
-unfolding timesW _⨾_ stay and-then
+pub none-then : (k l : Walk) (s : List ℕ) (p n : ℕ) (i : ℕ) → i ≤ 0 → (timesM i k ⨾ l) s p n ≡ l s p n
+unfolding timesM _⨾_ stay and-then
 none-then k l s p n zero h = refl
 none-then k l s p n (suc i) h = absurd (omega arith)
 
-pub actions-none : (ts : ℕ) (s : List ℕ) (p n : ℕ) → actionsW ts 0 s p n ≡ walked.Broken
-unfolding actionsW stop
+pub actions-none : (ts : ℕ) (s : List ℕ) (p n : ℕ) → actionsM ts 0 s p n ≡ walked.Broken
+unfolding actionsM stop
 actions-none ts s p n = refl
 
-pub actions-more : (ts left : ℕ) (s : List ℕ) (p n : ℕ) → (left ≡ 0 → ⊥) → actionsW ts left s p n ≡ countedW (actionW ts (actionsW ts (left - 1))) s p n
-unfolding actionsW
+pub actions-more : (ts left : ℕ) (s : List ℕ) (p n : ℕ) → (left ≡ 0 → ⊥) → actionsM ts left s p n ≡ countedM (actionM ts (actionsM ts (left - 1))) s p n
+unfolding actionsM
 actions-more ts zero s p n h = absurd (h refl)
 actions-more ts (suc left) s p n h = rw (sub-one (suc left))
 
@@ -266,59 +266,59 @@ capped-high n h = yes-if _ _ (lt-ltb 64 (n + 1) (omega arith))
 -- ---- what the shut walks are
 
 module _ (ts : ℕ) (s : List ℕ) (p n : ℕ) where
-  pub trigger-is : triggerW ts s p n ≡ (placeW ts ⨾ place?W ts ⨾ place?W ts ⨾ bytesW 8 ⨾ note?W ts) s p n
-  unfolding triggerW
+  pub trigger-is : triggerM ts s p n ≡ (placeM ts ⨾ place?M ts ⨾ place?M ts ⨾ bytesM 8 ⨾ note?M ts) s p n
+  unfolding triggerM
   trigger-is = refl
 
-  pub predicate-is : predicateW ts s p n ≡ by u8 (λ k. if eqb k 0 then placeW ts ⨾ placeW ts else if eqb k 1 then noteW ts
-      else if eqb k 2 then bytesW 9 else stop) s p n
-  unfolding predicateW
+  pub predicate-is : predicateM ts s p n ≡ by u8 (λ k. if eqb k 0 then placeM ts ⨾ placeM ts else if eqb k 1 then noteM ts
+      else if eqb k 2 then bytesM 9 else stop) s p n
+  unfolding predicateM
   predicate-is = refl
 
   -- an effect's kind
   module _ {k : ℕ} where
-    pub simple-0 : k ≡ 0 → simpleW ts k s p n ≡ (placeW ts ⨾ placeW ts) s p n
-    unfolding simpleW
+    pub simple-0 : k ≡ 0 → simpleM ts k s p n ≡ (placeM ts ⨾ placeM ts) s p n
+    unfolding simpleM
     simple-0 e = rw e
 
-    pub simple-1 : k ≡ 1 → simpleW ts k s p n ≡ placeW ts s p n
-    unfolding simpleW
+    pub simple-1 : k ≡ 1 → simpleM ts k s p n ≡ placeM ts s p n
+    unfolding simpleM
     simple-1 e = rw e
 
-    pub simple-2 : k ≡ 2 → simpleW ts k s p n ≡ bytesW 4 s p n
-    unfolding simpleW
+    pub simple-2 : k ≡ 2 → simpleM ts k s p n ≡ bytesM 4 s p n
+    unfolding simpleM
     simple-2 e = rw e
 
-    pub simple-3 : k ≡ 3 → simpleW ts k s p n ≡ predicateW ts s p n
-    unfolding simpleW
+    pub simple-3 : k ≡ 3 → simpleM ts k s p n ≡ predicateM ts s p n
+    unfolding simpleM
     simple-3 e = rw e
 
-    pub simple-5 : k ≡ 5 → simpleW ts k s p n ≡ (triggerW ts ⨾ bytesW 4 ⨾ kindW 2) s p n
-    unfolding simpleW
+    pub simple-5 : k ≡ 5 → simpleM ts k s p n ≡ (triggerM ts ⨾ bytesM 4 ⨾ kindM 2) s p n
+    unfolding simpleM
     simple-5 e = rw e
 
-    pub simple-6 : k ≡ 6 → simpleW ts k s p n ≡ noteW ts s p n
-    unfolding simpleW
+    pub simple-6 : k ≡ 6 → simpleM ts k s p n ≡ noteM ts s p n
+    unfolding simpleM
     simple-6 e = rw e
 
-    pub simple-else : (k ≡ 0 → ⊥) → (k ≡ 1 → ⊥) → (k ≡ 2 → ⊥) → (k ≡ 3 → ⊥) → (k ≡ 5 → ⊥) → (k ≡ 6 → ⊥) → simpleW ts k s p n ≡ walked.Broken
-    unfolding simpleW stop
+    pub simple-else : (k ≡ 0 → ⊥) → (k ≡ 1 → ⊥) → (k ≡ 2 → ⊥) → (k ≡ 3 → ⊥) → (k ≡ 5 → ⊥) → (k ≡ 6 → ⊥) → simpleM ts k s p n ≡ walked.Broken
+    unfolding simpleM stop
     simple-else a b c d e f = rw (ne-eqb _ _ a, ne-eqb _ _ b, ne-eqb _ _ c, ne-eqb _ _ d, ne-eqb _ _ e, ne-eqb _ _ f)
 
   -- a piece, by its name
   module _ {x : Piece} where
-    pub piece-place : x ≡ piece.Place → pieceW ts x s p n ≡ placeW ts s p n
-    unfolding pieceW
+    pub piece-place : x ≡ piece.Place → pieceM ts x s p n ≡ placeM ts s p n
+    unfolding pieceM
     piece-place e = rw e
 
-    pub piece-note : x ≡ piece.Note → pieceW ts x s p n ≡ noteW ts s p n
-    unfolding pieceW
+    pub piece-note : x ≡ piece.Note → pieceM ts x s p n ≡ noteM ts s p n
+    unfolding pieceM
     piece-note e = rw e
 
-    pub piece-predicate : x ≡ piece.Predicate → pieceW ts x s p n ≡ predicateW ts s p n
-    unfolding pieceW
+    pub piece-predicate : x ≡ piece.Predicate → pieceM ts x s p n ≡ predicateM ts s p n
+    unfolding pieceM
     piece-predicate e = rw e
 
-    pub piece-trigger : x ≡ piece.Trigger → pieceW ts x s p n ≡ triggerW ts s p n
-    unfolding pieceW
+    pub piece-trigger : x ≡ piece.Trigger → pieceM ts x s p n ≡ triggerM ts s p n
+    unfolding pieceM
     piece-trigger e = rw e

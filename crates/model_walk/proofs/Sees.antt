@@ -11,9 +11,9 @@ use lib.Dec.{ltb, eqb}
 use borrow.Author.Tests.{lt-ltb, le-ltb, ne-eqb}
 use Rattle.texts.specs.Lists.{if_then_else_, listed, flat}
 use Rattle.texts.specs.Texts.{Text}
-use Rattle.model.specs.Model.{Source, observational, comfort, property, access-safety, single, queued, parallel, Predicate, state, window, Trigger, Mode, Effect, toggle, delay, condition, choose, wait, Actions, done, act, Branches, no-branch, branch}
-use Rattle.model.specs.Notes.{of-predicate, of-trigger, of-effect, of-actions, of-branches}
-use Rattle.model.specs.File.{
+use Rattle.model_spec.specs.Model.{Source, observational, comfort, property, access-safety, single, queued, parallel, Predicate, state, window, Trigger, Mode, Effect, toggle, delay, condition, choose, wait, Actions, done, act, Branches, no-branch, branch}
+use Rattle.model_spec.specs.Notes.{of-predicate, of-trigger, of-effect, of-actions, of-branches}
+use Rattle.model_spec.specs.File.{
   Got,
   got,
   broken,
@@ -55,23 +55,23 @@ use Rattle.model_walk.specs.Walk.{
   stay,
   noted,
   staying,
-  bytesW,
-  or-zerosW,
-  timesW,
-  countedW,
-  kindW,
-  placeW,
-  place?W,
-  note?W,
-  noteW,
-  predicateW,
-  triggerW,
-  pieceW,
-  simpleW,
-  branchW,
-  choiceW,
-  actionW,
-  actionsW,
+  bytesM,
+  or-zerosM,
+  timesM,
+  countedM,
+  kindM,
+  placeM,
+  place?M,
+  note?M,
+  noteM,
+  predicateM,
+  triggerM,
+  pieceM,
+  simpleM,
+  branchM,
+  choiceM,
+  actionM,
+  actionsM,
 }
 use Rattle.model_walk.proofs.Laws as laws
 
@@ -142,14 +142,14 @@ quiet a = 0
 
 -- ---- numbers
 
-pub sees-u32 : Sees quiet u32 (bytesW 4)
+pub sees-u32 : Sees quiet u32 (bytesM 4)
 unfolding seen
 sees-u32 n s p = elim (decLt (length s) (p + 4)) [
   | yes h ↦ rw (laws.bytes-out s p (capped n) 4 h, laws.u32-out s p h)
   | no h ↦ rw (laws.bytes-in s p (capped n) 4 (omega arith), laws.u32-in s p (omega arith)) (ap (λ x. walked.To (p + 4) (capped x)) (omega arith))
 ]
 
-pub sees-u8 : Sees quiet u8 (bytesW 1)
+pub sees-u8 : Sees quiet u8 (bytesM 1)
 unfolding seen
 sees-u8 n s p = elim (decLt (length s) (p + 1)) [
   | yes h ↦ rw (laws.bytes-out s p (capped n) 1 h, laws.u8-out s p (omega arith))
@@ -158,7 +158,7 @@ sees-u8 n s p = elim (decLt (length s) (p + 1)) [
 ]
 
 -- bytes side by side
-pub bytes-sum : (a b : ℕ) (s : List ℕ) (p n : ℕ) → bytesW (a + b) s p n ≡ (bytesW a ⨾ bytesW b) s p n
+pub bytes-sum : (a b : ℕ) (s : List ℕ) (p n : ℕ) → bytesM (a + b) s p n ≡ (bytesM a ⨾ bytesM b) s p n
 unfolding _⨾_ and-then
 bytes-sum a b s p n = elim (decLt (length s) (p + a)) [
   | yes h ↦ rw (laws.bytes-out s p n a h) (laws.bytes-out s p n (a + b) (omega arith))
@@ -168,14 +168,14 @@ bytes-sum a b s p n = elim (decLt (length s) (p + a)) [
   ])
 ]
 
-pub sees-source : Sees quiet source (bytesW 8)
+pub sees-source : Sees quiet source (bytesM 8)
 unfolding source
-sees-source n s p = bytes-sum 4 4 s p (capped n) ∙ bind quiet n n quiet u32 (bytesW 4) sees-u32 _ _ (λ l. last quiet n (n + 0) quiet u32 (bytesW 4) sees-u32 _ (λ c. omega arith)) s p
+sees-source n s p = bytes-sum 4 4 s p (capped n) ∙ bind quiet n n quiet u32 (bytesM 4) sees-u32 _ _ (λ l. last quiet n (n + 0) quiet u32 (bytesM 4) sees-u32 _ (λ c. omega arith)) s p
 
 -- a group of fields that the file may end before, and of which zeros hold no note
 pub sees-zeros : {A : Type 0} (w : A → ℕ) (z : A) (r : Reader A) (k : Walk) → w z ≡ 0 → Sees w r k
-    → Sees w (or-zeros z r) (or-zerosW k)
-unfolding or-zeros or-zerosW seen
+    → Sees w (or-zeros z r) (or-zerosM k)
+unfolding or-zeros or-zerosM seen
 sees-zeros w z r k h e n s p = cases (ltb p (length s))
   where
     cases : (b : Bool) → (if b then k s p (capped n) else walked.To p (capped n)) ≡ seen w n (if b then r s p else got z p)
@@ -185,18 +185,18 @@ sees-zeros w z r k h e n s p = cases (ltb p (length s))
 -- ---- lists
 
 module _ {A : Type 0} (w : A → ℕ) (v : List A → ℕ) (z : v [] ≡ 0) (c : (x : A) (l : List A) → v (x ∷ l) ≡ w x + v l) (r : Reader A) (k : Walk) (e : Sees w r k) where
-  pub sees-times : (i : ℕ) → Sees v (times i r) (timesW i k)
-  unfolding times timesW
+  pub sees-times : (i : ℕ) → Sees v (times i r) (timesM i k)
+  unfolding times timesM
   sees-times zero n = gives v n n [] (omega (arith, z))
-  sees-times (suc i) n = bind v n n w r k e _ _ (λ x. last v n (n + w x) v (times i r) (timesW i k) (sees-times i) _ (λ l. omega (arith, c x l)))
+  sees-times (suc i) n = bind v n n w r k e _ _ (λ x. last v n (n + w x) v (times i r) (timesM i k) (sees-times i) _ (λ l. omega (arith, c x l)))
 
-  pub sees-counted : Sees v (counted r) (countedW k)
+  pub sees-counted : Sees v (counted r) (countedM k)
   unfolding counted
   sees-counted n = choice v n n u16 _ _ (λ i. sees-times i n)
 
 -- ---- kinds that hold nothing
 
-pub sees-flag : Sees quiet flag (kindW 2)
+pub sees-flag : Sees quiet flag (kindM 2)
 unfolding flag kinds staying
 sees-flag n = choice quiet n n u8 _ _ cases
   where
@@ -205,7 +205,7 @@ sees-flag n = choice quiet n n u8 _ _ cases
     cases (suc zero) = gives quiet n n true (omega arith)
     cases (suc (suc k)) = rw (le-ltb (suc (suc k)) 2 (omega arith)) (refuses quiet n n)
 
-pub sees-tier : Sees quiet tier (kindW 4)
+pub sees-tier : Sees quiet tier (kindM 4)
 unfolding tier kinds staying
 sees-tier n = choice quiet n n u8 _ _ cases
   where
@@ -216,7 +216,7 @@ sees-tier n = choice quiet n n u8 _ _ cases
     cases (suc (suc (suc zero))) = gives quiet n n _ (omega arith)
     cases (suc (suc (suc (suc k)))) = rw (le-ltb (suc (suc (suc (suc k)))) 4 (omega arith)) (refuses quiet n n)
 
-pub sees-mode : Sees quiet mode (kindW 4)
+pub sees-mode : Sees quiet mode (kindM 4)
 unfolding mode kinds staying
 sees-mode n = choice quiet n n u8 _ _ cases
   where
@@ -236,11 +236,11 @@ marks of a = length (of a)
 
 -- ---- parts that name texts
 module _ (ts : List Text) where
-  pub sees-place : Sees quiet (place ts) (placeW (length ts))
+  pub sees-place : Sees quiet (place ts) (placeM (length ts))
   unfolding place
   sees-place n = choice quiet n n u16 _ _ (λ x. requires quiet n n _ _ (omega arith))
 
-  pub sees-place? : Sees quiet (place? ts) (place?W (length ts))
+  pub sees-place? : Sees quiet (place? ts) (place?M (length ts))
   unfolding place?
   sees-place? n = choice quiet n n u16 _ _ (λ x. cases x (eqb x 65535))
     where
@@ -248,7 +248,7 @@ module _ (ts : List Text) where
       cases x true = gives quiet n n _ (omega arith)
       cases x false = requires quiet n n _ _ (omega arith)
 
-  pub sees-note? : Sees (marks listed) (place? ts) (note?W (length ts))
+  pub sees-note? : Sees (marks listed) (place? ts) (note?M (length ts))
   unfolding place? listed require refuse give
   sees-note? n = choice (marks listed) n n u16 _ _ (λ x. cases x (eqb x 65535))
     where
@@ -261,34 +261,34 @@ module _ (ts : List Text) where
       cases x false = inner x (ltb x (length ts))
 
   -- a place whose value is a note
-  pub note-of : {B : Type 0} (w : B → ℕ) (n m : ℕ) (f : Text → B) → ((t : Text) → m + 1 ≡ n + w (f t)) → Runs w n (place ts >>= λ t. give (f t)) m (noteW (length ts))
-  note-of w n m f h = bind w n m quiet (place ts) (placeW (length ts)) sees-place _ _ (λ t. notes w n (m + 0) (f t) (omega (arith, h t)))
+  pub note-of : {B : Type 0} (w : B → ℕ) (n m : ℕ) (f : Text → B) → ((t : Text) → m + 1 ≡ n + w (f t)) → Runs w n (place ts >>= λ t. give (f t)) m (noteM (length ts))
+  note-of w n m f h = bind w n m quiet (place ts) (placeM (length ts)) sees-place _ _ (λ t. notes w n (m + 0) (f t) (omega (arith, h t)))
 
-  pub two-places : {B : Type 0} (w : B → ℕ) (n m : ℕ) (f : Text → Text → B) → ((t u : Text) → m ≡ n + w (f t u)) → Runs w n (place ts >>= λ t. place ts >>= λ u. give (f t u)) m (placeW (length ts) ⨾ placeW (length ts))
-  two-places w n m f h = bind w n m quiet (place ts) (placeW (length ts)) sees-place _ _ (λ t. last w n (m + 0) quiet (place ts) (placeW (length ts)) sees-place (f t) (λ u. omega (arith, h t u)))
+  pub two-places : {B : Type 0} (w : B → ℕ) (n m : ℕ) (f : Text → Text → B) → ((t u : Text) → m ≡ n + w (f t u)) → Runs w n (place ts >>= λ t. place ts >>= λ u. give (f t u)) m (placeM (length ts) ⨾ placeM (length ts))
+  two-places w n m f h = bind w n m quiet (place ts) (placeM (length ts)) sees-place _ _ (λ t. last w n (m + 0) quiet (place ts) (placeM (length ts)) sees-place (f t) (λ u. omega (arith, h t u)))
 
   -- a window's days, start and end
-  window-of : (n : ℕ) → Runs (marks of-predicate) n (u8 >>= λ d. u32 >>= λ b. u32 >>= λ e. give (window d b e)) n (bytesW 9)
+  window-of : (n : ℕ) → Runs (marks of-predicate) n (u8 >>= λ d. u32 >>= λ b. u32 >>= λ e. give (window d b e)) n (bytesM 9)
   unfolding of-predicate
   window-of n s p =
       bytes-sum 1 8 s p (capped n)
-      ∙ bind w n n quiet u8 (bytesW 1) sees-u8 _ (bytesW 8)
+      ∙ bind w n n quiet u8 (bytesM 1) sees-u8 _ (bytesM 8)
       (λ d s p. bytes-sum 4 4 s p (capped (n + 0))
-      ∙ bind w n (n + 0) quiet u32 (bytesW 4) sees-u32 _ (bytesW 4)
-      (λ b. last w n (n + 0 + 0) quiet u32 (bytesW 4) sees-u32 (window d b) (λ e. omega arith)) s p) s p
+      ∙ bind w n (n + 0) quiet u32 (bytesM 4) sees-u32 _ (bytesM 4)
+      (λ b. last w n (n + 0 + 0) quiet u32 (bytesM 4) sees-u32 (window d b) (λ e. omega arith)) s p) s p
     where
       w : Predicate → ℕ
       w = marks of-predicate
 
-  pub sees-predicate : Sees (marks of-predicate) (predicate ts) (predicateW (length ts))
-  unfolding predicate kinds predicateW of-predicate
+  pub sees-predicate : Sees (marks of-predicate) (predicate ts) (predicateM (length ts))
+  unfolding predicate kinds predicateM of-predicate
   sees-predicate n = choice (marks of-predicate) n n u8 _ _ cases
     where
       cases : (k : ℕ) → Runs (marks of-predicate) n (getD ((place ts >>= λ e. place ts >>= λ v. give (state e v))
           ∷ (place ts >>= λ r. give (Predicate.unknown r))
           ∷ (u8 >>= λ d. u32 >>= λ b. u32 >>= λ e. give (window d b e))
-          ∷ []) k refuse) n (if eqb k 0 then placeW (length ts) ⨾ placeW (length ts) else if eqb k 1 then noteW (length ts)
-          else if eqb k 2 then bytesW 9 else stop)
+          ∷ []) k refuse) n (if eqb k 0 then placeM (length ts) ⨾ placeM (length ts) else if eqb k 1 then noteM (length ts)
+          else if eqb k 2 then bytesM 9 else stop)
       cases zero = two-places (marks of-predicate) n n state (λ t u. omega arith)
       cases (suc zero) = note-of (marks of-predicate) n n Predicate.unknown (λ t. omega arith)
       cases (suc (suc zero)) = window-of n
@@ -299,14 +299,14 @@ module _ (ts : List Text) where
             above (suc (suc (suc k))) 2 (omega arith),
           ) (refuses (marks of-predicate) n n)
 
-  pub sees-trigger : Sees (marks of-trigger) (trigger ts) (triggerW (length ts))
-  unfolding trigger triggerW of-trigger
+  pub sees-trigger : Sees (marks of-trigger) (trigger ts) (triggerM (length ts))
+  unfolding trigger triggerM of-trigger
   sees-trigger n =
-      bind w n n quiet (place ts) (placeW c) sees-place _ _ λ e.
-      bind w n (n + 0) quiet (place? ts) (place?W c) sees-place? _ _ λ f.
-      bind w n (n + 0 + 0) quiet (place? ts) (place?W c) sees-place? _ _ λ t.
-      bind w n (n + 0 + 0 + 0) quiet source (bytesW 8) sees-source _ _ λ s.
-      last w n (n + 0 + 0 + 0 + 0) (marks listed) (place? ts) (note?W c) sees-note? _ (λ o. omega arith)
+      bind w n n quiet (place ts) (placeM c) sees-place _ _ λ e.
+      bind w n (n + 0) quiet (place? ts) (place?M c) sees-place? _ _ λ f.
+      bind w n (n + 0 + 0) quiet (place? ts) (place?M c) sees-place? _ _ λ t.
+      bind w n (n + 0 + 0 + 0) quiet source (bytesM 8) sees-source _ _ λ s.
+      last w n (n + 0 + 0 + 0 + 0) (marks listed) (place? ts) (note?M c) sees-note? _ (λ o. omega arith)
     where
       w : Trigger → ℕ
       w = marks of-trigger
@@ -325,8 +325,8 @@ module _ (ts : List Text) where
   unfolding flat
   flat-more x l = length-append (of-predicate x) (flat of-predicate l)
 
-  pub sees-conditions : Sees (marks (flat of-predicate)) (counted (predicate ts)) (countedW (predicateW (length ts)))
-  sees-conditions = sees-counted (marks of-predicate) (marks (flat of-predicate)) flat-nil flat-more (predicate ts) (predicateW (length ts)) sees-predicate
+  pub sees-conditions : Sees (marks (flat of-predicate)) (counted (predicate ts)) (countedM (predicateM (length ts)))
+  sees-conditions = sees-counted (marks of-predicate) (marks (flat of-predicate)) flat-nil flat-more (predicate ts) (predicateM (length ts)) sees-predicate
 
   -- the notes of what holds lists
   in-branch : (ps : List Predicate) (l : Actions) (bs : Branches) → length (of-branches (branch ps l bs)) ≡ length (flat of-predicate ps) + length (of-actions l) + length (of-branches bs)
@@ -345,40 +345,40 @@ module _ (ts : List Text) where
 
   -- a list of lists' reader, and its walk
   module _ (r : Reader Actions) (k : Walk) (inner : Sees (marks of-actions) r k) where
-    sees-branches : (i : ℕ) → Sees (marks of-branches) (branches ts r i) (timesW i (branchW (length ts) k))
-    unfolding branches timesW of-branches pieceW
+    sees-branches : (i : ℕ) → Sees (marks of-branches) (branches ts r i) (timesM i (branchM (length ts) k))
+    unfolding branches timesM of-branches pieceM
     sees-branches zero n s p = gives (marks of-branches) n n no-branch (omega arith) s p
     sees-branches (suc i) n s p =
-        laws.assoc s p (capped n) (countedW (predicateW (length ts))) k (timesW i (branchW (length ts) k))
-        ∙ (bind w n n (marks (flat of-predicate)) (counted (predicate ts)) (countedW (predicateW (length ts))) sees-conditions _ _ λ ps.
+        laws.assoc s p (capped n) (countedM (predicateM (length ts))) k (timesM i (branchM (length ts) k))
+        ∙ (bind w n n (marks (flat of-predicate)) (counted (predicate ts)) (countedM (predicateM (length ts))) sees-conditions _ _ λ ps.
         bind w n (n + length (flat of-predicate ps)) (marks of-actions) r k inner _ _ λ as′.
-        last w n (n + length (flat of-predicate ps) + length (of-actions as′)) w (branches ts r i) (timesW i (branchW (length ts) k)) (sees-branches i) _ (λ bs. omega (arith, in-branch ps as′ bs))) s p
+        last w n (n + length (flat of-predicate ps) + length (of-actions as′)) w (branches ts r i) (timesM i (branchM (length ts) k)) (sees-branches i) _ (λ bs. omega (arith, in-branch ps as′ bs))) s p
       where
         w : Branches → ℕ
         w = marks of-branches
 
-    sees-choose : (n m : ℕ) → m ≡ n → Runs (marks of-effect) n (u16 >>= λ i. branches ts r i >>= λ bs. r >>= λ d. give (choose bs d)) m (choiceW (length ts) k)
+    sees-choose : (n m : ℕ) → m ≡ n → Runs (marks of-effect) n (u16 >>= λ i. branches ts r i >>= λ bs. r >>= λ d. give (choose bs d)) m (choiceM (length ts) k)
     unfolding of-effect
     sees-choose n m e =
         choice w n m u16 _ _ λ i.
-        bind w n m (marks of-branches) (branches ts r i) (timesW i (branchW (length ts) k)) (sees-branches i) _ _ λ bs.
+        bind w n m (marks of-branches) (branches ts r i) (timesM i (branchM (length ts) k)) (sees-branches i) _ _ λ bs.
         last w n (m + length (of-branches bs)) (marks of-actions) r k inner _ (λ d. omega (arith, e, in-choose bs d))
       where
         w : Effect → ℕ
         w = marks of-effect
 
-    sees-wait : (n : ℕ) → Runs (marks of-effect) n (trigger ts >>= λ t. u32 >>= λ i. flag >>= λ c. give (wait t i c)) n (triggerW (length ts) ⨾ bytesW 4 ⨾ kindW 2)
+    sees-wait : (n : ℕ) → Runs (marks of-effect) n (trigger ts >>= λ t. u32 >>= λ i. flag >>= λ c. give (wait t i c)) n (triggerM (length ts) ⨾ bytesM 4 ⨾ kindM 2)
     unfolding of-effect
     sees-wait n =
-        bind w n n (marks of-trigger) (trigger ts) (triggerW (length ts)) sees-trigger _ _ λ t.
-        bind w n (n + length (of-trigger t)) quiet u32 (bytesW 4) sees-u32 _ _ λ i.
-        last w n (n + length (of-trigger t) + 0) quiet flag (kindW 2) sees-flag _ (λ c. omega arith)
+        bind w n n (marks of-trigger) (trigger ts) (triggerM (length ts)) sees-trigger _ _ λ t.
+        bind w n (n + length (of-trigger t)) quiet u32 (bytesM 4) sees-u32 _ _ λ i.
+        last w n (n + length (of-trigger t) + 0) quiet flag (kindM 2) sees-flag _ (λ c. omega arith)
       where
         w : Effect → ℕ
         w = marks of-effect
 
-    pub sees-effect : Sees (marks of-effect) (effect ts r) (by u8 (λ x. if eqb x 4 then choiceW (length ts) k else simpleW (length ts) x))
-    unfolding effect kinds simpleW of-effect
+    pub sees-effect : Sees (marks of-effect) (effect ts r) (by u8 (λ x. if eqb x 4 then choiceM (length ts) k else simpleM (length ts) x))
+    unfolding effect kinds simpleM of-effect
     sees-effect n = choice w n n u8 _ _ cases
       where
         w : Effect → ℕ
@@ -395,29 +395,29 @@ module _ (ts : List Text) where
             ∷ (place ts >>= λ e. give (Effect.unknown e))
             ∷ []
 
-        cases : (x : ℕ) → Runs w n (getD table x refuse) n (if eqb x 4 then choiceW (length ts) k else simpleW (length ts) x)
+        cases : (x : ℕ) → Runs w n (getD table x refuse) n (if eqb x 4 then choiceM (length ts) k else simpleM (length ts) x)
         cases zero = two-places w n n Effect.set (λ t u. omega arith)
-        cases (suc zero) = last w n n quiet (place ts) (placeW (length ts)) sees-place toggle (λ t. omega arith)
-        cases (suc (suc zero)) = last w n n quiet u32 (bytesW 4) sees-u32 delay (λ t. omega arith)
-        cases (suc (suc (suc zero))) = last w n n (marks of-predicate) (predicate ts) (predicateW (length ts)) sees-predicate condition (λ p. omega arith)
+        cases (suc zero) = last w n n quiet (place ts) (placeM (length ts)) sees-place toggle (λ t. omega arith)
+        cases (suc (suc zero)) = last w n n quiet u32 (bytesM 4) sees-u32 delay (λ t. omega arith)
+        cases (suc (suc (suc zero))) = last w n n (marks of-predicate) (predicate ts) (predicateM (length ts)) sees-predicate condition (λ p. omega arith)
         cases (suc (suc (suc (suc zero)))) = sees-choose n n refl
         cases (suc (suc (suc (suc (suc zero))))) = sees-wait n
         cases (suc (suc (suc (suc (suc (suc zero)))))) = note-of w n n Effect.unknown (λ t. omega arith)
         cases (suc (suc (suc (suc (suc (suc (suc x))))))) = rw (above (suc (suc (suc (suc (suc (suc (suc x))))))) 0 (omega arith), above (suc (suc (suc (suc (suc (suc (suc x))))))) 1 (omega arith), above (suc (suc (suc (suc (suc (suc (suc x))))))) 2 (omega arith), above (suc (suc (suc (suc (suc (suc (suc x))))))) 3 (omega arith), above (suc (suc (suc (suc (suc (suc (suc x))))))) 4 (omega arith), above (suc (suc (suc (suc (suc (suc (suc x))))))) 5 (omega arith), above (suc (suc (suc (suc (suc (suc (suc x))))))) 6 (omega arith)) (refuses w n n)
 
-    pub sees-list : (i : ℕ) → Sees (marks of-actions) (actions-of ts r i) (timesW i (actionW (length ts) k))
-    unfolding actions-of timesW of-actions
+    pub sees-list : (i : ℕ) → Sees (marks of-actions) (actions-of ts r i) (timesM i (actionM (length ts) k))
+    unfolding actions-of timesM of-actions
     sees-list zero n s p = gives (marks of-actions) n n done (omega arith) s p
     sees-list (suc i) n s p =
-        laws.assoc s p (capped n) (bytesW 8) _ (timesW i (actionW (length ts) k))
-        ∙ (bind w n n quiet source (bytesW 8) sees-source _ _ λ src.
+        laws.assoc s p (capped n) (bytesM 8) _ (timesM i (actionM (length ts) k))
+        ∙ (bind w n n quiet source (bytesM 8) sees-source _ _ λ src.
         bind w n (n + 0) (marks of-effect) (effect ts r) _ sees-effect _ _ λ f.
-        last w n (n + 0 + length (of-effect f)) w (actions-of ts r i) (timesW i (actionW (length ts) k)) (sees-list i) _ (λ l. omega (arith, in-act src f l))) s p
+        last w n (n + 0 + length (of-effect f)) w (actions-of ts r i) (timesM i (actionM (length ts) k)) (sees-list i) _ (λ l. omega (arith, in-act src f l))) s p
       where
         w : Actions → ℕ
         w = marks of-actions
 
-  pub sees-actions : (left : ℕ) → Sees (marks of-actions) (actions ts left) (actionsW (length ts) left)
-  unfolding actions actionsW
+  pub sees-actions : (left : ℕ) → Sees (marks of-actions) (actions ts left) (actionsM (length ts) left)
+  unfolding actions actionsM
   sees-actions zero n = refuses (marks of-actions) n n
-  sees-actions (suc left) n = choice (marks of-actions) n n u16 _ _ (λ i. sees-list (actions ts left) (actionsW (length ts) left) (sees-actions left) i n)
+  sees-actions (suc left) n = choice (marks of-actions) n n u16 _ _ (λ i. sees-list (actions ts left) (actionsM (length ts) left) (sees-actions left) i n)

@@ -7,7 +7,7 @@ use mathlib.Core.List.{List}
 use lib.Dec.{ltb, leb, eqb}
 use lib.ListN.{length}
 use Rattle.texts.specs.Lists.{if_then_else_}
-use Rattle.model.specs.File.{Got, got, broken, Reader, u8, u16}
+use Rattle.model_spec.specs.File.{Got, got, broken, Reader, u8, u16}
 use Rattle.model_walk.specs.declared.Num.{Num}
 use Rattle.model_walk.specs.declared.Num.the-variants as num
 use Rattle.model_walk.specs.declared.Walked.{Walked}
@@ -59,85 +59,85 @@ unfoldable pub staying : Bool → Walk
 staying b = if b then stay else stop
 
 -- w bytes
-unfoldable pub bytesW : ℕ → Walk
-bytesW w s p n = if leb (p + w) (length s) then walked.To (p + w) n else walked.Broken
+unfoldable pub bytesM : ℕ → Walk
+bytesM w s p n = if leb (p + w) (length s) then walked.To (p + w) n else walked.Broken
 
 -- a group of fields that the file may end before
-unfoldable pub or-zerosW : Walk → Walk
-or-zerosW k s p n = if ltb p (length s) then k s p n else walked.To p n
+unfoldable pub or-zerosM : Walk → Walk
+or-zerosM k s p n = if ltb p (length s) then k s p n else walked.To p n
 
 -- how many bytes a predicate of this kind has, the kind itself counted
 unfoldable pub predicate-size : (kind : ℕ) → ℕ
 predicate-size k = if eqb k 0 then 5 else if eqb k 1 then 3 else 10
 
-unfoldable pub timesW : ℕ → Walk → Walk
-timesW zero k = stay
-timesW (suc n) k = k ⨾ timesW n k
+unfoldable pub timesM : ℕ → Walk → Walk
+timesM zero k = stay
+timesM (suc n) k = k ⨾ timesM n k
 
-abbrev pub countedW : Walk → Walk
-countedW k = by u16 (λ c. timesW c k)
+abbrev pub countedM : Walk → Walk
+countedM k = by u16 (λ c. timesM c k)
 
 -- a kind below a limit that holds nothing
-abbrev pub kindW : ℕ → Walk
-kindW limit = by u8 (λ k. staying (ltb k limit))
+abbrev pub kindM : ℕ → Walk
+kindM limit = by u8 (λ k. staying (ltb k limit))
 
 -- ---- parts that name texts, of which there are `ts`
 module _ (ts : ℕ) where
-  abbrev pub placeW : Walk
-  placeW = by u16 (λ x. staying (ltb x ts))
+  abbrev pub placeM : Walk
+  placeM = by u16 (λ x. staying (ltb x ts))
 
-  abbrev pub place?W : Walk
-  place?W = by u16 (λ x. if eqb x 65535 then stay else staying (ltb x ts))
+  abbrev pub place?M : Walk
+  place?M = by u16 (λ x. if eqb x 65535 then stay else staying (ltb x ts))
 
   -- a place that is a note, or none
-  abbrev pub note?W : Walk
-  note?W = by u16 (λ x. if eqb x 65535 then stay else if ltb x ts then noted else stop)
+  abbrev pub note?M : Walk
+  note?M = by u16 (λ x. if eqb x 65535 then stay else if ltb x ts then noted else stop)
 
   -- a place that is a note
-  abbrev pub noteW : Walk
-  noteW = placeW ⨾ noted
+  abbrev pub noteM : Walk
+  noteM = placeM ⨾ noted
 
   -- a window's days, start and end stand behind its kind
-  unfoldable pub predicateW : Walk
-  predicateW =
-      by u8 (λ k. if eqb k 0 then placeW ⨾ placeW else if eqb k 1 then noteW else if eqb k 2 then bytesW 9 else stop)
+  unfoldable pub predicateM : Walk
+  predicateM =
+      by u8 (λ k. if eqb k 0 then placeM ⨾ placeM else if eqb k 1 then noteM else if eqb k 2 then bytesM 9 else stop)
 
-  unfoldable pub triggerW : Walk
-  triggerW = placeW ⨾ place?W ⨾ place?W ⨾ bytesW 8 ⨾ note?W
+  unfoldable pub triggerM : Walk
+  triggerM = placeM ⨾ place?M ⨾ place?M ⨾ bytesM 8 ⨾ note?M
 
-  unfoldable pub pieceW : Piece → Walk
-  pieceW piece.Place = placeW
-  pieceW piece.Note = noteW
-  pieceW piece.Predicate = predicateW
-  pieceW piece.Trigger = triggerW
+  unfoldable pub pieceM : Piece → Walk
+  pieceM piece.Place = placeM
+  pieceM piece.Note = noteM
+  pieceM piece.Predicate = predicateM
+  pieceM piece.Trigger = triggerM
 
   -- a count, and as many pieces
-  abbrev pub piecesW : Piece → Walk
-  piecesW k = countedW (pieceW k)
+  abbrev pub piecesM : Piece → Walk
+  piecesM k = countedM (pieceM k)
 
   -- ---- actions
 
   -- what follows the kind k of an effect that holds no list
-  unfoldable pub simpleW : ℕ → Walk
-  simpleW k =
-      if eqb k 0 then placeW ⨾ placeW
-      else if eqb k 1 then placeW
-      else if eqb k 2 then bytesW 4
-      else if eqb k 3 then predicateW
-      else if eqb k 5 then triggerW ⨾ bytesW 4 ⨾ kindW 2
-      else if eqb k 6 then noteW
+  unfoldable pub simpleM : ℕ → Walk
+  simpleM k =
+      if eqb k 0 then placeM ⨾ placeM
+      else if eqb k 1 then placeM
+      else if eqb k 2 then bytesM 4
+      else if eqb k 3 then predicateM
+      else if eqb k 5 then triggerM ⨾ bytesM 4 ⨾ kindM 2
+      else if eqb k 6 then noteM
       else stop
 
   -- a branch: its conditions, and its list
-  abbrev pub branchW : Walk → Walk
-  branchW inner = piecesW piece.Predicate ⨾ inner
+  abbrev pub branchM : Walk → Walk
+  branchM inner = piecesM piece.Predicate ⨾ inner
 
-  abbrev pub choiceW : Walk → Walk
-  choiceW inner = by u16 (λ c. timesW c (branchW inner) ⨾ inner)
+  abbrev pub choiceM : Walk → Walk
+  choiceM inner = by u16 (λ c. timesM c (branchM inner) ⨾ inner)
 
-  abbrev pub actionW : Walk → Walk
-  actionW inner = bytesW 8 ⨾ by u8 (λ k. if eqb k 4 then choiceW inner else simpleW k)
+  abbrev pub actionM : Walk → Walk
+  actionM inner = bytesM 8 ⨾ by u8 (λ k. if eqb k 4 then choiceM inner else simpleM k)
 
-  unfoldable pub actionsW : (left : ℕ) → Walk
-  actionsW zero = stop
-  actionsW (suc left) = countedW (actionW (actionsW left))
+  unfoldable pub actionsM : (left : ℕ) → Walk
+  actionsM zero = stop
+  actionsM (suc left) = countedM (actionM (actionsM left))

@@ -1,8 +1,8 @@
 // Walks over the parts of a model file: where a part ends, and the notes so far.
 ghost use mathlib.Core.Path.{_≡_};
-ghost use Rattle.model.specs.File.{u8, u16, u32};
+ghost use Rattle.model_spec.specs.File.{u8, u16, u32};
 ghost use Prim.Native.Nat.{_+_};
-ghost use Rattle.model_walk.specs.Walk.{found, capped, _⨾_, bytesW, or-zerosW, kindW, placeW, place?W, note?W, noteW, predicate-size, predicateW, triggerW, pieceW, piecesW, simpleW, choiceW, actionsW};
+ghost use Rattle.model_walk.specs.Walk.{found, capped, _⨾_, bytesM, or-zerosM, kindM, placeM, place?M, note?M, noteM, predicate-size, predicateM, triggerM, pieceM, piecesM, simpleM, choiceM, actionsM};
 
 // A number and the position after it.
 pub enum Num {
@@ -66,7 +66,7 @@ pub fn u32_at(s: &[u8], at: usize) -> Num
 }
 
 pub fn bytes_at(s: &[u8], size: usize, at: usize, notes: u32) -> Walked
-    ensures { λ r. ⌜ r ≡ bytesW size (now (s .entry)) at notes ⌝ }
+    ensures { λ r. ⌜ r ≡ bytesM size (now (s .entry)) at notes ⌝ }
 {
     if s.len() < size {
         return Walked::Broken;
@@ -79,7 +79,7 @@ pub fn bytes_at(s: &[u8], size: usize, at: usize, notes: u32) -> Walked
 
 // The bytes of a group of fields that the file may end before.
 pub fn bytes_or_end_at(s: &[u8], size: usize, at: usize, notes: u32) -> Walked
-    ensures { λ r. ⌜ r ≡ or-zerosW (bytesW size) (now (s .entry)) at notes ⌝ }
+    ensures { λ r. ⌜ r ≡ or-zerosM (bytesM size) (now (s .entry)) at notes ⌝ }
 {
     if at < s.len() {
         return bytes_at(s, size, at, notes);
@@ -94,7 +94,7 @@ fn more(notes: u32) -> u32
 }
 
 pub fn kind_at(s: &[u8], limit: u32, at: usize, notes: u32) -> Walked
-    ensures { λ r. ⌜ r ≡ kindW limit (now (s .entry)) at notes ⌝ }
+    ensures { λ r. ⌜ r ≡ kindM limit (now (s .entry)) at notes ⌝ }
 {
     let x = u8_at(s, at);
     let Num::Is(k, next) = x else {
@@ -109,7 +109,7 @@ pub fn kind_at(s: &[u8], limit: u32, at: usize, notes: u32) -> Walked
 // ---- places in the texts, of which there are `texts`
 
 pub fn place_at(s: &[u8], texts: u32, at: usize, notes: u32) -> Walked
-    ensures { λ r. ⌜ r ≡ placeW texts (now (s .entry)) at notes ⌝ }
+    ensures { λ r. ⌜ r ≡ placeM texts (now (s .entry)) at notes ⌝ }
 {
     let x = u16_at(s, at);
     let Num::Is(place, next) = x else {
@@ -122,7 +122,7 @@ pub fn place_at(s: &[u8], texts: u32, at: usize, notes: u32) -> Walked
 }
 
 fn optional_at(s: &[u8], texts: u32, at: usize, notes: u32) -> Walked
-    ensures { λ r. ⌜ r ≡ place?W texts (now (s .entry)) at notes ⌝ }
+    ensures { λ r. ⌜ r ≡ place?M texts (now (s .entry)) at notes ⌝ }
 {
     let x = u16_at(s, at);
     let Num::Is(place, next) = x else {
@@ -138,7 +138,7 @@ fn optional_at(s: &[u8], texts: u32, at: usize, notes: u32) -> Walked
 }
 
 fn optional_note_at(s: &[u8], texts: u32, at: usize, notes: u32) -> Walked
-    ensures { λ r. ⌜ r ≡ note?W texts (now (s .entry)) at notes ⌝ }
+    ensures { λ r. ⌜ r ≡ note?M texts (now (s .entry)) at notes ⌝ }
 {
     let x = u16_at(s, at);
     let Num::Is(place, next) = x else {
@@ -154,7 +154,7 @@ fn optional_note_at(s: &[u8], texts: u32, at: usize, notes: u32) -> Walked
 }
 
 fn note_at(s: &[u8], texts: u32, at: usize, notes: u32) -> Walked
-    ensures { λ r. ⌜ r ≡ noteW texts (now (s .entry)) at notes ⌝ }
+    ensures { λ r. ⌜ r ≡ noteM texts (now (s .entry)) at notes ⌝ }
 {
     let x = place_at(s, texts, at, notes);
     let Walked::To(next, before) = x else {
@@ -164,7 +164,7 @@ fn note_at(s: &[u8], texts: u32, at: usize, notes: u32) -> Walked
 }
 
 pub fn two_places_at(s: &[u8], texts: u32, at: usize, notes: u32) -> Walked
-    ensures { λ r. ⌜ r ≡ (placeW texts ⨾ placeW texts) (now (s .entry)) at notes ⌝ }
+    ensures { λ r. ⌜ r ≡ (placeM texts ⨾ placeM texts) (now (s .entry)) at notes ⌝ }
 {
     let x = place_at(s, texts, at, notes);
     let Walked::To(p, n) = x else {
@@ -189,7 +189,7 @@ pub fn predicate_size(kind: u32) -> u32
 }
 
 pub fn predicate_at(s: &[u8], texts: u32, at: usize, notes: u32) -> Walked
-    ensures { λ r. ⌜ r ≡ predicateW texts (now (s .entry)) at notes ⌝ }
+    ensures { λ r. ⌜ r ≡ predicateM texts (now (s .entry)) at notes ⌝ }
 {
     let x = u8_at(s, at);
     let Num::Is(k, p) = x else {
@@ -208,7 +208,7 @@ pub fn predicate_at(s: &[u8], texts: u32, at: usize, notes: u32) -> Walked
 }
 
 fn trigger_at(s: &[u8], texts: u32, at: usize, notes: u32) -> Walked
-    ensures { λ r. ⌜ r ≡ triggerW texts (now (s .entry)) at notes ⌝ }
+    ensures { λ r. ⌜ r ≡ triggerM texts (now (s .entry)) at notes ⌝ }
 {
     let a = place_at(s, texts, at, notes);
     let Walked::To(p, k) = a else {
@@ -230,7 +230,7 @@ fn trigger_at(s: &[u8], texts: u32, at: usize, notes: u32) -> Walked
 }
 
 fn piece_at(s: &[u8], texts: u32, piece: Piece, at: usize, notes: u32) -> Walked
-    ensures { λ r. ⌜ r ≡ pieceW texts piece (now (s .entry)) at notes ⌝ }
+    ensures { λ r. ⌜ r ≡ pieceM texts piece (now (s .entry)) at notes ⌝ }
 {
     match piece {
         Piece::Place => place_at(s, texts, at, notes),
@@ -242,7 +242,7 @@ fn piece_at(s: &[u8], texts: u32, piece: Piece, at: usize, notes: u32) -> Walked
 
 // A count, and as many pieces.
 pub fn pieces_at(s: &[u8], texts: u32, piece: Piece, at: usize, notes: u32) -> Walked
-    ensures { λ r. ⌜ r ≡ piecesW texts piece (now (s .entry)) at notes ⌝ }
+    ensures { λ r. ⌜ r ≡ piecesM texts piece (now (s .entry)) at notes ⌝ }
 {
     let x = u16_at(s, at);
     let Num::Is(count, start) = x else {
@@ -267,7 +267,7 @@ pub fn pieces_at(s: &[u8], texts: u32, piece: Piece, at: usize, notes: u32) -> W
 
 // What follows the kind of an effect that holds no list.
 fn simple_at(s: &[u8], texts: u32, kind: u32, at: usize, notes: u32) -> Walked
-    ensures { λ r. ⌜ r ≡ simpleW texts kind (now (s .entry)) at notes ⌝ }
+    ensures { λ r. ⌜ r ≡ simpleM texts kind (now (s .entry)) at notes ⌝ }
 {
     if kind == 0 {
         return two_places_at(s, texts, at, notes);
@@ -291,7 +291,7 @@ fn simple_at(s: &[u8], texts: u32, kind: u32, at: usize, notes: u32) -> Walked
 }
 
 fn wait_at(s: &[u8], texts: u32, at: usize, notes: u32) -> Walked
-    ensures { λ r. ⌜ r ≡ (triggerW texts ⨾ bytesW 4 ⨾ kindW 2) (now (s .entry)) at notes ⌝ }
+    ensures { λ r. ⌜ r ≡ (triggerM texts ⨾ bytesM 4 ⨾ kindM 2) (now (s .entry)) at notes ⌝ }
 {
     let a = trigger_at(s, texts, at, notes);
     let Walked::To(p, k) = a else {
@@ -306,7 +306,7 @@ fn wait_at(s: &[u8], texts: u32, at: usize, notes: u32) -> Walked
 
 // A list of actions in which lists stand at most `left` deep, itself counted.
 pub fn actions_at(s: &[u8], texts: u32, left: usize, at: usize, notes: u32) -> Walked
-    ensures { λ r. ⌜ r ≡ actionsW texts left (now (s .entry)) at notes ⌝ }
+    ensures { λ r. ⌜ r ≡ actionsM texts left (now (s .entry)) at notes ⌝ }
 {
     if left == 0 {
         return Walked::Broken;
@@ -344,7 +344,7 @@ pub fn actions_at(s: &[u8], texts: u32, left: usize, at: usize, notes: u32) -> W
 
 // The branches of a choice and its default; its lists stand at most `left` deep.
 pub fn choice_at(s: &[u8], texts: u32, left: usize, at: usize, notes: u32) -> Walked
-    ensures { λ r. ⌜ r ≡ choiceW texts (actionsW texts left) (now (s .entry)) at notes ⌝ }
+    ensures { λ r. ⌜ r ≡ choiceM texts (actionsM texts left) (now (s .entry)) at notes ⌝ }
 {
     let x = u16_at(s, at);
     let Num::Is(count, start) = x else {

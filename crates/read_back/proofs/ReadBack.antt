@@ -5,26 +5,26 @@ use mathlib.Core.List.{List, [], _∷_, _++_, List·Memᴰ, List·Memᴰ·head, 
 use mathlib.Core.Option.{some}
 use lib.ListN.{getD}
 use Rattle.texts.specs.Texts.{Text}
-use Rattle.model.specs.Answer.{answer, _>>=_}
-use Rattle.model.specs.Model.{Input, Event, Scenario, Model, midnight}
-use Rattle.model.specs.File.{got, Reader, refuse, times, counted, u32, limits, place, input, event, events}
-use Rattle.model.specs.File.{invariant, automation, or-zeros, start, input-kinds}
-use Rattle.model.specs.Rewrite.{rewritten}
-use Rattle.model.specs.Validate.{validate, accepted}
+use Rattle.model_spec.specs.Answer.{answer, _>>=_}
+use Rattle.model_spec.specs.Model.{Input, Event, Scenario, Model, midnight}
+use Rattle.model_spec.specs.File.{got, Reader, refuse, times, counted, u32, limits, place, input, event, events}
+use Rattle.model_spec.specs.File.{invariant, automation, or-zeros, start, input-kinds}
+use Rattle.model_spec.specs.Rewrite.{rewritten}
+use Rattle.model_spec.specs.Validate.{validate, accepted}
 use Rattle.model_walk.proofs.Found.{bound, given, refused, kind-found, counted-found, place-found}
 use Rattle.model_rewrite.proofs.Opened.{Opened, opened, headed, after}
 use Rattle.model_rewrite.proofs.WithEvents.{Among, FitsInput, AllFit, decodes}
-use Rattle.engine.specs.Each.{Each}
-use Rattle.engine.specs.Cells.{Cell, initial-cells}
-use Rattle.engine.specs.Records.{Areas}
-use Rattle.engine.proofs.Validated.{accepted-decoded}
-use Rattle.checker.specs.Check.{Check, checked, check}
-use Rattle.checker.specs.Verify.{Witness, Verification, witness-file}
-use Rattle.checker.specs.Minimize.{reduced-file}
-use Rattle.checker.specs.Candidates.{Placed, nothing-yet, one-more, Accepts}
-use Rattle.checker.proofs.Some.{some-each}
-use Rattle.checker.proofs.Candidates.{same-check, candidates-accepted}
-use Rattle.checker.proofs.Visits.{witness-case, events-left}
+use Rattle.engine_spec.specs.Each.{Each}
+use Rattle.engine_spec.specs.Cells.{Cell, initial-cells}
+use Rattle.engine_spec.specs.Records.{Areas}
+use Rattle.engine_spec.proofs.Validated.{accepted-decoded}
+use Rattle.checker_spec.specs.Check.{Check, checked, check}
+use Rattle.checker_spec.specs.Verify.{Witness, Verification, witness-file}
+use Rattle.checker_spec.specs.Minimize.{reduced-file}
+use Rattle.checker_spec.specs.Candidates.{Placed, nothing-yet, one-more, Accepts}
+use Rattle.checker_spec.proofs.Some.{some-each}
+use Rattle.checker_spec.proofs.Candidates.{same-check, candidates-accepted}
+use Rattle.checker_spec.proofs.Visits.{witness-case, events-left}
 use Rattle.read_back.specs.ReadBack.{Short, ReadsBack, WrittenFiles}
 
 -- ---- what a reader finds names texts of the file

@@ -5,13 +5,13 @@ use mathlib.Core.Path.{_≡_}
 use mathlib.Core.List.{List}
 use mathlib.Core.Option.{some}
 use lib.ListN.{length}
-use Rattle.model.specs.Answer.{answer}
-use Rattle.model.specs.Model.{Event, Model, with-events}
-use Rattle.model.specs.Validate.{accepted}
-use Rattle.engine.specs.Records.{Areas}
-use Rattle.checker.specs.Check.{Check, check}
-use Rattle.checker.specs.Verify.{Witness, Verification, verify, witness-file}
-use Rattle.checker.specs.Minimize.{Minimized, minimize, reduced-file}
+use Rattle.model_spec.specs.Answer.{answer}
+use Rattle.model_spec.specs.Model.{Event, Model, with-events}
+use Rattle.model_spec.specs.Validate.{accepted}
+use Rattle.engine_spec.specs.Records.{Areas}
+use Rattle.checker_spec.specs.Check.{Check, check}
+use Rattle.checker_spec.specs.Verify.{Witness, Verification, verify, witness-file}
+use Rattle.checker_spec.specs.Minimize.{Minimized, minimize, reduced-file}
 
 -- not too long to be read
 abbrev pub Short : (file : List ℕ) → Type 0

@@ -12,7 +12,7 @@ use borrow.Author.Tests.{lt-ltb, le-ltb, eq-eqb, ne-eqb}
 use Rattle.checker_result.specs.declared.Status.{Status}
 use Rattle.checker_result.specs.declared.Status.the-variants as status
 use Rattle.reduce.specs.declared.Reduced.{Reduced}
-use Rattle.reduce.specs.Parts.{among, is-violation, fewV, violatesV, Stops, passed, GoesOn, Tried}
+use Rattle.reduce.specs.Parts.{among, is-violation, fewM, violatesM, Stops, passed, GoesOn, Tried}
 
 -- ---- the target among the violations
 
@@ -41,12 +41,12 @@ module _ (l : List ℕ) (t : ℕ) where
 
 -- ---- a check that violates the target
 
-pub few-most : (n : ℕ) → 32 < n → 32 ≡ fewV n
-unfolding fewV
+pub few-most : (n : ℕ) → 32 < n → 32 ≡ fewM n
+unfolding fewM
 few-most n h = rw (lt-ltb 32 n h)
 
-pub few-all : (n : ℕ) → n ≤ 32 → n ≡ fewV n
-unfolding fewV
+pub few-all : (n : ℕ) → n ≤ 32 → n ≡ fewM n
+unfolding fewM
 few-all n h = rw (le-ltb 32 n h)
 
 module _ (s : Status) where
@@ -71,14 +71,14 @@ module _ (s : Status) where
   is-none e = rw e
 
 module _ (s : Status) (v : ℕ) (l : List ℕ) (t : ℕ) where
-  pub not-so : {b : Bool} → b ≡ is-violation s → b ≡ false → false ≡ violatesV s v l t
-  unfolding violatesV
+  pub not-so : {b : Bool} → b ≡ is-violation s → b ≡ false → false ≡ violatesM s v l t
+  unfolding violatesM
   not-so e z = rw (← e, z)
 
-  pub is-so : {b : Bool} → b ≡ is-violation s → b ≡ true → {n : ℕ} → n ≡ fewV v → {r : Bool}
+  pub is-so : {b : Bool} → b ≡ is-violation s → b ≡ true → {n : ℕ} → n ≡ fewM v → {r : Bool}
       → r ≡ among l n t →
-      r ≡ violatesV s v l t
-  unfolding violatesV
+      r ≡ violatesM s v l t
+  unfolding violatesM
   is-so e z n h = h ∙ rw (← e, z, n)
 
 -- ---- when the reduction stops

@@ -8,30 +8,30 @@ use lib.Dec.{eqb}
 use lib.ListN.{length, getD}
 use borrow.Author.Tests.{lt-ltb, le-ltb, eqb-true, eqb-false}
 use Rattle.texts.specs.Texts.{Text}
-use Rattle.model.specs.Answer.{Answer, answer, refused, _>>=_}
-use Rattle.model.specs.Model.{Event, Input, Model}
-use Rattle.model.specs.Validate.{accepted}
+use Rattle.model_spec.specs.Answer.{Answer, answer, refused, _>>=_}
+use Rattle.model_spec.specs.Model.{Event, Input, Model}
+use Rattle.model_spec.specs.Validate.{accepted}
 use Rattle.model_index.specs.declared.Index.{Index}
 use Rattle.model_index.specs.Indexed.{Indexed}
-use Rattle.engine.specs.Cells.{Cell, initial-cells}
-use Rattle.engine.specs.Records.{Areas}
-use Rattle.engine.proofs.Lists.{Case, is-true, is-false, case}
-use Rattle.engine_places.specs.Meaning.{Tabled}
-use Rattle.engine_places.specs.Events.{EventAt}
-use Rattle.engine_begin.specs.declared.Events.{Events}
+use Rattle.engine_spec.specs.Cells.{Cell, initial-cells}
+use Rattle.engine_spec.specs.Records.{Areas}
+use Rattle.engine_spec.proofs.Lists.{Case, is-true, is-false, case}
+use Rattle.engine_refinement.specs.Meaning.{Tabled}
+use Rattle.engine_refinement.specs.Events.{EventAt}
+use Rattle.engine_inputs.specs.declared.Events.{Events}
 use Rattle.engine_entry.specs.Answers.{Ground, Grounds}
 use Rattle.engine_entry.proofs.Core.{tb}
 use Rattle.engine_entry.proofs.Promise.{texts-here}
-use Rattle.checker.specs.Check.{Check, checked}
-use Rattle.checker.specs.Minimize.{remove, violates, reduce}
-use Rattle.checker.specs.Minimize as minimize
+use Rattle.checker_spec.specs.Check.{Check, checked}
+use Rattle.checker_spec.specs.Minimize.{remove, violates, reduce}
+use Rattle.checker_spec.specs.Minimize as minimize
 use Rattle.checker_result.specs.declared.CheckResult.{CheckResult}
-use Rattle.checker_case.specs.Case.{Tells, answers, refuses, Cased}
+use Rattle.checker_retry.specs.Case.{Tells, answers, refuses, Cased}
 use Rattle.reduce.specs.declared.Reduced.{Reduced}
 use Rattle.reduce.specs.Events.{Left}
 use Rattle.reduce.specs.Parts.{
   Without,
-  violatesV,
+  violatesM,
   Stops,
   refusal,
   spent,
@@ -159,7 +159,7 @@ module _ {f starts : List ℕ} {many : ℕ} {g : Ground} (target : ℕ) (r : Red
             (begins ∙ turn-refused areas m cells name vs (r .attempts) (r .reached) (200 - (r .attempts + 1)) here n y
             ∙ ap refused (sym no))
 
-    module _ (z : c .simulation .refused ≡ 0) (b : Bool) (is-b : b ≡ violatesV (c .status) (c .violations) (c .violated) target) where
+    module _ (z : c .simulation .refused ≡ 0) (b : Bool) (is-b : b ≡ violatesM (c .status) (c .violations) (c .violated) target) where
       verdict : (k : Check) → checked areas m cells rest ≡ answer k → Rattle.checker_entry.specs.Answers.Shows f c k
           → violates name k ≡ b
       verdict k y shows = sym (is-b ∙ violates-is f x i m acc o t (texts-here f i m acc o bytes g gr) c k shows
@@ -201,7 +201,7 @@ module _ {f starts : List ℕ} {many : ℕ} {g : Ground} (target : ℕ) (r : Red
               (verdict k y shows ∙ e))
           by (refuses n lo hi y is) = absurd (omega (arith, is .number))
 
-  pub attempted : {b : Bool} → b ≡ violatesV (c .status) (c .violations) (c .violated) target → {e : Reduced} →
+  pub attempted : {b : Bool} → b ≡ violatesM (c .status) (c .violations) (c .violated) target → {e : Reduced} →
       Tried r w (c .simulation .refused) b e → Attempted f starts many g target r e q a u
   attempted {b} is-b {e} t = by (case (eqb (c .simulation .refused) 0)) (case b)
     where

@@ -13,26 +13,26 @@ use Rattle.texts.specs.Lists.{is-empty, any, flat}
 use Rattle.texts.specs.Texts.{Text, eqT}
 use Rattle.areas.specs.Areas.{area}
 use Rattle.areas.proofs.Laws as areas
-use Rattle.model.specs.Answer.{Answer, answer, refused, _>>=_}
-use Rattle.model.specs.Model.{Source, Event, Invariant, id-of, Model}
-use Rattle.model.specs.Rewrite.{place-of}
-use Rattle.model.specs.Validate.{accepted}
+use Rattle.model_spec.specs.Answer.{Answer, answer, refused, _>>=_}
+use Rattle.model_spec.specs.Model.{Source, Event, Invariant, id-of, Model}
+use Rattle.model_spec.specs.Rewrite.{place-of}
+use Rattle.model_spec.specs.Validate.{accepted}
 use Rattle.model_index.specs.declared.Index.{Index}
 use Rattle.model_index.specs.Indexed.{Indexed}
-use Rattle.engine.specs.Cells.{Cell, initial-cells}
-use Rattle.engine.specs.Records.{Areas}
-use Rattle.engine.specs.Simulate as engine
-use Rattle.engine.specs.Simulate.{simulated}
-use Rattle.engine.specs.Words.{source-words, texts-in}
-use Rattle.engine.proofs.Distinct.{refused-answer}
-use Rattle.engine.proofs.Lists.{Each}
-use Rattle.engine_places.specs.Meaning.{Tabled}
-use Rattle.engine_places.proofs.Accepted.{accepted-lawful}
-use Rattle.engine_places.proofs.Lists.{each-getD}
-use Rattle.engine_places.proofs.Words.{text-place}
-use Rattle.checker.specs.Check.{Violation, Status, status-of, violation-of, judged, checked, Check}
-use Rattle.checker.specs.Check as check
-use Rattle.checker.specs.Judge.{
+use Rattle.engine_spec.specs.Cells.{Cell, initial-cells}
+use Rattle.engine_spec.specs.Records.{Areas}
+use Rattle.engine_spec.specs.Simulate as engine
+use Rattle.engine_spec.specs.Simulate.{simulated}
+use Rattle.engine_spec.specs.Words.{source-words, texts-in}
+use Rattle.engine_spec.proofs.Distinct.{refused-answer}
+use Rattle.engine_spec.proofs.Lists.{Each}
+use Rattle.engine_refinement.specs.Meaning.{Tabled}
+use Rattle.engine_refinement.proofs.Accepted.{accepted-lawful}
+use Rattle.engine_refinement.proofs.Lists.{each-getD}
+use Rattle.engine_refinement.proofs.Words.{text-place}
+use Rattle.checker_spec.specs.Check.{Violation, Status, status-of, violation-of, judged, checked, Check}
+use Rattle.checker_spec.specs.Check as check
+use Rattle.checker_spec.specs.Judge.{
   read-all,
   Failure,
   Failing,
@@ -41,11 +41,11 @@ use Rattle.checker.specs.Judge.{
   forbidden-transition,
   deadline-missed,
 }
-use Rattle.checker.specs.Minimize.{violates}
+use Rattle.checker_spec.specs.Minimize.{violates}
 use Rattle.checker_result.specs.declared.CheckResult.{CheckResult}
 use Rattle.checker_entry.specs.Answers.{status-as, failure-words, violation-words, Shows}
 use Rattle.checker_entry.proofs.Judged.{named}
-use Rattle.reduce.specs.Parts.{among, is-violation, fewV, violatesV}
+use Rattle.reduce.specs.Parts.{among, is-violation, fewM, violatesM}
 
 -- ---- lists
 
@@ -160,7 +160,7 @@ module _ (f x : List ℕ) (i : Index) (m : Model) (acc : accepted f ≡ answer m
   identifiers = each-of (λ (y : Invariant). In ts (id-of y)) d is at
     where
       d : Invariant
-      d = Rattle.model.specs.Model.never [] []
+      d = Rattle.model_spec.specs.Model.never [] []
 
       at : (k : ℕ) → k < length is → In ts (id-of (getD is k d))
       at k h =
@@ -224,8 +224,8 @@ module _ (f x : List ℕ) (i : Index) (m : Model) (acc : accepted f ≡ answer m
     violated-here : r .violated ≡ area (violation-words ts) 256 (c .violations)
     violated-here = shows .violated ∙ ap (λ (l : List Text). area (violation-words l) 256 (c .violations)) here
 
-    pub violates-is : (target : ℕ) → target < length ts → violatesV (r .status) (r .violations) (r .violated) target ≡ violates (getD ts target []) c
-    unfolding violatesV violates fewV
+    pub violates-is : (target : ℕ) → target < length ts → violatesM (r .status) (r .violations) (r .violated) target ≡ violates (getD ts target []) c
+    unfolding violatesM violates fewM
     violates-is target l =
         let n = length (c .violations) in
         rw (

@@ -9,24 +9,24 @@ use lib.Seq.{take-nil, drop-nil}
 use Rattle.texts.specs.Texts.{Text}
 use Rattle.areas.specs.Areas.{area, closed}
 use Rattle.areas.proofs.Laws as areas
-use Rattle.model.specs.Answer.{answer, accept}
-use Rattle.model.specs.Model.{Event, Model}
-use Rattle.model.specs.Events.{event-words, EventWords}
-use Rattle.model.proofs.Events.{event-size}
-use Rattle.model.specs.Rewrite.{place-of}
-use Rattle.model.specs.Validate.{check-input, accepted}
+use Rattle.model_spec.specs.Answer.{answer, accept}
+use Rattle.model_spec.specs.Model.{Event, Model}
+use Rattle.model_spec.specs.Events.{event-words, EventWords}
+use Rattle.model_spec.proofs.Events.{event-size}
+use Rattle.model_spec.specs.Rewrite.{place-of}
+use Rattle.model_spec.specs.Validate.{check-input, accepted}
 use Rattle.model_index.specs.declared.Index.{Index}
 use Rattle.model_index.specs.Indexed.{Indexed}
-use Rattle.engine.proofs.Lists.{Each}
-use Rattle.engine_places.specs.Meaning.{Tabled}
-use Rattle.engine_places.proofs.Lists.{each-getD}
-use Rattle.engine_places.proofs.Outcome.{event-at}
-use Rattle.engine_places.specs.Events.{EventAt}
-use Rattle.engine_places.proofs.Words.{text-place}
-use Rattle.engine_begin.specs.Begin.{EventsOf}
-use Rattle.engine_begin.proofs.Begins.{Fine, events-accepted, events-fine, events-are, event-words-here}
-use Rattle.checker.specs.Minimize.{remove}
-use Rattle.checker.proofs.Some.{some-all, some-some, some-each, remove-some}
+use Rattle.engine_spec.proofs.Lists.{Each}
+use Rattle.engine_refinement.specs.Meaning.{Tabled}
+use Rattle.engine_refinement.proofs.Lists.{each-getD}
+use Rattle.engine_refinement.proofs.Outcome.{event-at}
+use Rattle.engine_refinement.specs.Events.{EventAt}
+use Rattle.engine_refinement.proofs.Words.{text-place}
+use Rattle.engine_inputs.specs.Begin.{EventsOf}
+use Rattle.engine_inputs.proofs.Begins.{Fine, events-accepted, events-fine, events-are, event-words-here}
+use Rattle.checker_spec.specs.Minimize.{remove}
+use Rattle.checker_spec.proofs.Some.{some-all, some-some, some-each, remove-some}
 use Rattle.reduce.specs.Events.{Left}
 use Rattle.reduce.specs.Parts.{Without}
 

@@ -1,4 +1,4 @@
--- What the parts of the reduction promise, by the definition of crate `checker`.
+-- What the parts of the reduction promise, by the definition of crate `checker_spec`.
 use Prim.Native.Nat.{ℕ, zero, suc, _+_, _-_, _*_, _≤_, _<_}
 use mathlib.Core.Path.{_≡_}
 use mathlib.Core.Bool.{Bool, true, false, _&&_, _||_}
@@ -8,18 +8,18 @@ use lib.ListN.{length, getD}
 use Rattle.texts.specs.Lists.{if_then_else_}
 use Rattle.texts.specs.Texts.{Text}
 use Rattle.areas.specs.Areas.{closed}
-use Rattle.model.specs.Answer.{Answer, answer, refused}
-use Rattle.model.specs.Model.{Event, Model}
-use Rattle.model.specs.Validate.{accepted}
+use Rattle.model_spec.specs.Answer.{Answer, answer, refused}
+use Rattle.model_spec.specs.Model.{Event, Model}
+use Rattle.model_spec.specs.Validate.{accepted}
 use Rattle.model_index.specs.declared.Index.{Index}
 use Rattle.model_index.specs.Indexed.{Indexed}
-use Rattle.engine.specs.Cells.{initial-cells}
-pub use Rattle.engine.specs.Words.{sizes}
-use Rattle.engine.specs.Records.{Areas}
-use Rattle.engine_begin.specs.declared.Events.{Events}
+use Rattle.engine_spec.specs.Cells.{initial-cells}
+pub use Rattle.engine_spec.specs.Words.{sizes}
+use Rattle.engine_spec.specs.Records.{Areas}
+use Rattle.engine_inputs.specs.declared.Events.{Events}
 use Rattle.engine_entry.specs.Answers.{Ground, Grounds}
-use Rattle.checker.specs.Minimize.{reduce}
-use Rattle.checker.specs.Minimize as minimize
+use Rattle.checker_spec.specs.Minimize.{reduce}
+use Rattle.checker_spec.specs.Minimize as minimize
 use Rattle.checker_result.specs.declared.Status.{Status}
 use Rattle.checker_result.specs.declared.Status.the-variants as status
 use Rattle.reduce.specs.declared.Reduced.{Reduced}
@@ -46,11 +46,11 @@ is-violation status.Incomplete = false
 is-violation status.NoViolationInTrace = false
 
 -- no model has more invariants
-unfoldable pub fewV : ℕ → ℕ
-fewV n = if ltb 32 n then 32 else n
+unfoldable pub fewM : ℕ → ℕ
+fewM n = if ltb 32 n then 32 else n
 
-unfoldable pub violatesV : Status → (violations : ℕ) → (violated : List ℕ) → (target : ℕ) → Bool
-violatesV s n l t = is-violation s && among l (fewV n) t
+unfoldable pub violatesM : Status → (violations : ℕ) → (violated : List ℕ) → (target : ℕ) → Bool
+violatesM s n l t = is-violation s && among l (fewM n) t
 
 -- ---- when the reduction stops
 

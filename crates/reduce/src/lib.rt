@@ -2,14 +2,14 @@
 use checker_result::Judgement;
 use checker_result::Shared;
 use checker_result::Status;
-use engine_begin::Events;
 use engine_entry::Base;
+use engine_inputs::Events;
 use model_index::Index;
 ghost use mathlib.Core.Path.{_≡_};
 ghost use Prim.Native.Nat.{_*_, _≤_, _<_};
 ghost use lib.ListN.{length};
 ghost use Rattle.engine_entry.specs.Answers.{ground};
-ghost use Rattle.reduce.specs.Parts.{Without, among, is-violation, fewV, violatesV, GoesOn, Open, Tried, Attempted, Begun, Reduces};
+ghost use Rattle.reduce.specs.Parts.{Without, among, is-violation, fewM, violatesM, GoesOn, Open, Tried, Attempted, Begun, Reduces};
 
 // `refused` is 0, or 41 to 43 where a check was refused. The first `count` events in `words`, four words each, are left;
 // so many candidates were checked, and the place reached.
@@ -60,7 +60,7 @@ pub fn is_violation(status: Status) -> bool
 
 // At most 32.
 fn few(n: usize) -> usize
-    ensures { λ r. ⌜ (r ≡ fewV n) × (r ≤ 32) ⌝ }
+    ensures { λ r. ⌜ (r ≡ fewM n) × (r ≤ 32) ⌝ }
 {
     if 32 < n {
         return 32;
@@ -70,7 +70,7 @@ fn few(n: usize) -> usize
 
 // The check is a violation, of the target too.
 fn violates(j: Judgement, violated: &[u64; 256], target: u64) -> bool
-    ensures { λ r. ⌜ r ≡ violatesV (j .status) (j .violations) (now (violated .entry)) target ⌝ }
+    ensures { λ r. ⌜ r ≡ violatesM (j .status) (j .violations) (now (violated .entry)) target ⌝ }
 {
     let status = j.status;
     if is_violation(status) {
@@ -152,7 +152,7 @@ fn attempt(
     let n = r.count - 1;
     let w = without(words, r.count, r.reached);
     let left = w.words;
-    let c = checker_case::check_case(
+    let c = checker_retry::check_case(
         file,
         table,
         starts,

@@ -6,9 +6,9 @@ use mathlib.Core.Logic.{inl, inr, _⊎_}
 use native.Mathlib.Omega.{arith}
 use lib.ListN.{length, getD}
 use borrow.Author.Tests.{lt-ltb, le-ltb}
-use Rattle.model.specs.Answer.{Answer, answer, refused, _>>=_, _and_, _when_}
-use Rattle.model.specs.Model.{Model}
-use Rattle.model.specs.Validate.{accepted}
+use Rattle.model_spec.specs.Answer.{Answer, answer, refused, _>>=_, _and_, _when_}
+use Rattle.model_spec.specs.Model.{Model}
+use Rattle.model_spec.specs.Validate.{accepted}
 use Rattle.model_index.specs.declared.File.{File}
 use Rattle.model_index.specs.declared.Index.{Index}
 use Rattle.model_index.specs.declared.Status.the-variants as status
@@ -16,21 +16,21 @@ use Rattle.model_index.specs.Indexed as indexed
 use Rattle.model_index.specs.Indexed.{Indexed}
 use Rattle.model_validate.proofs.Agrees.{accept-read, accept-refused}
 use Rattle.model_validate.proofs.Refusals.{Refuses, Refusal, refusal-numbers}
-use Rattle.engine.specs.Cells.{initial-cells}
-use Rattle.engine.specs.Memory.{Lent, entries, zeros, all-zeros, lent-after}
-use Rattle.engine.specs.Records.{Areas}
-use Rattle.engine.specs.Words.{words-in, entry-words}
-use Rattle.engine.proofs.Memory.{refusals}
-use Rattle.engine_reads.specs.Reads.{atMost}
-use Rattle.engine_begin.specs.declared.Events.{Events}
-use Rattle.engine_begin.specs.Begin.{EventsOf}
-use Rattle.engine_places.proofs.Accepted.{accepted-lawful}
+use Rattle.engine_spec.specs.Cells.{initial-cells}
+use Rattle.engine_spec.specs.Memory.{Lent, entries, zeros, all-zeros, lent-after}
+use Rattle.engine_spec.specs.Records.{Areas}
+use Rattle.engine_spec.specs.Words.{words-in, entry-words}
+use Rattle.engine_spec.proofs.Memory.{refusals}
+use Rattle.engine_fields.specs.Reads.{atMost}
+use Rattle.engine_inputs.specs.declared.Events.{Events}
+use Rattle.engine_inputs.specs.Begin.{EventsOf}
+use Rattle.engine_refinement.proofs.Accepted.{accepted-lawful}
 use Rattle.engine_entry.specs.Answers.{Ground, Grounds, lent}
 use Rattle.engine_entry.proofs.Core.{tb}
 use Rattle.engine_entry.proofs.Entry.{events-count}
-use Rattle.checker.specs.Minimize.{minimized, minimize}
-use Rattle.checker.specs.Minimize as checker
-use Rattle.checker.specs.Verify.{short-of-room}
+use Rattle.checker_spec.specs.Minimize.{minimized, minimize}
+use Rattle.checker_spec.specs.Minimize as checker
+use Rattle.checker_spec.specs.Verify.{short-of-room}
 use Rattle.reduce.specs.Events.{Left}
 use Rattle.reduce.specs.Parts.{sizes}
 use Rattle.reduce.proofs.Words.{own-left}

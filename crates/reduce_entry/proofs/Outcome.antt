@@ -9,35 +9,35 @@ use lib.Dec.{eqb}
 use lib.ListN.{length, getD, drop, replicate}
 use Rattle.texts.specs.Texts.{Text}
 use Rattle.areas.specs.Areas.{area}
-use Rattle.model.specs.Answer.{Answer, answer, refused, _>>=_, _and_, _when_}
-use Rattle.model.specs.Model.{Event, Input, Model}
-use Rattle.model.specs.Rewrite.{place-of, rewritten}
-use Rattle.model.specs.Validate.{accepted}
+use Rattle.model_spec.specs.Answer.{Answer, answer, refused, _>>=_, _and_, _when_}
+use Rattle.model_spec.specs.Model.{Event, Input, Model}
+use Rattle.model_spec.specs.Rewrite.{place-of, rewritten}
+use Rattle.model_spec.specs.Validate.{accepted}
 use Rattle.model_index.specs.declared.Index.{Index}
 use Rattle.model_index.specs.Indexed.{Indexed}
-use Rattle.model_rewrite.specs.Span.{spanW}
+use Rattle.model_rewrite.specs.Span.{spanM}
 use Rattle.model_rewrite.specs.Written.{file-with}
-use Rattle.engine.specs.Cells.{Cell, initial-cells}
-use Rattle.engine.specs.Records.{Areas}
-use Rattle.engine.specs.Words.{texts-in, words-in}
-use Rattle.engine_places.specs.Meaning.{Tabled}
-use Rattle.engine_places.specs.Events.{EventAt}
-use Rattle.engine_places.proofs.Words.{text-place}
-use Rattle.engine_begin.specs.declared.Events.{Events}
+use Rattle.engine_spec.specs.Cells.{Cell, initial-cells}
+use Rattle.engine_spec.specs.Records.{Areas}
+use Rattle.engine_spec.specs.Words.{texts-in, words-in}
+use Rattle.engine_refinement.specs.Meaning.{Tabled}
+use Rattle.engine_refinement.specs.Events.{EventAt}
+use Rattle.engine_refinement.proofs.Words.{text-place}
+use Rattle.engine_inputs.specs.declared.Events.{Events}
 use Rattle.engine_entry.specs.Answers.{Ground, Grounds}
 use Rattle.engine_entry.proofs.Core.{tb, queue-clear, runs-clear}
 use Rattle.engine_entry.proofs.Promise.{texts-here}
-use Rattle.checker.specs.Check.{Check, checked, Violation}
-use Rattle.checker.specs.Check as check
-use Rattle.checker.specs.Minimize.{reduce, target-of, minimized, reduced-file}
-use Rattle.checker.specs.Minimize as checker
+use Rattle.checker_spec.specs.Check.{Check, checked, Violation}
+use Rattle.checker_spec.specs.Check as check
+use Rattle.checker_spec.specs.Minimize.{reduce, target-of, minimized, reduced-file}
+use Rattle.checker_spec.specs.Minimize as checker
 use Rattle.checker_result.specs.declared.CheckResult.{CheckResult}
 use Rattle.checker_entry.specs.Answers as shown
 use Rattle.checker_entry.specs.Parts.{Checked}
 use Rattle.checker_entry.proofs.Promise as promised
 use Rattle.checker_entry.proofs.Promise.{Promise, promise}
 use Rattle.reduce.specs.declared.Reduced.{Reduced}
-use Rattle.model.specs.Events.{event-words}
+use Rattle.model_spec.specs.Events.{event-words}
 use Rattle.reduce.specs.Events.{Left}
 use Rattle.reduce.specs.Parts.{is-violation, sizes, from, Ends, Reduces}
 use Rattle.reduce.specs.Parts as parts
@@ -206,7 +206,7 @@ module _ {f : List ℕ} {i : Index} {g : Ground} {target : ℕ} {e : Events} {n 
             h (omega (arith, inside, t .few-texts))
             ∙ sym (ap (place-of name) here ∙ text-place f (g .table) (ix .ts) m t target inside)
 
-        bytes-are : file-with f (spanW f) (x .words) (x .count) ≡ rewritten f ws
+        bytes-are : file-with f (spanM f) (x .words) (x .count) ≡ rewritten f ws
         bytes-are = file-is f i m acc ix (x .words) (x .count) ws kept
 
         shows : (c : Check) → shown.Shows f (fin .check) c → Repeats f target n x (fin .check) r o o' → Shows f r (final c)

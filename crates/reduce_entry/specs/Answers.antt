@@ -1,19 +1,19 @@
--- What `minimize` answers, by the definitions of crate `checker`: each number of the answer, each word of the lent areas,
+-- What `minimize` answers, by the definitions of crate `checker_spec`: each number of the answer, each word of the lent areas,
 -- and each byte of the output.
 use Prim.Native.Nat.{ℕ}
 use mathlib.Core.Path.{_≡_}
 use mathlib.Core.List.{List, _++_}
 use lib.ListN.{length, drop}
 use Rattle.areas.specs.Areas.{area}
-use Rattle.model.specs.Answer.{Answer, answer, refused}
-use Rattle.model.specs.Rewrite.{place-of}
-use Rattle.engine.specs.Memory.{Lent, entries, lent-after}
-use Rattle.engine.specs.Records.{Trace}
-use Rattle.engine.specs.Words.{texts-in, words-in, entry-words}
-use Rattle.checker.specs.Minimize.{minimize, reduced-file}
-use Rattle.checker.specs.Minimize as checker
+use Rattle.model_spec.specs.Answer.{Answer, answer, refused}
+use Rattle.model_spec.specs.Rewrite.{place-of}
+use Rattle.engine_spec.specs.Memory.{Lent, entries, lent-after}
+use Rattle.engine_spec.specs.Records.{Trace}
+use Rattle.engine_spec.specs.Words.{texts-in, words-in, entry-words}
+use Rattle.checker_spec.specs.Minimize.{minimize, reduced-file}
+use Rattle.checker_spec.specs.Minimize as checker
 use Rattle.checker_entry.specs.Answers as check
-use Rattle.model.specs.Events.{event-words}
+use Rattle.model_spec.specs.Events.{event-words}
 use Rattle.reduce_result.specs.declared.Minimized.{Minimized}
 use Rattle.reduce_result.specs.Result.{no-reduction}
 

@@ -7,20 +7,20 @@ use lib.Dec.{eqb}
 use lib.ListN.{length, getD, drop, replicate}
 use Rattle.texts.specs.Texts.{Text}
 use Rattle.areas.specs.Areas.{area}
-use Rattle.model.specs.Answer.{Answer, answer, refused, _>>=_}
-use Rattle.model.specs.Model.{Event, Model}
-use Rattle.model.specs.Validate.{accepted}
+use Rattle.model_spec.specs.Answer.{Answer, answer, refused, _>>=_}
+use Rattle.model_spec.specs.Model.{Event, Model}
+use Rattle.model_spec.specs.Validate.{accepted}
 use Rattle.model_index.specs.declared.Index.{Index}
 use Rattle.model_index.specs.Indexed.{Indexed}
-use Rattle.engine.specs.Cells.{initial-cells}
-use Rattle.engine.specs.Memory.{Lent}
-use Rattle.engine.specs.Records.{Areas}
-use Rattle.engine.specs.Words.{words-in}
-use Rattle.engine_begin.specs.declared.Events.{Events}
+use Rattle.engine_spec.specs.Cells.{initial-cells}
+use Rattle.engine_spec.specs.Memory.{Lent}
+use Rattle.engine_spec.specs.Records.{Areas}
+use Rattle.engine_spec.specs.Words.{words-in}
+use Rattle.engine_inputs.specs.declared.Events.{Events}
 use Rattle.engine_entry.specs.Answers.{Ground, Grounds}
-use Rattle.checker.specs.Check.{checked}
-use Rattle.checker.specs.Minimize.{reduce, minimized, reduced-file}
-use Rattle.checker.specs.Minimize as checker
+use Rattle.checker_spec.specs.Check.{checked}
+use Rattle.checker_spec.specs.Minimize.{reduce, minimized, reduced-file}
+use Rattle.checker_spec.specs.Minimize as checker
 use Rattle.reduce.specs.Events.{Left}
 use Rattle.reduce.specs.Parts.{Begun, sizes}
 use Rattle.reduce_result.specs.declared.Minimized.{Minimized}

@@ -1,6 +1,6 @@
 // The entry `minimize`: a violating model with fewer events, written as a model file.
-use engine_begin::Events;
 use engine_entry::Base;
+use engine_inputs::Events;
 use model_index::Index;
 use reduce_result::Minimized;
 ghost use Rattle.engine_entry.specs.Answers.{ground, lent};
@@ -117,8 +117,8 @@ fn run(
     let mut notes = [0u32; 1500];
     let b = engine_entry::prepared(file, index, &mut notes);
     let table = b.table;
-    let events = engine_begin::events_of(file, index);
-    let n = engine_reads::at_most(table[8], 100);
+    let events = engine_inputs::events_of(file, index);
+    let n = engine_fields::at_most(table[8], 100);
     first_check(
         file,
         index,

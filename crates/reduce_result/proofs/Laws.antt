@@ -6,7 +6,7 @@ use mathlib.Core.List.{List}
 use lib.Dec.{eqb}
 use lib.ListN.{replicate}
 use Rattle.model_rewrite.specs.declared.Span.{Span}
-use Rattle.model_rewrite.specs.Span.{spanW}
+use Rattle.model_rewrite.specs.Span.{spanM}
 use Rattle.model_rewrite.specs.Written.{file-with, Room, Wrote}
 use Rattle.model_index.specs.declared.Index.{Index}
 use Rattle.engine_entry.specs.Answers.{Ground}
@@ -37,7 +37,7 @@ refused-is n e = rw e
 -- ---- the last check
 
 -- what the rewriter asks for
-pub asked-here : {f l o : List ℕ} {n : ℕ} → Room f (spanW f) l n o → {s : Span} → s ≡ spanW f → Room f s l n o
+pub asked-here : {f l o : List ℕ} {n : ℕ} → Room f (spanM f) l n o → {s : Span} → s ≡ spanM f → Room f s l n o
 asked-here {f} {l} {o} {n} r e = subst (λ (s : Span). Room f s l n o) (sym e) r
 
 module _ {f : List ℕ} {i : Index} {g : Ground} {target n : ℕ} {x : Reduced} {c : CheckResult} {q q' a a' u u' : List ℕ}
@@ -54,7 +54,7 @@ module _ {f : List ℕ} {i : Index} {g : Ground} {target n : ℕ} {x : Reduced} 
         full = λ y. record { answer-is = e ∙ ap no-reduction (sym same); output = refl };
       }
 
-  pub last-done : c .simulation .refused ≡ 0 → {s : Span} → s ≡ spanW f → {size : ℕ} {o o' : List ℕ}
+  pub last-done : c .simulation .refused ≡ 0 → {s : Span} → s ≡ spanM f → {size : ℕ} {o o' : List ℕ}
       → Wrote (file-with f s (x .words) (x .count)) size o o' →
       {p : ℕ} → Placed target p →
       Finished f i g target n x (record {

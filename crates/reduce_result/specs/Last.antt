@@ -4,10 +4,10 @@ use mathlib.Core.Path.{_≡_}
 use mathlib.Core.List.{List}
 use lib.Dec.{eqb}
 use lib.ListN.{length, replicate}
-use Rattle.model.specs.Answer.{refused}
-use Rattle.model.specs.Validate.{accepted}
+use Rattle.model_spec.specs.Answer.{refused}
+use Rattle.model_spec.specs.Validate.{accepted}
 use Rattle.model_index.specs.declared.Index.{Index}
-use Rattle.model_rewrite.specs.Span.{spanW}
+use Rattle.model_rewrite.specs.Span.{spanM}
 use Rattle.model_rewrite.specs.Written.{file-with, Room, Wrote}
 use Rattle.engine_entry.specs.Answers.{Ground}
 use Rattle.checker_result.specs.declared.CheckResult.{CheckResult}
@@ -30,7 +30,7 @@ Placed n r = n ≤ 65535 → r ≡ n
 
 -- the output has room for the file with the events that are left
 pub record Ready (f : List ℕ) (x : Reduced) (o : List ℕ) : Type 0 where
-  pub room : Room f (spanW f) (x .words) (x .count) o
+  pub room : Room f (spanM f) (x .words) (x .count) o
   pub long : length (x .words) ≡ 400
 
 -- the answer repeats what was reduced, and the output holds the file with the events that are left
@@ -43,7 +43,7 @@ pub record Repeats (f : List ℕ) (target n : ℕ) (x : Reduced) (c : CheckResul
   pub events : r .events ≡ x .count
   pub words : r .words ≡ x .words
   pub check : r .check ≡ c
-  pub wrote : Wrote (file-with f (spanW f) (x .words) (x .count)) (r .written) o o'
+  pub wrote : Wrote (file-with f (spanM f) (x .words) (x .count)) (r .written) o o'
 
 pub record Refused (number : ℕ) (r : Minimized) (o o' : List ℕ) : Type 0 where
   pub answer-is : r ≡ no-reduction number

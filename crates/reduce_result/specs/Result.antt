@@ -2,7 +2,7 @@
 use Prim.Native.Nat.{ℕ}
 use mathlib.Core.Bool.{false}
 use lib.ListN.{replicate}
-use Rattle.model.specs.Answer.{refused}
+use Rattle.model_spec.specs.Answer.{refused}
 use Rattle.checker_result.specs.Result.{no-check}
 use Rattle.reduce_result.specs.declared.Minimized.{Minimized}
 

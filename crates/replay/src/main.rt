@@ -83,50 +83,58 @@ fn sizes_of(s: &[u8]) -> Sizes {
 
 // The lines of `verify` and of `minimize`; their files aren't kept.
 fn print_verify(out: &mut [u8], n: usize, file: &[u8], sizes: Sizes) -> usize {
-    let queue = engine_reads::at_most(sizes.first, check_lines::QUEUE);
-    let records = engine_reads::at_most(sizes.second, check_lines::RECORDS);
-    let runs = engine_reads::at_most(sizes.third, check_lines::RUNS);
-    let size = engine_reads::at_most(sizes.output, 32814);
+    let queue = engine_fields::at_most(sizes.first, print_check::QUEUE);
+    let records = engine_fields::at_most(sizes.second, print_check::RECORDS);
+    let runs = engine_fields::at_most(sizes.third, print_check::RUNS);
+    let size = engine_fields::at_most(sizes.output, 32814);
     let mut output = [0u8; 32814];
-    let p = verify_lines::print_verify(out, n, file, queue, records, runs, &mut output[0..size]);
+    let p = print_verify::print_verify(out, n, file, queue, records, runs, &mut output[0..size]);
     p.next
 }
 
 fn print_minimize(out: &mut [u8], n: usize, file: &[u8], sizes: Sizes) -> usize {
-    let queue = engine_reads::at_most(sizes.first, check_lines::QUEUE);
-    let records = engine_reads::at_most(sizes.second, check_lines::RECORDS);
-    let runs = engine_reads::at_most(sizes.third, check_lines::RUNS);
-    let size = engine_reads::at_most(sizes.output, 32814);
+    let queue = engine_fields::at_most(sizes.first, print_check::QUEUE);
+    let records = engine_fields::at_most(sizes.second, print_check::RECORDS);
+    let runs = engine_fields::at_most(sizes.third, print_check::RUNS);
+    let size = engine_fields::at_most(sizes.output, 32814);
     let mut output = [0u8; 32814];
-    let p = search_lines::print_minimize(out, n, file, queue, records, runs, &mut output[0..size]);
+    let p = print_minimize::print_minimize(
+        out,
+        n,
+        file,
+        queue,
+        records,
+        runs,
+        &mut output[0..size],
+    );
     p.next
 }
 
 fn print_simulate(out: &mut [u8], n: usize, file: &[u8], sizes: Sizes) -> usize {
-    let queue = engine_reads::at_most(sizes.first, simulate_lines::QUEUE);
-    let records = engine_reads::at_most(sizes.second, simulate_lines::RECORDS);
-    let runs = engine_reads::at_most(sizes.third, simulate_lines::RUNS);
-    simulate_lines::print_simulate(out, n, file, queue, records, runs)
+    let queue = engine_fields::at_most(sizes.first, print_simulate::QUEUE);
+    let records = engine_fields::at_most(sizes.second, print_simulate::RECORDS);
+    let runs = engine_fields::at_most(sizes.third, print_simulate::RUNS);
+    print_simulate::print_simulate(out, n, file, queue, records, runs)
 }
 
 fn print_full_check(out: &mut [u8], n: usize, file: &[u8], sizes: Sizes) -> usize {
-    let queue = engine_reads::at_most(sizes.first, check_lines::QUEUE);
-    let records = engine_reads::at_most(sizes.second, check_lines::RECORDS);
-    let runs = engine_reads::at_most(sizes.third, check_lines::RUNS);
-    check_lines::print_full_check(out, n, file, queue, records, runs)
+    let queue = engine_fields::at_most(sizes.first, print_check::QUEUE);
+    let records = engine_fields::at_most(sizes.second, print_check::RECORDS);
+    let runs = engine_fields::at_most(sizes.third, print_check::RUNS);
+    print_check::print_full_check(out, n, file, queue, records, runs)
 }
 
 fn print_lint(out: &mut [u8], n: usize, file: &[u8], sizes: Sizes) -> usize {
-    let findings = engine_reads::at_most(sizes.first, report_lines::FINDINGS);
-    let interactions = engine_reads::at_most(sizes.second, report_lines::INTERACTIONS);
-    report_lines::print_lint(out, n, file, findings, interactions)
+    let findings = engine_fields::at_most(sizes.first, print_lint::FINDINGS);
+    let interactions = engine_fields::at_most(sizes.second, print_lint::INTERACTIONS);
+    print_lint::print_lint(out, n, file, findings, interactions)
 }
 
 // The lines of an entry's answer, behind the first n bytes of `out`; what doesn't fit there is printed before.
 fn print_lines(entry: Entry, out: &mut [u8], n: usize, file: &[u8], sizes: Sizes) -> usize {
     match entry {
-        Entry::Validate => validate_lines::put_answer(out, n, file),
-        Entry::Unsupported => simulate_lines::print_unsupported(out, n, file),
+        Entry::Validate => print_validate::put_answer(out, n, file),
+        Entry::Unsupported => print_simulate::print_unsupported(out, n, file),
         Entry::Simulate => print_simulate(out, n, file, sizes),
         Entry::Fullcheck => print_full_check(out, n, file, sizes),
         Entry::Lint => print_lint(out, n, file, sizes),

@@ -5,20 +5,20 @@ use mathlib.Core.List.{List, [], _∷_}
 use mathlib.Core.Option.{Option, none, some}
 use native.Mathlib.Omega.{arith}
 use Rattle.texts.specs.Lists.{_▸_}
-use Rattle.model.specs.Answer.{Answer, answer, refused}
-use Rattle.model.specs.Model.{Automation, Event, Model}
-use Rattle.model.specs.Validate.{accepted}
-use Rattle.engine.specs.Cells.{Cell}
-use Rattle.engine.specs.Records.{Areas, Engine}
-use Rattle.engine.specs.Reasons.{space-spent, steps-spent}
-use Rattle.engine.specs.Changes.{with-queue}
-use Rattle.engine.specs.Engine.{Ended, Next, stop, exhausted, take, pop, next-of, process, loop, begun, closed}
-use Rattle.engine.specs.Simulate as engine
-use Rattle.engine.specs.Simulate.{ended, outcome, unless-full, simulated}
-use Rattle.engine.specs.Unsupported.{unsupported}
-use Rattle.engine.proofs.Distinct.{answer-eq, refused-answer, bind-inv}
-use Rattle.engine_places.proofs.Accepted.{accepted-lawful}
-use Rattle.checker.specs.Check.{Check, judged, checked}
+use Rattle.model_spec.specs.Answer.{Answer, answer, refused}
+use Rattle.model_spec.specs.Model.{Automation, Event, Model}
+use Rattle.model_spec.specs.Validate.{accepted}
+use Rattle.engine_spec.specs.Cells.{Cell}
+use Rattle.engine_spec.specs.Records.{Areas, Engine}
+use Rattle.engine_spec.specs.Reasons.{space-spent, steps-spent}
+use Rattle.engine_spec.specs.Changes.{with-queue}
+use Rattle.engine_spec.specs.Engine.{Ended, Next, stop, exhausted, take, pop, next-of, process, loop, begun, closed}
+use Rattle.engine_spec.specs.Simulate as engine
+use Rattle.engine_spec.specs.Simulate.{ended, outcome, unless-full, simulated}
+use Rattle.engine_spec.specs.Unsupported.{unsupported}
+use Rattle.engine_spec.proofs.Distinct.{answer-eq, refused-answer, bind-inv}
+use Rattle.engine_refinement.proofs.Accepted.{accepted-lawful}
+use Rattle.checker_spec.specs.Check.{Check, judged, checked}
 
 abbrev Few : ℕ → Ended → Type 0
 Few most d = d .steps ≤ most

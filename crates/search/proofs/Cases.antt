@@ -14,18 +14,18 @@ use Rattle.reasons.specs.Kinds as kinds
 use Rattle.reasons.specs.Lists.{listed, insertAll, Holds}
 use Rattle.reasons.proofs.Listing.{grown}
 use Rattle.reasons.specs.Reasons.{render, body, words}
-use Rattle.model.specs.Answer.{Answer, answer, refused, _>>=_, accept}
-use Rattle.model.specs.Model.{Input, Event, Model}
-use Rattle.model.specs.Validate.{check-input}
-use Rattle.engine_reads.specs.Reads.{alone}
-use Rattle.engine_places.specs.Meaning.{Tabled}
-use Rattle.engine_places.specs.Events.{Among, EventAt}
-use Rattle.engine_places.proofs.Pool.{no-text, mem-right, among-to}
+use Rattle.model_spec.specs.Answer.{Answer, answer, refused, _>>=_, accept}
+use Rattle.model_spec.specs.Model.{Input, Event, Model}
+use Rattle.model_spec.specs.Validate.{check-input}
+use Rattle.engine_fields.specs.Reads.{alone}
+use Rattle.engine_refinement.specs.Meaning.{Tabled}
+use Rattle.engine_refinement.specs.Events.{Among, EventAt}
+use Rattle.engine_refinement.proofs.Pool.{no-text, mem-right, among-to}
 use Rattle.engine_entry.proofs.Core.{tb}
-use Rattle.checker.specs.Check.{Check, is-violation, checked}
-use Rattle.checker.specs.Check as check
-use Rattle.checker.specs.Verify as verify
-use Rattle.checker.specs.Verify.{after-case, out-of-budget, try-case}
+use Rattle.checker_spec.specs.Check.{Check, is-violation, checked}
+use Rattle.checker_spec.specs.Check as check
+use Rattle.checker_spec.specs.Verify as verify
+use Rattle.checker_spec.specs.Verify.{after-case, out-of-budget, try-case}
 use Rattle.checker_result.specs.declared.CheckResult.{CheckResult}
 use Rattle.checker_result.specs.declared.Status.{Status}
 use Rattle.checker_entry.specs.Answers.{status-as}
@@ -33,12 +33,12 @@ use Rattle.checker_entry.specs.Answers as said
 use Rattle.checker_entry.specs.Parts.{RefusedAs}
 use Rattle.checker_entry.specs.Pool.{check-pool}
 use Rattle.checker_entry.proofs.Pool.{few-in-pool, among-both, mem-first}
-use Rattle.checker_case.specs.Case.{Tells, answers, refuses, Cased}
+use Rattle.checker_retry.specs.Case.{Tells, answers, refuses, Cased}
 use Rattle.search_inputs.specs.declared.Placed.{Placed}
-use Rattle.engine_begin.proofs.Begins.{Fine}
+use Rattle.engine_inputs.proofs.Begins.{Fine}
 use Rattle.search_inputs.proofs.Means.{fine-here, input-accepted, event-at-here}
 use Rattle.search_cases.specs.declared.Search.{Search}
-use Rattle.search_cases.specs.Parts.{refusalV, violatesV, refusedS, Spends, Found, Other, Gathers}
+use Rattle.search_cases.specs.Parts.{refusalM, violatesM, refusedM, Spends, Found, Other, Gathers}
 use Rattle.search.specs.Meaning.{none-such, cells-of, sizes, search-pool, Entire, Setting, PlacedAs, WitnessIs, Held, Outcome}
 use Rattle.search.proofs.Sorted.{sorted-few, sorted-again, sorted-both, sorted-one, sorted-none}
 use Rattle.search.proofs.Budget.{few-steps}
@@ -176,13 +176,13 @@ module _ {f : List ℕ} {p : Entire} {q a u : ℕ} (x : Setting f p q a u) where
 
 -- ---- the status of a check
 
-refusal-none : (y : check.Status) → refusalV (status-as y) ≡ 0
+refusal-none : (y : check.Status) → refusalM (status-as y) ≡ 0
 refusal-none check.Status.unknown = refl
 refusal-none check.Status.violation = refl
 refusal-none check.Status.incomplete = refl
 refusal-none check.no-violation-in-trace = refl
 
-violates-as : (y : check.Status) → violatesV (status-as y) ≡ is-violation y
+violates-as : (y : check.Status) → violatesM (status-as y) ≡ is-violation y
 unfolding is-violation
 violates-as check.Status.unknown = refl
 violates-as check.Status.violation = refl
@@ -246,11 +246,11 @@ module _ {f : List ℕ} {p : Entire} {q a u : ℕ} {placed : Placed} {c : CheckR
   unfolding _>>=_
   refuse-so n e = check-law x vs s h (test-none x vs s h lc ls) ∙ rw e
 
-  refusal-of : (b : Check) → said.Shows f c b → refusalV (c .status) ≡ 0
-  refusal-of b k = ap refusalV (k .status-is) ∙ refusal-none (b .status)
+  refusal-of : (b : Check) → said.Shows f c b → refusalM (c .status) ≡ 0
+  refusal-of b k = ap refusalM (k .status-is) ∙ refusal-none (b .status)
 
-  refusal-so : (n : ℕ) → RefusedAs n c → refusalV (c .status) ≡ n
-  refusal-so n e = ap refusalV (e .status-is)
+  refusal-so : (n : ℕ) → RefusedAs n c → refusalM (c .status) ≡ n
+  refusal-so n e = ap refusalM (e .status-is)
 
   -- the steps of a check
   steps-of : (b : Check) → plain ≡ answer b → said.Shows f c b → {n : ℕ}
@@ -261,7 +261,7 @@ module _ {f : List ℕ} {p : Entire} {q a u : ℕ} {placed : Placed} {c : CheckR
       let l = few-steps f (x .m) (x .is-accepted) (sizes q a u) (cells-of (x .m)) vs b e in
       omega (arith, g (omega (arith, z, l)), z, h .steps)
 
-  pub refused-held : {n : ℕ} {r : Search} → n ≡ refusalV (c .status) → (n ≡ 0 → ⊥) → r ≡ refusedS o n → Outcome x here r w
+  pub refused-held : {n : ℕ} {r : Search} → n ≡ refusalM (c .status) → (n ≡ 0 → ⊥) → r ≡ refusedM o n → Outcome x here r w
   refused-held {n} {r} e z g = by promised
     where
       by : Promised → Outcome x here r w
@@ -276,7 +276,7 @@ module _ {f : List ℕ} {p : Entire} {q a u : ℕ} {placed : Placed} {c : CheckR
             stopped = ap (λ (t : Search). t .stopped) g;
           })
 
-  pub found-held : {n : ℕ} {v : Bool} {r : Search} → n ≡ refusalV (c .status) → n ≡ 0 → v ≡ violatesV (c .status)
+  pub found-held : {n : ℕ} {v : Bool} {r : Search} → n ≡ refusalM (c .status) → n ≡ 0 → v ≡ violatesM (c .status)
       → v ≡ true →
       placed .count ≤ 5 → Found o placed (c .simulation .steps) r → Outcome x here r w
   found-held {n} {v} {r} e z d t five g = by promised
@@ -284,7 +284,7 @@ module _ {f : List ℕ} {p : Entire} {q a u : ℕ} {placed : Placed} {c : CheckR
       by : Promised → Outcome x here r w
       by (answers b y k ku ki) =
           let violated : is-violation (b .status) ≡ true = sym (violates-as (b .status))
-          ∙ sym (ap violatesV (k .status-is)) ∙ sym d ∙ t in
+          ∙ sym (ap violatesM (k .status-is)) ∙ sym d ∙ t in
           subst (λ (t : Answer verify.Search). Outcome x t r w)
           (sym (answer-so b y ∙ ap answer (after-violation vs b s violated)))
           (record {
@@ -304,15 +304,15 @@ module _ {f : List ℕ} {p : Entire} {q a u : ℕ} {placed : Placed} {c : CheckR
           })
       by (refuses j lo hi y k) = absurd (omega (arith, e, z, refusal-so j k, lo))
 
-  pub other-held : {n : ℕ} {v : Bool} {count : ℕ} {r : Search} {w' : List ℕ} → n ≡ refusalV (c .status) → n ≡ 0
-      → v ≡ violatesV (c .status) → v ≡ false →
+  pub other-held : {n : ℕ} {v : Bool} {count : ℕ} {r : Search} {w' : List ℕ} → n ≡ refusalM (c .status) → n ≡ 0
+      → v ≡ violatesM (c .status) → v ≡ false →
       Gathers f (o .reasons) (c .unknown) (c .unknowns) (c .incomplete) (c .incompletes) w count w' → Other o count (c .simulation .steps) r → Outcome x here r w'
   other-held {n} {v} {count} {r} {w'} e z d t told g = by promised
     where
       by : Promised → Outcome x here r w'
       by (answers b y k ku ki) =
           let fine-so : is-violation (b .status) ≡ false = sym (violates-as (b .status))
-          ∙ sym (ap violatesV (k .status-is)) ∙ sym d ∙ t in
+          ∙ sym (ap violatesM (k .status-is)) ∙ sym d ∙ t in
           let sized = ch .sized in
           let au = widen x (b .unknown) ku in
           let ai = widen x (b .incomplete) ki in

@@ -13,17 +13,17 @@ use borrow.Author.Tests.{lt-ltb, le-ltb, ne-eqb}
 use Rattle.texts.specs.Texts.{Text}
 use Rattle.areas.specs.Areas.{area, written}
 use Rattle.areas.proofs.Laws as areas
-use Rattle.model.specs.Answer.{Answer, answer, refused, _>>=_}
-use Rattle.model.specs.Model.{Input, reload, Event, Model}
-use Rattle.engine.specs.Records.{Areas}
-use Rattle.engine_reads.specs.Reads.{cap}
-use Rattle.engine_places.proofs.Numbers.{cap-is}
-use Rattle.checker.specs.Verify as verify
-use Rattle.checker.specs.Verify.{last-at, unless-stopped}
+use Rattle.model_spec.specs.Answer.{Answer, answer, refused, _>>=_}
+use Rattle.model_spec.specs.Model.{Input, reload, Event, Model}
+use Rattle.engine_spec.specs.Records.{Areas}
+use Rattle.engine_fields.specs.Reads.{cap}
+use Rattle.engine_refinement.proofs.Numbers.{cap-is}
+use Rattle.checker_spec.specs.Verify as verify
+use Rattle.checker_spec.specs.Verify.{last-at, unless-stopped}
 use Rattle.search_inputs.specs.declared.Placed.{Placed}
-use Rattle.model.specs.Events.{input-words, event-words}
-use Rattle.model.proofs.Events.{input-size, event-size}
-use Rattle.search_inputs.specs.Inputs.{gap-words, lastV, placing}
+use Rattle.model_spec.specs.Events.{input-words, event-words}
+use Rattle.model_spec.proofs.Events.{input-size, event-size}
+use Rattle.search_inputs.specs.Inputs.{gap-words, lastM, placing}
 use Rattle.search_inputs.proofs.Means.{gap-size}
 use Rattle.search_cases.specs.declared.Search.{Search}
 use Rattle.search_cases.specs.Parts.{nextAt, Nexts}
@@ -81,8 +81,8 @@ module _ {f : List ℕ} {p : Entire} {q a u : ℕ} (x : Setting f p q a u) where
   abbrev gs : List ℕ
   gs = m .scenario .gaps
 
-  last-is : (vs : List Event) (placed : Placed) → PlacedAs ts m vs placed → lastV placed ≡ last-at vs
-  unfolding lastV last-at event-words
+  last-is : (vs : List Event) (placed : Placed) → PlacedAs ts m vs placed → lastM placed ≡ last-at vs
+  unfolding lastM last-at event-words
   last-is [] placed ps = rw (ps .count)
   last-is (v ∷ vs) placed ps =
       let n : placed .count ≡ suc (length vs) = ps .count in
@@ -94,7 +94,7 @@ module _ {f : List ℕ} {p : Entire} {q a u : ℕ} (x : Setting f p q a u) where
       ∙ sym (last-nth v vs none-such))
 
   module _ (vs : List Event) (placed : Placed) (ps : PlacedAs ts m vs placed) (room : placed .count < 5) (k : ℕ)
-      (h : k < p .gaps .count * p .alphabet .count) (soon : lastV placed ≤ p .horizon) where
+      (h : k < p .gaps .count * p .alphabet .count) (soon : lastM placed ≤ p .horizon) where
     pairs : k < length gs * length is
     pairs = subst (λ (n : ℕ). k < n * length is) (x .gaps) (subst (λ (n : ℕ). k < p .gaps .count * n) (x .inputs) h)
 
@@ -116,11 +116,11 @@ module _ {f : List ℕ} {p : Entire} {q a u : ℕ} (x : Setting f p q a u) where
     unfolding nextAt next-event
     second-is =
         let e = last-is vs placed ps in
-        let l : lastV placed + getD gs (k / length is) 0 ≤ 4294967295 = omega
+        let l : lastM placed + getD gs (k / length is) 0 ≤ 4294967295 = omega
         (arith, soon, x .horizon, x .day-long, x .short (k / length is) at-gap) in
-        ap (λ (n : ℕ). cap (lastV placed + getD (p .gaps .seconds) (k / n) 0)) (x .inputs)
-        ∙ ap (λ (n : ℕ). cap (lastV placed + n)) gap-is
-        ∙ cap-is (lastV placed + getD gs (k / length is) 0) l
+        ap (λ (n : ℕ). cap (lastM placed + getD (p .gaps .seconds) (k / n) 0)) (x .inputs)
+        ∙ ap (λ (n : ℕ). cap (lastM placed + n)) gap-is
+        ∙ cap-is (lastM placed + getD gs (k / length is) 0) l
         ∙ ap (λ (n : ℕ). n + getD gs (k / length is) 0) e
 
     input-word-is : (j i : ℕ) → j < length is → i < 3
@@ -192,14 +192,14 @@ module _ {f : List ℕ} {p : Entire} {q a u : ℕ} (x : Setting f p q a u) where
     going : o .stopped ≡ false → s .stopped ≡ false
     going e = sym (h .stopped) ∙ e
 
-    pub late-does : (placed : Placed) → PlacedAs ts m vs placed → o .stopped ≡ false → p .horizon < lastV placed
+    pub late-does : (placed : Placed) → PlacedAs ts m vs placed → o .stopped ≡ false → p .horizon < lastM placed
         → Outcome x visited o w
     late-does placed ps e l =
         let g : ltb (m .scenario .limits .horizon) (last-at vs)
         ≡ true = lt-ltb (m .scenario .limits .horizon) (last-at vs) (omega (arith, l, x .horizon, last-is vs placed ps)) in
         subst (λ (y : Answer verify.Search). Outcome x y o w) (sym (guarded-late (sizes q a u) m n vs s g)) h
 
-    in-time : (placed : Placed) → PlacedAs ts m vs placed → o .stopped ≡ false → lastV placed ≤ p .horizon →
+    in-time : (placed : Placed) → PlacedAs ts m vs placed → o .stopped ≡ false → lastM placed ≤ p .horizon →
         visited ≡ verify.visit (sizes q a u) m (cells-of m) n vs s
     unfolding unless-stopped
     in-time placed ps e l =
@@ -225,14 +225,14 @@ module _ {f : List ℕ} {p : Entire} where
   }
 
   pub late-so : {n : ℕ} {placed : Placed} {o : Search} {w : List ℕ} {q a u : ℕ} → o .stopped ≡ false
-      → p .horizon < lastV placed → Visits f p n placed o w o w q a u
+      → p .horizon < lastM placed → Visits f p n placed o w o w q a u
   late-so {n} {placed} {o} e l = record {
     stays = λ y. (refl, refl);
     does = λ x vs ps s h. late-does x n vs s h placed ps e l;
   }
 
   pub case-so : {n : ℕ} {placed : Placed} {o : Search} {w : List ℕ} {r : Search} {w' : List ℕ} {q a u : ℕ}
-      → o .stopped ≡ false → lastV placed ≤ p .horizon → n ≡ 0 →
+      → o .stopped ≡ false → lastM placed ≤ p .horizon → n ≡ 0 →
       Tries f p placed o w r w' q a u → Visits f p n placed o w r w' q a u
   case-so {n} {placed} {o} {w} {r} {w'} {q} {a} {u} e l z t = record {
     stays = λ y. never o e y;
@@ -249,7 +249,7 @@ module _ {f : List ℕ} {p : Entire} where
   walk-start = record { does = λ x vs ps s h. h }
 
   module _ {n : ℕ} {placed : Placed} {o : Search} {w : List ℕ} {k : ℕ} {t : Search} {w₁ : List ℕ} {q a u : ℕ} where
-    pub walk-next : k < p .gaps .count * p .alphabet .count → lastV placed ≤ p .horizon → placed .count < 5
+    pub walk-next : k < p .gaps .count * p .alphabet .count → lastM placed ≤ p .horizon → placed .count < 5
         → {next : Placed} → Nexts (p .gaps) (p .alphabet) placed k next →
         Walks f p n placed o w k t w₁ q a u → {r : Search} {w₂ : List ℕ} {q' a' u' : ℕ} → q' ≡ q → a' ≡ a → u' ≡ u →
         Visits f p n next t w₁ r w₂ q' a' u' → Walks f p n placed o w (k + 1) r w₂ q a u
@@ -272,7 +272,7 @@ module _ {f : List ℕ} {p : Entire} where
             (placed-next x vs placed ps room k less soon next g) z held
         by x vs ps (refused j) y = subst (Refused x j) (sym (v .stays (y .stopped) .0)) y
 
-    pub walk-end : (l : ℕ) → (l ≡ 0 → ⊥) → n ≡ l - 1 → o .stopped ≡ false → lastV placed ≤ p .horizon
+    pub walk-end : (l : ℕ) → (l ≡ 0 → ⊥) → n ≡ l - 1 → o .stopped ≡ false → lastM placed ≤ p .horizon
         → p .gaps .count * p .alphabet .count ≤ k → k ≤ p .gaps .count * p .alphabet .count →
         Walks f p n placed o w k t w₁ q a u → Visits f p l placed o w t w₁ q a u
     walk-end l some e open-so soon low high walks = record {

@@ -8,11 +8,11 @@ use native.Mathlib.Nat.{zero-mul, suc-mul, add-div-left, add-mod-left, div-eq-of
 use lib.Dec.{ltb}
 use lib.ListN.{length, getD}
 use borrow.Author.Tests.{le-ltb}
-use Rattle.model.specs.Answer.{Answer, answer, refused, _>>=_}
-use Rattle.model.specs.Model.{Input, Event, Model}
-use Rattle.engine.specs.Records.{Areas}
-use Rattle.engine.proofs.Lists.{Case, is-true, is-false, case}
-use Rattle.checker.specs.Verify.{Search, last-at, unless-stopped, each-input, each-gap, visit, deepen}
+use Rattle.model_spec.specs.Answer.{Answer, answer, refused, _>>=_}
+use Rattle.model_spec.specs.Model.{Input, Event, Model}
+use Rattle.engine_spec.specs.Records.{Areas}
+use Rattle.engine_spec.proofs.Lists.{Case, is-true, is-false, case}
+use Rattle.checker_spec.specs.Verify.{Search, last-at, unless-stopped, each-input, each-gap, visit, deepen}
 use Rattle.search.specs.Meaning.{cells-of, walked, guarded, next-event, step}
 
 abbrev Steps : Type 0

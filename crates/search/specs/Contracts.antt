@@ -3,8 +3,8 @@ use Prim.Native.Nat.{ℕ, suc, _-_}
 use mathlib.Core.Path.{_≡_}
 use mathlib.Core.Bool.{true}
 use mathlib.Core.List.{List, []}
-use Rattle.model.specs.Model.{Event}
-use Rattle.checker.specs.Verify as verify
+use Rattle.model_spec.specs.Model.{Event}
+use Rattle.checker_spec.specs.Verify as verify
 use Rattle.search_inputs.specs.declared.Placed.{Placed}
 use Rattle.search_cases.specs.declared.Search.{Search}
 use Rattle.search.specs.Meaning.{Entire, cells-of, sizes, Setting, PlacedAs, Held, Outcome, walked, guarded, step}

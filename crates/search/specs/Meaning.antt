@@ -9,23 +9,23 @@ use lib.ListN.{length, getD}
 use Rattle.texts.specs.Texts.{Text, text, sortedT}
 use Rattle.areas.specs.Areas.{area}
 use Rattle.reasons.specs.Lists.{Holds}
-use Rattle.model.specs.Answer.{Answer, answer, refused, _>>=_}
-use Rattle.model.specs.Model.{Input, Event, Model}
-use Rattle.model.specs.Validate.{accepted}
+use Rattle.model_spec.specs.Answer.{Answer, answer, refused, _>>=_}
+use Rattle.model_spec.specs.Model.{Input, Event, Model}
+use Rattle.model_spec.specs.Validate.{accepted}
 use Rattle.model_index.specs.declared.Index.{Index}
 use Rattle.model_index.specs.Indexed.{Indexed}
-use Rattle.engine.specs.Cells.{Cell, initial-cells}
-use Rattle.engine.specs.Records.{Areas}
-pub use Rattle.engine.specs.Words.{sizes}
-use Rattle.engine_places.specs.Events.{Among}
+use Rattle.engine_spec.specs.Cells.{Cell, initial-cells}
+use Rattle.engine_spec.specs.Records.{Areas}
+pub use Rattle.engine_spec.specs.Words.{sizes}
+use Rattle.engine_refinement.specs.Events.{Among}
 use Rattle.engine_entry.specs.Answers.{Ground, ground, Grounds}
-use Rattle.checker.specs.Check.{checked}
-use Rattle.checker.specs.Verify as verify
+use Rattle.checker_spec.specs.Check.{checked}
+use Rattle.checker_spec.specs.Verify as verify
 use Rattle.checker_entry.specs.Pool.{check-pool}
 use Rattle.search_inputs.specs.declared.Alphabet.{Alphabet}
 use Rattle.search_inputs.specs.declared.Gaps.{Gaps}
 use Rattle.search_inputs.specs.declared.Placed.{Placed}
-use Rattle.model.specs.Events.{input-words, event-words}
+use Rattle.model_spec.specs.Events.{input-words, event-words}
 use Rattle.search_inputs.specs.Inputs.{gap-words}
 use Rattle.search_cases.specs.declared.Plan.{Plan}
 use Rattle.search_cases.specs.declared.Search.{Search}

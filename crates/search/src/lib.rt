@@ -40,7 +40,7 @@ fn try_case(
     let shared = p.shared;
     let events = placed.words;
     let n = placed.count;
-    let c = checker_case::check_case(
+    let c = checker_retry::check_case(
         file,
         table,
         starts,

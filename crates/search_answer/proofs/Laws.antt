@@ -11,14 +11,14 @@ use Rattle.reasons.specs.Lists.{reasons, listed, insertAll, Clean, Holds, Grows
 use Rattle.reasons.proofs.Listing as listing
 use Rattle.reasons.proofs.Listing.{grown}
 use Rattle.reasons.proofs.Cleaning.{zeros, holds-zeros}
-use Rattle.checker_verdict.proofs.Laws.{all-many}
+use Rattle.checker_collect.proofs.Laws.{all-many}
 use Rattle.checker_result.specs.declared.CheckResult.{CheckResult}
 use Rattle.checker_result.specs.Result.{no-check, result-of}
 use Rattle.search_cases.specs.Parts.{AtMost}
 use Rattle.search_answer.specs.declared.Found.the-variants as found
 use Rattle.search_answer.specs.declared.Searched.{Searched}
 use Rattle.search_answer.specs.Whole.{whole-of, unverified, no-verification}
-use Rattle.search_answer.specs.Told.{statusV, WithCheck, without}
+use Rattle.search_answer.specs.Told.{statusM, WithCheck, without}
 
 pub refused-is : (n : ℕ) {c : CheckResult} → c ≡ no-check 0 → unverified n c ≡ no-verification n
 unfolding no-verification
@@ -35,17 +35,17 @@ pub without-is : {c : CheckResult} → c ≡ no-check 0 → _≡_ {A = WithCheck
 unfolding without
 without-is e = rw e
 
-pub status-found : {b : Bool} (n : ℕ) → b ≡ true → found.Counterexample ≡ statusV b n
-unfolding statusV
+pub status-found : {b : Bool} (n : ℕ) → b ≡ true → found.Counterexample ≡ statusM b n
+unfolding statusM
 status-found n e = rw e
 
 module _ {b : Bool} {n : ℕ} where
-  pub status-none : b ≡ false → n ≡ 0 → found.NoCounterexampleWithinBounds ≡ statusV b n
-  unfolding statusV
+  pub status-none : b ≡ false → n ≡ 0 → found.NoCounterexampleWithinBounds ≡ statusM b n
+  unfolding statusM
   status-none e z = rw (e, eq-eqb n 0 z)
 
-  pub status-left : b ≡ false → (n ≡ 0 → ⊥) → found.Inconclusive ≡ statusV b n
-  unfolding statusV
+  pub status-left : b ≡ false → (n ≡ 0 → ⊥) → found.Inconclusive ≡ statusM b n
+  unfolding statusM
   status-left e z = rw (e, ne-eqb n 0 z)
 
 -- ---- the reasons

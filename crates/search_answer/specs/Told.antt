@@ -13,14 +13,14 @@ use Rattle.checker_result.specs.Result as check
 use Rattle.search_inputs.specs.declared.Alphabet.{Alphabet}
 use Rattle.search_inputs.specs.declared.Gaps.{Gaps}
 use Rattle.search_cases.specs.declared.Search.{Search}
-use Rattle.search_cases.specs.Parts.{limitV}
+use Rattle.search_cases.specs.Parts.{limitM}
 use Rattle.search_answer.specs.declared.Found.{Found}
 use Rattle.search_answer.specs.declared.Found.the-variants as found
 use Rattle.search_answer.specs.declared.Verification.{Verification}
 use Rattle.search_answer.specs.declared.Witness.{Witness}
 
-unfoldable pub statusV : (found : Bool) → (reasons : ℕ) → Found
-statusV b n = if b then found.Counterexample else if eqb n 0 then found.NoCounterexampleWithinBounds else found.Inconclusive
+unfoldable pub statusM : (found : Bool) → (reasons : ℕ) → Found
+statusM b n = if b then found.Counterexample else if eqb n 0 then found.NoCounterexampleWithinBounds else found.Inconclusive
 
 -- a witness with the whole of its check
 pub record WithCheck : Type 0 where
@@ -35,13 +35,13 @@ with-check x c = record { events = x .events; words = x .words; written = x .wri
 -- an answer that repeats what it is made of
 pub record Told (f : List ℕ) (limits : ℕ) (is : Alphabet) (gs : Gaps) (h : ℕ) (o : Search) (w : List ℕ) (x : WithCheck)
     (r : Verification) : Type 0 where
-  pub status-is : r .status ≡ statusV (o .found) (r .reasons)
+  pub status-is : r .status ≡ statusM (o .found) (r .reasons)
   pub cases : r .cases ≡ o .cases
   pub total : r .total ≡ o .steps
-  pub depth : r .depth ≡ limitV f limits 8
+  pub depth : r .depth ≡ limitM f limits 8
   pub horizon : r .horizon ≡ h
-  pub most : r .most ≡ limitV f limits 12
-  pub steps : r .steps ≡ limitV f limits 4
+  pub most : r .most ≡ limitM f limits 12
+  pub steps : r .steps ≡ limitM f limits 4
   pub alphabet : r .alphabet ≡ is .count
   pub inputs : r .inputs ≡ is .words
   pub gaps : r .gaps ≡ gs .count

@@ -9,7 +9,7 @@ ghost use Prim.Native.Nat.{ℕ};
 ghost use lib.ListN.{length, replicate};
 ghost use Rattle.checker_result.specs.Result.{result-of};
 ghost use Rattle.search_answer.specs.Whole.{whole-of, no-verification};
-ghost use Rattle.search_answer.specs.Told.{statusV, with-check, without, Told};
+ghost use Rattle.search_answer.specs.Told.{statusM, with-check, without, Told};
 
 pub enum Found {
     Refused(u32),
@@ -127,7 +127,7 @@ pub fn no_witness(
 // ---- the answer
 
 fn status_of(found: bool, reasons: usize) -> Found
-    ensures { λ r. ⌜ r ≡ statusV found reasons ⌝ }
+    ensures { λ r. ⌜ r ≡ statusM found reasons ⌝ }
 {
     if found {
         return Found::Counterexample;

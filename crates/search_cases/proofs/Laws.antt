@@ -12,18 +12,18 @@ use Rattle.reasons.specs.Lists.{listed, insertAll, Clean, Grows}
 use Rattle.reasons.specs.Reasons.{render}
 use Rattle.reasons.specs.declared.Reason.{Reason}
 use Rattle.reasons.proofs.Listing as listing
-use Rattle.engine_reads.specs.Reads.{four, cap, alone}
-use Rattle.engine_reads.proofs.Readable.{alone-readable}
-use Rattle.checker_verdict.proofs.Laws.{all-many}
+use Rattle.engine_fields.specs.Reads.{four, cap, alone}
+use Rattle.engine_fields.proofs.Readable.{alone-readable}
+use Rattle.checker_collect.proofs.Laws.{all-many}
 use Rattle.search_inputs.specs.declared.Alphabet.{Alphabet}
 use Rattle.search_inputs.specs.declared.Gaps.{Gaps}
 use Rattle.search_inputs.specs.declared.Placed.{Placed}
-use Rattle.search_inputs.specs.Inputs.{lastV, Placing}
+use Rattle.search_inputs.specs.Inputs.{lastM, Placing}
 use Rattle.search_cases.specs.declared.Plan.{Plan}
-use Rattle.search_cases.specs.Parts.{AtMost, limitV, Fitted, Gathers, nextAt, Nexts}
+use Rattle.search_cases.specs.Parts.{AtMost, limitM, Fitted, Gathers, nextAt, Nexts}
 
-pub limit-is : (f : List ℕ) (at k : ℕ) {p r : ℕ} → p ≡ cap at → r ≡ four f (p + k) → r ≡ limitV f at k
-unfolding limitV
+pub limit-is : (f : List ℕ) (at k : ℕ) {p r : ℕ} → p ≡ cap at → r ≡ four f (p + k) → r ≡ limitM f at k
+unfolding limitM
 limit-is f at k e h = h ∙ ap (λ (p : ℕ). four f (p + k)) e
 
 -- ---- reasons
@@ -96,7 +96,7 @@ module _ (k g i : ℕ) (h : k < g * i) where
   pub input-below : k % i < i
   input-below = mod-lt k some-inputs
 
-pub next-is : (gs : Gaps) (is : Alphabet) (placed : Placed) (k : ℕ) {last at : ℕ} {r : Placed} → last ≡ lastV placed →
+pub next-is : (gs : Gaps) (is : Alphabet) (placed : Placed) (k : ℕ) {last at : ℕ} {r : Placed} → last ≡ lastM placed →
     at ≡ cap (last + getD (gs .seconds) (k / is .count) 0)
     → Placing placed at is (k % is .count) r → Nexts gs is placed k r
 unfolding nextAt

@@ -10,14 +10,14 @@ use Rattle.reasons.specs.Kinds as kinds
 use Rattle.reasons.specs.Lists.{listed, insertAll, Clean, Grows}
 use Rattle.reasons.specs.Reasons.{render}
 use Rattle.model_index.specs.declared.Index.{Index}
-use Rattle.engine_reads.specs.Reads.{four, cap, alone}
+use Rattle.engine_fields.specs.Reads.{four, cap, alone}
 use Rattle.engine_state.specs.declared.Cells.{Cells}
 use Rattle.checker_result.specs.declared.Status.{Status}
 use Rattle.checker_result.specs.declared.Status.the-variants as status
 use Rattle.search_inputs.specs.declared.Alphabet.{Alphabet}
 use Rattle.search_inputs.specs.declared.Gaps.{Gaps}
 use Rattle.search_inputs.specs.declared.Placed.{Placed}
-use Rattle.search_inputs.specs.Inputs.{AlphabetOf, GapsOf, lastV, Placing}
+use Rattle.search_inputs.specs.Inputs.{AlphabetOf, GapsOf, lastM, Placing}
 use Rattle.search_cases.specs.declared.Plan.{Plan}
 use Rattle.search_cases.specs.declared.Search.{Search}
 
@@ -28,8 +28,8 @@ pub record AtMost (n m r : ℕ) : Type 0 where
 -- ---- what a search goes by
 
 -- a limit of the model: 0 horizon, 4 steps, 8 depth, 12 cases
-unfoldable pub limitV : List ℕ → (limits k : ℕ) → ℕ
-limitV f at k = four f (cap at + k)
+unfoldable pub limitM : List ℕ → (limits k : ℕ) → ℕ
+limitM f at k = four f (cap at + k)
 
 pub record Plans (f : List ℕ) (i : Index) (c : Cells) (notes : ℕ) (p : Plan) : Type 0 where
   pub cells : p .shared .cells ≡ c
@@ -37,8 +37,8 @@ pub record Plans (f : List ℕ) (i : Index) (c : Cells) (notes : ℕ) (p : Plan)
   pub invariants : p .shared .invariants ≡ i .invariants .count
   pub alphabet : AlphabetOf f i (p .alphabet)
   pub gaps : GapsOf f i (p .gaps)
-  pub horizon : p .horizon ≡ limitV f (i .limits) 0
-  pub cases : AtMost (limitV f (i .limits) 12) 2000 (p .cases)
+  pub horizon : p .horizon ≡ limitM f (i .limits) 0
+  pub cases : AtMost (limitM f (i .limits) 12) 2000 (p .cases)
 
 -- the counts' bounds
 pub record Fitted (p : Plan) (room : ℕ) : Type 0 where
@@ -55,22 +55,22 @@ pub record Shaped (p : Plan) (placed : Placed) (remaining room : ℕ) : Type 0 w
 
 -- ---- a case
 
-abbrev pub refusalV : Status → ℕ
-refusalV (status.Refused n) = n
-refusalV status.Unknown = 0
-refusalV status.Violation = 0
-refusalV status.Incomplete = 0
-refusalV status.NoViolationInTrace = 0
+abbrev pub refusalM : Status → ℕ
+refusalM (status.Refused n) = n
+refusalM status.Unknown = 0
+refusalM status.Violation = 0
+refusalM status.Incomplete = 0
+refusalM status.NoViolationInTrace = 0
 
-abbrev pub violatesV : Status → Bool
-violatesV (status.Refused n) = false
-violatesV status.Unknown = false
-violatesV status.Violation = true
-violatesV status.Incomplete = false
-violatesV status.NoViolationInTrace = false
+abbrev pub violatesM : Status → Bool
+violatesM (status.Refused n) = false
+violatesM status.Unknown = false
+violatesM status.Violation = true
+violatesM status.Incomplete = false
+violatesM status.NoViolationInTrace = false
 
-abbrev pub refusedS : Search → (number : ℕ) → Search
-refusedS o n = record {
+abbrev pub refusedM : Search → (number : ℕ) → Search
+refusedM o n = record {
   refused = n;
   cases = o .cases;
   steps = o .steps;
@@ -125,7 +125,7 @@ Gathers f n k us j ws w r w' =
 -- ---- the next events
 
 unfoldable pub nextAt : Gaps → Alphabet → Placed → (k : ℕ) → ℕ
-nextAt gs is placed k = cap (lastV placed + getD (gs .seconds) (k / is .count) 0)
+nextAt gs is placed k = cap (lastM placed + getD (gs .seconds) (k / is .count) 0)
 
 abbrev pub Nexts : Gaps → Alphabet → Placed → (k : ℕ) → Placed → Type 0
 Nexts gs is placed k r = Placing placed (nextAt gs is placed k) is (k % is .count) r

@@ -9,8 +9,8 @@ use search_inputs::Placed;
 ghost use mathlib.Core.Path.{_≡_};
 ghost use Prim.Native.Nat.{_+_, _*_, _≤_, _<_};
 ghost use lib.ListN.{length};
-ghost use Rattle.engine_reads.specs.Reads.{cap};
-ghost use Rattle.search_cases.specs.Parts.{AtMost, limitV, Plans, Shaped, refusalV, violatesV, refusedS, Spends, Found, Other, Gathers, Nexts, Begins};
+ghost use Rattle.engine_fields.specs.Reads.{cap};
+ghost use Rattle.search_cases.specs.Parts.{AtMost, limitM, Plans, Shaped, refusalM, violatesM, refusedM, Spends, Found, Other, Gathers, Nexts, Begins};
 
 // What all cases share beside the arrays that are lent: the start, what is chosen from, the horizon and the most cases.
 pub struct Plan {
@@ -59,10 +59,10 @@ pub fn few(n: usize, most: usize) -> usize
 // A limit of the model.
 pub fn limit(file: &[u8], limits: usize, k: usize) -> u32
     requires { ⌜ k ≤ 12 ⌝ }
-    ensures { λ r. ⌜ r ≡ limitV (now (file .entry)) limits k ⌝ }
+    ensures { λ r. ⌜ r ≡ limitM (now (file .entry)) limits k ⌝ }
 {
-    let p = engine_reads::capped(limits) as usize;
-    engine_reads::four_at(file, p + k)
+    let p = engine_fields::capped(limits) as usize;
+    engine_fields::four_at(file, p + k)
 }
 
 // From the values at the start, and so many reasons of the notes.
@@ -91,7 +91,7 @@ pub fn planned(file: &[u8], index: Index, cells: Cells, notes: usize) -> Plan
 // ---- a case
 
 pub fn refusal(status: Status) -> u32
-    ensures { λ r. ⌜ r ≡ refusalV status ⌝ }
+    ensures { λ r. ⌜ r ≡ refusalM status ⌝ }
 {
     match status {
         Status::Refused(number) => number,
@@ -103,7 +103,7 @@ pub fn refusal(status: Status) -> u32
 }
 
 pub fn violates(status: Status) -> bool
-    ensures { λ r. ⌜ r ≡ violatesV status ⌝ }
+    ensures { λ r. ⌜ r ≡ violatesM status ⌝ }
 {
     match status {
         Status::Refused(_) => false,
@@ -116,7 +116,7 @@ pub fn violates(status: Status) -> bool
 
 // A case was refused.
 pub fn refused_case(o: Search, number: u32) -> Search
-    ensures { λ r. ⌜ r ≡ refusedS o number ⌝ }
+    ensures { λ r. ⌜ r ≡ refusedM o number ⌝ }
 {
     let witness = o.witness;
     Search {
@@ -138,7 +138,7 @@ pub fn spent(f: &[u8], o: Search, w: &mut [u32]) -> Search
 {
     let witness = o.witness;
     let n = few(o.reasons, 400);
-    let why = engine_reads::by_itself(reasons::SEARCH_SPENT);
+    let why = engine_fields::by_itself(reasons::SEARCH_SPENT);
     let count = reasons::insert_sorted(f, w, n, why);
     Search {
         refused: o.refused,
@@ -214,7 +214,7 @@ pub fn other_case(o: Search, count: usize, steps: u32) -> Search
 fn later(last: u32, gap: u32) -> u32
     ensures { λ r. ⌜ r ≡ cap (last + gap) ⌝ }
 {
-    engine_reads::capped(last as usize + gap as usize)
+    engine_fields::capped(last as usize + gap as usize)
 }
 
 // The events placed so far and the k-th of the pairs of a gap and an input.

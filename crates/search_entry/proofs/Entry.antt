@@ -8,9 +8,9 @@ use native.Mathlib.Omega.{arith}
 use lib.ListN.{length, getD, replicate}
 use borrow.Author.Tests.{lt-ltb, le-ltb}
 use Rattle.texts.specs.Lists.{is-empty}
-use Rattle.model.specs.Answer.{Answer, answer, refused, _>>=_, _and_, _when_}
-use Rattle.model.specs.Model.{Invariant, Model}
-use Rattle.model.specs.Validate.{accepted}
+use Rattle.model_spec.specs.Answer.{Answer, answer, refused, _>>=_, _and_, _when_}
+use Rattle.model_spec.specs.Model.{Invariant, Model}
+use Rattle.model_spec.specs.Validate.{accepted}
 use Rattle.model_index.specs.declared.File.{File}
 use Rattle.model_index.specs.declared.Index.{Index}
 use Rattle.model_index.specs.declared.Status.the-variants as status
@@ -18,20 +18,20 @@ use Rattle.model_index.specs.Indexed as indexed
 use Rattle.model_index.specs.Indexed.{Indexed}
 use Rattle.model_validate.proofs.Agrees.{accept-read, accept-refused}
 use Rattle.model_validate.proofs.Refusals.{Refuses, Refusal, refusal-numbers}
-use Rattle.engine.specs.Memory.{Lent, entries, zeros, all-zeros, lent-after}
-use Rattle.engine.specs.Records.{Areas}
-use Rattle.engine.specs.Words.{words-in, entry-words}
-use Rattle.engine.proofs.Memory.{refusals}
-use Rattle.engine_reads.specs.Reads.{atMost}
+use Rattle.engine_spec.specs.Memory.{Lent, entries, zeros, all-zeros, lent-after}
+use Rattle.engine_spec.specs.Records.{Areas}
+use Rattle.engine_spec.specs.Words.{words-in, entry-words}
+use Rattle.engine_spec.proofs.Memory.{refusals}
+use Rattle.engine_fields.specs.Reads.{atMost}
 use Rattle.engine_state.specs.declared.Cells.{Cells}
-use Rattle.engine_places.proofs.Numbers.{most-is}
+use Rattle.engine_refinement.proofs.Numbers.{most-is}
 use Rattle.engine_entry.specs.Answers.{ground, Grounds}
-use Rattle.checker.specs.Verify as verify
-use Rattle.checker.specs.Verify.{searched, verified, short-of-room}
+use Rattle.checker_spec.specs.Verify as verify
+use Rattle.checker_spec.specs.Verify.{searched, verified, short-of-room}
 use Rattle.search_inputs.proofs.Lawful.{accepted-searchable}
 use Rattle.search_cases.specs.declared.Plan.{Plan}
 use Rattle.search_cases.specs.declared.Search.{Search}
-use Rattle.search_cases.specs.Parts.{limitV, Plans, Begins}
+use Rattle.search_cases.specs.Parts.{limitM, Plans, Begins}
 use Rattle.search.specs.Meaning.{cells-of, sizes, Entire, entire, Setting, Outcome}
 use Rattle.search.specs.Contracts.{Deepens}
 use Rattle.search_answer.specs.declared.Verification.{Verification}
@@ -45,7 +45,7 @@ use Rattle.search_entry.proofs.Start.{limits-are, setting, start-of, st
 module _ {f : List ℕ} {i : Index} (bytes : (k : ℕ) → getD f k 0 < 256) (p : Plan) {x notes : List ℕ} {c : Cells} {n : ℕ}
     (gr : Grounds f i (ground x c n notes)) (pl : Plans f i c n p)
     {start : Search} {w₀ : List ℕ} (b : Begins f (p .shared .notes) notes (replicate 4000 0) start w₀)
-    {depth : ℕ} (few : depth ≡ atMost (limitV f (i .limits) 8) 5) {q a u : ℕ} {o : Search} {w : List ℕ}
+    {depth : ℕ} (few : depth ≡ atMost (limitM f (i .limits) 8) 5) {q a u : ℕ} {o : Search} {w : List ℕ}
     (d : Deepens f (entire p x (i .invariants .starts) notes) depth start w₀ o w q a u) where
   abbrev all : Entire
   all = entire p x (i .invariants .starts) notes
@@ -57,7 +57,7 @@ module _ {f : List ℕ} {i : Index} (bytes : (k : ℕ) → getD f k 0 < 256) (p 
     depth-is : depth ≡ m .scenario .limits .search-depth
     depth-is =
         let l = limits-are f i m acc ix .depth in
-        few ∙ most-is (limitV f (i .limits) 8) 5 (omega (arith, l, accepted-searchable f m acc .depth)) ∙ l
+        few ∙ most-is (limitM f (i .limits) 8) 5 (omega (arith, l, accepted-searchable f m acc .depth)) ∙ l
 
     searched-is : verify.deepen (sizes q a u) m (cells-of m) (suc depth) 0 (start-of m)
         ≡ searched (sizes q a u) m (cells-of m)

@@ -13,30 +13,30 @@ use Rattle.areas.proofs.Laws as areas
 use Rattle.reasons.specs.Lists.{insertAll, Holds}
 use Rattle.reasons.proofs.Listing.{reported}
 use Rattle.reasons.proofs.Sorting.{one-by-one}
-use Rattle.model.specs.Answer.{Answer, answer, refused, _>>=_}
-use Rattle.engine.specs.Memory.{Lent}
-use Rattle.engine.specs.Words.{texts-in, words-in}
+use Rattle.model_spec.specs.Answer.{Answer, answer, refused, _>>=_}
+use Rattle.engine_spec.specs.Memory.{Lent}
+use Rattle.engine_spec.specs.Words.{texts-in, words-in}
 use Rattle.engine_entry.proofs.Promise.{texts-here}
-use Rattle.checker.specs.Verify as verify
-use Rattle.checker.specs.Verify.{found-of, verification-of, witness-file}
-use Rattle.model.specs.Events.{input-words, event-words}
+use Rattle.checker_spec.specs.Verify as verify
+use Rattle.checker_spec.specs.Verify.{found-of, verification-of, witness-file}
+use Rattle.model_spec.specs.Events.{input-words, event-words}
 use Rattle.search_cases.specs.declared.Search.{Search}
-use Rattle.search_cases.specs.Parts.{limitV}
+use Rattle.search_cases.specs.Parts.{limitM}
 use Rattle.search.specs.Meaning.{Entire, Setting, Witnessed, Held, Outcome}
-use Rattle.engine_places.proofs.Pool.{has-text}
+use Rattle.engine_refinement.proofs.Pool.{has-text}
 use Rattle.search.proofs.Cases.{table, few-reasons}
 use Rattle.search.proofs.Sorted.{sorted-again}
 use Rattle.search_answer.specs.declared.Verification.{Verification}
 use Rattle.search_answer.specs.Whole.{no-verification}
 use Rattle.search_entry.specs.Answers.{found-as, NoWitness, Witnesses, WitnessSays, Shows, witness-trace, output-after}
-use Rattle.search_answer.specs.Told.{statusV, WithCheck, Told, without}
+use Rattle.search_answer.specs.Told.{statusM, WithCheck, Told, without}
 use Rattle.search_entry.specs.Parts.{Writable, Written, Writes, Reached, answer-of, Ending, Ends}
 use Rattle.search_entry.proofs.Start.{limits-are}
 
 -- ---- the status
 
-status-none : (l : List Text) {n : ℕ} → n ≡ length l → statusV false n ≡ found-as (found-of none l)
-unfolding statusV found-of
+status-none : (l : List Text) {n : ℕ} → n ≡ length l → statusM false n ≡ found-as (found-of none l)
+unfolding statusM found-of
 status-none [] e = rw e
 status-none (t ∷ l) {n} e = rw (ne-eqb n 0 (λ z. absurd (omega (arith, e, z))))
 
@@ -62,10 +62,10 @@ module _ {f : List ℕ} {at : ℕ} {p : Entire} {q a u : ℕ} (x : Setting f p q
           status-is = e;
           cases = t .cases ∙ h .cases;
           total = t .total ∙ h .steps;
-          depth = t .depth ∙ ap (λ (j : ℕ). limitV f j 8) (sym here) ∙ l .depth;
+          depth = t .depth ∙ ap (λ (j : ℕ). limitM f j 8) (sym here) ∙ l .depth;
           horizon = t .horizon ∙ x .horizon;
-          most = t .most ∙ ap (λ (j : ℕ). limitV f j 12) (sym here) ∙ l .cases;
-          steps = t .steps ∙ ap (λ (j : ℕ). limitV f j 4) (sym here) ∙ l .steps;
+          most = t .most ∙ ap (λ (j : ℕ). limitM f j 12) (sym here) ∙ l .cases;
+          steps = t .steps ∙ ap (λ (j : ℕ). limitM f j 4) (sym here) ∙ l .steps;
           alphabet = t .alphabet ∙ x .inputs;
           inputs = t .inputs ∙ x .words ∙ ap (λ (ts : List Text). area (input-words ts) 36 (x .m .scenario .alphabet))
               (sym texts-are);
@@ -88,7 +88,7 @@ module _ {f : List ℕ} {at : ℕ} {p : Entire} {q a u : ℕ} (x : Setting f p q
     }
 
     none-status : o .found ≡ false → r .status ≡ found-as (found-of none (sortedT (s .reasons)))
-    none-status e = t .status-is ∙ ap (λ (b : Bool). statusV b (r .reasons)) e
+    none-status e = t .status-is ∙ ap (λ (b : Bool). statusM b (r .reasons)) e
         ∙ status-none (sortedT (s .reasons)) (reasons-are .many)
 
     -- ---- a witness
@@ -104,7 +104,7 @@ module _ {f : List ℕ} {at : ℕ} {p : Entire} {q a u : ℕ} (x : Setting f p q
     }
 
     some-status : (v : verify.Witness) → o .found ≡ true → r .status ≡ found-as (found-of (some v) (sortedT (s .reasons)))
-    unfolding statusV found-of
+    unfolding statusM found-of
     some-status v e = t .status-is ∙ rw e
 
 -- ---- the three ends

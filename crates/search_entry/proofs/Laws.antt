@@ -2,7 +2,7 @@
 use Prim.Native.Nat.{ℕ}
 use mathlib.Core.Path.{_≡_, sym, subst}
 use mathlib.Core.List.{List}
-use Rattle.engine.specs.Memory.{Lent}
+use Rattle.engine_spec.specs.Memory.{Lent}
 use Rattle.search_answer.specs.declared.Verification.{Verification}
 use Rattle.search_entry.specs.Answers.{Verifies}
 

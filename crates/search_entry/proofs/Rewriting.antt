@@ -6,22 +6,22 @@ use native.Mathlib.Omega.{arith}
 use lib.ListN.{length, getD}
 use Rattle.areas.specs.Areas.{area}
 use Rattle.areas.proofs.Laws as areas
-use Rattle.model.specs.Answer.{Answer, answer, refused}
-use Rattle.model.specs.Model.{Input, Event}
-use Rattle.model.specs.File.{decode}
+use Rattle.model_spec.specs.Answer.{Answer, answer, refused}
+use Rattle.model_spec.specs.Model.{Input, Event}
+use Rattle.model_spec.specs.File.{decode}
 use Rattle.model_rewrite.specs.declared.Span.{Span}
-use Rattle.model_rewrite.specs.Span.{spanW}
+use Rattle.model_rewrite.specs.Span.{spanM}
 use Rattle.model_rewrite.specs.Written.{file-with, Room, Wrote}
-use Rattle.model.specs.Events.{event-words, EventWords}
-use Rattle.model.proofs.Events.{event-size}
-use Rattle.engine_begin.proofs.Begins.{Fine, event-words-here}
+use Rattle.model_spec.specs.Events.{event-words, EventWords}
+use Rattle.model_spec.proofs.Events.{event-size}
+use Rattle.engine_inputs.proofs.Begins.{Fine, event-words-here}
 use Rattle.model_rewrite.proofs.Agrees.{asked, told}
 use Rattle.model_rewrite.proofs.WithEvents.{few-events}
-use Rattle.engine.specs.Words.{words-in}
-use Rattle.engine.proofs.Validated.{accepted-decoded}
+use Rattle.engine_spec.specs.Words.{words-in}
+use Rattle.engine_spec.proofs.Validated.{accepted-decoded}
 use Rattle.engine_entry.specs.Answers.{lent}
 use Rattle.engine_entry.proofs.Core.{queue-clear, runs-clear}
-use Rattle.checker.specs.Check.{Check, checked}
+use Rattle.checker_spec.specs.Check.{Check, checked}
 use Rattle.checker_result.specs.declared.CheckResult.{CheckResult}
 use Rattle.checker_entry.specs.Answers as said
 use Rattle.checker_entry.specs.Parts.{Checked, Whole}
@@ -60,7 +60,7 @@ module _ {f : List ℕ} {p : Entire} {placed : Placed} {q a u o : ℕ} (h : Writ
   pub check-asks : placed .count * 4 ≤ length (placed .words)
   check-asks = omega (arith, five, long)
 
-  pub write-asks : {s : Span} → s ≡ spanW f → (out : List ℕ) → length out ≡ o →
+  pub write-asks : {s : Span} → s ≡ spanM f → (out : List ℕ) → length out ≡ o →
       Room f s (placed .words) (placed .count) out
   write-asks e out l =
       asked f (x .m) (x .index) (decoded x) (x .indexed) (placed .words) none-such (h .events)
@@ -68,7 +68,7 @@ module _ {f : List ℕ} {p : Entire} {placed : Placed} {q a u o : ℕ} (h : Writ
       (omega (arith, five)) (omega (arith, few-events f (x .m) (decoded x) (h .events) (h .few), h .room, l))
 
 pub writes-so : {f : List ℕ} {p : Entire} (placed : Placed) {c : CheckResult} {q q' a a' u u' : List ℕ} →
-    Whole f (p .starts) (p .invariants) (p .ground) (placed .words) (placed .count) c q q' a a' u u' → {s : Span} → s ≡ spanW f →
+    Whole f (p .starts) (p .invariants) (p .ground) (placed .words) (placed .count) c q q' a a' u u' → {s : Span} → s ≡ spanM f →
     {n : ℕ} {out out' : List ℕ} → Wrote (file-with f s (placed .words) (placed .count)) n out out' →
     Writes f p placed (record { events = placed .count; words = placed .words; written = n; check = c }) (length q)
     (length a) (length u) (lent q' a' u') out out'

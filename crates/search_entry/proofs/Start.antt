@@ -12,29 +12,29 @@ use Rattle.reasons.specs.Lists.{listed, insertAll, Holds}
 use Rattle.reasons.proofs.Listing.{grown}
 use Rattle.reasons.proofs.Cleaning.{zeros, holds-zeros}
 use Rattle.reasons.proofs.Sorting.{one-by-one}
-use Rattle.model.specs.Answer.{answer}
-use Rattle.model.specs.Model.{Limits, Model}
-use Rattle.model.specs.File.{u32, limits}
-use Rattle.model.specs.Validate.{accepted}
+use Rattle.model_spec.specs.Answer.{answer}
+use Rattle.model_spec.specs.Model.{Limits, Model}
+use Rattle.model_spec.specs.File.{u32, limits}
+use Rattle.model_spec.specs.Validate.{accepted}
 use Rattle.model_walk.proofs.Found.{bound, given, u32-wide}
 use Rattle.model_index.specs.declared.Index.{Index}
 use Rattle.model_index.specs.Indexed.{Indexed}
-use Rattle.engine.specs.Reasons.{unsupported-wait}
-use Rattle.engine.specs.Unsupported.{unsupported}
-use Rattle.engine_reads.specs.Reads.{four, cap}
+use Rattle.engine_spec.specs.Reasons.{unsupported-wait}
+use Rattle.engine_spec.specs.Unsupported.{unsupported}
+use Rattle.engine_fields.specs.Reads.{four, cap}
 use Rattle.engine_state.specs.declared.Cells.{Cells}
-use Rattle.engine_places.specs.Meaning.{rule-pool, pool-of}
-use Rattle.engine_places.proofs.Accepted.{accepted-lawful, accepted-small}
-use Rattle.engine_places.proofs.Numbers.{four-is, cap-is, most-is}
+use Rattle.engine_refinement.specs.Meaning.{rule-pool, pool-of}
+use Rattle.engine_refinement.proofs.Accepted.{accepted-lawful, accepted-small}
+use Rattle.engine_refinement.proofs.Numbers.{four-is, cap-is, most-is}
 use Rattle.engine_entry.specs.Answers.{ground, Grounds}
 use Rattle.engine_entry.proofs.Core.{tb, notes-held}
-use Rattle.checker.specs.Verify as verify
+use Rattle.checker_spec.specs.Verify as verify
 use Rattle.checker_entry.proofs.Pool.{notes-among}
 use Rattle.search_inputs.proofs.Lawful.{Searchable, accepted-searchable}
 use Rattle.search_inputs.proofs.Means.{alphabet-is, gaps-are}
 use Rattle.search_cases.specs.declared.Plan.{Plan}
 use Rattle.search_cases.specs.declared.Search.{Search}
-use Rattle.search_cases.specs.Parts.{limitV, Plans, Fitted, Begins}
+use Rattle.search_cases.specs.Parts.{limitM, Plans, Fitted, Begins}
 use Rattle.search.specs.Meaning.{cells-of, Entire, entire, Setting, Held}
 use Rattle.search.proofs.Cases.{widen}
 
@@ -42,13 +42,13 @@ use Rattle.search.proofs.Cases.{widen}
 
 module _ (f : List ℕ) (i : Index) (m : Model) (acc : accepted f ≡ answer m) (o : Indexed f i m) where
   pub record LimitsAre : Type 0 where
-    pub horizon : limitV f (i .limits) 0 ≡ m .scenario .limits .horizon
-    pub steps : limitV f (i .limits) 4 ≡ m .scenario .limits .max-steps
-    pub depth : limitV f (i .limits) 8 ≡ m .scenario .limits .search-depth
-    pub cases : limitV f (i .limits) 12 ≡ m .scenario .limits .max-cases
+    pub horizon : limitM f (i .limits) 0 ≡ m .scenario .limits .horizon
+    pub steps : limitM f (i .limits) 4 ≡ m .scenario .limits .max-steps
+    pub depth : limitM f (i .limits) 8 ≡ m .scenario .limits .search-depth
+    pub cases : limitM f (i .limits) 12 ≡ m .scenario .limits .max-cases
 
   pub limits-are : LimitsAre
-  unfolding limits limitV
+  unfolding limits limitM
   limits-are =
       let h = bound u32 _ (o .limits-at .1) in
       let n = bound u32 _ (h .rest) in

@@ -1,4 +1,4 @@
--- What `verify` answers, by the definitions of crate `checker`: each number of the answer, each word of the lent areas, each
+-- What `verify` answers, by the definitions of crate `checker_spec`: each number of the answer, each word of the lent areas, each
 -- byte of the output.
 use Prim.Native.Nat.{ℕ}
 use mathlib.Core.Path.{_≡_}
@@ -6,16 +6,16 @@ use mathlib.Core.List.{List, [], _++_}
 use mathlib.Core.Option.{Option, none, some}
 use lib.ListN.{length, drop, replicate}
 use Rattle.areas.specs.Areas.{area}
-use Rattle.model.specs.Answer.{Answer, answer, refused}
-use Rattle.model.specs.Rewrite.{rewritten}
+use Rattle.model_spec.specs.Answer.{Answer, answer, refused}
+use Rattle.model_spec.specs.Rewrite.{rewritten}
 use Rattle.reasons.specs.Lists.{Reported}
-use Rattle.engine.specs.Memory.{Lent, entries, lent-after}
-use Rattle.engine.specs.Records.{Trace}
-use Rattle.engine.specs.Words.{texts-in, words-in, entry-words}
-use Rattle.checker.specs.Verify as verify
+use Rattle.engine_spec.specs.Memory.{Lent, entries, lent-after}
+use Rattle.engine_spec.specs.Records.{Trace}
+use Rattle.engine_spec.specs.Words.{texts-in, words-in, entry-words}
+use Rattle.checker_spec.specs.Verify as verify
 use Rattle.checker_result.specs.Result.{no-check}
 use Rattle.checker_entry.specs.Answers as check
-use Rattle.model.specs.Events.{input-words, event-words}
+use Rattle.model_spec.specs.Events.{input-words, event-words}
 use Rattle.search_inputs.specs.Inputs.{gap-words}
 use Rattle.search_answer.specs.declared.Found.{Found}
 use Rattle.search_answer.specs.declared.Found.the-variants as found

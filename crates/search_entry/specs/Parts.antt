@@ -4,18 +4,18 @@ use mathlib.Core.Path.{_≡_}
 use mathlib.Core.List.{List, []}
 use lib.ListN.{length, replicate}
 use Rattle.areas.specs.Areas.{area}
-use Rattle.model.specs.Answer.{Answer, answer, refused, _>>=_}
-use Rattle.model.specs.Model.{Event, Model}
-use Rattle.model.specs.Rewrite.{rewritten}
-use Rattle.model.specs.Validate.{accepted}
+use Rattle.model_spec.specs.Answer.{Answer, answer, refused, _>>=_}
+use Rattle.model_spec.specs.Model.{Event, Model}
+use Rattle.model_spec.specs.Rewrite.{rewritten}
+use Rattle.model_spec.specs.Validate.{accepted}
 use Rattle.model_index.specs.declared.Index.{Index}
 use Rattle.model_index.specs.Indexed.{Indexed}
 use Rattle.model_rewrite.specs.Written.{Wrote}
-use Rattle.engine.specs.Memory.{Lent}
-use Rattle.engine.specs.Records.{Trace}
-use Rattle.engine.specs.Words.{words-in}
-use Rattle.checker.specs.Check.{Check, checked}
-use Rattle.checker.specs.Verify as verify
+use Rattle.engine_spec.specs.Memory.{Lent}
+use Rattle.engine_spec.specs.Records.{Trace}
+use Rattle.engine_spec.specs.Words.{words-in}
+use Rattle.checker_spec.specs.Check.{Check, checked}
+use Rattle.checker_spec.specs.Verify as verify
 use Rattle.checker_entry.specs.Answers as check
 use Rattle.search_inputs.specs.declared.Placed.{Placed}
 use Rattle.search_cases.specs.declared.Search.{Search}

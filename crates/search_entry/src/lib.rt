@@ -144,7 +144,7 @@ fn run(
     let p = search_cases::planned(file, index, cells, b.count);
     let shared = p.shared;
     let start = search_cases::begun(file, reasons, shared.notes, &mut w);
-    let depth = engine_reads::at_most(search_cases::limit(file, index.limits, 8), 5);
+    let depth = engine_fields::at_most(search_cases::limit(file, index.limits, 8), 5);
     let o = search::search_depths(
         file,
         &table,

@@ -8,11 +8,11 @@ use lib.Dec.{ltb, eqb}
 use lib.ListN.{length, getD}
 use borrow.Author.Tests.{ltb-false}
 use Rattle.texts.specs.Lists.{is-empty, any}
-use Rattle.model.specs.Answer.{answer}
-use Rattle.model.specs.Model.{Model}
-use Rattle.model.specs.Validate.{day, bad-limits, bad-alphabet, accepted}
-use Rattle.engine.proofs.Lists.{or-no}
-use Rattle.engine.proofs.Validated.{or-no′, accepted-passed}
+use Rattle.model_spec.specs.Answer.{answer}
+use Rattle.model_spec.specs.Model.{Model}
+use Rattle.model_spec.specs.Validate.{day, bad-limits, bad-alphabet, accepted}
+use Rattle.engine_spec.proofs.Lists.{or-no}
+use Rattle.engine_spec.proofs.Validated.{or-no′, accepted-passed}
 
 pub record Searchable (m : Model) : Type 0 where
   pub few-inputs : length (m .scenario .alphabet) ≤ 12

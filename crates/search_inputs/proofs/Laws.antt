@@ -5,10 +5,10 @@ use Prim.Native.Nat.{ℕ, _-_, _*_, _/_, _%_, _≤_, _<_}
 use lib.ListN.{getD}
 use borrow.Author.Tests.{lt-ltb, le-ltb, eq-eqb, ne-eqb}
 use Rattle.model_index.specs.declared.Index.{Index}
-use Rattle.engine_reads.specs.Reads.{four, cap}
-use Rattle.engine_begin.specs.Begin.{input-part}
+use Rattle.engine_fields.specs.Reads.{four, cap}
+use Rattle.engine_inputs.specs.Begin.{input-part}
 use Rattle.search_inputs.specs.declared.Placed.{Placed}
-use Rattle.search_inputs.specs.Inputs.{input-word, gap-word, lastV}
+use Rattle.search_inputs.specs.Inputs.{input-word, gap-word, lastM}
 
 module _ (s : List ℕ) (i : Index) (k : ℕ) where
   pub word-in : {p r : ℕ} → k / 3 < i .alphabet .count → p ≡ cap (getD (i .alphabet .starts) (k / 3) 0)
@@ -29,10 +29,10 @@ module _ (s : List ℕ) (i : Index) (k : ℕ) where
   gap-out h = rw (le-ltb k (i .gaps .count) h)
 
 module _ (p : Placed) where
-  pub last-none : p .count ≡ 0 → 0 ≡ lastV p
-  unfolding lastV
+  pub last-none : p .count ≡ 0 → 0 ≡ lastM p
+  unfolding lastM
   last-none e = rw (eq-eqb (p .count) 0 e)
 
-  pub last-some : (p .count ≡ 0 → ⊥) → getD (p .words) ((p .count - 1) * 4) 0 ≡ lastV p
-  unfolding lastV
+  pub last-some : (p .count ≡ 0 → ⊥) → getD (p .words) ((p .count - 1) * 4) 0 ≡ lastM p
+  unfolding lastM
   last-some h = rw (ne-eqb (p .count) 0 h)

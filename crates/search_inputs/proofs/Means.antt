@@ -12,30 +12,30 @@ use Rattle.texts.specs.Lists.{each}
 use Rattle.texts.specs.Texts.{Text}
 use Rattle.areas.specs.Areas.{area}
 use Rattle.areas.proofs.Laws as areas
-use Rattle.model.specs.Answer.{answer, accept}
-use Rattle.model.specs.Model.{Event, Input, Model}
-use Rattle.model.specs.File.{input, ascending}
-use Rattle.model.specs.Events.{input-words, event-words}
-use Rattle.model.proofs.Events.{input-size}
-use Rattle.model.specs.Validate.{check-input, accepted}
+use Rattle.model_spec.specs.Answer.{answer, accept}
+use Rattle.model_spec.specs.Model.{Event, Input, Model}
+use Rattle.model_spec.specs.File.{input, ascending}
+use Rattle.model_spec.specs.Events.{input-words, event-words}
+use Rattle.model_spec.proofs.Events.{input-size}
+use Rattle.model_spec.specs.Validate.{check-input, accepted}
 use Rattle.model_walk.proofs.Found.{u32-wide}
 use Rattle.model_index.specs.declared.Index.{Index}
 use Rattle.model_index.specs.Indexed.{Indexed}
 use Rattle.model_rewrite.proofs.Agrees.{place-is, texts-found}
-use Rattle.engine_reads.specs.Reads.{four, cap}
-use Rattle.engine_places.specs.Meaning.{Tabled}
-use Rattle.engine_places.proofs.Accepted.{accepted-lawful}
-use Rattle.engine_places.proofs.Lists as lists
-use Rattle.engine_places.proofs.Numbers.{four-is, cap-is}
-use Rattle.engine_places.proofs.Outcome.{event-at}
-use Rattle.engine_places.specs.Events.{EventAt}
-use Rattle.engine_begin.specs.Begin.{input-part}
-use Rattle.engine_begin.proofs.Begins.{Fine, InputAt, input-at, event-words-here, word-behind}
+use Rattle.engine_fields.specs.Reads.{four, cap}
+use Rattle.engine_refinement.specs.Meaning.{Tabled}
+use Rattle.engine_refinement.proofs.Accepted.{accepted-lawful}
+use Rattle.engine_refinement.proofs.Lists as lists
+use Rattle.engine_refinement.proofs.Numbers.{four-is, cap-is}
+use Rattle.engine_refinement.proofs.Outcome.{event-at}
+use Rattle.engine_refinement.specs.Events.{EventAt}
+use Rattle.engine_inputs.specs.Begin.{input-part}
+use Rattle.engine_inputs.proofs.Begins.{Fine, InputAt, input-at, event-words-here, word-behind}
 use Rattle.search_inputs.specs.declared.Alphabet.{Alphabet}
 use Rattle.search_inputs.specs.declared.Gaps.{Gaps}
 use Rattle.search_inputs.specs.Inputs.{gap-words, input-word, AlphabetOf, gap-word, GapsOf}
 use Rattle.search_inputs.proofs.Lawful.{Searchable, accepted-searchable}
-use Rattle.engine.proofs.Lists.{each-split}
+use Rattle.engine_spec.proofs.Lists.{each-split}
 
 pub gap-size : (g : ℕ) → length (gap-words g) ≡ 1
 unfolding gap-words
@@ -57,7 +57,7 @@ module _ (f : List ℕ) (i : Index) (m : Model) (acc : accepted f ≡ answer m) 
   asc = texts-found f 4 (o .all-texts .1) .1
 
   small : length f ≤ 32768
-  small = Rattle.engine_places.proofs.Accepted.accepted-small f m acc .0
+  small = Rattle.engine_refinement.proofs.Accepted.accepted-small f m acc .0
 
   near : (p : ℕ) → p ≤ length f → cap p ≡ p
   near p h = cap-is p (omega (arith, h, small))

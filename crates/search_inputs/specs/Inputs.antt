@@ -7,8 +7,8 @@ use lib.ListN.{length, getD}
 use Rattle.texts.specs.Lists.{if_then_else_}
 use Rattle.areas.specs.Areas.{written}
 use Rattle.model_index.specs.declared.Index.{Index}
-use Rattle.engine_reads.specs.Reads.{four, cap, atMost}
-use Rattle.engine_begin.specs.Begin.{input-part}
+use Rattle.engine_fields.specs.Reads.{four, cap, atMost}
+use Rattle.engine_inputs.specs.Begin.{input-part}
 use Rattle.search_inputs.specs.declared.Alphabet.{Alphabet}
 use Rattle.search_inputs.specs.declared.Gaps.{Gaps}
 use Rattle.search_inputs.specs.declared.Placed.{Placed}
@@ -37,8 +37,8 @@ pub record GapsOf (s : List ℕ) (i : Index) (r : Gaps) : Type 0 where
   pub long : length (r .seconds) ≡ 4
   pub seconds : (k : ℕ) → k < 4 → getD (r .seconds) k 0 ≡ gap-word s i k
 
-unfoldable pub lastV : Placed → ℕ
-lastV p = if eqb (p .count) 0 then 0 else getD (p .words) ((p .count - 1) * 4) 0
+unfoldable pub lastM : Placed → ℕ
+lastM p = if eqb (p .count) 0 then 0 else getD (p .words) ((p .count - 1) * 4) 0
 
 -- the words of the j-th input at a second
 unfoldable pub placing : (at : ℕ) → Alphabet → (j : ℕ) → List ℕ

@@ -3,7 +3,7 @@ use model_index::Index;
 ghost use mathlib.Core.Path.{_≡_};
 ghost use Prim.Native.Nat.{_≤_, _<_};
 ghost use lib.ListN.{length};
-ghost use Rattle.search_inputs.specs.Inputs.{input-word, AlphabetOf, gap-word, GapsOf, lastV, Placing};
+ghost use Rattle.search_inputs.specs.Inputs.{input-word, AlphabetOf, gap-word, GapsOf, lastM, Placing};
 
 // Three words an input: a kind (0 sets, 1 restarts, 2 reloads), the place of an entity and the place of a value.
 pub struct Alphabet {
@@ -32,8 +32,8 @@ fn input_word(s: &[u8], index: Index, k: usize) -> u32
     let alphabet = index.alphabet;
     let count = alphabet.count as usize;
     if k / 3 < count {
-        let p = engine_reads::capped(alphabet.starts[k / 3]) as usize;
-        return engine_begin::input_part(s, p, k % 3);
+        let p = engine_fields::capped(alphabet.starts[k / 3]) as usize;
+        return engine_inputs::input_part(s, p, k % 3);
     }
     0
 }
@@ -43,7 +43,7 @@ pub fn alphabet_of(s: &[u8], index: Index) -> Alphabet
     ensures { λ r. ⌜ AlphabetOf (now (s .entry)) index r ⌝ }
 {
     let alphabet = index.alphabet;
-    let count = engine_reads::at_most(alphabet.count, 12);
+    let count = engine_fields::at_most(alphabet.count, 12);
     let mut words = [0u32; 36];
     let mut k: usize = 0;
     while k < 36 {
@@ -62,8 +62,8 @@ fn gap_word(s: &[u8], index: Index, k: usize) -> u32
     let gaps = index.gaps;
     let count = gaps.count as usize;
     if k < count {
-        let p = engine_reads::capped(gaps.starts[k]) as usize;
-        return engine_reads::four_at(s, p);
+        let p = engine_fields::capped(gaps.starts[k]) as usize;
+        return engine_fields::four_at(s, p);
     }
     0
 }
@@ -73,7 +73,7 @@ pub fn gaps_of(s: &[u8], index: Index) -> Gaps
     ensures { λ r. ⌜ GapsOf (now (s .entry)) index r ⌝ }
 {
     let gaps = index.gaps;
-    let count = engine_reads::at_most(gaps.count, 4);
+    let count = engine_fields::at_most(gaps.count, 4);
     let mut seconds = [0u32; 4];
     let mut k: usize = 0;
     while k < 4 {
@@ -88,7 +88,7 @@ pub fn gaps_of(s: &[u8], index: Index) -> Gaps
 // The second of the last event, 0 if there is none.
 pub fn last_at(placed: Placed) -> u32
     requires { ⌜ placed .count ≤ 5 ⌝ }
-    ensures { λ r. ⌜ r ≡ lastV placed ⌝ }
+    ensures { λ r. ⌜ r ≡ lastM placed ⌝ }
 {
     let n = placed.count;
     if n == 0 {

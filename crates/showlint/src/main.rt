@@ -3,9 +3,9 @@
 fn main() {
     let mut file = [0u8; 32769];
     let n = io::read_full(0, &mut file);
-    let findings = arguments::entries(1, report_lines::FINDINGS);
-    let interactions = arguments::entries(2, report_lines::INTERACTIONS);
+    let findings = arguments::entries(1, print_lint::FINDINGS);
+    let interactions = arguments::entries(2, print_lint::INTERACTIONS);
     let mut out = io::large_buffer();
-    let m = report_lines::print_lint(&mut out, 0, &file[..n], findings, interactions);
+    let m = print_lint::print_lint(&mut out, 0, &file[..n], findings, interactions);
     show::flush(&out, m);
 }

@@ -4,10 +4,10 @@
 fn main() {
     let mut file = [0u8; 32769];
     let n = io::read_full(0, &mut file);
-    let queue = arguments::entries(1, simulate_lines::QUEUE);
-    let records = arguments::entries(2, simulate_lines::RECORDS);
-    let runs = arguments::entries(3, simulate_lines::RUNS);
+    let queue = arguments::entries(1, print_simulate::QUEUE);
+    let records = arguments::entries(2, print_simulate::RECORDS);
+    let runs = arguments::entries(3, print_simulate::RUNS);
     let mut out = io::large_buffer();
-    let m = simulate_lines::print_simulate(&mut out, 0, &file[..n], queue, records, runs);
+    let m = print_simulate::print_simulate(&mut out, 0, &file[..n], queue, records, runs);
     show::flush(&out, m);
 }

@@ -4,6 +4,6 @@ fn main() {
     let mut file = [0u8; 32769];
     let n = io::read_full(0, &mut file);
     let mut out = io::large_buffer();
-    let m = simulate_lines::print_unsupported(&mut out, 0, &file[..n]);
+    let m = print_simulate::print_unsupported(&mut out, 0, &file[..n]);
     show::flush(&out, m);
 }

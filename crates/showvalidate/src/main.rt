@@ -4,6 +4,6 @@ fn main() {
     let mut file = [0u8; 32769];
     let n = io::read_full(0, &mut file);
     let mut out = [0u8; 64];
-    let m = validate_lines::put_answer(&mut out, 0, &file[..n]);
+    let m = print_validate::put_answer(&mut out, 0, &file[..n]);
     show::flush(&out, m);
 }

@@ -1,135 +1,229 @@
-// The answers of `unsupported` and `simulate`, printed line by line through a lent area of bytes.
-// No contract can say what is printed; the lines are those of `reason_lines` and `engine_lines`, and their order is the order of
-// the calls here. None is lost if `out` has room for the longest one (`Kept`).
-use engine_table::Table;
-use reason_lines::Word;
-ghost use Prim.Native.Nat.{_≤_};
-ghost use Rattle.show.specs.Writing.{Kept};
+// The lines of `unsupported` and `simulate` besides the records: numbers, reasons, why a simulation is incomplete, and the
+// entities' values at the end. They are written behind the first n bytes of a lent area as the writers of `show` do. x is the table
+// of the file f (crate `engine_table`); texts are named by their places.
+use reasons::Reason;
+ghost use Prim.Native.Nat.{_+_, _*_, _≤_, _<_};
+ghost use lib.ListN.{length, drop};
+ghost use Rattle.reasons.specs.Reasons.{render};
+ghost use Rattle.reasons.specs.Lists.{reason-of};
+ghost use Rattle.engine_fields.specs.Reads.{name};
+ghost use Rattle.show.specs.Lines.{quoted};
+ghost use Rattle.show.specs.Writing.{Written, Kept};
+ghost use Rattle.simulate_lines.specs.Lines.{number-line, text-line, steps-line, records-line, horizon-line, unsupported-line, reason-line, sim-unknown-line, halted, incomplete-of, incomplete-lines, final-line};
+ghost use Rattle.simulate_lines.specs.Parts.{text-of};
 
-// Areas of so many entries are never too small.
-pub const QUEUE: usize = 20544;
+// ---- a word and a number
 
-pub const RECORDS: usize = 10096;
-
-pub const RUNS: usize = 512;
-
-fn print_refused(out: &mut [u8], n: usize, number: u32) -> usize
-    ensures { λ m. ⌜ Kept (now (out .entry)) n (now (out .exit)) m ⌝ }
+fn put_number_line(out: &mut [u8], n: usize, word: &[u8], number: u64) -> usize
+    ensures { λ m. ⌜ Written (number-line (now (word .entry)) number) (now (out .entry)) n (now (out .exit)) m ⌝ }
 {
-    let m = show::room(out, n, reason_lines::LINE);
-    show::put_refused(out, m, number)
+    let a = show::put(out, n, word);
+    let b = show::put_byte(out, a, 32);
+    let c = show::put_number(out, b, number);
+    show::put_byte(out, c, 10)
 }
 
-fn print_count(out: &mut [u8], n: usize, count: usize) -> usize
-    ensures { λ m. ⌜ Kept (now (out .entry)) n (now (out .exit)) m ⌝ }
+pub fn put_steps(out: &mut [u8], n: usize, steps: u32) -> usize
+    ensures { λ m. ⌜ Written (steps-line steps) (now (out .entry)) n (now (out .exit)) m ⌝ }
 {
-    let m = show::room(out, n, reason_lines::LINE);
-    reason_lines::put_unsupported(out, m, count)
+    put_number_line(out, n, b"steps", steps as u64)
 }
 
-pub fn print_unsupported(out: &mut [u8], n: usize, file: &[u8]) -> usize
-    ensures { λ m. ⌜ Kept (now (out .entry)) n (now (out .exit)) m ⌝ }
+pub fn put_records(out: &mut [u8], n: usize, records: usize) -> usize
+    ensures { λ m. ⌜ Written (records-line records) (now (out .entry)) n (now (out .exit)) m ⌝ }
 {
-    let r = engine_entry::unsupported(file);
-    if r.refused != 0 {
-        return print_refused(out, n, r.refused);
+    put_number_line(out, n, b"records", records as u64)
+}
+
+pub fn put_horizon(out: &mut [u8], n: usize, horizon: u32) -> usize
+    ensures { λ m. ⌜ Written (horizon-line horizon) (now (out .entry)) n (now (out .exit)) m ⌝ }
+{
+    put_number_line(out, n, b"horizon", horizon as u64)
+}
+
+pub fn put_unsupported(out: &mut [u8], n: usize, count: usize) -> usize
+    ensures { λ m. ⌜ Written (unsupported-line count) (now (out .entry)) n (now (out .exit)) m ⌝ }
+{
+    put_number_line(out, n, b"unsupported", count as u64)
+}
+
+// ---- a word and a reason
+
+fn put_reason_line(out: &mut [u8], n: usize, word: &[u8], f: &[u8], r: Reason) -> usize
+    ensures { λ m. ⌜ Written (text-line (now (word .entry)) (render (now (f .entry)) r)) (now (out .entry)) n (now (out .exit)) m ⌝ }
+{
+    let a = show::put(out, n, word);
+    let b = show::put_byte(out, a, 32);
+    let c = show::put_quoted_reason(out, b, f, r);
+    show::put_byte(out, c, 10)
+}
+
+// The reason at i of a list of reasons, for `unsupported` and for `simulate`.
+pub fn put_reason(out: &mut [u8], n: usize, f: &[u8], a: &[u32], i: usize) -> usize
+    requires { ⌜ i * 5 + 5 ≤ length (now a) ⌝ }
+    ensures { λ m. ⌜ Written (reason-line (render (now (f .entry)) (reason-of (drop (i * 5) (now (a .entry)))))) (now (out .entry)) n (now (out .exit)) m ⌝ }
+{
+    let r = reasons::get(a, i);
+    put_reason_line(out, n, b"reason", f, r)
+}
+
+pub fn put_unknown(out: &mut [u8], n: usize, f: &[u8], a: &[u32], i: usize) -> usize
+    requires { ⌜ i * 5 + 5 ≤ length (now a) ⌝ }
+    ensures { λ m. ⌜ Written (sim-unknown-line (render (now (f .entry)) (reason-of (drop (i * 5) (now (a .entry)))))) (now (out .entry)) n (now (out .exit)) m ⌝ }
+{
+    let r = reasons::get(a, i);
+    put_reason_line(out, n, b"sim-unknown", f, r)
+}
+
+// ---- why a simulation is incomplete
+
+fn put_text_line(out: &mut [u8], n: usize, word: &[u8], t: &[u8]) -> usize
+    ensures { λ m. ⌜ Written (text-line (now (word .entry)) (now (t .entry))) (now (out .entry)) n (now (out .exit)) m ⌝ }
+{
+    let a = show::put(out, n, word);
+    let b = show::put_byte(out, a, 32);
+    let c = show::put_quoted(out, b, t);
+    show::put_byte(out, c, 10)
+}
+
+// By the number of its halt.
+fn put_halted(out: &mut [u8], n: usize, why: u32) -> usize
+    ensures { λ m. ⌜ Written (incomplete-lines (halted why)) (now (out .entry)) n (now (out .exit)) m ⌝ }
+{
+    if why == 0 {
+        return n;
     }
-    let reasons = r.reasons;
-    let m = print_count(out, n, r.count);
-    reason_lines::print_reasons(out, m, Word::Reason, file, &reasons, r.count)
+    if why == 1 {
+        return put_text_line(
+            out,
+            n,
+            b"sim-incomplete",
+            b"trace or queue budget exhausted",
+        );
+    }
+    put_text_line(out, n, b"sim-incomplete", b"step budget exhausted")
 }
 
-// The table of an accepted file.
-fn table(file: &[u8]) -> Table {
-    let x = model_validate::accept(file);
-    engine_table::table_of(file, x.index)
+// By the number of its halt, and whether runs were left.
+pub fn put_incomplete(out: &mut [u8], n: usize, why: u32, waiting: bool) -> usize
+    ensures { λ m. ⌜ Written (incomplete-lines (incomplete-of why waiting)) (now (out .entry)) n (now (out .exit)) m ⌝ }
+{
+    let m = put_halted(out, n, why);
+    if waiting {
+        return put_text_line(
+            out,
+            m,
+            b"sim-incomplete",
+            b"active or queued runs beyond observation horizon",
+        );
+    }
+    m
 }
 
-// The records and the values at the end, by the places of their texts.
-fn print_places(
+// ---- texts by place
+
+// The text at a place, quoted; the empty text for a place past the last.
+pub fn put_place(out: &mut [u8], n: usize, f: &[u8], x: &[u32; 436], place: u32) -> usize
+    ensures { λ m. ⌜ Written (quoted (text-of (now (f .entry)) (now (x .entry)) place)) (now (out .entry)) n (now (out .exit)) m ⌝ }
+{
+    if x[9] <= place {
+        return show::put(out, n, b"\"\"");
+    }
+    let at = texts::text_start(f, 6, place);
+    show::put_quoted_text(out, n, f, at)
+}
+
+// The value of an entity at the end.
+pub fn put_final(out: &mut [u8], n: usize, f: &[u8], x: &[u32; 436], e: usize, value: u32) -> usize
+    requires { ⌜ e < 32 ⌝ }
+    ensures { λ m. ⌜ Written (final-line (text-of (now (f .entry)) (now (x .entry)) (name (now (x .entry)) e)) (text-of (now (f .entry)) (now (x .entry)) value)) (now (out .entry)) n (now (out .exit)) m ⌝ }
+{
+    let a = show::put(out, n, b"final ");
+    let b = put_place(out, a, f, x, engine_fields::name_of(x, e));
+    let c = show::put_byte(out, b, 32);
+    let d = put_place(out, c, f, x, value);
+    show::put_byte(out, d, 10)
+}
+
+// ---- printing: lines behind the first n bytes of `out`, which goes to standard output first where a line may not fit.
+// The answer is where the next text goes; whoever printed last flushes. No line is cut if `out` has room for the longest one.
+
+// No line is longer, here or in `record_lines`, however its texts are escaped (proofs/Lengths).
+pub const LINE: usize = 4096;
+
+// Which line a reason gets.
+pub enum Word {
+    Reason,
+    SimUnknown,
+}
+
+// n, or the most if it is more.
+pub fn at_most(n: usize, most: usize) -> usize
+    ensures { λ r. ⌜ r ≤ most ⌝ }
+{
+    if most < n {
+        return most;
+    }
+    n
+}
+
+fn print_reason(out: &mut [u8], n: usize, word: Word, f: &[u8], a: &[u32], i: usize) -> usize
+    requires { ⌜ i * 5 + 5 ≤ length (now a) ⌝ }
+    ensures { λ m. ⌜ Kept (now (out .entry)) n (now (out .exit)) m ⌝ }
+{
+    let m = show::room(out, n, LINE);
+    match word {
+        Word::Reason => put_reason(out, m, f, a, i),
+        Word::SimUnknown => put_unknown(out, m, f, a, i),
+    }
+}
+
+// The first `count` reasons of a list, or as many as it has room for.
+pub fn print_reasons(
     out: &mut [u8],
     n: usize,
-    file: &[u8],
+    word: Word,
+    f: &[u8],
     a: &[u32],
-    records: usize,
-    values: &[u32; 32],
-) -> usize
-    ensures { λ m. ⌜ Kept (now (out .entry)) n (now (out .exit)) m ⌝ }
-{
-    let t = table(file);
-    let words = t.words;
-    let m = engine_lines::print_records(out, n, file, &words, a, records);
-    reason_lines::print_finals(out, m, file, &words, values)
-}
-
-fn print_numbers(out: &mut [u8], n: usize, steps: u32, records: usize, horizon: u32) -> usize
-    ensures { λ m. ⌜ Kept (now (out .entry)) n (now (out .exit)) m ⌝ }
-{
-    let m = show::room(out, n, reason_lines::LINE);
-    let a = reason_lines::put_steps(out, m, steps);
-    let b = reason_lines::put_records(out, a, records);
-    reason_lines::put_horizon(out, b, horizon)
-}
-
-fn print_unknown(
-    out: &mut [u8],
-    n: usize,
-    file: &[u8],
-    reasons: &[u32; 1500],
     count: usize,
 ) -> usize
     ensures { λ m. ⌜ Kept (now (out .entry)) n (now (out .exit)) m ⌝ }
 {
-    reason_lines::print_reasons(out, n, Word::SimUnknown, file, reasons, count)
-}
-
-// `simulate` with these lent areas.
-fn print_lent(
-    out: &mut [u8],
-    n: usize,
-    file: &[u8],
-    q: &mut [u32],
-    a: &mut [u32],
-    r: &mut [u32],
-) -> usize
-    ensures { λ m. ⌜ Kept (now (out .entry)) n (now (out .exit)) m ⌝ }
-{
-    let s = engine_entry::simulate(file, q, a, r);
-    if s.refused != 0 {
-        return print_refused(out, n, s.refused);
+    let many = at_most(count, a.len() / 5);
+    let mut m = n;
+    let mut i: usize = 0;
+    while i < many {
+        m = print_reason(out, m, word, f, a, i);
+        i += 1;
     }
-    let values = s.values;
-    let reasons = s.reasons;
-    let m = print_numbers(out, n, s.steps, s.records, s.horizon);
-    let k = print_places(out, m, file, a, s.records, &values);
-    let l = print_unknown(out, k, file, &reasons, s.unknown);
-    reason_lines::print_incomplete(out, l, s.why, s.waiting)
+    m
 }
 
-// `simulate` with areas of so many entries.
-pub fn print_simulate(
-    out: &mut [u8],
-    n: usize,
-    file: &[u8],
-    queue: usize,
-    records: usize,
-    runs: usize,
-) -> usize
-    requires { ⌜ (queue ≤ 20544) × ((records ≤ 10096) × (runs ≤ 512)) ⌝ }
+fn print_final(out: &mut [u8], n: usize, f: &[u8], x: &[u32; 436], e: usize, value: u32) -> usize
+    requires { ⌜ e < 32 ⌝ }
     ensures { λ m. ⌜ Kept (now (out .entry)) n (now (out .exit)) m ⌝ }
 {
-    let mut q = [0u32; 102720];
-    let mut a = [0u32; 131248];
-    let mut r = [0u32; 14336];
-    let items = queue * 5;
-    let lines = records * 13;
-    let rows = runs * 28;
-    print_lent(
-        out,
-        n,
-        file,
-        &mut q[0..items],
-        &mut a[0..lines],
-        &mut r[0..rows],
-    )
+    let m = show::room(out, n, LINE);
+    put_final(out, m, f, x, e, value)
+}
+
+// The entities' values at the end, by the places of their texts.
+pub fn print_finals(out: &mut [u8], n: usize, f: &[u8], x: &[u32; 436], values: &[u32; 32]) -> usize
+    ensures { λ m. ⌜ Kept (now (out .entry)) n (now (out .exit)) m ⌝ }
+{
+    let many = engine_fields::at_most(x[0], 32);
+    let mut m = n;
+    let mut e: usize = 0;
+    while e < many {
+        m = print_final(out, m, f, x, e, values[e]);
+        e += 1;
+    }
+    m
+}
+
+pub fn print_incomplete(out: &mut [u8], n: usize, why: u32, waiting: bool) -> usize
+    ensures { λ m. ⌜ Kept (now (out .entry)) n (now (out .exit)) m ⌝ }
+{
+    let m = show::room(out, n, LINE);
+    put_incomplete(out, m, why, waiting)
 }

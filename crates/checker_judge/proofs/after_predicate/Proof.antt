@@ -6,7 +6,7 @@ use Rattle.checker_judge.proofs.after_predicate.Tie as tie
 use Rattle.checker_judge.proofs.after_predicate.Reads as reads
 use Rattle.checker_judge.proofs.after_predicate.Lts as lts
 use Rattle.engine_state.proofs.after.Reads as after-reads
-use Rattle.engine_truth.proofs.predicate_size.Reads as predicate-size-reads
+use Rattle.engine_evaluate.proofs.predicate_size.Reads as predicate-size-reads
 
 pub after-predicate-spec : {M : Type 1} → statement M
 after-predicate-spec =

@@ -1,14 +1,14 @@
-use Rattle.checker_judge.specs.Judging.{entityJ}
+use Rattle.checker_judge.specs.Judging.{entityM}
 use borrow.Author.Needs.{needs}
 use Rattle.checker_judge.proofs.entity_in.Statement.{statement}
 use Rattle.checker_judge.proofs.entity_in.Tie as tie
 
 returns : tie.Need-returns
-unfolding entityJ
+unfolding entityM
 returns c = rw (c .enum-told .given .1)
 
 returns-2 : tie.Need-returns-2
-unfolding entityJ
+unfolding entityM
 returns-2 c = rw (c .before .before .change .given .1) (c .entity-of .ensures)
 
 pub entity-in-spec : {M : Type 1} → statement M

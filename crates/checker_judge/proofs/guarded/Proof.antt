@@ -1,10 +1,10 @@
-use Rattle.checker_judge.specs.Judging.{guardedJ}
+use Rattle.checker_judge.specs.Judging.{guardedM}
 use borrow.Author.Needs.{needs}
 use Rattle.checker_judge.proofs.guarded.Statement.{statement}
 use Rattle.checker_judge.proofs.guarded.Tie as tie
 
 returns : tie.Need-returns
-unfolding guardedJ
+unfolding guardedM
 returns c = rw (← (c .before .before .before .is-no .ensures), ← (c .before .is-unknown .ensures), ← (c .before .before .fails-if .ensures), ← (c .unsure .ensures))
 
 pub guarded-spec : {M : Type 1} → statement M

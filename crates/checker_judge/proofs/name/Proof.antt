@@ -1,10 +1,10 @@
-use Rattle.checker_judge.specs.Names.{withN}
+use Rattle.checker_judge.specs.Names.{withM}
 use borrow.Author.Needs.{needs}
 use Rattle.checker_judge.proofs.name.Statement.{statement}
 use Rattle.checker_judge.proofs.name.Tie as tie
 
 returns : tie.Need-returns
-unfolding withN
+unfolding withM
 returns c = search needs
 
 pub name-spec : {M : Type 1} → statement M

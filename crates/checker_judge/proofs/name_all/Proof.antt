@@ -1,16 +1,16 @@
 use borrow.Author.Needs.{needs}
 use borrow.Author.Tests.{eq-eqb, ne-eqb}
 use Rattle.checker_judge.specs.Judging.{goal-at}
-use Rattle.checker_judge.specs.Names.{namesN}
+use Rattle.checker_judge.specs.Names.{namesM}
 use Rattle.checker_judge.proofs.name_all.Statement.{statement}
 use Rattle.checker_judge.proofs.name_all.Tie as tie
 
 returns : tie.Need-returns
-unfolding namesN
+unfolding namesM
 returns c = rw (← (c .before .before .before .before .byte-at .ensures .0), eq-eqb _ _ (c .before .before .before .if1 .taken), ← (c .before .before .after .ensures)) (c .name-list .ensures)
 
 returns-2 : tie.Need-returns-2
-unfolding namesN
+unfolding namesM
 returns-2 c =
     rw (
       ← (c .before .before .before .before .before .before .before .before .byte-at .ensures .0),
@@ -22,7 +22,7 @@ returns-2 c =
     ) (c .name-list2 .ensures)
 
 returns-3 : tie.Need-returns-3
-unfolding namesN
+unfolding namesM
 returns-3 c =
     rw (
       ← (c .before .before .before .before .before .before .byte-at .ensures .0),
@@ -33,7 +33,7 @@ returns-3 c =
     ) (c .name2 .ensures)
 
 returns-4 : tie.Need-returns-4
-unfolding namesN goal-at
+unfolding namesM goal-at
 returns-4 c =
     rw (
       ← (c .before .before .before .before .before .before .before .before .before .byte-at .ensures .0),

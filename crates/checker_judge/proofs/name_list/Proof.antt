@@ -1,12 +1,12 @@
 use mathlib.Core.Path.{_≡_, sym, _∙_}
-use Rattle.checker_judge.specs.Names.{eachN, listN}
+use Rattle.checker_judge.specs.Names.{eachM, listM}
 use Rattle.checker_judge.proofs.Named as named
 use borrow.Author.Needs.{needs}
 use Rattle.checker_judge.proofs.name_list.Statement.{statement}
 use Rattle.checker_judge.proofs.name_list.Tie as tie
 
 abbrev Inv-loop : tie.InvT-loop
-Inv-loop f at named₀ left₀ p₀ named left p = listN f at named₀ ≡ eachN f left p named
+Inv-loop f at named₀ left₀ p₀ named left p = listM f at named₀ ≡ eachM f left p named
 
 abbrev μ-loop : tie.MeasureT-loop
 μ-loop f at named₀ left₀ p₀ named left p = left

@@ -1,15 +1,15 @@
 use borrow.Author.Tests.{eq-eqb, ne-eqb}
-use Rattle.checker_judge.specs.Names.{predicateN}
+use Rattle.checker_judge.specs.Names.{predicateM}
 use borrow.Author.Needs.{needs}
 use Rattle.checker_judge.proofs.name_predicate.Statement.{statement}
 use Rattle.checker_judge.proofs.name_predicate.Tie as tie
 
 returns : tie.Need-returns
-unfolding predicateN
+unfolding predicateM
 returns c = rw (← (c .before .byte-at .ensures .0), eq-eqb _ _ (c .if1 .taken))
 
 returns-2 : tie.Need-returns-2
-unfolding predicateN
+unfolding predicateM
 returns-2 c = rw (← (c .before .before .before .before .byte-at .ensures .0), ne-eqb _ _ (c .before .before .before .if1 .left), ← (c .before .before .two-at .ensures .0)) (c .name .ensures)
 
 pub name-predicate-spec : {M : Type 1} → statement M

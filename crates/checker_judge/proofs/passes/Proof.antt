@@ -1,14 +1,14 @@
-use Rattle.checker_judge.specs.Judging.{passesJ}
+use Rattle.checker_judge.specs.Judging.{passesM}
 use borrow.Author.Needs.{needs}
 use Rattle.checker_judge.proofs.passes.Statement.{statement}
 use Rattle.checker_judge.proofs.passes.Tie as tie
 
 returns : tie.Need-returns
-unfolding passesJ
+unfolding passesM
 returns c = rw (c .enum-told .given .1)
 
 returns-2 : tie.Need-returns-2
-unfolding passesJ
+unfolding passesM
 returns-2 c = rw (c .before .before .before .before .before .before .change .given .1, ← (c .before .before .before .before .two-at .ensures .0), ← (c .before .before .before .two-at2 .ensures .0), ← (c .before .before .both .ensures), ← (c .before .two-at3 .ensures .0)) (c .both2 .ensures)
 
 pub passes-spec : {M : Type 1} → statement M

@@ -1,23 +1,23 @@
 use borrow.Author.Tests.{eq-eqb, ne-eqb}
-use Rattle.checker_judge.specs.Judging.{readJ}
+use Rattle.checker_judge.specs.Judging.{readM}
 use borrow.Author.Needs.{needs}
 use Rattle.checker_judge.proofs.read.Statement.{statement}
 use Rattle.checker_judge.proofs.read.Tie as tie
 
 returns : tie.Need-returns
-unfolding readJ
+unfolding readM
 returns c = rw (← (c .before .before .byte-at .ensures .0), eq-eqb _ _ (c .before .if1 .taken)) (c .read-never .ensures)
 
 returns-2 : tie.Need-returns-2
-unfolding readJ
+unfolding readM
 returns-2 c = rw (← (c .before .before .before .byte-at .ensures .0), ne-eqb _ _ (c .before .before .if1 .left), eq-eqb _ _ (c .before .if2 .taken)) (c .read-guard .ensures)
 
 returns-3 : tie.Need-returns-3
-unfolding readJ
+unfolding readM
 returns-3 c = rw (← (c .before .before .before .before .byte-at .ensures .0), ne-eqb _ _ (c .before .before .before .if1 .left), ne-eqb _ _ (c .before .before .if2 .left), eq-eqb _ _ (c .before .if3 .taken)) (c .read-transition .ensures)
 
 returns-4 : tie.Need-returns-4
-unfolding readJ
+unfolding readM
 returns-4 c = rw (← (c .before .before .before .before .before .before .byte-at .ensures .0), ne-eqb _ _ (c .before .before .before .before .before .if1 .left), ne-eqb _ _ (c .before .before .before .before .if2 .left), ne-eqb _ _ (c .before .before .before .if3 .left), ← (c .before .before .seen-at .ensures)) (c .responded .ensures)
 
 pub read-spec : {M : Type 1} → statement M

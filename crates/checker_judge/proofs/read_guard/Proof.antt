@@ -1,14 +1,14 @@
-use Rattle.checker_judge.specs.Judging.{guardJ}
+use Rattle.checker_judge.specs.Judging.{guardM}
 use borrow.Author.Needs.{needs}
 use Rattle.checker_judge.proofs.read_guard.Statement.{statement}
 use Rattle.checker_judge.proofs.read_guard.Tie as tie
 
 returns : tie.Need-returns
-unfolding guardJ
+unfolding guardM
 returns c = rw (← (c .before .before .before .before .is-about .ensures), c .before .before .before .if1 .taken, ← (c .before .before .after .ensures), ← (c .before .evaluate-all .ensures)) (c .guarded .ensures)
 
 returns-2 : tie.Need-returns-2
-unfolding guardJ
+unfolding guardM
 returns-2 c = rw (← (c .before .is-about .ensures), c .if1 .left)
 
 pub read-guard-spec : {M : Type 1} → statement M

@@ -1,14 +1,14 @@
-use Rattle.checker_judge.specs.Names.{hasN, touchesN}
+use Rattle.checker_judge.specs.Names.{hasM, touchesM}
 use borrow.Author.Needs.{needs}
 use Rattle.checker_judge.proofs.touches.Statement.{statement}
 use Rattle.checker_judge.proofs.touches.Tie as tie
 
 returns : tie.Need-returns
-unfolding touchesN
+unfolding touchesM
 returns c = rw (c .enum-told .given .1)
 
 returns-2 : tie.Need-returns-2
-unfolding touchesN hasN
+unfolding touchesM hasM
 returns-2 c = rw (c .before .before .change .given .1)
 
 pub touches-spec : {M : Type 1} → statement M

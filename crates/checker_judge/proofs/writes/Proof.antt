@@ -1,14 +1,14 @@
-use Rattle.checker_judge.specs.Judging.{writesJ}
+use Rattle.checker_judge.specs.Judging.{writesM}
 use borrow.Author.Needs.{needs}
 use Rattle.checker_judge.proofs.writes.Statement.{statement}
 use Rattle.checker_judge.proofs.writes.Tie as tie
 
 returns : tie.Need-returns
-unfolding writesJ
+unfolding writesM
 returns c = rw (c .enum-told .given .1)
 
 returns-2 : tie.Need-returns-2
-unfolding writesJ
+unfolding writesM
 returns-2 c = rw (c .before .before .before .before .change .given .1, ← (c .before .before .two-at .ensures .0), ← (c .before .two-at2 .ensures .0)) (c .both .ensures)
 
 pub writes-spec : {M : Type 1} → statement M

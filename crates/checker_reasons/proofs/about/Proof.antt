@@ -1,10 +1,10 @@
-use Rattle.checker_reasons.specs.Told.{aboutI}
+use Rattle.checker_reasons.specs.Told.{aboutM}
 use borrow.Author.Needs.{needs}
 use Rattle.checker_reasons.proofs.about.Statement.{statement}
 use Rattle.checker_reasons.proofs.about.Tie as tie
 
 returns : tie.Need-returns
-unfolding aboutI
+unfolding aboutM
 returns c = rw (← (c .before .two-at .ensures .0), ← (c .text-position .ensures))
 
 pub about-spec : {M : Type 1} → statement M

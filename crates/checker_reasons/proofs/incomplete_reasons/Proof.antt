@@ -1,10 +1,10 @@
-use Rattle.checker_reasons.specs.Told.{incompleteI}
+use Rattle.checker_reasons.specs.Told.{incompleteM}
 use borrow.Author.Needs.{needs}
 use Rattle.checker_reasons.proofs.incomplete_reasons.Statement.{statement}
 use Rattle.checker_reasons.proofs.incomplete_reasons.Tie as tie
 
 returns : tie.Need-returns
-unfolding incompleteI
+unfolding incompleteM
 returns c = rw (← (c .before .before .capped .ensures), ← (c .before .about .ensures)) (c .told-if .ensures)
 
 pub incomplete-reasons-spec : {M : Type 1} → statement M

@@ -1,18 +1,18 @@
-use Rattle.checker_reasons.specs.Told.{temporalI}
+use Rattle.checker_reasons.specs.Told.{temporalM}
 use borrow.Author.Needs.{needs}
 use Rattle.checker_reasons.proofs.temporal.Statement.{statement}
 use Rattle.checker_reasons.proofs.temporal.Tie as tie
 
 returns : tie.Need-returns
-unfolding temporalI
+unfolding temporalM
 returns c = rw (c .before .if1 .taken, c .if2 .taken)
 
 returns-2 : tie.Need-returns-2
-unfolding temporalI
+unfolding temporalM
 returns-2 c = rw (c .before .if1 .taken, c .if2 .left)
 
 returns-3 : tie.Need-returns-3
-unfolding temporalI
+unfolding temporalM
 returns-3 c = rw (c .before .if1 .left) (c .told-if .ensures)
 
 pub temporal-spec : {M : Type 1} → statement M

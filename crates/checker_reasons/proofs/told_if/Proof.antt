@@ -1,13 +1,13 @@
-use Rattle.checker_reasons.specs.Told.{ifI}
+use Rattle.checker_reasons.specs.Told.{ifM}
 use Rattle.checker_reasons.proofs.told_if.Statement.{statement}
 use Rattle.checker_reasons.proofs.told_if.Tie as tie
 
 returns : tie.Need-returns
-unfolding ifI
+unfolding ifM
 returns c = rw (c .if1 .taken)
 
 returns-2 : tie.Need-returns-2
-unfolding ifI
+unfolding ifM
 returns-2 c = rw (c .if1 .left)
 
 pub told-if-spec : {M : Type 1} → statement M

@@ -1,23 +1,23 @@
 use borrow.Author.Tests.{eq-eqb, ne-eqb}
-use Rattle.checker_reasons.specs.Told.{unknownI}
+use Rattle.checker_reasons.specs.Told.{unknownM}
 use borrow.Author.Needs.{needs}
 use Rattle.checker_reasons.proofs.unknown_reasons.Statement.{statement}
 use Rattle.checker_reasons.proofs.unknown_reasons.Tie as tie
 
 returns : tie.Need-returns
-unfolding unknownI
+unfolding unknownM
 returns c = rw (← (c .before .before .before .before .capped .ensures), ← (c .before .before .before .byte-at .ensures .0), eq-eqb _ _ (c .before .before .if1 .taken), ← (c .before .about .ensures)) (c .told-if .ensures)
 
 returns-2 : tie.Need-returns-2
-unfolding unknownI
+unfolding unknownM
 returns-2 c = rw (← (c .before .before .before .before .before .capped .ensures), ← (c .before .before .before .before .byte-at .ensures .0), ne-eqb _ _ (c .before .before .before .if1 .left), eq-eqb _ _ (c .before .before .if2 .taken), ← (c .before .about2 .ensures)) (c .told-if2 .ensures)
 
 returns-3 : tie.Need-returns-3
-unfolding unknownI
+unfolding unknownM
 returns-3 c = rw (← (c .before .before .before .before .capped .ensures), ← (c .before .before .before .byte-at .ensures .0), ne-eqb _ _ (c .before .before .if1 .left), ne-eqb _ _ (c .before .if2 .left), eq-eqb _ _ (c .if3 .taken))
 
 returns-4 : tie.Need-returns-4
-unfolding unknownI
+unfolding unknownM
 returns-4 c = rw (← (c .before .before .before .before .before .before .before .capped .ensures), ← (c .before .before .before .before .before .before .byte-at .ensures .0), ne-eqb _ _ (c .before .before .before .before .before .if1 .left), ne-eqb _ _ (c .before .before .before .before .if2 .left), ne-eqb _ _ (c .before .before .before .if3 .left), ← (c .before .before .about3 .ensures), ← (c .before .about4 .ensures)) (c .temporal .ensures)
 
 pub unknown-reasons-spec : {M : Type 1} → statement M

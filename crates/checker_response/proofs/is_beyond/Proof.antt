@@ -1,14 +1,14 @@
-use Rattle.checker_response.specs.Response.{beyondJ}
+use Rattle.checker_response.specs.Response.{beyondM}
 use borrow.Author.Needs.{needs}
 use Rattle.checker_response.proofs.is_beyond.Statement.{statement}
 use Rattle.checker_response.proofs.is_beyond.Tie as tie
 
 returns : tie.Need-returns
-unfolding beyondJ
+unfolding beyondM
 returns c = rw (c .enum-told .given .1)
 
 returns-2 : tie.Need-returns-2
-unfolding beyondJ
+unfolding beyondM
 returns-2 c = rw (c .before .w .given .1)
 
 pub is-beyond-spec : {M : Type 1} → statement M

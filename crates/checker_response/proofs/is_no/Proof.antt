@@ -1,18 +1,18 @@
-use Rattle.checker_response.specs.Response.{noJ}
+use Rattle.checker_response.specs.Response.{noM}
 use borrow.Author.Needs.{needs}
 use Rattle.checker_response.proofs.is_no.Statement.{statement}
 use Rattle.checker_response.proofs.is_no.Tie as tie
 
 returns : tie.Need-returns
-unfolding noJ
+unfolding noM
 returns c = rw (c .enum-told .given .1)
 
 returns-2 : tie.Need-returns-2
-unfolding noJ
+unfolding noM
 returns-2 c = rw (c .enum-told2 .given .1)
 
 returns-3 : tie.Need-returns-3
-unfolding noJ
+unfolding noM
 returns-3 c = rw (c .enum-told3 .given .1)
 
 pub is-no-spec : {M : Type 1} → statement M

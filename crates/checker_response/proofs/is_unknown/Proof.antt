@@ -1,18 +1,18 @@
-use Rattle.checker_response.specs.Response.{unknownJ}
+use Rattle.checker_response.specs.Response.{unknownM}
 use borrow.Author.Needs.{needs}
 use Rattle.checker_response.proofs.is_unknown.Statement.{statement}
 use Rattle.checker_response.proofs.is_unknown.Tie as tie
 
 returns : tie.Need-returns
-unfolding unknownJ
+unfolding unknownM
 returns c = rw (c .enum-told .given .1)
 
 returns-2 : tie.Need-returns-2
-unfolding unknownJ
+unfolding unknownM
 returns-2 c = rw (c .enum-told2 .given .1)
 
 returns-3 : tie.Need-returns-3
-unfolding unknownJ
+unfolding unknownM
 returns-3 c = rw (c .enum-told3 .given .1)
 
 pub is-unknown-spec : {M : Type 1} → statement M

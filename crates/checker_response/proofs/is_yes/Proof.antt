@@ -1,18 +1,18 @@
-use Rattle.checker_response.specs.Response.{yesJ}
+use Rattle.checker_response.specs.Response.{yesM}
 use borrow.Author.Needs.{needs}
 use Rattle.checker_response.proofs.is_yes.Statement.{statement}
 use Rattle.checker_response.proofs.is_yes.Tie as tie
 
 returns : tie.Need-returns
-unfolding yesJ
+unfolding yesM
 returns c = rw (c .enum-told .given .1)
 
 returns-2 : tie.Need-returns-2
-unfolding yesJ
+unfolding yesM
 returns-2 c = rw (c .enum-told2 .given .1)
 
 returns-3 : tie.Need-returns-3
-unfolding yesJ
+unfolding yesM
 returns-3 c = rw (c .enum-told3 .given .1)
 
 pub is-yes-spec : {M : Type 1} → statement M

@@ -1,14 +1,14 @@
-use Rattle.checker_response.specs.Response.{missedJ}
+use Rattle.checker_response.specs.Response.{missedM}
 use borrow.Author.Needs.{needs}
 use Rattle.checker_response.proofs.missed.Statement.{statement}
 use Rattle.checker_response.proofs.missed.Tie as tie
 
 returns : tie.Need-returns
-unfolding missedJ
+unfolding missedM
 returns c = rw (c .enum-told .given .1)
 
 returns-2 : tie.Need-returns-2
-unfolding missedJ
+unfolding missedM
 returns-2 c = rw (c .before .before .before .before .w .given .1, ← (c .before .before .is-no .ensures), ← (c .before .both .ensures)) (c .fails-if .ensures)
 
 pub missed-spec : {M : Type 1} → statement M

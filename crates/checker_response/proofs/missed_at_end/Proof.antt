@@ -1,14 +1,14 @@
-use Rattle.checker_response.specs.Response.{at-endJ}
+use Rattle.checker_response.specs.Response.{at-endM}
 use borrow.Author.Needs.{needs}
 use Rattle.checker_response.proofs.missed_at_end.Statement.{statement}
 use Rattle.checker_response.proofs.missed_at_end.Tie as tie
 
 returns : tie.Need-returns
-unfolding at-endJ
+unfolding at-endM
 returns c = rw (c .enum-told .given .1)
 
 returns-2 : tie.Need-returns-2
-unfolding at-endJ
+unfolding at-endM
 returns-2 c = rw (c .before .before .before .before .w .given .1, ← (c .before .before .is-no .ensures), ← (c .before .both .ensures)) (c .fails-if .ensures)
 
 pub missed-at-end-spec : {M : Type 1} → statement M

@@ -1,14 +1,14 @@
-use Rattle.checker_response.specs.Response.{overdueJ}
+use Rattle.checker_response.specs.Response.{overdueM}
 use borrow.Author.Needs.{needs}
 use Rattle.checker_response.proofs.overdue.Statement.{statement}
 use Rattle.checker_response.proofs.overdue.Tie as tie
 
 returns : tie.Need-returns
-unfolding overdueJ
+unfolding overdueM
 returns c = rw (c .enum-told .given .1)
 
 returns-2 : tie.Need-returns-2
-unfolding overdueJ
+unfolding overdueM
 returns-2 c = rw (c .before .w .given .1)
 
 pub overdue-spec : {M : Type 1} → statement M

@@ -1,14 +1,14 @@
-use Rattle.checker_response.specs.Response.{startedJ}
+use Rattle.checker_response.specs.Response.{startedM}
 use borrow.Author.Needs.{needs}
 use Rattle.checker_response.proofs.started.Statement.{statement}
 use Rattle.checker_response.proofs.started.Tie as tie
 
 returns : tie.Need-returns
-unfolding startedJ
+unfolding startedM
 returns c = rw (c .enum-told .given .1)
 
 returns-2 : tie.Need-returns-2
-unfolding startedJ
+unfolding startedM
 returns-2 c = rw (c .before .w .given .1)
 
 pub started-spec : {M : Type 1} → statement M

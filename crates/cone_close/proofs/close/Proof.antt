@@ -1,7 +1,7 @@
 use borrow.Author.Needs.{needs}
 use mathlib.Core.Path.{_≡_, sym, _∙_}
 use Prim.Native.Nat.{_-_}
-use Rattle.cone_close.specs.Rounds.{roundsC, closedC}
+use Rattle.cone_close.specs.Rounds.{roundsM, closedM}
 use Rattle.cone_close.proofs.Laws as laws
 use Rattle.cone_close.proofs.close.Statement.{statement}
 use Rattle.cone_close.proofs.close.Tie as tie
@@ -10,7 +10,7 @@ use Rattle.cone_close.proofs.close.Lts as lts
 use Rattle.cone_close.proofs.round.Reads as round-reads
 
 abbrev Inv-loop : tie.InvT-loop
-Inv-loop writes needs start count c₀ n₀ c n = closedC writes needs count start ≡ roundsC writes needs count (count - n) c
+Inv-loop writes needs start count c₀ n₀ c n = closedM writes needs count start ≡ roundsM writes needs count (count - n) c
 
 abbrev μ-loop : tie.MeasureT-loop
 μ-loop writes needs start count c₀ n₀ c n = count - n

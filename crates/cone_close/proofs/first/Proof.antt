@@ -1,7 +1,7 @@
 use borrow.Author.Needs.{needs}
 use mathlib.Core.Path.{_≡_, sym, _∙_}
 use Prim.Native.Nat.{_-_}
-use Rattle.cone_close.specs.Rounds.{firstC}
+use Rattle.cone_close.specs.Rounds.{firstM}
 use Rattle.cone_close.proofs.Laws as laws
 use Rattle.cone_close.proofs.first.Statement.{statement}
 use Rattle.cone_close.proofs.first.Tie as tie
@@ -10,7 +10,7 @@ use Rattle.cone_close.proofs.first.Lts as lts
 use Rattle.cone_close.proofs.adds.Reads as adds-reads
 
 abbrev Inv-loop : tie.InvT-loop
-Inv-loop writes c count i₀ i = firstC writes c count 0 ≡ firstC writes c (count - i) i
+Inv-loop writes c count i₀ i = firstM writes c count 0 ≡ firstM writes c (count - i) i
 
 abbrev μ-loop : tie.MeasureT-loop
 μ-loop writes c count i₀ i = count - i

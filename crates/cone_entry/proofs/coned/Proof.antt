@@ -8,7 +8,7 @@ use Rattle.cone_close.proofs.close.Reads as close-reads
 use Rattle.cone_entry.proofs.rule_sets.Reads as rule-sets-reads
 use Rattle.cone_names.proofs.names_in.Reads as names-in-reads
 use Rattle.cone_sets.proofs.named.Reads as named-reads
-use Rattle.lint_names.proofs.undeclared_names.Reads as undeclared-names-reads
+use Rattle.lint_undeclared.proofs.undeclared_names.Reads as undeclared-names-reads
 
 pub coned-spec : {M : Type 1} → statement M
 coned-spec =

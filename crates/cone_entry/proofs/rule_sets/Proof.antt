@@ -2,24 +2,24 @@ use borrow.Author.Needs.{needs}
 use mathlib.Core.Path.{_≡_, sym, _∙_}
 use Prim.Native.Nat.{_-_}
 use lib.ListN.{getD}
-use Rattle.lint_entry.specs.Order.{fillL}
-use Rattle.lint_entry.proofs.Laws as entry
+use Rattle.lint_collect.specs.Order.{fillM}
+use Rattle.lint_collect.proofs.Laws as entry
 use Rattle.lint_walk.proofs.Sizes as sizes
-use Rattle.lint_walk.specs.Walks.{walkW}
-use Rattle.lint_touches.specs.Sets.{writesS}
-use Rattle.cone_sets.specs.Sets.{needsS}
-use Rattle.cone_entry.specs.Parts.{writesL, needsL}
+use Rattle.lint_walk.specs.Walks.{walkM}
+use Rattle.lint_access.specs.Sets.{writesM}
+use Rattle.cone_sets.specs.Sets.{needsM}
+use Rattle.cone_entry.specs.Parts.{writes-eachM, needs-eachM}
 use Rattle.cone_entry.proofs.Laws as laws
 use Rattle.cone_entry.proofs.rule_sets.Statement.{statement}
 use Rattle.cone_entry.proofs.rule_sets.Tie as tie
 use Rattle.cone_entry.proofs.rule_sets.Reads as reads
 use Rattle.cone_entry.proofs.rule_sets.Lts as lts
 use Rattle.cone_sets.proofs.needs.Reads as needs-reads
-use Rattle.lint_touches.proofs.writes.Reads as writes-reads
+use Rattle.lint_access.proofs.writes.Reads as writes-reads
 use Rattle.lint_walk.proofs.rule_walk.Reads as rule-walk-reads
 
 abbrev Inv-loop : tie.InvT-loop
-Inv-loop s entities rules n many writes₀ needs₀ i₀ writes needs i = (writesL s entities rules ≡ fillL (λ k. writesS s entities (walkW s (getD (rules .starts) k 0))) (n - i) i writes) × (needsL s entities rules ≡ fillL (λ k. needsS s entities (getD (rules .starts) k 0) (walkW s (getD (rules .starts) k 0))) (n - i) i needs)
+Inv-loop s entities rules n many writes₀ needs₀ i₀ writes needs i = (writes-eachM s entities rules ≡ fillM (λ k. writesM s entities (walkM s (getD (rules .starts) k 0))) (n - i) i writes) × (needs-eachM s entities rules ≡ fillM (λ k. needsM s entities (getD (rules .starts) k 0) (walkM s (getD (rules .starts) k 0))) (n - i) i needs)
 
 abbrev μ-loop : tie.MeasureT-loop
 μ-loop s entities rules n many writes₀ needs₀ i₀ writes needs i = n - i

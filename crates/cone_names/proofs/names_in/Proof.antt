@@ -1,7 +1,7 @@
 use borrow.Author.Needs.{needs}
 use mathlib.Core.Path.{_≡_, sym, _∙_}
 use Prim.Native.Nat.{_-_}
-use Rattle.cone_names.specs.Wanted.{fromN, namesN}
+use Rattle.cone_names.specs.Wanted.{fromM, namesM}
 use Rattle.cone_names.proofs.Laws as laws
 use Rattle.cone_names.proofs.names_in.Statement.{statement}
 use Rattle.cone_names.proofs.names_in.Tie as tie
@@ -10,7 +10,7 @@ use Rattle.cone_names.proofs.names_in.Lts as lts
 use Rattle.cone_names.proofs.with_wanted.Reads as with-wanted-reads
 
 abbrev Inv-loop : tie.InvT-loop
-Inv-loop u automations texts n₀ place₀ n place = namesN u automations texts ≡ fromN u automations (texts - place) place n
+Inv-loop u automations texts n₀ place₀ n place = namesM u automations texts ≡ fromM u automations (texts - place) place n
 
 abbrev μ-loop : tie.MeasureT-loop
 μ-loop u automations texts n₀ place₀ n place = texts - place

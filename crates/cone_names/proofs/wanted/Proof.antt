@@ -1,7 +1,7 @@
 use borrow.Author.Needs.{needs}
 use mathlib.Core.Path.{_≡_, sym, _∙_}
 use Prim.Native.Nat.{_-_}
-use Rattle.cone_names.specs.Wanted.{wantedN, someN}
+use Rattle.cone_names.specs.Wanted.{wantedM, someM}
 use Rattle.cone_names.proofs.Laws as laws
 use Rattle.cone_names.proofs.wanted.Statement.{statement}
 use Rattle.cone_names.proofs.wanted.Tie as tie
@@ -10,7 +10,7 @@ use Rattle.cone_names.proofs.wanted.Lts as lts
 use Rattle.cone_names.proofs.read_by.Reads as read-by-reads
 
 abbrev Inv-loop : tie.InvT-loop
-Inv-loop u automations place count j₀ j = wantedN u automations place ≡ someN u automations place (64 - j) j
+Inv-loop u automations place count j₀ j = wantedM u automations place ≡ someM u automations place (64 - j) j
 
 abbrev μ-loop : tie.MeasureT-loop
 μ-loop u automations place count j₀ j = 64 - j

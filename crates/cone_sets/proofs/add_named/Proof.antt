@@ -5,9 +5,9 @@ use Rattle.cone_sets.proofs.add_named.Statement.{statement}
 use Rattle.cone_sets.proofs.add_named.Tie as tie
 use Rattle.cone_sets.proofs.add_named.Reads as reads
 use Rattle.cone_sets.proofs.add_named.Lts as lts
-use Rattle.lint_touches.proofs.add_entity.Reads as add-entity-reads
-use Rattle.lint_touches.proofs.add_predicate.Reads as add-predicate-reads
-use Rattle.lint_touches.proofs.add_predicates.Reads as add-predicates-reads
+use Rattle.lint_access.proofs.add_entity.Reads as add-entity-reads
+use Rattle.lint_access.proofs.add_predicate.Reads as add-predicate-reads
+use Rattle.lint_access.proofs.add_predicates.Reads as add-predicates-reads
 use Rattle.lint_walk.proofs.byte_at.Reads as byte-at-reads
 use Rattle.lint_walk.proofs.past.Reads as past-reads
 use Rattle.lint_walk.proofs.place_at.Reads as place-at-reads

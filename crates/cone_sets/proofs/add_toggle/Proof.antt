@@ -5,7 +5,7 @@ use Rattle.cone_sets.proofs.add_toggle.Statement.{statement}
 use Rattle.cone_sets.proofs.add_toggle.Tie as tie
 use Rattle.cone_sets.proofs.add_toggle.Reads as reads
 use Rattle.cone_sets.proofs.add_toggle.Lts as lts
-use Rattle.lint_touches.proofs.add_entity.Reads as add-entity-reads
+use Rattle.lint_access.proofs.add_entity.Reads as add-entity-reads
 use Rattle.lint_walk.proofs.kind_at.Reads as kind-at-reads
 use Rattle.lint_walk.proofs.past.Reads as past-reads
 use Rattle.lint_walk.proofs.place_at.Reads as place-at-reads

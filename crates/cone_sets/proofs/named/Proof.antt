@@ -1,9 +1,9 @@
 use borrow.Author.Needs.{needs}
 use mathlib.Core.Path.{_≡_, refl, sym, _∙_}
 use Prim.Native.Nat.{_-_}
-use Rattle.lint_touches.specs.Sets.{sectionBy, over}
-use Rattle.lint_touches.proofs.Laws as touches
-use Rattle.cone_sets.specs.Sets.{addI, namedS}
+use Rattle.lint_access.specs.Sets.{sectionBy, over}
+use Rattle.lint_access.proofs.Laws as touches
+use Rattle.cone_sets.specs.Sets.{add-namedM, namedM}
 use Rattle.cone_sets.proofs.Laws as laws
 use Rattle.cone_sets.proofs.named.Statement.{statement}
 use Rattle.cone_sets.proofs.named.Tie as tie
@@ -13,7 +13,7 @@ use Rattle.cone_sets.proofs.add_named.Reads as add-named-reads
 
 abbrev Inv-loop : tie.InvT-loop
 Inv-loop s entities many invariants count set₀ k₀ set k =
-    namedS s (sectionBy entities many) invariants ≡ over (addI s (sectionBy entities many)) (invariants .starts) (count - k) k set
+    namedM s (sectionBy entities many) invariants ≡ over (add-namedM s (sectionBy entities many)) (invariants .starts) (count - k) k set
 
 abbrev μ-loop : tie.MeasureT-loop
 μ-loop s entities many invariants count set₀ k₀ set k = count - k

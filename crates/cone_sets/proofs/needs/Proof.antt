@@ -2,19 +2,19 @@ use borrow.Author.Needs.{needs}
 use mathlib.Core.Path.{_≡_, sym, _∙_}
 use Prim.Native.Nat.{_-_}
 use Rattle.lint_walk.specs.Walks.{walkBy}
-use Rattle.lint_touches.specs.Sets.{sectionBy, over}
-use Rattle.lint_touches.proofs.Laws as touches
-use Rattle.cone_sets.specs.Sets.{addG, needsS}
+use Rattle.lint_access.specs.Sets.{sectionBy, over}
+use Rattle.lint_access.proofs.Laws as touches
+use Rattle.cone_sets.specs.Sets.{add-toggleM, needsM}
 use Rattle.cone_sets.proofs.Laws as laws
 use Rattle.cone_sets.proofs.needs.Statement.{statement}
 use Rattle.cone_sets.proofs.needs.Tie as tie
 use Rattle.cone_sets.proofs.needs.Reads as reads
 use Rattle.cone_sets.proofs.needs.Lts as lts
 use Rattle.cone_sets.proofs.add_toggle.Reads as add-toggle-reads
-use Rattle.lint_touches.proofs.reads.Reads as reads-reads
+use Rattle.lint_access.proofs.reads.Reads as reads-reads
 
 abbrev Inv-loop : tie.InvT-loop
-Inv-loop s entities many at list count set₀ k₀ set k = needsS s (sectionBy entities many) at (walkBy list count) ≡ over (addG s (sectionBy entities many)) list (count - k) k set
+Inv-loop s entities many at list count set₀ k₀ set k = needsM s (sectionBy entities many) at (walkBy list count) ≡ over (add-toggleM s (sectionBy entities many)) list (count - k) k set
 
 abbrev μ-loop : tie.MeasureT-loop
 μ-loop s entities many at list count set₀ k₀ set k = count - k

@@ -1,28 +1,28 @@
 use mathlib.Core.Path.{refl}
-use Rattle.engine_reads.proofs.Readable.{alone-readable}
+use Rattle.engine_fields.proofs.Readable.{alone-readable}
 use native.Mathlib.Omega.{arith}
 use Rattle.engine_state.proofs.Laws.{none, one, two, same, wide}
 use Rattle.engine_state.proofs.Laws as states
-use Rattle.engine_steps.proofs.Laws as steps
+use Rattle.engine_trigger.proofs.Laws as steps
 use Rattle.engine_actions.proofs.Laws as laws
 use Rattle.engine_actions.specs.Acts.{waitingM}
-use Rattle.engine_steps.specs.Runs.{finishM}
+use Rattle.engine_trigger.specs.Runs.{finishM}
 use Rattle.engine_state.specs.Changes.{log-actionM, addM}
 use borrow.Author.Needs.{needs}
 use Rattle.engine_actions.proofs.begin_wait.Statement.{statement}
 use Rattle.engine_actions.proofs.begin_wait.Tie as tie
 use Rattle.engine_actions.proofs.begin_wait.Reads as reads
 use Rattle.engine_actions.proofs.begin_wait.Lts as lts
-use Rattle.engine_reads.proofs.by_itself.Reads as by-itself-reads
-use Rattle.engine_reads.proofs.byte_at.Reads as byte-at-reads
-use Rattle.engine_reads.proofs.four_at.Reads as four-at-reads
-use Rattle.engine_reads.proofs.two_at.Reads as two-at-reads
+use Rattle.engine_fields.proofs.by_itself.Reads as by-itself-reads
+use Rattle.engine_fields.proofs.byte_at.Reads as byte-at-reads
+use Rattle.engine_fields.proofs.four_at.Reads as four-at-reads
+use Rattle.engine_fields.proofs.two_at.Reads as two-at-reads
 use Rattle.engine_state.proofs.add.Reads as add-reads
 use Rattle.engine_state.proofs.after.Reads as after-reads
 use Rattle.engine_state.proofs.log_action.Reads as log-action-reads
 use Rattle.engine_state.proofs.uncertain.Reads as uncertain-reads
-use Rattle.engine_steps.proofs.finish.Reads as finish-reads
-use Rattle.engine_steps.proofs.with_phase.Reads as with-phase-reads
+use Rattle.engine_trigger.proofs.finish.Reads as finish-reads
+use Rattle.engine_trigger.proofs.with_phase.Reads as with-phase-reads
 use Rattle.runs.proofs.put_run.Reads as put-run-reads
 
 returns-2 : tie.Need-returns-2

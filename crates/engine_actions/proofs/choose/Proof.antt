@@ -1,7 +1,7 @@
 use native.Mathlib.Omega.{arith}
 use mathlib.Core.Path.{refl}
 use Rattle.engine_state.proofs.Laws.{same, wide}
-use Rattle.engine_steps.proofs.Laws as steps
+use Rattle.engine_trigger.proofs.Laws as steps
 use Rattle.engine_actions.proofs.Laws as laws
 use Rattle.engine_modes.proofs.Wholes as wholes
 use Rattle.engine_modes.proofs.Wholes.{apart, lent}
@@ -13,7 +13,7 @@ use Rattle.engine_actions.proofs.choose.Reads as reads
 use Rattle.engine_actions.proofs.choose.Lts as lts
 use Rattle.engine_actions.proofs.take_list.Reads as take-list-reads
 use Rattle.engine_actions.proofs.unclear.Reads as unclear-reads
-use Rattle.engine_truth.proofs.select.Reads as select-reads
+use Rattle.engine_evaluate.proofs.select.Reads as select-reads
 
 returns : tie.Need-returns
 unfolding chosenM

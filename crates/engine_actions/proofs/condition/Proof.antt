@@ -1,7 +1,7 @@
 use native.Mathlib.Omega.{arith}
 use Rattle.engine_state.proofs.Laws.{two, both}
 use Rattle.engine_state.proofs.Laws as states
-use Rattle.engine_steps.proofs.Laws as steps
+use Rattle.engine_trigger.proofs.Laws as steps
 use Rattle.engine_actions.proofs.Laws as laws
 use Rattle.engine_actions.specs.Acts.{testedM}
 use borrow.Author.Needs.{needs}
@@ -11,8 +11,8 @@ use Rattle.engine_actions.proofs.condition.Reads as reads
 use Rattle.engine_actions.proofs.condition.Lts as lts
 use Rattle.engine_actions.proofs.tested.Reads as tested-reads
 use Rattle.engine_state.proofs.log_action.Reads as log-action-reads
-use Rattle.engine_truth.proofs.evaluate.Reads as evaluate-reads
-use Rattle.engine_truth.proofs.number_of.Reads as number-of-reads
+use Rattle.engine_evaluate.proofs.evaluate.Reads as evaluate-reads
+use Rattle.engine_evaluate.proofs.number_of.Reads as number-of-reads
 
 pub condition-spec : {M : Type 1} → statement M
 condition-spec =

@@ -1,9 +1,9 @@
 use mathlib.Core.Path.{refl}
-use Rattle.engine_reads.proofs.Readable.{about-readable}
+use Rattle.engine_fields.proofs.Readable.{about-readable}
 use native.Mathlib.Omega.{arith}
 use Rattle.engine_state.proofs.Laws.{none, one, two, same, wide}
 use Rattle.engine_state.proofs.Laws as states
-use Rattle.engine_steps.proofs.Laws as steps
+use Rattle.engine_trigger.proofs.Laws as steps
 use Rattle.engine_actions.proofs.Laws as laws
 use Rattle.engine_modes.proofs.Wholes as wholes
 use Rattle.engine_modes.proofs.Wholes.{apart, shared}
@@ -15,12 +15,12 @@ use Rattle.engine_actions.proofs.flip.Reads as reads
 use Rattle.engine_actions.proofs.flip.Lts as lts
 use Rattle.engine_actions.proofs.set.Reads as set-reads
 use Rattle.engine_actions.proofs.toggled.Reads as toggled-reads
-use Rattle.engine_reads.proofs.about_rule.Reads as about-rule-reads
-use Rattle.engine_reads.proofs.at_most.Reads as at-most-reads
-use Rattle.engine_reads.proofs.entity_of.Reads as entity-of-reads
+use Rattle.engine_fields.proofs.about_rule.Reads as about-rule-reads
+use Rattle.engine_fields.proofs.at_most.Reads as at-most-reads
+use Rattle.engine_fields.proofs.entity_of.Reads as entity-of-reads
 use Rattle.engine_state.proofs.next_step.Reads as next-step-reads
 use Rattle.engine_state.proofs.uncertain.Reads as uncertain-reads
-use Rattle.engine_truth.proofs.undecided.Reads as undecided-reads
+use Rattle.engine_evaluate.proofs.undecided.Reads as undecided-reads
 
 pub flip-spec : {M : Type 1} → statement M
 flip-spec =

@@ -1,20 +1,20 @@
-use Rattle.engine_reads.proofs.Readable.{note-readable}
+use Rattle.engine_fields.proofs.Readable.{note-readable}
 use native.Mathlib.Omega.{arith}
 use Rattle.engine_state.proofs.Laws.{none, one, two, both}
 use Rattle.engine_state.proofs.Laws as states
-use Rattle.engine_steps.proofs.Laws as steps
+use Rattle.engine_trigger.proofs.Laws as steps
 use Rattle.engine_actions.proofs.Laws as laws
-use Rattle.engine_steps.specs.Runs.{finishM}
+use Rattle.engine_trigger.specs.Runs.{finishM}
 use Rattle.engine_state.specs.Changes.{log-actionM}
 use borrow.Author.Needs.{needs}
 use Rattle.engine_actions.proofs.give_up.Statement.{statement}
 use Rattle.engine_actions.proofs.give_up.Tie as tie
 use Rattle.engine_actions.proofs.give_up.Reads as reads
 use Rattle.engine_actions.proofs.give_up.Lts as lts
-use Rattle.engine_reads.proofs.note_reason.Reads as note-reason-reads
+use Rattle.engine_fields.proofs.note_reason.Reads as note-reason-reads
 use Rattle.engine_state.proofs.log_action.Reads as log-action-reads
 use Rattle.engine_state.proofs.uncertain.Reads as uncertain-reads
-use Rattle.engine_steps.proofs.finish.Reads as finish-reads
+use Rattle.engine_trigger.proofs.finish.Reads as finish-reads
 
 pub give-up-spec : {M : Type 1} → statement M
 give-up-spec =

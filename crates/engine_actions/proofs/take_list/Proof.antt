@@ -1,7 +1,7 @@
 use native.Mathlib.Omega.{arith}
 use Rattle.engine_state.proofs.Laws.{none, one, two}
 use Rattle.engine_state.proofs.Laws as states
-use Rattle.engine_steps.proofs.Laws as steps
+use Rattle.engine_trigger.proofs.Laws as steps
 use Rattle.engine_actions.specs.Acts.{take-listM}
 use Rattle.engine_modes.specs.Modes.{nowM}
 use Rattle.engine_state.specs.Changes.{log-actionM}
@@ -12,7 +12,7 @@ use Rattle.engine_actions.proofs.take_list.Reads as reads
 use Rattle.engine_actions.proofs.take_list.Lts as lts
 use Rattle.engine_state.proofs.log_action.Reads as log-action-reads
 use Rattle.engine_state.proofs.next_step.Reads as next-step-reads
-use Rattle.engine_truth.proofs.with_list.Reads as with-list-reads
+use Rattle.engine_evaluate.proofs.with_list.Reads as with-list-reads
 use Rattle.runs.proofs.put_run.Reads as put-run-reads
 
 returns : tie.Need-returns

@@ -1,7 +1,7 @@
 use native.Mathlib.Omega.{arith}
 use mathlib.Core.Path.{refl}
 use Rattle.engine_state.proofs.Laws.{same, wide}
-use Rattle.engine_steps.proofs.Laws as steps
+use Rattle.engine_trigger.proofs.Laws as steps
 use Rattle.engine_actions.proofs.Laws as laws
 use Rattle.engine_modes.proofs.Wholes as wholes
 use Rattle.engine_modes.proofs.Wholes.{apart}
@@ -13,7 +13,7 @@ use Rattle.engine_actions.proofs.tested.Reads as reads
 use Rattle.engine_actions.proofs.tested.Lts as lts
 use Rattle.engine_actions.proofs.unclear.Reads as unclear-reads
 use Rattle.engine_state.proofs.next_step.Reads as next-step-reads
-use Rattle.engine_steps.proofs.finish.Reads as finish-reads
+use Rattle.engine_trigger.proofs.finish.Reads as finish-reads
 
 returns : tie.Need-returns
 unfolding testedM

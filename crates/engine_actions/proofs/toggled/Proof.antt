@@ -1,5 +1,5 @@
 use borrow.Author.Tests.{eq-eqb, ne-eqb}
-use Rattle.engine_steps.proofs.Laws as steps
+use Rattle.engine_trigger.proofs.Laws as steps
 use Rattle.engine_actions.specs.Acts.{toggledM}
 use borrow.Author.Needs.{needs}
 use Rattle.engine_actions.proofs.toggled.Statement.{statement}

@@ -1,20 +1,20 @@
-use Rattle.engine_reads.proofs.Readable.{about-readable}
+use Rattle.engine_fields.proofs.Readable.{about-readable}
 use native.Mathlib.Omega.{arith}
 use Rattle.engine_state.proofs.Laws.{one, two}
 use Rattle.engine_state.proofs.Laws as states
-use Rattle.engine_steps.proofs.Laws as steps
+use Rattle.engine_trigger.proofs.Laws as steps
 use Rattle.engine_actions.proofs.Laws as laws
 use Rattle.engine_actions.specs.Acts.{unclearM}
-use Rattle.engine_steps.specs.Runs.{finishM}
+use Rattle.engine_trigger.specs.Runs.{finishM}
 use borrow.Author.Needs.{needs}
 use Rattle.engine_actions.proofs.unclear.Statement.{statement}
 use Rattle.engine_actions.proofs.unclear.Tie as tie
 use Rattle.engine_actions.proofs.unclear.Reads as reads
 use Rattle.engine_actions.proofs.unclear.Lts as lts
-use Rattle.engine_reads.proofs.about_rule.Reads as about-rule-reads
-use Rattle.engine_reads.proofs.at_most.Reads as at-most-reads
+use Rattle.engine_fields.proofs.about_rule.Reads as about-rule-reads
+use Rattle.engine_fields.proofs.at_most.Reads as at-most-reads
 use Rattle.engine_state.proofs.uncertain.Reads as uncertain-reads
-use Rattle.engine_steps.proofs.finish.Reads as finish-reads
+use Rattle.engine_trigger.proofs.finish.Reads as finish-reads
 
 returns : tie.Need-returns
 unfolding unclearM

@@ -1,11 +1,11 @@
-use Rattle.engine_steps.proofs.Laws as steps
+use Rattle.engine_trigger.proofs.Laws as steps
 use Rattle.engine_actions.specs.Acts.{writtenM}
 use borrow.Author.Needs.{needs}
 use Rattle.engine_actions.proofs.write.Statement.{statement}
 use Rattle.engine_actions.proofs.write.Tie as tie
 use Rattle.engine_actions.proofs.write.Reads as reads
 use Rattle.engine_actions.proofs.write.Lts as lts
-use Rattle.engine_writes.proofs.update.Reads as update-reads
+use Rattle.engine_update.proofs.update.Reads as update-reads
 
 returns : tie.Need-returns
 unfolding writtenM

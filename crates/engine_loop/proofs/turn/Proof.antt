@@ -4,7 +4,7 @@ use Rattle.engine_state.proofs.Laws.{two, both, same}
 use Rattle.engine_state.proofs.Laws as states
 use Rattle.engine_loop.proofs.Laws as laws
 use Rattle.engine_loop.specs.Loop.{turnM, turn-withM}
-use Rattle.engine_process.specs.Process.{processM}
+use Rattle.engine_dispatch.specs.Process.{processM}
 use borrow.Author.Needs.{needs}
 use Rattle.engine_loop.proofs.turn.Statement.{statement}
 use Rattle.engine_loop.proofs.turn.Tie as tie

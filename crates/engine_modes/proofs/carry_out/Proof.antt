@@ -8,7 +8,7 @@ use Rattle.engine_modes.proofs.carry_out.Statement.{statement}
 use Rattle.engine_modes.proofs.carry_out.Tie as tie
 use Rattle.engine_modes.proofs.carry_out.Reads as reads
 use Rattle.engine_modes.proofs.carry_out.Lts as lts
-use Rattle.engine_reads.proofs.rule_word.Reads as rule-word-reads
+use Rattle.engine_fields.proofs.rule_word.Reads as rule-word-reads
 use Rattle.engine_state.proofs.log_rule.Reads as log-rule-reads
 use Rattle.engine_modes.proofs.begin_later.Reads as begin-later-reads
 use Rattle.engine_modes.proofs.begin_now.Reads as begin-now-reads

@@ -4,9 +4,9 @@ use Rattle.engine_modes.proofs.new_run.Statement.{statement}
 use Rattle.engine_modes.proofs.new_run.Tie as tie
 use Rattle.engine_modes.proofs.new_run.Reads as reads
 use Rattle.engine_modes.proofs.new_run.Lts as lts
-use Rattle.engine_reads.proofs.rule_word.Reads as rule-word-reads
+use Rattle.engine_fields.proofs.rule_word.Reads as rule-word-reads
 use Rattle.engine_state.proofs.more_than.Reads as more-than-reads
-use Rattle.engine_truth.proofs.with_list.Reads as with-list-reads
+use Rattle.engine_evaluate.proofs.with_list.Reads as with-list-reads
 
 returns : tie.Need-returns
 unfolding newRun

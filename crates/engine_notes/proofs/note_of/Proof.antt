@@ -4,7 +4,7 @@ use Rattle.engine_notes.proofs.note_of.Statement.{statement}
 use Rattle.engine_notes.proofs.note_of.Tie as tie
 use Rattle.engine_notes.proofs.note_of.Reads as reads
 use Rattle.engine_notes.proofs.note_of.Lts as lts
-use Rattle.engine_reads.proofs.note_reason.Reads as note-reason-reads
+use Rattle.engine_fields.proofs.note_reason.Reads as note-reason-reads
 use Rattle.engine_notes.proofs.id_note.Reads as id-note-reads
 
 pub note-of-spec : {M : Type 1} → statement M

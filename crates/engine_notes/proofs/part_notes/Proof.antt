@@ -4,7 +4,7 @@ use Rattle.engine_notes.proofs.Laws as laws
 use lib.ListN.{length}
 use Rattle.reasons.specs.Readable.{HasText}
 use Rattle.reasons.specs.Lists.{listed, Clean}
-use Rattle.engine_notes.specs.Listing.{partsL, partL, timesL}
+use Rattle.engine_notes.specs.Listing.{partsM, partM, timesM}
 use Rattle.engine_notes.proofs.part_notes.Statement.{statement}
 use Rattle.engine_notes.proofs.part_notes.Tie as tie
 use Rattle.engine_notes.proofs.part_notes.Reads as reads
@@ -13,7 +13,7 @@ use Rattle.engine_notes.proofs.part_note.Reads as part-note-reads
 use Rattle.model_walk.proofs.u16_at.Reads as u16-at-reads
 
 abbrev Inv-loop : tie.InvT-loop
-Inv-loop f u₀ part id at n count start left₀ p₀ k₀ u left p k = ((length u ≡ length u₀) × (HasText f → Clean f n u₀ → Clean f k u)) × (partsL part id f at (listed f n u₀) ≡ timesL left (partL part id) f p (listed f k u))
+Inv-loop f u₀ part id at n count start left₀ p₀ k₀ u left p k = ((length u ≡ length u₀) × (HasText f → Clean f n u₀ → Clean f k u)) × (partsM part id f at (listed f n u₀) ≡ timesM left (partM part id) f p (listed f k u))
 
 abbrev μ-loop : tie.MeasureT-loop
 μ-loop f u₀ part id at n count start left₀ p₀ k₀ u left p k = left

@@ -5,7 +5,7 @@ use Rattle.engine_table.proofs.conditions_at.Statement.{statement}
 use Rattle.engine_table.proofs.conditions_at.Tie as tie
 use Rattle.engine_table.proofs.conditions_at.Reads as reads
 use Rattle.engine_table.proofs.conditions_at.Lts as lts
-use Rattle.engine_reads.proofs.two_at.Reads as two-at-reads
+use Rattle.engine_fields.proofs.two_at.Reads as two-at-reads
 
 pub conditions-at-spec : {M : Type 1} → statement M
 conditions-at-spec =

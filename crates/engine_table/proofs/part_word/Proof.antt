@@ -5,8 +5,8 @@ use Rattle.engine_table.proofs.part_word.Statement.{statement}
 use Rattle.engine_table.proofs.part_word.Tie as tie
 use Rattle.engine_table.proofs.part_word.Reads as reads
 use Rattle.engine_table.proofs.part_word.Lts as lts
-use Rattle.engine_reads.proofs.capped.Reads as capped-reads
-use Rattle.engine_reads.proofs.two_at.Reads as two-at-reads
+use Rattle.engine_fields.proofs.capped.Reads as capped-reads
+use Rattle.engine_fields.proofs.two_at.Reads as two-at-reads
 use Rattle.engine_table.proofs.rule_word.Reads as rule-word-reads
 use Rattle.engine_table.proofs.stale_at.Reads as stale-at-reads
 

@@ -5,10 +5,10 @@ use Rattle.engine_table.proofs.rule_word.Statement.{statement}
 use Rattle.engine_table.proofs.rule_word.Tie as tie
 use Rattle.engine_table.proofs.rule_word.Reads as reads
 use Rattle.engine_table.proofs.rule_word.Lts as lts
-use Rattle.engine_reads.proofs.byte_at.Reads as byte-at-reads
-use Rattle.engine_reads.proofs.capped.Reads as capped-reads
-use Rattle.engine_reads.proofs.four_at.Reads as four-at-reads
-use Rattle.engine_reads.proofs.two_at.Reads as two-at-reads
+use Rattle.engine_fields.proofs.byte_at.Reads as byte-at-reads
+use Rattle.engine_fields.proofs.capped.Reads as capped-reads
+use Rattle.engine_fields.proofs.four_at.Reads as four-at-reads
+use Rattle.engine_fields.proofs.two_at.Reads as two-at-reads
 use Rattle.engine_table.proofs.actions_at.Reads as actions-at-reads
 use Rattle.engine_table.proofs.conditions_at.Reads as conditions-at-reads
 use Rattle.engine_table.proofs.notes_word.Reads as notes-word-reads
@@ -31,12 +31,12 @@ rule-word-spec =
     (λ c. c .capped .ensures ∙ sym (laws.word-3 _ _ _ _ (c .before .if4 .taken)))
     (λ c κs. search needs)
     (λ c κs. search needs)
-    (λ c. c .capped2 .ensures ∙ ap Rattle.engine_reads.specs.Reads.cap (c .before .conditions-at .ensures .0) ∙ sym (laws.word-4 _ _ _ _ (c .before .before .if5 .taken)))
+    (λ c. c .capped2 .ensures ∙ ap Rattle.engine_fields.specs.Reads.cap (c .before .conditions-at .ensures .0) ∙ sym (laws.word-4 _ _ _ _ (c .before .before .if5 .taken)))
     (λ c κs. search needs)
     (λ c κs. search needs)
-    (λ c. c .capped3 .ensures ∙ ap Rattle.engine_reads.specs.Reads.cap (c .before .actions-at .ensures) ∙ sym (laws.word-5 _ _ _ _ (c .before .before .if6 .taken)))
+    (λ c. c .capped3 .ensures ∙ ap Rattle.engine_fields.specs.Reads.cap (c .before .actions-at .ensures) ∙ sym (laws.word-5 _ _ _ _ (c .before .before .if6 .taken)))
     (λ c κs. search needs)
     (λ c κs. search needs)
-    (λ c. c .capped4 .ensures ∙ ap Rattle.engine_reads.specs.Reads.cap (c .before .source-at .ensures) ∙ sym (laws.word-6 _ _ _ _ (c .before .before .if7 .taken)))
+    (λ c. c .capped4 .ensures ∙ ap Rattle.engine_fields.specs.Reads.cap (c .before .source-at .ensures) ∙ sym (laws.word-6 _ _ _ _ (c .before .before .if7 .taken)))
     (λ c κs. search needs)
     (λ c. c .notes-word .ensures ∙ sym (laws.word-else _ _ _ _ (c .before .before .before .before .before .before .before .if1 .left) (c .before .before .before .before .before .before .if2 .left) (c .before .before .before .before .before .if3 .left) (c .before .before .before .before .if4 .left) (c .before .before .before .if5 .left) (c .before .before .if6 .left) (c .before .if7 .left))))

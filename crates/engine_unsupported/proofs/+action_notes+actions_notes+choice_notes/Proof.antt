@@ -6,8 +6,8 @@ use Prim.Native.Nat.{_+_, _-_}
 use lib.ListN.{length}
 use Rattle.reasons.specs.Readable.{HasText}
 use Rattle.reasons.specs.Lists.{listed, Clean}
-use Rattle.engine_notes.specs.Listing.{_⨾_, timesL}
-use Rattle.engine_unsupported.specs.Listing.{actionL, actionsL, choiceL, branchL}
+use Rattle.engine_notes.specs.Listing.{_⨾_, timesM}
+use Rattle.engine_unsupported.specs.Listing.{actionM, actionsM, choiceM, branchM}
 use Prim.Native.Nat.{ℕ, _<_}
 use borrow.Fn.Kinds.{In}
 use borrow.Fn.PlainCycle.{Measures, is, falls, and}
@@ -73,13 +73,13 @@ choice-notes-below t =
     choice-notes.Pre
 
 abbrev actions-notes-Inv-loop : actions-notes-lts.InvT-loop
-actions-notes-Inv-loop f u₀ left at n count start i₀ p₀ k₀ u i p k = ((length u ≡ length u₀) × (HasText f → Clean f n u₀ → Clean f k u)) × (actionsL left f at (listed f n u₀) ≡ timesL i (actionL (actionsL (left - 1))) f p (listed f k u))
+actions-notes-Inv-loop f u₀ left at n count start i₀ p₀ k₀ u i p k = ((length u ≡ length u₀) × (HasText f → Clean f n u₀ → Clean f k u)) × (actionsM left f at (listed f n u₀) ≡ timesM i (actionM (actionsM (left - 1))) f p (listed f k u))
 
 abbrev actions-notes-μ-loop : actions-notes-lts.MeasureT-loop
 actions-notes-μ-loop f u₀ left at n count start i₀ p₀ k₀ u i p k = i
 
 abbrev choice-notes-Inv-loop : choice-notes-lts.InvT-loop
-choice-notes-Inv-loop f u₀ left at n count start i₀ p₀ k₀ u i p k = ((length u ≡ length u₀) × (HasText f → Clean f n u₀ → Clean f k u)) × (choiceL (actionsL left) f at (listed f n u₀) ≡ (timesL i (branchL (actionsL left)) ⨾ actionsL left) f p (listed f k u))
+choice-notes-Inv-loop f u₀ left at n count start i₀ p₀ k₀ u i p k = ((length u ≡ length u₀) × (HasText f → Clean f n u₀ → Clean f k u)) × (choiceM (actionsM left) f at (listed f n u₀) ≡ (timesM i (branchM (actionsM left)) ⨾ actionsM left) f p (listed f k u))
 
 abbrev choice-notes-μ-loop : choice-notes-lts.MeasureT-loop
 choice-notes-μ-loop f u₀ left at n count start i₀ p₀ k₀ u i p k = i

@@ -4,7 +4,7 @@ use Rattle.engine_unsupported.proofs.own_notes.Statement.{statement}
 use Rattle.engine_unsupported.proofs.own_notes.Tie as tie
 use Rattle.engine_unsupported.proofs.own_notes.Reads as reads
 use Rattle.engine_unsupported.proofs.own_notes.Lts as lts
-use Rattle.engine_reads.proofs.rule_word.Reads as rule-word-reads
+use Rattle.engine_fields.proofs.rule_word.Reads as rule-word-reads
 use Rattle.engine_notes.proofs.part_notes.Reads as part-notes-reads
 
 pub own-notes-spec : {M : Type 1} → statement M

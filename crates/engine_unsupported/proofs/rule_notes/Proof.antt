@@ -4,7 +4,7 @@ use Rattle.engine_unsupported.proofs.rule_notes.Statement.{statement}
 use Rattle.engine_unsupported.proofs.rule_notes.Tie as tie
 use Rattle.engine_unsupported.proofs.rule_notes.Reads as reads
 use Rattle.engine_unsupported.proofs.rule_notes.Lts as lts
-use Rattle.engine_reads.proofs.rule_word.Reads as rule-word-reads
+use Rattle.engine_fields.proofs.rule_word.Reads as rule-word-reads
 use Rattle.engine_unsupported.proofs.actions_notes.Reads as actions-notes-reads
 use Rattle.engine_unsupported.proofs.own_notes.Reads as own-notes-reads
 

@@ -7,16 +7,16 @@ use Rattle.reasons.specs.Readable.{HasText}
 use Rattle.reasons.specs.Lists.{listed, Clean}
 use Rattle.reasons.proofs.Listing as listing
 use Rattle.reasons.proofs.Cleaning.{clean-zeros}
-use Rattle.engine_unsupported.specs.Listing.{unsupportedL, rulesL}
+use Rattle.engine_unsupported.specs.Listing.{unsupportedM, rulesM}
 use Rattle.engine_unsupported.proofs.unsupported.Statement.{statement}
 use Rattle.engine_unsupported.proofs.unsupported.Tie as tie
 use Rattle.engine_unsupported.proofs.unsupported.Reads as reads
 use Rattle.engine_unsupported.proofs.unsupported.Lts as lts
-use Rattle.engine_reads.proofs.at_most.Reads as at-most-reads
+use Rattle.engine_fields.proofs.at_most.Reads as at-most-reads
 use Rattle.engine_unsupported.proofs.rule_notes.Reads as rule-notes-reads
 
 abbrev Inv-loop : tie.InvT-loop
-Inv-loop f x u₀ rules k₀ i₀ u k i = ((length u ≡ length u₀) × ((rules ≤ 32) × (HasText f → Clean f k u))) × (unsupportedL f x ≡ rulesL f x (rules - i) i (listed f k u))
+Inv-loop f x u₀ rules k₀ i₀ u k i = ((length u ≡ length u₀) × ((rules ≤ 32) × (HasText f → Clean f k u))) × (unsupportedM f x ≡ rulesM f x (rules - i) i (listed f k u))
 
 abbrev μ-loop : tie.MeasureT-loop
 μ-loop f x u₀ rules k₀ i₀ u k i = rules - i

@@ -4,8 +4,8 @@ use Rattle.engine_window.proofs.open_at.Statement.{statement}
 use Rattle.engine_window.proofs.open_at.Tie as tie
 use Rattle.engine_window.proofs.open_at.Reads as reads
 use Rattle.engine_window.proofs.open_at.Lts as lts
-use Rattle.engine_reads.proofs.byte_at.Reads as byte-at-reads
-use Rattle.engine_reads.proofs.four_at.Reads as four-at-reads
+use Rattle.engine_fields.proofs.byte_at.Reads as byte-at-reads
+use Rattle.engine_fields.proofs.four_at.Reads as four-at-reads
 use Rattle.engine_window.proofs.is_open.Reads as is-open-reads
 use Rattle.engine_window.proofs.second_after.Reads as second-after-reads
 use Rattle.engine_window.proofs.weekday_after.Reads as weekday-after-reads

@@ -1,6 +1,6 @@
 use borrow.Author.Needs.{needs}
 use mathlib.Core.Path.{sym, ap, _∙_}
-use Rattle.answer_numbers.specs.Numbers.{validityNumber}
+use Rattle.c_encoding.specs.Numbers.{validityNumber}
 use Rattle.fukhtsege.proofs.fukhtsege_validate.Statement.{statement}
 use Rattle.fukhtsege.proofs.fukhtsege_validate.Tie as tie
 

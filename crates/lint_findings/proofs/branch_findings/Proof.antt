@@ -4,9 +4,9 @@ use mathlib.Core.List.{List}
 use Prim.Native.Nat.{ℕ, _-_}
 use lib.ListN.{length}
 use Rattle.lint_walk.specs.Walks.{walkBy}
-use Rattle.lint_board.specs.Board.{board, pushes}
+use Rattle.lint_areas.specs.Board.{board, pushes}
 use Rattle.lint_findings.proofs.Laws as laws
-use Rattle.lint_findings.specs.Entries.{itemsN, branchesAt, branchesItems}
+use Rattle.lint_findings.specs.Entries.{items-numbersM, branchesAt, branchesItems}
 use Rattle.lint_findings.proofs.branch_findings.Statement.{statement}
 use Rattle.lint_findings.proofs.branch_findings.Tie as tie
 use Rattle.lint_findings.proofs.branch_findings.Reads as reads
@@ -15,7 +15,7 @@ use Rattle.lint_findings.proofs.choice_findings.Reads as choice-finding
 use Rattle.lint_walk.proofs.kind_at.Reads as kind-at-reads
 
 abbrev Inv-loop : tie.InvT-loop
-Inv-loop s a list count findings₀ out₀ k₀ findings out k = ((i : List ℕ) → pushes (branchesItems s a (walkBy list count)) (board findings₀ i out₀) ≡ pushes (itemsN (branchesAt s a (walkBy list count)) (count - k) k) (board findings i out)) × (length findings ≡ length findings₀)
+Inv-loop s a list count findings₀ out₀ k₀ findings out k = ((i : List ℕ) → pushes (branchesItems s a (walkBy list count)) (board findings₀ i out₀) ≡ pushes (items-numbersM (branchesAt s a (walkBy list count)) (count - k) k) (board findings i out)) × (length findings ≡ length findings₀)
 
 abbrev μ-loop : tie.MeasureT-loop
 μ-loop s a list count findings₀ out₀ k₀ findings out k = count - k

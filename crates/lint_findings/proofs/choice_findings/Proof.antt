@@ -3,26 +3,26 @@ use mathlib.Core.Path.{_≡_, refl, sym, ap, _∙_}
 use mathlib.Core.List.{List}
 use Prim.Native.Nat.{ℕ, _-_}
 use lib.ListN.{length}
-use Rattle.lint_board.specs.Board.{board, pushes, onlyIf, finding}
+use Rattle.lint_areas.specs.Board.{board, pushes, onlyIf, finding}
 use Rattle.lint_findings.proofs.Laws as laws
-use Rattle.lint_findings.specs.Entries.{itemsP}
-use Rattle.lint_tests.specs.Tests.{contradictoryZ}
+use Rattle.lint_findings.specs.Entries.{items-partsM}
+use Rattle.lint_conditions.specs.Tests.{contradictoryM}
 use Rattle.lint_walk.specs.Raw.{predicatesEnd}
 use Rattle.lint_walk.specs.Walks.{listEnd}
 use Rattle.lint_findings.proofs.choice_findings.Statement.{statement}
 use Rattle.lint_findings.proofs.choice_findings.Tie as tie
 use Rattle.lint_findings.proofs.choice_findings.Reads as reads
 use Rattle.lint_findings.proofs.choice_findings.Lts as lts
-use Rattle.lint_board.proofs.push_if.Reads as push-if-reads
+use Rattle.lint_areas.proofs.push_if.Reads as push-if-reads
 use Rattle.lint_findings.proofs.at_action.Reads as at-action-reads
-use Rattle.lint_tests.proofs.contradictory.Reads as contradictory-reads
+use Rattle.lint_conditions.proofs.contradictory.Reads as contradictory-reads
 use Rattle.lint_walk.proofs.list_end.Reads as list-end-reads
 use Rattle.lint_walk.proofs.past.Reads as past-reads
 use Rattle.lint_walk.proofs.place_at.Reads as place-at-reads
 use Rattle.lint_walk.proofs.predicates_end.Reads as predicates-end-reads
 
 abbrev Inv-loop : tie.InvT-loop
-Inv-loop s at findings₀ words start left₀ p₀ out₀ findings left p out = ((i : List ℕ) → pushes (itemsP (λ q. onlyIf (contradictoryZ s q) (finding words)) (λ q. listEnd s (predicatesEnd s q)) left₀ p₀) (board findings₀ i out₀) ≡ pushes (itemsP (λ q. onlyIf (contradictoryZ s q) (finding words)) (λ q. listEnd s (predicatesEnd s q)) left p) (board findings i out)) × (length findings ≡ length findings₀)
+Inv-loop s at findings₀ words start left₀ p₀ out₀ findings left p out = ((i : List ℕ) → pushes (items-partsM (λ q. onlyIf (contradictoryM s q) (finding words)) (λ q. listEnd s (predicatesEnd s q)) left₀ p₀) (board findings₀ i out₀) ≡ pushes (items-partsM (λ q. onlyIf (contradictoryM s q) (finding words)) (λ q. listEnd s (predicatesEnd s q)) left p) (board findings i out)) × (length findings ≡ length findings₀)
 
 abbrev μ-loop : tie.MeasureT-loop
 μ-loop s at findings₀ words start left₀ p₀ out₀ findings left p out = left

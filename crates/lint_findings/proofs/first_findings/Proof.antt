@@ -1,12 +1,12 @@
 use Prim.Native.Nat.{_-_}
-use Rattle.lint_board.specs.Board.{finding}
+use Rattle.lint_areas.specs.Board.{finding}
 use Rattle.lint_findings.proofs.Laws as laws
 use borrow.Author.Needs.{needs}
 use Rattle.lint_findings.proofs.first_findings.Statement.{statement}
 use Rattle.lint_findings.proofs.first_findings.Tie as tie
 use Rattle.lint_findings.proofs.first_findings.Reads as reads
 use Rattle.lint_findings.proofs.first_findings.Lts as lts
-use Rattle.lint_board.proofs.push_if.Reads as push-if-reads
+use Rattle.lint_areas.proofs.push_if.Reads as push-if-reads
 use Rattle.lint_findings.proofs.branch_findings.Reads as branch-findings-reads
 use Rattle.lint_findings.proofs.finding.Reads as finding-reads
 use Rattle.lint_findings.proofs.own_findings.Reads as own-findings-reads

@@ -3,20 +3,20 @@ use mathlib.Core.Path.{_≡_, refl, sym, _∙_}
 use mathlib.Core.List.{List}
 use Prim.Native.Nat.{ℕ, _-_}
 use lib.ListN.{length}
-use Rattle.lint_board.specs.Board.{board, pushes, onlyIf, finding}
-use Rattle.lint_tests.specs.Given.{sectionOf}
+use Rattle.lint_areas.specs.Board.{board, pushes, onlyIf, finding}
+use Rattle.lint_conditions.specs.Given.{sectionOf}
 use Rattle.lint_findings.proofs.Laws as laws
-use Rattle.lint_findings.specs.Entries.{itemsN, aboutZ, staleHereZ, freshItems}
+use Rattle.lint_findings.specs.Entries.{items-numbersM, aboutM, staleHereM, freshItems}
 use Rattle.lint_findings.proofs.fresh_findings.Statement.{statement}
 use Rattle.lint_findings.proofs.fresh_findings.Tie as tie
 use Rattle.lint_findings.proofs.fresh_findings.Reads as reads
 use Rattle.lint_findings.proofs.fresh_findings.Lts as lts
-use Rattle.lint_board.proofs.push_if.Reads as push-if-reads
+use Rattle.lint_areas.proofs.push_if.Reads as push-if-reads
 use Rattle.lint_findings.proofs.finding.Reads as finding-reads
 use Rattle.lint_findings.proofs.stale_here.Reads as stale-here-reads
 
 abbrev Inv-loop : tie.InvT-loop
-Inv-loop s a entities extent reads findings₀ count line column out₀ k₀ findings out k = ((i : List ℕ) → pushes (freshItems s a (sectionOf entities extent) reads) (board findings₀ i out₀) ≡ pushes (itemsN (λ k. onlyIf (staleHereZ s (sectionOf entities extent) reads k) (finding (aboutZ a 6 1 k (a .line) (a .column)))) (count - k) k) (board findings i out)) × (length findings ≡ length findings₀)
+Inv-loop s a entities extent reads findings₀ count line column out₀ k₀ findings out k = ((i : List ℕ) → pushes (freshItems s a (sectionOf entities extent) reads) (board findings₀ i out₀) ≡ pushes (items-numbersM (λ k. onlyIf (staleHereM s (sectionOf entities extent) reads k) (finding (aboutM a 6 1 k (a .line) (a .column)))) (count - k) k) (board findings i out)) × (length findings ≡ length findings₀)
 
 abbrev μ-loop : tie.MeasureT-loop
 μ-loop s a entities extent reads findings₀ count line column out₀ k₀ findings out k = count - k

@@ -3,20 +3,20 @@ use mathlib.Core.Path.{_≡_, refl, sym, _∙_}
 use mathlib.Core.List.{List, _∷_, []}
 use Prim.Native.Nat.{ℕ, _-_}
 use lib.ListN.{length, getD}
-use Rattle.lint_board.specs.Board.{board, pushes, onlyIf, interaction}
-use Rattle.lint_tests.specs.Given.{sectionOf}
+use Rattle.lint_areas.specs.Board.{board, pushes, onlyIf, interaction}
+use Rattle.lint_conditions.specs.Given.{sectionOf}
 use Rattle.lint_findings.proofs.Laws as laws
-use Rattle.lint_findings.specs.Entries.{itemsN}
-use Rattle.lint_tests.specs.Tests.{leadsZ}
+use Rattle.lint_findings.specs.Entries.{items-numbersM}
+use Rattle.lint_conditions.specs.Tests.{leadsM}
 use Rattle.lint_findings.proofs.interactions_of.Statement.{statement}
 use Rattle.lint_findings.proofs.interactions_of.Tie as tie
 use Rattle.lint_findings.proofs.interactions_of.Reads as reads
 use Rattle.lint_findings.proofs.interactions_of.Lts as lts
-use Rattle.lint_board.proofs.interact_if.Reads as interact-if-reads
-use Rattle.lint_tests.proofs.leads.Reads as leads-reads
+use Rattle.lint_areas.proofs.interact_if.Reads as interact-if-reads
+use Rattle.lint_conditions.proofs.leads.Reads as leads-reads
 
 abbrev Inv-loop : tie.InvT-loop
-Inv-loop s from rules star x v e interactions₀ count out₀ k₀ interactions out k = ((f : List ℕ) → pushes (itemsN (λ k. onlyIf (leadsZ s star x v (getD rules k 0)) (interaction (from ∷ k ∷ e ∷ []))) (count - 0) 0) (board f interactions₀ out₀) ≡ pushes (itemsN (λ k. onlyIf (leadsZ s star x v (getD rules k 0)) (interaction (from ∷ k ∷ e ∷ []))) (count - k) k) (board f interactions out)) × (length interactions ≡ length interactions₀)
+Inv-loop s from rules star x v e interactions₀ count out₀ k₀ interactions out k = ((f : List ℕ) → pushes (items-numbersM (λ k. onlyIf (leadsM s star x v (getD rules k 0)) (interaction (from ∷ k ∷ e ∷ []))) (count - 0) 0) (board f interactions₀ out₀) ≡ pushes (items-numbersM (λ k. onlyIf (leadsM s star x v (getD rules k 0)) (interaction (from ∷ k ∷ e ∷ []))) (count - k) k) (board f interactions out)) × (length interactions ≡ length interactions₀)
 
 abbrev μ-loop : tie.MeasureT-loop
 μ-loop s from rules star x v e interactions₀ count out₀ k₀ interactions out k = count - k

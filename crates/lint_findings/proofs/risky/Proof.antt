@@ -6,8 +6,8 @@ use Rattle.lint_findings.proofs.risky.Statement.{statement}
 use Rattle.lint_findings.proofs.risky.Tie as tie
 use Rattle.lint_findings.proofs.risky.Reads as reads
 use Rattle.lint_findings.proofs.risky.Lts as lts
-use Rattle.lint_tests.proofs.tier.Reads as tier-reads
-use Rattle.lint_tests.proofs.unguarded.Reads as unguarded-reads
+use Rattle.lint_conditions.proofs.tier.Reads as tier-reads
+use Rattle.lint_conditions.proofs.unguarded.Reads as unguarded-reads
 
 pub risky-spec : {M : Type 1} → statement M
 risky-spec =

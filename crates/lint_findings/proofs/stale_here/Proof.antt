@@ -7,7 +7,7 @@ use Rattle.lint_findings.proofs.stale_here.Tie as tie
 use Rattle.lint_findings.proofs.stale_here.Reads as reads
 use Rattle.lint_findings.proofs.stale_here.Lts as lts
 use Rattle.lint_reach.proofs.has.Reads as has-reads
-use Rattle.lint_tests.proofs.stale.Reads as stale-reads
+use Rattle.lint_conditions.proofs.stale.Reads as stale-reads
 
 pub stale-here-spec : {M : Type 1} → statement M
 stale-here-spec =

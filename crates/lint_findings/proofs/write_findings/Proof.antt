@@ -5,7 +5,7 @@ use Rattle.lint_findings.proofs.write_findings.Statement.{statement}
 use Rattle.lint_findings.proofs.write_findings.Tie as tie
 use Rattle.lint_findings.proofs.write_findings.Reads as reads
 use Rattle.lint_findings.proofs.write_findings.Lts as lts
-use Rattle.lint_board.proofs.push_if.Reads as push-if-reads
+use Rattle.lint_areas.proofs.push_if.Reads as push-if-reads
 use Rattle.lint_findings.proofs.at_action.Reads as at-action-reads
 use Rattle.lint_findings.proofs.interactions_of.Reads as interactions-of-reads
 use Rattle.lint_findings.proofs.risky.Reads as risky-reads

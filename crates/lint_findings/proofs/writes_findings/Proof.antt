@@ -3,10 +3,10 @@ use mathlib.Core.Path.{_≡_, refl, sym, _∙_}
 use Prim.Native.Nat.{_-_}
 use lib.ListN.{length, getD}
 use Rattle.lint_walk.specs.Walks.{walkBy}
-use Rattle.lint_board.specs.Board.{board, pushes}
-use Rattle.lint_tests.specs.Given.{sectionOf, namesBy}
+use Rattle.lint_areas.specs.Board.{board, pushes}
+use Rattle.lint_conditions.specs.Given.{sectionOf, namesBy}
 use Rattle.lint_findings.proofs.Laws as laws
-use Rattle.lint_findings.specs.Entries.{itemsN, writeItems, writesItems}
+use Rattle.lint_findings.specs.Entries.{items-numbersM, writeItems, writesItems}
 use Rattle.lint_findings.proofs.writes_findings.Statement.{statement}
 use Rattle.lint_findings.proofs.writes_findings.Tie as tie
 use Rattle.lint_findings.proofs.writes_findings.Reads as reads
@@ -14,7 +14,7 @@ use Rattle.lint_findings.proofs.writes_findings.Lts as lts
 use Rattle.lint_findings.proofs.write_findings.Reads as write-findings-reads
 
 abbrev Inv-loop : tie.InvT-loop
-Inv-loop s entities invariants rules given a list count findings₀ interactions₀ out₀ k₀ findings interactions out k = (pushes (writesItems s (namesBy entities invariants given) (sectionOf rules (given .rules)) a (walkBy list count)) (board findings₀ interactions₀ out₀) ≡ pushes (itemsN (λ k. writeItems s (namesBy entities invariants given) (sectionOf rules (given .rules)) a (getD list k 0)) (count - k) k) (board findings interactions out)) × ((length findings ≡ length findings₀) × (length interactions ≡ length interactions₀))
+Inv-loop s entities invariants rules given a list count findings₀ interactions₀ out₀ k₀ findings interactions out k = (pushes (writesItems s (namesBy entities invariants given) (sectionOf rules (given .rules)) a (walkBy list count)) (board findings₀ interactions₀ out₀) ≡ pushes (items-numbersM (λ k. writeItems s (namesBy entities invariants given) (sectionOf rules (given .rules)) a (getD list k 0)) (count - k) k) (board findings interactions out)) × ((length findings ≡ length findings₀) × (length interactions ≡ length interactions₀))
 
 abbrev μ-loop : tie.MeasureT-loop
 μ-loop s entities invariants rules given a list count findings₀ interactions₀ out₀ k₀ findings interactions out k = count - k

@@ -3,16 +3,16 @@ use mathlib.Core.Path.{_≡_, refl, sym, _∙_}
 use mathlib.Core.List.{List, _∷_, []}
 use Prim.Native.Nat.{ℕ, _-_}
 use lib.ListN.{length}
-use Rattle.lint_board.specs.Board.{board, pushes, finding}
-use Rattle.lint_findings.specs.Entries.{itemsN}
+use Rattle.lint_areas.specs.Board.{board, pushes, finding}
+use Rattle.lint_findings.specs.Entries.{items-numbersM}
 use Rattle.lint_findings.proofs.Laws as items
-use Rattle.lint_notes.specs.Notes.{noteZ, noteItems}
+use Rattle.lint_notes.specs.Notes.{noteM, noteItems}
 use Rattle.lint_notes.proofs.Laws as laws
 use Rattle.lint_notes.proofs.note_findings.Statement.{statement}
 use Rattle.lint_notes.proofs.note_findings.Tie as tie
 
 abbrev Inv-loop : tie.InvT-loop
-Inv-loop set line column reasons count findings₀ out₀ j₀ findings out j = ((k : List ℕ) → pushes (noteItems set line column reasons count) (board findings₀ k out₀) ≡ pushes (itemsN (λ j. finding (noteZ set line column reasons j) ∷ []) (count - j) j) (board findings k out)) × (length findings ≡ length findings₀)
+Inv-loop set line column reasons count findings₀ out₀ j₀ findings out j = ((k : List ℕ) → pushes (noteItems set line column reasons count) (board findings₀ k out₀) ≡ pushes (items-numbersM (λ j. finding (noteM set line column reasons j) ∷ []) (count - j) j) (board findings k out)) × (length findings ≡ length findings₀)
 
 abbrev μ-loop : tie.MeasureT-loop
 μ-loop set line column reasons count findings₀ out₀ j₀ findings out j = count - j

@@ -4,7 +4,7 @@ use Rattle.lint_notes.proofs.put_row.Statement.{statement}
 use Rattle.lint_notes.proofs.put_row.Tie as tie
 use Rattle.lint_notes.proofs.put_row.Reads as reads
 use Rattle.lint_notes.proofs.put_row.Lts as lts
-use Rattle.engine_reads.proofs.capped.Reads as capped-reads
+use Rattle.engine_fields.proofs.capped.Reads as capped-reads
 use Rattle.lint_walk.proofs.conditions_at.Reads as conditions-at-reads
 use Rattle.lint_walk.proofs.past.Reads as past-reads
 use Rattle.lint_walk.proofs.place_at.Reads as place-at-reads

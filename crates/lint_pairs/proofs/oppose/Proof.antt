@@ -4,7 +4,7 @@ use Rattle.lint_pairs.proofs.oppose.Statement.{statement}
 use Rattle.lint_pairs.proofs.oppose.Tie as tie
 use Rattle.lint_pairs.proofs.oppose.Reads as reads
 use Rattle.lint_pairs.proofs.oppose.Lts as lts
-use Rattle.lint_board.proofs.push_finding.Reads as push-finding-reads
+use Rattle.lint_areas.proofs.push_finding.Reads as push-finding-reads
 use Rattle.lint_pairs.proofs.pair_words.Reads as pair-words-reads
 use Rattle.model_check.proofs.first_of.Reads as first-of-reads
 

@@ -4,11 +4,11 @@ use mathlib.Core.List.{List}
 use Prim.Native.Nat.{ℕ, _-_}
 use lib.ListN.{length, getD}
 use Rattle.lint_walk.specs.Walks.{walkBy}
-use Rattle.lint_board.specs.Board.{board, pushes}
-use Rattle.lint_tests.specs.Given.{namesBy}
+use Rattle.lint_areas.specs.Board.{board, pushes}
+use Rattle.lint_conditions.specs.Given.{namesBy}
 use Rattle.lint_findings.proofs.Laws as items
 use Rattle.lint_pairs.proofs.Laws as laws
-use Rattle.lint_findings.specs.Entries.{itemsN}
+use Rattle.lint_findings.specs.Entries.{items-numbersM}
 use Rattle.lint_pairs.specs.Pairs.{rowItems, pairItems}
 use Rattle.lint_pairs.proofs.oppose_pair.Statement.{statement}
 use Rattle.lint_pairs.proofs.oppose_pair.Tie as tie
@@ -17,7 +17,7 @@ use Rattle.lint_pairs.proofs.oppose_pair.Lts as lts
 use Rattle.lint_pairs.proofs.oppose_row.Reads as oppose-row-reads
 
 abbrev Inv-loop : tie.InvT-loop
-Inv-loop s entities invariants given set list m others n findings₀ out₀ k₀ findings out k = ((i : List ℕ) → pushes (pairItems s (namesBy entities invariants given) set (walkBy list m) (walkBy others n)) (board findings₀ i out₀) ≡ pushes (itemsN (λ k. rowItems s (namesBy entities invariants given) set (walkBy others n) (getD list k 0)) (m - k) k) (board findings i out)) × (length findings ≡ length findings₀)
+Inv-loop s entities invariants given set list m others n findings₀ out₀ k₀ findings out k = ((i : List ℕ) → pushes (pairItems s (namesBy entities invariants given) set (walkBy list m) (walkBy others n)) (board findings₀ i out₀) ≡ pushes (items-numbersM (λ k. rowItems s (namesBy entities invariants given) set (walkBy others n) (getD list k 0)) (m - k) k) (board findings i out)) × (length findings ≡ length findings₀)
 
 abbrev μ-loop : tie.MeasureT-loop
 μ-loop s entities invariants given set list m others n findings₀ out₀ k₀ findings out k = m - k

@@ -4,11 +4,11 @@ use mathlib.Core.List.{List}
 use Prim.Native.Nat.{ℕ, _-_}
 use lib.ListN.{length, getD}
 use Rattle.lint_walk.specs.Walks.{walkBy}
-use Rattle.lint_board.specs.Board.{board, pushes}
-use Rattle.lint_tests.specs.Given.{namesBy}
+use Rattle.lint_areas.specs.Board.{board, pushes}
+use Rattle.lint_conditions.specs.Given.{namesBy}
 use Rattle.lint_findings.proofs.Laws as items
 use Rattle.lint_pairs.proofs.Laws as laws
-use Rattle.lint_findings.specs.Entries.{itemsN}
+use Rattle.lint_findings.specs.Entries.{items-numbersM}
 use Rattle.lint_pairs.specs.Pairs.{opposeItems, rowItems}
 use Rattle.lint_pairs.proofs.oppose_row.Statement.{statement}
 use Rattle.lint_pairs.proofs.oppose_row.Tie as tie
@@ -22,7 +22,7 @@ use Rattle.lint_walk.proofs.past.Reads as past-reads
 use Rattle.lint_walk.proofs.place_at.Reads as place-at-reads
 
 abbrev Inv-loop : tie.InvT-loop
-Inv-loop s entities invariants given set at list count findings₀ star x v out₀ k₀ findings out k = ((i : List ℕ) → pushes (rowItems s (namesBy entities invariants given) set (walkBy list count) at) (board findings₀ i out₀) ≡ pushes (itemsN (λ k. opposeItems s (namesBy entities invariants given) set at (getD list k 0)) (count - k) k) (board findings i out)) × (length findings ≡ length findings₀)
+Inv-loop s entities invariants given set at list count findings₀ star x v out₀ k₀ findings out k = ((i : List ℕ) → pushes (rowItems s (namesBy entities invariants given) set (walkBy list count) at) (board findings₀ i out₀) ≡ pushes (items-numbersM (λ k. opposeItems s (namesBy entities invariants given) set at (getD list k 0)) (count - k) k) (board findings i out)) × (length findings ≡ length findings₀)
 
 abbrev μ-loop : tie.MeasureT-loop
 μ-loop s entities invariants given set at list count findings₀ star x v out₀ k₀ findings out k = count - k

@@ -1,13 +1,13 @@
 use borrow.Author.Needs.{needs}
 use mathlib.Core.Path.{refl, sym}
-use Rattle.lint_tests.proofs.Laws as tests
+use Rattle.lint_conditions.proofs.Laws as tests
 use Rattle.lint_pairs.proofs.Laws as laws
 use Rattle.lint_pairs.proofs.opposing.Statement.{statement}
 use Rattle.lint_pairs.proofs.opposing.Tie as tie
 use Rattle.lint_pairs.proofs.opposing.Reads as reads
 use Rattle.lint_pairs.proofs.opposing.Lts as lts
 use Rattle.lint_findings.proofs.value.Reads as value-reads
-use Rattle.lint_tests.proofs.opposed.Reads as opposed-reads
+use Rattle.lint_conditions.proofs.opposed.Reads as opposed-reads
 use Rattle.lint_walk.proofs.kind_at.Reads as kind-at-reads
 use Rattle.lint_walk.proofs.past.Reads as past-reads
 use Rattle.lint_walk.proofs.place_at.Reads as place-at-reads

@@ -6,7 +6,7 @@ use Rattle.lint_pairs.proofs.pair_words.Tie as tie
 use Rattle.lint_pairs.proofs.pair_words.Reads as reads
 use Rattle.lint_pairs.proofs.pair_words.Lts as lts
 use Rattle.lint_pairs.proofs.spelled.Reads as spelled-reads
-use Rattle.lint_tests.proofs.tier.Reads as tier-reads
+use Rattle.lint_conditions.proofs.tier.Reads as tier-reads
 use Rattle.lint_walk.proofs.number_at.Reads as number-at-reads
 use Rattle.lint_walk.proofs.past.Reads as past-reads
 

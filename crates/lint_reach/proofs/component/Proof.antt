@@ -4,7 +4,7 @@ use native.Mathlib.Omega.{arith}
 use Rattle.lint_reach.proofs.Bits as bits
 use Rattle.lint_reach.proofs.Parts as parts
 use Rattle.lint_reach.specs.Sets.{collect}
-use Rattle.lint_reach.specs.Cycles.{componentS, bothS}
+use Rattle.lint_reach.specs.Cycles.{componentM, bothM}
 use Prim.Native.Nat.{_-_, _≤_}
 use Rattle.lint_reach.proofs.component.Statement.{statement}
 use Rattle.lint_reach.proofs.component.Tie as tie
@@ -14,7 +14,7 @@ use Rattle.lint_reach.proofs.both.Reads as both-reads
 use Rattle.lint_reach.proofs.with_if.Reads as with-if-reads
 
 abbrev Inv-loop : tie.InvT-loop
-Inv-loop reach n i set₀ j₀ set j = (componentS reach n i ≡ collect (bothS reach i) (n - j) j set) × (j ≤ n)
+Inv-loop reach n i set₀ j₀ set j = (componentM reach n i ≡ collect (bothM reach i) (n - j) j set) × (j ≤ n)
 
 abbrev μ-loop : tie.MeasureT-loop
 μ-loop reach n i set₀ j₀ set j = n - j

@@ -3,7 +3,7 @@ use mathlib.Core.Path.{_≡_, sym, ap, _∙_}
 use Prim.Native.Nat.{_-_, _≤_}
 use native.Mathlib.Omega.{arith}
 use Rattle.texts.specs.Lists.{through}
-use Rattle.lint.specs.Reach.{places}
+use Rattle.lint_spec.specs.Reach.{places}
 use Rattle.lint_reads_lines.specs.Numbers.{better, rule-from}
 use Rattle.lint_reads_lines.proofs.Loops as loops
 use Rattle.lint_reads_lines.proofs.Laws as laws

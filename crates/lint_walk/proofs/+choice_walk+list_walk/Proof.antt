@@ -3,7 +3,7 @@ use mathlib.Core.Path.{_≡_, refl, sym, ap, _∙_}
 use Rattle.lint_walk.proofs.Laws as laws
 use Prim.Native.Nat.{_+_, _-_}
 use Rattle.lint_walk.specs.Raw.{repeat}
-use Rattle.lint_walk.specs.Walks.{walkOf, actionW, branchW, choiceW, listW}
+use Rattle.lint_walk.specs.Walks.{walkOf, actionM, branchM, choiceM, listM}
 use Prim.Native.Nat.{ℕ, _<_}
 use borrow.Fn.Kinds.{In}
 use borrow.Fn.PlainCycle.{Measures, is, falls, and}
@@ -45,13 +45,13 @@ list-walk-below t =
     and 2 list-walk-kinds.ps (falls 2 list-walk-kinds.ps _<_ μ-list-walk t) list-walk.Pre
 
 abbrev choice-walk-Inv-loop : choice-walk-lts.InvT-loop
-choice-walk-Inv-loop s left list₀ i₀ v₀ list i v = repeat i₀ (branchW s (listW left s)) (walkOf list₀ v₀) ≡ repeat i (branchW s (listW left s)) (walkOf list v)
+choice-walk-Inv-loop s left list₀ i₀ v₀ list i v = repeat i₀ (branchM s (listM left s)) (walkOf list₀ v₀) ≡ repeat i (branchM s (listM left s)) (walkOf list v)
 
 abbrev choice-walk-μ-loop : choice-walk-lts.MeasureT-loop
 choice-walk-μ-loop s left list₀ i₀ v₀ list i v = i
 
 abbrev list-walk-Inv-loop : list-walk-lts.InvT-loop
-list-walk-Inv-loop s left list₀ i₀ v₀ list i v = repeat i₀ (actionW s (choiceW s (listW (left - 1) s))) (walkOf list₀ v₀) ≡ repeat i (actionW s (choiceW s (listW (left - 1) s))) (walkOf list v)
+list-walk-Inv-loop s left list₀ i₀ v₀ list i v = repeat i₀ (actionM s (choiceM s (listM (left - 1) s))) (walkOf list₀ v₀) ≡ repeat i (actionM s (choiceM s (listM (left - 1) s))) (walkOf list v)
 
 abbrev list-walk-μ-loop : list-walk-lts.MeasureT-loop
 list-walk-μ-loop s left list₀ i₀ v₀ list i v = i
@@ -116,7 +116,7 @@ pub +choice-walk+list-walk-spec : {M : Type 1} → statement M
     (λ c κs. search needs)
     (λ c. search needs)
     (λ c. search needs)
-    (λ c. c .before .before .before .before .before .before .before .loop .inv ∙ laws.repeat-more _ _ _ (c .before .before .before .before .before .before .loop-test .taken) ∙ ap (repeat _ _) (laws.action-choice _ _ _ (sym (c .before .before .before .before .before .kind-at .ensures) ∙ c .before .before .before .before .if2 .taken) ∙ ap (choiceW _ (listW _ _)) (sym (c .before .before .entered .ensures)) ∙ sym (c .choice-walk .ensures)))
+    (λ c. c .before .before .before .before .before .before .before .loop .inv ∙ laws.repeat-more _ _ _ (c .before .before .before .before .before .before .loop-test .taken) ∙ ap (repeat _ _) (laws.action-choice _ _ _ (sym (c .before .before .before .before .before .kind-at .ensures) ∙ c .before .before .before .before .if2 .taken) ∙ ap (choiceM _ (listM _ _)) (sym (c .before .before .entered .ensures)) ∙ sym (c .choice-walk .ensures)))
     (λ c κs. search needs)
     (λ c. search needs)
     (λ c. search needs)

@@ -7,8 +7,8 @@ use Prim.Native.Nat.{ℕ, _<_, _+_, _-_}
 use mathlib.Core.Logic.{⊎-elim}
 use borrow.Fn.Kinds.{In}
 use borrow.Fn.PlainCycle.{Measures, is, falls, and}
-use Rattle.model_check.specs.Checks.{declaration, timesC, _⨾_}
-use Rattle.model_actions.specs.Actions.{actionsC, actionC, choiceC, branchC}
+use Rattle.model_check.specs.Checks.{declaration, timesM, _⨾_}
+use Rattle.model_actions.specs.Actions.{actionsM, actionM, choiceM, branchM}
 use Rattle.model_actions.proofs.actions_check.Reads as actions-check
 use Rattle.model_actions.proofs.actions_check.Kinds as actions-check-kinds
 use Rattle.model_actions.proofs.+actions_check+choice_check.Lts-actions_check as actions-check-lts
@@ -45,13 +45,13 @@ choice-check-below t =
     and 2 choice-check-kinds.ps (falls 2 choice-check-kinds.ps _<_ μ-choice-check t) choice-check.Pre
 
 abbrev actions-check-Inv-loop : actions-check-lts.InvT-loop
-actions-check-Inv-loop s d entities left at n count start i₀ p₀ m₀ i p m = actionsC (declaration d entities) left s at n ≡ timesC i (actionC (declaration d entities) (actionsC (declaration d entities) (left - 1))) s p m
+actions-check-Inv-loop s d entities left at n count start i₀ p₀ m₀ i p m = actionsM (declaration d entities) left s at n ≡ timesM i (actionM (declaration d entities) (actionsM (declaration d entities) (left - 1))) s p m
 
 abbrev actions-check-μ-loop : actions-check-lts.MeasureT-loop
 actions-check-μ-loop s d entities left at n count start i₀ p₀ m₀ i p m = i
 
 abbrev choice-check-Inv-loop : choice-check-lts.InvT-loop
-choice-check-Inv-loop s d entities left at n count start i₀ p₀ m₀ i p m = choiceC (declaration d entities) (actionsC (declaration d entities) left) s at n ≡ (timesC i (branchC (declaration d entities) (actionsC (declaration d entities) left)) ⨾ actionsC (declaration d entities) left) s p m
+choice-check-Inv-loop s d entities left at n count start i₀ p₀ m₀ i p m = choiceM (declaration d entities) (actionsM (declaration d entities) left) s at n ≡ (timesM i (branchM (declaration d entities) (actionsM (declaration d entities) left)) ⨾ actionsM (declaration d entities) left) s p m
 
 abbrev choice-check-μ-loop : choice-check-lts.MeasureT-loop
 choice-check-μ-loop s d entities left at n count start i₀ p₀ m₀ i p m = i

@@ -1,7 +1,7 @@
 use borrow.Author.Needs.{needs}
 use mathlib.Core.Path.{_≡_, sym, _∙_}
 use Rattle.model_check.proofs.Laws as laws
-use Rattle.model_check.specs.Checks.{declaration, predicatesC, timesC, predicateC}
+use Rattle.model_check.specs.Checks.{declaration, predicatesM, timesM, predicateM}
 use Rattle.model_check.proofs.predicates_check.Statement.{statement}
 use Rattle.model_check.proofs.predicates_check.Tie as tie
 use Rattle.model_check.proofs.predicates_check.Reads as reads
@@ -11,7 +11,7 @@ use Rattle.model_walk.proofs.u16_at.Reads as u16-at-reads
 
 abbrev Inv-loop : tie.InvT-loop
 Inv-loop s d entities banned at n count start left₀ p₀ m₀ left p m =
-    predicatesC (declaration d entities) banned s at n ≡ timesC left (predicateC (declaration d entities) banned) s p m
+    predicatesM (declaration d entities) banned s at n ≡ timesM left (predicateM (declaration d entities) banned) s p m
 
 abbrev μ-loop : tie.MeasureT-loop
 μ-loop s d entities banned at n count start left₀ p₀ m₀ left p m = left

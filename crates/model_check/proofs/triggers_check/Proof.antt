@@ -1,7 +1,7 @@
 use borrow.Author.Needs.{needs}
 use mathlib.Core.Path.{_≡_, sym, _∙_}
 use Rattle.model_check.proofs.Laws as laws
-use Rattle.model_check.specs.Checks.{declaration, triggersC, timesC, triggerC}
+use Rattle.model_check.specs.Checks.{declaration, triggersM, timesM, triggerM}
 use Rattle.model_check.proofs.triggers_check.Statement.{statement}
 use Rattle.model_check.proofs.triggers_check.Tie as tie
 use Rattle.model_check.proofs.triggers_check.Reads as reads
@@ -9,7 +9,7 @@ use Rattle.model_check.proofs.triggers_check.Lts as lts
 use Rattle.model_check.proofs.trigger_check.Reads as trigger-check-reads
 
 abbrev Inv-loop : tie.InvT-loop
-Inv-loop s d entities count at n left₀ p₀ m₀ left p m = triggersC (declaration d entities) count s at n ≡ timesC left (triggerC (declaration d entities)) s p m
+Inv-loop s d entities count at n left₀ p₀ m₀ left p m = triggersM (declaration d entities) count s at n ≡ timesM left (triggerM (declaration d entities)) s p m
 
 abbrev μ-loop : tie.MeasureT-loop
 μ-loop s d entities count at n left₀ p₀ m₀ left p m = left

@@ -5,11 +5,11 @@ use Rattle.model_order.proofs.Laws as laws
 use Rattle.model_walk.proofs.Laws as walks
 use Rattle.model_order.proofs.ascending_at.Statement.{statement}
 use Rattle.model_order.proofs.ascending_at.Tie as tie
-use Rattle.model_parts.specs.Parts.{partW}
-use Rattle.model_order.specs.Order.{ascendingW, chain}
+use Rattle.model_parts.specs.Parts.{partM}
+use Rattle.model_order.specs.Order.{ascendingM, chain}
 
 abbrev Inv-loop : tie.InvT-loop
-Inv-loop s texts part as-texts at count start next last₀ p₀ left₀ last p left = ascendingW texts part as-texts s at ≡ chain (partW texts part) left as-texts last s p
+Inv-loop s texts part as-texts at count start next last₀ p₀ left₀ last p left = ascendingM texts part as-texts s at ≡ chain (partM texts part) left as-texts last s p
 
 abbrev μ-loop : tie.MeasureT-loop
 μ-loop s texts part as-texts at count start next last₀ p₀ left₀ last p left = left

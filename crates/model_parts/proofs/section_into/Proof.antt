@@ -2,7 +2,7 @@ use borrow.Author.Needs.{needs}
 use mathlib.Core.Path.{_≡_, sym, _∙_}
 use native.Mathlib.Omega.{arith}
 use Prim.Native.Nat.{_+_}
-use Rattle.model_parts.specs.Parts.{sectionW, fill, partW}
+use Rattle.model_parts.specs.Parts.{sectionM, fill, partM}
 use Rattle.model_parts.proofs.Laws as laws
 use Rattle.model_parts.proofs.section_into.Statement.{statement}
 use Rattle.model_parts.proofs.section_into.Tie as tie
@@ -13,7 +13,7 @@ use Rattle.model_parts.proofs.put.Reads as put-reads
 use Rattle.model_walk.proofs.u16_at.Reads as u16-at-reads
 
 abbrev Inv-loop : tie.InvT-loop
-Inv-loop s texts part at notes starts₀ count start i₀ left₀ p₀ n₀ starts i left p n = (sectionW (partW texts part) s at notes ≡ fill left i count (partW texts part) starts s p n) × (i + left ≡ count)
+Inv-loop s texts part at notes starts₀ count start i₀ left₀ p₀ n₀ starts i left p n = (sectionM (partM texts part) s at notes ≡ fill left i count (partM texts part) starts s p n) × (i + left ≡ count)
 
 abbrev μ-loop : tie.MeasureT-loop
 μ-loop s texts part at notes starts₀ count start i₀ left₀ p₀ n₀ starts i left p n = left

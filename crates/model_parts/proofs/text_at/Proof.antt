@@ -6,11 +6,11 @@ use Rattle.model_parts.proofs.Laws as laws
 use Rattle.model_walk.proofs.Laws as walks
 use Rattle.model_parts.proofs.text_at.Statement.{statement}
 use Rattle.model_parts.proofs.text_at.Tie as tie
-use Rattle.model_walk.specs.Walk.{timesW}
-use Rattle.model_parts.specs.Parts.{textW, letterW}
+use Rattle.model_walk.specs.Walk.{timesM}
+use Rattle.model_parts.specs.Parts.{textM, letterM}
 
 abbrev Inv-loop : tie.InvT-loop
-Inv-loop s at notes count start left₀ p₀ left p = textW s at notes ≡ timesW left letterW s p notes
+Inv-loop s at notes count start left₀ p₀ left p = textM s at notes ≡ timesM left letterM s p notes
 
 abbrev μ-loop : tie.MeasureT-loop
 μ-loop s at notes count start left₀ p₀ left p = left

@@ -4,7 +4,7 @@ use native.Mathlib.Omega.{arith}
 use Rattle.model_sections.proofs.Laws as laws
 use Prim.Native.Nat.{_-_, _≤_}
 use Rattle.model_check.specs.Checks.{declaration}
-use Rattle.model_sections.specs.Sections.{partsC}
+use Rattle.model_sections.specs.Sections.{partsM}
 use Rattle.model_sections.proofs.section_check.Statement.{statement}
 use Rattle.model_sections.proofs.section_check.Tie as tie
 use Rattle.model_sections.proofs.section_check.Reads as reads
@@ -12,7 +12,7 @@ use Rattle.model_sections.proofs.section_check.Lts as lts
 use Rattle.model_sections.proofs.part_check.Reads as part-check-reads
 
 abbrev Inv-loop : tie.InvT-loop
-Inv-loop s d entities part starts count n end j₀ m₀ j m = (partsC (declaration d entities) part starts count 0 s n ≡ partsC (declaration d entities) part starts (end - j) j s m) × (j ≤ end)
+Inv-loop s d entities part starts count n end j₀ m₀ j m = (partsM (declaration d entities) part starts count 0 s n ≡ partsM (declaration d entities) part starts (end - j) j s m) × (j ≤ end)
 
 abbrev μ-loop : tie.MeasureT-loop
 μ-loop s d entities part starts count n end j₀ m₀ j m = end - j

@@ -6,7 +6,7 @@ use Prim.Native.Nat.{ℕ, _<_, _+_, _-_}
 use mathlib.Core.Logic.{⊎-elim}
 use borrow.Fn.Kinds.{In}
 use borrow.Fn.PlainCycle.{Measures, is, falls, and}
-use Rattle.model_walk.specs.Walk.{timesW, actionsW, actionW, choiceW, branchW, _⨾_}
+use Rattle.model_walk.specs.Walk.{timesM, actionsM, actionM, choiceM, branchM, _⨾_}
 use Rattle.model_walk.proofs.actions_at.Reads as actions-at
 use Rattle.model_walk.proofs.actions_at.Kinds as actions-at-kinds
 use Rattle.model_walk.proofs.+actions_at+choice_at.Lts-actions_at as actions-at-lts
@@ -43,13 +43,13 @@ choice-at-below t =
     and 1 choice-at-kinds.ps (falls 1 choice-at-kinds.ps _<_ μ-choice-at t) choice-at.Pre
 
 abbrev actions-at-Inv-loop : actions-at-lts.InvT-loop
-actions-at-Inv-loop s texts left at notes count start i₀ p₀ n₀ i p n = actionsW texts left s at notes ≡ timesW i (actionW texts (actionsW texts (left - 1))) s p n
+actions-at-Inv-loop s texts left at notes count start i₀ p₀ n₀ i p n = actionsM texts left s at notes ≡ timesM i (actionM texts (actionsM texts (left - 1))) s p n
 
 abbrev actions-at-μ-loop : actions-at-lts.MeasureT-loop
 actions-at-μ-loop s texts left at notes count start i₀ p₀ n₀ i p n = i
 
 abbrev choice-at-Inv-loop : choice-at-lts.InvT-loop
-choice-at-Inv-loop s texts left at notes count start i₀ p₀ n₀ i p n = choiceW texts (actionsW texts left) s at notes ≡ (timesW i (branchW texts (actionsW texts left)) ⨾ actionsW texts left) s p n
+choice-at-Inv-loop s texts left at notes count start i₀ p₀ n₀ i p n = choiceM texts (actionsM texts left) s at notes ≡ (timesM i (branchM texts (actionsM texts left)) ⨾ actionsM texts left) s p n
 
 abbrev choice-at-μ-loop : choice-at-lts.MeasureT-loop
 choice-at-μ-loop s texts left at notes count start i₀ p₀ n₀ i p n = i

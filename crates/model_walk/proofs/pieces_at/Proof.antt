@@ -3,10 +3,10 @@ use mathlib.Core.Path.{_≡_, sym, _∙_}
 use Rattle.model_walk.proofs.Laws as laws
 use Rattle.model_walk.proofs.pieces_at.Statement.{statement}
 use Rattle.model_walk.proofs.pieces_at.Tie as tie
-use Rattle.model_walk.specs.Walk.{piecesW, timesW, pieceW}
+use Rattle.model_walk.specs.Walk.{piecesM, timesM, pieceM}
 
 abbrev Inv-loop : tie.InvT-loop
-Inv-loop s texts piece at notes count start left₀ p₀ n₀ left p n = piecesW texts piece s at notes ≡ timesW left (pieceW texts piece) s p n
+Inv-loop s texts piece at notes count start left₀ p₀ n₀ left p n = piecesM texts piece s at notes ≡ timesM left (pieceM texts piece) s p n
 
 abbrev μ-loop : tie.MeasureT-loop
 μ-loop s texts piece at notes count start left₀ p₀ n₀ left p n = left

@@ -5,7 +5,7 @@ use Rattle.reduce.proofs.attempt.Statement.{statement}
 use Rattle.reduce.proofs.attempt.Tie as tie
 use Rattle.reduce.proofs.attempt.Reads as reads
 use Rattle.reduce.proofs.attempt.Lts as lts
-use Rattle.checker_case.proofs.check_case.Reads as check-case-reads
+use Rattle.checker_retry.proofs.check_case.Reads as check-case-reads
 use Rattle.reduce.proofs.tried.Reads as tried-reads
 use Rattle.reduce.proofs.violates.Reads as violates-reads
 use Rattle.reduce.proofs.without.Reads as without-reads

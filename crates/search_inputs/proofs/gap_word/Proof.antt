@@ -4,8 +4,8 @@ use Rattle.search_inputs.proofs.gap_word.Statement.{statement}
 use Rattle.search_inputs.proofs.gap_word.Tie as tie
 use Rattle.search_inputs.proofs.gap_word.Reads as reads
 use Rattle.search_inputs.proofs.gap_word.Lts as lts
-use Rattle.engine_reads.proofs.capped.Reads as capped-reads
-use Rattle.engine_reads.proofs.four_at.Reads as four-at-reads
+use Rattle.engine_fields.proofs.capped.Reads as capped-reads
+use Rattle.engine_fields.proofs.four_at.Reads as four-at-reads
 
 pub gap-word-spec : {M : Type 1} → statement M
 gap-word-spec =

@@ -4,8 +4,8 @@ use Rattle.search_inputs.proofs.input_word.Statement.{statement}
 use Rattle.search_inputs.proofs.input_word.Tie as tie
 use Rattle.search_inputs.proofs.input_word.Reads as reads
 use Rattle.search_inputs.proofs.input_word.Lts as lts
-use Rattle.engine_reads.proofs.capped.Reads as capped-reads
-use Rattle.engine_begin.proofs.input_part.Reads as input-part-reads
+use Rattle.engine_fields.proofs.capped.Reads as capped-reads
+use Rattle.engine_inputs.proofs.input_part.Reads as input-part-reads
 
 pub input-word-spec : {M : Type 1} → statement M
 input-word-spec =

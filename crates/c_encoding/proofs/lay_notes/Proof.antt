@@ -1,0 +1,15 @@
+use borrow.Author.Needs.{needs}
+use Rattle.c_encoding.specs.Numbers.{laidNotes}
+use Rattle.c_encoding.proofs.lay_notes.Statement.{statement}
+use Rattle.c_encoding.proofs.lay_notes.Tie as tie
+use Rattle.c_encoding.proofs.lay_notes.Reads as reads
+use Rattle.c_encoding.proofs.lay_notes.Lts as lts
+use Rattle.c_encoding.proofs.put_numbers.Reads as put-numbers-reads
+use Rattle.c_encoding.proofs.put_words.Reads as put-words-reads
+
+returns : tie.Need-returns
+unfolding laidNotes
+returns c = rw (c .before .before .put-words .ensures, c .before .before .before .before .before .before .before .put-numbers .ensures)
+
+pub lay-notes-spec : {M : Type 1} → statement M
+lay-notes-spec = tie.close (tie.spec (λ c κs. search needs) (λ c κs. search needs) (λ c. search needs) returns)

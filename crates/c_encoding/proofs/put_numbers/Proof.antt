@@ -1,0 +1,33 @@
+use borrow.Author.Needs.{needs}
+use mathlib.Core.Path.{_≡_, refl, _∙_}
+use Prim.Native.Nat.{_-_, _≤_}
+use native.Mathlib.Omega.{arith}
+use lib.ListN.{length, length-set}
+use lib.Seq.{paste, paste-zero}
+use Rattle.areas.proofs.Lists as lists
+use Rattle.c_encoding.proofs.put_numbers.Statement.{statement}
+use Rattle.c_encoding.proofs.put_numbers.Tie as tie
+
+abbrev Inv-loop : tie.InvT-loop
+Inv-loop a₀ at w k₀ a k = (k ≤ length w) × ((length a ≡ length a₀) × (a ≡ paste a₀ at w k))
+
+abbrev μ-loop : tie.MeasureT-loop
+μ-loop a₀ at w k₀ a k = length w - k
+
+pub put-numbers-spec : {M : Type 1} → statement M
+put-numbers-spec =
+    tie.close
+    (tie.spec
+    Inv-loop
+    μ-loop
+    (λ c. (search needs, (refl, paste-zero (c .args .out .now) (c .args .at) (c .args .w .now))))
+    (λ c. search needs)
+    (λ c. search needs)
+    (λ c. search needs)
+    (λ c. search needs)
+    (λ c. search needs)
+    (λ c. search needs)
+    (λ c. search needs)
+    (λ c. let a = c .before .before .before .args in let l = c .before .before .loop in (search needs, (simp length-set (l .inv .1 .0), rw (l .inv .1 .1) (lists.put-one (a .out .now) (a .w .now) (a .at) (l .k) (omega arith) (search needs)))))
+    (λ c. search needs)
+    (λ c. let a = c .before .before .args in let l = c .before .loop in l .inv .1 .1 ∙ lists.put-all (a .out .now) (a .w .now) (a .at) (l .k) (omega arith)))

@@ -1,0 +1,27 @@
+use borrow.Author.Needs.{needs}
+use mathlib.Core.Path.{_≡_}
+use Prim.Native.Nat.{_-_}
+use lib.ListN.{length}
+use Rattle.check_lines.proofs.print_violations.Statement.{statement}
+use Rattle.check_lines.proofs.print_violations.Tie as tie
+
+abbrev Inv-loop : tie.InvT-loop
+Inv-loop out₀ n form f a count many m₀ k₀ out m k = length out ≡ length out₀
+
+abbrev μ-loop : tie.MeasureT-loop
+μ-loop out₀ n form f a count many m₀ k₀ out m k = many - k
+
+pub print-violations-spec : {M : Type 1} → statement M
+print-violations-spec =
+    tie.close
+    (tie.spec
+    Inv-loop
+    μ-loop
+    (λ c κs. search needs)
+    (λ c. search needs)
+    (λ c κs. search needs)
+    (λ c. search needs)
+    (λ c. search needs)
+    (λ c. search needs)
+    (λ c. search needs)
+    (λ c. search needs))

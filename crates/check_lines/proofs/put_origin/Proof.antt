@@ -1,0 +1,18 @@
+use borrow.Author.Needs.{needs}
+use Rattle.show.proofs.Laws as show
+use Rattle.check_lines.proofs.Laws as laws
+use Rattle.check_lines.proofs.put_origin.Statement.{statement}
+use Rattle.check_lines.proofs.put_origin.Tie as tie
+
+pub put-origin-spec : {M : Type 1} → statement M
+put-origin-spec =
+    tie.close
+    (tie.spec
+    (λ c κs. search needs)
+    (λ c. search needs)
+    (λ c. show.is (laws.nowhere _ _ _ (c .before .before .before .before .if1 .taken)) (c .before .before .put-byte .ensures))
+    (λ c κs. search needs)
+    (λ c κs. search needs)
+    (λ c κs. search needs)
+    (λ c. search needs)
+    (λ c. show.is (laws.somewhere _ _ _ (c .before .before .before .before .before .before .before .before .before .before .before .before .if1 .left)) (show.both (c .before .before .before .before .before .before .before .before .before .before .put-number .ensures) (show.both (c .before .before .before .before .before .before .put-byte2 .ensures) (c .before .before .put-number2 .ensures)))))

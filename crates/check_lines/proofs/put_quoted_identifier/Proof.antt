@@ -1,0 +1,10 @@
+use borrow.Author.Needs.{needs}
+use Rattle.show.proofs.Laws as show
+use Rattle.check_lines.proofs.Laws as laws
+use Rattle.check_lines.proofs.put_quoted_identifier.Statement.{statement}
+use Rattle.check_lines.proofs.put_quoted_identifier.Tie as tie
+
+pub put-quoted-identifier-spec : {M : Type 1} → statement M
+put-quoted-identifier-spec =
+    tie.close
+    (tie.spec (λ c κs. search needs) (λ c κs. search needs) (λ c κs. search needs) (λ c. search needs) (λ c. show.is (laws.quoted-is _ _ _ _ (c .before .before .before .before .before .place-of .ensures) (c .before .before .before .before .text-start .ensures)) (c .before .before .put-quoted-text .ensures)))

@@ -1,0 +1,131 @@
+// The check of a case among many: first in a small part of the lent areas, which is quick to clear, and in all of them only if
+// that part is too small. What isn't refused in the part is the same in all of them.
+use checker_result::Judgement;
+use checker_result::Shared;
+use checker_result::Status;
+ghost use mathlib.Core.Path.{_≡_};
+ghost use Prim.Native.Nat.{_*_, _≤_};
+ghost use lib.ListN.{length};
+ghost use Rattle.engine_entry.specs.Answers.{ground};
+ghost use Rattle.checker_result.specs.Result.{result-of};
+ghost use Rattle.checker_retry.specs.Case.{refusedM, Part, Parted, Cased};
+
+fn is_refused(status: Status) -> bool
+    ensures { λ r. ⌜ r ≡ refusedM status ⌝ }
+{
+    match status {
+        Status::Refused(_) => true,
+        Status::Unknown => false,
+        Status::Violation => false,
+        Status::Incomplete => false,
+        Status::NoViolationInTrace => false,
+    }
+}
+
+// So many words, or all if there are fewer.
+fn part(n: usize, most: usize) -> usize
+    ensures { λ r. ⌜ Part n most r ⌝ }
+{
+    if most < n {
+        return most;
+    }
+    n
+}
+
+// In the part. `notes` holds the reasons of the notes.
+fn check_part(
+    file: &[u8],
+    table: &[u32; 436],
+    starts: &[usize; 100],
+    notes: &[u32; 1500],
+    shared: Shared,
+    events: &[u32],
+    n: usize,
+    queue: &mut [u32],
+    records: &mut [u32],
+    runs: &mut [u32],
+    reasons: &mut [u32; 1500],
+    violated: &mut [u64; 256],
+    unknowns: &mut [u32; 2000],
+    incompletes: &mut [u32; 200],
+) -> Judgement
+    requires { ⌜ n * 4 ≤ length (now events) ⌝ }
+    ensures { λ r. ⌜ Parted (now (file .entry)) (now (starts .entry)) (shared .invariants) (ground (now (table .entry)) (shared .cells) (shared .notes) (now (notes .entry))) (now (events .entry)) n (result-of r (now (violated .exit)) (now (unknowns .exit)) (now (incompletes .exit)) (now (reasons .exit))) (length (now (queue .entry))) (length (now (records .entry))) (length (now (runs .entry))) ⌝ }
+{
+    let items = part(queue.len(), 640);
+    let lines = part(records.len(), 3328);
+    let rows = part(runs.len(), 896);
+    *reasons = *notes;
+    checker_entry::check_events(
+        file,
+        table,
+        starts,
+        shared,
+        events,
+        n,
+        &mut queue[..items],
+        &mut records[..lines],
+        &mut runs[..rows],
+        reasons,
+        violated,
+        unknowns,
+        incompletes,
+    )
+}
+
+pub fn check_case(
+    file: &[u8],
+    table: &[u32; 436],
+    starts: &[usize; 100],
+    notes: &[u32; 1500],
+    shared: Shared,
+    events: &[u32],
+    n: usize,
+    queue: &mut [u32],
+    records: &mut [u32],
+    runs: &mut [u32],
+    reasons: &mut [u32; 1500],
+    violated: &mut [u64; 256],
+    unknowns: &mut [u32; 2000],
+    incompletes: &mut [u32; 200],
+) -> Judgement
+    requires { ⌜ n * 4 ≤ length (now events) ⌝ }
+    ensures { λ r. ⌜ Cased (now (file .entry)) (now (starts .entry)) (shared .invariants) (ground (now (table .entry)) (shared .cells) (shared .notes) (now (notes .entry))) (now (events .entry)) n (result-of r (now (violated .exit)) (now (unknowns .exit)) (now (incompletes .exit)) (now (reasons .exit))) (length (now (queue .entry))) (length (now (records .entry))) (length (now (runs .entry))) ⌝ }
+{
+    let c = check_part(
+        file,
+        table,
+        starts,
+        notes,
+        shared,
+        events,
+        n,
+        queue,
+        records,
+        runs,
+        reasons,
+        violated,
+        unknowns,
+        incompletes,
+    );
+    let status = c.status;
+    if is_refused(status) {
+        *reasons = *notes;
+        return checker_entry::check_events(
+            file,
+            table,
+            starts,
+            shared,
+            events,
+            n,
+            queue,
+            records,
+            runs,
+            reasons,
+            violated,
+            unknowns,
+            incompletes,
+        );
+    }
+    c
+}

@@ -1,0 +1,166 @@
+// Reads of the model file in place, and of the table of words that the engine goes by.
+// The table: 0 entities, 1 automations, 2 horizon, 3 steps, 4 on, 5 off, 6 unknown, 7 unavailable, 8 events, 9 texts,
+// 10 weekday and 11 second of second 0; from 16 on names, from 48 on expiry, from 80 on automations of 8 words; the rest is
+// zeros.
+// An automation: 0 id, 1 mode, 2 max, and the positions of 3 triggers, 4 conditions, 5 actions, 6 source, 7 notes.
+use reasons::Reason;
+use runs::Place;
+ghost use mathlib.Core.Path.{_≡_};
+ghost use Prim.Native.Nat.{_+_, _*_, _≤_, _<_};
+ghost use lib.ListN.{getD};
+ghost use Rattle.engine_fields.specs.Reads.{two, four, cap, atMost, name, stale, word, entityOf, textPosition, aboutRule, alone, noteReason, listWord};
+
+// ---- the file
+
+// The byte at a position, 0 past the end.
+pub fn byte_at(f: &[u8], at: usize) -> u32
+    ensures { λ r. ⌜ (r ≡ getD (now (f .entry)) at 0) × (r < 256) ⌝ }
+{
+    texts::length_byte(f, at) as u32
+}
+
+pub fn two_at(f: &[u8], at: usize) -> u32
+    ensures { λ r. ⌜ (r ≡ two (now (f .entry)) at) × (r < 65536) ⌝ }
+{
+    if at < f.len() {
+        return byte_at(f, at) + 256 * byte_at(f, at + 1);
+    }
+    0
+}
+
+pub fn four_at(f: &[u8], at: usize) -> u32
+    ensures { λ r. ⌜ r ≡ four (now (f .entry)) at ⌝ }
+{
+    if f.len() < 2 {
+        return two_at(f, at);
+    }
+    if at < f.len() - 1 {
+        return two_at(f, at) + 65536 * two_at(f, at + 2);
+    }
+    two_at(f, at)
+}
+
+// A position as a word.
+pub fn capped(p: usize) -> u32
+    ensures { λ r. ⌜ r ≡ cap p ⌝ }
+{
+    if 4294967295 < p {
+        return 4294967295;
+    }
+    p as u32
+}
+
+// The words of a place in an action list.
+pub fn list_word(position: u32, left: u32) -> u32
+    requires { ⌜ left < 65536 ⌝ }
+    ensures { λ r. ⌜ r ≡ listWord position left ⌝ }
+{
+    if 32767 < position {
+        return runs::place_word(Place {
+            position: 32767,
+            left,
+        });
+    }
+    runs::place_word(Place { position, left })
+}
+
+// ---- the table
+
+pub fn at_most(n: u32, most: usize) -> usize
+    ensures { λ r. ⌜ (r ≡ atMost n most) × (r ≤ most) ⌝ }
+{
+    if n as usize <= most {
+        return n as usize;
+    }
+    most
+}
+
+// The name of an entity.
+pub fn name_of(x: &[u32; 436], e: usize) -> u32
+    requires { ⌜ e < 32 ⌝ }
+    ensures { λ r. ⌜ r ≡ name (now (x .entry)) e ⌝ }
+{
+    x[16 + e]
+}
+
+// After how many seconds an entity's value is stale; 4294967295 for never.
+pub fn stale_of(x: &[u32; 436], e: usize) -> u32
+    requires { ⌜ e < 32 ⌝ }
+    ensures { λ r. ⌜ r ≡ stale (now (x .entry)) e ⌝ }
+{
+    x[48 + e]
+}
+
+// A word of an automation.
+pub fn rule_word(x: &[u32; 436], i: usize, k: usize) -> u32
+    requires { ⌜ (i < 32) × (k < 8) ⌝ }
+    ensures { λ r. ⌜ r ≡ word (now (x .entry)) i k ⌝ }
+{
+    x[80 + i * 8 + k]
+}
+
+// The entity with this name, or 32.
+pub fn entity_of(x: &[u32; 436], id: u32) -> usize
+    ensures { λ r. ⌜ r ≡ entityOf (now (x .entry)) id ⌝ }
+{
+    let n = at_most(x[0], 32);
+    let mut e: usize = 0;
+    while e < n {
+        if name_of(x, e) == id {
+            return e;
+        }
+        e += 1;
+    }
+    32
+}
+
+// ---- reasons
+
+// The position of the text at a place; that of the first text for a place past the last.
+pub fn text_position(f: &[u8], place: u32) -> u32
+    ensures { λ r. ⌜ r ≡ textPosition (now (f .entry)) place ⌝ }
+{
+    if place < two_at(f, 4) {
+        return capped(texts::text_start(f, 6, place));
+    }
+    6
+}
+
+// A reason about an automation.
+pub fn about_rule(f: &[u8], x: &[u32; 436], i: usize, kind: u32) -> Reason
+    requires { ⌜ i < 32 ⌝ }
+    ensures { λ r. ⌜ r ≡ aboutRule (now (f .entry)) (now (x .entry)) i kind ⌝ }
+{
+    Reason {
+        kind,
+        first: text_position(f, rule_word(x, i, 0)),
+        second: reasons::ABSENT,
+        line: 0,
+        column: 0,
+    }
+}
+
+pub fn by_itself(kind: u32) -> Reason
+    ensures { λ r. ⌜ r ≡ alone kind ⌝ }
+{
+    Reason {
+        kind,
+        first: reasons::ABSENT,
+        second: reasons::ABSENT,
+        line: 0,
+        column: 0,
+    }
+}
+
+// A note as a reason.
+pub fn note_reason(f: &[u8], place: u32) -> Reason
+    ensures { λ r. ⌜ r ≡ noteReason (now (f .entry)) place ⌝ }
+{
+    Reason {
+        kind: reasons::NOTE,
+        first: text_position(f, place),
+        second: reasons::ABSENT,
+        line: 0,
+        column: 0,
+    }
+}

@@ -1,0 +1,155 @@
+// The work of a simulation besides the runs' actions.
+use engine_fields::entity_of;
+use engine_state::Move;
+use engine_state::Setting;
+use engine_state::State;
+use engine_state::log_action;
+use engine_state::next_step;
+use engine_trigger::finish;
+use engine_trigger::with_phase;
+use engine_update::update;
+use records::Rule;
+use records::Where;
+use runs::Found;
+use runs::Phase;
+use runs::Run;
+use runs::Wait;
+ghost use Prim.Native.Nat.{_<_};
+ghost use Rattle.engine_state.specs.Steps.{Moves, Does, goes, kept, still, Fits-qa, Fits-ar, Fits-qar};
+ghost use Rattle.engine_handlers.specs.Works.{wait-overM, time-outM, expireM, go-staleM, drop-allM, externalM};
+
+fn wait_over(
+    q: &mut [u32],
+    a: &mut [u32],
+    r: &mut [u32],
+    st: State,
+    k: usize,
+    run: Run,
+    w: Wait,
+) -> State
+    requires { ⌜ (k < st .active) × Fits-qar st (now q) (now a) (now r) ⌝ }
+    ensures { λ t. ⌜ Does (wait-overM k run w) st t (goes (now (q .entry)) (now (q .exit))) (goes (now (a .entry)) (now (a .exit))) (goes (now (r .entry)) (now (r .exit))) still ⌝ }
+{
+    if w.deadline != st.now {
+        return st;
+    }
+    let s = w.source;
+    if w.onward {
+        let s1 = log_action(a, st, 17, 1, s, run);
+        let going = with_phase(run, Phase::Going);
+        runs::put_run(r, k, going);
+        return next_step(q, s1, run, s1.now);
+    }
+    let s2 = log_action(a, st, 17, 0, s, run);
+    finish(q, a, r, s2, k)
+}
+
+pub fn time_out(
+    q: &mut [u32],
+    a: &mut [u32],
+    r: &mut [u32],
+    st: State,
+    automation: u32,
+    sequence: u32,
+) -> State
+    requires { ⌜ Fits-qar st (now q) (now a) (now r) ⌝ }
+    ensures { λ t. ⌜ Does (time-outM automation sequence) st t (goes (now (q .entry)) (now (q .exit))) (goes (now (a .entry)) (now (a .exit))) (goes (now (r .entry)) (now (r .exit))) still ⌝ }
+{
+    let found = runs::find_run(r, st.active, automation, sequence);
+    let Found::At(k) = found else {
+        return st;
+    };
+    let run = runs::run_at(r, k);
+    let phase = run.phase;
+    let Phase::Waiting(w) = phase else {
+        return st;
+    };
+    wait_over(q, a, r, st, k, run, w)
+}
+
+fn expire(
+    x: &[u32; 436],
+    q: &mut [u32],
+    a: &mut [u32],
+    values: &mut [u32; 32],
+    st: State,
+    e: usize,
+) -> State
+    requires { ⌜ (e < 32) × Fits-qa st (now q) (now a) ⌝ }
+    ensures { λ t. ⌜ Moves (expireM (now (x .entry)) e) st t (goes (now (q .entry)) (now (q .exit))) (goes (now (a .entry)) (now (a .exit))) kept still (goes (now (values .entry)) (now (values .exit))) kept kept ⌝ }
+{
+    let from = values[e];
+    let entity = engine_fields::name_of(x, e);
+    let to = x[6];
+    let m = Move { entity, from, to };
+    values[e] = to;
+    let w = Setting {
+        entity,
+        value: to,
+        kind: 3,
+        rule: Rule::NoRule,
+        source: Where::Nowhere,
+    };
+    let s1 = engine_state::log_write(a, st, w, m);
+    engine_update::changed(q, s1, m)
+}
+
+pub fn go_stale(
+    x: &[u32; 436],
+    q: &mut [u32],
+    a: &mut [u32],
+    values: &mut [u32; 32],
+    versions: &[u32; 32],
+    st: State,
+    entity: u32,
+    version: u32,
+) -> State
+    requires { ⌜ Fits-qa st (now q) (now a) ⌝ }
+    ensures { λ t. ⌜ Moves (go-staleM (now (x .entry)) entity version) st t (goes (now (q .entry)) (now (q .exit))) (goes (now (a .entry)) (now (a .exit))) kept still (goes (now (values .entry)) (now (values .exit))) (goes (now (versions .entry)) (now (versions .entry))) kept ⌝ }
+{
+    let e = entity_of(x, entity);
+    if 31 < e {
+        return st;
+    }
+    if versions[e] != version {
+        return st;
+    }
+    if values[e] == x[6] {
+        return st;
+    }
+    expire(x, q, a, values, st, e)
+}
+
+// All runs go; behind them the area is zeros already.
+pub fn drop_all(a: &mut [u32], r: &mut [u32], st: State) -> State
+    requires { ⌜ Fits-ar st (now a) (now r) ⌝ }
+    ensures { λ t. ⌜ Does (drop-allM) st t kept (goes (now (a .entry)) (now (a .exit))) (goes (now (r .entry)) (now (r .exit))) still ⌝ }
+{
+    let n = st.active;
+    areas::clear(r, 0, n * 28);
+    let s1 = engine_state::with_active(st, 0);
+    engine_state::log_plain(a, s1, 4)
+}
+
+pub fn external(
+    x: &[u32; 436],
+    q: &mut [u32],
+    a: &mut [u32],
+    values: &mut [u32; 32],
+    versions: &mut [u32; 32],
+    st: State,
+    entity: u32,
+    value: u32,
+) -> State
+    requires { ⌜ Fits-qa st (now q) (now a) ⌝ }
+    ensures { λ t. ⌜ Moves (externalM (now (x .entry)) entity value) st t (goes (now (q .entry)) (now (q .exit))) (goes (now (a .entry)) (now (a .exit))) kept still (goes (now (values .entry)) (now (values .exit))) (goes (now (versions .entry)) (now (versions .exit))) kept ⌝ }
+{
+    let w = Setting {
+        entity,
+        value,
+        kind: 1,
+        rule: Rule::NoRule,
+        source: Where::Nowhere,
+    };
+    update(x, q, a, values, versions, st, w)
+}

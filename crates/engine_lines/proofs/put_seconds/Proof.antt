@@ -1,9 +1,0 @@
-use borrow.Author.Needs.{needs}
-use Rattle.show.proofs.Laws as show
-use Rattle.engine_lines.proofs.Laws as laws
-use Rattle.engine_lines.proofs.put_seconds.Statement.{statement}
-use Rattle.engine_lines.proofs.put_seconds.Tie as tie
-
-pub put-seconds-spec : {M : Type 1} → statement M
-put-seconds-spec =
-    tie.close (tie.spec (λ c κs. search needs) (λ c. search needs) (λ c κs. search needs) (λ c. search needs) (λ c. show.is (laws.seconds _) (show.both (c .before .before .before .before .before .before .before .put-number .ensures) (c .before .before .put .ensures))))

@@ -1,0 +1,37 @@
+use mathlib.Core.Path.{ap}
+use native.Mathlib.Omega.{arith}
+use Rattle.engine_state.proofs.Laws.{none, one, two, both}
+use Rattle.engine_state.proofs.Laws as states
+use Rattle.engine_modes.proofs.Laws as modes
+use Rattle.engine_modes.proofs.Wholes as wholes
+use Rattle.engine_trigger.proofs.Laws as laws
+use Rattle.engine_trigger.specs.Runs.{finish-runM, finishM}
+use borrow.Author.Needs.{needs}
+use Rattle.engine_trigger.proofs.finish.Statement.{statement}
+use Rattle.engine_trigger.proofs.finish.Tie as tie
+use Rattle.engine_trigger.proofs.finish.Reads as reads
+use Rattle.engine_trigger.proofs.finish.Lts as lts
+use Rattle.engine_state.proofs.log_rule.Reads as log-rule-reads
+use Rattle.engine_state.proofs.with_active.Reads as with-active-reads
+use Rattle.engine_trigger.proofs.release.Reads as release-reads
+use Rattle.runs.proofs.run_at.Reads as run-at-reads
+use Rattle.runs.proofs.take_run.Reads as take-run-reads
+
+returns : tie.Need-returns
+unfolding finishM finish-runM
+returns c = laws.ran (finish-runM _) (c .before .before .before .before .before .before .before .before .before .before .before .before .before .before .before .before .run-at .ensures) (c .before .before .before .before .before .before .before .before .before .before .before .before .before .before .before .before .before .before .before .before .before .pre .0) (wholes.next (wholes.next (laws.removed _ _ _ (c .before .before .before .before .before .before .before .before .before .before .before .before .before .before .before .before .before .before .before .before .before .pre .1 .1 .1) (search needs) _ _ (c .before .before .before .before .before .before .before .before .before .before .before .before .before .before .take-run .ensures) (c .before .before .before .before .before .before .before .before .before .before .before .with-active .ensures) (c .before .before .before .before .before .before .before .before .before .before .before .before .before .before .before .before .before .before .before .before .before .pre .0)) (c .before .before .before .before .before .before .before .before .before .log-rule .ensures) none two one none none none none) (c .before .before .before .before .release .ensures) two one both none none none none)
+
+pub finish-spec : {M : Type 1} → statement M
+finish-spec =
+    tie.close
+    (tie.spec
+    (λ c κs. search needs)
+    (λ c κs. search needs)
+    (λ c. search needs)
+    (λ c κs. search needs)
+    (λ c κs. modes.fits-as 13 _ (ap (λ s. s .records) (c .before .with-active .ensures)) (c .before .before .before .before .before .before .before .before .before .before .before .pre .1 .1 .0))
+    (λ c κs. (omega (arith, c .before .before .before .before .before .before .before .before .before .before .before .before .before .before .before .before .pre, ap (λ s. s .items) (c .before .before .before .before .before .before .with-active .ensures), ap (λ s. s .first) (c .before .before .before .before .before .before .with-active .ensures), c .before .before .before .before .log-rule .ensures .queue), omega (arith, c .before .before .before .before .before .before .before .before .before .before .before .before .before .before .before .before .pre, ap (λ s. s .active) (c .before .before .before .before .before .before .with-active .ensures), c .before .before .before .before .log-rule .ensures .runs)))
+    (λ c. search needs)
+    (λ c. search needs)
+    (λ c. search needs)
+    returns)

@@ -1,0 +1,35 @@
+use borrow.Author.Needs.{needs}
+use mathlib.Core.Path.{_≡_, refl, sym, _∙_}
+use Prim.Native.Nat.{_-_}
+use Rattle.lint_access.proofs.Laws as laws
+use Rattle.lint_access.specs.Sets.{sectionBy, along, add-triggerM}
+use Rattle.lint_walk.specs.Raw.{past}
+use Rattle.lint_access.proofs.add_triggers.Statement.{statement}
+use Rattle.lint_access.proofs.add_triggers.Tie as tie
+use Rattle.lint_access.proofs.add_triggers.Reads as reads
+use Rattle.lint_access.proofs.add_triggers.Lts as lts
+use Rattle.lint_access.proofs.add_trigger.Reads as add-trigger-reads
+use Rattle.lint_walk.proofs.past.Reads as past-reads
+use Rattle.lint_walk.proofs.place_at.Reads as place-at-reads
+
+abbrev Inv-loop : tie.InvT-loop
+Inv-loop s entities many set at left₀ p₀ out₀ left p out = along (add-triggerM s (sectionBy entities many)) (λ q. past s q 16) left₀ p₀ out₀ ≡ along (add-triggerM s (sectionBy entities many)) (λ q. past s q 16) left p out
+
+abbrev μ-loop : tie.MeasureT-loop
+μ-loop s entities many set at left₀ p₀ out₀ left p out = left
+
+pub add-triggers-spec : {M : Type 1} → statement M
+add-triggers-spec =
+    tie.close
+    (tie.spec
+    Inv-loop
+    μ-loop
+    (λ c κs. search needs)
+    (λ c κs. search needs)
+    (λ c. refl)
+    (λ c κs. search needs)
+    (λ c κs. search needs)
+    (λ c. search needs)
+    (λ c. search needs)
+    (λ c. c .before .before .before .loop .inv ∙ laws.along-more _ _ _ _ _ (c .before .before .loop-test .taken) (c .before .add-trigger .ensures) (c .past2 .ensures))
+    (λ c. sym (laws.triggers-is _ _ _ _ ∙ laws.along-start _ _ _ (c .before .before .before .place-at .ensures) (c .before .before .past .ensures) ∙ c .before .loop .inv ∙ laws.along-end _ _ _ _ _ (c .loop-test .left))))

@@ -1,0 +1,24 @@
+use mathlib.Core.Path.{_∙_}
+use Prim.Native.Nat.{_-_}
+use Rattle.lint_access.proofs.Laws as laws
+use Rattle.lint_walk.specs.Raw.{past}
+use borrow.Author.Needs.{needs}
+use Rattle.lint_access.proofs.add_write.Statement.{statement}
+use Rattle.lint_access.proofs.add_write.Tie as tie
+use Rattle.lint_access.proofs.add_write.Reads as reads
+use Rattle.lint_access.proofs.add_write.Lts as lts
+use Rattle.lint_access.proofs.add_entity.Reads as add-entity-reads
+use Rattle.lint_walk.proofs.kind_at.Reads as kind-at-reads
+use Rattle.lint_walk.proofs.past.Reads as past-reads
+use Rattle.lint_walk.proofs.place_at.Reads as place-at-reads
+
+pub add-write-spec : {M : Type 1} → statement M
+add-write-spec =
+    tie.close
+    (tie.spec
+    (λ c κs. search needs)
+    (λ c κs. search needs)
+    (λ c κs. search needs)
+    (λ c κs. search needs)
+    (λ c. c .add-entity .ensures ∙ laws.write-yes _ _ _ _ (c .before .before .before .before .kind-at .ensures) (c .before .before .before .if1 .taken) (c .before .before .past .ensures) (c .before .place-at .ensures))
+    (λ c. laws.write-no _ _ _ _ (c .before .kind-at .ensures) (c .if1 .left)))

@@ -1,0 +1,89 @@
+// The findings and interactions in two lent areas of words: 14 words for a finding, 3 for an interaction.
+// The first insertion that its area has no place for is noted, and nothing is inserted after it.
+ghost use mathlib.Core.Path.{_≡_};
+ghost use Prim.Native.Nat.{_+_, _*_, _≤_, _<_};
+ghost use mathlib.Core.List.{List, _∷_, []};
+ghost use Prim.Native.Nat.{ℕ};
+ghost use lib.ListN.{length, replicate};
+ghost use Rattle.lint_areas.specs.Board.{board, pushes, finding, interaction, onlyIf};
+
+// How many entries each area holds, and 45 or 46 after the first that found no place, else 0.
+pub struct Out {
+    pub findings: usize,
+    pub interactions: usize,
+    pub refusal: u32,
+}
+
+// A finding more.
+pub fn push_finding(findings: &mut [u32], o: Out, words: [u32; 14]) -> Out
+    ensures { λ r. ⌜ ((i : List ℕ) → board (now (findings .exit)) i r ≡ pushes (finding words ∷ []) (board (now (findings .entry)) i o)) ⌝ }
+{
+    if o.refusal != 0 {
+        return o;
+    }
+    let n = o.findings;
+    if findings.len() / 14 <= n {
+        return Out {
+            findings: n,
+            interactions: o.interactions,
+            refusal: 45,
+        };
+    }
+    areas::put(findings, n * 14, &words);
+    Out {
+        findings: n + 1,
+        interactions: o.interactions,
+        refusal: 0,
+    }
+}
+
+// A finding more, if the test holds.
+pub fn push_if(findings: &mut [u32], o: Out, test: bool, words: [u32; 14]) -> Out
+    ensures { λ r. ⌜ ((i : List ℕ) → board (now (findings .exit)) i r ≡ pushes (onlyIf test (finding words)) (board (now (findings .entry)) i o)) ⌝ }
+{
+    if test {
+        return push_finding(findings, o, words);
+    }
+    o
+}
+
+// An interaction more.
+pub fn push_interaction(interactions: &mut [u32], o: Out, words: [u32; 3]) -> Out
+    ensures { λ r. ⌜ ((f : List ℕ) → board f (now (interactions .exit)) r ≡ pushes (interaction words ∷ []) (board f (now (interactions .entry)) o)) ⌝ }
+{
+    if 0 < o.refusal {
+        return o;
+    }
+    let n = o.interactions;
+    if interactions.len() / 3 <= n {
+        return Out {
+            findings: o.findings,
+            interactions: n,
+            refusal: 46,
+        };
+    }
+    areas::put(interactions, n * 3, &words);
+    Out {
+        findings: o.findings,
+        interactions: n + 1,
+        refusal: 0,
+    }
+}
+
+// An interaction more, if the test holds.
+pub fn interact_if(interactions: &mut [u32], o: Out, test: bool, words: [u32; 3]) -> Out
+    ensures { λ r. ⌜ ((f : List ℕ) → board f (now (interactions .exit)) r ≡ pushes (onlyIf test (interaction words)) (board f (now (interactions .entry)) o)) ⌝ }
+{
+    if test {
+        return push_interaction(interactions, o, words);
+    }
+    o
+}
+
+// Both areas as zeros.
+pub fn clear(findings: &mut [u32], interactions: &mut [u32])
+    ensures { λ _. ⌜ (now (findings .exit) ≡ replicate (length (now (findings .entry))) 0) × (now (interactions .exit) ≡ replicate (length (now (interactions .entry))) 0) ⌝ }
+{
+    areas::clear_all(findings);
+    areas::clear_all(interactions);
+}

@@ -1,0 +1,27 @@
+use Rattle.lint_walk.proofs.Sizes as sizes
+use Rattle.lint_collect.proofs.Laws as laws
+use borrow.Author.Needs.{needs}
+use Rattle.lint_collect.proofs.rule_entries.Statement.{statement}
+use Rattle.lint_collect.proofs.rule_entries.Tie as tie
+use Rattle.lint_collect.proofs.rule_entries.Reads as reads
+use Rattle.lint_collect.proofs.rule_entries.Lts as lts
+use Rattle.lint_collect.proofs.about.Reads as about-reads
+use Rattle.lint_findings.proofs.rule_findings.Reads as rule-findings-reads
+use Rattle.lint_access.proofs.reads.Reads as reads-reads
+use Rattle.lint_access.proofs.writes.Reads as writes-reads
+use Rattle.lint_walk.proofs.rule_walk.Reads as rule-walk-reads
+
+pub rule-entries-spec : {M : Type 1} → statement M
+rule-entries-spec =
+    tie.close
+    (tie.spec
+    (λ c. search needs)
+    (λ c. search needs)
+    (λ c κs. search needs)
+    (λ c κs. (c .before .before .before .before .before .before .before .before .pre .0, sizes.sized _ _ (c .before .before .rule-walk .ensures) .0))
+    (λ c κs. (c .before .before .before .before .before .before .before .before .before .before .pre .0, sizes.sized _ _ (c .before .before .before .before .rule-walk .ensures) .0))
+    (λ c κs. search needs)
+    (λ c κs. (c .before .before .before .before .before .before .before .before .before .before .before .before .before .before .before .pre .0, c .before .before .before .before .before .before .before .before .before .before .before .before .before .before .before .pre .1, c .before .before .before .before .before .before .before .before .before .before .before .before .before .before .before .pre .2, sizes.sized _ _ (c .before .before .before .before .before .before .before .before .before .rule-walk .ensures) .0))
+    (λ c. search needs)
+    (λ c. search needs)
+    (λ c. laws.rule-is _ _ _ _ _ (c .before .before .before .before .before .before .before .before .before .before .before .before .before .before .rule-walk .ensures) (c .before .before .before .before .before .before .before .before .before .before .before .writes .ensures) (c .before .before .before .before .before .before .before .before .before .reads .ensures) (c .before .before .before .before .before .before .before .before .about .ensures) (c .before .before .before .before .rule-findings .ensures)))

@@ -1,0 +1,25 @@
+use mathlib.Core.Path.{sym}
+use Prim.Native.Nat.{_-_}
+use Rattle.lint_conditions.proofs.Laws as laws
+use Rattle.lint_walk.specs.Raw.{past}
+use borrow.Author.Needs.{needs}
+use Rattle.lint_conditions.proofs.clash.Statement.{statement}
+use Rattle.lint_conditions.proofs.clash.Tie as tie
+use Rattle.lint_conditions.proofs.clash.Reads as reads
+use Rattle.lint_conditions.proofs.clash.Lts as lts
+use Rattle.lint_walk.proofs.byte_at.Reads as byte-at-reads
+use Rattle.lint_walk.proofs.past.Reads as past-reads
+use Rattle.lint_walk.proofs.place_at.Reads as place-at-reads
+
+pub clash-spec : {M : Type 1} → statement M
+clash-spec =
+    tie.close
+    (tie.spec
+    (λ c κs. search needs)
+    (λ c. sym (laws.clash-note _ _ _ _ (c .before .byte-at .ensures) (c .if1 .taken)))
+    (λ c κs. search needs)
+    (λ c κs. search needs)
+    (λ c. sym (laws.clash-other _ _ _ _ (c .before .before .before .before .byte-at .ensures) (search needs) (c .before .before .past .ensures) (c .before .place-at .ensures) (c .if2 .taken)))
+    (λ c κs. search needs)
+    (λ c κs. search needs)
+    (λ c. laws.clash-is _ _ _ _ (c .before .before .before .before .before .before .byte-at .ensures) (search needs) (c .before .before .before .before .past .ensures) (c .before .before .before .place-at .ensures) (search needs) (c .before .past2 .ensures) (c .place-at2 .ensures)))

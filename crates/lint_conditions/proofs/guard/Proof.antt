@@ -1,0 +1,25 @@
+use mathlib.Core.Path.{sym}
+use Prim.Native.Nat.{_-_}
+use Rattle.lint_conditions.proofs.Laws as laws
+use Rattle.lint_walk.specs.Raw.{past}
+use borrow.Author.Needs.{needs}
+use Rattle.lint_conditions.proofs.guard.Statement.{statement}
+use Rattle.lint_conditions.proofs.guard.Tie as tie
+use Rattle.lint_conditions.proofs.guard.Reads as reads
+use Rattle.lint_conditions.proofs.guard.Lts as lts
+use Rattle.lint_walk.proofs.byte_at.Reads as byte-at-reads
+use Rattle.lint_walk.proofs.past.Reads as past-reads
+use Rattle.lint_walk.proofs.place_at.Reads as place-at-reads
+
+pub guard-spec : {M : Type 1} → statement M
+guard-spec =
+    tie.close
+    (tie.spec
+    (λ c κs. search needs)
+    (λ c. sym (laws.guard-other _ _ _ _ (c .before .byte-at .ensures) (c .if1 .taken)))
+    (λ c κs. search needs)
+    (λ c κs. search needs)
+    (λ c. sym (laws.guard-entity _ _ _ _ (c .before .before .before .before .byte-at .ensures) (search needs) (c .before .before .past .ensures) (c .before .place-at .ensures) (c .if2 .taken)))
+    (λ c κs. search needs)
+    (λ c κs. search needs)
+    (λ c. laws.guard-is _ _ _ _ (c .before .before .before .before .before .before .byte-at .ensures) (search needs) (c .before .before .before .before .past .ensures) (c .before .before .before .place-at .ensures) (search needs) (c .before .past2 .ensures) (c .place-at2 .ensures)))

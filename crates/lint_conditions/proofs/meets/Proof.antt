@@ -1,0 +1,28 @@
+use mathlib.Core.Path.{sym, _∙_}
+use Prim.Native.Nat.{_-_}
+use Rattle.lint_conditions.proofs.Laws as laws
+use Rattle.lint_walk.specs.Raw.{past}
+use borrow.Author.Needs.{needs}
+use Rattle.lint_conditions.proofs.meets.Statement.{statement}
+use Rattle.lint_conditions.proofs.meets.Tie as tie
+use Rattle.lint_conditions.proofs.meets.Reads as reads
+use Rattle.lint_conditions.proofs.meets.Lts as lts
+use Rattle.lint_conditions.proofs.clashes.Reads as clashes-reads
+use Rattle.lint_walk.proofs.byte_at.Reads as byte-at-reads
+use Rattle.lint_walk.proofs.past.Reads as past-reads
+use Rattle.lint_walk.proofs.place_at.Reads as place-at-reads
+use Rattle.lint_walk.proofs.predicate_end.Reads as predicate-end-reads
+
+pub meets-spec : {M : Type 1} → statement M
+meets-spec =
+    tie.close
+    (tie.spec
+    (λ c κs. search needs)
+    (λ c. sym (laws.meets-note _ _ _ (c .before .byte-at .ensures) (c .if1 .taken)))
+    (λ c κs. search needs)
+    (λ c κs. search needs)
+    (λ c κs. search needs)
+    (λ c κs. search needs)
+    (λ c κs. search needs)
+    (λ c κs. search needs)
+    (λ c. c .clashes .ensures ∙ laws.meets-is _ _ _ (c .before .before .before .before .before .before .before .byte-at .ensures) (search needs) (c .before .before .before .before .before .past .ensures) (c .before .before .before .before .place-at .ensures) (c .before .before .before .past2 .ensures) (c .before .before .place-at2 .ensures) (c .before .predicate-end .ensures)))

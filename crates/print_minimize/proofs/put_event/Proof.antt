@@ -1,0 +1,24 @@
+use Rattle.show.proofs.Laws as show
+use Rattle.print_minimize.proofs.Laws as laws
+use borrow.Author.Needs.{needs}
+use Rattle.print_minimize.proofs.put_event.Statement.{statement}
+use Rattle.print_minimize.proofs.put_event.Tie as tie
+use Rattle.print_minimize.proofs.put_event.Reads as reads
+use Rattle.print_minimize.proofs.put_event.Lts as lts
+use Rattle.print_minimize.proofs.put_input.Reads as put-input-reads
+use Rattle.show.proofs.put.Reads as put-reads
+use Rattle.show.proofs.put_byte.Reads as put-byte-reads
+use Rattle.show.proofs.put_number.Reads as put-number-reads
+
+pub put-event-spec : {M : Type 1} → statement M
+put-event-spec =
+    tie.close
+    (tie.spec
+    (λ c. search needs)
+    (λ c κs. search needs)
+    (λ c κs. search needs)
+    (λ c κs. search needs)
+    (λ c κs. search needs)
+    (λ c κs. search needs)
+    (λ c. search needs)
+    (λ c. show.is (laws.event-is _) (show.both (c .before .before .before .before .before .before .before .before .before .before .before .before .before .before .before .before .before .before .put .ensures) (show.both (c .before .before .before .before .before .before .before .before .before .before .before .before .before .before .put-number .ensures) (show.both (c .before .before .before .before .before .before .before .before .before .before .put-byte .ensures) (show.both (c .before .before .before .before .before .before .put-input .ensures) (c .before .before .put-byte2 .ensures)))))))

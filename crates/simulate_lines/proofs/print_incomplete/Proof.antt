@@ -1,0 +1,14 @@
+use borrow.Author.Needs.{needs}
+use Rattle.show.proofs.Laws as show
+use Rattle.simulate_lines.proofs.Lengths as lengths
+use Rattle.simulate_lines.proofs.print_incomplete.Statement.{statement}
+use Rattle.simulate_lines.proofs.print_incomplete.Tie as tie
+
+pub print-incomplete-spec : {M : Type 1} → statement M
+print-incomplete-spec =
+    tie.close
+    (tie.spec
+    (λ c κs. search needs)
+    (λ c κs. search needs)
+    (λ c. search needs)
+    (λ c. show.kept (c .before .before .before .before .before .before .before .args .n) (c .before .before .put-incomplete .ensures) (lengths.incomplete-short (c .before .before .before .before .before .before .before .args .why) (c .before .before .before .before .before .before .before .args .waiting)) (c .before .before .before .before .room .ensures .1)))
