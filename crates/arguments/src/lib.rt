@@ -1,4 +1,5 @@
 // The arguments of a program: numbers of entries, and the name of a file.
+ghost use Rattle.notation.specs.Reference.{was};
 ghost use mathlib.Core.Path.{_≡_};
 ghost use Prim.Native.Nat.{_≤_};
 ghost use lib.ListN.{length};
@@ -22,7 +23,7 @@ fn next(k: usize, digit: u8, most: usize) -> usize
 // A number in decimal, or the most if it is more.
 fn number(t: &[u8], most: usize) -> usize
     requires { ⌜ most ≤ 1000000 ⌝ }
-    ensures { λ r. ⌜ (r ≡ number-of most (now (t .entry))) × (r ≤ most) ⌝ }
+    ensures { λ r. ⌜ (r ≡ number-of most (was t)) × (r ≤ most) ⌝ }
 {
     let mut k: usize = 0;
     let mut i: usize = 0;

@@ -9,6 +9,7 @@ use lint_entry::Report;
 use reduce_result::Minimized;
 use search_answer::Found;
 use search_answer::Searched;
+ghost use Rattle.notation.specs.Reference.{was, is};
 ghost use mathlib.Core.Path.{_≡_};
 ghost use Prim.Native.Nat.{_+_, _≤_};
 ghost use lib.ListN.{length};
@@ -22,7 +23,7 @@ ghost use Rattle.c_encoding.specs.Numbers.{flagOf, statusNumber, foundNu
 
 fn put_numbers(out: &mut [u64], at: usize, w: &[u64])
     requires { ⌜ at + length (now w) ≤ length (now out) ⌝ }
-    ensures { λ _. ⌜ now (out .exit) ≡ written (now (out .entry)) at (now (w .entry)) ⌝ }
+    ensures { λ _. ⌜ is out ≡ written (was out) at (was w) ⌝ }
 {
     let mut k = 0;
     while k < w.len() {
@@ -39,7 +40,7 @@ fn wide(x: u32) -> u64
 
 fn put_words(out: &mut [u64], at: usize, w: &[u32])
     requires { ⌜ at + length (now w) ≤ length (now out) ⌝ }
-    ensures { λ _. ⌜ now (out .exit) ≡ written (now (out .entry)) at (now (w .entry)) ⌝ }
+    ensures { λ _. ⌜ is out ≡ written (was out) at (was w) ⌝ }
 {
     let mut k = 0;
     while k < w.len() {
@@ -58,7 +59,7 @@ fn flag(b: bool) -> u64
 
 fn lay_notes(out: &mut [u64], head: &[u64; 4], reasons: &[u32; 1500])
     requires { ⌜ 1504 ≤ length (now out) ⌝ }
-    ensures { λ _. ⌜ now (out .exit) ≡ laidNotes (now (head .entry)) (now (reasons .entry)) (now (out .entry)) ⌝ }
+    ensures { λ _. ⌜ is out ≡ laidNotes (was head) (was reasons) (was out) ⌝ }
 {
     put_numbers(out, 0, head);
     put_words(out, 4, reasons);
@@ -66,7 +67,7 @@ fn lay_notes(out: &mut [u64], head: &[u64; 4], reasons: &[u32; 1500])
 
 pub fn put_notes(out: &mut [u64], r: Notes)
     requires { ⌜ 1504 ≤ length (now out) ⌝ }
-    ensures { λ _. ⌜ now (out .exit) ≡ notesIn r (now (out .entry)) ⌝ }
+    ensures { λ _. ⌜ is out ≡ notesIn r (was out) ⌝ }
 {
     let head = [r.count as u64, 0, 0, 0];
     lay_notes(out, &head, &r.reasons);
@@ -82,7 +83,7 @@ fn lay_simulation(
     reasons: &[u32; 1500],
 )
     requires { ⌜ at + 1540 ≤ length (now out) ⌝ }
-    ensures { λ _. ⌜ now (out .exit) ≡ laidSimulation at (now (head .entry)) (now (values .entry)) (now (reasons .entry)) (now (out .entry)) ⌝ }
+    ensures { λ _. ⌜ is out ≡ laidSimulation at (was head) (was values) (was reasons) (was out) ⌝ }
 {
     put_numbers(out, at, head);
     put_words(out, at + 8, values);
@@ -91,7 +92,7 @@ fn lay_simulation(
 
 pub fn put_simulation(out: &mut [u64], at: usize, s: Summary, reasons: &[u32; 1500])
     requires { ⌜ at + 1540 ≤ length (now out) ⌝ }
-    ensures { λ _. ⌜ now (out .exit) ≡ simulationIn at (simulation-of s (now (reasons .entry))) (now (out .entry)) ⌝ }
+    ensures { λ _. ⌜ is out ≡ simulationIn at (simulation-of s (was reasons)) (was out) ⌝ }
 {
     let head = [
         wide(s.steps),
@@ -129,7 +130,7 @@ fn lay_check(
     incompletes: &[u32; 200],
 )
     requires { ⌜ at + 2460 ≤ length (now out) ⌝ }
-    ensures { λ _. ⌜ now (out .exit) ≡ laidCheck at (now (head .entry)) (now (violated .entry)) (now (unknowns .entry)) (now (incompletes .entry)) (now (out .entry)) ⌝ }
+    ensures { λ _. ⌜ is out ≡ laidCheck at (was head) (was violated) (was unknowns) (was incompletes) (was out) ⌝ }
 {
     put_numbers(out, at, head);
     put_numbers(out, at + 4, violated);
@@ -147,7 +148,7 @@ pub fn put_check(
     incompletes: &[u32; 200],
 )
     requires { ⌜ at + 4000 ≤ length (now out) ⌝ }
-    ensures { λ _. ⌜ now (out .exit) ≡ checkIn at (result-of j (now (violated .entry)) (now (unknowns .entry)) (now (incompletes .entry)) (now (reasons .entry))) (now (out .entry)) ⌝ }
+    ensures { λ _. ⌜ is out ≡ checkIn at (result-of j (was violated) (was unknowns) (was incompletes) (was reasons)) (was out) ⌝ }
 {
     let status = j.status;
     let head = [
@@ -194,7 +195,7 @@ fn lay_search(
     told: &[u32; 2000],
 )
     requires { ⌜ 2076 ≤ length (now out) ⌝ }
-    ensures { λ _. ⌜ now (out .exit) ≡ laidSearch (now (head .entry)) (now (inputs .entry)) (now (seconds .entry)) (now (words .entry)) (now (told .entry)) (now (out .entry)) ⌝ }
+    ensures { λ _. ⌜ is out ≡ laidSearch (was head) (was inputs) (was seconds) (was words) (was told) (was out) ⌝ }
 {
     put_numbers(out, 0, head);
     put_words(out, 16, inputs);
@@ -205,7 +206,7 @@ fn lay_search(
 
 fn put_searched(out: &mut [u64], v: Searched, told: &[u32; 2000])
     requires { ⌜ 2076 ≤ length (now out) ⌝ }
-    ensures { λ _. ⌜ now (out .exit) ≡ searchIn v (now (told .entry)) (now (out .entry)) ⌝ }
+    ensures { λ _. ⌜ is out ≡ searchIn v (was told) (was out) ⌝ }
 {
     let status = v.status;
     let head = [
@@ -242,7 +243,7 @@ pub fn put_verification(
     incompletes: &[u32; 200],
 )
     requires { ⌜ 6076 ≤ length (now out) ⌝ }
-    ensures { λ _. ⌜ now (out .exit) ≡ verificationIn (whole-of v (now (told .entry)) (now (violated .entry)) (now (unknowns .entry)) (now (incompletes .entry)) (now (reasons .entry))) (now (out .entry)) ⌝ }
+    ensures { λ _. ⌜ is out ≡ verificationIn (whole-of v (was told) (was violated) (was unknowns) (was incompletes) (was reasons)) (was out) ⌝ }
 {
     put_searched(out, v, told);
     let j = v.check;
@@ -253,7 +254,7 @@ pub fn put_verification(
 
 fn lay_reduction(out: &mut [u64], head: &[u64; 8], words: &[u32; 400])
     requires { ⌜ 408 ≤ length (now out) ⌝ }
-    ensures { λ _. ⌜ now (out .exit) ≡ laidReduction (now (head .entry)) (now (words .entry)) (now (out .entry)) ⌝ }
+    ensures { λ _. ⌜ is out ≡ laidReduction (was head) (was words) (was out) ⌝ }
 {
     put_numbers(out, 0, head);
     put_words(out, 8, words);
@@ -262,7 +263,7 @@ fn lay_reduction(out: &mut [u64], head: &[u64; 8], words: &[u32; 400])
 // A check as one value.
 fn put_result(out: &mut [u64], at: usize, c: CheckResult)
     requires { ⌜ at + 4000 ≤ length (now out) ⌝ }
-    ensures { λ _. ⌜ now (out .exit) ≡ checkIn at c (now (out .entry)) ⌝ }
+    ensures { λ _. ⌜ is out ≡ checkIn at c (was out) ⌝ }
 {
     let status = c.status;
     let head = [
@@ -293,7 +294,7 @@ fn put_result(out: &mut [u64], at: usize, c: CheckResult)
 
 pub fn put_minimized(out: &mut [u64], m: Minimized)
     requires { ⌜ 4408 ≤ length (now out) ⌝ }
-    ensures { λ _. ⌜ now (out .exit) ≡ minimizedIn m (now (out .entry)) ⌝ }
+    ensures { λ _. ⌜ is out ≡ minimizedIn m (was out) ⌝ }
 {
     let head = [
         wide(m.invariant),
@@ -322,7 +323,7 @@ fn lay_report<'a>(
     readers: &'a [u32; 64],
 )
     requires { ⌜ 228 ≤ length (now out) ⌝ }
-    ensures { λ _. ⌜ now (out .exit) ≡ laidReport (now (head .entry)) (now (cycles .entry)) (now (reads .entry)) (now (writes .entry)) (now (names .entry)) (now (readers .entry)) (now (out .entry)) ⌝ }
+    ensures { λ _. ⌜ is out ≡ laidReport (was head) (was cycles) (was reads) (was writes) (was names) (was readers) (was out) ⌝ }
 {
     put_numbers(out, 0, head);
     put_words(out, 4, cycles);
@@ -334,7 +335,7 @@ fn lay_report<'a>(
 
 pub fn put_report(out: &mut [u64], r: Report)
     requires { ⌜ 228 ≤ length (now out) ⌝ }
-    ensures { λ _. ⌜ now (out .exit) ≡ reportIn r (now (out .entry)) ⌝ }
+    ensures { λ _. ⌜ is out ≡ reportIn r (was out) ⌝ }
 {
     let head = [
         r.findings as u64,
@@ -357,7 +358,7 @@ pub fn put_report(out: &mut [u64], r: Report)
 
 fn lay_cone(out: &mut [u64], head: &[u64; 4], names: &[u32; 64])
     requires { ⌜ 68 ≤ length (now out) ⌝ }
-    ensures { λ _. ⌜ now (out .exit) ≡ laidCone (now (head .entry)) (now (names .entry)) (now (out .entry)) ⌝ }
+    ensures { λ _. ⌜ is out ≡ laidCone (was head) (was names) (was out) ⌝ }
 {
     put_numbers(out, 0, head);
     put_words(out, 4, names);
@@ -365,7 +366,7 @@ fn lay_cone(out: &mut [u64], head: &[u64; 4], names: &[u32; 64])
 
 pub fn put_cone(out: &mut [u64], r: ConeResult)
     requires { ⌜ 68 ≤ length (now out) ⌝ }
-    ensures { λ _. ⌜ now (out .exit) ≡ coneIn r (now (out .entry)) ⌝ }
+    ensures { λ _. ⌜ is out ≡ coneIn r (was out) ⌝ }
 {
     let head = [
         wide(r.entities),

@@ -1,6 +1,7 @@
 // The lines of `check`, written behind the first n bytes of a lent area as the writers of `show` do. f is the model file.
 // A violation comes as eight numbers, a reason as five words.
 use reasons::Reason;
+ghost use Rattle.notation.specs.Reference.{was, is};
 ghost use mathlib.Core.Path.{_≡_};
 ghost use mathlib.Core.List.{[], _∷_, _++_};
 ghost use Prim.Native.Nat.{_+_, _*_, _≤_};
@@ -31,7 +32,7 @@ pub struct Violated {
 // The violation at k of a list.
 pub fn violated_at(a: &[u64], k: usize) -> Violated
     requires { ⌜ k * 8 + 8 ≤ length (now a) ⌝ }
-    ensures { λ r. ⌜ r ≡ violated-of (drop (k * 8) (now (a .entry))) ⌝ }
+    ensures { λ r. ⌜ r ≡ violated-of (drop (k * 8) (was a)) ⌝ }
 {
     let at = k * 8;
     Violated {
@@ -59,21 +60,21 @@ fn place_of(number: u64) -> u32
 }
 
 fn put_identifier(out: &mut [u8], n: usize, f: &[u8], place: u64) -> usize
-    ensures { λ m. ⌜ Written (text-at (now (f .entry)) place) (now (out .entry)) n (now (out .exit)) m ⌝ }
+    ensures { λ m. ⌜ Written (text-at (was f) place) (was out) n (is out) m ⌝ }
 {
     let at = texts::text_start(f, 6, place_of(place));
     show::put_text(out, n, f, at)
 }
 
 fn put_quoted_identifier(out: &mut [u8], n: usize, f: &[u8], place: u64) -> usize
-    ensures { λ m. ⌜ Written (quoted (text-at (now (f .entry)) place)) (now (out .entry)) n (now (out .exit)) m ⌝ }
+    ensures { λ m. ⌜ Written (quoted (text-at (was f) place)) (was out) n (is out) m ⌝ }
 {
     let at = texts::text_start(f, 6, place_of(place));
     show::put_quoted_text(out, n, f, at)
 }
 
 fn put_moment(out: &mut [u8], n: usize, second: u64, index: u64) -> usize
-    ensures { λ m. ⌜ Written (moment second index) (now (out .entry)) n (now (out .exit)) m ⌝ }
+    ensures { λ m. ⌜ Written (moment second index) (was out) n (is out) m ⌝ }
 {
     let a = show::put_byte(out, n, 32);
     let b = show::put_number(out, a, second);
@@ -84,7 +85,7 @@ fn put_moment(out: &mut [u8], n: usize, second: u64, index: u64) -> usize
 
 // LINE:COLUMN, or `-`.
 fn put_origin(out: &mut [u8], n: usize, sourced: u64, line: u64, column: u64) -> usize
-    ensures { λ m. ⌜ Written (placed-if (source-of sourced line column)) (now (out .entry)) n (now (out .exit)) m ⌝ }
+    ensures { λ m. ⌜ Written (placed-if (source-of sourced line column)) (was out) n (is out) m ⌝ }
 {
     if sourced == 0 {
         return show::put_byte(out, n, 45);
@@ -95,7 +96,7 @@ fn put_origin(out: &mut [u8], n: usize, sourced: u64, line: u64, column: u64) ->
 }
 
 fn put_deadline(out: &mut [u8], n: usize, deadline: u64) -> usize
-    ensures { λ m. ⌜ Written (quoted (message (deadline-missed deadline))) (now (out .entry)) n (now (out .exit)) m ⌝ }
+    ensures { λ m. ⌜ Written (quoted (message (deadline-missed deadline))) (was out) n (is out) m ⌝ }
 {
     let a = show::put(out, n, b"\"response deadline ");
     let b = show::put_number(out, a, deadline);
@@ -104,7 +105,7 @@ fn put_deadline(out: &mut [u8], n: usize, deadline: u64) -> usize
 
 // The message of a failure, quoted.
 fn put_message(out: &mut [u8], n: usize, failure: u64, deadline: u64) -> usize
-    ensures { λ m. ⌜ Written (quoted (message (failure-of failure deadline))) (now (out .entry)) n (now (out .exit)) m ⌝ }
+    ensures { λ m. ⌜ Written (quoted (message (failure-of failure deadline))) (was out) n (is out) m ⌝ }
 {
     if failure == 1 {
         return show::put_quoted(out, n, b"prohibited state reached");
@@ -122,7 +123,7 @@ fn put_message(out: &mut [u8], n: usize, failure: u64, deadline: u64) -> usize
 
 // `violated ID SECOND INDEX SOURCE`
 pub fn put_bare_violated(out: &mut [u8], n: usize, f: &[u8], v: Violated) -> usize
-    ensures { λ m. ⌜ Written (bare-violated (violation-of (now (f .entry)) v)) (now (out .entry)) n (now (out .exit)) m ⌝ }
+    ensures { λ m. ⌜ Written (bare-violated (violation-of (was f) v)) (was out) n (is out) m ⌝ }
 {
     let a = show::put(out, n, b"violated ");
     let b = put_identifier(out, a, f, v.place);
@@ -133,7 +134,7 @@ pub fn put_bare_violated(out: &mut [u8], n: usize, f: &[u8], v: Violated) -> usi
 
 // `violated "ID" SECOND INDEX SOURCE "MESSAGE"`
 pub fn put_full_violated(out: &mut [u8], n: usize, f: &[u8], v: Violated) -> usize
-    ensures { λ m. ⌜ Written (full-violated (violation-of (now (f .entry)) v)) (now (out .entry)) n (now (out .exit)) m ⌝ }
+    ensures { λ m. ⌜ Written (full-violated (violation-of (was f) v)) (was out) n (is out) m ⌝ }
 {
     let a = show::put(out, n, b"violated ");
     let b = put_quoted_identifier(out, a, f, v.place);
@@ -156,7 +157,7 @@ pub fn put_bare_reason(
     i: usize,
 ) -> usize
     requires { ⌜ i * 5 + 5 ≤ length (now a) ⌝ }
-    ensures { λ m. ⌜ Written (bare-reason (now (word .entry)) (render (now (f .entry)) (reason-of (drop (i * 5) (now (a .entry)))))) (now (out .entry)) n (now (out .exit)) m ⌝ }
+    ensures { λ m. ⌜ Written (bare-reason (was word) (render (was f) (reason-of (drop (i * 5) (was a))))) (was out) n (is out) m ⌝ }
 {
     let r = reasons::get(a, i);
     let j = show::put(out, n, word);
@@ -175,7 +176,7 @@ pub fn put_full_reason(
     i: usize,
 ) -> usize
     requires { ⌜ i * 5 + 5 ≤ length (now a) ⌝ }
-    ensures { λ m. ⌜ Written (full-reason (now (word .entry)) (render (now (f .entry)) (reason-of (drop (i * 5) (now (a .entry)))))) (now (out .entry)) n (now (out .exit)) m ⌝ }
+    ensures { λ m. ⌜ Written (full-reason (was word) (render (was f) (reason-of (drop (i * 5) (was a))))) (was out) n (is out) m ⌝ }
 {
     let r = reasons::get(a, i);
     let j = show::put(out, n, word);

@@ -4,6 +4,7 @@ use checker_response::Failure;
 use engine_fields::two_at;
 use engine_state::Cells;
 use records::Where;
+ghost use Rattle.notation.specs.Reference.{was, is};
 ghost use mathlib.Core.Path.{_≡_};
 ghost use Prim.Native.Nat.{_+_, _*_, _≤_, _<_};
 ghost use lib.ListN.{length};
@@ -84,7 +85,7 @@ fn numbers_of(id: u32, r: Reading) -> Numbers
 
 fn put(v: &mut [u64], at: usize, w: &[u64])
     requires { ⌜ at + length (now w) ≤ length (now v) ⌝ }
-    ensures { λ _. ⌜ now (v .exit) ≡ written (now (v .entry)) at (now (w .entry)) ⌝ }
+    ensures { λ _. ⌜ is v ≡ written (was v) at (was w) ⌝ }
 {
     let mut k = 0;
     while k < w.len() {
@@ -96,7 +97,7 @@ fn put(v: &mut [u64], at: usize, w: &[u64])
 // A violation more, if the reading has a failing record; the answer is how many there are then.
 fn push_violation(v: &mut [u64], n: usize, id: u32, r: Reading) -> usize
     requires { ⌜ n * 8 + 8 ≤ length (now v) ⌝ }
-    ensures { λ k. ⌜ Pushed (now (v .entry)) n id r (now (v .exit)) k ⌝ }
+    ensures { λ k. ⌜ Pushed (was v) n id r (is v) k ⌝ }
 {
     let failure = r.failure;
     if checker_response::failed(failure) {
@@ -131,7 +132,7 @@ fn judge_one(
     s: Counts,
 ) -> Counts
     requires { ⌜ (n * 13 ≤ length (now a)) × ((s .violations * 8 + 8 ≤ length (now v)) × ((s .unknown * 5 + 10 ≤ length (now u)) × (s .incomplete * 5 + 5 ≤ length (now w)))) ⌝ }
-    ensures { λ t. ⌜ Gathers (now (f .entry)) (now (x .entry)) at cells (now (a .entry)) n s t (now (v .entry)) (now (v .exit)) (now (u .entry)) (now (u .exit)) (now (w .entry)) (now (w .exit)) ⌝ }
+    ensures { λ t. ⌜ Gathers (was f) (was x) at cells (was a) n s t (was v) (is v) (was u) (is u) (was w) (is w) ⌝ }
 {
     let r = checker_judge::judge(f, x, at, cells, a, n);
     let memory = r.memory;
@@ -163,7 +164,7 @@ pub fn judge_all(
     s: Counts,
 ) -> Counts
     requires { ⌜ (n * 13 ≤ length (now a)) × ((s .violations * 8 + 256 ≤ length (now v)) × ((s .unknown * 5 + 320 ≤ length (now u)) × (s .incomplete * 5 + 160 ≤ length (now w)))) ⌝ }
-    ensures { λ t. ⌜ GathersAll (now (f .entry)) (now (x .entry)) (now (starts .entry)) count cells (now (a .entry)) n s t (now (v .entry)) (now (v .exit)) (now (u .entry)) (now (u .exit)) (now (w .entry)) (now (w .exit)) ⌝ }
+    ensures { λ t. ⌜ GathersAll (was f) (was x) (was starts) count cells (was a) n s t (was v) (is v) (was u) (is u) (was w) (is w) ⌝ }
 {
     let many = engine_fields::at_most(count, 32);
     let mut t = s;

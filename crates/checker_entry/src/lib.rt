@@ -4,6 +4,7 @@ use checker_result::Judgement;
 use checker_result::Shared;
 use checker_result::Status;
 use model_index::Index;
+ghost use Rattle.notation.specs.Reference.{was, is};
 ghost use Prim.Native.Nat.{_*_, _≤_};
 ghost use lib.ListN.{length};
 ghost use Rattle.checker_result.specs.Result.{result-of};
@@ -31,7 +32,7 @@ pub fn check_events(
     incompletes: &mut [u32; 200],
 ) -> Judgement
     requires { ⌜ n * 4 ≤ length (now events) ⌝ }
-    ensures { λ r. ⌜ Checked (now (file .entry)) (now (starts .entry)) (shared .invariants) (ground (now (table .entry)) (shared .cells) (shared .notes) (now (reasons .entry))) (now (events .entry)) n (result-of r (now (violated .exit)) (now (unknowns .exit)) (now (incompletes .exit)) (now (reasons .exit))) (now (queue .entry)) (now (queue .exit)) (now (records .entry)) (now (records .exit)) (now (runs .entry)) (now (runs .exit)) ⌝ }
+    ensures { λ r. ⌜ Checked (was file) (was starts) (shared .invariants) (ground (was table) (shared .cells) (shared .notes) (was reasons)) (was events) n (result-of r (is violated) (is unknowns) (is incompletes) (is reasons)) (was queue) (is queue) (was records) (is records) (was runs) (is runs) ⌝ }
 {
     let cells = shared.cells;
     let notes = shared.notes;
@@ -89,7 +90,7 @@ pub fn check_settled(
     incompletes: &mut [u32; 200],
 ) -> Judgement
     requires { ⌜ n * 4 ≤ length (now events) ⌝ }
-    ensures { λ r. ⌜ Whole (now (file .entry)) (now (starts .entry)) (shared .invariants) (ground (now (table .entry)) (shared .cells) (shared .notes) (now (reasons .entry))) (now (events .entry)) n (result-of r (now (violated .exit)) (now (unknowns .exit)) (now (incompletes .exit)) (now (reasons .exit))) (now (queue .entry)) (now (queue .exit)) (now (records .entry)) (now (records .exit)) (now (runs .entry)) (now (runs .exit)) ⌝ }
+    ensures { λ r. ⌜ Whole (was file) (was starts) (shared .invariants) (ground (was table) (shared .cells) (shared .notes) (was reasons)) (was events) n (result-of r (is violated) (is unknowns) (is incompletes) (is reasons)) (was queue) (is queue) (was records) (is records) (was runs) (is runs) ⌝ }
 {
     let j = check_events(
         file,
@@ -121,7 +122,7 @@ fn run(
     unknowns: &mut [u32; 2000],
     incompletes: &mut [u32; 200],
 ) -> Judgement
-    ensures { λ r. ⌜ RunsAs (now (file .entry)) index (result-of r (now (violated .exit)) (now (unknowns .exit)) (now (incompletes .exit)) (now (reasons .exit))) (lent (now (queue .entry)) (now (records .entry)) (now (runs .entry))) (lent (now (queue .exit)) (now (records .exit)) (now (runs .exit))) ⌝ }
+    ensures { λ r. ⌜ RunsAs (was file) index (result-of r (is violated) (is unknowns) (is incompletes) (is reasons)) (lent (was queue) (was records) (was runs)) (lent (is queue) (is records) (is runs)) ⌝ }
 {
     let b = engine_entry::prepared(file, index, reasons);
     let table = b.table;
@@ -164,7 +165,7 @@ pub fn check_lent(
     unknowns: &mut [u32; 2000],
     incompletes: &mut [u32; 200],
 ) -> Judgement
-    ensures { λ r. ⌜ Checks (now (file .entry)) (result-of r (now (violated .exit)) (now (unknowns .exit)) (now (incompletes .exit)) (now (reasons .exit))) (lent (now (queue .entry)) (now (records .entry)) (now (runs .entry))) (lent (now (queue .exit)) (now (records .exit)) (now (runs .exit))) ⌝ }
+    ensures { λ r. ⌜ Checks (was file) (result-of r (is violated) (is unknowns) (is incompletes) (is reasons)) (lent (was queue) (was records) (was runs)) (lent (is queue) (is records) (is runs)) ⌝ }
 {
     let x = model_validate::accept(file);
     let status = x.status;
@@ -202,7 +203,7 @@ pub fn check_whole(
     reasons: &mut [u32; 1500],
 ) -> CheckResult
     requires { ⌜ n * 4 ≤ length (now events) ⌝ }
-    ensures { λ r. ⌜ Whole (now (file .entry)) (now (starts .entry)) (shared .invariants) (ground (now (table .entry)) (shared .cells) (shared .notes) (now (reasons .entry))) (now (events .entry)) n r (now (queue .entry)) (now (queue .exit)) (now (records .entry)) (now (records .exit)) (now (runs .entry)) (now (runs .exit)) ⌝ }
+    ensures { λ r. ⌜ Whole (was file) (was starts) (shared .invariants) (ground (was table) (shared .cells) (shared .notes) (was reasons)) (was events) n r (was queue) (is queue) (was records) (is records) (was runs) (is runs) ⌝ }
 {
     let mut violated = [0u64; 256];
     let mut unknowns = [0u32; 2000];
@@ -227,7 +228,7 @@ pub fn check_whole(
 
 // The check of a model file, with lent areas of any size.
 pub fn check(file: &[u8], queue: &mut [u32], records: &mut [u32], runs: &mut [u32]) -> CheckResult
-    ensures { λ r. ⌜ Checks (now (file .entry)) r (lent (now (queue .entry)) (now (records .entry)) (now (runs .entry))) (lent (now (queue .exit)) (now (records .exit)) (now (runs .exit))) ⌝ }
+    ensures { λ r. ⌜ Checks (was file) r (lent (was queue) (was records) (was runs)) (lent (is queue) (is records) (is runs)) ⌝ }
 {
     let mut reasons = [0u32; 1500];
     let mut violated = [0u64; 256];

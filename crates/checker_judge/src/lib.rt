@@ -25,6 +25,7 @@ use engine_state::after;
 use records::Change;
 use records::Record;
 use records::Where;
+ghost use Rattle.notation.specs.Reference.{was, is};
 ghost use mathlib.Core.Path.{_≡_};
 ghost use Prim.Native.Nat.{_*_, _+_, _≤_};
 ghost use lib.ListN.{length};
@@ -56,7 +57,7 @@ fn unsure(b: bool, m: Memory) -> Memory
 
 // The entity that a change writes, or 32.
 fn entity_in(x: &[u32; 436], change: Change) -> usize
-    ensures { λ r. ⌜ r ≡ entityM (now (x .entry)) change ⌝ }
+    ensures { λ r. ⌜ r ≡ entityM (was x) change ⌝ }
 {
     match change {
         Change::NoChange => 32,
@@ -84,7 +85,7 @@ fn value_in(change: Change) -> u32
 
 // An entity's value changes; with 32, none does.
 fn put(values: &mut [u32; 32], e: usize, value: u32)
-    ensures { λ _. ⌜ now (values .exit) ≡ setM (now (values .entry)) e value ⌝ }
+    ensures { λ _. ⌜ is values ≡ setM (was values) e value ⌝ }
 {
     if e < 32 {
         values[e] = value;
@@ -94,7 +95,7 @@ fn put(values: &mut [u32; 32], e: usize, value: u32)
 // ---- never, guard, transition
 
 fn read_never(f: &[u8], x: &[u32; 436], at: u32, present: &[u32; 32], m: Memory) -> Shown
-    ensures { λ r. ⌜ r ≡ neverM (now (f .entry)) (now (x .entry)) at (now (present .entry)) m ⌝ }
+    ensures { λ r. ⌜ r ≡ neverM (was f) (was x) at (was present) m ⌝ }
 {
     let judged = evaluate_all(f, x, present, 0, after(at, 3));
     let t = judged.truth;
@@ -105,7 +106,7 @@ fn read_never(f: &[u8], x: &[u32; 436], at: u32, present: &[u32; 32], m: Memory)
 
 // Whether a change sets the guard's entity to its value.
 fn writes(f: &[u8], at: u32, change: Change) -> bool
-    ensures { λ r. ⌜ r ≡ writesM (now (f .entry)) at change ⌝ }
+    ensures { λ r. ⌜ r ≡ writesM (was f) at change ⌝ }
 {
     match change {
         Change::NoChange => false,
@@ -122,7 +123,7 @@ fn writes(f: &[u8], at: u32, change: Change) -> bool
 
 // Whether a record is an action that the guard is about.
 fn is_about(f: &[u8], at: u32, r: Record) -> bool
-    ensures { λ b. ⌜ b ≡ aboutM (now (f .entry)) at r ⌝ }
+    ensures { λ b. ⌜ b ≡ aboutM (was f) at r ⌝ }
 {
     let change = r.change;
     if r.kind == 2 {
@@ -141,7 +142,7 @@ fn guarded(t: Truth, m: Memory) -> Shown
 
 // A guard reads the values before the record.
 fn read_guard(f: &[u8], x: &[u32; 436], at: u32, before: &[u32; 32], r: Record, m: Memory) -> Shown
-    ensures { λ s. ⌜ s ≡ guardM (now (f .entry)) (now (x .entry)) at (now (before .entry)) r m ⌝ }
+    ensures { λ s. ⌜ s ≡ guardM (was f) (was x) at (was before) r m ⌝ }
 {
     if is_about(f, at, r) {
         let judged = evaluate_all(f, x, before, 0, after(at, 7));
@@ -156,7 +157,7 @@ fn read_guard(f: &[u8], x: &[u32; 436], at: u32, before: &[u32; 32], r: Record, 
 
 // Whether a change takes the transition's entity from its first value to its second.
 fn passes(f: &[u8], at: u32, change: Change) -> bool
-    ensures { λ r. ⌜ r ≡ passesM (now (f .entry)) at change ⌝ }
+    ensures { λ r. ⌜ r ≡ passesM (was f) at change ⌝ }
 {
     match change {
         Change::NoChange => false,
@@ -175,7 +176,7 @@ fn passes(f: &[u8], at: u32, change: Change) -> bool
 }
 
 fn read_transition(f: &[u8], at: u32, r: Record, m: Memory) -> Shown
-    ensures { λ s. ⌜ s ≡ transitionM (now (f .entry)) at r m ⌝ }
+    ensures { λ s. ⌜ s ≡ transitionM (was f) at r m ⌝ }
 {
     let change = r.change;
     let failure = fails_if(passes(f, at, change), Failure::ForbiddenTransition);
@@ -186,14 +187,14 @@ fn read_transition(f: &[u8], at: u32, r: Record, m: Memory) -> Shown
 
 // The position after the predicate at a position.
 fn after_predicate(f: &[u8], at: u32) -> u32
-    ensures { λ r. ⌜ r ≡ later at (sizeM (now (f .entry)) at) ⌝ }
+    ensures { λ r. ⌜ r ≡ later at (sizeM (was f) at) ⌝ }
 {
     after(at, engine_evaluate::predicate_size(f, at))
 }
 
 // The goal is read before the record and after it, the cause after it.
 fn seen_at(f: &[u8], x: &[u32; 436], at: u32, before: &[u32; 32], present: &[u32; 32]) -> Seen
-    ensures { λ r. ⌜ r ≡ seenM (now (f .entry)) (now (x .entry)) at (now (before .entry)) (now (present .entry)) ⌝ }
+    ensures { λ r. ⌜ r ≡ seenM (was f) (was x) at (was before) (was present) ⌝ }
 {
     let p = after(at, 3);
     let q = after_predicate(f, p);
@@ -221,7 +222,7 @@ fn read(
     r: Record,
     m: Memory,
 ) -> Shown
-    ensures { λ s. ⌜ s ≡ readM (now (f .entry)) (now (x .entry)) at (now (before .entry)) (now (present .entry)) r m ⌝ }
+    ensures { λ s. ⌜ s ≡ readM (was f) (was x) at (was before) (was present) r m ⌝ }
 {
     let kind = byte_at(f, at as usize);
     if kind == 0 {
@@ -240,14 +241,14 @@ fn read(
 
 // An entity's cell is the one at its place's remainder.
 fn name(id: u32, named: &mut [bool; 64])
-    ensures { λ _. ⌜ now (named .exit) ≡ withM id (now (named .entry)) ⌝ }
+    ensures { λ _. ⌜ is named ≡ withM id (was named) ⌝ }
 {
     named[(id % 64) as usize] = true;
 }
 
 // The entity of a state. A window, which no accepted invariant has, is taken for one: naming more only reads more.
 fn name_predicate(f: &[u8], at: u32, named: &mut [bool; 64])
-    ensures { λ _. ⌜ now (named .exit) ≡ predicateM (now (f .entry)) at (now (named .entry)) ⌝ }
+    ensures { λ _. ⌜ is named ≡ predicateM (was f) at (was named) ⌝ }
 {
     if byte_at(f, at as usize) == 1 {
         return;
@@ -256,7 +257,7 @@ fn name_predicate(f: &[u8], at: u32, named: &mut [bool; 64])
 }
 
 fn name_list(f: &[u8], at: u32, named: &mut [bool; 64])
-    ensures { λ _. ⌜ now (named .exit) ≡ listM (now (f .entry)) at (now (named .entry)) ⌝ }
+    ensures { λ _. ⌜ is named ≡ listM (was f) at (was named) ⌝ }
 {
     let mut left = two_at(f, at as usize);
     let mut p = after(at, 2);
@@ -268,7 +269,7 @@ fn name_list(f: &[u8], at: u32, named: &mut [bool; 64])
 }
 
 fn name_all(f: &[u8], at: u32, named: &mut [bool; 64])
-    ensures { λ _. ⌜ now (named .exit) ≡ namesM (now (f .entry)) at (now (named .entry)) ⌝ }
+    ensures { λ _. ⌜ is named ≡ namesM (was f) at (was named) ⌝ }
 {
     let kind = byte_at(f, at as usize);
     if kind == 0 {
@@ -292,7 +293,7 @@ fn name_all(f: &[u8], at: u32, named: &mut [bool; 64])
 // ---- all records
 
 fn touches(named: &[bool; 64], change: Change) -> bool
-    ensures { λ r. ⌜ r ≡ touchesM (now (named .entry)) change ⌝ }
+    ensures { λ r. ⌜ r ≡ touchesM (was named) change ⌝ }
 {
     match change {
         Change::NoChange => false,
@@ -316,7 +317,7 @@ fn pending(wait: Wait) -> bool
 // Whether there is a record at k, of n, and it writes no named entity.
 fn is_quiet(named: &[bool; 64], a: &[u32], n: usize, k: usize) -> bool
     requires { ⌜ n * 13 ≤ length (now a) ⌝ }
-    ensures { λ r. ⌜ Quiet (now (named .entry)) (now (a .entry)) n k r ⌝ }
+    ensures { λ r. ⌜ Quiet (was named) (was a) n k r ⌝ }
 {
     if n <= k {
         return false;
@@ -327,7 +328,7 @@ fn is_quiet(named: &[bool; 64], a: &[u32], n: usize, k: usize) -> bool
 // The next record to be read, from k on: those before it can show nothing new.
 fn next_to_read(named: &[bool; 64], wait: Wait, a: &[u32], n: usize, k: usize) -> usize
     requires { ⌜ n * 13 ≤ length (now a) ⌝ }
-    ensures { λ r. ⌜ Skips (now (named .entry)) wait (now (a .entry)) n k r ⌝ }
+    ensures { λ r. ⌜ Skips (was named) wait (was a) n k r ⌝ }
 {
     if k == 0 {
         return 0;
@@ -355,8 +356,8 @@ fn next_turn(
     k: usize,
 ) -> Reading
     requires { ⌜ (k * 13 + 13 ≤ length (now a)) × (now before ≡ now present) ⌝ }
-    ensures same { λ _. ⌜ now (before .exit) ≡ now (present .exit) ⌝ }
-    ensures turned { λ r. ⌜ Turned (now (f .entry)) (now (x .entry)) at (now (before .entry)) m (now (a .entry)) k r (now (before .exit)) ⌝ }
+    ensures same { λ _. ⌜ is before ≡ is present ⌝ }
+    ensures turned { λ r. ⌜ Turned (was f) (was x) at (was before) m (was a) k r (is before) ⌝ }
 {
     let r = records::get_record(a, k);
     let change = r.change;
@@ -405,7 +406,7 @@ fn unfailed(m: Memory) -> Reading
 // the first failing record, or none.
 pub fn judge(f: &[u8], x: &[u32; 436], at: usize, cells: Cells, a: &[u32], n: usize) -> Reading
     requires { ⌜ n * 13 ≤ length (now a) ⌝ }
-    ensures { λ r. ⌜ Judges (now (f .entry)) (now (x .entry)) at cells (now (a .entry)) n r ⌝ }
+    ensures { λ r. ⌜ Judges (was f) (was x) at cells (was a) n r ⌝ }
 {
     let p = engine_fields::capped(at);
     let mut named = [false; 64];

@@ -6,6 +6,7 @@ use engine_fields::text_position;
 use engine_fields::two_at;
 use reasons::Reason;
 use reasons::insert_sorted;
+ghost use Rattle.notation.specs.Reference.{was, is};
 ghost use mathlib.Core.Path.{_≡_};
 ghost use Prim.Native.Nat.{_*_, _≤_};
 ghost use lib.ListN.{length};
@@ -23,7 +24,7 @@ pub enum Told {
 
 // A reason about the invariant at a position.
 fn about(f: &[u8], at: u32, kind: u32) -> Reason
-    ensures { λ r. ⌜ r ≡ aboutM (now (f .entry)) at kind ⌝ }
+    ensures { λ r. ⌜ r ≡ aboutM (was f) at kind ⌝ }
 {
     Reason {
         kind,
@@ -58,7 +59,7 @@ fn temporal(m: Memory, late: Reason, predicate: Reason) -> Told
 }
 
 pub fn unknown_reasons(f: &[u8], at: usize, m: Memory) -> Told
-    ensures { λ t. ⌜ t ≡ unknownM (now (f .entry)) (cap at) m ⌝ }
+    ensures { λ t. ⌜ t ≡ unknownM (was f) (cap at) m ⌝ }
 {
     let p = capped(at);
     let kind = byte_at(f, p as usize);
@@ -76,7 +77,7 @@ pub fn unknown_reasons(f: &[u8], at: usize, m: Memory) -> Told
 }
 
 pub fn incomplete_reasons(f: &[u8], at: usize, m: Memory) -> Told
-    ensures { λ t. ⌜ t ≡ incompleteM (now (f .entry)) (cap at) m ⌝ }
+    ensures { λ t. ⌜ t ≡ incompleteM (was f) (cap at) m ⌝ }
 {
     told_if(m.beyond, about(f, capped(at), reasons::BEYOND_HORIZON))
 }
@@ -84,7 +85,7 @@ pub fn incomplete_reasons(f: &[u8], at: usize, m: Memory) -> Told
 // The reasons among the first n of an area, which ascend as rendered; the answer is how many there are then.
 pub fn insert_told(f: &[u8], a: &mut [u32], n: usize, t: Told) -> usize
     requires { ⌜ length (insertAll (renderings (now f) t) (listed (now f) n (now a))) * 5 ≤ length (now a) ⌝ }
-    ensures { λ k. ⌜ Grows (now (f .entry)) (AllReadable (now (f .entry)) (list-of t)) (insertAll (renderings (now (f .entry)) t) (listed (now (f .entry)) n (now (a .entry)))) n (now (a .entry)) k (now (a .exit)) ⌝ }
+    ensures { λ k. ⌜ Grows (was f) (AllReadable (was f) (list-of t)) (insertAll (renderings (was f) t) (listed (was f) n (was a))) n (was a) k (is a) ⌝ }
 {
     match t {
         Told::Nothing => n,

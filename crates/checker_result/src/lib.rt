@@ -3,6 +3,7 @@ use checker_collect::Counts;
 use engine_state::Cells;
 use engine_summary::Simulation;
 use engine_summary::Summary;
+ghost use Rattle.notation.specs.Reference.{was, is};
 ghost use mathlib.Core.Path.{_≡_};
 ghost use Prim.Native.Nat.{_+_, _*_, _≤_};
 ghost use lib.ListN.{length};
@@ -65,7 +66,7 @@ fn status_of(t: Counts) -> Status
 
 // At most as many records as the area holds.
 fn fitting(n: usize, a: &[u32]) -> usize
-    ensures { λ r. ⌜ Fits n (length (now (a .entry))) r ⌝ }
+    ensures { λ r. ⌜ Fits n (length (was a)) r ⌝ }
 {
     let most = a.len() / 13;
     if most < n {
@@ -77,7 +78,7 @@ fn fitting(n: usize, a: &[u32]) -> usize
 // Why the simulation stopped, as reasons.
 fn add_stopped(f: &[u8], w: &mut [u32], why: u32) -> usize
     requires { ⌜ 5 ≤ length (now w) ⌝ }
-    ensures { λ k. ⌜ Starts (now (f .entry)) why (now (w .entry)) k (now (w .exit)) ⌝ }
+    ensures { λ k. ⌜ Starts (was f) why (was w) k (is w) ⌝ }
 {
     if why == 0 {
         return 0;
@@ -93,7 +94,7 @@ fn add_stopped(f: &[u8], w: &mut [u32], why: u32) -> usize
 // And that runs were left.
 fn add_waiting(f: &[u8], w: &mut [u32], n: usize, waiting: bool) -> usize
     requires { ⌜ n * 5 + 5 ≤ length (now w) ⌝ }
-    ensures { λ k. ⌜ Ends (now (f .entry)) waiting n (now (w .entry)) k (now (w .exit)) ⌝ }
+    ensures { λ k. ⌜ Ends (was f) waiting n (was w) k (is w) ⌝ }
 {
     if waiting {
         let left = engine_fields::by_itself(reasons::RUNS_LEFT);
@@ -134,7 +135,7 @@ pub fn verdict(
     unknowns: &mut [u32; 2000],
     incompletes: &mut [u32; 200],
 ) -> Judgement
-    ensures { λ r. ⌜ Judged (now (f .entry)) (now (x .entry)) (now (starts .entry)) shared (now (a .entry)) s r (now (told .entry)) (now (violated .exit)) (now (unknowns .exit)) (now (incompletes .exit)) ⌝ }
+    ensures { λ r. ⌜ Judged (was f) (was x) (was starts) shared (was a) s r (was told) (is violated) (is unknowns) (is incompletes) ⌝ }
 {
     let none = [0u64; 256];
     *violated = none;
@@ -184,7 +185,7 @@ pub fn refused_judgement(
     unknowns: &mut [u32; 2000],
     incompletes: &mut [u32; 200],
 ) -> Judgement
-    ensures { λ r. ⌜ result-of r (now (violated .exit)) (now (unknowns .exit)) (now (incompletes .exit)) (now (reasons .exit)) ≡ no-check number ⌝ }
+    ensures { λ r. ⌜ result-of r (is violated) (is unknowns) (is incompletes) (is reasons) ≡ no-check number ⌝ }
 {
     let simulation = engine_summary::refused_summary(number, reasons);
     *violated = [0u64; 256];
@@ -207,7 +208,7 @@ pub fn settled(
     unknowns: &mut [u32; 2000],
     incompletes: &mut [u32; 200],
 ) -> Judgement
-    ensures { λ r. ⌜ Answered (result-of j (now (violated .entry)) (now (unknowns .entry)) (now (incompletes .entry)) (now (reasons .entry))) (result-of r (now (violated .exit)) (now (unknowns .exit)) (now (incompletes .exit)) (now (reasons .exit))) ⌝ }
+    ensures { λ r. ⌜ Answered (result-of j (was violated) (was unknowns) (was incompletes) (was reasons)) (result-of r (is violated) (is unknowns) (is incompletes) (is reasons)) ⌝ }
 {
     let s = j.simulation;
     if s.refused != 0 {
@@ -225,7 +226,7 @@ pub fn with_lists(
     unknown: &[u32; 2000],
     incomplete: &[u32; 200],
 ) -> CheckResult
-    ensures { λ r. ⌜ r ≡ result-of j (now (violations .entry)) (now (unknown .entry)) (now (incomplete .entry)) (now (reasons .entry)) ⌝ }
+    ensures { λ r. ⌜ r ≡ result-of j (was violations) (was unknown) (was incomplete) (was reasons) ⌝ }
 {
     let status = j.status;
     let s = j.simulation;

@@ -3,6 +3,7 @@
 use checker_result::Judgement;
 use checker_result::Shared;
 use checker_result::Status;
+ghost use Rattle.notation.specs.Reference.{was, is};
 ghost use mathlib.Core.Path.{_≡_};
 ghost use Prim.Native.Nat.{_*_, _≤_};
 ghost use lib.ListN.{length};
@@ -50,7 +51,7 @@ fn check_part(
     incompletes: &mut [u32; 200],
 ) -> Judgement
     requires { ⌜ n * 4 ≤ length (now events) ⌝ }
-    ensures { λ r. ⌜ Parted (now (file .entry)) (now (starts .entry)) (shared .invariants) (ground (now (table .entry)) (shared .cells) (shared .notes) (now (notes .entry))) (now (events .entry)) n (result-of r (now (violated .exit)) (now (unknowns .exit)) (now (incompletes .exit)) (now (reasons .exit))) (length (now (queue .entry))) (length (now (records .entry))) (length (now (runs .entry))) ⌝ }
+    ensures { λ r. ⌜ Parted (was file) (was starts) (shared .invariants) (ground (was table) (shared .cells) (shared .notes) (was notes)) (was events) n (result-of r (is violated) (is unknowns) (is incompletes) (is reasons)) (length (was queue)) (length (was records)) (length (was runs)) ⌝ }
 {
     let items = part(queue.len(), 640);
     let lines = part(records.len(), 3328);
@@ -90,7 +91,7 @@ pub fn check_case(
     incompletes: &mut [u32; 200],
 ) -> Judgement
     requires { ⌜ n * 4 ≤ length (now events) ⌝ }
-    ensures { λ r. ⌜ Cased (now (file .entry)) (now (starts .entry)) (shared .invariants) (ground (now (table .entry)) (shared .cells) (shared .notes) (now (notes .entry))) (now (events .entry)) n (result-of r (now (violated .exit)) (now (unknowns .exit)) (now (incompletes .exit)) (now (reasons .exit))) (length (now (queue .entry))) (length (now (records .entry))) (length (now (runs .entry))) ⌝ }
+    ensures { λ r. ⌜ Cased (was file) (was starts) (shared .invariants) (ground (was table) (shared .cells) (shared .notes) (was notes)) (was events) n (result-of r (is violated) (is unknowns) (is incompletes) (is reasons)) (length (was queue)) (length (was records)) (length (was runs)) ⌝ }
 {
     let c = check_part(
         file,

@@ -5,6 +5,7 @@ use model_index::Index;
 use model_index::Status;
 use model_parts::Extent;
 use model_parts::Section;
+ghost use Rattle.notation.specs.Reference.{was};
 ghost use mathlib.Core.Path.{_≡_};
 ghost use Prim.Native.Nat.{_≤_, _<_, _+_};
 ghost use lib.ListN.{length};
@@ -42,7 +43,7 @@ pub struct Touched {
 
 fn rule_sets(s: &[u8], entities: Section, rules: Section) -> Touched
     requires { ⌜ (entities .count ≤ 32) × (rules .count ≤ 32) ⌝ }
-    ensures { λ r. ⌜ Touches (now (s .entry)) entities rules r ⌝ }
+    ensures { λ r. ⌜ Touches (was s) entities rules r ⌝ }
 {
     let n = rules.count as usize;
     let many = entities.count;
@@ -64,7 +65,7 @@ fn rule_sets(s: &[u8], entities: Section, rules: Section) -> Touched
 // The cone of an accepted model.
 fn coned(s: &[u8], index: Index) -> ConeResult
     requires { ⌜ Bounds index ⌝ }
-    ensures { λ r. ⌜ Tells (now (s .entry)) index r ⌝ }
+    ensures { λ r. ⌜ Tells (was s) index r ⌝ }
 {
     let entities = index.entities;
     let invariants = index.invariants;
@@ -105,7 +106,7 @@ fn coned(s: &[u8], index: Index) -> ConeResult
 
 // The cone of a model file.
 pub fn cone(file: &[u8]) -> ConeResult
-    ensures { λ r. ⌜ Answers (now (file .entry)) r ⌝ }
+    ensures { λ r. ⌜ Answers (was file) r ⌝ }
 {
     let x = model_validate::accept(file);
     let status = x.status;

@@ -1,6 +1,7 @@
 // What the cone is closed over: the declared entities that invariants name, and those that an automation reads or
 // toggles, as sets of their numbers in the file.
 use model_parts::Section;
+ghost use Rattle.notation.specs.Reference.{was};
 ghost use mathlib.Core.Path.{_≡_};
 ghost use Prim.Native.Nat.{_≤_, _<_, _+_};
 ghost use Rattle.lint_walk.specs.Walks.{walkBy};
@@ -12,7 +13,7 @@ ghost use Rattle.cone_sets.specs.Sets.{add-namedM, namedM, add-toggleM, 
 // What the invariant at a position names.
 fn add_named(s: &[u8], entities: &[usize; 100], many: u32, set: u32, at: usize) -> u32
     requires { ⌜ many ≤ 32 ⌝ }
-    ensures { λ r. ⌜ r ≡ add-namedM (now (s .entry)) (sectionBy (now (entities .entry)) many) at set ⌝ }
+    ensures { λ r. ⌜ r ≡ add-namedM (was s) (sectionBy (was entities) many) at set ⌝ }
 {
     let kind = lint_walk::byte_at(s, at);
     let p = lint_walk::past(s, at, 3);
@@ -33,7 +34,7 @@ fn add_named(s: &[u8], entities: &[usize; 100], many: u32, set: u32, at: usize) 
 // What all invariants name.
 pub fn named(s: &[u8], entities: &[usize; 100], many: u32, invariants: Section) -> u32
     requires { ⌜ (many ≤ 32) × (invariants .count ≤ 32) ⌝ }
-    ensures { λ r. ⌜ r ≡ namedM (now (s .entry)) (sectionBy (now (entities .entry)) many) invariants ⌝ }
+    ensures { λ r. ⌜ r ≡ namedM (was s) (sectionBy (was entities) many) invariants ⌝ }
 {
     let count = invariants.count as usize;
     let mut set: u32 = 0;
@@ -50,7 +51,7 @@ pub fn named(s: &[u8], entities: &[usize; 100], many: u32, invariants: Section) 
 // A toggle's entity.
 fn add_toggle(s: &[u8], entities: &[usize; 100], many: u32, set: u32, at: usize) -> u32
     requires { ⌜ many ≤ 32 ⌝ }
-    ensures { λ r. ⌜ r ≡ add-toggleM (now (s .entry)) (sectionBy (now (entities .entry)) many) at set ⌝ }
+    ensures { λ r. ⌜ r ≡ add-toggleM (was s) (sectionBy (was entities) many) at set ⌝ }
 {
     if lint_walk::kind_at(s, at) == 1 {
         let place = lint_walk::place_at(s, lint_walk::past(s, at, 9));
@@ -69,7 +70,7 @@ pub fn needs(
     count: usize,
 ) -> u32
     requires { ⌜ (many ≤ 32) × (count ≤ 512) ⌝ }
-    ensures { λ r. ⌜ r ≡ needsM (now (s .entry)) (sectionBy (now (entities .entry)) many) at (walkBy (now (list .entry)) count) ⌝ }
+    ensures { λ r. ⌜ r ≡ needsM (was s) (sectionBy (was entities) many) at (walkBy (was list) count) ⌝ }
 {
     let mut set = lint_access::reads(s, entities, many, at, list, count);
     let mut k: usize = 0;

@@ -23,10 +23,11 @@ use runs::Phase;
 use runs::Run;
 use runs::Source;
 use runs::Wait;
+ghost use Rattle.notation.specs.Reference.{was, is};
 ghost use mathlib.Core.Path.{_≡_};
 ghost use Prim.Native.Nat.{_<_};
 ghost use Rattle.reasons.specs.Kinds.{OneText};
-ghost use Rattle.engine_state.specs.Steps.{Moves, Does, goes, kept, told, still, Fits-qa, Fits-qar, Fits-qau, Fits};
+ghost use Rattle.engine_state.specs.Steps.{Moves, Does, goes, kept, told, still, Fits-qa, Fits-qar, Fits-qau, Fits, by};
 ghost use Rattle.engine_actions.specs.Acts.{writtenM, setM, toggledM, flipM, delayM, unclearM, testedM, conditionM, take-listM, chooseM, begin-waitM, give-upM};
 
 fn write(
@@ -42,7 +43,7 @@ fn write(
     value: u32,
 ) -> State
     requires { ⌜ Fits-qa st (now q) (now a) ⌝ }
-    ensures { λ t. ⌜ Moves (writtenM (now (x .entry)) run s entity value) st t (goes (now (q .entry)) (now (q .exit))) (goes (now (a .entry)) (now (a .exit))) kept still (goes (now (values .entry)) (now (values .exit))) (goes (now (versions .entry)) (now (versions .exit))) kept ⌝ }
+    ensures { λ t. ⌜ Moves (writtenM (was x) run s entity value) st t (by q) (by a) kept still (by values) (by versions) kept ⌝ }
 {
     let rule = Rule::Of(run.automation);
     let source = Where::From {
@@ -72,14 +73,14 @@ pub fn set(
     value: u32,
 ) -> State
     requires { ⌜ Fits-qa st (now q) (now a) ⌝ }
-    ensures { λ t. ⌜ Moves (setM (now (x .entry)) run s entity value) st t (goes (now (q .entry)) (now (q .exit))) (goes (now (a .entry)) (now (a .exit))) kept still (goes (now (values .entry)) (now (values .exit))) (goes (now (versions .entry)) (now (versions .exit))) kept ⌝ }
+    ensures { λ t. ⌜ Moves (setM (was x) run s entity value) st t (by q) (by a) kept still (by values) (by versions) kept ⌝ }
 {
     let s1 = write(x, q, a, values, versions, st, run, s, entity, value);
     next_step(q, s1, run, s1.now)
 }
 
 fn toggled(x: &[u32; 436], v: u32) -> u32
-    ensures { λ r. ⌜ r ≡ toggledM (now (x .entry)) v ⌝ }
+    ensures { λ r. ⌜ r ≡ toggledM (was x) v ⌝ }
 {
     if v == x[4] {
         return x[5];
@@ -101,7 +102,7 @@ pub fn flip(
     entity: u32,
 ) -> State
     requires { ⌜ Fits-qau st (now q) (now a) (now u) ⌝ }
-    ensures { λ t. ⌜ Moves (flipM (now (f .entry)) (now (x .entry)) run s entity) st t (goes (now (q .entry)) (now (q .exit))) (goes (now (a .entry)) (now (a .exit))) kept (told (now (f .entry)) (now (u .entry)) (now (u .exit))) (goes (now (values .entry)) (now (values .exit))) (goes (now (versions .entry)) (now (versions .exit))) kept ⌝ }
+    ensures { λ t. ⌜ Moves (flipM (was f) (was x) run s entity) st t (by q) (by a) kept (told (was f) (was u) (is u)) (by values) (by versions) kept ⌝ }
 {
     let e = entity_of(x, entity);
     if 31 < e {
@@ -120,7 +121,7 @@ pub fn flip(
 
 pub fn delay(q: &mut [u32], a: &mut [u32], st: State, run: Run, s: Source, seconds: u32) -> State
     requires { ⌜ Fits-qa st (now q) (now a) ⌝ }
-    ensures { λ t. ⌜ Does (delayM run s seconds) st t (goes (now (q .entry)) (now (q .exit))) (goes (now (a .entry)) (now (a .exit))) kept still ⌝ }
+    ensures { λ t. ⌜ Does (delayM run s seconds) st t (by q) (by a) kept still ⌝ }
 {
     let s1 = log_action(a, st, 15, seconds, s, run);
     let second = after(s1.now, seconds);
@@ -141,7 +142,7 @@ fn unclear(
     kind: u32,
 ) -> State
     requires { ⌜ OneText kind × ((k < st .active) × Fits st (now q) (now a) (now r) (now u)) ⌝ }
-    ensures { λ t. ⌜ Does (unclearM (now (f .entry)) (now (x .entry)) k run kind) st t (goes (now (q .entry)) (now (q .exit))) (goes (now (a .entry)) (now (a .exit))) (goes (now (r .entry)) (now (r .exit))) (told (now (f .entry)) (now (u .entry)) (now (u .exit))) ⌝ }
+    ensures { λ t. ⌜ Does (unclearM (was f) (was x) k run kind) st t (by q) (by a) (by r) (told (was f) (was u) (is u)) ⌝ }
 {
     let i = at_most(run.automation, 31);
     let why = about_rule(f, x, i, kind);
@@ -162,7 +163,7 @@ fn tested(
     verdict: Truth,
 ) -> State
     requires { ⌜ (k < st .active) × Fits st (now q) (now a) (now r) (now u) ⌝ }
-    ensures { λ t. ⌜ Does (testedM (now (f .entry)) (now (x .entry)) k run verdict) st t (goes (now (q .entry)) (now (q .exit))) (goes (now (a .entry)) (now (a .exit))) (goes (now (r .entry)) (now (r .exit))) (told (now (f .entry)) (now (u .entry)) (now (u .exit))) ⌝ }
+    ensures { λ t. ⌜ Does (testedM (was f) (was x) k run verdict) st t (by q) (by a) (by r) (told (was f) (was u) (is u)) ⌝ }
 {
     match verdict {
         Truth::Yes => next_step(q, st, run, st.now),
@@ -186,7 +187,7 @@ pub fn condition(
     at: u32,
 ) -> State
     requires { ⌜ (k < st .active) × Fits st (now q) (now a) (now r) (now u) ⌝ }
-    ensures { λ t. ⌜ Moves (conditionM (now (f .entry)) (now (x .entry)) k run s at) st t (goes (now (q .entry)) (now (q .exit))) (goes (now (a .entry)) (now (a .exit))) (goes (now (r .entry)) (now (r .exit))) (told (now (f .entry)) (now (u .entry)) (now (u .exit))) (goes (now (values .entry)) (now (values .entry))) kept kept ⌝ }
+    ensures { λ t. ⌜ Moves (conditionM (was f) (was x) k run s at) st t (by q) (by a) (by r) (told (was f) (was u) (is u)) (goes (was values) (was values)) kept kept ⌝ }
 {
     let t = engine_evaluate::evaluate(f, x, values, st.now, at);
     let detail = engine_evaluate::number_of(t);
@@ -206,7 +207,7 @@ fn take_list(
     at: u32,
 ) -> State
     requires { ⌜ (k < st .active) × Fits-qar st (now q) (now a) (now r) ⌝ }
-    ensures { λ t. ⌜ Does (take-listM (now (f .entry)) k run s at) st t (goes (now (q .entry)) (now (q .exit))) (goes (now (a .entry)) (now (a .exit))) (goes (now (r .entry)) (now (r .exit))) still ⌝ }
+    ensures { λ t. ⌜ Does (take-listM (was f) k run s at) st t (by q) (by a) (by r) still ⌝ }
 {
     let longer = engine_evaluate::with_list(f, run, at);
     runs::put_run(r, k, longer);
@@ -229,7 +230,7 @@ pub fn choose(
     at: u32,
 ) -> State
     requires { ⌜ (k < st .active) × Fits st (now q) (now a) (now r) (now u) ⌝ }
-    ensures { λ t. ⌜ Moves (chooseM (now (f .entry)) (now (x .entry)) k run s at) st t (goes (now (q .entry)) (now (q .exit))) (goes (now (a .entry)) (now (a .exit))) (goes (now (r .entry)) (now (r .exit))) (told (now (f .entry)) (now (u .entry)) (now (u .exit))) (goes (now (values .entry)) (now (values .entry))) kept kept ⌝ }
+    ensures { λ t. ⌜ Moves (chooseM (was f) (was x) k run s at) st t (by q) (by a) (by r) (told (was f) (was u) (is u)) (goes (was values) (was values)) kept kept ⌝ }
 {
     let b = engine_evaluate::select(f, x, values, st.now, at);
     match b {
@@ -252,7 +253,7 @@ pub fn begin_wait(
     at: u32,
 ) -> State
     requires { ⌜ (k < st .active) × Fits st (now q) (now a) (now r) (now u) ⌝ }
-    ensures { λ t. ⌜ Does (begin-waitM (now (f .entry)) k run s at) st t (goes (now (q .entry)) (now (q .exit))) (goes (now (a .entry)) (now (a .exit))) (goes (now (r .entry)) (now (r .exit))) (told (now (f .entry)) (now (u .entry)) (now (u .exit))) ⌝ }
+    ensures { λ t. ⌜ Does (begin-waitM (was f) k run s at) st t (by q) (by a) (by r) (told (was f) (was u) (is u)) ⌝ }
 {
     if two_at(f, at as usize + 14) != 65535 {
         let why = engine_fields::by_itself(reasons::WAIT);
@@ -291,7 +292,7 @@ pub fn give_up(
     reason: u32,
 ) -> State
     requires { ⌜ (k < st .active) × Fits st (now q) (now a) (now r) (now u) ⌝ }
-    ensures { λ t. ⌜ Does (give-upM (now (f .entry)) k run s reason) st t (goes (now (q .entry)) (now (q .exit))) (goes (now (a .entry)) (now (a .exit))) (goes (now (r .entry)) (now (r .exit))) (told (now (f .entry)) (now (u .entry)) (now (u .exit))) ⌝ }
+    ensures { λ t. ⌜ Does (give-upM (was f) k run s reason) st t (by q) (by a) (by r) (told (was f) (was u) (is u)) ⌝ }
 {
     let why = engine_fields::note_reason(f, reason);
     let s1 = uncertain(f, u, st, why);

@@ -19,9 +19,10 @@ use runs::Found;
 use runs::Phase;
 use runs::Run;
 use runs::Source;
+ghost use Rattle.notation.specs.Reference.{was, is};
 ghost use mathlib.Core.Path.{_≡_};
 ghost use Prim.Native.Nat.{_<_};
-ghost use Rattle.engine_state.specs.Steps.{Moves, goes, kept, told, Fits};
+ghost use Rattle.engine_state.specs.Steps.{Moves, kept, told, Fits, by};
 ghost use Rattle.engine_actions.specs.Acts.{performM, go-onM, goingM, resumeM};
 ghost use Rattle.engine_dispatch.specs.Process.{processM};
 
@@ -41,7 +42,7 @@ fn perform(
     e: Effect,
 ) -> State
     requires { ⌜ (k < st .active) × Fits st (now q) (now a) (now r) (now u) ⌝ }
-    ensures { λ t. ⌜ Moves (performM (now (f .entry)) (now (x .entry)) k run s e) st t (goes (now (q .entry)) (now (q .exit))) (goes (now (a .entry)) (now (a .exit))) (goes (now (r .entry)) (now (r .exit))) (told (now (f .entry)) (now (u .entry)) (now (u .exit))) (goes (now (values .entry)) (now (values .exit))) (goes (now (versions .entry)) (now (versions .exit))) kept ⌝ }
+    ensures { λ t. ⌜ Moves (performM (was f) (was x) k run s e) st t (by q) (by a) (by r) (told (was f) (was u) (is u)) (by values) (by versions) kept ⌝ }
 {
     match e {
         Effect::Set { entity, value } => {
@@ -70,7 +71,7 @@ fn go_on(
     k: usize,
 ) -> State
     requires { ⌜ (k < st .active) × Fits st (now q) (now a) (now r) (now u) ⌝ }
-    ensures { λ t. ⌜ Moves (go-onM (now (f .entry)) (now (x .entry)) k) st t (goes (now (q .entry)) (now (q .exit))) (goes (now (a .entry)) (now (a .exit))) (goes (now (r .entry)) (now (r .exit))) (told (now (f .entry)) (now (u .entry)) (now (u .exit))) (goes (now (values .entry)) (now (values .exit))) (goes (now (versions .entry)) (now (versions .exit))) kept ⌝ }
+    ensures { λ t. ⌜ Moves (go-onM (was f) (was x) k) st t (by q) (by a) (by r) (told (was f) (was u) (is u)) (by values) (by versions) kept ⌝ }
 {
     let run = runs::run_at(r, k);
     if run.depth == 0 {
@@ -127,7 +128,7 @@ fn resume(
     sequence: u32,
 ) -> State
     requires { ⌜ Fits st (now q) (now a) (now r) (now u) ⌝ }
-    ensures { λ t. ⌜ Moves (resumeM (now (f .entry)) (now (x .entry)) automation sequence) st t (goes (now (q .entry)) (now (q .exit))) (goes (now (a .entry)) (now (a .exit))) (goes (now (r .entry)) (now (r .exit))) (told (now (f .entry)) (now (u .entry)) (now (u .exit))) (goes (now (values .entry)) (now (values .exit))) (goes (now (versions .entry)) (now (versions .exit))) kept ⌝ }
+    ensures { λ t. ⌜ Moves (resumeM (was f) (was x) automation sequence) st t (by q) (by a) (by r) (told (was f) (was u) (is u)) (by values) (by versions) kept ⌝ }
 {
     let found = runs::find_run(r, st.active, automation, sequence);
     let Found::At(k) = found else {
@@ -155,7 +156,7 @@ pub fn process(
     work: Work,
 ) -> State
     requires { ⌜ Fits st (now q) (now a) (now r) (now u) ⌝ }
-    ensures { λ t. ⌜ Moves (processM (now (f .entry)) (now (x .entry)) work) st t (goes (now (q .entry)) (now (q .exit))) (goes (now (a .entry)) (now (a .exit))) (goes (now (r .entry)) (now (r .exit))) (told (now (f .entry)) (now (u .entry)) (now (u .exit))) (goes (now (values .entry)) (now (values .exit))) (goes (now (versions .entry)) (now (versions .exit))) (goes (now (sequences .entry)) (now (sequences .exit))) ⌝ }
+    ensures { λ t. ⌜ Moves (processM (was f) (was x) work) st t (by q) (by a) (by r) (told (was f) (was u) (is u)) (by values) (by versions) (by sequences) ⌝ }
 {
     match work {
         Work::Set { entity, value } => external(x, q, a, values, versions, st, entity, value),

@@ -4,6 +4,7 @@ use engine_summary::Simulation;
 use engine_summary::Summary;
 use model_index::Index;
 use model_index::Status;
+ghost use Rattle.notation.specs.Reference.{was, is};
 ghost use mathlib.Core.Path.{_≡_};
 ghost use Prim.Native.Nat.{_*_, _≤_};
 ghost use lib.ListN.{length};
@@ -23,7 +24,7 @@ pub struct Base {
 
 // The reasons of the notes go to `reasons`, five words each.
 pub fn prepared(file: &[u8], index: Index, reasons: &mut [u32; 1500]) -> Base
-    ensures { λ b. ⌜ Grounds (now (file .entry)) index (ground (b .table) (b .cells) (b .count) (now (reasons .exit))) ⌝ }
+    ensures { λ b. ⌜ Grounds (was file) index (ground (b .table) (b .cells) (b .count) (is reasons)) ⌝ }
 {
     let t = engine_table::table_of(file, index);
     let table = t.words;
@@ -58,7 +59,7 @@ fn refused_notes(number: u32) -> Notes
 
 // The notes of a model's automations as reasons, sorted as rendered, each once.
 pub fn unsupported(file: &[u8]) -> Notes
-    ensures { λ r. ⌜ NotesSay (now (file .entry)) r (unsupported-of (now (file .entry))) ⌝ }
+    ensures { λ r. ⌜ NotesSay (was file) r (unsupported-of (was file)) ⌝ }
 {
     let x = model_validate::accept(file);
     let status = x.status;
@@ -93,7 +94,7 @@ pub fn run_events(
     reasons: &mut [u32; 1500],
 ) -> Summary
     requires { ⌜ n * 4 ≤ length (now events) ⌝ }
-    ensures { λ s. ⌜ Ran (now (file .entry)) (ground (now (table .entry)) cells notes (now (reasons .entry))) (now (events .entry)) n (simulation-of s (now (reasons .exit))) (now (queue .entry)) (now (queue .exit)) (now (records .entry)) (now (records .exit)) (now (runs .entry)) (now (runs .exit)) ⌝ }
+    ensures { λ s. ⌜ Ran (was file) (ground (was table) cells notes (was reasons)) (was events) n (simulation-of s (is reasons)) (was queue) (is queue) (was records) (is records) (was runs) (is runs) ⌝ }
 {
     let count = engine_summary::few(notes);
     let s = engine_run::simulated(
@@ -121,7 +122,7 @@ fn run(
     runs: &mut [u32],
     reasons: &mut [u32; 1500],
 ) -> Summary
-    ensures { λ s. ⌜ RunsAs (now (file .entry)) index (simulation-of s (now (reasons .exit))) (lent (now (queue .entry)) (now (records .entry)) (now (runs .entry))) (lent (now (queue .exit)) (now (records .exit)) (now (runs .exit))) ⌝ }
+    ensures { λ s. ⌜ RunsAs (was file) index (simulation-of s (is reasons)) (lent (was queue) (was records) (was runs)) (lent (is queue) (is records) (is runs)) ⌝ }
 {
     let b = prepared(file, index, reasons);
     let table = b.table;
@@ -152,7 +153,7 @@ pub fn simulate_lent(
     runs: &mut [u32],
     reasons: &mut [u32; 1500],
 ) -> Summary
-    ensures { λ s. ⌜ Simulates (now (file .entry)) (simulation-of s (now (reasons .exit))) (lent (now (queue .entry)) (now (records .entry)) (now (runs .entry))) (lent (now (queue .exit)) (now (records .exit)) (now (runs .exit))) ⌝ }
+    ensures { λ s. ⌜ Simulates (was file) (simulation-of s (is reasons)) (lent (was queue) (was records) (was runs)) (lent (is queue) (is records) (is runs)) ⌝ }
 {
     let x = model_validate::accept(file);
     let status = x.status;
@@ -164,7 +165,7 @@ pub fn simulate_lent(
 
 // The simulation of a model file, with lent areas of any size.
 pub fn simulate(file: &[u8], queue: &mut [u32], records: &mut [u32], runs: &mut [u32]) -> Simulation
-    ensures { λ s. ⌜ Simulates (now (file .entry)) s (lent (now (queue .entry)) (now (records .entry)) (now (runs .entry))) (lent (now (queue .exit)) (now (records .exit)) (now (runs .exit))) ⌝ }
+    ensures { λ s. ⌜ Simulates (was file) s (lent (was queue) (was records) (was runs)) (lent (is queue) (is records) (is runs)) ⌝ }
 {
     let mut reasons = [0u32; 1500];
     let s = simulate_lent(file, queue, records, runs, &mut reasons);

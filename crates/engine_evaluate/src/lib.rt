@@ -9,6 +9,7 @@ use model_walk::Walked;
 use runs::Place;
 use runs::Run;
 use runs::Source;
+ghost use Rattle.notation.specs.Reference.{was};
 ghost use mathlib.Core.Path.{_≡_};
 ghost use Prim.Native.Nat.{_+_, _*_, _≤_, _<_};
 ghost use lib.ListN.{getD};
@@ -54,7 +55,7 @@ fn both(a: Truth, b: Truth) -> Truth
 
 // Whether a value is `unknown` or `unavailable`.
 pub fn undecided(x: &[u32; 436], v: u32) -> bool
-    ensures { λ r. ⌜ r ≡ undecidedM (now (x .entry)) v ⌝ }
+    ensures { λ r. ⌜ r ≡ undecidedM (was x) v ⌝ }
 {
     if v == x[6] {
         return true;
@@ -63,7 +64,7 @@ pub fn undecided(x: &[u32; 436], v: u32) -> bool
 }
 
 fn against(x: &[u32; 436], present: u32, v: u32) -> Truth
-    ensures { λ r. ⌜ r ≡ againstM (now (x .entry)) present v ⌝ }
+    ensures { λ r. ⌜ r ≡ againstM (was x) present v ⌝ }
 {
     if present == v {
         return Truth::Yes;
@@ -76,7 +77,7 @@ fn against(x: &[u32; 436], present: u32, v: u32) -> Truth
 
 // The predicate at a position, at a second.
 pub fn evaluate(f: &[u8], x: &[u32; 436], values: &[u32; 32], second: u32, at: u32) -> Truth
-    ensures { λ r. ⌜ r ≡ evaluateM (now (f .entry)) (now (x .entry)) (now (values .entry)) second at ⌝ }
+    ensures { λ r. ⌜ r ≡ evaluateM (was f) (was x) (was values) second at ⌝ }
 {
     let kind = byte_at(f, at as usize);
     if kind == 1 {
@@ -98,14 +99,14 @@ pub fn evaluate(f: &[u8], x: &[u32; 436], values: &[u32; 32], second: u32, at: u
 
 // How many bytes it has.
 pub fn predicate_size(f: &[u8], at: u32) -> u32
-    ensures { λ r. ⌜ r ≡ sizeM (now (f .entry)) at ⌝ }
+    ensures { λ r. ⌜ r ≡ sizeM (was f) at ⌝ }
 {
     model_walk::predicate_size(byte_at(f, at as usize))
 }
 
 // The predicates in the list at a position.
 pub fn evaluate_all(f: &[u8], x: &[u32; 436], values: &[u32; 32], second: u32, at: u32) -> Judged
-    ensures { λ r. ⌜ r ≡ allM (now (f .entry)) (now (x .entry)) (now (values .entry)) second at ⌝ }
+    ensures { λ r. ⌜ r ≡ allM (was f) (was x) (was values) second at ⌝ }
 {
     let mut left = two_at(f, at as usize);
     let mut p = after(at, 2);
@@ -130,7 +131,7 @@ fn admits(p: u32, v: u32) -> bool
 
 // Whether the trigger at a position is set off by a change.
 pub fn matches(f: &[u8], at: u32, m: Move) -> bool
-    ensures { λ r. ⌜ r ≡ matchesM (now (f .entry)) m at ⌝ }
+    ensures { λ r. ⌜ r ≡ matchesM (was f) m at ⌝ }
 {
     if two_at(f, at as usize + 14) != 65535 {
         return false;
@@ -149,7 +150,7 @@ pub fn matches(f: &[u8], at: u32, m: Move) -> bool
 
 // Whether one of the triggers in the list at a position is.
 pub fn any_matches(f: &[u8], at: u32, m: Move) -> bool
-    ensures { λ r. ⌜ r ≡ anyM (now (f .entry)) m at ⌝ }
+    ensures { λ r. ⌜ r ≡ anyM (was f) m at ⌝ }
 {
     let mut left = two_at(f, at as usize);
     let mut p = after(at, 2);
@@ -181,7 +182,7 @@ pub enum Branch {
 }
 
 fn branch_at(f: &[u8], x: &[u32; 436], values: &[u32; 32], second: u32, at: u32) -> Branch
-    ensures { λ r. ⌜ r ≡ branchM (now (f .entry)) (now (x .entry)) (now (values .entry)) second at ⌝ }
+    ensures { λ r. ⌜ r ≡ branchM (was f) (was x) (was values) second at ⌝ }
 {
     let judged = evaluate_all(f, x, values, second, at);
     let t = judged.truth;
@@ -198,7 +199,7 @@ fn branch_at(f: &[u8], x: &[u32; 436], values: &[u32; 32], second: u32, at: u32)
 
 // The list that the choice at a position takes.
 pub fn select(f: &[u8], x: &[u32; 436], values: &[u32; 32], second: u32, at: u32) -> Branch
-    ensures { λ r. ⌜ r ≡ selectM (now (f .entry)) (now (x .entry)) (now (values .entry)) second at ⌝ }
+    ensures { λ r. ⌜ r ≡ selectM (was f) (was x) (was values) second at ⌝ }
 {
     let mut left = two_at(f, at as usize);
     let mut p = after(at, 2);
@@ -239,7 +240,7 @@ pub struct Action {
 }
 
 fn effect_at(f: &[u8], kind: u32, at: u32) -> Effect
-    ensures { λ r. ⌜ r ≡ effectM (now (f .entry)) kind at ⌝ }
+    ensures { λ r. ⌜ r ≡ effectM (was f) kind at ⌝ }
 {
     if kind == 0 {
         return Effect::Set {
@@ -273,7 +274,7 @@ fn effect_at(f: &[u8], kind: u32, at: u32) -> Effect
 
 // The position after an effect of this kind.
 fn after_effect(f: &[u8], x: &[u32; 436], kind: u32, at: u32) -> u32
-    ensures { λ r. ⌜ r ≡ afterM (now (f .entry)) (now (x .entry)) kind at ⌝ }
+    ensures { λ r. ⌜ r ≡ afterM (was f) (was x) kind at ⌝ }
 {
     if kind == 1 {
         return after(at, 2);
@@ -296,7 +297,7 @@ fn after_effect(f: &[u8], x: &[u32; 436], kind: u32, at: u32) -> u32
 
 // The action at a position.
 pub fn action_at(f: &[u8], x: &[u32; 436], at: u32) -> Action
-    ensures { λ r. ⌜ r ≡ actionM (now (f .entry)) (now (x .entry)) at ⌝ }
+    ensures { λ r. ⌜ r ≡ actionM (was f) (was x) at ⌝ }
 {
     let kind = byte_at(f, at as usize + 8);
     let p = after(at, 9);
@@ -314,7 +315,7 @@ pub fn action_at(f: &[u8], x: &[u32; 436], at: u32) -> Action
 
 // The list at a position is what the run does next.
 pub fn with_list(f: &[u8], run: Run, at: u32) -> Run
-    ensures { λ r. ⌜ r ≡ listM (now (f .entry)) run at ⌝ }
+    ensures { λ r. ⌜ r ≡ listM (was f) run at ⌝ }
 {
     let left = two_at(f, at as usize);
     let mut r = run;

@@ -5,6 +5,7 @@
 // An automation: 0 id, 1 mode, 2 max, and the positions of 3 triggers, 4 conditions, 5 actions, 6 source, 7 notes.
 use reasons::Reason;
 use runs::Place;
+ghost use Rattle.notation.specs.Reference.{was};
 ghost use mathlib.Core.Path.{_≡_};
 ghost use Prim.Native.Nat.{_+_, _*_, _≤_, _<_};
 ghost use lib.ListN.{getD};
@@ -14,13 +15,13 @@ ghost use Rattle.engine_fields.specs.Reads.{two, four, cap, atMost, name
 
 // The byte at a position, 0 past the end.
 pub fn byte_at(f: &[u8], at: usize) -> u32
-    ensures { λ r. ⌜ (r ≡ getD (now (f .entry)) at 0) × (r < 256) ⌝ }
+    ensures { λ r. ⌜ (r ≡ getD (was f) at 0) × (r < 256) ⌝ }
 {
     texts::length_byte(f, at) as u32
 }
 
 pub fn two_at(f: &[u8], at: usize) -> u32
-    ensures { λ r. ⌜ (r ≡ two (now (f .entry)) at) × (r < 65536) ⌝ }
+    ensures { λ r. ⌜ (r ≡ two (was f) at) × (r < 65536) ⌝ }
 {
     if at < f.len() {
         return byte_at(f, at) + 256 * byte_at(f, at + 1);
@@ -29,7 +30,7 @@ pub fn two_at(f: &[u8], at: usize) -> u32
 }
 
 pub fn four_at(f: &[u8], at: usize) -> u32
-    ensures { λ r. ⌜ r ≡ four (now (f .entry)) at ⌝ }
+    ensures { λ r. ⌜ r ≡ four (was f) at ⌝ }
 {
     if f.len() < 2 {
         return two_at(f, at);
@@ -78,7 +79,7 @@ pub fn at_most(n: u32, most: usize) -> usize
 // The name of an entity.
 pub fn name_of(x: &[u32; 436], e: usize) -> u32
     requires { ⌜ e < 32 ⌝ }
-    ensures { λ r. ⌜ r ≡ name (now (x .entry)) e ⌝ }
+    ensures { λ r. ⌜ r ≡ name (was x) e ⌝ }
 {
     x[16 + e]
 }
@@ -86,7 +87,7 @@ pub fn name_of(x: &[u32; 436], e: usize) -> u32
 // After how many seconds an entity's value is stale; 4294967295 for never.
 pub fn stale_of(x: &[u32; 436], e: usize) -> u32
     requires { ⌜ e < 32 ⌝ }
-    ensures { λ r. ⌜ r ≡ stale (now (x .entry)) e ⌝ }
+    ensures { λ r. ⌜ r ≡ stale (was x) e ⌝ }
 {
     x[48 + e]
 }
@@ -94,14 +95,14 @@ pub fn stale_of(x: &[u32; 436], e: usize) -> u32
 // A word of an automation.
 pub fn rule_word(x: &[u32; 436], i: usize, k: usize) -> u32
     requires { ⌜ (i < 32) × (k < 8) ⌝ }
-    ensures { λ r. ⌜ r ≡ word (now (x .entry)) i k ⌝ }
+    ensures { λ r. ⌜ r ≡ word (was x) i k ⌝ }
 {
     x[80 + i * 8 + k]
 }
 
 // The entity with this name, or 32.
 pub fn entity_of(x: &[u32; 436], id: u32) -> usize
-    ensures { λ r. ⌜ r ≡ entityOf (now (x .entry)) id ⌝ }
+    ensures { λ r. ⌜ r ≡ entityOf (was x) id ⌝ }
 {
     let n = at_most(x[0], 32);
     let mut e: usize = 0;
@@ -118,7 +119,7 @@ pub fn entity_of(x: &[u32; 436], id: u32) -> usize
 
 // The position of the text at a place; that of the first text for a place past the last.
 pub fn text_position(f: &[u8], place: u32) -> u32
-    ensures { λ r. ⌜ r ≡ textPosition (now (f .entry)) place ⌝ }
+    ensures { λ r. ⌜ r ≡ textPosition (was f) place ⌝ }
 {
     if place < two_at(f, 4) {
         return capped(texts::text_start(f, 6, place));
@@ -129,7 +130,7 @@ pub fn text_position(f: &[u8], place: u32) -> u32
 // A reason about an automation.
 pub fn about_rule(f: &[u8], x: &[u32; 436], i: usize, kind: u32) -> Reason
     requires { ⌜ i < 32 ⌝ }
-    ensures { λ r. ⌜ r ≡ aboutRule (now (f .entry)) (now (x .entry)) i kind ⌝ }
+    ensures { λ r. ⌜ r ≡ aboutRule (was f) (was x) i kind ⌝ }
 {
     Reason {
         kind,
@@ -154,7 +155,7 @@ pub fn by_itself(kind: u32) -> Reason
 
 // A note as a reason.
 pub fn note_reason(f: &[u8], place: u32) -> Reason
-    ensures { λ r. ⌜ r ≡ noteReason (now (f .entry)) place ⌝ }
+    ensures { λ r. ⌜ r ≡ noteReason (was f) place ⌝ }
 {
     Reason {
         kind: reasons::NOTE,

@@ -14,8 +14,9 @@ use runs::Found;
 use runs::Phase;
 use runs::Run;
 use runs::Wait;
+ghost use Rattle.notation.specs.Reference.{was};
 ghost use Prim.Native.Nat.{_<_};
-ghost use Rattle.engine_state.specs.Steps.{Moves, Does, goes, kept, still, Fits-qa, Fits-ar, Fits-qar};
+ghost use Rattle.engine_state.specs.Steps.{Moves, Does, goes, kept, still, Fits-qa, Fits-ar, Fits-qar, by};
 ghost use Rattle.engine_handlers.specs.Works.{wait-overM, time-outM, expireM, go-staleM, drop-allM, externalM};
 
 fn wait_over(
@@ -28,7 +29,7 @@ fn wait_over(
     w: Wait,
 ) -> State
     requires { ⌜ (k < st .active) × Fits-qar st (now q) (now a) (now r) ⌝ }
-    ensures { λ t. ⌜ Does (wait-overM k run w) st t (goes (now (q .entry)) (now (q .exit))) (goes (now (a .entry)) (now (a .exit))) (goes (now (r .entry)) (now (r .exit))) still ⌝ }
+    ensures { λ t. ⌜ Does (wait-overM k run w) st t (by q) (by a) (by r) still ⌝ }
 {
     if w.deadline != st.now {
         return st;
@@ -53,7 +54,7 @@ pub fn time_out(
     sequence: u32,
 ) -> State
     requires { ⌜ Fits-qar st (now q) (now a) (now r) ⌝ }
-    ensures { λ t. ⌜ Does (time-outM automation sequence) st t (goes (now (q .entry)) (now (q .exit))) (goes (now (a .entry)) (now (a .exit))) (goes (now (r .entry)) (now (r .exit))) still ⌝ }
+    ensures { λ t. ⌜ Does (time-outM automation sequence) st t (by q) (by a) (by r) still ⌝ }
 {
     let found = runs::find_run(r, st.active, automation, sequence);
     let Found::At(k) = found else {
@@ -76,7 +77,7 @@ fn expire(
     e: usize,
 ) -> State
     requires { ⌜ (e < 32) × Fits-qa st (now q) (now a) ⌝ }
-    ensures { λ t. ⌜ Moves (expireM (now (x .entry)) e) st t (goes (now (q .entry)) (now (q .exit))) (goes (now (a .entry)) (now (a .exit))) kept still (goes (now (values .entry)) (now (values .exit))) kept kept ⌝ }
+    ensures { λ t. ⌜ Moves (expireM (was x) e) st t (by q) (by a) kept still (by values) kept kept ⌝ }
 {
     let from = values[e];
     let entity = engine_fields::name_of(x, e);
@@ -105,7 +106,7 @@ pub fn go_stale(
     version: u32,
 ) -> State
     requires { ⌜ Fits-qa st (now q) (now a) ⌝ }
-    ensures { λ t. ⌜ Moves (go-staleM (now (x .entry)) entity version) st t (goes (now (q .entry)) (now (q .exit))) (goes (now (a .entry)) (now (a .exit))) kept still (goes (now (values .entry)) (now (values .exit))) (goes (now (versions .entry)) (now (versions .entry))) kept ⌝ }
+    ensures { λ t. ⌜ Moves (go-staleM (was x) entity version) st t (by q) (by a) kept still (by values) (goes (was versions) (was versions)) kept ⌝ }
 {
     let e = entity_of(x, entity);
     if 31 < e {
@@ -123,7 +124,7 @@ pub fn go_stale(
 // All runs go; behind them the area is zeros already.
 pub fn drop_all(a: &mut [u32], r: &mut [u32], st: State) -> State
     requires { ⌜ Fits-ar st (now a) (now r) ⌝ }
-    ensures { λ t. ⌜ Does (drop-allM) st t kept (goes (now (a .entry)) (now (a .exit))) (goes (now (r .entry)) (now (r .exit))) still ⌝ }
+    ensures { λ t. ⌜ Does (drop-allM) st t kept (by a) (by r) still ⌝ }
 {
     let n = st.active;
     areas::clear(r, 0, n * 28);
@@ -142,7 +143,7 @@ pub fn external(
     value: u32,
 ) -> State
     requires { ⌜ Fits-qa st (now q) (now a) ⌝ }
-    ensures { λ t. ⌜ Moves (externalM (now (x .entry)) entity value) st t (goes (now (q .entry)) (now (q .exit))) (goes (now (a .entry)) (now (a .exit))) kept still (goes (now (values .entry)) (now (values .exit))) (goes (now (versions .entry)) (now (versions .exit))) kept ⌝ }
+    ensures { λ t. ⌜ Moves (externalM (was x) entity value) st t (by q) (by a) kept still (by values) (by versions) kept ⌝ }
 {
     let w = Setting {
         entity,

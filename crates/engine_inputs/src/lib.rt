@@ -1,6 +1,7 @@
 // What a simulation begins with: the model's events as words, and the values that its entities start with.
 use engine_state::Cells;
 use model_index::Index;
+ghost use Rattle.notation.specs.Reference.{was};
 ghost use mathlib.Core.Path.{_≡_};
 ghost use Prim.Native.Nat.{_≤_, _<_};
 ghost use Rattle.engine_inputs.specs.Begin.{input-part, event-part, event-from, EventsOf, initial-at, value-from, CellsOf};
@@ -13,7 +14,7 @@ pub struct Events {
 // A word of the input at a position. Only an input that sets has places.
 pub fn input_part(s: &[u8], p: usize, j: usize) -> u32
     requires { ⌜ p ≤ 4294967299 ⌝ }
-    ensures { λ r. ⌜ r ≡ input-part (now (s .entry)) p j ⌝ }
+    ensures { λ r. ⌜ r ≡ input-part (was s) p j ⌝ }
 {
     let kind = engine_fields::byte_at(s, p);
     if j == 0 {
@@ -31,7 +32,7 @@ pub fn input_part(s: &[u8], p: usize, j: usize) -> u32
 // A word of the event at a position.
 fn event_part(s: &[u8], p: usize, j: usize) -> u32
     requires { ⌜ p ≤ 4294967295 ⌝ }
-    ensures { λ r. ⌜ r ≡ event-part (now (s .entry)) p j ⌝ }
+    ensures { λ r. ⌜ r ≡ event-part (was s) p j ⌝ }
 {
     if j == 0 {
         return engine_fields::four_at(s, p);
@@ -42,7 +43,7 @@ fn event_part(s: &[u8], p: usize, j: usize) -> u32
 // The k-th word of the events that stand at these positions.
 fn event_word(s: &[u8], starts: &[usize; 100], k: usize) -> u32
     requires { ⌜ k < 400 ⌝ }
-    ensures { λ r. ⌜ r ≡ event-from (now (s .entry)) (now (starts .entry)) k ⌝ }
+    ensures { λ r. ⌜ r ≡ event-from (was s) (was starts) k ⌝ }
 {
     let p = engine_fields::capped(starts[k / 4]) as usize;
     event_part(s, p, k % 4)
@@ -50,7 +51,7 @@ fn event_word(s: &[u8], starts: &[usize; 100], k: usize) -> u32
 
 // The words of the index's events, then zeros.
 pub fn events_of(s: &[u8], index: Index) -> Events
-    ensures { λ r. ⌜ EventsOf (now (s .entry)) index (r .words) ⌝ }
+    ensures { λ r. ⌜ EventsOf (was s) index (r .words) ⌝ }
 {
     let events = index.events;
     let starts = events.starts;
@@ -67,7 +68,7 @@ pub fn events_of(s: &[u8], index: Index) -> Events
 // The initial value of the entity at a position.
 fn initial_at(s: &[u8], p: usize) -> u32
     requires { ⌜ p ≤ 4294967295 ⌝ }
-    ensures { λ r. ⌜ r ≡ initial-at (now (s .entry)) p ⌝ }
+    ensures { λ r. ⌜ r ≡ initial-at (was s) p ⌝ }
 {
     let many = engine_fields::two_at(s, p + 2) as usize;
     engine_fields::two_at(s, p + 4 + 2 * many)
@@ -76,7 +77,7 @@ fn initial_at(s: &[u8], p: usize) -> u32
 // The e-th of so many entities that stand at these positions.
 fn value_word(s: &[u8], starts: &[usize; 100], count: u32, e: usize) -> u32
     requires { ⌜ e < 32 ⌝ }
-    ensures { λ r. ⌜ r ≡ value-from (now (s .entry)) (now (starts .entry)) count e ⌝ }
+    ensures { λ r. ⌜ r ≡ value-from (was s) (was starts) count e ⌝ }
 {
     if e < count as usize {
         let p = engine_fields::capped(starts[e]) as usize;
@@ -86,7 +87,7 @@ fn value_word(s: &[u8], starts: &[usize; 100], count: u32, e: usize) -> u32
 }
 
 pub fn cells_of(s: &[u8], index: Index) -> Cells
-    ensures { λ r. ⌜ CellsOf (now (s .entry)) index r ⌝ }
+    ensures { λ r. ⌜ CellsOf (was s) index r ⌝ }
 {
     let entities = index.entities;
     let starts = entities.starts;

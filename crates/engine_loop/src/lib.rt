@@ -2,9 +2,10 @@
 use engine_state::State;
 use engine_state::log_plain;
 use queue::Taken;
+ghost use Rattle.notation.specs.Reference.{was, is};
 ghost use Prim.Native.Nat.{_*_, _≤_};
 ghost use lib.ListN.{length};
-ghost use Rattle.engine_state.specs.Steps.{Moves, Does, goes, kept, told, still, Fits};
+ghost use Rattle.engine_state.specs.Steps.{Moves, Does, kept, told, still, Fits, by};
 ghost use Rattle.engine_loop.specs.Loop.{turnM, Ends, horizonM, Closes};
 ghost use Rattle.engine_state.specs.Machine.{put-now};
 
@@ -24,7 +25,7 @@ fn turn(
     st: State,
 ) -> State
     requires { ⌜ Fits st (now q) (now a) (now r) (now u) ⌝ }
-    ensures { λ s. ⌜ Moves (turnM (now (f .entry)) (now (x .entry))) st s (goes (now (q .entry)) (now (q .exit))) (goes (now (a .entry)) (now (a .exit))) (goes (now (r .entry)) (now (r .exit))) (told (now (f .entry)) (now (u .entry)) (now (u .exit))) (goes (now (values .entry)) (now (values .exit))) (goes (now (versions .entry)) (now (versions .exit))) (goes (now (sequences .entry)) (now (sequences .exit))) ⌝ }
+    ensures { λ s. ⌜ Moves (turnM (was f) (was x)) st s (by q) (by a) (by r) (told (was f) (was u) (is u)) (by values) (by versions) (by sequences) ⌝ }
 {
     if st.items == 0 {
         return st;
@@ -58,7 +59,7 @@ pub fn run_loop(
     st: State,
 ) -> Ended
     requires { ⌜ Fits st (now q) (now a) (now r) (now u) ⌝ }
-    ensures { λ e. ⌜ Ends (now (f .entry)) (now (x .entry)) st e (now (q .entry)) (now (q .exit)) (now (a .entry)) (now (a .exit)) (now (r .entry)) (now (r .exit)) (now (u .entry)) (now (u .exit)) (now (values .entry)) (now (values .exit)) (now (versions .entry)) (now (versions .exit)) (now (sequences .entry)) (now (sequences .exit)) ⌝ }
+    ensures { λ e. ⌜ Ends (was f) (was x) st e (was q) (is q) (was a) (is a) (was r) (is r) (was u) (is u) (was values) (is values) (was versions) (is versions) (was sequences) (is sequences) ⌝ }
 {
     let mut s = st;
     let mut left = x[3];
@@ -80,7 +81,7 @@ pub fn run_loop(
 
 fn horizon_reached(x: &[u32; 436], a: &mut [u32], st: State) -> State
     requires { ⌜ st .records * 13 ≤ length (now a) ⌝ }
-    ensures { λ r. ⌜ Does (horizonM (now (x .entry))) st r kept (goes (now (a .entry)) (now (a .exit))) kept still ⌝ }
+    ensures { λ r. ⌜ Does (horizonM (was x)) st r kept (by a) kept still ⌝ }
 {
     let s = at_now(st, x[2]);
     log_plain(a, s, 9)
@@ -97,7 +98,7 @@ fn at_now(st: State, second: u32) -> State
 // A simulation that reached the horizon with no run left says so.
 pub fn closed(x: &[u32; 436], a: &mut [u32], d: Ended) -> Ended
     requires { ⌜ d .state .records * 13 ≤ length (now a) ⌝ }
-    ensures { λ e. ⌜ Closes (now (x .entry)) d e (now (a .entry)) (now (a .exit)) ⌝ }
+    ensures { λ e. ⌜ Closes (was x) d e (was a) (is a) ⌝ }
 {
     let s = d.state;
     if d.why != 0 {

@@ -5,15 +5,16 @@ use engine_state::log_rule;
 use engine_state::next_step;
 use runs::Phase;
 use runs::Run;
+ghost use Rattle.notation.specs.Reference.{was};
 ghost use mathlib.Core.Path.{_≡_};
 ghost use Prim.Native.Nat.{_<_};
-ghost use Rattle.engine_state.specs.Steps.{Moves, goes, kept, still, Fits-ar, Fits-qar};
+ghost use Rattle.engine_state.specs.Steps.{Moves, kept, still, Fits-ar, Fits-qar, by};
 ghost use Rattle.engine_modes.specs.Modes.{newRun, begin-nowM, begin-laterM, stop-startM, decideM, carry-outM};
 
 // A run of the i-th automation, where so many runs were made.
 fn new_run(f: &[u8], x: &[u32; 436], sequences: &[u32; 32], made: u32, i: usize, later: bool) -> Run
     requires { ⌜ i < 32 ⌝ }
-    ensures { λ r. ⌜ r ≡ newRun (now (f .entry)) (now (x .entry)) i later made (now (sequences .entry)) ⌝ }
+    ensures { λ r. ⌜ r ≡ newRun (was f) (was x) i later made (was sequences) ⌝ }
 {
     let sequence = sequences[i];
     let number = engine_state::more_than(made);
@@ -40,7 +41,7 @@ fn begin_now(
     i: usize,
 ) -> State
     requires { ⌜ (i < 32) × Fits-qar st (now q) (now a) (now r) ⌝ }
-    ensures { λ s. ⌜ Moves (begin-nowM (now (f .entry)) (now (x .entry)) i) st s (goes (now (q .entry)) (now (q .exit))) (goes (now (a .entry)) (now (a .exit))) (goes (now (r .entry)) (now (r .exit))) still kept kept (goes (now (sequences .entry)) (now (sequences .exit))) ⌝ }
+    ensures { λ s. ⌜ Moves (begin-nowM (was f) (was x) i) st s (by q) (by a) (by r) still kept kept (by sequences) ⌝ }
 {
     let run = new_run(f, x, sequences, st.made, i, false);
     let s1 = engine_state::add_run(r, sequences, st, i, run);
@@ -58,7 +59,7 @@ fn begin_later(
     i: usize,
 ) -> State
     requires { ⌜ (i < 32) × Fits-ar st (now a) (now r) ⌝ }
-    ensures { λ s. ⌜ Moves (begin-laterM (now (f .entry)) (now (x .entry)) i) st s kept (goes (now (a .entry)) (now (a .exit))) (goes (now (r .entry)) (now (r .exit))) still kept kept (goes (now (sequences .entry)) (now (sequences .exit))) ⌝ }
+    ensures { λ s. ⌜ Moves (begin-laterM (was f) (was x) i) st s kept (by a) (by r) still kept kept (by sequences) ⌝ }
 {
     let run = new_run(f, x, sequences, st.made, i, true);
     let s1 = engine_state::add_run(r, sequences, st, i, run);
@@ -110,7 +111,7 @@ fn stop_and_start(
     i: usize,
 ) -> State
     requires { ⌜ (i < 32) × Fits-qar st (now q) (now a) (now r) ⌝ }
-    ensures { λ s. ⌜ Moves (stop-startM (now (f .entry)) (now (x .entry)) i) st s (goes (now (q .entry)) (now (q .exit))) (goes (now (a .entry)) (now (a .exit))) (goes (now (r .entry)) (now (r .exit))) still kept kept (goes (now (sequences .entry)) (now (sequences .exit))) ⌝ }
+    ensures { λ s. ⌜ Moves (stop-startM (was f) (was x) i) st s (by q) (by a) (by r) still kept kept (by sequences) ⌝ }
 {
     let left = runs::drop_runs(r, st.active, i as u32);
     let s1 = engine_state::with_active(st, left);
@@ -130,7 +131,7 @@ pub fn carry_out(
     i: usize,
 ) -> State
     requires { ⌜ (i < 32) × Fits-qar st (now q) (now a) (now r) ⌝ }
-    ensures { λ s. ⌜ Moves (carry-outM (now (f .entry)) (now (x .entry)) i) st s (goes (now (q .entry)) (now (q .exit))) (goes (now (a .entry)) (now (a .exit))) (goes (now (r .entry)) (now (r .exit))) still kept kept (goes (now (sequences .entry)) (now (sequences .exit))) ⌝ }
+    ensures { λ s. ⌜ Moves (carry-outM (was f) (was x) i) st s (by q) (by a) (by r) still kept kept (by sequences) ⌝ }
 {
     let running = runs::count_runs(r, st.active, i as u32);
     let d = decide(rule_word(x, i, 1), rule_word(x, i, 2), running);

@@ -2,6 +2,7 @@
 // before, so that what is looked for is there; a part that is not there is passed over. The area has place for 300.
 use model_walk::Num;
 use reasons::Reason;
+ghost use Rattle.notation.specs.Reference.{was, is};
 ghost use mathlib.Core.Path.{_≡_};
 ghost use Prim.Native.Nat.{_≤_};
 ghost use lib.ListN.{length};
@@ -25,7 +26,7 @@ pub enum Part {
 // ---- reasons
 
 fn id_note(f: &[u8], id: u32, note: u32) -> Reason
-    ensures { λ r. ⌜ r ≡ idNote (now (f .entry)) id note ⌝ }
+    ensures { λ r. ⌜ r ≡ idNote (was f) id note ⌝ }
 {
     Reason {
         kind: reasons::ID_NOTE,
@@ -38,7 +39,7 @@ fn id_note(f: &[u8], id: u32, note: u32) -> Reason
 
 // A note behind an automation's identifier; 65535 stands for none.
 fn note_of(f: &[u8], id: u32, note: u32) -> Reason
-    ensures { λ r. ⌜ r ≡ noteOf (now (f .entry)) id note ⌝ }
+    ensures { λ r. ⌜ r ≡ noteOf (was f) id note ⌝ }
 {
     if id == 65535 {
         return engine_fields::note_reason(f, note);
@@ -49,7 +50,7 @@ fn note_of(f: &[u8], id: u32, note: u32) -> Reason
 // A reason among the first n, while there is place.
 pub fn put(f: &[u8], u: &mut [u32], n: usize, r: Reason) -> usize
     requires { ⌜ (1500 ≤ length (now u)) × (HasText (now f) → Readable (now f) r) ⌝ }
-    ensures { λ k. ⌜ Makes (insertM (render (now (f .entry)) r)) (now (f .entry)) n (now (u .entry)) k (now (u .exit)) ⌝ }
+    ensures { λ k. ⌜ Makes (insertM (render (was f) r)) (was f) n (was u) k (is u) ⌝ }
 {
     if 299 < n {
         return n;
@@ -59,7 +60,7 @@ pub fn put(f: &[u8], u: &mut [u32], n: usize, r: Reason) -> usize
 
 fn add_note(f: &[u8], u: &mut [u32], id: u32, note: u32, n: usize) -> usize
     requires { ⌜ 1500 ≤ length (now u) ⌝ }
-    ensures { λ k. ⌜ Makes (add-noteM (now (f .entry)) id note) (now (f .entry)) n (now (u .entry)) k (now (u .exit)) ⌝ }
+    ensures { λ k. ⌜ Makes (add-noteM (was f) id note) (was f) n (was u) k (is u) ⌝ }
 {
     if note == 65535 {
         return n;
@@ -72,7 +73,7 @@ fn add_note(f: &[u8], u: &mut [u32], id: u32, note: u32, n: usize) -> usize
 
 // The position behind so many bytes.
 pub fn skip(f: &[u8], size: usize, at: usize) -> usize
-    ensures { λ r. ⌜ r ≡ skipped size (now (f .entry)) at ⌝ }
+    ensures { λ r. ⌜ r ≡ skipped size (was f) at ⌝ }
 {
     if f.len() < size {
         return at;
@@ -85,7 +86,7 @@ pub fn skip(f: &[u8], size: usize, at: usize) -> usize
 
 fn note_at(f: &[u8], u: &mut [u32], id: u32, at: usize, n: usize) -> Noted
     requires { ⌜ 1500 ≤ length (now u) ⌝ }
-    ensures { λ r. ⌜ Lists (noteM id) (now (f .entry)) at n (now (u .entry)) r (now (u .exit)) ⌝ }
+    ensures { λ r. ⌜ Lists (noteM id) (was f) at n (was u) r (is u) ⌝ }
 {
     let x = model_walk::u16_at(f, at);
     let Num::Is(note, next) = x else {
@@ -97,7 +98,7 @@ fn note_at(f: &[u8], u: &mut [u32], id: u32, at: usize, n: usize) -> Noted
 
 pub fn trigger_note(f: &[u8], u: &mut [u32], id: u32, at: usize, n: usize) -> Noted
     requires { ⌜ 1500 ≤ length (now u) ⌝ }
-    ensures { λ r. ⌜ Lists (triggerM id) (now (f .entry)) at n (now (u .entry)) r (now (u .exit)) ⌝ }
+    ensures { λ r. ⌜ Lists (triggerM id) (was f) at n (was u) r (is u) ⌝ }
 {
     let p = skip(f, 14, at);
     note_at(f, u, id, p, n)
@@ -105,7 +106,7 @@ pub fn trigger_note(f: &[u8], u: &mut [u32], id: u32, at: usize, n: usize) -> No
 
 pub fn predicate_note(f: &[u8], u: &mut [u32], id: u32, at: usize, n: usize) -> Noted
     requires { ⌜ 1500 ≤ length (now u) ⌝ }
-    ensures { λ r. ⌜ Lists (predicateM id) (now (f .entry)) at n (now (u .entry)) r (now (u .exit)) ⌝ }
+    ensures { λ r. ⌜ Lists (predicateM id) (was f) at n (was u) r (is u) ⌝ }
 {
     let x = model_walk::u8_at(f, at);
     let Num::Is(kind, p) = x else {
@@ -122,7 +123,7 @@ pub fn predicate_note(f: &[u8], u: &mut [u32], id: u32, at: usize, n: usize) -> 
 
 fn part_note(f: &[u8], u: &mut [u32], part: Part, id: u32, at: usize, n: usize) -> Noted
     requires { ⌜ 1500 ≤ length (now u) ⌝ }
-    ensures { λ r. ⌜ Lists (partM part id) (now (f .entry)) at n (now (u .entry)) r (now (u .exit)) ⌝ }
+    ensures { λ r. ⌜ Lists (partM part id) (was f) at n (was u) r (is u) ⌝ }
 {
     match part {
         Part::Note => note_at(f, u, id, at, n),
@@ -134,7 +135,7 @@ fn part_note(f: &[u8], u: &mut [u32], part: Part, id: u32, at: usize, n: usize) 
 // A count, and as many parts.
 pub fn part_notes(f: &[u8], u: &mut [u32], part: Part, id: u32, at: usize, n: usize) -> Noted
     requires { ⌜ 1500 ≤ length (now u) ⌝ }
-    ensures { λ r. ⌜ Lists (partsM part id) (now (f .entry)) at n (now (u .entry)) r (now (u .exit)) ⌝ }
+    ensures { λ r. ⌜ Lists (partsM part id) (was f) at n (was u) r (is u) ⌝ }
 {
     let x = model_walk::u16_at(f, at);
     let Num::Is(count, start) = x else {

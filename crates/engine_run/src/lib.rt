@@ -2,6 +2,7 @@
 use engine_loop::Ended;
 use engine_state::Cells;
 use engine_state::State;
+ghost use Rattle.notation.specs.Reference.{was, is};
 ghost use mathlib.Core.Path.{_≡_};
 ghost use Prim.Native.Nat.{_+_, _*_, _≤_, _<_};
 ghost use lib.ListN.{length};
@@ -24,7 +25,7 @@ fn run_all(
     st: State,
 ) -> Ended
     requires { ⌜ (count * 4 ≤ length (now events)) × Fits st (now q) (now a) (now r) (now u) ⌝ }
-    ensures { λ e. ⌜ Wholly (now (f .entry)) (now (x .entry)) (now (events .entry)) count st e (now (q .entry)) (now (q .exit)) (now (a .entry)) (now (a .exit)) (now (r .entry)) (now (r .exit)) (now (u .entry)) (now (u .exit)) (now (values .entry)) (now (values .exit)) (now (versions .entry)) (now (versions .exit)) (now (sequences .entry)) (now (sequences .exit)) ⌝ }
+    ensures { λ e. ⌜ Wholly (was f) (was x) (was events) count st e (was q) (is q) (was a) (is a) (was r) (is r) (was u) (is u) (was values) (is values) (was versions) (is versions) (was sequences) (is sequences) ⌝ }
 {
     let s = engine_schedule::begun(x, events, count, q, a, versions, st);
     let d = engine_loop::run_loop(f, x, q, a, r, u, values, versions, sequences, s);
@@ -91,7 +92,7 @@ fn answer(e: Ended, values: [u32; 32]) -> Simulation
 // The items of a queue are cleared, n from the entry `first` on.
 fn clear_items(q: &mut [u32], first: usize, n: usize)
     requires { ⌜ (first + n) * 5 ≤ length (now q) ⌝ }
-    ensures { λ _. ⌜ Clears (now (q .entry)) (first * 5) (n * 5) (now (q .exit)) ⌝ }
+    ensures { λ _. ⌜ Clears (was q) (first * 5) (n * 5) (is q) ⌝ }
 {
     areas::clear(q, first * 5, n * 5);
 }
@@ -99,7 +100,7 @@ fn clear_items(q: &mut [u32], first: usize, n: usize)
 // The first n runs are cleared.
 fn clear_runs(r: &mut [u32], n: usize)
     requires { ⌜ n * 28 ≤ length (now r) ⌝ }
-    ensures { λ _. ⌜ Clears (now (r .entry)) 0 (n * 28) (now (r .exit)) ⌝ }
+    ensures { λ _. ⌜ Clears (was r) 0 (n * 28) (is r) ⌝ }
 {
     areas::clear(r, 0, n * 28);
 }
@@ -119,7 +120,7 @@ pub fn simulated(
     u: &mut [u32],
 ) -> Simulation
     requires { ⌜ (count * 4 ≤ length (now events)) × ((reasons * 5 ≤ length (now u)) × (1500 ≤ length (now u))) ⌝ }
-    ensures { λ s. ⌜ Simulates (now (f .entry)) (now (x .entry)) (now (events .entry)) count cells reasons s (now (q .entry)) (now (q .exit)) (now (a .entry)) (now (a .exit)) (now (r .entry)) (now (r .exit)) (now (u .entry)) (now (u .exit)) ⌝ }
+    ensures { λ s. ⌜ Simulates (was f) (was x) (was events) count cells reasons s (was q) (is q) (was a) (is a) (was r) (is r) (was u) (is u) ⌝ }
 {
     areas::clear_all(q);
     areas::clear_all(a);

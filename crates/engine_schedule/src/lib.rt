@@ -5,10 +5,11 @@ use engine_state::add;
 use engine_state::log_plain;
 use queue::Taken;
 use queue::Work;
+ghost use Rattle.notation.specs.Reference.{was};
 ghost use mathlib.Core.Path.{_≡_};
 ghost use Prim.Native.Nat.{_+_, _*_, _≤_, _<_};
 ghost use lib.ListN.{length};
-ghost use Rattle.engine_state.specs.Steps.{Moves, Does, goes, kept, still, Fits-q, Fits-qa};
+ghost use Rattle.engine_state.specs.Steps.{Moves, Does, goes, kept, still, Fits-q, Fits-qa, by};
 ghost use Rattle.engine_schedule.specs.Next.{with-turn, Seen, nextM, Why};
 ghost use Rattle.engine_schedule.specs.Events.{eventM, add-eventM, add-eventsM, add-expiriesM, begunM};
 
@@ -23,7 +24,7 @@ pub enum Next {
 // Whether the next item is taken: not after the horizon, and not where records or items are too many.
 fn next_of(x: &[u32; 436], q: &[u32], st: State) -> Next
     requires { ⌜ Fits-q st (now q) ⌝ }
-    ensures { λ r. ⌜ Seen (nextM (now (x .entry))) (now (q .entry)) st r ⌝ }
+    ensures { λ r. ⌜ Seen (nextM (was x)) (was q) st r ⌝ }
 {
     let t = queue::next(q, st.first, st.items);
     let Taken::One(it) = t else {
@@ -44,7 +45,7 @@ fn next_of(x: &[u32; 436], q: &[u32], st: State) -> Next
 // 4 where the loop takes the next item, or why it ends: 0 nothing left before the horizon, 1 space, 2 steps, 3 an area is full.
 pub fn why_stop(x: &[u32; 436], q: &[u32], st: State, left: u32) -> u32
     requires { ⌜ Fits-q st (now q) ⌝ }
-    ensures { λ r. ⌜ Why (now (x .entry)) left (now (q .entry)) st r ⌝ }
+    ensures { λ r. ⌜ Why (was x) left (was q) st r ⌝ }
 {
     if st.full != 0 {
         return 3;
@@ -91,7 +92,7 @@ fn event_work(kind: u32, entity: u32, value: u32) -> Work
 // The i-th event: a second, a kind, an entity and a value.
 fn add_event(events: &[u32], q: &mut [u32], st: State, i: usize) -> State
     requires { ⌜ (i * 4 + 4 ≤ length (now events)) × Fits-q st (now q) ⌝ }
-    ensures { λ r. ⌜ Does (add-eventM (now (events .entry)) i) st r (goes (now (q .entry)) (now (q .exit))) kept kept still ⌝ }
+    ensures { λ r. ⌜ Does (add-eventM (was events) i) st r (by q) kept kept still ⌝ }
 {
     let work = event_work(events[i * 4 + 1], events[i * 4 + 2], events[i * 4 + 3]);
     let second = events[i * 4];
@@ -100,7 +101,7 @@ fn add_event(events: &[u32], q: &mut [u32], st: State, i: usize) -> State
 
 fn add_events(events: &[u32], count: usize, q: &mut [u32], st: State) -> State
     requires { ⌜ (count * 4 ≤ length (now events)) × Fits-q st (now q) ⌝ }
-    ensures { λ r. ⌜ Does (add-eventsM (now (events .entry)) count) st r (goes (now (q .entry)) (now (q .exit))) kept kept still ⌝ }
+    ensures { λ r. ⌜ Does (add-eventsM (was events) count) st r (by q) kept kept still ⌝ }
 {
     let mut s = st;
     let mut i: usize = 0;
@@ -113,7 +114,7 @@ fn add_events(events: &[u32], count: usize, q: &mut [u32], st: State) -> State
 
 fn add_expiries(x: &[u32; 436], q: &mut [u32], versions: &[u32; 32], st: State) -> State
     requires { ⌜ Fits-q st (now q) ⌝ }
-    ensures { λ r. ⌜ Moves (add-expiriesM (now (x .entry))) st r (goes (now (q .entry)) (now (q .exit))) kept kept still kept (goes (now (versions .entry)) (now (versions .entry))) kept ⌝ }
+    ensures { λ r. ⌜ Moves (add-expiriesM (was x)) st r (by q) kept kept still kept (goes (was versions) (was versions)) kept ⌝ }
 {
     let n = at_most(x[0], 32);
     let mut s = st;
@@ -135,7 +136,7 @@ pub fn begun(
     st: State,
 ) -> State
     requires { ⌜ (count * 4 ≤ length (now events)) × Fits-qa st (now q) (now a) ⌝ }
-    ensures { λ r. ⌜ Moves (begunM (now (x .entry)) (now (events .entry)) count) st r (goes (now (q .entry)) (now (q .exit))) (goes (now (a .entry)) (now (a .exit))) kept still kept (goes (now (versions .entry)) (now (versions .entry))) kept ⌝ }
+    ensures { λ r. ⌜ Moves (begunM (was x) (was events) count) st r (by q) (by a) kept still kept (goes (was versions) (was versions)) kept ⌝ }
 {
     let s1 = log_plain(a, st, 0);
     let s2 = add_events(events, count, q, s1);

@@ -3,6 +3,8 @@ use Prim.Native.Nat.{ℕ, _+_, _*_, _/_, _≤_}
 use mathlib.Core.Path.{_≡_}
 use mathlib.Core.List.{List}
 use lib.ListN.{length}
+use denote.Triple.Both.{Both}
+use denote.Ref.{RefT, now}
 use Rattle.areas.specs.Areas.{area}
 use Rattle.queue.specs.Queue.{laid}
 use Rattle.queue.specs.declared.Item.{Item}
@@ -47,6 +49,10 @@ pub record Stands (f q a r u : List ℕ) (st : Entire) (m : Machine) : Type 0 wh
 pub data Lent : Type 0 where
   kept : Lent
   goes : (b c : List ℕ) → Lent
+
+-- the area that a contract calls q: before and after
+abbrev pub by : Both (RefT (List ℕ)) (RefT (List ℕ)) → Lent
+by q = goes (now (q .entry)) (now (q .exit))
 
 -- the area of reasons, with the file
 pub data Listing : Type 0 where

@@ -10,13 +10,14 @@ use records::Rule;
 use records::Where;
 use runs::Run;
 use runs::Source;
+ghost use Rattle.notation.specs.Reference.{was, is};
 ghost use mathlib.Core.Path.{_≡_};
 ghost use Prim.Native.Nat.{_+_, _*_, _≤_, _<_};
 ghost use lib.ListN.{length};
 ghost use Rattle.reasons.specs.Readable.{Readable, HasText};
 ghost use Rattle.engine_state.specs.Machine.{more, later, with-active};
 ghost use Rattle.engine_state.specs.Changes.{addM, logM, add-runM, uncertainM, log-ruleM, log-actionM, log-plainM, log-writeM, next-stepM};
-ghost use Rattle.engine_state.specs.Steps.{Moves, Does, goes, kept, told, still};
+ghost use Rattle.engine_state.specs.Steps.{Moves, Does, kept, told, still, by};
 
 // What the entities have at the start: values and versions.
 pub struct Cells {
@@ -94,7 +95,7 @@ pub fn with_active(st: State, n: usize) -> State
 // An item more, unless an area is full.
 pub fn add(q: &mut [u32], st: State, second: u32, work: Work) -> State
     requires { ⌜ (st .first + st .items) * 5 ≤ length (now q) ⌝ }
-    ensures { λ r. ⌜ Does (addM second work) st r (goes (now (q .entry)) (now (q .exit))) kept kept still ⌝ }
+    ensures { λ r. ⌜ Does (addM second work) st r (by q) kept kept still ⌝ }
 {
     let mut s = st;
     if s.full != 0 {
@@ -114,7 +115,7 @@ pub fn add(q: &mut [u32], st: State, second: u32, work: Work) -> State
 // A record more, unless an area is full.
 pub fn log(a: &mut [u32], st: State, what: Told, rule: Rule, source: Where, change: Change) -> State
     requires { ⌜ st .records * 13 ≤ length (now a) ⌝ }
-    ensures { λ r. ⌜ Does (logM what rule source change) st r kept (goes (now (a .entry)) (now (a .exit))) kept still ⌝ }
+    ensures { λ r. ⌜ Does (logM what rule source change) st r kept (by a) kept still ⌝ }
 {
     let mut s = st;
     if s.full != 0 {
@@ -141,7 +142,7 @@ pub fn log(a: &mut [u32], st: State, what: Told, rule: Rule, source: Where, chan
 // A run more of the i-th automation, unless an area is full.
 pub fn add_run(r: &mut [u32], sequences: &mut [u32; 32], st: State, i: usize, run: Run) -> State
     requires { ⌜ (st .active * 28 ≤ length (now r)) × (i < 32) ⌝ }
-    ensures { λ s. ⌜ Moves (add-runM i run) st s kept kept (goes (now (r .entry)) (now (r .exit))) still kept kept (goes (now (sequences .entry)) (now (sequences .exit))) ⌝ }
+    ensures { λ s. ⌜ Moves (add-runM i run) st s kept kept (by r) still kept kept (by sequences) ⌝ }
 {
     let mut s = st;
     if s.full != 0 {
@@ -163,7 +164,7 @@ pub fn add_run(r: &mut [u32], sequences: &mut [u32; 32], st: State, i: usize, ru
 // A reason more, unless it is there already or there are 300.
 pub fn uncertain(f: &[u8], u: &mut [u32], st: State, reason: Reason) -> State
     requires { ⌜ (st .reasons * 5 ≤ length (now u)) × ((1500 ≤ length (now u)) × (HasText (now f) → Readable (now f) reason)) ⌝ }
-    ensures { λ r. ⌜ Does (uncertainM (now (f .entry)) reason) st r kept kept kept (told (now (f .entry)) (now (u .entry)) (now (u .exit))) ⌝ }
+    ensures { λ r. ⌜ Does (uncertainM (was f) reason) st r kept kept kept (told (was f) (was u) (is u)) ⌝ }
 {
     let mut s = st;
     let n = s.reasons;
@@ -179,7 +180,7 @@ pub fn uncertain(f: &[u8], u: &mut [u32], st: State, reason: Reason) -> State
 // A record about an automation.
 pub fn log_rule(a: &mut [u32], st: State, kind: u32, detail: u32, automation: u32) -> State
     requires { ⌜ st .records * 13 ≤ length (now a) ⌝ }
-    ensures { λ r. ⌜ Does (log-ruleM kind detail automation) st r kept (goes (now (a .entry)) (now (a .exit))) kept still ⌝ }
+    ensures { λ r. ⌜ Does (log-ruleM kind detail automation) st r kept (by a) kept still ⌝ }
 {
     log(
         a,
@@ -194,7 +195,7 @@ pub fn log_rule(a: &mut [u32], st: State, kind: u32, detail: u32, automation: u3
 // A record about an action of a run.
 pub fn log_action(a: &mut [u32], st: State, kind: u32, detail: u32, s: Source, run: Run) -> State
     requires { ⌜ st .records * 13 ≤ length (now a) ⌝ }
-    ensures { λ r. ⌜ Does (log-actionM kind detail s run) st r kept (goes (now (a .entry)) (now (a .exit))) kept still ⌝ }
+    ensures { λ r. ⌜ Does (log-actionM kind detail s run) st r kept (by a) kept still ⌝ }
 {
     log(
         a,
@@ -212,7 +213,7 @@ pub fn log_action(a: &mut [u32], st: State, kind: u32, detail: u32, s: Source, r
 // A record about no automation.
 pub fn log_plain(a: &mut [u32], st: State, kind: u32) -> State
     requires { ⌜ st .records * 13 ≤ length (now a) ⌝ }
-    ensures { λ r. ⌜ Does (log-plainM kind) st r kept (goes (now (a .entry)) (now (a .exit))) kept still ⌝ }
+    ensures { λ r. ⌜ Does (log-plainM kind) st r kept (by a) kept still ⌝ }
 {
     log(
         a,
@@ -227,7 +228,7 @@ pub fn log_plain(a: &mut [u32], st: State, kind: u32) -> State
 // A record of a write.
 pub fn log_write(a: &mut [u32], st: State, w: Setting, m: Move) -> State
     requires { ⌜ st .records * 13 ≤ length (now a) ⌝ }
-    ensures { λ r. ⌜ Does (log-writeM w m) st r kept (goes (now (a .entry)) (now (a .exit))) kept still ⌝ }
+    ensures { λ r. ⌜ Does (log-writeM w m) st r kept (by a) kept still ⌝ }
 {
     let rule = w.rule;
     let source = w.source;
@@ -251,7 +252,7 @@ pub fn log_write(a: &mut [u32], st: State, w: Setting, m: Move) -> State
 // The run goes on at a second.
 pub fn next_step(q: &mut [u32], st: State, run: Run, second: u32) -> State
     requires { ⌜ (st .first + st .items) * 5 ≤ length (now q) ⌝ }
-    ensures { λ r. ⌜ Does (next-stepM run second) st r (goes (now (q .entry)) (now (q .exit))) kept kept still ⌝ }
+    ensures { λ r. ⌜ Does (next-stepM run second) st r (by q) kept kept still ⌝ }
 {
     add(
         q,

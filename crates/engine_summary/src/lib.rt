@@ -1,4 +1,5 @@
 // The answer of `simulate`, from what a run tells.
+ghost use Rattle.notation.specs.Reference.{was, is};
 ghost use mathlib.Core.Path.{_≡_};
 ghost use Prim.Native.Nat.{_*_, _≤_};
 ghost use Rattle.engine_summary.specs.Summary.{no-simulation, simulation-of};
@@ -89,7 +90,7 @@ pub fn summed(s: engine_run::Simulation, entities: usize, horizon: u32) -> Summa
 
 // A refusal is nothing but its number; the words of the reasons are cleared.
 pub fn refused_summary(number: u32, words: &mut [u32; 1500]) -> Summary
-    ensures { λ r. ⌜ simulation-of r (now (words .exit)) ≡ no-simulation number ⌝ }
+    ensures { λ r. ⌜ simulation-of r (is words) ≡ no-simulation number ⌝ }
 {
     *words = [0u32; 1500];
     Summary {
@@ -106,7 +107,7 @@ pub fn refused_summary(number: u32, words: &mut [u32; 1500]) -> Summary
 
 // What a simulation answers.
 pub fn settled(b: Summary, words: &mut [u32; 1500]) -> Summary
-    ensures { λ r. ⌜ Answered (simulation-of b (now (words .entry))) (simulation-of r (now (words .exit))) ⌝ }
+    ensures { λ r. ⌜ Answered (simulation-of b (was words)) (simulation-of r (is words)) ⌝ }
 {
     if b.refused != 0 {
         return refused_summary(b.refused, words);
@@ -116,7 +117,7 @@ pub fn settled(b: Summary, words: &mut [u32; 1500]) -> Summary
 
 // The answer as one value, with the words of its reasons.
 pub fn with_reasons(b: Summary, words: &[u32; 1500]) -> Simulation
-    ensures { λ r. ⌜ r ≡ simulation-of b (now (words .entry)) ⌝ }
+    ensures { λ r. ⌜ r ≡ simulation-of b (was words) ⌝ }
 {
     let values = b.values;
     let reasons = *words;

@@ -2,6 +2,7 @@
 use model_index::Index;
 use model_walk::Piece;
 use model_walk::Walked;
+ghost use Rattle.notation.specs.Reference.{was};
 ghost use mathlib.Core.Path.{_≡_};
 ghost use Prim.Native.Nat.{_+_, _*_, _≤_, _<_};
 ghost use lib.ListN.{length, getD};
@@ -26,7 +27,7 @@ fn end_of(w: Walked, at: usize) -> usize
 
 fn stale_at(s: &[u8], p: usize) -> u32
     requires { ⌜ p ≤ 4294967295 ⌝ }
-    ensures { λ r. ⌜ r ≡ stale-at (now (s .entry)) p ⌝ }
+    ensures { λ r. ⌜ r ≡ stale-at (was s) p ⌝ }
 {
     let many = engine_fields::two_at(s, p + 2) as usize;
     engine_fields::four_at(s, p + 7 + 2 * many)
@@ -34,7 +35,7 @@ fn stale_at(s: &[u8], p: usize) -> u32
 
 fn conditions_at(s: &[u8], p: usize) -> usize
     requires { ⌜ p ≤ 4294967295 ⌝ }
-    ensures { λ r. ⌜ (r ≡ conditions-at (now (s .entry)) p) × (r ≤ p + 9 + 16 * 65535) ⌝ }
+    ensures { λ r. ⌜ (r ≡ conditions-at (was s) p) × (r ≤ p + 9 + 16 * 65535) ⌝ }
 {
     let many = engine_fields::two_at(s, p + 7) as usize;
     p + 9 + 16 * many
@@ -42,7 +43,7 @@ fn conditions_at(s: &[u8], p: usize) -> usize
 
 fn actions_at(s: &[u8], texts: u32, p: usize) -> usize
     requires { ⌜ p ≤ 4294967295 ⌝ }
-    ensures { λ r. ⌜ r ≡ actions-at texts (now (s .entry)) p ⌝ }
+    ensures { λ r. ⌜ r ≡ actions-at texts (was s) p ⌝ }
 {
     let conditions = conditions_at(s, p);
     let w = model_walk::pieces_at(s, texts, Piece::Predicate, conditions, 0);
@@ -51,7 +52,7 @@ fn actions_at(s: &[u8], texts: u32, p: usize) -> usize
 
 fn source_at(s: &[u8], texts: u32, p: usize) -> usize
     requires { ⌜ p ≤ 4294967295 ⌝ }
-    ensures { λ r. ⌜ r ≡ source-at texts (now (s .entry)) p ⌝ }
+    ensures { λ r. ⌜ r ≡ source-at texts (was s) p ⌝ }
 {
     let actions = actions_at(s, texts, p);
     let w = model_walk::actions_at(s, texts, 18, actions, 0);
@@ -60,7 +61,7 @@ fn source_at(s: &[u8], texts: u32, p: usize) -> usize
 
 fn rule_word(s: &[u8], texts: u32, p: usize, k: usize) -> u32
     requires { ⌜ p ≤ 4294967295 ⌝ }
-    ensures { λ r. ⌜ r ≡ rule-word texts (now (s .entry)) p k ⌝ }
+    ensures { λ r. ⌜ r ≡ rule-word texts (was s) p k ⌝ }
 {
     if k == 0 {
         return engine_fields::two_at(s, p);
@@ -89,7 +90,7 @@ fn rule_word(s: &[u8], texts: u32, p: usize, k: usize) -> u32
 // The position of an automation's notes, behind its source.
 fn notes_word(s: &[u8], texts: u32, p: usize) -> u32
     requires { ⌜ p ≤ 4294967295 ⌝ }
-    ensures { λ r. ⌜ r ≡ cap (source-at texts (now (s .entry)) p + 8) ⌝ }
+    ensures { λ r. ⌜ r ≡ cap (source-at texts (was s) p + 8) ⌝ }
 {
     let source = source_at(s, texts, p);
     if 4294967287 < source {
@@ -101,7 +102,7 @@ fn notes_word(s: &[u8], texts: u32, p: usize) -> u32
 // The number at the k-th byte behind a position.
 fn number_at(s: &[u8], at: usize, k: usize) -> u32
     requires { ⌜ k ≤ 8 ⌝ }
-    ensures { λ r. ⌜ r ≡ four (now (s .entry)) (cap at + k) ⌝ }
+    ensures { λ r. ⌜ r ≡ four (was s) (cap at + k) ⌝ }
 {
     let p = engine_fields::capped(at) as usize;
     engine_fields::four_at(s, p + k)
@@ -110,7 +111,7 @@ fn number_at(s: &[u8], at: usize, k: usize) -> u32
 // The start: its weekday, and four bytes on its second. It stands behind the automations, or the file ends there.
 fn start_word(s: &[u8], index: Index, k: usize) -> u32
     requires { ⌜ k ≤ 8 ⌝ }
-    ensures { λ r. ⌜ r ≡ start-word (now (s .entry)) index k ⌝ }
+    ensures { λ r. ⌜ r ≡ start-word (was s) index k ⌝ }
 {
     let rules = index.rules;
     let w = rules.end;
@@ -119,7 +120,7 @@ fn start_word(s: &[u8], index: Index, k: usize) -> u32
 
 // The first sixteen words.
 fn head_word(s: &[u8], index: Index, k: usize) -> u32
-    ensures { λ r. ⌜ r ≡ head-word (now (s .entry)) index k ⌝ }
+    ensures { λ r. ⌜ r ≡ head-word (was s) index k ⌝ }
 {
     if k < 2 {
         return count_word(index, k);
@@ -167,7 +168,7 @@ fn count_word(index: Index, k: usize) -> u32
 
 // The places of the fixed texts.
 fn fixed_word(s: &[u8], index: Index, k: usize) -> u32
-    ensures { λ r. ⌜ r ≡ fixed-word (now (s .entry)) index k ⌝ }
+    ensures { λ r. ⌜ r ≡ fixed-word (was s) index k ⌝ }
 {
     let texts = index.texts;
     let count = texts.count;
@@ -186,7 +187,7 @@ fn fixed_word(s: &[u8], index: Index, k: usize) -> u32
 // The words of entities and automations that stand at these positions.
 fn part_word(s: &[u8], texts: u32, names: &[usize; 100], rules: &[usize; 100], k: usize) -> u32
     requires { ⌜ (16 ≤ k) × (k < 336) ⌝ }
-    ensures { λ r. ⌜ r ≡ part-word texts (now (s .entry)) (now (names .entry)) (now (rules .entry)) k ⌝ }
+    ensures { λ r. ⌜ r ≡ part-word texts (was s) (was names) (was rules) k ⌝ }
 {
     if k < 48 {
         let p = engine_fields::capped(names[k - 16]) as usize;
@@ -202,7 +203,7 @@ fn part_word(s: &[u8], texts: u32, names: &[usize; 100], rules: &[usize; 100], k
 
 // A table with its first 16 words.
 fn headed(s: &[u8], index: Index) -> Table
-    ensures { λ r. ⌜ Headed (now (s .entry)) index (r .words) ⌝ }
+    ensures { λ r. ⌜ Headed (was s) index (r .words) ⌝ }
 {
     let mut words = [0u32; 436];
     let mut k: usize = 0;
@@ -215,7 +216,7 @@ fn headed(s: &[u8], index: Index) -> Table
 
 // The table of a file and its index, up to the last automation; then zeros.
 pub fn table_of(s: &[u8], index: Index) -> Table
-    ensures { λ r. ⌜ TableOf (now (s .entry)) index (r .words) ⌝ }
+    ensures { λ r. ⌜ TableOf (was s) index (r .words) ⌝ }
 {
     let entities = index.entities;
     let names = entities.starts;

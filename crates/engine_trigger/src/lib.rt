@@ -13,10 +13,11 @@ use records::Where;
 use runs::Found;
 use runs::Phase;
 use runs::Run;
+ghost use Rattle.notation.specs.Reference.{was, is};
 ghost use mathlib.Core.Path.{_≡_};
 ghost use Prim.Native.Nat.{_*_, _≤_, _<_};
 ghost use lib.ListN.{length};
-ghost use Rattle.engine_state.specs.Steps.{Moves, Does, goes, kept, told, still, Fits-qr, Fits-qar, Fits};
+ghost use Rattle.engine_state.specs.Steps.{Moves, Does, goes, kept, told, still, Fits-qr, Fits-qar, Fits, by};
 ghost use Rattle.engine_trigger.specs.Runs.{releasedM, phaseM, releaseM, finishM, wake-oneM, wakeM};
 ghost use Rattle.engine_trigger.specs.Triggers.{admitM, log-triggerM, offerM, triggerM};
 
@@ -48,7 +49,7 @@ pub fn with_phase(run: Run, phase: Phase) -> Run
 // The automation's first queued run goes on.
 pub fn release(q: &mut [u32], r: &mut [u32], st: State, automation: u32) -> State
     requires { ⌜ Fits-qr st (now q) (now r) ⌝ }
-    ensures { λ s. ⌜ Does (releaseM automation) st s (goes (now (q .entry)) (now (q .exit))) kept (goes (now (r .entry)) (now (r .exit))) still ⌝ }
+    ensures { λ s. ⌜ Does (releaseM automation) st s (by q) kept (by r) still ⌝ }
 {
     let found = runs::find_queued(r, st.active, automation);
     match found {
@@ -64,7 +65,7 @@ pub fn release(q: &mut [u32], r: &mut [u32], st: State, automation: u32) -> Stat
 // The run at k ends.
 pub fn finish(q: &mut [u32], a: &mut [u32], r: &mut [u32], st: State, k: usize) -> State
     requires { ⌜ (k < st .active) × Fits-qar st (now q) (now a) (now r) ⌝ }
-    ensures { λ s. ⌜ Does (finishM k) st s (goes (now (q .entry)) (now (q .exit))) (goes (now (a .entry)) (now (a .exit))) (goes (now (r .entry)) (now (r .exit))) still ⌝ }
+    ensures { λ s. ⌜ Does (finishM k) st s (by q) (by a) (by r) still ⌝ }
 {
     let n = st.active;
     let run = runs::run_at(r, k);
@@ -77,7 +78,7 @@ pub fn finish(q: &mut [u32], a: &mut [u32], r: &mut [u32], st: State, k: usize) 
 // The run at k goes on, if it waits for this change.
 fn wake_one(f: &[u8], q: &mut [u32], r: &mut [u32], st: State, k: usize, m: Move) -> State
     requires { ⌜ (k < st .active) × Fits-qr st (now q) (now r) ⌝ }
-    ensures { λ s. ⌜ Does (wake-oneM (now (f .entry)) m k) st s (goes (now (q .entry)) (now (q .exit))) kept (goes (now (r .entry)) (now (r .exit))) still × (s .active ≡ st .active) ⌝ }
+    ensures { λ s. ⌜ Does (wake-oneM (was f) m k) st s (by q) kept (by r) still × (s .active ≡ st .active) ⌝ }
 {
     let phase = runs::phase_at(r, k);
     let Phase::Waiting(w) = phase else {
@@ -94,7 +95,7 @@ fn wake_one(f: &[u8], q: &mut [u32], r: &mut [u32], st: State, k: usize, m: Move
 
 fn wake(f: &[u8], q: &mut [u32], r: &mut [u32], st: State, m: Move) -> State
     requires { ⌜ Fits-qr st (now q) (now r) ⌝ }
-    ensures { λ s. ⌜ Does (wakeM (now (f .entry)) m) st s (goes (now (q .entry)) (now (q .exit))) kept (goes (now (r .entry)) (now (r .exit))) still ⌝ }
+    ensures { λ s. ⌜ Does (wakeM (was f) m) st s (by q) kept (by r) still ⌝ }
 {
     let n = st.active;
     let mut s = st;
@@ -122,7 +123,7 @@ fn admit(
     t: Truth,
 ) -> State
     requires { ⌜ (i < 32) × Fits st (now q) (now a) (now r) (now u) ⌝ }
-    ensures { λ s. ⌜ Moves (admitM (now (f .entry)) (now (x .entry)) i t) st s (goes (now (q .entry)) (now (q .exit))) (goes (now (a .entry)) (now (a .exit))) (goes (now (r .entry)) (now (r .exit))) (told (now (f .entry)) (now (u .entry)) (now (u .exit))) kept kept (goes (now (sequences .entry)) (now (sequences .exit))) ⌝ }
+    ensures { λ s. ⌜ Moves (admitM (was f) (was x) i t) st s (by q) (by a) (by r) (told (was f) (was u) (is u)) kept kept (by sequences) ⌝ }
 {
     match t {
         Truth::Yes => {
@@ -142,7 +143,7 @@ fn admit(
 
 fn log_trigger(f: &[u8], x: &[u32; 436], a: &mut [u32], st: State, i: usize, t: Truth) -> State
     requires { ⌜ (i < 32) × (st .records * 13 ≤ length (now a)) ⌝ }
-    ensures { λ s. ⌜ Does (log-triggerM (now (f .entry)) (now (x .entry)) i t) st s kept (goes (now (a .entry)) (now (a .exit))) kept still ⌝ }
+    ensures { λ s. ⌜ Does (log-triggerM (was f) (was x) i t) st s kept (by a) kept still ⌝ }
 {
     let at = rule_word(x, i, 6) as usize;
     let line = engine_fields::four_at(f, at);
@@ -173,7 +174,7 @@ fn offer(
     m: Move,
 ) -> State
     requires { ⌜ (i < 32) × Fits st (now q) (now a) (now r) (now u) ⌝ }
-    ensures { λ s. ⌜ Moves (offerM (now (f .entry)) (now (x .entry)) m i) st s (goes (now (q .entry)) (now (q .exit))) (goes (now (a .entry)) (now (a .exit))) (goes (now (r .entry)) (now (r .exit))) (told (now (f .entry)) (now (u .entry)) (now (u .exit))) (goes (now (values .entry)) (now (values .entry))) kept (goes (now (sequences .entry)) (now (sequences .exit))) ⌝ }
+    ensures { λ s. ⌜ Moves (offerM (was f) (was x) m i) st s (by q) (by a) (by r) (told (was f) (was u) (is u)) (goes (was values) (was values)) kept (by sequences) ⌝ }
 {
     if engine_evaluate::any_matches(f, rule_word(x, i, 3), m) {
         let judged = engine_evaluate::evaluate_all(f, x, values, st.now, rule_word(x, i, 4));
@@ -198,7 +199,7 @@ pub fn trigger(
     m: Move,
 ) -> State
     requires { ⌜ Fits st (now q) (now a) (now r) (now u) ⌝ }
-    ensures { λ s. ⌜ Moves (triggerM (now (f .entry)) (now (x .entry)) m) st s (goes (now (q .entry)) (now (q .exit))) (goes (now (a .entry)) (now (a .exit))) (goes (now (r .entry)) (now (r .exit))) (told (now (f .entry)) (now (u .entry)) (now (u .exit))) (goes (now (values .entry)) (now (values .entry))) kept (goes (now (sequences .entry)) (now (sequences .exit))) ⌝ }
+    ensures { λ s. ⌜ Moves (triggerM (was f) (was x) m) st s (by q) (by a) (by r) (told (was f) (was u) (is u)) (goes (was values) (was values)) kept (by sequences) ⌝ }
 {
     let n = engine_fields::at_most(x[1], 32);
     let mut s = wake(f, q, r, st, m);

@@ -4,6 +4,7 @@ use engine_notes::Noted;
 use engine_notes::Part;
 use model_walk::Num;
 use reasons::Reason;
+ghost use Rattle.notation.specs.Reference.{was, is};
 ghost use mathlib.Core.Path.{_≡_};
 ghost use Prim.Native.Nat.{ℕ, _≤_, _<_};
 ghost use lib.ListN.{length, getD};
@@ -22,7 +23,7 @@ pub struct Head {
 // ---- actions
 
 fn head_at(f: &[u8], at: usize) -> Head
-    ensures { λ r. ⌜ r ≡ headOf (now (f .entry)) at ⌝ }
+    ensures { λ r. ⌜ r ≡ headOf (was f) at ⌝ }
 {
     let x = model_walk::u32_at(f, at);
     let Num::Is(line, p) = x else {
@@ -60,7 +61,7 @@ fn head_at(f: &[u8], at: usize) -> Head
 }
 
 fn source_note(f: &[u8], line: u32, column: u32, note: u32) -> Reason
-    ensures { λ r. ⌜ r ≡ sourceNote (now (f .entry)) line column note ⌝ }
+    ensures { λ r. ⌜ r ≡ sourceNote (was f) line column note ⌝ }
 {
     Reason {
         kind: reasons::SOURCE_NOTE,
@@ -74,7 +75,7 @@ fn source_note(f: &[u8], line: u32, column: u32, note: u32) -> Reason
 // The note of an unknown effect stands behind its source.
 fn unknown_note(f: &[u8], u: &mut [u32], line: u32, column: u32, at: usize, n: usize) -> Noted
     requires { ⌜ 1500 ≤ length (now u) ⌝ }
-    ensures { λ r. ⌜ Lists (unknownM line column) (now (f .entry)) at n (now (u .entry)) r (now (u .exit)) ⌝ }
+    ensures { λ r. ⌜ Lists (unknownM line column) (was f) at n (was u) r (is u) ⌝ }
 {
     let x = model_walk::u16_at(f, at);
     let Num::Is(note, next) = x else {
@@ -87,7 +88,7 @@ fn unknown_note(f: &[u8], u: &mut [u32], line: u32, column: u32, at: usize, n: u
 
 fn wait_note(f: &[u8], u: &mut [u32], at: usize, n: usize) -> Noted
     requires { ⌜ 1500 ≤ length (now u) ⌝ }
-    ensures { λ r. ⌜ Lists waitM (now (f .entry)) at n (now (u .entry)) r (now (u .exit)) ⌝ }
+    ensures { λ r. ⌜ Lists waitM (was f) at n (was u) r (is u) ⌝ }
 {
     let d = engine_notes::trigger_note(f, u, 65535, at, n);
     let k = d.count;
@@ -99,7 +100,7 @@ fn wait_note(f: &[u8], u: &mut [u32], at: usize, n: usize) -> Noted
 // An effect that holds no list.
 fn simple_note(f: &[u8], u: &mut [u32], h: Head, n: usize) -> Noted
     requires { ⌜ 1500 ≤ length (now u) ⌝ }
-    ensures { λ r. ⌜ Lists (simpleM h) (now (f .entry)) (h .next) n (now (u .entry)) r (now (u .exit)) ⌝ }
+    ensures { λ r. ⌜ Lists (simpleM h) (was f) (h .next) n (was u) r (is u) ⌝ }
 {
     let kind = h.kind;
     let at = h.next;
@@ -123,7 +124,7 @@ fn simple_note(f: &[u8], u: &mut [u32], h: Head, n: usize) -> Noted
 // A list of actions in which lists stand at most `left` deep, itself counted.
 fn actions_notes(f: &[u8], u: &mut [u32], left: usize, at: usize, n: usize) -> Noted
     requires { ⌜ 1500 ≤ length (now u) ⌝ }
-    ensures { λ r. ⌜ Lists (actionsM left) (now (f .entry)) at n (now (u .entry)) r (now (u .exit)) ⌝ }
+    ensures { λ r. ⌜ Lists (actionsM left) (was f) at n (was u) r (is u) ⌝ }
 {
     if left == 0 {
         return Noted { count: n, next: at };
@@ -147,7 +148,7 @@ fn actions_notes(f: &[u8], u: &mut [u32], left: usize, at: usize, n: usize) -> N
 // An action whose lists stand at most `left` deep.
 fn action_notes(f: &[u8], u: &mut [u32], left: usize, at: usize, n: usize) -> Noted
     requires { ⌜ 1500 ≤ length (now u) ⌝ }
-    ensures { λ r. ⌜ Lists (actionM (actionsM left)) (now (f .entry)) at n (now (u .entry)) r (now (u .exit)) ⌝ }
+    ensures { λ r. ⌜ Lists (actionM (actionsM left)) (was f) at n (was u) r (is u) ⌝ }
 {
     let h = head_at(f, at);
     let kind = h.kind;
@@ -161,7 +162,7 @@ fn action_notes(f: &[u8], u: &mut [u32], left: usize, at: usize, n: usize) -> No
 // The branches of a choice and its default; its lists stand at most `left` deep.
 fn choice_notes(f: &[u8], u: &mut [u32], left: usize, at: usize, n: usize) -> Noted
     requires { ⌜ 1500 ≤ length (now u) ⌝ }
-    ensures { λ r. ⌜ Lists (choiceM (actionsM left)) (now (f .entry)) at n (now (u .entry)) r (now (u .exit)) ⌝ }
+    ensures { λ r. ⌜ Lists (choiceM (actionsM left)) (was f) at n (was u) r (is u) ⌝ }
 {
     let x = model_walk::u16_at(f, at);
     let Num::Is(count, start) = x else {
@@ -185,7 +186,7 @@ fn choice_notes(f: &[u8], u: &mut [u32], left: usize, at: usize, n: usize) -> No
 // The notes of the i-th automation, of its triggers and of its conditions: they stand behind its identifier.
 fn own_notes(f: &[u8], x: &[u32; 436], u: &mut [u32], i: usize, n: usize) -> usize
     requires { ⌜ (1500 ≤ length (now u)) × (i < 32) ⌝ }
-    ensures { λ k. ⌜ Makes (ownM (now (f .entry)) (now (x .entry)) i) (now (f .entry)) n (now (u .entry)) k (now (u .exit)) ⌝ }
+    ensures { λ k. ⌜ Makes (ownM (was f) (was x) i) (was f) n (was u) k (is u) ⌝ }
 {
     let id = engine_fields::rule_word(x, i, 0);
     let notes = engine_fields::rule_word(x, i, 7) as usize;
@@ -200,7 +201,7 @@ fn own_notes(f: &[u8], x: &[u32; 436], u: &mut [u32], i: usize, n: usize) -> usi
 // All notes of the i-th automation.
 pub fn rule_notes(f: &[u8], x: &[u32; 436], u: &mut [u32], i: usize, n: usize) -> usize
     requires { ⌜ (1500 ≤ length (now u)) × (i < 32) ⌝ }
-    ensures { λ k. ⌜ Makes (ruleM (now (f .entry)) (now (x .entry)) i) (now (f .entry)) n (now (u .entry)) k (now (u .exit)) ⌝ }
+    ensures { λ k. ⌜ Makes (ruleM (was f) (was x) i) (was f) n (was u) k (is u) ⌝ }
 {
     let actions = engine_fields::rule_word(x, i, 5) as usize;
     let k = own_notes(f, x, u, i, n);
@@ -212,7 +213,7 @@ pub fn rule_notes(f: &[u8], x: &[u32; 436], u: &mut [u32], i: usize, n: usize) -
 // with zeros.
 pub fn unsupported(f: &[u8], x: &[u32; 436], u: &mut [u32]) -> usize
     requires { ⌜ (1500 ≤ length (now u)) × ((i : ℕ) → getD (now u) i 0 ≡ 0) ⌝ }
-    ensures { λ k. ⌜ Holds (now (f .entry)) (unsupportedM (now (f .entry)) (now (x .entry))) k (now (u .exit)) ⌝ }
+    ensures { λ k. ⌜ Holds (was f) (unsupportedM (was f) (was x)) k (is u) ⌝ }
 {
     let rules = engine_fields::at_most(x[1], 32);
     let mut k: usize = 0;

@@ -6,14 +6,15 @@ use engine_state::State;
 use engine_state::add;
 use engine_state::after;
 use queue::Work;
+ghost use Rattle.notation.specs.Reference.{was};
 ghost use Prim.Native.Nat.{_<_};
-ghost use Rattle.engine_state.specs.Steps.{Moves, Does, goes, kept, still, Fits-q, Fits-qa};
+ghost use Rattle.engine_state.specs.Steps.{Moves, Does, goes, kept, still, Fits-q, Fits-qa, by};
 ghost use Rattle.engine_update.specs.Writes.{expiryM, changedM, updateM};
 
 // The entity's value will be stale.
 pub fn expiry(x: &[u32; 436], q: &mut [u32], versions: &[u32; 32], st: State, e: usize) -> State
     requires { ⌜ (e < 32) × Fits-q st (now q) ⌝ }
-    ensures { λ r. ⌜ Moves (expiryM (now (x .entry)) e) st r (goes (now (q .entry)) (now (q .exit))) kept kept still kept (goes (now (versions .entry)) (now (versions .entry))) kept ⌝ }
+    ensures { λ r. ⌜ Moves (expiryM (was x) e) st r (by q) kept kept still kept (goes (was versions) (was versions)) kept ⌝ }
 {
     let ttl = engine_fields::stale_of(x, e);
     if ttl == 4294967295 {
@@ -28,7 +29,7 @@ pub fn expiry(x: &[u32; 436], q: &mut [u32], versions: &[u32; 32], st: State, e:
 // Word of a change goes out, if there is one.
 pub fn changed(q: &mut [u32], st: State, m: Move) -> State
     requires { ⌜ Fits-q st (now q) ⌝ }
-    ensures { λ r. ⌜ Does (changedM m) st r (goes (now (q .entry)) (now (q .exit))) kept kept still ⌝ }
+    ensures { λ r. ⌜ Does (changedM m) st r (by q) kept kept still ⌝ }
 {
     if m.from == m.to {
         return st;
@@ -56,7 +57,7 @@ pub fn update(
     w: Setting,
 ) -> State
     requires { ⌜ Fits-qa st (now q) (now a) ⌝ }
-    ensures { λ r. ⌜ Moves (updateM (now (x .entry)) w) st r (goes (now (q .entry)) (now (q .exit))) (goes (now (a .entry)) (now (a .exit))) kept still (goes (now (values .entry)) (now (values .exit))) (goes (now (versions .entry)) (now (versions .exit))) kept ⌝ }
+    ensures { λ r. ⌜ Moves (updateM (was x) w) st r (by q) (by a) kept still (by values) (by versions) kept ⌝ }
 {
     let e = engine_fields::entity_of(x, w.entity);
     if 31 < e {

@@ -1,6 +1,7 @@
 // The entries for C (include/fukhtsege.h): the answer goes as numbers into a lent slice, and the result is 0, the refusal's
 // number, or 47 if that slice is too short; then nothing else happens.
 use model_validate::Validity;
+ghost use Rattle.notation.specs.Reference.{was, is};
 ghost use mathlib.Core.Path.{_≡_};
 ghost use Rattle.engine_entry.specs.Answers.{lent};
 ghost use Rattle.lint_spec.specs.Memory as lint;
@@ -15,7 +16,7 @@ pub const SHORT_ANSWER: u32 = 47;
 
 #[no_mangle]
 pub extern "C" fn fukhtsege_validate(file: &[u8]) -> u32
-    ensures { λ r. ⌜ r ≡ validityNumber (validated (now (file .entry))) ⌝ }
+    ensures { λ r. ⌜ r ≡ validityNumber (validated (was file)) ⌝ }
 {
     let v = model_validate::validate(file);
     match v {
@@ -28,7 +29,7 @@ pub extern "C" fn fukhtsege_validate(file: &[u8]) -> u32
 
 #[no_mangle]
 pub extern "C" fn fukhtsege_unsupported(file: &[u8], answer: &mut [u64]) -> u32
-    ensures { λ n. ⌜ ListsC (now (file .entry)) n (now (answer .entry)) (now (answer .exit)) ⌝ }
+    ensures { λ n. ⌜ ListsC (was file) n (was answer) (is answer) ⌝ }
 {
     if answer.len() < 1504 {
         return SHORT_ANSWER;
@@ -48,7 +49,7 @@ pub extern "C" fn fukhtsege_simulate(
     runs: &mut [u32],
     answer: &mut [u64],
 ) -> u32
-    ensures { λ n. ⌜ SimulatesC (now (file .entry)) n (lent (now (queue .entry)) (now (records .entry)) (now (runs .entry))) (lent (now (queue .exit)) (now (records .exit)) (now (runs .exit))) (now (answer .entry)) (now (answer .exit)) ⌝ }
+    ensures { λ n. ⌜ SimulatesC (was file) n (lent (was queue) (was records) (was runs)) (lent (is queue) (is records) (is runs)) (was answer) (is answer) ⌝ }
 {
     if answer.len() < 1540 {
         return SHORT_ANSWER;
@@ -69,7 +70,7 @@ pub extern "C" fn fukhtsege_check(
     runs: &mut [u32],
     answer: &mut [u64],
 ) -> u32
-    ensures { λ n. ⌜ ChecksC (now (file .entry)) n (lent (now (queue .entry)) (now (records .entry)) (now (runs .entry))) (lent (now (queue .exit)) (now (records .exit)) (now (runs .exit))) (now (answer .entry)) (now (answer .exit)) ⌝ }
+    ensures { λ n. ⌜ ChecksC (was file) n (lent (was queue) (was records) (was runs)) (lent (is queue) (is records) (is runs)) (was answer) (is answer) ⌝ }
 {
     if answer.len() < 4000 {
         return SHORT_ANSWER;
@@ -104,7 +105,7 @@ pub extern "C" fn fukhtsege_verify(
     output: &mut [u8],
     answer: &mut [u64],
 ) -> u32
-    ensures { λ n. ⌜ VerifiesC (now (file .entry)) n (lent (now (queue .entry)) (now (records .entry)) (now (runs .entry))) (lent (now (queue .exit)) (now (records .exit)) (now (runs .exit))) (now (output .entry)) (now (output .exit)) (now (answer .entry)) (now (answer .exit)) ⌝ }
+    ensures { λ n. ⌜ VerifiesC (was file) n (lent (was queue) (was records) (was runs)) (lent (is queue) (is records) (is runs)) (was output) (is output) (was answer) (is answer) ⌝ }
 {
     if answer.len() < 6076 {
         return SHORT_ANSWER;
@@ -150,7 +151,7 @@ pub extern "C" fn fukhtsege_minimize(
     output: &mut [u8],
     answer: &mut [u64],
 ) -> u32
-    ensures { λ n. ⌜ MinimizesC (now (file .entry)) n (lent (now (queue .entry)) (now (records .entry)) (now (runs .entry))) (lent (now (queue .exit)) (now (records .exit)) (now (runs .exit))) (now (output .entry)) (now (output .exit)) (now (answer .entry)) (now (answer .exit)) ⌝ }
+    ensures { λ n. ⌜ MinimizesC (was file) n (lent (was queue) (was records) (was runs)) (lent (is queue) (is records) (is runs)) (was output) (is output) (was answer) (is answer) ⌝ }
 {
     if answer.len() < 4408 {
         return SHORT_ANSWER;
@@ -169,7 +170,7 @@ pub extern "C" fn fukhtsege_lint(
     interactions: &mut [u32],
     answer: &mut [u64],
 ) -> u32
-    ensures { λ n. ⌜ LintsC (now (file .entry)) n (lint.lent (now (findings .entry)) (now (interactions .entry))) (lint.lent (now (findings .exit)) (now (interactions .exit))) (now (answer .entry)) (now (answer .exit)) ⌝ }
+    ensures { λ n. ⌜ LintsC (was file) n (lint.lent (was findings) (was interactions)) (lint.lent (is findings) (is interactions)) (was answer) (is answer) ⌝ }
 {
     if answer.len() < 228 {
         return SHORT_ANSWER;
@@ -183,7 +184,7 @@ pub extern "C" fn fukhtsege_lint(
 
 #[no_mangle]
 pub extern "C" fn fukhtsege_cone(file: &[u8], answer: &mut [u64]) -> u32
-    ensures { λ n. ⌜ ConesC (now (file .entry)) n (now (answer .entry)) (now (answer .exit)) ⌝ }
+    ensures { λ n. ⌜ ConesC (was file) n (was answer) (is answer) ⌝ }
 {
     if answer.len() < 68 {
         return SHORT_ANSWER;

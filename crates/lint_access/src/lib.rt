@@ -1,4 +1,5 @@
 // What an automation reads and writes: sets of declared entities, by their number in the file. The positions of the model's `many` entities are lent.
+ghost use Rattle.notation.specs.Reference.{was};
 ghost use mathlib.Core.Path.{_≡_};
 ghost use Prim.Native.Nat.{_≤_, _<_, _+_};
 ghost use Rattle.lint_walk.specs.Walks.{walkBy};
@@ -9,7 +10,7 @@ ghost use Rattle.lint_access.specs.Sets.{sectionBy, add-entityM, add-pre
 // The set with the entity that has this name, if it is declared.
 pub fn add_entity(s: &[u8], entities: &[usize; 100], many: u32, set: u32, place: u32) -> u32
     requires { ⌜ many ≤ 32 ⌝ }
-    ensures { λ r. ⌜ r ≡ add-entityM (now (s .entry)) (sectionBy (now (entities .entry)) many) place set ⌝ }
+    ensures { λ r. ⌜ r ≡ add-entityM (was s) (sectionBy (was entities) many) place set ⌝ }
 {
     let i = model_check::first_of(s, entities, many, place);
     let count = many as usize;
@@ -21,7 +22,7 @@ pub fn add_entity(s: &[u8], entities: &[usize; 100], many: u32, set: u32, place:
 
 pub fn add_predicate(s: &[u8], entities: &[usize; 100], many: u32, set: u32, at: usize) -> u32
     requires { ⌜ many ≤ 32 ⌝ }
-    ensures { λ r. ⌜ r ≡ add-predicateM (now (s .entry)) (sectionBy (now (entities .entry)) many) at set ⌝ }
+    ensures { λ r. ⌜ r ≡ add-predicateM (was s) (sectionBy (was entities) many) at set ⌝ }
 {
     if lint_walk::byte_at(s, at) == 0 {
         let place = lint_walk::place_at(s, lint_walk::past(s, at, 1));
@@ -35,7 +36,7 @@ pub fn add_predicate(s: &[u8], entities: &[usize; 100], many: u32, set: u32, at:
 // A count, and as many predicates.
 pub fn add_predicates(s: &[u8], entities: &[usize; 100], many: u32, set: u32, at: usize) -> u32
     requires { ⌜ many ≤ 32 ⌝ }
-    ensures { λ r. ⌜ r ≡ add-predicatesM (now (s .entry)) (sectionBy (now (entities .entry)) many) at set ⌝ }
+    ensures { λ r. ⌜ r ≡ add-predicatesM (was s) (sectionBy (was entities) many) at set ⌝ }
 {
     let mut left = lint_walk::place_at(s, at);
     let mut p = lint_walk::past(s, at, 2);
@@ -51,7 +52,7 @@ pub fn add_predicates(s: &[u8], entities: &[usize; 100], many: u32, set: u32, at
 // A trigger with a note isn't read.
 fn add_trigger(s: &[u8], entities: &[usize; 100], many: u32, set: u32, at: usize) -> u32
     requires { ⌜ many ≤ 32 ⌝ }
-    ensures { λ r. ⌜ r ≡ add-triggerM (now (s .entry)) (sectionBy (now (entities .entry)) many) at set ⌝ }
+    ensures { λ r. ⌜ r ≡ add-triggerM (was s) (sectionBy (was entities) many) at set ⌝ }
 {
     if lint_walk::place_at(s, lint_walk::past(s, at, 14)) == 65535 {
         let place = lint_walk::place_at(s, at);
@@ -63,7 +64,7 @@ fn add_trigger(s: &[u8], entities: &[usize; 100], many: u32, set: u32, at: usize
 // A count, and as many triggers.
 fn add_triggers(s: &[u8], entities: &[usize; 100], many: u32, set: u32, at: usize) -> u32
     requires { ⌜ many ≤ 32 ⌝ }
-    ensures { λ r. ⌜ r ≡ add-triggersM (now (s .entry)) (sectionBy (now (entities .entry)) many) at set ⌝ }
+    ensures { λ r. ⌜ r ≡ add-triggersM (was s) (sectionBy (was entities) many) at set ⌝ }
 {
     let mut left = lint_walk::place_at(s, at);
     let mut p = lint_walk::past(s, at, 2);
@@ -79,7 +80,7 @@ fn add_triggers(s: &[u8], entities: &[usize; 100], many: u32, set: u32, at: usiz
 // A count, and as many branches: the entities of their conditions.
 fn add_branches(s: &[u8], entities: &[usize; 100], many: u32, set: u32, at: usize) -> u32
     requires { ⌜ many ≤ 32 ⌝ }
-    ensures { λ r. ⌜ r ≡ add-branchesM (now (s .entry)) (sectionBy (now (entities .entry)) many) at set ⌝ }
+    ensures { λ r. ⌜ r ≡ add-branchesM (was s) (sectionBy (was entities) many) at set ⌝ }
 {
     let mut left = lint_walk::place_at(s, at);
     let mut p = lint_walk::past(s, at, 2);
@@ -97,7 +98,7 @@ fn add_branches(s: &[u8], entities: &[usize; 100], many: u32, set: u32, at: usiz
 // What an action reads: a condition, the conditions of a choice, a wait's entity.
 fn add_reads(s: &[u8], entities: &[usize; 100], many: u32, set: u32, at: usize) -> u32
     requires { ⌜ many ≤ 32 ⌝ }
-    ensures { λ r. ⌜ r ≡ add-readsM (now (s .entry)) (sectionBy (now (entities .entry)) many) at set ⌝ }
+    ensures { λ r. ⌜ r ≡ add-readsM (was s) (sectionBy (was entities) many) at set ⌝ }
 {
     let kind = lint_walk::kind_at(s, at);
     let p = lint_walk::past(s, at, 9);
@@ -116,7 +117,7 @@ fn add_reads(s: &[u8], entities: &[usize; 100], many: u32, set: u32, at: usize) 
 // What an action writes: a set's or a toggle's entity.
 fn add_write(s: &[u8], entities: &[usize; 100], many: u32, set: u32, at: usize) -> u32
     requires { ⌜ many ≤ 32 ⌝ }
-    ensures { λ r. ⌜ r ≡ add-writeM (now (s .entry)) (sectionBy (now (entities .entry)) many) at set ⌝ }
+    ensures { λ r. ⌜ r ≡ add-writeM (was s) (sectionBy (was entities) many) at set ⌝ }
 {
     if lint_walk::kind_at(s, at) < 2 {
         let place = lint_walk::place_at(s, lint_walk::past(s, at, 9));
@@ -137,7 +138,7 @@ pub fn reads(
     count: usize,
 ) -> u32
     requires { ⌜ (many ≤ 32) × (count ≤ 512) ⌝ }
-    ensures { λ r. ⌜ r ≡ readsM (now (s .entry)) (sectionBy (now (entities .entry)) many) at (walkBy (now (list .entry)) count) ⌝ }
+    ensures { λ r. ⌜ r ≡ readsM (was s) (sectionBy (was entities) many) at (walkBy (was list) count) ⌝ }
 {
     let mut set = add_triggers(s, entities, many, 0, lint_walk::triggers_at(s, at));
     let mut k: usize = 0;
@@ -157,7 +158,7 @@ pub fn writes(
     count: usize,
 ) -> u32
     requires { ⌜ (many ≤ 32) × (count ≤ 512) ⌝ }
-    ensures { λ r. ⌜ r ≡ writesM (now (s .entry)) (sectionBy (now (entities .entry)) many) (walkBy (now (list .entry)) count) ⌝ }
+    ensures { λ r. ⌜ r ≡ writesM (was s) (sectionBy (was entities) many) (walkBy (was list) count) ⌝ }
 {
     let mut set: u32 = 0;
     let mut k: usize = 0;

@@ -1,5 +1,6 @@
 // The findings and interactions in two lent areas of words: 14 words for a finding, 3 for an interaction.
 // The first insertion that its area has no place for is noted, and nothing is inserted after it.
+ghost use Rattle.notation.specs.Reference.{was, is};
 ghost use mathlib.Core.Path.{_≡_};
 ghost use Prim.Native.Nat.{_+_, _*_, _≤_, _<_};
 ghost use mathlib.Core.List.{List, _∷_, []};
@@ -16,7 +17,7 @@ pub struct Out {
 
 // A finding more.
 pub fn push_finding(findings: &mut [u32], o: Out, words: [u32; 14]) -> Out
-    ensures { λ r. ⌜ ((i : List ℕ) → board (now (findings .exit)) i r ≡ pushes (finding words ∷ []) (board (now (findings .entry)) i o)) ⌝ }
+    ensures { λ r. ⌜ ((i : List ℕ) → board (is findings) i r ≡ pushes (finding words ∷ []) (board (was findings) i o)) ⌝ }
 {
     if o.refusal != 0 {
         return o;
@@ -39,7 +40,7 @@ pub fn push_finding(findings: &mut [u32], o: Out, words: [u32; 14]) -> Out
 
 // A finding more, if the test holds.
 pub fn push_if(findings: &mut [u32], o: Out, test: bool, words: [u32; 14]) -> Out
-    ensures { λ r. ⌜ ((i : List ℕ) → board (now (findings .exit)) i r ≡ pushes (onlyIf test (finding words)) (board (now (findings .entry)) i o)) ⌝ }
+    ensures { λ r. ⌜ ((i : List ℕ) → board (is findings) i r ≡ pushes (onlyIf test (finding words)) (board (was findings) i o)) ⌝ }
 {
     if test {
         return push_finding(findings, o, words);
@@ -49,7 +50,7 @@ pub fn push_if(findings: &mut [u32], o: Out, test: bool, words: [u32; 14]) -> Ou
 
 // An interaction more.
 pub fn push_interaction(interactions: &mut [u32], o: Out, words: [u32; 3]) -> Out
-    ensures { λ r. ⌜ ((f : List ℕ) → board f (now (interactions .exit)) r ≡ pushes (interaction words ∷ []) (board f (now (interactions .entry)) o)) ⌝ }
+    ensures { λ r. ⌜ ((f : List ℕ) → board f (is interactions) r ≡ pushes (interaction words ∷ []) (board f (was interactions) o)) ⌝ }
 {
     if 0 < o.refusal {
         return o;
@@ -72,7 +73,7 @@ pub fn push_interaction(interactions: &mut [u32], o: Out, words: [u32; 3]) -> Ou
 
 // An interaction more, if the test holds.
 pub fn interact_if(interactions: &mut [u32], o: Out, test: bool, words: [u32; 3]) -> Out
-    ensures { λ r. ⌜ ((f : List ℕ) → board f (now (interactions .exit)) r ≡ pushes (onlyIf test (interaction words)) (board f (now (interactions .entry)) o)) ⌝ }
+    ensures { λ r. ⌜ ((f : List ℕ) → board f (is interactions) r ≡ pushes (onlyIf test (interaction words)) (board f (was interactions) o)) ⌝ }
 {
     if test {
         return push_interaction(interactions, o, words);
@@ -82,7 +83,7 @@ pub fn interact_if(interactions: &mut [u32], o: Out, test: bool, words: [u32; 3]
 
 // Both areas as zeros.
 pub fn clear(findings: &mut [u32], interactions: &mut [u32])
-    ensures { λ _. ⌜ (now (findings .exit) ≡ replicate (length (now (findings .entry))) 0) × (now (interactions .exit) ≡ replicate (length (now (interactions .entry))) 0) ⌝ }
+    ensures { λ _. ⌜ (is findings ≡ replicate (length (was findings)) 0) × (is interactions ≡ replicate (length (was interactions)) 0) ⌝ }
 {
     areas::clear_all(findings);
     areas::clear_all(interactions);

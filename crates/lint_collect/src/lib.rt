@@ -4,6 +4,7 @@ use lint_conditions::Given;
 use lint_findings::About;
 use lint_reach::Components;
 use model_parts::Extent;
+ghost use Rattle.notation.specs.Reference.{was, is};
 ghost use mathlib.Core.Path.{_≡_};
 ghost use mathlib.Core.List.{List};
 ghost use Prim.Native.Nat.{ℕ, _≤_, _<_, _+_, _-_};
@@ -25,7 +26,7 @@ fn about(
     writes: u32,
 ) -> About
     requires { ⌜ (extent .count ≤ 32) × (i < 32) ⌝ }
-    ensures { λ r. ⌜ r ≡ aboutAt (now (s .entry)) (sectionOf (now (entities .entry)) extent) i source writes ⌝ }
+    ensures { λ r. ⌜ r ≡ aboutAt (was s) (sectionOf (was entities) extent) i source writes ⌝ }
 {
     let line = lint_walk::number_at(s, source);
     let column = lint_walk::number_at(s, lint_walk::past(s, source, 4));
@@ -51,7 +52,7 @@ fn rule_entries(
     o: Out,
 ) -> Out
     requires { ⌜ (given .entities .count ≤ 32) × (given .invariants .count ≤ 32) × (given .rules .count ≤ 32) × (i < 32) ⌝ }
-    ensures { λ r. ⌜ board (now (findings .exit)) (now (interactions .exit)) r ≡ pushes (ruleAt (now (s .entry)) (namesBy (now (entities .entry)) (now (invariants .entry)) given) (sectionOf (now (rules .entry)) (given .rules)) i) (board (now (findings .entry)) (now (interactions .entry)) o) ⌝ }
+    ensures { λ r. ⌜ board (is findings) (is interactions) r ≡ pushes (ruleAt (was s) (namesBy (was entities) (was invariants) given) (sectionOf (was rules) (given .rules)) i) (board (was findings) (was interactions) o) ⌝ }
 {
     let at = rules[i];
     let mut list = [0usize; 512];
@@ -92,7 +93,7 @@ pub fn rules_entries(
     o: Out,
 ) -> Out
     requires { ⌜ (given .entities .count ≤ 32) × (given .invariants .count ≤ 32) × (given .rules .count ≤ 32) ⌝ }
-    ensures { λ r. ⌜ board (now (findings .exit)) (now (interactions .exit)) r ≡ pushes (rulesItems (now (s .entry)) (namesBy (now (entities .entry)) (now (invariants .entry)) given) (sectionOf (now (rules .entry)) (given .rules))) (board (now (findings .entry)) (now (interactions .entry)) o) ⌝ }
+    ensures { λ r. ⌜ board (is findings) (is interactions) r ≡ pushes (rulesItems (was s) (namesBy (was entities) (was invariants) given) (sectionOf (was rules) (given .rules))) (board (was findings) (was interactions) o) ⌝ }
 {
     let extent = given.rules;
     let count = extent.count as usize;
@@ -132,7 +133,7 @@ fn pair_entries(
     o: Out,
 ) -> Out
     requires { ⌜ (given .entities .count ≤ 32) × (i < 32) × (j < 32) × (count ≤ 512) ⌝ }
-    ensures { λ r. ⌜ ((k : List ℕ) → board (now (findings .exit)) k r ≡ pushes (pairAt (now (s .entry)) (namesBy (now (entities .entry)) (now (invariants .entry)) given) (sectionOf (now (rules .entry)) (given .rules)) i (walkBy (now (list .entry)) count) j) (board (now (findings .entry)) k o)) ⌝ }
+    ensures { λ r. ⌜ ((k : List ℕ) → board (is findings) k r ≡ pushes (pairAt (was s) (namesBy (was entities) (was invariants) given) (sectionOf (was rules) (given .rules)) i (walkBy (was list) count) j) (board (was findings) k o)) ⌝ }
 {
     let mut others = [0usize; 512];
     let c = lint_walk::rule_walk(s, rules[j], &mut others);
@@ -164,7 +165,7 @@ fn later_entries(
     o: Out,
 ) -> Out
     requires { ⌜ (given .entities .count ≤ 32) × (given .rules .count ≤ 32) × (i < 32) ⌝ }
-    ensures { λ r. ⌜ ((k : List ℕ) → board (now (findings .exit)) k r ≡ pushes (laterItems (now (s .entry)) (namesBy (now (entities .entry)) (now (invariants .entry)) given) (sectionOf (now (rules .entry)) (given .rules)) i) (board (now (findings .entry)) k o)) ⌝ }
+    ensures { λ r. ⌜ ((k : List ℕ) → board (is findings) k r ≡ pushes (laterItems (was s) (namesBy (was entities) (was invariants) given) (sectionOf (was rules) (given .rules)) i) (board (was findings) k o)) ⌝ }
 {
     let extent = given.rules;
     let count = extent.count as usize;
@@ -206,7 +207,7 @@ pub fn opposing_entries(
     o: Out,
 ) -> Out
     requires { ⌜ (given .entities .count ≤ 32) × (given .rules .count ≤ 32) ⌝ }
-    ensures { λ r. ⌜ ((k : List ℕ) → board (now (findings .exit)) k r ≡ pushes (opposingItems (now (s .entry)) (namesBy (now (entities .entry)) (now (invariants .entry)) given) (sectionOf (now (rules .entry)) (given .rules))) (board (now (findings .entry)) k o)) ⌝ }
+    ensures { λ r. ⌜ ((k : List ℕ) → board (is findings) k r ≡ pushes (opposingItems (was s) (namesBy (was entities) (was invariants) given) (sectionOf (was rules) (given .rules))) (board (was findings) k o)) ⌝ }
 {
     let extent = given.rules;
     let count = extent.count as usize;
@@ -224,7 +225,7 @@ pub fn opposing_entries(
 // Whether a write among the first `count` actions of `list` can set off the automation at a position.
 fn leads_to(s: &[u8], star: u32, list: &[usize; 512], count: usize, at: usize) -> bool
     requires { ⌜ count ≤ 512 ⌝ }
-    ensures { λ r. ⌜ r ≡ leadsToM (now (s .entry)) star (walkBy (now (list .entry)) count) at ⌝ }
+    ensures { λ r. ⌜ r ≡ leadsToM (was s) star (walkBy (was list) count) at ⌝ }
 {
     let mut k: usize = 0;
     while k < count {
@@ -238,7 +239,7 @@ fn leads_to(s: &[u8], star: u32, list: &[usize; 512], count: usize, at: usize) -
 
 // Whether the action at a position writes and can set off the automation at another.
 fn action_leads(s: &[u8], star: u32, action: usize, at: usize) -> bool
-    ensures { λ r. ⌜ r ≡ actionLeadsM (now (s .entry)) star at action ⌝ }
+    ensures { λ r. ⌜ r ≡ actionLeadsM (was s) star at action ⌝ }
 {
     if 1 < lint_walk::kind_at(s, action) {
         return false;
@@ -258,7 +259,7 @@ fn reach_row(
     count: usize,
 ) -> [bool; 32]
     requires { ⌜ (extent .count ≤ 32) × (count ≤ 512) ⌝ }
-    ensures { λ r. ⌜ r ≡ rowM (now (s .entry)) star (sectionOf (now (rules .entry)) extent) (walkBy (now (list .entry)) count) ⌝ }
+    ensures { λ r. ⌜ r ≡ rowM (was s) star (sectionOf (was rules) extent) (walkBy (was list) count) ⌝ }
 {
     let n = extent.count as usize;
     let mut row = [false; 32];
@@ -273,7 +274,7 @@ fn reach_row(
 // Which automations lead to which.
 pub fn edges(s: &[u8], star: u32, rules: &[usize; 100], extent: Extent) -> [[bool; 32]; 32]
     requires { ⌜ extent .count ≤ 32 ⌝ }
-    ensures { λ r. ⌜ r ≡ edgesM (now (s .entry)) star (sectionOf (now (rules .entry)) extent) ⌝ }
+    ensures { λ r. ⌜ r ≡ edgesM (was s) star (sectionOf (was rules) extent) ⌝ }
 {
     let count = extent.count as usize;
     let mut start = [[false; 32]; 32];
@@ -290,7 +291,7 @@ pub fn edges(s: &[u8], star: u32, rules: &[usize; 100], extent: Extent) -> [[boo
 // The components of the automations that lead to each other.
 pub fn find_components(s: &[u8], star: u32, rules: &[usize; 100], extent: Extent) -> Components
     requires { ⌜ extent .count ≤ 32 ⌝ }
-    ensures { λ r. ⌜ Cycles (edgesM (now (s .entry)) star (sectionOf (now (rules .entry)) extent)) (extent .count) r ⌝ }
+    ensures { λ r. ⌜ Cycles (edgesM (was s) star (sectionOf (was rules) extent)) (extent .count) r ⌝ }
 {
     lint_reach::cycles(edges(s, star, rules, extent), extent.count as usize)
 }
@@ -306,7 +307,7 @@ fn cycle_writes(
     set: u32,
 ) -> u32
     requires { ⌜ (given .entities .count ≤ 32) × (given .rules .count ≤ 32) ⌝ }
-    ensures { λ r. ⌜ r ≡ cycleWritesM (now (s .entry)) (sectionOf (now (entities .entry)) (given .entities)) (sectionOf (now (rules .entry)) (given .rules)) set ⌝ }
+    ensures { λ r. ⌜ r ≡ cycleWritesM (was s) (sectionOf (was entities) (given .entities)) (sectionOf (was rules) (given .rules)) set ⌝ }
 {
     let extent = given.rules;
     let count = extent.count as usize;
@@ -337,7 +338,7 @@ fn cycle_words(
     set: u32,
 ) -> [u32; 14]
     requires { ⌜ (given .entities .count ≤ 32) × (given .rules .count ≤ 32) ⌝ }
-    ensures { λ w. ⌜ w ≡ cycleM (now (s .entry)) (sectionOf (now (entities .entry)) (given .entities)) (sectionOf (now (rules .entry)) (given .rules)) set ⌝ }
+    ensures { λ w. ⌜ w ≡ cycleM (was s) (sectionOf (was entities) (given .entities)) (sectionOf (was rules) (given .rules)) set ⌝ }
 {
     let writes = cycle_writes(s, entities, rules, given, set);
     let tier = lint_conditions::highest(s, entities, given.entities, writes);
@@ -355,7 +356,7 @@ pub fn cycle_entries(
     o: Out,
 ) -> Out
     requires { ⌜ (given .entities .count ≤ 32) × (given .rules .count ≤ 32) × (found .count ≤ 32) ⌝ }
-    ensures { λ r. ⌜ ((k : List ℕ) → board (now (findings .exit)) k r ≡ pushes (cyclesItems (now (s .entry)) (sectionOf (now (entities .entry)) (given .entities)) (sectionOf (now (rules .entry)) (given .rules)) found) (board (now (findings .entry)) k o)) ⌝ }
+    ensures { λ r. ⌜ ((k : List ℕ) → board (is findings) k r ≡ pushes (cyclesItems (was s) (sectionOf (was entities) (given .entities)) (sectionOf (was rules) (given .rules)) found) (board (was findings) k o)) ⌝ }
 {
     let count = found.count;
     let mut out = o;
@@ -391,7 +392,7 @@ pub fn entries(
     o: Out,
 ) -> Linted
     requires { ⌜ (given .entities .count ≤ 32) × (given .invariants .count ≤ 32) × (given .rules .count ≤ 32) ⌝ }
-    ensures { λ r. ⌜ Lints (now (s .entry)) (namesBy (now (entities .entry)) (now (invariants .entry)) given) (sectionOf (now (rules .entry)) (given .rules)) (board (now (findings .entry)) (now (interactions .entry)) o) r (board (now (findings .exit)) (now (interactions .exit)) (r .out)) ⌝ }
+    ensures { λ r. ⌜ Lints (was s) (namesBy (was entities) (was invariants) given) (sectionOf (was rules) (given .rules)) (board (was findings) (was interactions) o) r (board (is findings) (is interactions) (r .out)) ⌝ }
 {
     let p = rules_entries(
         s,

@@ -1,6 +1,7 @@
 // The tests of lint, on places in the file.
 use model_parts::Extent;
 use model_parts::Section;
+ghost use Rattle.notation.specs.Reference.{was};
 ghost use mathlib.Core.Path.{_≡_};
 ghost use Prim.Native.Nat.{_≤_, _<_, _+_, _-_};
 ghost use Rattle.lint_walk.specs.Walks.{walkBy};
@@ -30,7 +31,7 @@ pub struct Given {
 
 // Whether the predicate at a position wants another value of the entity x than v.
 fn clash(s: &[u8], x: u32, v: u32, at: usize) -> bool
-    ensures { λ r. ⌜ r ≡ clashM (now (s .entry)) x v at ⌝ }
+    ensures { λ r. ⌜ r ≡ clashM (was s) x v at ⌝ }
 {
     if lint_walk::byte_at(s, at) != 0 {
         return false;
@@ -43,7 +44,7 @@ fn clash(s: &[u8], x: u32, v: u32, at: usize) -> bool
 
 // Whether one of so many predicates does.
 fn clashes(s: &[u8], x: u32, v: u32, count: u32, at: usize) -> bool
-    ensures { λ r. ⌜ r ≡ clashesM (now (s .entry)) x v count at ⌝ }
+    ensures { λ r. ⌜ r ≡ clashesM (was s) x v count at ⌝ }
 {
     let mut left = count;
     let mut p = at;
@@ -59,7 +60,7 @@ fn clashes(s: &[u8], x: u32, v: u32, count: u32, at: usize) -> bool
 
 // Whether the predicate at a position clashes with one of those behind it.
 fn meets(s: &[u8], behind: u32, at: usize) -> bool
-    ensures { λ r. ⌜ r ≡ meetsM (now (s .entry)) behind at ⌝ }
+    ensures { λ r. ⌜ r ≡ meetsM (was s) behind at ⌝ }
 {
     if lint_walk::byte_at(s, at) != 0 {
         return false;
@@ -71,7 +72,7 @@ fn meets(s: &[u8], behind: u32, at: usize) -> bool
 
 // Whether two predicates behind a count want different values of one entity.
 pub fn contradictory(s: &[u8], at: usize) -> bool
-    ensures { λ r. ⌜ r ≡ contradictoryM (now (s .entry)) at ⌝ }
+    ensures { λ r. ⌜ r ≡ contradictoryM (was s) at ⌝ }
 {
     let mut left = lint_walk::place_at(s, at);
     let mut p = lint_walk::past(s, at, 2);
@@ -89,7 +90,7 @@ pub fn contradictory(s: &[u8], at: usize) -> bool
 
 // Whether the trigger at a position has a target other than the conditions at another want.
 fn mismatch(s: &[u8], conditions: usize, at: usize) -> bool
-    ensures { λ r. ⌜ r ≡ mismatchM (now (s .entry)) conditions at ⌝ }
+    ensures { λ r. ⌜ r ≡ mismatchM (was s) conditions at ⌝ }
 {
     if lint_walk::place_at(s, lint_walk::past(s, at, 14)) != 65535 {
         return false;
@@ -105,7 +106,7 @@ fn mismatch(s: &[u8], conditions: usize, at: usize) -> bool
 
 // Whether all triggers of the automation at a position have.
 pub fn mismatched(s: &[u8], at: usize) -> bool
-    ensures { λ r. ⌜ r ≡ mismatchedM (now (s .entry)) at ⌝ }
+    ensures { λ r. ⌜ r ≡ mismatchedM (was s) at ⌝ }
 {
     let conditions = lint_walk::conditions_at(s, at);
     let triggers = lint_walk::triggers_at(s, at);
@@ -123,7 +124,7 @@ pub fn mismatched(s: &[u8], at: usize) -> bool
 
 // Whether a write of the value v to the entity x can set the trigger at a position off.
 fn sets_off(s: &[u8], star: u32, x: u32, v: u32, at: usize) -> bool
-    ensures { λ r. ⌜ r ≡ setsOffM (now (s .entry)) star x v at ⌝ }
+    ensures { λ r. ⌜ r ≡ setsOffM (was s) star x v at ⌝ }
 {
     if lint_walk::place_at(s, lint_walk::past(s, at, 14)) != 65535 {
         return false;
@@ -143,7 +144,7 @@ fn sets_off(s: &[u8], star: u32, x: u32, v: u32, at: usize) -> bool
 
 // Whether it can set a trigger of the automation at a position off.
 pub fn leads(s: &[u8], star: u32, x: u32, v: u32, at: usize) -> bool
-    ensures { λ r. ⌜ r ≡ leadsM (now (s .entry)) star x v at ⌝ }
+    ensures { λ r. ⌜ r ≡ leadsM (was s) star x v at ⌝ }
 {
     let triggers = lint_walk::triggers_at(s, at);
     let mut left = lint_walk::place_at(s, triggers);
@@ -163,7 +164,7 @@ pub fn leads(s: &[u8], star: u32, x: u32, v: u32, at: usize) -> bool
 // Whether one of the first `count` actions of `list` is a delay.
 pub fn delays(s: &[u8], list: &[usize; 512], count: usize) -> bool
     requires { ⌜ count ≤ 512 ⌝ }
-    ensures { λ r. ⌜ r ≡ delaysM (now (s .entry)) (walkBy (now (list .entry)) count) ⌝ }
+    ensures { λ r. ⌜ r ≡ delaysM (was s) (walkBy (was list) count) ⌝ }
 {
     let mut k: usize = 0;
     while k < count {
@@ -192,7 +193,7 @@ pub fn opposed(star: u32, x: u32, v: u32, y: u32, u: u32) -> bool
 
 // Whether the invariant at a position is a guard of the entity x and the value v.
 fn guard(s: &[u8], x: u32, v: u32, at: usize) -> bool
-    ensures { λ r. ⌜ r ≡ guardM (now (s .entry)) x v at ⌝ }
+    ensures { λ r. ⌜ r ≡ guardM (was s) x v at ⌝ }
 {
     if lint_walk::byte_at(s, at) != 1 {
         return false;
@@ -205,7 +206,7 @@ fn guard(s: &[u8], x: u32, v: u32, at: usize) -> bool
 
 fn guarded(s: &[u8], invariants: &[usize; 100], extent: Extent, x: u32, v: u32) -> bool
     requires { ⌜ extent .count ≤ 32 ⌝ }
-    ensures { λ r. ⌜ r ≡ guardedM (now (s .entry)) (sectionOf (now (invariants .entry)) extent) x v ⌝ }
+    ensures { λ r. ⌜ r ≡ guardedM (was s) (sectionOf (was invariants) extent) x v ⌝ }
 {
     let count = extent.count as usize;
     let mut k: usize = 0;
@@ -228,7 +229,7 @@ pub fn unguarded(
     v: u32,
 ) -> bool
     requires { ⌜ given .invariants .count ≤ 32 ⌝ }
-    ensures { λ r. ⌜ r ≡ unguardedM (now (s .entry)) (namesBy (now (entities .entry)) (now (invariants .entry)) given) x v ⌝ }
+    ensures { λ r. ⌜ r ≡ unguardedM (was s) (namesBy (was entities) (was invariants) given) x v ⌝ }
 {
     if v == given.star {
         if !guarded(s, invariants, given.invariants, x, given.on) {
@@ -243,7 +244,7 @@ pub fn unguarded(
 
 // The tier: it stands behind the name, the domain and the initial value.
 pub fn tier(s: &[u8], at: usize) -> u32
-    ensures { λ r. ⌜ r ≡ tierM (now (s .entry)) at ⌝ }
+    ensures { λ r. ⌜ r ≡ tierM (was s) at ⌝ }
 {
     let domain = lint_walk::past(s, at, 2);
     let count = lint_walk::place_at(s, domain) as usize;
@@ -255,7 +256,7 @@ pub fn tier(s: &[u8], at: usize) -> u32
 
 // Whether there is a time after which the value is stale.
 pub fn stale(s: &[u8], at: usize) -> bool
-    ensures { λ r. ⌜ r ≡ staleM (now (s .entry)) at ⌝ }
+    ensures { λ r. ⌜ r ≡ staleM (was s) at ⌝ }
 {
     let domain = lint_walk::past(s, at, 2);
     let count = lint_walk::place_at(s, domain) as usize;
@@ -278,7 +279,7 @@ fn greater(a: u32, b: u32) -> u32
 // The highest tier among the entities of a set.
 pub fn highest(s: &[u8], entities: &[usize; 100], extent: Extent, set: u32) -> u32
     requires { ⌜ extent .count ≤ 32 ⌝ }
-    ensures { λ r. ⌜ r ≡ highestM (now (s .entry)) (sectionOf (now (entities .entry)) extent) set ⌝ }
+    ensures { λ r. ⌜ r ≡ highestM (was s) (sectionOf (was entities) extent) set ⌝ }
 {
     let count = extent.count as usize;
     let mut best: u32 = 0;

@@ -7,6 +7,7 @@ use lint_reach::Components;
 use model_index::Index;
 use model_index::Status;
 use model_parts::Extent;
+ghost use Rattle.notation.specs.Reference.{was, is};
 ghost use mathlib.Core.Path.{_≡_};
 ghost use Prim.Native.Nat.{_≤_, _<_, _+_, _-_};
 ghost use lib.ListN.{length};
@@ -84,7 +85,7 @@ fn rule_sets(
     extent: Extent,
 ) -> Touched
     requires { ⌜ (declared .count ≤ 32) × (extent .count ≤ 32) ⌝ }
-    ensures { λ r. ⌜ (r .reads ≡ readSets (now (s .entry)) (sectionOf (now (entities .entry)) declared) (sectionOf (now (rules .entry)) extent)) × (r .writes ≡ writeSets (now (s .entry)) (sectionOf (now (entities .entry)) declared) (sectionOf (now (rules .entry)) extent)) ⌝ }
+    ensures { λ r. ⌜ (r .reads ≡ readSets (was s) (sectionOf (was entities) declared) (sectionOf (was rules) extent)) × (r .writes ≡ writeSets (was s) (sectionOf (was entities) declared) (sectionOf (was rules) extent)) ⌝ }
 {
     let n = extent.count as usize;
     let many = declared.count;
@@ -107,7 +108,7 @@ fn rule_sets(
 
 // What the tests need of a model with so many texts, beside positions.
 fn given_of(s: &[u8], entities: Extent, invariants: Extent, rules: Extent, texts: u32) -> Given
-    ensures { λ r. ⌜ r ≡ givenBy (now (s .entry)) entities invariants rules texts ⌝ }
+    ensures { λ r. ⌜ r ≡ givenBy (was s) entities invariants rules texts ⌝ }
 {
     Given {
         entities,
@@ -122,7 +123,7 @@ fn given_of(s: &[u8], entities: Extent, invariants: Extent, rules: Extent, texts
 // The answer of a model whose entries all have their place.
 fn told(s: &[u8], index: Index, out: Out, found: Components) -> Report
     requires { ⌜ Bounds index × (found .count ≤ 32) ⌝ }
-    ensures { λ r. ⌜ Tells (now (s .entry)) index out found r ⌝ }
+    ensures { λ r. ⌜ Tells (was s) index out found r ⌝ }
 {
     let entities = index.entities;
     let end = entities.end;
@@ -169,7 +170,7 @@ fn told(s: &[u8], index: Index, out: Out, found: Components) -> Report
 // All entries of an accepted model into areas of zeros: their counts or the refusal, and the components.
 fn inserted(s: &[u8], index: Index, findings: &mut [u32], interactions: &mut [u32]) -> Linted
     requires { ⌜ Bounds index ⌝ }
-    ensures { λ r. ⌜ Inserts (now (s .entry)) index (now (findings .entry)) (now (interactions .entry)) r (board (now (findings .exit)) (now (interactions .exit)) (r .out)) ⌝ }
+    ensures { λ r. ⌜ Inserts (was s) index (was findings) (was interactions) r (board (is findings) (is interactions) (r .out)) ⌝ }
 {
     let entities = index.entities;
     let end = entities.end;
@@ -214,7 +215,7 @@ fn inserted(s: &[u8], index: Index, findings: &mut [u32], interactions: &mut [u3
 // The lint of an accepted model.
 fn linted(s: &[u8], index: Index, findings: &mut [u32], interactions: &mut [u32]) -> Report
     requires { ⌜ Bounds index ⌝ }
-    ensures { λ r. ⌜ AnswersAs (now (s .entry)) index r (lent (now (findings .entry)) (now (interactions .entry))) (lent (now (findings .exit)) (now (interactions .exit))) ⌝ }
+    ensures { λ r. ⌜ AnswersAs (was s) index r (lent (was findings) (was interactions)) (lent (is findings) (is interactions)) ⌝ }
 {
     let l = inserted(s, index, findings, interactions);
     let out = l.out;
@@ -227,7 +228,7 @@ fn linted(s: &[u8], index: Index, findings: &mut [u32], interactions: &mut [u32]
 
 // The lint of a model file, with lent areas of any size.
 pub fn lint(file: &[u8], findings: &mut [u32], interactions: &mut [u32]) -> Report
-    ensures { λ r. ⌜ Answers (now (file .entry)) r (lent (now (findings .entry)) (now (interactions .entry))) (lent (now (findings .exit)) (now (interactions .exit))) ⌝ }
+    ensures { λ r. ⌜ Answers (was file) r (lent (was findings) (was interactions)) (lent (is findings) (is interactions)) ⌝ }
 {
     let x = model_validate::accept(file);
     let status = x.status;

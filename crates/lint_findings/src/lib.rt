@@ -2,6 +2,7 @@
 use lint_areas::Out;
 use lint_conditions::Given;
 use model_parts::Extent;
+ghost use Rattle.notation.specs.Reference.{was, is};
 ghost use mathlib.Core.Path.{_≡_};
 ghost use mathlib.Core.List.{List};
 ghost use Prim.Native.Nat.{ℕ, _≤_, _<_, _+_, _-_};
@@ -45,7 +46,7 @@ fn finding(a: About, code: u32, certainty: u32, entity: u32, line: u32, column: 
 
 // The same at the source of the action at a position.
 fn at_action(s: &[u8], a: About, code: u32, certainty: u32, entity: u32, at: usize) -> [u32; 14]
-    ensures { λ w. ⌜ w ≡ actionM (now (s .entry)) a code certainty entity at ⌝ }
+    ensures { λ w. ⌜ w ≡ actionM (was s) a code certainty entity at ⌝ }
 {
     let line = lint_walk::number_at(s, at);
     let column = lint_walk::number_at(s, lint_walk::past(s, at, 4));
@@ -56,7 +57,7 @@ fn at_action(s: &[u8], a: About, code: u32, certainty: u32, entity: u32, at: usi
 
 fn delayed(s: &[u8], list: &[usize; 512], count: usize, writes: u32) -> bool
     requires { ⌜ count ≤ 512 ⌝ }
-    ensures { λ r. ⌜ r ≡ delayedM (now (s .entry)) (walkBy (now (list .entry)) count) writes ⌝ }
+    ensures { λ r. ⌜ r ≡ delayedM (was s) (walkBy (was list) count) writes ⌝ }
 {
     if writes == 0 {
         return false;
@@ -75,7 +76,7 @@ fn own_findings(
     o: Out,
 ) -> Out
     requires { ⌜ count ≤ 512 ⌝ }
-    ensures { λ r. ⌜ ((i : List ℕ) → board (now (findings .exit)) i r ≡ pushes (ownItems (now (s .entry)) a at (walkBy (now (list .entry)) count) writes) (board (now (findings .entry)) i o)) ⌝ }
+    ensures { λ r. ⌜ ((i : List ℕ) → board (is findings) i r ≡ pushes (ownItems (was s) a at (walkBy (was list) count) writes) (board (was findings) i o)) ⌝ }
 {
     let line = a.line;
     let column = a.column;
@@ -91,7 +92,7 @@ fn own_findings(
 
 // The branches of the choice at a position that are never taken.
 fn choice_findings(s: &[u8], a: About, at: usize, findings: &mut [u32], o: Out) -> Out
-    ensures { λ r. ⌜ ((i : List ℕ) → board (now (findings .exit)) i r ≡ pushes (branchItems (now (s .entry)) a at) (board (now (findings .entry)) i o)) ⌝ }
+    ensures { λ r. ⌜ ((i : List ℕ) → board (is findings) i r ≡ pushes (branchItems (was s) a at) (board (was findings) i o)) ⌝ }
 {
     let words = at_action(s, a, 3, 0, 0, at);
     let start = lint_walk::past(s, at, 9);
@@ -115,7 +116,7 @@ fn branch_findings(
     o: Out,
 ) -> Out
     requires { ⌜ count ≤ 512 ⌝ }
-    ensures { λ r. ⌜ ((i : List ℕ) → board (now (findings .exit)) i r ≡ pushes (branchesItems (now (s .entry)) a (walkBy (now (list .entry)) count)) (board (now (findings .entry)) i o)) ⌝ }
+    ensures { λ r. ⌜ ((i : List ℕ) → board (is findings) i r ≡ pushes (branchesItems (was s) a (walkBy (was list) count)) (board (was findings) i o)) ⌝ }
 {
     let mut out = o;
     let mut k: usize = 0;
@@ -135,7 +136,7 @@ fn branch_findings(
 
 fn stale_here(s: &[u8], entities: &[usize; 100], extent: Extent, reads: u32, k: usize) -> bool
     requires { ⌜ k < 32 ⌝ }
-    ensures { λ r. ⌜ r ≡ staleHereM (now (s .entry)) (sectionOf (now (entities .entry)) extent) reads k ⌝ }
+    ensures { λ r. ⌜ r ≡ staleHereM (was s) (sectionOf (was entities) extent) reads k ⌝ }
 {
     if lint_reach::has(reads, k) {
         return lint_conditions::stale(s, entities[k]);
@@ -153,7 +154,7 @@ fn fresh_findings(
     o: Out,
 ) -> Out
     requires { ⌜ extent .count ≤ 32 ⌝ }
-    ensures { λ r. ⌜ ((i : List ℕ) → board (now (findings .exit)) i r ≡ pushes (freshItems (now (s .entry)) a (sectionOf (now (entities .entry)) extent) reads) (board (now (findings .entry)) i o)) ⌝ }
+    ensures { λ r. ⌜ ((i : List ℕ) → board (is findings) i r ≡ pushes (freshItems (was s) a (sectionOf (was entities) extent) reads) (board (was findings) i o)) ⌝ }
 {
     let count = extent.count as usize;
     let line = a.line;
@@ -177,7 +178,7 @@ fn fresh_findings(
 
 // The value that the action at a position writes: a toggle's is `*`.
 pub fn value(s: &[u8], star: u32, at: usize) -> u32
-    ensures { λ r. ⌜ r ≡ valueM (now (s .entry)) star at ⌝ }
+    ensures { λ r. ⌜ r ≡ valueM (was s) star at ⌝ }
 {
     if lint_walk::kind_at(s, at) == 1 {
         return star;
@@ -196,7 +197,7 @@ fn risky(
     e: usize,
 ) -> bool
     requires { ⌜ (given .invariants .count ≤ 32) × (e < 100) ⌝ }
-    ensures { λ r. ⌜ r ≡ riskyM (now (s .entry)) (namesBy (now (entities .entry)) (now (invariants .entry)) given) x v e ⌝ }
+    ensures { λ r. ⌜ r ≡ riskyM (was s) (namesBy (was entities) (was invariants) given) x v e ⌝ }
 {
     if lint_conditions::tier(s, entities[e]) < 2 {
         return false;
@@ -218,7 +219,7 @@ fn interactions_of(
     o: Out,
 ) -> Out
     requires { ⌜ extent .count ≤ 32 ⌝ }
-    ensures { λ r. ⌜ ((f : List ℕ) → board f (now (interactions .exit)) r ≡ pushes (interactItems (now (s .entry)) from (sectionOf (now (rules .entry)) extent) star x v e) (board f (now (interactions .entry)) o)) ⌝ }
+    ensures { λ r. ⌜ ((f : List ℕ) → board f (is interactions) r ≡ pushes (interactItems (was s) from (sectionOf (was rules) extent) star x v e) (board f (was interactions) o)) ⌝ }
 {
     let count = extent.count as usize;
     let mut out = o;
@@ -245,7 +246,7 @@ fn write_findings(
     o: Out,
 ) -> Out
     requires { ⌜ (given .entities .count ≤ 32) × (given .invariants .count ≤ 32) × (given .rules .count ≤ 32) ⌝ }
-    ensures { λ r. ⌜ board (now (findings .exit)) (now (interactions .exit)) r ≡ pushes (writeItems (now (s .entry)) (namesBy (now (entities .entry)) (now (invariants .entry)) given) (sectionOf (now (rules .entry)) (given .rules)) a at) (board (now (findings .entry)) (now (interactions .entry)) o) ⌝ }
+    ensures { λ r. ⌜ board (is findings) (is interactions) r ≡ pushes (writeItems (was s) (namesBy (was entities) (was invariants) given) (sectionOf (was rules) (given .rules)) a at) (board (was findings) (was interactions) o) ⌝ }
 {
     if 1 < lint_walk::kind_at(s, at) {
         return o;
@@ -289,7 +290,7 @@ fn writes_findings(
     o: Out,
 ) -> Out
     requires { ⌜ (given .entities .count ≤ 32) × (given .invariants .count ≤ 32) × (given .rules .count ≤ 32) × (count ≤ 512) ⌝ }
-    ensures { λ r. ⌜ board (now (findings .exit)) (now (interactions .exit)) r ≡ pushes (writesItems (now (s .entry)) (namesBy (now (entities .entry)) (now (invariants .entry)) given) (sectionOf (now (rules .entry)) (given .rules)) a (walkBy (now (list .entry)) count)) (board (now (findings .entry)) (now (interactions .entry)) o) ⌝ }
+    ensures { λ r. ⌜ board (is findings) (is interactions) r ≡ pushes (writesItems (was s) (namesBy (was entities) (was invariants) given) (sectionOf (was rules) (given .rules)) a (walkBy (was list) count)) (board (was findings) (was interactions) o) ⌝ }
 {
     let mut out = o;
     let mut k: usize = 0;
@@ -325,7 +326,7 @@ fn first_findings(
     o: Out,
 ) -> Out
     requires { ⌜ count ≤ 512 ⌝ }
-    ensures { λ r. ⌜ ((i : List ℕ) → board (now (findings .exit)) i r ≡ pushes (firstItems (now (s .entry)) a at (walkBy (now (list .entry)) count) writes) (board (now (findings .entry)) i o)) ⌝ }
+    ensures { λ r. ⌜ ((i : List ℕ) → board (is findings) i r ≡ pushes (firstItems (was s) a at (walkBy (was list) count) writes) (board (was findings) i o)) ⌝ }
 {
     let p = own_findings(s, a, at, list, count, writes, findings, o);
     let q = branch_findings(s, a, list, count, findings, p);
@@ -357,7 +358,7 @@ pub fn rule_findings(
     o: Out,
 ) -> Out
     requires { ⌜ (given .entities .count ≤ 32) × (given .invariants .count ≤ 32) × (given .rules .count ≤ 32) × (count ≤ 512) ⌝ }
-    ensures { λ r. ⌜ board (now (findings .exit)) (now (interactions .exit)) r ≡ pushes (ruleItems (now (s .entry)) (namesBy (now (entities .entry)) (now (invariants .entry)) given) (sectionOf (now (rules .entry)) (given .rules)) a at (walkBy (now (list .entry)) count) reads writes) (board (now (findings .entry)) (now (interactions .entry)) o) ⌝ }
+    ensures { λ r. ⌜ board (is findings) (is interactions) r ≡ pushes (ruleItems (was s) (namesBy (was entities) (was invariants) given) (sectionOf (was rules) (given .rules)) a at (walkBy (was list) count) reads writes) (board (was findings) (was interactions) o) ⌝ }
 {
     let p = first_findings(s, a, at, list, count, writes, findings, o);
     let q = fresh_findings(s, a, entities, given.entities, reads, findings, p);

@@ -14,6 +14,7 @@ use model_index::Index;
 use model_parts::Section;
 use reasons::Reason;
 use show::Source;
+ghost use Rattle.notation.specs.Reference.{was, is};
 ghost use mathlib.Core.Path.{_≡_};
 ghost use mathlib.Core.List.{[], _∷_};
 ghost use Prim.Native.Nat.{_≤_, _<_};
@@ -32,7 +33,7 @@ ghost use Rattle.lint_lines.specs.Numbers.{rule-source, note-of, sources
 
 // ` LINE:COLUMN`
 fn put_place(out: &mut [u8], n: usize, line: u32, column: u32) -> usize
-    ensures { λ m. ⌜ Written (32 ∷ placed line column) (now (out .entry)) n (now (out .exit)) m ⌝ }
+    ensures { λ m. ⌜ Written (32 ∷ placed line column) (was out) n (is out) m ⌝ }
 {
     let m = show::put_byte(out, n, 32);
     show::put_source(out, m, Source::At(line, column))
@@ -41,7 +42,7 @@ fn put_place(out: &mut [u8], n: usize, line: u32, column: u32) -> usize
 // The source of the i-th automation, if it is in the set.
 fn put_rule_source(out: &mut [u8], n: usize, f: &[u8], rules: Section, set: u32, i: usize) -> usize
     requires { ⌜ i < 32 ⌝ }
-    ensures { λ m. ⌜ Written (if holds set i then 32 ∷ placed (rule-source (now (f .entry)) rules i .line) (rule-source (now (f .entry)) rules i .column) else []) (now (out .entry)) n (now (out .exit)) m ⌝ }
+    ensures { λ m. ⌜ Written (if holds set i then 32 ∷ placed (rule-source (was f) rules i .line) (rule-source (was f) rules i .column) else []) (was out) n (is out) m ⌝ }
 {
     if lint_reach::has(set, i) {
         let source = lint_walk::source_at(f, start_at(rules, i));
@@ -54,7 +55,7 @@ fn put_rule_source(out: &mut [u8], n: usize, f: &[u8], rules: Section, set: u32,
 
 // `N LINE:COLUMN..` for a set of automations.
 fn put_rule_sources(out: &mut [u8], n: usize, f: &[u8], rules: Section, set: u32) -> usize
-    ensures { λ m. ⌜ Written (source-list (each (rule-source (now (f .entry)) rules) (members set))) (now (out .entry)) n (now (out .exit)) m ⌝ }
+    ensures { λ m. ⌜ Written (source-list (each (rule-source (was f) rules) (members set))) (was out) n (is out) m ⌝ }
 {
     let many = u32::count_ones(set);
     let mut m = show::put_number(out, n, long(many));
@@ -68,7 +69,7 @@ fn put_rule_sources(out: &mut [u8], n: usize, f: &[u8], rules: Section, set: u32
 
 fn put_sources(out: &mut [u8], n: usize, f: &[u8], rules: Section, w: &[u32]) -> usize
     requires { ⌜ 14 ≤ length (now w) ⌝ }
-    ensures { λ m. ⌜ Written (source-list (sources-of (now (f .entry)) rules (now (w .entry)))) (now (out .entry)) n (now (out .exit)) m ⌝ }
+    ensures { λ m. ⌜ Written (source-list (sources-of (was f) rules (was w))) (was out) n (is out) m ⌝ }
 {
     let code = w[0];
     if code == 5 {
@@ -87,7 +88,7 @@ fn put_sources(out: &mut [u8], n: usize, f: &[u8], rules: Section, w: &[u32]) ->
 
 // `finding CODE CERTAINTY TIER `
 fn put_kind(out: &mut [u8], n: usize, code: u32, certainty: u32, tier: u32) -> usize
-    ensures { λ m. ⌜ ((x t : Text) → Written (kind-part (code-name (problem-of x t code)) (certainty-of certainty) (tier-of tier)) (now (out .entry)) n (now (out .exit)) m) ⌝ }
+    ensures { λ m. ⌜ ((x t : Text) → Written (kind-part (code-name (problem-of x t code)) (certainty-of certainty) (tier-of tier)) (was out) n (is out) m) ⌝ }
 {
     let a = show::put(out, n, b"finding ");
     let b = put_code(out, a, code);
@@ -101,7 +102,7 @@ fn put_kind(out: &mut [u8], n: usize, code: u32, certainty: u32, tier: u32) -> u
 // ` automations N "ID".. sources N LINE:COLUMN..`
 fn put_places(out: &mut [u8], n: usize, f: &[u8], rules: Section, w: &[u32]) -> usize
     requires { ⌜ 14 ≤ length (now w) ⌝ }
-    ensures { λ m. ⌜ Written (places-part (names-of (now (f .entry)) rules (getD (now (w .entry)) 4 0)) (sources-of (now (f .entry)) rules (now (w .entry)))) (now (out .entry)) n (now (out .exit)) m ⌝ }
+    ensures { λ m. ⌜ Written (places-part (names-of (was f) rules (getD (was w) 4 0)) (sources-of (was f) rules (was w))) (was out) n (is out) m ⌝ }
 {
     let a = show::put(out, n, b" automations ");
     let b = put_members(out, a, f, rules, w[4]);
@@ -113,7 +114,7 @@ fn put_places(out: &mut [u8], n: usize, f: &[u8], rules: Section, w: &[u32]) -> 
 // The reason among a finding's words.
 fn note_of(w: &[u32]) -> Reason
     requires { ⌜ 14 ≤ length (now w) ⌝ }
-    ensures { λ r. ⌜ r ≡ note-of (now (w .entry)) ⌝ }
+    ensures { λ r. ⌜ r ≡ note-of (was w) ⌝ }
 {
     Reason {
         kind: w[9],
@@ -126,7 +127,7 @@ fn note_of(w: &[u32]) -> Reason
 
 fn put_finding(out: &mut [u8], n: usize, f: &[u8], index: Index, w: &[u32]) -> usize
     requires { ⌜ 14 ≤ length (now w) ⌝ }
-    ensures { λ m. ⌜ Written (finding-text (now (f .entry)) index (now (w .entry))) (now (out .entry)) n (now (out .exit)) m ⌝ }
+    ensures { λ m. ⌜ Written (finding-text (was f) index (was w)) (was out) n (is out) m ⌝ }
 {
     let code = w[0];
     let e = wide(w[3]);
@@ -145,7 +146,7 @@ pub fn put_interaction(
     to: usize,
     entity: usize,
 ) -> usize
-    ensures { λ m. ⌜ Written (interaction-line (interaction-of (now (f .entry)) index from to entity)) (now (out .entry)) n (now (out .exit)) m ⌝ }
+    ensures { λ m. ⌜ Written (interaction-line (interaction-of (was f) index from to entity)) (was out) n (is out) m ⌝ }
 {
     let rules = index.rules;
     let entities = index.entities;
@@ -160,7 +161,7 @@ pub fn put_interaction(
 
 // `component N "ID"..`
 pub fn put_component(out: &mut [u8], n: usize, f: &[u8], index: Index, set: u32) -> usize
-    ensures { λ m. ⌜ Written (component-line (names-of (now (f .entry)) (index .rules) set)) (now (out .entry)) n (now (out .exit)) m ⌝ }
+    ensures { λ m. ⌜ Written (component-line (names-of (was f) (index .rules) set)) (was out) n (is out) m ⌝ }
 {
     let a = show::put(out, n, b"component ");
     let b = put_members(out, a, f, index.rules, set);
@@ -169,7 +170,7 @@ pub fn put_component(out: &mut [u8], n: usize, f: &[u8], index: Index, set: u32)
 
 // `findings N interactions N components N`
 pub fn put_counts(out: &mut [u8], n: usize, r: Report) -> usize
-    ensures { λ m. ⌜ Written (counts-line (r .findings) (r .interactions) (r .components)) (now (out .entry)) n (now (out .exit)) m ⌝ }
+    ensures { λ m. ⌜ Written (counts-line (r .findings) (r .interactions) (r .components)) (was out) n (is out) m ⌝ }
 {
     let a = show::put(out, n, b"findings ");
     let b = show::put_number(out, a, r.findings as u64);
@@ -191,7 +192,7 @@ pub fn put_finding_at(
     a: &[u32],
     k: usize,
 ) -> usize
-    ensures { λ m. ⌜ Written (finding-at (now (f .entry)) index (now (a .entry)) k) (now (out .entry)) n (now (out .exit)) m ⌝ }
+    ensures { λ m. ⌜ Written (finding-at (was f) index (was a) k) (was out) n (is out) m ⌝ }
 {
     if a.len() / 14 <= k {
         return n;
@@ -210,7 +211,7 @@ pub fn put_interaction_at(
     a: &[u32],
     k: usize,
 ) -> usize
-    ensures { λ m. ⌜ Written (interaction-at (now (f .entry)) index (now (a .entry)) k) (now (out .entry)) n (now (out .exit)) m ⌝ }
+    ensures { λ m. ⌜ Written (interaction-at (was f) index (was a) k) (was out) n (is out) m ⌝ }
 {
     if a.len() / 3 <= k {
         return n;
@@ -230,7 +231,7 @@ pub fn put_component_at(
     r: Report,
     k: usize,
 ) -> usize
-    ensures { λ m. ⌜ Written (component-at (now (f .entry)) index r k) (now (out .entry)) n (now (out .exit)) m ⌝ }
+    ensures { λ m. ⌜ Written (component-at (was f) index r k) (was out) n (is out) m ⌝ }
 {
     if r.components <= k {
         return n;

@@ -1,6 +1,7 @@
 // The notes of each automation as findings: unsupported.
 use lint_areas::Out;
 use model_parts::Section;
+ghost use Rattle.notation.specs.Reference.{was, is};
 ghost use mathlib.Core.Path.{_≡_};
 ghost use mathlib.Core.List.{List};
 ghost use Prim.Native.Nat.{ℕ, _≤_, _<_, _+_, _*_, _-_};
@@ -11,7 +12,7 @@ ghost use Rattle.lint_notes.specs.Notes.{noteM, noteItems, RowOf, Few, N
 
 // The first row of a table is the automation's: its identifier, and where its triggers, conditions, actions and notes stand.
 fn put_row(s: &[u8], at: usize, source: usize, words: &mut [u32; 436])
-    ensures { λ _. ⌜ RowOf (now (s .entry)) at source (now (words .exit)) ⌝ }
+    ensures { λ _. ⌜ RowOf (was s) at source (is words) ⌝ }
 {
     let conditions = lint_walk::conditions_at(s, at);
     *words = [0u32; 436];
@@ -37,7 +38,7 @@ fn few(n: usize) -> usize
 // The words of a finding about the automation of a set, with the j-th reason.
 fn note_words(set: u32, line: u32, column: u32, reasons: &[u32; 1500], j: usize) -> [u32; 14]
     requires { ⌜ j < 300 ⌝ }
-    ensures { λ w. ⌜ w ≡ noteM set line column (now (reasons .entry)) j ⌝ }
+    ensures { λ w. ⌜ w ≡ noteM set line column (was reasons) j ⌝ }
 {
     let k = 5 * j;
     [
@@ -69,7 +70,7 @@ fn note_findings(
     o: Out,
 ) -> Out
     requires { ⌜ count ≤ 300 ⌝ }
-    ensures { λ r. ⌜ ((k : List ℕ) → board (now (findings .exit)) k r ≡ pushes (noteItems set line column (now (reasons .entry)) count) (board (now (findings .entry)) k o)) ⌝ }
+    ensures { λ r. ⌜ ((k : List ℕ) → board (is findings) k r ≡ pushes (noteItems set line column (was reasons) count) (board (was findings) k o)) ⌝ }
 {
     let mut out = o;
     let mut j: usize = 0;
@@ -90,7 +91,7 @@ fn rule_notes(
     o: Out,
 ) -> Out
     requires { ⌜ i < 32 ⌝ }
-    ensures { λ r. ⌜ ((k : List ℕ) → NotesAt (now (s .entry)) at i (board (now (findings .entry)) k o) (board (now (findings .exit)) k r)) ⌝ }
+    ensures { λ r. ⌜ ((k : List ℕ) → NotesAt (was s) at i (board (was findings) k o) (board (is findings) k r)) ⌝ }
 {
     let source = lint_walk::source_at(s, at);
     put_row(s, at, source, words);
@@ -112,7 +113,7 @@ fn rule_notes(
 // The notes of all automations.
 pub fn notes(s: &[u8], rules: Section, findings: &mut [u32], o: Out) -> Out
     requires { ⌜ rules .count ≤ 32 ⌝ }
-    ensures { λ r. ⌜ ((k : List ℕ) → AllNotes (now (s .entry)) rules (rules .count) 0 (board (now (findings .entry)) k o) (board (now (findings .exit)) k r)) ⌝ }
+    ensures { λ r. ⌜ ((k : List ℕ) → AllNotes (was s) rules (rules .count) 0 (board (was findings) k o) (board (is findings) k r)) ⌝ }
 {
     let count = rules.count as usize;
     let mut words = [0u32; 436];

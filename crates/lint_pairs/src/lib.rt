@@ -2,6 +2,7 @@
 use lint_areas::Out;
 use lint_conditions::Given;
 use model_parts::Extent;
+ghost use Rattle.notation.specs.Reference.{was, is};
 ghost use mathlib.Core.Path.{_≡_};
 ghost use mathlib.Core.List.{List};
 ghost use Prim.Native.Nat.{ℕ, _≤_, _<_};
@@ -31,7 +32,7 @@ fn pair_words(
     other: usize,
 ) -> [u32; 14]
     requires { ⌜ e < 100 ⌝ }
-    ensures { λ w. ⌜ w ≡ pairM (now (s .entry)) (sectionOf (now (entities .entry)) extent) set e at other ⌝ }
+    ensures { λ w. ⌜ w ≡ pairM (was s) (sectionOf (was entities) extent) set e at other ⌝ }
 {
     let tier = spelled(lint_conditions::tier(s, entities[e]));
     let line = lint_walk::number_at(s, at);
@@ -58,7 +59,7 @@ fn pair_words(
 
 // Whether the action at a position writes against a write of v to the entity x.
 fn opposing(s: &[u8], star: u32, x: u32, v: u32, other: usize) -> bool
-    ensures { λ r. ⌜ r ≡ opposingM (now (s .entry)) star x v other ⌝ }
+    ensures { λ r. ⌜ r ≡ opposingM (was s) star x v other ⌝ }
 {
     if 1 < lint_walk::kind_at(s, other) {
         return false;
@@ -83,7 +84,7 @@ fn oppose(
     o: Out,
 ) -> Out
     requires { ⌜ extent .count ≤ 32 ⌝ }
-    ensures { λ r. ⌜ ((i : List ℕ) → board (now (findings .exit)) i r ≡ pushes (foundItems (now (s .entry)) (sectionOf (now (entities .entry)) extent) set x at other) (board (now (findings .entry)) i o)) ⌝ }
+    ensures { λ r. ⌜ ((i : List ℕ) → board (is findings) i r ≡ pushes (foundItems (was s) (sectionOf (was entities) extent) set x at other) (board (was findings) i o)) ⌝ }
 {
     let count = extent.count as usize;
     let e = model_check::first_of(s, entities, extent.count, x);
@@ -111,7 +112,7 @@ fn oppose_row(
     o: Out,
 ) -> Out
     requires { ⌜ (given .entities .count ≤ 32) × (count ≤ 512) ⌝ }
-    ensures { λ r. ⌜ ((i : List ℕ) → board (now (findings .exit)) i r ≡ pushes (rowItems (now (s .entry)) (namesBy (now (entities .entry)) (now (invariants .entry)) given) set (walkBy (now (list .entry)) count) at) (board (now (findings .entry)) i o)) ⌝ }
+    ensures { λ r. ⌜ ((i : List ℕ) → board (is findings) i r ≡ pushes (rowItems (was s) (namesBy (was entities) (was invariants) given) set (walkBy (was list) count) at) (board (was findings) i o)) ⌝ }
 {
     if 1 < lint_walk::kind_at(s, at) {
         return o;
@@ -158,7 +159,7 @@ pub fn oppose_pair(
     o: Out,
 ) -> Out
     requires { ⌜ (given .entities .count ≤ 32) × (m ≤ 512) × (n ≤ 512) ⌝ }
-    ensures { λ r. ⌜ ((i : List ℕ) → board (now (findings .exit)) i r ≡ pushes (pairItems (now (s .entry)) (namesBy (now (entities .entry)) (now (invariants .entry)) given) set (walkBy (now (list .entry)) m) (walkBy (now (others .entry)) n)) (board (now (findings .entry)) i o)) ⌝ }
+    ensures { λ r. ⌜ ((i : List ℕ) → board (is findings) i r ≡ pushes (pairItems (was s) (namesBy (was entities) (was invariants) given) set (walkBy (was list) m) (walkBy (was others) n)) (board (was findings) i o)) ⌝ }
 {
     let mut out = o;
     let mut k: usize = 0;

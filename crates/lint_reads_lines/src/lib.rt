@@ -7,6 +7,7 @@ use lint_words::put_name;
 use lint_words::wide;
 use model_index::Index;
 use model_parts::Section;
+ghost use Rattle.notation.specs.Reference.{was, is};
 ghost use mathlib.Core.Path.{_≡_};
 ghost use mathlib.Core.List.{[], _∷_};
 ghost use Prim.Native.Nat.{_+_, _<_};
@@ -45,7 +46,7 @@ fn lesser(from: u32, place: u32, best: u32) -> u32
 
 // The least place from `from` on of a name in the set; 65,536 if there is none.
 fn member_from(f: &[u8], section: Section, set: u32, from: u32) -> u32
-    ensures { λ r. ⌜ r ≡ least-from from (each (name-place (now (f .entry)) section) (members set)) ⌝ }
+    ensures { λ r. ⌜ r ≡ least-from from (each (name-place (was f) section) (members set)) ⌝ }
 {
     let mut best: u32 = 65536;
     let mut i: usize = 0;
@@ -91,7 +92,7 @@ fn stranger_from(r: Report, i: usize, from: u32, best: u32) -> u32
 
 // The least place from `from` on of a name that the automation reads; 65,536 if there is none.
 fn read_from(f: &[u8], entities: Section, r: Report, i: usize, from: u32) -> u32
-    ensures { λ x. ⌜ x ≡ least-from from (read-places (now (f .entry)) entities r i) ⌝ }
+    ensures { λ x. ⌜ x ≡ least-from from (read-places (was f) entities r i) ⌝ }
 {
     let sets = r.reads;
     let best = member_from(f, entities, set_at(sets, i), from);
@@ -120,7 +121,7 @@ fn counted(place: u32, many: u64) -> u64
 
 // How many names the automation reads.
 fn reads_count(f: &[u8], entities: Section, r: Report, i: usize) -> u64
-    ensures { λ x. ⌜ x ≡ length (ascending 97 0 (read-places (now (f .entry)) entities r i)) ⌝ }
+    ensures { λ x. ⌜ x ≡ length (ascending 97 0 (read-places (was f) entities r i)) ⌝ }
 {
     let mut many: u64 = 0;
     let mut from: u32 = 0;
@@ -136,7 +137,7 @@ fn reads_count(f: &[u8], entities: Section, r: Report, i: usize) -> u64
 
 // A space and the text at the place, if it is one.
 fn put_text_at(out: &mut [u8], n: usize, f: &[u8], place: u32) -> usize
-    ensures { λ m. ⌜ Written (if ltb 65535 place then [] else 32 ∷ quoted (text-at (now (f .entry)) place)) (now (out .entry)) n (now (out .exit)) m ⌝ }
+    ensures { λ m. ⌜ Written (if ltb 65535 place then [] else 32 ∷ quoted (text-at (was f) place)) (was out) n (is out) m ⌝ }
 {
     if 65535 < place {
         return n;
@@ -147,7 +148,7 @@ fn put_text_at(out: &mut [u8], n: usize, f: &[u8], place: u32) -> usize
 
 // `N "ENTITY"..` for the names that the automation reads, ascending.
 fn put_reads(out: &mut [u8], n: usize, f: &[u8], entities: Section, r: Report, i: usize) -> usize
-    ensures { λ m. ⌜ Written (quoted-list (each (text-at (now (f .entry))) (ascending 97 0 (read-places (now (f .entry)) entities r i)))) (now (out .entry)) n (now (out .exit)) m ⌝ }
+    ensures { λ m. ⌜ Written (quoted-list (each (text-at (was f)) (ascending 97 0 (read-places (was f) entities r i)))) (was out) n (is out) m ⌝ }
 {
     let mut m = show::put_number(out, n, reads_count(f, entities, r, i));
     let mut from: u32 = 0;
@@ -163,7 +164,7 @@ fn put_reads(out: &mut [u8], n: usize, f: &[u8], entities: Section, r: Report, i
 
 // The i-th automation or the one found so far: whose identifier is the first from the place `from` on; 32 is none.
 fn better(f: &[u8], rules: Section, from: u32, i: usize, found: usize) -> usize
-    ensures { λ r. ⌜ r ≡ better (now (f .entry)) rules from i found ⌝ }
+    ensures { λ r. ⌜ r ≡ better (was f) rules from i found ⌝ }
 {
     let place = name_place(f, rules, i);
     if place < from {
@@ -180,7 +181,7 @@ fn better(f: &[u8], rules: Section, from: u32, i: usize, found: usize) -> usize
 
 // The automation whose identifier is the first from the place `from` on; 32 if there is none.
 pub fn rule_from(f: &[u8], rules: Section, from: u32) -> usize
-    ensures { λ r. ⌜ r ≡ rule-from (now (f .entry)) rules from ⌝ }
+    ensures { λ r. ⌜ r ≡ rule-from (was f) rules from ⌝ }
 {
     let count = wide(rules.count);
     let mut found: usize = 32;
@@ -201,7 +202,7 @@ pub fn put_reads_line(
     r: Report,
     i: usize,
 ) -> usize
-    ensures { λ m. ⌜ Written (reads-text (now (f .entry)) index r i) (now (out .entry)) n (now (out .exit)) m ⌝ }
+    ensures { λ m. ⌜ Written (reads-text (was f) index r i) (was out) n (is out) m ⌝ }
 {
     let a = show::put(out, n, b"reads ");
     let b = put_name(out, a, f, index.rules, i);
@@ -219,7 +220,7 @@ pub fn put_writes_line(
     r: Report,
     i: usize,
 ) -> usize
-    ensures { λ m. ⌜ Written (writes-text (now (f .entry)) index r i) (now (out .entry)) n (now (out .exit)) m ⌝ }
+    ensures { λ m. ⌜ Written (writes-text (was f) index r i) (was out) n (is out) m ⌝ }
 {
     let sets = r.writes;
     let a = show::put(out, n, b"writes ");
@@ -239,7 +240,7 @@ pub fn put_touched(
     from: u32,
     writes: bool,
 ) -> usize
-    ensures { λ m. ⌜ Written (touched-text (now (f .entry)) index r from writes) (now (out .entry)) n (now (out .exit)) m ⌝ }
+    ensures { λ m. ⌜ Written (touched-text (was f) index r from writes) (was out) n (is out) m ⌝ }
 {
     let i = rule_from(f, index.rules, from);
     if i == 32 {
@@ -253,7 +254,7 @@ pub fn put_touched(
 
 // The place behind that identifier.
 pub fn next_from(f: &[u8], index: Index, from: u32) -> u32
-    ensures { λ r. ⌜ r ≡ next-from (now (f .entry)) (index .rules) from ⌝ }
+    ensures { λ r. ⌜ r ≡ next-from (was f) (index .rules) from ⌝ }
 {
     let rules = index.rules;
     let i = rule_from(f, rules, from);

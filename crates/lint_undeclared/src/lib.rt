@@ -1,5 +1,6 @@
 // The undeclared names that automations read: the entities of waits whose triggers have notes. A model has at most 64.
 use model_parts::Extent;
+ghost use Rattle.notation.specs.Reference.{was};
 ghost use mathlib.Core.Path.{_≡_};
 ghost use Prim.Native.Nat.{_≤_, _<_, _+_, _-_};
 ghost use Rattle.lint_walk.specs.Walks.{walkBy};
@@ -8,7 +9,7 @@ ghost use Rattle.lint_undeclared.specs.Strange.{awaitM, awaitsM, withM, 
 
 // Whether the action at a position waits for the entity that a place names.
 fn awaits_at(s: &[u8], place: u32, at: usize) -> bool
-    ensures { λ r. ⌜ r ≡ awaitM (now (s .entry)) place at ⌝ }
+    ensures { λ r. ⌜ r ≡ awaitM (was s) place at ⌝ }
 {
     if lint_walk::kind_at(s, at) != 5 {
         return false;
@@ -19,7 +20,7 @@ fn awaits_at(s: &[u8], place: u32, at: usize) -> bool
 // Whether one of the first `count` actions of `list` does.
 fn awaits(s: &[u8], list: &[usize; 512], count: usize, place: u32) -> bool
     requires { ⌜ count ≤ 512 ⌝ }
-    ensures { λ r. ⌜ r ≡ awaitsM (now (s .entry)) (walkBy (now (list .entry)) count) place ⌝ }
+    ensures { λ r. ⌜ r ≡ awaitsM (was s) (walkBy (was list) count) place ⌝ }
 {
     let mut k: usize = 0;
     while k < count {
@@ -66,7 +67,7 @@ fn with_strange(
     u: Undeclared,
 ) -> Undeclared
     requires { ⌜ declared .count ≤ 32 ⌝ }
-    ensures { λ r. ⌜ r ≡ readM (now (s .entry)) (sectionOf (now (entities .entry)) declared) i place u ⌝ }
+    ensures { λ r. ⌜ r ≡ readM (was s) (sectionOf (was entities) declared) i place u ⌝ }
 {
     let count = declared.count as usize;
     if model_check::first_of(s, entities, declared.count, place) < count {
@@ -87,7 +88,7 @@ fn rule_names(
     u: Undeclared,
 ) -> Undeclared
     requires { ⌜ (declared .count ≤ 32) × (i < 32) ⌝ }
-    ensures { λ r. ⌜ r ≡ ruleM (now (s .entry)) (sectionOf (now (entities .entry)) declared) (sectionOf (now (rules .entry)) extent) texts i u ⌝ }
+    ensures { λ r. ⌜ r ≡ ruleM (was s) (sectionOf (was entities) declared) (sectionOf (was rules) extent) texts i u ⌝ }
 {
     let mut list = [0usize; 512];
     let c = lint_walk::rule_walk(s, rules[i], &mut list);
@@ -114,7 +115,7 @@ pub fn undeclared_names(
     texts: u32,
 ) -> Undeclared
     requires { ⌜ (declared .count ≤ 32) × (extent .count ≤ 32) ⌝ }
-    ensures { λ r. ⌜ r ≡ undeclaredM (now (s .entry)) (sectionOf (now (entities .entry)) declared) (sectionOf (now (rules .entry)) extent) texts ⌝ }
+    ensures { λ r. ⌜ r ≡ undeclaredM (was s) (sectionOf (was entities) declared) (sectionOf (was rules) extent) texts ⌝ }
 {
     let count = extent.count as usize;
     let mut u = Undeclared {

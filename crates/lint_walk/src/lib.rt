@@ -1,6 +1,7 @@
 // Reading of an accepted model file by position: numbers, where parts end, and an automation's actions in the order of Rust's walk.
 // The file was read before, so that what is looked for is there; past the end of the file numbers are 0.
 use model_walk::Num;
+ghost use Rattle.notation.specs.Reference.{was, is};
 ghost use mathlib.Core.Path.{_≡_};
 ghost use Prim.Native.Nat.{_+_, _≤_, _<_};
 ghost use lib.ListN.{replicate};
@@ -10,7 +11,7 @@ ghost use Rattle.lint_walk.specs.Walks.{walkOf, moved-cursorM, notedM, e
 // ---- numbers
 
 pub fn byte_at(s: &[u8], at: usize) -> u32
-    ensures { λ r. ⌜ r ≡ byteM (now (s .entry)) at ⌝ }
+    ensures { λ r. ⌜ r ≡ byteM (was s) at ⌝ }
 {
     let x = model_walk::u8_at(s, at);
     let Num::Is(v, _) = x else {
@@ -20,7 +21,7 @@ pub fn byte_at(s: &[u8], at: usize) -> u32
 }
 
 pub fn place_at(s: &[u8], at: usize) -> u32
-    ensures { λ r. ⌜ r ≡ placeM (now (s .entry)) at ⌝ }
+    ensures { λ r. ⌜ r ≡ placeM (was s) at ⌝ }
 {
     let x = model_walk::u16_at(s, at);
     let Num::Is(v, _) = x else {
@@ -30,7 +31,7 @@ pub fn place_at(s: &[u8], at: usize) -> u32
 }
 
 pub fn number_at(s: &[u8], at: usize) -> u32
-    ensures { λ r. ⌜ r ≡ numberM (now (s .entry)) at ⌝ }
+    ensures { λ r. ⌜ r ≡ numberM (was s) at ⌝ }
 {
     let x = model_walk::u32_at(s, at);
     let Num::Is(v, _) = x else {
@@ -41,7 +42,7 @@ pub fn number_at(s: &[u8], at: usize) -> u32
 
 // The position `size` bytes on, or the end of the file.
 pub fn past(s: &[u8], at: usize, size: usize) -> usize
-    ensures { λ r. ⌜ r ≡ past (now (s .entry)) at size ⌝ }
+    ensures { λ r. ⌜ r ≡ past (was s) at size ⌝ }
 {
     if s.len() < size {
         return s.len();
@@ -55,7 +56,7 @@ pub fn past(s: &[u8], at: usize, size: usize) -> usize
 // ---- where parts end
 
 pub fn predicate_end(s: &[u8], at: usize) -> usize
-    ensures { λ r. ⌜ r ≡ predicateEnd (now (s .entry)) at ⌝ }
+    ensures { λ r. ⌜ r ≡ predicateEnd (was s) at ⌝ }
 {
     let kind = byte_at(s, at);
     past(s, at, model_walk::predicate_size(kind) as usize)
@@ -63,7 +64,7 @@ pub fn predicate_end(s: &[u8], at: usize) -> usize
 
 // A count, and as many predicates.
 pub fn predicates_end(s: &[u8], at: usize) -> usize
-    ensures { λ r. ⌜ r ≡ predicatesEnd (now (s .entry)) at ⌝ }
+    ensures { λ r. ⌜ r ≡ predicatesEnd (was s) at ⌝ }
 {
     let mut left = place_at(s, at);
     let mut p = past(s, at, 2);
@@ -76,7 +77,7 @@ pub fn predicates_end(s: &[u8], at: usize) -> usize
 
 // What follows the kind of an effect that holds no list.
 fn simple_end(s: &[u8], kind: u32, at: usize) -> usize
-    ensures { λ r. ⌜ r ≡ simpleEnd (now (s .entry)) kind at ⌝ }
+    ensures { λ r. ⌜ r ≡ simpleEnd (was s) kind at ⌝ }
 {
     if kind == 0 {
         return past(s, at, 4);
@@ -95,7 +96,7 @@ fn simple_end(s: &[u8], kind: u32, at: usize) -> usize
 
 // The kind of the action at a position.
 pub fn kind_at(s: &[u8], at: usize) -> u32
-    ensures { λ r. ⌜ r ≡ kindM (now (s .entry)) at ⌝ }
+    ensures { λ r. ⌜ r ≡ kindM (was s) at ⌝ }
 {
     byte_at(s, past(s, at, 8))
 }
@@ -104,14 +105,14 @@ pub fn kind_at(s: &[u8], at: usize) -> u32
 
 // The count of its triggers.
 pub fn triggers_at(s: &[u8], at: usize) -> usize
-    ensures { λ r. ⌜ r ≡ triggersM (now (s .entry)) at ⌝ }
+    ensures { λ r. ⌜ r ≡ triggersM (was s) at ⌝ }
 {
     past(s, at, 7)
 }
 
 // The count of its conditions; a trigger has 16 bytes.
 pub fn conditions_at(s: &[u8], at: usize) -> usize
-    ensures { λ r. ⌜ r ≡ conditionsM (now (s .entry)) at ⌝ }
+    ensures { λ r. ⌜ r ≡ conditionsM (was s) at ⌝ }
 {
     let p = triggers_at(s, at);
     let count = place_at(s, p) as usize;
@@ -120,7 +121,7 @@ pub fn conditions_at(s: &[u8], at: usize) -> usize
 
 // The count of its actions.
 fn actions_at(s: &[u8], at: usize) -> usize
-    ensures { λ r. ⌜ r ≡ actionsM (now (s .entry)) at ⌝ }
+    ensures { λ r. ⌜ r ≡ actionsM (was s) at ⌝ }
 {
     predicates_end(s, conditions_at(s, at))
 }
@@ -151,7 +152,7 @@ fn moved(c: Cursor, next: usize) -> Cursor
 
 // One action more, at the position that is next.
 fn noted(list: &mut [usize; 512], c: Cursor) -> Cursor
-    ensures { λ r. ⌜ walkOf (now (list .exit)) r ≡ notedM (walkOf (now (list .entry)) c) ⌝ }
+    ensures { λ r. ⌜ walkOf (is list) r ≡ notedM (walkOf (was list) c) ⌝ }
 {
     let count = c.count;
     if count < 512 {
@@ -166,14 +167,14 @@ fn noted(list: &mut [usize; 512], c: Cursor) -> Cursor
 
 // The action that is next is a choice: its branches are next.
 fn entered(s: &[u8], list: &mut [usize; 512], c: Cursor) -> Cursor
-    ensures { λ r. ⌜ walkOf (now (list .exit)) r ≡ enteredM (now (s .entry)) (walkOf (now (list .entry)) c) ⌝ }
+    ensures { λ r. ⌜ walkOf (is list) r ≡ enteredM (was s) (walkOf (was list) c) ⌝ }
 {
     moved(noted(list, c), past(s, c.next, 9))
 }
 
 // The action that is next holds no list.
 fn simple_walk(s: &[u8], list: &mut [usize; 512], c: Cursor) -> Cursor
-    ensures { λ r. ⌜ walkOf (now (list .exit)) r ≡ simpleM (now (s .entry)) (walkOf (now (list .entry)) c) ⌝ }
+    ensures { λ r. ⌜ walkOf (is list) r ≡ simpleM (was s) (walkOf (was list) c) ⌝ }
 {
     let kind = kind_at(s, c.next);
     let end = simple_end(s, kind, past(s, c.next, 9));
@@ -182,7 +183,7 @@ fn simple_walk(s: &[u8], list: &mut [usize; 512], c: Cursor) -> Cursor
 
 // A list of actions in which lists stand at most `left` deep, itself counted.
 fn list_walk(s: &[u8], left: usize, list: &mut [usize; 512], c: Cursor) -> Cursor
-    ensures { λ r. ⌜ walkOf (now (list .exit)) r ≡ listM left (now (s .entry)) (walkOf (now (list .entry)) c) ⌝ }
+    ensures { λ r. ⌜ walkOf (is list) r ≡ listM left (was s) (walkOf (was list) c) ⌝ }
 {
     if left == 0 {
         return c;
@@ -204,7 +205,7 @@ fn list_walk(s: &[u8], left: usize, list: &mut [usize; 512], c: Cursor) -> Curso
 
 // The branches of a choice and its default; its lists stand at most `left` deep.
 fn choice_walk(s: &[u8], left: usize, list: &mut [usize; 512], c: Cursor) -> Cursor
-    ensures { λ r. ⌜ walkOf (now (list .exit)) r ≡ choiceM (now (s .entry)) (listM left (now (s .entry))) (walkOf (now (list .entry)) c) ⌝ }
+    ensures { λ r. ⌜ walkOf (is list) r ≡ choiceM (was s) (listM left (was s)) (walkOf (was list) c) ⌝ }
 {
     let mut i = place_at(s, c.next);
     let mut v = moved(c, past(s, c.next, 2));
@@ -218,7 +219,7 @@ fn choice_walk(s: &[u8], left: usize, list: &mut [usize; 512], c: Cursor) -> Cur
 // The actions of the automation at a position, into a list of zeros; its source is next.
 pub fn rule_walk(s: &[u8], at: usize, list: &mut [usize; 512]) -> Cursor
     requires { ⌜ now list ≡ replicate 512 0 ⌝ }
-    ensures { λ r. ⌜ walkOf (now (list .exit)) r ≡ walkM (now (s .entry)) at ⌝ }
+    ensures { λ r. ⌜ walkOf (is list) r ≡ walkM (was s) at ⌝ }
 {
     let start = Cursor {
         count: 0,
@@ -229,7 +230,7 @@ pub fn rule_walk(s: &[u8], at: usize, list: &mut [usize; 512]) -> Cursor
 
 // The position behind a list of actions.
 pub fn list_end(s: &[u8], at: usize) -> usize
-    ensures { λ r. ⌜ r ≡ listEnd (now (s .entry)) at ⌝ }
+    ensures { λ r. ⌜ r ≡ listEnd (was s) at ⌝ }
 {
     let mut list = [0usize; 512];
     let start = Cursor { count: 0, next: at };
@@ -238,7 +239,7 @@ pub fn list_end(s: &[u8], at: usize) -> usize
 
 // The source of the automation at a position: it stands behind the actions.
 pub fn source_at(s: &[u8], at: usize) -> usize
-    ensures { λ r. ⌜ r ≡ walkM (now (s .entry)) at .next ⌝ }
+    ensures { λ r. ⌜ r ≡ walkM (was s) at .next ⌝ }
 {
     list_end(s, actions_at(s, at))
 }

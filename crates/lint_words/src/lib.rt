@@ -2,6 +2,7 @@
 // n bytes of a lent area, as those of `show` do. f is the model file.
 use model_parts::Section;
 use reasons::Reason;
+ghost use Rattle.notation.specs.Reference.{was, is};
 ghost use mathlib.Core.Path.{_≡_};
 ghost use mathlib.Core.List.{[], _∷_};
 ghost use Prim.Native.Nat.{_≤_, _<_};
@@ -32,7 +33,7 @@ pub fn long(x: u32) -> u64
 
 // `CODE`
 pub fn put_code(out: &mut [u8], n: usize, code: u32) -> usize
-    ensures { λ m. ⌜ ((x t : Text) → Written (code-name (problem-of x t code)) (now (out .entry)) n (now (out .exit)) m) ⌝ }
+    ensures { λ m. ⌜ ((x t : Text) → Written (code-name (problem-of x t code)) (was out) n (is out) m) ⌝ }
 {
     if code == 0 {
         return show::put(out, n, b"unreachable_conditions");
@@ -65,7 +66,7 @@ pub fn put_code(out: &mut [u8], n: usize, code: u32) -> usize
 }
 
 pub fn put_certainty(out: &mut [u8], n: usize, certainty: u32) -> usize
-    ensures { λ m. ⌜ Written (certainty-of certainty) (now (out .entry)) n (now (out .exit)) m ⌝ }
+    ensures { λ m. ⌜ Written (certainty-of certainty) (was out) n (is out) m ⌝ }
 {
     if certainty == 0 {
         return show::put(out, n, b"static");
@@ -77,7 +78,7 @@ pub fn put_certainty(out: &mut [u8], n: usize, certainty: u32) -> usize
 }
 
 pub fn put_tier(out: &mut [u8], n: usize, tier: u32) -> usize
-    ensures { λ m. ⌜ Written (tier-of tier) (now (out .entry)) n (now (out .exit)) m ⌝ }
+    ensures { λ m. ⌜ Written (tier-of tier) (was out) n (is out) m ⌝ }
 {
     if tier == 0 {
         return show::put(out, n, b"observational");
@@ -111,14 +112,14 @@ pub fn start_at(section: Section, i: usize) -> usize
 
 // The place of its name: an automation's identifier, an entity's name.
 pub fn name_place(f: &[u8], section: Section, i: usize) -> u32
-    ensures { λ r. ⌜ r ≡ name-place (now (f .entry)) section i ⌝ }
+    ensures { λ r. ⌜ r ≡ name-place (was f) section i ⌝ }
 {
     lint_walk::place_at(f, start_at(section, i))
 }
 
 // The name, quoted.
 pub fn put_name(out: &mut [u8], n: usize, f: &[u8], section: Section, i: usize) -> usize
-    ensures { λ m. ⌜ Written (quoted (name-of (now (f .entry)) section i)) (now (out .entry)) n (now (out .exit)) m ⌝ }
+    ensures { λ m. ⌜ Written (quoted (name-of (was f) section i)) (was out) n (is out) m ⌝ }
 {
     let at = texts::text_start(f, 6, name_place(f, section, i));
     show::put_quoted_text(out, n, f, at)
@@ -126,7 +127,7 @@ pub fn put_name(out: &mut [u8], n: usize, f: &[u8], section: Section, i: usize) 
 
 // A text as it stands between quotes.
 fn put_escaped(out: &mut [u8], n: usize, t: &[u8]) -> usize
-    ensures { λ m. ⌜ Written (flat escape (now (t .entry))) (now (out .entry)) n (now (out .exit)) m ⌝ }
+    ensures { λ m. ⌜ Written (flat escape (was t)) (was out) n (is out) m ⌝ }
 {
     let mut m = n;
     let mut i: usize = 0;
@@ -139,7 +140,7 @@ fn put_escaped(out: &mut [u8], n: usize, t: &[u8]) -> usize
 
 // The text at a position as it stands between quotes.
 fn put_inner(out: &mut [u8], n: usize, f: &[u8], at: usize) -> usize
-    ensures { λ m. ⌜ Written (flat escape (textAt (now (f .entry)) at)) (now (out .entry)) n (now (out .exit)) m ⌝ }
+    ensures { λ m. ⌜ Written (flat escape (textAt (was f) at)) (was out) n (is out) m ⌝ }
 {
     if f.len() <= at {
         return n;
@@ -151,7 +152,7 @@ fn put_inner(out: &mut [u8], n: usize, f: &[u8], at: usize) -> usize
 
 // The name of the i-th part as it stands between quotes.
 fn put_inner_name(out: &mut [u8], n: usize, f: &[u8], section: Section, i: usize) -> usize
-    ensures { λ m. ⌜ Written (flat escape (name-of (now (f .entry)) section i)) (now (out .entry)) n (now (out .exit)) m ⌝ }
+    ensures { λ m. ⌜ Written (flat escape (name-of (was f) section i)) (was out) n (is out) m ⌝ }
 {
     let at = texts::text_start(f, 6, name_place(f, section, i));
     put_inner(out, n, f, at)
@@ -161,7 +162,7 @@ fn put_inner_name(out: &mut [u8], n: usize, f: &[u8], section: Section, i: usize
 
 fn put_plain_message(out: &mut [u8], n: usize, code: u32) -> usize
     requires { ⌜ code < 6 ⌝ }
-    ensures { λ m. ⌜ ((x t : Text) → Written (quoted (message (problem-of x t code))) (now (out .entry)) n (now (out .exit)) m) ⌝ }
+    ensures { λ m. ⌜ ((x t : Text) → Written (quoted (message (problem-of x t code))) (was out) n (is out) m) ⌝ }
 {
     if code == 0 {
         return show::put_quoted(out, n, b"Admission conditions require contradictory states");
@@ -203,7 +204,7 @@ fn put_entity_message(
     e: usize,
 ) -> usize
     requires { ⌜ (6 ≤ code) × (code < 9) ⌝ }
-    ensures { λ m. ⌜ ((t : Text) → Written (quoted (message (problem-of (name-of (now (f .entry)) entities e) t code))) (now (out .entry)) n (now (out .exit)) m) ⌝ }
+    ensures { λ m. ⌜ ((t : Text) → Written (quoted (message (problem-of (name-of (was f) entities e) t code))) (was out) n (is out) m) ⌝ }
 {
     if code == 6 {
         let a = show::put_byte(out, n, 34);
@@ -229,7 +230,7 @@ pub fn put_message(
     e: usize,
     r: Reason,
 ) -> usize
-    ensures { λ m. ⌜ Written (quoted (message (problem-of (name-of (now (f .entry)) entities e) (render (now (f .entry)) r) code))) (now (out .entry)) n (now (out .exit)) m ⌝ }
+    ensures { λ m. ⌜ Written (quoted (message (problem-of (name-of (was f) entities e) (render (was f) r) code))) (was out) n (is out) m ⌝ }
 {
     if code < 6 {
         return put_plain_message(out, n, code);
@@ -245,7 +246,7 @@ pub fn put_message(
 // A space and the name of the i-th part, if it is in the set.
 fn put_member(out: &mut [u8], n: usize, f: &[u8], section: Section, set: u32, i: usize) -> usize
     requires { ⌜ i < 32 ⌝ }
-    ensures { λ m. ⌜ Written (if holds set i then 32 ∷ quoted (name-of (now (f .entry)) section i) else []) (now (out .entry)) n (now (out .exit)) m ⌝ }
+    ensures { λ m. ⌜ Written (if holds set i then 32 ∷ quoted (name-of (was f) section i) else []) (was out) n (is out) m ⌝ }
 {
     if lint_reach::has(set, i) {
         let m = show::put_byte(out, n, 32);
@@ -256,7 +257,7 @@ fn put_member(out: &mut [u8], n: usize, f: &[u8], section: Section, set: u32, i:
 
 // `N "NAME"..` for the members of a set.
 pub fn put_members(out: &mut [u8], n: usize, f: &[u8], section: Section, set: u32) -> usize
-    ensures { λ m. ⌜ Written (quoted-list (names-of (now (f .entry)) section set)) (now (out .entry)) n (now (out .exit)) m ⌝ }
+    ensures { λ m. ⌜ Written (quoted-list (names-of (was f) section set)) (was out) n (is out) m ⌝ }
 {
     let many = u32::count_ones(set);
     let mut m = show::put_number(out, n, long(many));

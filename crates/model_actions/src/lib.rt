@@ -3,6 +3,7 @@
 use model_check::Checked;
 use model_check::Declared;
 use model_walk::Num;
+ghost use Rattle.notation.specs.Reference.{was};
 ghost use mathlib.Core.Path.{_≡_};
 ghost use Prim.Native.Nat.{_≤_};
 ghost use Rattle.model_check.specs.Checks.{declaration, _⨾_, skipM};
@@ -10,7 +11,7 @@ ghost use Rattle.model_actions.specs.Actions.{toggleM, waitM, countM, si
 
 fn toggle_check(s: &[u8], d: Declared, entities: &[usize; 100], at: usize, n: u32) -> Checked
     requires { ⌜ d .count ≤ 100 ⌝ }
-    ensures { λ r. ⌜ r ≡ toggleM (declaration d (now (entities .entry))) (now (s .entry)) at n ⌝ }
+    ensures { λ r. ⌜ r ≡ toggleM (declaration d (was entities)) (was s) at n ⌝ }
 {
     let x = model_walk::u16_at(s, at);
     let Num::Is(entity, p) = x else {
@@ -25,7 +26,7 @@ fn toggle_check(s: &[u8], d: Declared, entities: &[usize; 100], at: usize, n: u3
 
 fn wait_check(s: &[u8], d: Declared, entities: &[usize; 100], at: usize, n: u32) -> Checked
     requires { ⌜ d .count ≤ 100 ⌝ }
-    ensures { λ r. ⌜ r ≡ waitM (declaration d (now (entities .entry))) (now (s .entry)) at n ⌝ }
+    ensures { λ r. ⌜ r ≡ waitM (declaration d (was entities)) (was s) at n ⌝ }
 {
     let a = model_check::trigger_check(s, d, entities, at, n);
     let Checked::To(p, k) = a else {
@@ -48,7 +49,7 @@ fn simple_check(
     n: u32,
 ) -> Checked
     requires { ⌜ d .count ≤ 100 ⌝ }
-    ensures { λ r. ⌜ r ≡ simpleM (declaration d (now (entities .entry))) kind (now (s .entry)) at n ⌝ }
+    ensures { λ r. ⌜ r ≡ simpleM (declaration d (was entities)) kind (was s) at n ⌝ }
 {
     if kind == 0 {
         return model_check::pair_check(s, d, entities, at, n);
@@ -70,7 +71,7 @@ fn simple_check(
 
 // An action's count and its source: its kind stands at the position after them.
 fn head_check(s: &[u8], at: usize, n: u32) -> Checked
-    ensures { λ r. ⌜ r ≡ (countM ⨾ skipM 8) (now (s .entry)) at n ⌝ }
+    ensures { λ r. ⌜ r ≡ (countM ⨾ skipM 8) (was s) at n ⌝ }
 {
     if n < 512 {
         return model_check::skip(s, 8, at, n + 1);
@@ -88,7 +89,7 @@ pub fn actions_check(
     n: u32,
 ) -> Checked
     requires { ⌜ d .count ≤ 100 ⌝ }
-    ensures { λ r. ⌜ r ≡ actionsM (declaration d (now (entities .entry))) left (now (s .entry)) at n ⌝ }
+    ensures { λ r. ⌜ r ≡ actionsM (declaration d (was entities)) left (was s) at n ⌝ }
 {
     if left == 0 {
         return Checked::Refused(16);
@@ -134,7 +135,7 @@ pub fn choice_check(
     n: u32,
 ) -> Checked
     requires { ⌜ d .count ≤ 100 ⌝ }
-    ensures { λ r. ⌜ r ≡ choiceM (declaration d (now (entities .entry))) (actionsM (declaration d (now (entities .entry))) left) (now (s .entry)) at n ⌝ }
+    ensures { λ r. ⌜ r ≡ choiceM (declaration d (was entities)) (actionsM (declaration d (was entities)) left) (was s) at n ⌝ }
 {
     let x = model_walk::u16_at(s, at);
     let Num::Is(count, start) = x else {

@@ -2,6 +2,7 @@
 // The file was read before, so that what is looked for is there; a check that finds the file rules broken says 30.
 use model_parts::Section;
 use model_walk::Num;
+ghost use Rattle.notation.specs.Reference.{was};
 ghost use mathlib.Core.Path.{_≡_};
 ghost use Prim.Native.Nat.{_+_, _≤_, _<_};
 ghost use Rattle.model_spec.specs.Validate.{bad-window};
@@ -26,7 +27,7 @@ pub struct Declared {
 // ---- leaves
 
 pub fn skip(s: &[u8], size: usize, at: usize, n: u32) -> Checked
-    ensures { λ r. ⌜ r ≡ skipM size (now (s .entry)) at n ⌝ }
+    ensures { λ r. ⌜ r ≡ skipM size (was s) at n ⌝ }
 {
     if s.len() < size {
         return Checked::Refused(30);
@@ -39,7 +40,7 @@ pub fn skip(s: &[u8], size: usize, at: usize, n: u32) -> Checked
 
 // A number of seconds, at most a day, or the refusal.
 pub fn day_check(s: &[u8], refusal: u32, at: usize, n: u32) -> Checked
-    ensures { λ r. ⌜ r ≡ dayM refusal (now (s .entry)) at n ⌝ }
+    ensures { λ r. ⌜ r ≡ dayM refusal (was s) at n ⌝ }
 {
     let x = model_walk::u32_at(s, at);
     let Num::Is(seconds, next) = x else {
@@ -55,7 +56,7 @@ pub fn day_check(s: &[u8], refusal: u32, at: usize, n: u32) -> Checked
 
 // Whether the place at a position is this one.
 pub fn place_is(s: &[u8], at: usize, place: u32) -> bool
-    ensures { λ r. ⌜ r ≡ place-is (now (s .entry)) at place ⌝ }
+    ensures { λ r. ⌜ r ≡ place-is (was s) at place ⌝ }
 {
     let x = model_walk::u16_at(s, at);
     let Num::Is(y, _) = x else {
@@ -66,7 +67,7 @@ pub fn place_is(s: &[u8], at: usize, place: u32) -> bool
 
 // Whether one of so many places is this one.
 pub fn among(s: &[u8], count: u32, at: usize, place: u32) -> bool
-    ensures { λ r. ⌜ r ≡ among count (now (s .entry)) at place ⌝ }
+    ensures { λ r. ⌜ r ≡ among count (was s) at place ⌝ }
 {
     let mut left = count;
     let mut p = at;
@@ -86,7 +87,7 @@ pub fn among(s: &[u8], count: u32, at: usize, place: u32) -> bool
 
 // Whether one of the places behind a count is this one.
 fn listed_at(s: &[u8], at: usize, place: u32) -> bool
-    ensures { λ r. ⌜ r ≡ listed-at (now (s .entry)) at place ⌝ }
+    ensures { λ r. ⌜ r ≡ listed-at (was s) at place ⌝ }
 {
     let x = model_walk::u16_at(s, at);
     let Num::Is(count, start) = x else {
@@ -98,7 +99,7 @@ fn listed_at(s: &[u8], at: usize, place: u32) -> bool
 // The number of the first of so many positions that holds this place, or the count.
 pub fn first_of(s: &[u8], starts: &[usize; 100], count: u32, place: u32) -> usize
     requires { ⌜ count ≤ 100 ⌝ }
-    ensures { λ r. ⌜ (r ≡ first-from (now (starts .entry)) place (now (s .entry)) count 0) × (r ≤ count) ⌝ }
+    ensures { λ r. ⌜ (r ≡ first-from (was starts) place (was s) count 0) × (r ≤ count) ⌝ }
 {
     let end = count as usize;
     let mut i: usize = 0;
@@ -115,7 +116,7 @@ pub fn first_of(s: &[u8], starts: &[usize; 100], count: u32, place: u32) -> usiz
 // The number of the section's first part that begins with this place, or the count.
 pub fn number_of(s: &[u8], section: Section, place: u32) -> usize
     requires { ⌜ section .count ≤ 100 ⌝ }
-    ensures { λ r. ⌜ (r ≡ number-of section place (now (s .entry))) × (r ≤ section .count) ⌝ }
+    ensures { λ r. ⌜ (r ≡ number-of section place (was s)) × (r ≤ section .count) ⌝ }
 {
     let starts = section.starts;
     first_of(s, &starts, section.count, place)
@@ -134,7 +135,7 @@ fn entity_value_check(
     n: u32,
 ) -> Checked
     requires { ⌜ d .count ≤ 100 ⌝ }
-    ensures { λ r. ⌜ r ≡ entity-valueM (declaration d (now (entities .entry))) i value (now (s .entry)) at n ⌝ }
+    ensures { λ r. ⌜ r ≡ entity-valueM (declaration d (was entities)) i value (was s) at n ⌝ }
 {
     let count = d.count as usize;
     if count <= i {
@@ -166,7 +167,7 @@ pub fn value_check(
     n: u32,
 ) -> Checked
     requires { ⌜ d .count ≤ 100 ⌝ }
-    ensures { λ r. ⌜ r ≡ valueM (declaration d (now (entities .entry))) entity value (now (s .entry)) at n ⌝ }
+    ensures { λ r. ⌜ r ≡ valueM (declaration d (was entities)) entity value (was s) at n ⌝ }
 {
     let i = first_of(s, entities, d.count, entity);
     entity_value_check(s, d, entities, i, value, at, n)
@@ -175,7 +176,7 @@ pub fn value_check(
 // An entity and a value.
 pub fn pair_check(s: &[u8], d: Declared, entities: &[usize; 100], at: usize, n: u32) -> Checked
     requires { ⌜ d .count ≤ 100 ⌝ }
-    ensures { λ r. ⌜ r ≡ pairM (declaration d (now (entities .entry))) (now (s .entry)) at n ⌝ }
+    ensures { λ r. ⌜ r ≡ pairM (declaration d (was entities)) (was s) at n ⌝ }
 {
     let x = model_walk::u16_at(s, at);
     let Num::Is(entity, p) = x else {
@@ -211,7 +212,7 @@ fn window_bad(days: u32, start: u32, end: u32) -> bool
 
 // A window's days, start and end.
 fn window_check(s: &[u8], at: usize, n: u32) -> Checked
-    ensures { λ r. ⌜ r ≡ windowM (now (s .entry)) at n ⌝ }
+    ensures { λ r. ⌜ r ≡ windowM (was s) at n ⌝ }
 {
     let x = model_walk::u8_at(s, at);
     let Num::Is(days, p) = x else {
@@ -241,7 +242,7 @@ pub fn predicate_check(
     n: u32,
 ) -> Checked
     requires { ⌜ d .count ≤ 100 ⌝ }
-    ensures { λ r. ⌜ r ≡ predicateM (declaration d (now (entities .entry))) banned (now (s .entry)) at n ⌝ }
+    ensures { λ r. ⌜ r ≡ predicateM (declaration d (was entities)) banned (was s) at n ⌝ }
 {
     let x = model_walk::u8_at(s, at);
     let Num::Is(kind, p) = x else {
@@ -269,7 +270,7 @@ pub fn predicates_check(
     n: u32,
 ) -> Checked
     requires { ⌜ d .count ≤ 100 ⌝ }
-    ensures { λ r. ⌜ r ≡ predicatesM (declaration d (now (entities .entry))) banned (now (s .entry)) at n ⌝ }
+    ensures { λ r. ⌜ r ≡ predicatesM (declaration d (was entities)) banned (was s) at n ⌝ }
 {
     let x = model_walk::u16_at(s, at);
     let Num::Is(count, start) = x else {
@@ -301,7 +302,7 @@ fn declared_check(
     n: u32,
 ) -> Checked
     requires { ⌜ d .count ≤ 100 ⌝ }
-    ensures { λ r. ⌜ r ≡ declaredM (declaration d (now (entities .entry))) entity (now (s .entry)) at n ⌝ }
+    ensures { λ r. ⌜ r ≡ declaredM (declaration d (was entities)) entity (was s) at n ⌝ }
 {
     let count = d.count as usize;
     let i = first_of(s, entities, d.count, entity);
@@ -321,7 +322,7 @@ fn optional_check(
     n: u32,
 ) -> Checked
     requires { ⌜ d .count ≤ 100 ⌝ }
-    ensures { λ r. ⌜ r ≡ optionalM (declaration d (now (entities .entry))) entity value (now (s .entry)) at n ⌝ }
+    ensures { λ r. ⌜ r ≡ optionalM (declaration d (was entities)) entity value (was s) at n ⌝ }
 {
     if value == 65535 {
         return Checked::To(at, n);
@@ -341,7 +342,7 @@ fn trigger_of_check(
     n: u32,
 ) -> Checked
     requires { ⌜ d .count ≤ 100 ⌝ }
-    ensures { λ r. ⌜ r ≡ trigger-ofM (declaration d (now (entities .entry))) entity from to (now (s .entry)) at n ⌝ }
+    ensures { λ r. ⌜ r ≡ trigger-ofM (declaration d (was entities)) entity from to (was s) at n ⌝ }
 {
     let a = declared_check(s, d, entities, entity, at, n);
     let Checked::To(p, k) = a else {
@@ -356,7 +357,7 @@ fn trigger_of_check(
 
 pub fn trigger_check(s: &[u8], d: Declared, entities: &[usize; 100], at: usize, n: u32) -> Checked
     requires { ⌜ d .count ≤ 100 ⌝ }
-    ensures { λ r. ⌜ r ≡ triggerM (declaration d (now (entities .entry))) (now (s .entry)) at n ⌝ }
+    ensures { λ r. ⌜ r ≡ triggerM (declaration d (was entities)) (was s) at n ⌝ }
 {
     let x = model_walk::u16_at(s, at);
     let Num::Is(entity, p) = x else {
@@ -394,7 +395,7 @@ pub fn triggers_check(
     n: u32,
 ) -> Checked
     requires { ⌜ d .count ≤ 100 ⌝ }
-    ensures { λ r. ⌜ r ≡ triggersM (declaration d (now (entities .entry))) count (now (s .entry)) at n ⌝ }
+    ensures { λ r. ⌜ r ≡ triggersM (declaration d (was entities)) count (was s) at n ⌝ }
 {
     let mut left = count;
     let mut p = at;

@@ -4,6 +4,7 @@ use model_parts::Part;
 use model_parts::Section;
 use model_walk::Num;
 use model_walk::Walked;
+ghost use Rattle.notation.specs.Reference.{was, is};
 ghost use mathlib.Core.Path.{_≡_};
 ghost use mathlib.Core.List.{List};
 ghost use Prim.Native.Nat.{ℕ};
@@ -118,7 +119,7 @@ pub fn refusal(number: u32) -> Outline
 
 // A section from its extent and its positions.
 fn section(x: Extent, starts: &[usize; 100]) -> Section
-    ensures { λ r. ⌜ r ≡ section x (now (starts .entry)) ⌝ }
+    ensures { λ r. ⌜ r ≡ section x (was starts) ⌝ }
 {
     let end = x.end;
     Section {
@@ -139,7 +140,7 @@ pub fn file_of(
     gaps: &[usize; 100],
     rules: &[usize; 100],
 ) -> File
-    ensures { λ r. ⌜ r ≡ file-of x (now (texts .entry)) (now (entities .entry)) (now (events .entry)) (now (invariants .entry)) (now (alphabet .entry)) (now (gaps .entry)) (now (rules .entry)) ⌝ }
+    ensures { λ r. ⌜ r ≡ file-of x (was texts) (was entities) (was events) (was invariants) (was alphabet) (was gaps) (was rules) ⌝ }
 {
     let status = x.status;
     if let Status::Refused(number) = status {
@@ -173,7 +174,7 @@ fn rest_at(
     rules: &mut [usize; 100],
 ) -> Outline
     requires { ⌜ Zeros (now alphabet) (now gaps) (now rules) ⌝ }
-    ensures { λ r. ⌜ ((t e v i : List ℕ) → file-of r t e v i (now (alphabet .exit)) (now (gaps .exit)) (now (rules .exit)) ≡ restM (now (s .entry)) (front .texts .count) (index-of front t e v i) at notes) ⌝ }
+    ensures { λ r. ⌜ ((t e v i : List ℕ) → file-of r t e v i (is alphabet) (is gaps) (is rules) ≡ restM (was s) (front .texts .count) (index-of front t e v i) at notes) ⌝ }
 {
     let count = front.texts.count;
     let a = model_parts::section_into(s, count, Part::Input, at, notes, alphabet);
@@ -229,7 +230,7 @@ fn body_at(
     rules: &mut [usize; 100],
 ) -> Outline
     requires { ⌜ Zeros (now entities) (now events) (now invariants) × Zeros (now alphabet) (now gaps) (now rules) ⌝ }
-    ensures { λ r. ⌜ ((t : List ℕ) → file-of r t (now (entities .exit)) (now (events .exit)) (now (invariants .exit)) (now (alphabet .exit)) (now (gaps .exit)) (now (rules .exit)) ≡ bodyM (now (s .entry)) version (section texts t) at) ⌝ }
+    ensures { λ r. ⌜ ((t : List ℕ) → file-of r t (is entities) (is events) (is invariants) (is alphabet) (is gaps) (is rules) ≡ bodyM (was s) version (section texts t) at) ⌝ }
 {
     let count = texts.count;
     let a = model_walk::place_at(s, count, at, 0);
@@ -274,7 +275,7 @@ pub fn read(
     rules: &mut [usize; 100],
 ) -> Outline
     requires { ⌜ (now texts ≡ none) × (Zeros (now entities) (now events) (now invariants) × Zeros (now alphabet) (now gaps) (now rules)) ⌝ }
-    ensures { λ r. ⌜ Says (now (s .entry)) (file-of r (now (texts .exit)) (now (entities .exit)) (now (events .exit)) (now (invariants .exit)) (now (alphabet .exit)) (now (gaps .exit)) (now (rules .exit))) (decode (now (s .entry))) ⌝ }
+    ensures { λ r. ⌜ Says (was s) (file-of r (is texts) (is entities) (is events) (is invariants) (is alphabet) (is gaps) (is rules)) (decode (was s)) ⌝ }
 {
     if 32768 < s.len() {
         return refusal(30);

@@ -2,6 +2,7 @@
 use model_parts::Part;
 use model_walk::Num;
 use model_walk::Walked;
+ghost use Rattle.notation.specs.Reference.{was};
 ghost use mathlib.Core.Path.{_≡_};
 ghost use Prim.Native.Nat.{_+_, _≤_};
 ghost use lib.ListN.{length, getD};
@@ -11,7 +12,7 @@ ghost use Rattle.texts.specs.Places.{textAt};
 ghost use Rattle.model_order.specs.Order.{fits, text-before, place-before, before, ascendingM, has, place-from, textsM};
 
 fn text_fits(s: &[u8], p: usize) -> bool
-    ensures { λ r. ⌜ r ≡ fits (now (s .entry)) p ⌝ }
+    ensures { λ r. ⌜ r ≡ fits (was s) p ⌝ }
 {
     if s.len() <= p {
         return false;
@@ -25,7 +26,7 @@ fn text_fits(s: &[u8], p: usize) -> bool
 
 // Whether the text at `a` comes before the text at `b`.
 fn text_before(s: &[u8], a: usize, b: usize) -> bool
-    ensures { λ r. ⌜ r ≡ text-before (now (s .entry)) a b ⌝ }
+    ensures { λ r. ⌜ r ≡ text-before (was s) a b ⌝ }
 {
     if !text_fits(s, a) {
         return false;
@@ -57,7 +58,7 @@ fn text_before(s: &[u8], a: usize, b: usize) -> bool
 
 // Whether the text at `p` is the word.
 fn text_is(s: &[u8], p: usize, word: &[u8]) -> bool
-    ensures { λ r. ⌜ r ≡ (fits (now (s .entry)) p && eqT (now (word .entry)) (textAt (now (s .entry)) p)) ⌝ }
+    ensures { λ r. ⌜ r ≡ (fits (was s) p && eqT (was word) (textAt (was s) p)) ⌝ }
 {
     if !text_fits(s, p) {
         return false;
@@ -79,7 +80,7 @@ fn text_is(s: &[u8], p: usize, word: &[u8]) -> bool
 }
 
 fn place_before(s: &[u8], a: usize, b: usize) -> bool
-    ensures { λ r. ⌜ r ≡ place-before (now (s .entry)) a b ⌝ }
+    ensures { λ r. ⌜ r ≡ place-before (was s) a b ⌝ }
 {
     let f = model_walk::u16_at(s, a);
     let Num::Is(x, _) = f else {
@@ -93,7 +94,7 @@ fn place_before(s: &[u8], a: usize, b: usize) -> bool
 }
 
 fn precedes(s: &[u8], as_texts: bool, a: usize, b: usize) -> bool
-    ensures { λ r. ⌜ r ≡ before as_texts (now (s .entry)) a b ⌝ }
+    ensures { λ r. ⌜ r ≡ before as_texts (was s) a b ⌝ }
 {
     if as_texts {
         return text_before(s, a, b);
@@ -103,7 +104,7 @@ fn precedes(s: &[u8], as_texts: bool, a: usize, b: usize) -> bool
 
 // A section of texts or entities, each after the one before it.
 pub fn ascending_at(s: &[u8], texts: u32, part: Part, as_texts: bool, at: usize) -> Walked
-    ensures { λ r. ⌜ r ≡ ascendingM texts part as_texts (now (s .entry)) at ⌝ }
+    ensures { λ r. ⌜ r ≡ ascendingM texts part as_texts (was s) at ⌝ }
 {
     let x = model_walk::u16_at(s, at);
     let Num::Is(count, start) = x else {
@@ -136,7 +137,7 @@ pub fn ascending_at(s: &[u8], texts: u32, part: Part, as_texts: bool, at: usize)
 
 // Whether the word is a text of the section.
 fn has(s: &[u8], word: &[u8], at: usize) -> bool
-    ensures { λ r. ⌜ r ≡ has (now (word .entry)) (now (s .entry)) at ⌝ }
+    ensures { λ r. ⌜ r ≡ has (was word) (was s) at ⌝ }
 {
     let x = model_walk::u16_at(s, at);
     let Num::Is(count, start) = x else {
@@ -160,7 +161,7 @@ fn has(s: &[u8], word: &[u8], at: usize) -> bool
 
 // The place of the word among the file's texts, of which there are `count`; `count` if it is none of them.
 pub fn place_of(s: &[u8], word: &[u8], count: u32) -> u32
-    ensures { λ r. ⌜ r ≡ place-from count 0 (now (word .entry)) (now (s .entry)) 6 ⌝ }
+    ensures { λ r. ⌜ r ≡ place-from count 0 (was word) (was s) 6 ⌝ }
 {
     let mut p: usize = 6;
     let mut place: u32 = 0;
@@ -176,7 +177,7 @@ pub fn place_of(s: &[u8], word: &[u8], count: u32) -> u32
 
 // The section of texts: they ascend, and the four fixed texts are there.
 pub fn texts_at(s: &[u8], at: usize) -> Walked
-    ensures { λ r. ⌜ r ≡ textsM (now (s .entry)) at ⌝ }
+    ensures { λ r. ⌜ r ≡ textsM (was s) at ⌝ }
 {
     if !has(s, b"on", at) {
         return Walked::Broken;

@@ -2,6 +2,7 @@
 use model_walk::Num;
 use model_walk::Piece;
 use model_walk::Walked;
+ghost use Rattle.notation.specs.Reference.{was, is};
 ghost use mathlib.Core.Path.{_≡_};
 ghost use Rattle.model_walk.specs.Walk.{_⨾_, by, timesM, bytesM};
 ghost use Rattle.model_parts.specs.Parts.{textM, entityM, inputM, eventM, conditionM, invariantM, ruleM, partM, put, none, sectionM, section};
@@ -31,7 +32,7 @@ pub struct Extent {
 }
 
 pub fn text_at(s: &[u8], at: usize, notes: u32) -> Walked
-    ensures { λ r. ⌜ r ≡ textM (now (s .entry)) at notes ⌝ }
+    ensures { λ r. ⌜ r ≡ textM (was s) at notes ⌝ }
 {
     let x = model_walk::u8_at(s, at);
     let Num::Is(count, start) = x else {
@@ -57,7 +58,7 @@ pub fn text_at(s: &[u8], at: usize, notes: u32) -> Walked
 }
 
 fn entity_at(s: &[u8], texts: u32, at: usize, notes: u32) -> Walked
-    ensures { λ r. ⌜ r ≡ entityM texts (now (s .entry)) at notes ⌝ }
+    ensures { λ r. ⌜ r ≡ entityM texts (was s) at notes ⌝ }
 {
     let a = model_walk::place_at(s, texts, at, notes);
     let Walked::To(p, k) = a else {
@@ -79,7 +80,7 @@ fn entity_at(s: &[u8], texts: u32, at: usize, notes: u32) -> Walked
 }
 
 fn input_at(s: &[u8], texts: u32, at: usize, notes: u32) -> Walked
-    ensures { λ r. ⌜ r ≡ inputM texts (now (s .entry)) at notes ⌝ }
+    ensures { λ r. ⌜ r ≡ inputM texts (was s) at notes ⌝ }
 {
     let x = model_walk::u8_at(s, at);
     let Num::Is(k, p) = x else {
@@ -95,7 +96,7 @@ fn input_at(s: &[u8], texts: u32, at: usize, notes: u32) -> Walked
 }
 
 fn event_at(s: &[u8], texts: u32, at: usize, notes: u32) -> Walked
-    ensures { λ r. ⌜ r ≡ eventM texts (now (s .entry)) at notes ⌝ }
+    ensures { λ r. ⌜ r ≡ eventM texts (was s) at notes ⌝ }
 {
     let a = model_walk::bytes_at(s, 4, at, notes);
     let Walked::To(p, k) = a else {
@@ -106,7 +107,7 @@ fn event_at(s: &[u8], texts: u32, at: usize, notes: u32) -> Walked
 
 // What follows an invariant's kind and its identifier.
 fn condition_at(s: &[u8], texts: u32, kind: u32, at: usize, notes: u32) -> Walked
-    ensures { λ r. ⌜ r ≡ conditionM texts kind (now (s .entry)) at notes ⌝ }
+    ensures { λ r. ⌜ r ≡ conditionM texts kind (was s) at notes ⌝ }
 {
     if kind == 0 {
         return model_walk::pieces_at(s, texts, Piece::Predicate, at, notes);
@@ -140,7 +141,7 @@ fn condition_at(s: &[u8], texts: u32, kind: u32, at: usize, notes: u32) -> Walke
 }
 
 fn invariant_at(s: &[u8], texts: u32, at: usize, notes: u32) -> Walked
-    ensures { λ r. ⌜ r ≡ invariantM texts (now (s .entry)) at notes ⌝ }
+    ensures { λ r. ⌜ r ≡ invariantM texts (was s) at notes ⌝ }
 {
     let x = model_walk::u8_at(s, at);
     let Num::Is(kind, p) = x else {
@@ -154,7 +155,7 @@ fn invariant_at(s: &[u8], texts: u32, at: usize, notes: u32) -> Walked
 }
 
 fn rule_at(s: &[u8], texts: u32, at: usize, notes: u32) -> Walked
-    ensures { λ r. ⌜ r ≡ ruleM texts (now (s .entry)) at notes ⌝ }
+    ensures { λ r. ⌜ r ≡ ruleM texts (was s) at notes ⌝ }
 {
     let a = model_walk::place_at(s, texts, at, notes);
     let Walked::To(p0, n0) = a else {
@@ -188,7 +189,7 @@ fn rule_at(s: &[u8], texts: u32, at: usize, notes: u32) -> Walked
 }
 
 pub fn part_at(s: &[u8], texts: u32, part: Part, at: usize, notes: u32) -> Walked
-    ensures { λ r. ⌜ r ≡ partM texts part (now (s .entry)) at notes ⌝ }
+    ensures { λ r. ⌜ r ≡ partM texts part (was s) at notes ⌝ }
 {
     match part {
         Part::Text => text_at(s, at, notes),
@@ -203,7 +204,7 @@ pub fn part_at(s: &[u8], texts: u32, part: Part, at: usize, notes: u32) -> Walke
 
 // The position of the i-th part, if there is room for it.
 fn put(starts: &mut [usize; 100], i: usize, at: usize)
-    ensures { λ _. ⌜ now (starts .exit) ≡ put i at (now (starts .entry)) ⌝ }
+    ensures { λ _. ⌜ is starts ≡ put i at (was starts) ⌝ }
 {
     if i < 100 {
         starts[i] = at;
@@ -220,7 +221,7 @@ pub fn section_into(
     starts: &mut [usize; 100],
 ) -> Extent
     requires { ⌜ now starts ≡ none ⌝ }
-    ensures { λ r. ⌜ section r (now (starts .exit)) ≡ sectionM (partM texts part) (now (s .entry)) at notes ⌝ }
+    ensures { λ r. ⌜ section r (is starts) ≡ sectionM (partM texts part) (was s) at notes ⌝ }
 {
     let x = model_walk::u16_at(s, at);
     let Num::Is(count, start) = x else {
@@ -254,7 +255,7 @@ pub fn section_into(
 }
 
 pub fn section_at(s: &[u8], texts: u32, part: Part, at: usize, notes: u32) -> Section
-    ensures { λ r. ⌜ r ≡ sectionM (partM texts part) (now (s .entry)) at notes ⌝ }
+    ensures { λ r. ⌜ r ≡ sectionM (partM texts part) (was s) at notes ⌝ }
 {
     let mut starts = [0usize; 100];
     let x = section_into(s, texts, part, at, notes, &mut starts);

@@ -1,6 +1,7 @@
 // The model file with other events: the sections before them, the new events section, the later sections.
 use model_parts::Part;
 use model_walk::Walked;
+ghost use Rattle.notation.specs.Reference.{was, is};
 ghost use mathlib.Core.Path.{_≡_};
 ghost use mathlib.Core.List.{_++_};
 ghost use Prim.Native.Nat.{_+_, _*_, _≤_, _<_};
@@ -24,7 +25,7 @@ fn no_span() -> Span
 
 // From the title on, for a file with this many texts.
 fn events_behind(file: &[u8], texts: u32, at: usize) -> Span
-    ensures { λ r. ⌜ r ≡ bodyM (now (file .entry)) texts at ⌝ }
+    ensures { λ r. ⌜ r ≡ bodyM (was file) texts at ⌝ }
 {
     let a = model_walk::place_at(file, texts, at, 0);
     let Walked::To(p, _) = a else {
@@ -45,7 +46,7 @@ fn events_behind(file: &[u8], texts: u32, at: usize) -> Span
 
 // Where the events of a model file stand.
 pub fn events_in(file: &[u8]) -> Span
-    ensures { λ r. ⌜ r ≡ spanM (now (file .entry)) ⌝ }
+    ensures { λ r. ⌜ r ≡ spanM (was file) ⌝ }
 {
     let texts = model_parts::section_at(file, 0, Part::Text, 4, 0);
     let count = texts.count;
@@ -58,7 +59,7 @@ pub fn events_in(file: &[u8]) -> Span
 
 fn copy(s: &[u8], out: &mut [u8])
     requires { ⌜ length (now s) ≤ length (now out) ⌝ }
-    ensures { λ _. ⌜ now (out .exit) ≡ now (s .entry) ++ drop (length (now (s .entry))) (now (out .entry)) ⌝ }
+    ensures { λ _. ⌜ is out ≡ was s ++ drop (length (was s)) (was out) ⌝ }
 {
     let mut i = 0;
     while i < s.len() {
@@ -70,7 +71,7 @@ fn copy(s: &[u8], out: &mut [u8])
 // An event's second and its kind.
 fn write_start(second: u32, kind: u32, out: &mut [u8])
     requires { ⌜ (kind < 256) × (5 ≤ length (now out)) ⌝ }
-    ensures { λ _. ⌜ now (out .exit) ≡ event-start second kind ++ drop 5 (now (out .entry)) ⌝ }
+    ensures { λ _. ⌜ is out ≡ event-start second kind ++ drop 5 (was out) ⌝ }
 {
     out[0] = (second % 65536 % 256) as u8;
     out[1] = (second % 65536 / 256) as u8;
@@ -82,7 +83,7 @@ fn write_start(second: u32, kind: u32, out: &mut [u8])
 // The places of an entity and of a value.
 fn write_places(entity: u32, value: u32, out: &mut [u8])
     requires { ⌜ (entity < 65536) × ((value < 65536) × (4 ≤ length (now out))) ⌝ }
-    ensures { λ _. ⌜ now (out .exit) ≡ two-places entity value ++ drop 4 (now (out .entry)) ⌝ }
+    ensures { λ _. ⌜ is out ≡ two-places entity value ++ drop 4 (was out) ⌝ }
 {
     out[0] = (entity % 256) as u8;
     out[1] = (entity / 256) as u8;
@@ -93,7 +94,7 @@ fn write_places(entity: u32, value: u32, out: &mut [u8])
 // The k-th event. Only an event that sets has places.
 fn write_event(events: &[u32], k: usize, out: &mut [u8]) -> usize
     requires { ⌜ (k * 4 + 4 ≤ length (now events)) × (EventFits (now events) k × (length (event-at (now events) k) ≤ length (now out))) ⌝ }
-    ensures { λ r. ⌜ Wrote (event-at (now (events .entry)) k) r (now (out .entry)) (now (out .exit)) ⌝ }
+    ensures { λ r. ⌜ Wrote (event-at (was events) k) r (was out) (is out) ⌝ }
 {
     let second = events[k * 4];
     let kind = events[k * 4 + 1];
@@ -110,7 +111,7 @@ fn write_event(events: &[u32], k: usize, out: &mut [u8]) -> usize
 // The first n events.
 fn write_each(events: &[u32], n: usize, out: &mut [u8]) -> usize
     requires { ⌜ EventsFit (now events) n × (length (first-events (now events) n) ≤ length (now out)) ⌝ }
-    ensures { λ r. ⌜ Wrote (first-events (now (events .entry)) n) r (now (out .entry)) (now (out .exit)) ⌝ }
+    ensures { λ r. ⌜ Wrote (first-events (was events) n) r (was out) (is out) ⌝ }
 {
     let mut at: usize = 0;
     let mut k: usize = 0;
@@ -123,7 +124,7 @@ fn write_each(events: &[u32], n: usize, out: &mut [u8]) -> usize
 
 fn write_count(n: usize, out: &mut [u8])
     requires { ⌜ (n < 65536) × (2 ≤ length (now out)) ⌝ }
-    ensures { λ _. ⌜ now (out .exit) ≡ bytes2 n ++ drop 2 (now (out .entry)) ⌝ }
+    ensures { λ _. ⌜ is out ≡ bytes2 n ++ drop 2 (was out) ⌝ }
 {
     out[0] = (n % 256) as u8;
     out[1] = (n / 256) as u8;
@@ -132,7 +133,7 @@ fn write_count(n: usize, out: &mut [u8])
 // The events section: the count of n events in two bytes, then the events.
 pub fn write_events(events: &[u32], n: usize, out: &mut [u8]) -> usize
     requires { ⌜ EventsFit (now events) n × (length (section-bytes (now events) n) ≤ length (now out)) ⌝ }
-    ensures { λ r. ⌜ Wrote (section-bytes (now (events .entry)) n) r (now (out .entry)) (now (out .exit)) ⌝ }
+    ensures { λ r. ⌜ Wrote (section-bytes (was events) n) r (was out) (is out) ⌝ }
 {
     write_count(n, out);
     let size = write_each(events, n, &mut out[2..]);
@@ -142,7 +143,7 @@ pub fn write_events(events: &[u32], n: usize, out: &mut [u8]) -> usize
 // The file with n events in place of its own, whose section stands at `place`. The answer is the new length.
 pub fn rewrite(file: &[u8], place: Span, events: &[u32], n: usize, out: &mut [u8]) -> usize
     requires { ⌜ Room (now file) place (now events) n (now out) ⌝ }
-    ensures { λ r. ⌜ Wrote (file-with (now (file .entry)) place (now (events .entry)) n) r (now (out .entry)) (now (out .exit)) ⌝ }
+    ensures { λ r. ⌜ Wrote (file-with (was file) place (was events) n) r (was out) (is out) ⌝ }
 {
     let start = place.start;
     let end = place.end;

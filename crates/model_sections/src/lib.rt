@@ -2,6 +2,7 @@
 use model_check::Checked;
 use model_check::Declared;
 use model_walk::Num;
+ghost use Rattle.notation.specs.Reference.{was};
 ghost use mathlib.Core.Path.{_≡_};
 ghost use Prim.Native.Nat.{_≤_};
 ghost use Rattle.model_check.specs.Checks.{declaration};
@@ -20,7 +21,7 @@ pub enum Part {
 
 // Whether the text at a place is empty or longer than 100 bytes.
 fn bad_place(s: &[u8], place: u32) -> bool
-    ensures { λ r. ⌜ r ≡ bad-place (now (s .entry)) place ⌝ }
+    ensures { λ r. ⌜ r ≡ bad-place (was s) place ⌝ }
 {
     let at = texts::text_start(s, 6, place);
     let n = texts::text_len(s, at);
@@ -31,7 +32,7 @@ fn bad_place(s: &[u8], place: u32) -> bool
 }
 
 fn any_bad(s: &[u8], count: u32, at: usize) -> bool
-    ensures { λ r. ⌜ r ≡ any-bad count (now (s .entry)) at ⌝ }
+    ensures { λ r. ⌜ r ≡ any-bad count (was s) at ⌝ }
 {
     let mut left = count;
     let mut p = at;
@@ -50,7 +51,7 @@ fn any_bad(s: &[u8], count: u32, at: usize) -> bool
 }
 
 fn doubled(s: &[u8], count: u32, at: usize) -> bool
-    ensures { λ r. ⌜ r ≡ doubled count (now (s .entry)) at ⌝ }
+    ensures { λ r. ⌜ r ≡ doubled count (was s) at ⌝ }
 {
     let mut left = count;
     let mut p = at;
@@ -71,7 +72,7 @@ fn doubled(s: &[u8], count: u32, at: usize) -> bool
 // ---- entities
 
 fn bad_domain(s: &[u8], name: u32, count: u32, at: usize) -> bool
-    ensures { λ r. ⌜ r ≡ bad-domain name count (now (s .entry)) at ⌝ }
+    ensures { λ r. ⌜ r ≡ bad-domain name count (was s) at ⌝ }
 {
     if bad_place(s, name) {
         return true;
@@ -111,7 +112,7 @@ fn entity_of_check(
     n: u32,
 ) -> Checked
     requires { ⌜ d .count ≤ 100 ⌝ }
-    ensures { λ r. ⌜ r ≡ entity-ofM (declaration d (now (entities .entry))) name count domain value stale (now (s .entry)) at n ⌝ }
+    ensures { λ r. ⌜ r ≡ entity-ofM (declaration d (was entities)) name count domain value stale (was s) at n ⌝ }
 {
     if stale_bad(stale) {
         return Checked::Refused(5);
@@ -134,7 +135,7 @@ fn entity_rest_check(
     n: u32,
 ) -> Checked
     requires { ⌜ d .count ≤ 100 ⌝ }
-    ensures { λ r. ⌜ r ≡ entity-restM (declaration d (now (entities .entry))) name count domain (now (s .entry)) at n ⌝ }
+    ensures { λ r. ⌜ r ≡ entity-restM (declaration d (was entities)) name count domain (was s) at n ⌝ }
 {
     let x = model_walk::u16_at(s, at);
     let Num::Is(value, p) = x else {
@@ -153,7 +154,7 @@ fn entity_rest_check(
 
 fn entity_check(s: &[u8], d: Declared, entities: &[usize; 100], at: usize, n: u32) -> Checked
     requires { ⌜ d .count ≤ 100 ⌝ }
-    ensures { λ r. ⌜ r ≡ entityM (declaration d (now (entities .entry))) (now (s .entry)) at n ⌝ }
+    ensures { λ r. ⌜ r ≡ entityM (declaration d (was entities)) (was s) at n ⌝ }
 {
     let x = model_walk::u16_at(s, at);
     let Num::Is(name, p) = x else {
@@ -174,7 +175,7 @@ fn entity_check(s: &[u8], d: Declared, entities: &[usize; 100], at: usize, n: u3
 
 fn input_check(s: &[u8], d: Declared, entities: &[usize; 100], at: usize, n: u32) -> Checked
     requires { ⌜ d .count ≤ 100 ⌝ }
-    ensures { λ r. ⌜ r ≡ inputM (declaration d (now (entities .entry))) (now (s .entry)) at n ⌝ }
+    ensures { λ r. ⌜ r ≡ inputM (declaration d (was entities)) (was s) at n ⌝ }
 {
     let x = model_walk::u8_at(s, at);
     let Num::Is(kind, p) = x else {
@@ -188,7 +189,7 @@ fn input_check(s: &[u8], d: Declared, entities: &[usize; 100], at: usize, n: u32
 
 fn event_check(s: &[u8], d: Declared, entities: &[usize; 100], at: usize, n: u32) -> Checked
     requires { ⌜ d .count ≤ 100 ⌝ }
-    ensures { λ r. ⌜ r ≡ eventM (declaration d (now (entities .entry))) (now (s .entry)) at n ⌝ }
+    ensures { λ r. ⌜ r ≡ eventM (declaration d (was entities)) (was s) at n ⌝ }
 {
     let a = model_check::skip(s, 4, at, n);
     let Checked::To(p, m) = a else {
@@ -200,7 +201,7 @@ fn event_check(s: &[u8], d: Declared, entities: &[usize; 100], at: usize, n: u32
 // Whether an event passes the horizon or is earlier than the one before it.
 pub fn seconds_bad(s: &[u8], events: &[usize; 100], count: u32, horizon: u32) -> bool
     requires { ⌜ count ≤ 100 ⌝ }
-    ensures { λ r. ⌜ r ≡ seconds-bad horizon (now (events .entry)) (now (s .entry)) count 0 0 ⌝ }
+    ensures { λ r. ⌜ r ≡ seconds-bad horizon (was events) (was s) count 0 0 ⌝ }
 {
     let end = count as usize;
     let mut j: usize = 0;
@@ -225,7 +226,7 @@ pub fn seconds_bad(s: &[u8], events: &[usize; 100], count: u32, horizon: u32) ->
 
 pub fn gaps_bad(s: &[u8], gaps: &[usize; 100], count: u32) -> bool
     requires { ⌜ count ≤ 100 ⌝ }
-    ensures { λ r. ⌜ r ≡ gaps-bad (now (gaps .entry)) (now (s .entry)) count 0 ⌝ }
+    ensures { λ r. ⌜ r ≡ gaps-bad (was gaps) (was s) count 0 ⌝ }
 {
     let end = count as usize;
     let mut j: usize = 0;
@@ -247,7 +248,7 @@ pub fn gaps_bad(s: &[u8], gaps: &[usize; 100], count: u32) -> bool
 
 // Whether this is the identifier of the part at a position; an invariant's stands behind its kind.
 fn id_is(s: &[u8], part: Part, at: usize, place: u32) -> bool
-    ensures { λ r. ⌜ r ≡ id-is part (now (s .entry)) at place ⌝ }
+    ensures { λ r. ⌜ r ≡ id-is part (was s) at place ⌝ }
 {
     match part {
         Part::Invariant => {
@@ -267,7 +268,7 @@ fn id_is(s: &[u8], part: Part, at: usize, place: u32) -> bool
 // Whether a part before the j-th has this identifier.
 fn seen(s: &[u8], part: Part, starts: &[usize; 100], j: usize, place: u32) -> bool
     requires { ⌜ j ≤ 100 ⌝ }
-    ensures { λ r. ⌜ r ≡ seen part (now (starts .entry)) (now (s .entry)) j place ⌝ }
+    ensures { λ r. ⌜ r ≡ seen part (was starts) (was s) j place ⌝ }
 {
     let mut i = j;
     while 0 < i {
@@ -282,7 +283,7 @@ fn seen(s: &[u8], part: Part, starts: &[usize; 100], j: usize, place: u32) -> bo
 
 fn bad_id(s: &[u8], part: Part, starts: &[usize; 100], j: usize, place: u32) -> bool
     requires { ⌜ j ≤ 100 ⌝ }
-    ensures { λ r. ⌜ r ≡ bad-id part (now (starts .entry)) j (now (s .entry)) place ⌝ }
+    ensures { λ r. ⌜ r ≡ bad-id part (was starts) j (was s) place ⌝ }
 {
     if bad_place(s, place) {
         return true;
@@ -295,7 +296,7 @@ fn bad_id(s: &[u8], part: Part, starts: &[usize; 100], j: usize, place: u32) -> 
 // At least one predicate and at most 32.
 fn conditions_check(s: &[u8], d: Declared, entities: &[usize; 100], at: usize, n: u32) -> Checked
     requires { ⌜ d .count ≤ 100 ⌝ }
-    ensures { λ r. ⌜ r ≡ conditionsM (declaration d (now (entities .entry))) (now (s .entry)) at n ⌝ }
+    ensures { λ r. ⌜ r ≡ conditionsM (declaration d (was entities)) (was s) at n ⌝ }
 {
     let x = model_walk::u16_at(s, at);
     let Num::Is(count, _) = x else {
@@ -312,7 +313,7 @@ fn conditions_check(s: &[u8], d: Declared, entities: &[usize; 100], at: usize, n
 
 fn guard_check(s: &[u8], d: Declared, entities: &[usize; 100], at: usize, n: u32) -> Checked
     requires { ⌜ d .count ≤ 100 ⌝ }
-    ensures { λ r. ⌜ r ≡ guardM (declaration d (now (entities .entry))) (now (s .entry)) at n ⌝ }
+    ensures { λ r. ⌜ r ≡ guardM (declaration d (was entities)) (was s) at n ⌝ }
 {
     let x = model_walk::u16_at(s, at);
     let Num::Is(entity, p) = x else {
@@ -331,7 +332,7 @@ fn guard_check(s: &[u8], d: Declared, entities: &[usize; 100], at: usize, n: u32
 
 fn transition_check(s: &[u8], d: Declared, entities: &[usize; 100], at: usize, n: u32) -> Checked
     requires { ⌜ d .count ≤ 100 ⌝ }
-    ensures { λ r. ⌜ r ≡ transitionM (declaration d (now (entities .entry))) (now (s .entry)) at n ⌝ }
+    ensures { λ r. ⌜ r ≡ transitionM (declaration d (was entities)) (was s) at n ⌝ }
 {
     let x = model_walk::u16_at(s, at);
     let Num::Is(entity, p) = x else {
@@ -354,7 +355,7 @@ fn transition_check(s: &[u8], d: Declared, entities: &[usize; 100], at: usize, n
 
 fn response_check(s: &[u8], d: Declared, entities: &[usize; 100], at: usize, n: u32) -> Checked
     requires { ⌜ d .count ≤ 100 ⌝ }
-    ensures { λ r. ⌜ r ≡ responseM (declaration d (now (entities .entry))) (now (s .entry)) at n ⌝ }
+    ensures { λ r. ⌜ r ≡ responseM (declaration d (was entities)) (was s) at n ⌝ }
 {
     let a = model_check::predicate_check(s, d, entities, 51, at, n);
     let Checked::To(p, k) = a else {
@@ -377,7 +378,7 @@ fn invariant_of_check(
     n: u32,
 ) -> Checked
     requires { ⌜ d .count ≤ 100 ⌝ }
-    ensures { λ r. ⌜ r ≡ invariant-ofM (declaration d (now (entities .entry))) kind (now (s .entry)) at n ⌝ }
+    ensures { λ r. ⌜ r ≡ invariant-ofM (declaration d (was entities)) kind (was s) at n ⌝ }
 {
     if kind == 0 {
         return conditions_check(s, d, entities, at, n);
@@ -401,7 +402,7 @@ fn invariant_check(
     n: u32,
 ) -> Checked
     requires { ⌜ (d .count ≤ 100) × (j ≤ 100) ⌝ }
-    ensures { λ r. ⌜ r ≡ invariantM (declaration d (now (entities .entry))) (now (starts .entry)) j (now (s .entry)) at n ⌝ }
+    ensures { λ r. ⌜ r ≡ invariantM (declaration d (was entities)) (was starts) j (was s) at n ⌝ }
 {
     let x = model_walk::u8_at(s, at);
     let Num::Is(kind, p) = x else {
@@ -447,7 +448,7 @@ fn lists_check(
     n: u32,
 ) -> Checked
     requires { ⌜ d .count ≤ 100 ⌝ }
-    ensures { λ r. ⌜ r ≡ listsM (declaration d (now (entities .entry))) triggers (now (s .entry)) at n ⌝ }
+    ensures { λ r. ⌜ r ≡ listsM (declaration d (was entities)) triggers (was s) at n ⌝ }
 {
     let a = model_check::triggers_check(s, d, entities, triggers, at, n);
     let Checked::To(p, k) = a else {
@@ -470,7 +471,7 @@ fn rule_lists_check(
     n: u32,
 ) -> Checked
     requires { ⌜ d .count ≤ 100 ⌝ }
-    ensures { λ r. ⌜ r ≡ rule-listsM (declaration d (now (entities .entry))) max (now (s .entry)) at n ⌝ }
+    ensures { λ r. ⌜ r ≡ rule-listsM (declaration d (was entities)) max (was s) at n ⌝ }
 {
     let x = model_walk::u16_at(s, at);
     let Num::Is(triggers, start) = x else {
@@ -493,7 +494,7 @@ fn rule_lists_check(
 // What follows an automation's identifier.
 fn rule_of_check(s: &[u8], d: Declared, entities: &[usize; 100], at: usize, n: u32) -> Checked
     requires { ⌜ d .count ≤ 100 ⌝ }
-    ensures { λ r. ⌜ r ≡ rule-ofM (declaration d (now (entities .entry))) (now (s .entry)) at n ⌝ }
+    ensures { λ r. ⌜ r ≡ rule-ofM (declaration d (was entities)) (was s) at n ⌝ }
 {
     let a = model_check::skip(s, 1, at, n);
     let Checked::To(p, m) = a else {
@@ -516,7 +517,7 @@ fn rule_check(
     n: u32,
 ) -> Checked
     requires { ⌜ (d .count ≤ 100) × (j ≤ 100) ⌝ }
-    ensures { λ r. ⌜ r ≡ ruleM (declaration d (now (entities .entry))) (now (starts .entry)) j (now (s .entry)) at n ⌝ }
+    ensures { λ r. ⌜ r ≡ ruleM (declaration d (was entities)) (was starts) j (was s) at n ⌝ }
 {
     let x = model_walk::u16_at(s, at);
     let Num::Is(id, p) = x else {
@@ -542,7 +543,7 @@ fn part_check(
     n: u32,
 ) -> Checked
     requires { ⌜ (d .count ≤ 100) × (j ≤ 100) ⌝ }
-    ensures { λ r. ⌜ r ≡ partM (declaration d (now (entities .entry))) part (now (starts .entry)) j (now (s .entry)) at n ⌝ }
+    ensures { λ r. ⌜ r ≡ partM (declaration d (was entities)) part (was starts) j (was s) at n ⌝ }
 {
     match part {
         Part::Entity => entity_check(s, d, entities, at, n),
@@ -563,7 +564,7 @@ pub fn section_check(
     n: u32,
 ) -> Checked
     requires { ⌜ (d .count ≤ 100) × (count ≤ 100) ⌝ }
-    ensures { λ r. ⌜ r ≡ partsM (declaration d (now (entities .entry))) part (now (starts .entry)) count 0 (now (s .entry)) n ⌝ }
+    ensures { λ r. ⌜ r ≡ partsM (declaration d (was entities)) part (was starts) count 0 (was s) n ⌝ }
 {
     let end = count as usize;
     let mut j: usize = 0;

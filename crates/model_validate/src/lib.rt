@@ -7,6 +7,7 @@ use model_index::Status;
 use model_sections::Part;
 use model_walk::Num;
 use model_walk::Walked;
+ghost use Rattle.notation.specs.Reference.{was, is};
 ghost use mathlib.Core.Path.{_≡_};
 ghost use Prim.Native.Nat.{_≤_};
 ghost use Rattle.model_spec.specs.Validate.{accepted, bad-limits};
@@ -42,7 +43,7 @@ pub enum Validity {
 // ---- the tests before the sections
 
 fn title_bad(s: &[u8], numbers: Numbers) -> bool
-    ensures { λ r. ⌜ r ≡ title-bad (now (s .entry)) numbers ⌝ }
+    ensures { λ r. ⌜ r ≡ title-bad (was s) numbers ⌝ }
 {
     let x = model_walk::u16_at(s, numbers.title);
     let Num::Is(place, _) = x else {
@@ -96,7 +97,7 @@ fn numbers_bad(horizon: u32, steps: u32, depth: u32, cases: u32) -> bool
 }
 
 fn limits_bad(s: &[u8], at: usize) -> bool
-    ensures { λ r. ⌜ r ≡ limits-bad (now (s .entry)) at ⌝ }
+    ensures { λ r. ⌜ r ≡ limits-bad (was s) at ⌝ }
 {
     let x = model_walk::u32_at(s, at);
     let Num::Is(horizon, p) = x else {
@@ -119,7 +120,7 @@ fn limits_bad(s: &[u8], at: usize) -> bool
 
 // The start stands where the automations end, unless the file ends there.
 fn start_bad(s: &[u8], end: Walked) -> bool
-    ensures { λ r. ⌜ r ≡ start-bad (now (s .entry)) end ⌝ }
+    ensures { λ r. ⌜ r ≡ start-bad (was s) end ⌝ }
 {
     let Walked::To(at, _) = end else {
         return false;
@@ -142,7 +143,7 @@ fn start_bad(s: &[u8], end: Walked) -> bool
 }
 
 fn alphabet_bad(s: &[u8], numbers: Numbers, gaps: &[usize; 100]) -> bool
-    ensures { λ r. ⌜ r ≡ alphabet-bad (now (s .entry)) numbers (now (gaps .entry)) ⌝ }
+    ensures { λ r. ⌜ r ≡ alphabet-bad (was s) numbers (was gaps) ⌝ }
 {
     if 12 < numbers.alphabet {
         return true;
@@ -160,7 +161,7 @@ fn alphabet_bad(s: &[u8], numbers: Numbers, gaps: &[usize; 100]) -> bool
 
 fn orders_check(s: &[u8], numbers: Numbers, events: &[usize; 100], at: usize, n: u32) -> Checked
     requires { ⌜ numbers .events ≤ 100 ⌝ }
-    ensures { λ r. ⌜ r ≡ ordersM numbers (now (events .entry)) (now (s .entry)) at n ⌝ }
+    ensures { λ r. ⌜ r ≡ ordersM numbers (was events) (was s) at n ⌝ }
 {
     let x = model_walk::u32_at(s, numbers.limits);
     let Num::Is(horizon, _) = x else {
@@ -184,7 +185,7 @@ fn sections_check(
     rules: &[usize; 100],
 ) -> Checked
     requires { ⌜ Small (d .count) numbers ⌝ }
-    ensures { λ r. ⌜ r ≡ sectionsM (declaration d (now (entities .entry))) numbers (now (events .entry)) (now (invariants .entry)) (now (alphabet .entry)) (now (rules .entry)) (now (s .entry)) 0 0 ⌝ }
+    ensures { λ r. ⌜ r ≡ sectionsM (declaration d (was entities)) numbers (was events) (was invariants) (was alphabet) (was rules) (was s) 0 0 ⌝ }
 {
     let a = model_sections::section_check(s, d, entities, Part::Entity, entities, d.count, 0);
     let Checked::To(p0, n0) = a else {
@@ -223,7 +224,7 @@ fn whole_check(
     gaps: &[usize; 100],
     rules: &[usize; 100],
 ) -> Checked
-    ensures { λ r. ⌜ r ≡ modelM (declaration d (now (entities .entry))) numbers (now (events .entry)) (now (invariants .entry)) (now (alphabet .entry)) (now (gaps .entry)) (now (rules .entry)) (now (s .entry)) ⌝ }
+    ensures { λ r. ⌜ r ≡ modelM (declaration d (was entities)) numbers (was events) (was invariants) (was alphabet) (was gaps) (was rules) (was s) ⌝ }
 {
     if title_bad(s, numbers) {
         return Checked::Refused(1);
@@ -248,7 +249,7 @@ fn whole_check(
 
 // What a model of so many texts and entities declares.
 fn declared(s: &[u8], texts: u32, entities: u32) -> Declared
-    ensures { λ r. ⌜ r ≡ declared-in (now (s .entry)) texts entities ⌝ }
+    ensures { λ r. ⌜ r ≡ declared-in (was s) texts entities ⌝ }
 {
     Declared {
         count: entities,
@@ -272,7 +273,7 @@ fn examine(
     rules: &mut [usize; 100],
 ) -> Outline
     requires { ⌜ (now texts ≡ none) × (Zeros (now entities) (now events) (now invariants) × Zeros (now alphabet) (now gaps) (now rules)) ⌝ }
-    ensures { λ r. ⌜ Says (now (s .entry)) (file-of r (now (texts .exit)) (now (entities .exit)) (now (events .exit)) (now (invariants .exit)) (now (alphabet .exit)) (now (gaps .exit)) (now (rules .exit))) (accepted (now (s .entry))) ⌝ }
+    ensures { λ r. ⌜ Says (was s) (file-of r (is texts) (is entities) (is events) (is invariants) (is alphabet) (is gaps) (is rules)) (accepted (was s)) ⌝ }
 {
     let x = model_index::read(
         s,
@@ -323,7 +324,7 @@ fn examine(
 
 // The index of a file whose model is accepted, or the refusal.
 pub fn accept(s: &[u8]) -> File
-    ensures { λ r. ⌜ Says (now (s .entry)) r (accepted (now (s .entry))) ⌝ }
+    ensures { λ r. ⌜ Says (was s) r (accepted (was s)) ⌝ }
 {
     let mut texts = [0usize; 100];
     let mut entities = [0usize; 100];
@@ -356,7 +357,7 @@ pub fn accept(s: &[u8]) -> File
 
 // Whether a model file is accepted, or the number of its refusal.
 pub fn validate(file: &[u8]) -> Validity
-    ensures { λ r. ⌜ r ≡ validated (now (file .entry)) ⌝ }
+    ensures { λ r. ⌜ r ≡ validated (was file) ⌝ }
 {
     let mut texts = [0usize; 100];
     let mut entities = [0usize; 100];

@@ -1,4 +1,5 @@
 // Walks over the parts of a model file: where a part ends, and the notes so far.
+ghost use Rattle.notation.specs.Reference.{was};
 ghost use mathlib.Core.Path.{_≡_};
 ghost use Rattle.model_spec.specs.File.{u8, u16, u32};
 ghost use Prim.Native.Nat.{_+_};
@@ -27,7 +28,7 @@ pub enum Piece {
 // ---- leaves
 
 pub fn u8_at(s: &[u8], at: usize) -> Num
-    ensures { λ r. ⌜ found r ≡ u8 (now (s .entry)) at ⌝ }
+    ensures { λ r. ⌜ found r ≡ u8 (was s) at ⌝ }
 {
     if at < s.len() {
         Num::Is(texts::byte(s, at), at + 1)
@@ -37,7 +38,7 @@ pub fn u8_at(s: &[u8], at: usize) -> Num
 }
 
 pub fn u16_at(s: &[u8], at: usize) -> Num
-    ensures { λ r. ⌜ found r ≡ u16 (now (s .entry)) at ⌝ }
+    ensures { λ r. ⌜ found r ≡ u16 (was s) at ⌝ }
 {
     if s.len() < 2 {
         return Num::Broken;
@@ -49,7 +50,7 @@ pub fn u16_at(s: &[u8], at: usize) -> Num
 }
 
 pub fn u32_at(s: &[u8], at: usize) -> Num
-    ensures { λ r. ⌜ found r ≡ u32 (now (s .entry)) at ⌝ }
+    ensures { λ r. ⌜ found r ≡ u32 (was s) at ⌝ }
 {
     if s.len() < 4 {
         return Num::Broken;
@@ -66,7 +67,7 @@ pub fn u32_at(s: &[u8], at: usize) -> Num
 }
 
 pub fn bytes_at(s: &[u8], size: usize, at: usize, notes: u32) -> Walked
-    ensures { λ r. ⌜ r ≡ bytesM size (now (s .entry)) at notes ⌝ }
+    ensures { λ r. ⌜ r ≡ bytesM size (was s) at notes ⌝ }
 {
     if s.len() < size {
         return Walked::Broken;
@@ -79,7 +80,7 @@ pub fn bytes_at(s: &[u8], size: usize, at: usize, notes: u32) -> Walked
 
 // The bytes of a group of fields that the file may end before.
 pub fn bytes_or_end_at(s: &[u8], size: usize, at: usize, notes: u32) -> Walked
-    ensures { λ r. ⌜ r ≡ or-zerosM (bytesM size) (now (s .entry)) at notes ⌝ }
+    ensures { λ r. ⌜ r ≡ or-zerosM (bytesM size) (was s) at notes ⌝ }
 {
     if at < s.len() {
         return bytes_at(s, size, at, notes);
@@ -94,7 +95,7 @@ fn more(notes: u32) -> u32
 }
 
 pub fn kind_at(s: &[u8], limit: u32, at: usize, notes: u32) -> Walked
-    ensures { λ r. ⌜ r ≡ kindM limit (now (s .entry)) at notes ⌝ }
+    ensures { λ r. ⌜ r ≡ kindM limit (was s) at notes ⌝ }
 {
     let x = u8_at(s, at);
     let Num::Is(k, next) = x else {
@@ -109,7 +110,7 @@ pub fn kind_at(s: &[u8], limit: u32, at: usize, notes: u32) -> Walked
 // ---- places in the texts, of which there are `texts`
 
 pub fn place_at(s: &[u8], texts: u32, at: usize, notes: u32) -> Walked
-    ensures { λ r. ⌜ r ≡ placeM texts (now (s .entry)) at notes ⌝ }
+    ensures { λ r. ⌜ r ≡ placeM texts (was s) at notes ⌝ }
 {
     let x = u16_at(s, at);
     let Num::Is(place, next) = x else {
@@ -122,7 +123,7 @@ pub fn place_at(s: &[u8], texts: u32, at: usize, notes: u32) -> Walked
 }
 
 fn optional_at(s: &[u8], texts: u32, at: usize, notes: u32) -> Walked
-    ensures { λ r. ⌜ r ≡ place?M texts (now (s .entry)) at notes ⌝ }
+    ensures { λ r. ⌜ r ≡ place?M texts (was s) at notes ⌝ }
 {
     let x = u16_at(s, at);
     let Num::Is(place, next) = x else {
@@ -138,7 +139,7 @@ fn optional_at(s: &[u8], texts: u32, at: usize, notes: u32) -> Walked
 }
 
 fn optional_note_at(s: &[u8], texts: u32, at: usize, notes: u32) -> Walked
-    ensures { λ r. ⌜ r ≡ note?M texts (now (s .entry)) at notes ⌝ }
+    ensures { λ r. ⌜ r ≡ note?M texts (was s) at notes ⌝ }
 {
     let x = u16_at(s, at);
     let Num::Is(place, next) = x else {
@@ -154,7 +155,7 @@ fn optional_note_at(s: &[u8], texts: u32, at: usize, notes: u32) -> Walked
 }
 
 fn note_at(s: &[u8], texts: u32, at: usize, notes: u32) -> Walked
-    ensures { λ r. ⌜ r ≡ noteM texts (now (s .entry)) at notes ⌝ }
+    ensures { λ r. ⌜ r ≡ noteM texts (was s) at notes ⌝ }
 {
     let x = place_at(s, texts, at, notes);
     let Walked::To(next, before) = x else {
@@ -164,7 +165,7 @@ fn note_at(s: &[u8], texts: u32, at: usize, notes: u32) -> Walked
 }
 
 pub fn two_places_at(s: &[u8], texts: u32, at: usize, notes: u32) -> Walked
-    ensures { λ r. ⌜ r ≡ (placeM texts ⨾ placeM texts) (now (s .entry)) at notes ⌝ }
+    ensures { λ r. ⌜ r ≡ (placeM texts ⨾ placeM texts) (was s) at notes ⌝ }
 {
     let x = place_at(s, texts, at, notes);
     let Walked::To(p, n) = x else {
@@ -189,7 +190,7 @@ pub fn predicate_size(kind: u32) -> u32
 }
 
 pub fn predicate_at(s: &[u8], texts: u32, at: usize, notes: u32) -> Walked
-    ensures { λ r. ⌜ r ≡ predicateM texts (now (s .entry)) at notes ⌝ }
+    ensures { λ r. ⌜ r ≡ predicateM texts (was s) at notes ⌝ }
 {
     let x = u8_at(s, at);
     let Num::Is(k, p) = x else {
@@ -208,7 +209,7 @@ pub fn predicate_at(s: &[u8], texts: u32, at: usize, notes: u32) -> Walked
 }
 
 fn trigger_at(s: &[u8], texts: u32, at: usize, notes: u32) -> Walked
-    ensures { λ r. ⌜ r ≡ triggerM texts (now (s .entry)) at notes ⌝ }
+    ensures { λ r. ⌜ r ≡ triggerM texts (was s) at notes ⌝ }
 {
     let a = place_at(s, texts, at, notes);
     let Walked::To(p, k) = a else {
@@ -230,7 +231,7 @@ fn trigger_at(s: &[u8], texts: u32, at: usize, notes: u32) -> Walked
 }
 
 fn piece_at(s: &[u8], texts: u32, piece: Piece, at: usize, notes: u32) -> Walked
-    ensures { λ r. ⌜ r ≡ pieceM texts piece (now (s .entry)) at notes ⌝ }
+    ensures { λ r. ⌜ r ≡ pieceM texts piece (was s) at notes ⌝ }
 {
     match piece {
         Piece::Place => place_at(s, texts, at, notes),
@@ -242,7 +243,7 @@ fn piece_at(s: &[u8], texts: u32, piece: Piece, at: usize, notes: u32) -> Walked
 
 // A count, and as many pieces.
 pub fn pieces_at(s: &[u8], texts: u32, piece: Piece, at: usize, notes: u32) -> Walked
-    ensures { λ r. ⌜ r ≡ piecesM texts piece (now (s .entry)) at notes ⌝ }
+    ensures { λ r. ⌜ r ≡ piecesM texts piece (was s) at notes ⌝ }
 {
     let x = u16_at(s, at);
     let Num::Is(count, start) = x else {
@@ -267,7 +268,7 @@ pub fn pieces_at(s: &[u8], texts: u32, piece: Piece, at: usize, notes: u32) -> W
 
 // What follows the kind of an effect that holds no list.
 fn simple_at(s: &[u8], texts: u32, kind: u32, at: usize, notes: u32) -> Walked
-    ensures { λ r. ⌜ r ≡ simpleM texts kind (now (s .entry)) at notes ⌝ }
+    ensures { λ r. ⌜ r ≡ simpleM texts kind (was s) at notes ⌝ }
 {
     if kind == 0 {
         return two_places_at(s, texts, at, notes);
@@ -291,7 +292,7 @@ fn simple_at(s: &[u8], texts: u32, kind: u32, at: usize, notes: u32) -> Walked
 }
 
 fn wait_at(s: &[u8], texts: u32, at: usize, notes: u32) -> Walked
-    ensures { λ r. ⌜ r ≡ (triggerM texts ⨾ bytesM 4 ⨾ kindM 2) (now (s .entry)) at notes ⌝ }
+    ensures { λ r. ⌜ r ≡ (triggerM texts ⨾ bytesM 4 ⨾ kindM 2) (was s) at notes ⌝ }
 {
     let a = trigger_at(s, texts, at, notes);
     let Walked::To(p, k) = a else {
@@ -306,7 +307,7 @@ fn wait_at(s: &[u8], texts: u32, at: usize, notes: u32) -> Walked
 
 // A list of actions in which lists stand at most `left` deep, itself counted.
 pub fn actions_at(s: &[u8], texts: u32, left: usize, at: usize, notes: u32) -> Walked
-    ensures { λ r. ⌜ r ≡ actionsM texts left (now (s .entry)) at notes ⌝ }
+    ensures { λ r. ⌜ r ≡ actionsM texts left (was s) at notes ⌝ }
 {
     if left == 0 {
         return Walked::Broken;
@@ -344,7 +345,7 @@ pub fn actions_at(s: &[u8], texts: u32, left: usize, at: usize, notes: u32) -> W
 
 // The branches of a choice and its default; its lists stand at most `left` deep.
 pub fn choice_at(s: &[u8], texts: u32, left: usize, at: usize, notes: u32) -> Walked
-    ensures { λ r. ⌜ r ≡ choiceM texts (actionsM texts left) (now (s .entry)) at notes ⌝ }
+    ensures { λ r. ⌜ r ≡ choiceM texts (actionsM texts left) (was s) at notes ⌝ }
 {
     let x = u16_at(s, at);
     let Num::Is(count, start) = x else {

@@ -7,6 +7,7 @@ use checker_result::Status;
 use engine_summary::Simulation;
 use engine_table::Table;
 use simulate_lines::Word;
+ghost use Rattle.notation.specs.Reference.{was, is};
 ghost use Prim.Native.Nat.{_≤_};
 ghost use Rattle.show.specs.Writing.{Written};
 ghost use Rattle.print_check.specs.Answer.{first-line};
@@ -20,7 +21,7 @@ pub const RUNS: usize = 512;
 
 // The status, or the refusal.
 pub fn put_status(out: &mut [u8], n: usize, status: Status) -> usize
-    ensures { λ m. ⌜ Written (first-line status) (now (out .entry)) n (now (out .exit)) m ⌝ }
+    ensures { λ m. ⌜ Written (first-line status) (was out) n (is out) m ⌝ }
 {
     match status {
         Status::Refused(number) => show::put_refused(out, n, number),

@@ -2,6 +2,7 @@
 // No contract can say what is printed; the order of the lines is the order of the calls here.
 use check_lines::Form;
 use reduce_result::Minimized;
+ghost use Rattle.notation.specs.Reference.{was, is};
 ghost use mathlib.Core.Path.{_≡_};
 ghost use Prim.Native.Nat.{_+_, _*_, _≤_};
 ghost use lib.ListN.{length};
@@ -23,7 +24,7 @@ pub struct Printed {
 
 // The text at a place, quoted.
 fn put_place(out: &mut [u8], n: usize, file: &[u8], place: u32) -> usize
-    ensures { λ m. ⌜ Written (quoted (text-at (now (file .entry)) place)) (now (out .entry)) n (now (out .exit)) m ⌝ }
+    ensures { λ m. ⌜ Written (quoted (text-at (was file) place)) (was out) n (is out) m ⌝ }
 {
     let at = texts::text_start(file, 6, place);
     show::put_quoted_text(out, n, file, at)
@@ -31,7 +32,7 @@ fn put_place(out: &mut [u8], n: usize, file: &[u8], place: u32) -> usize
 
 // An input: kind 0 sets an entity to a value, 1 restarts, 2 reloads.
 pub fn put_input(out: &mut [u8], n: usize, file: &[u8], kind: u32, entity: u32, value: u32) -> usize
-    ensures { λ m. ⌜ Written (input-text (input-of (now (file .entry)) kind entity value)) (now (out .entry)) n (now (out .exit)) m ⌝ }
+    ensures { λ m. ⌜ Written (input-text (input-of (was file) kind entity value)) (was out) n (is out) m ⌝ }
 {
     if kind == 1 {
         return show::put(out, n, b"restart");
@@ -47,7 +48,7 @@ pub fn put_input(out: &mut [u8], n: usize, file: &[u8], kind: u32, entity: u32, 
 
 // A word and a number.
 pub fn put_number_line(out: &mut [u8], n: usize, word: &[u8], number: u64) -> usize
-    ensures { λ m. ⌜ Written (number-line (now (word .entry)) number) (now (out .entry)) n (now (out .exit)) m ⌝ }
+    ensures { λ m. ⌜ Written (number-line (was word) number) (was out) n (is out) m ⌝ }
 {
     let a = show::put(out, n, word);
     let b = show::put_byte(out, a, 32);
@@ -57,7 +58,7 @@ pub fn put_number_line(out: &mut [u8], n: usize, word: &[u8], number: u64) -> us
 
 // A word and `yes` or `no`.
 pub fn put_answer_line(out: &mut [u8], n: usize, word: &[u8], so: bool) -> usize
-    ensures { λ m. ⌜ Written (answer-line (now (word .entry)) so) (now (out .entry)) n (now (out .exit)) m ⌝ }
+    ensures { λ m. ⌜ Written (answer-line (was word) so) (was out) n (is out) m ⌝ }
 {
     let a = show::put(out, n, word);
     if so {
@@ -77,7 +78,7 @@ fn put_event(
     entity: u32,
     value: u32,
 ) -> usize
-    ensures { λ m. ⌜ Written (event-line (event-of (now (file .entry)) second kind entity value)) (now (out .entry)) n (now (out .exit)) m ⌝ }
+    ensures { λ m. ⌜ Written (event-line (event-of (was file) second kind entity value)) (was out) n (is out) m ⌝ }
 {
     let a = show::put(out, n, b"event ");
     let b = show::put_number(out, a, second as u64);
@@ -124,7 +125,7 @@ pub fn print_events(out: &mut [u8], n: usize, file: &[u8], events: &[u32], count
 // ---- minimize
 
 fn put_invariant(out: &mut [u8], n: usize, file: &[u8], place: u32) -> usize
-    ensures { λ m. ⌜ Written (invariant-line (text-at (now (file .entry)) place)) (now (out .entry)) n (now (out .exit)) m ⌝ }
+    ensures { λ m. ⌜ Written (invariant-line (text-at (was file) place)) (was out) n (is out) m ⌝ }
 {
     let a = show::put(out, n, b"invariant ");
     let b = put_place(out, a, file, place);
@@ -174,7 +175,7 @@ fn print_lent(
     r: &mut [u32],
     output: &mut [u8],
 ) -> Printed
-    ensures { λ p. ⌜ p .written ≤ length (now (output .entry)) ⌝ }
+    ensures { λ p. ⌜ p .written ≤ length (was output) ⌝ }
 {
     let x = reduce_entry::minimize(file, q, a, r, output);
     if x.refused != 0 {
@@ -198,7 +199,7 @@ pub fn print_minimize(
     output: &mut [u8],
 ) -> Printed
     requires { ⌜ (queue ≤ 20544) × ((records ≤ 10096) × (runs ≤ 512)) ⌝ }
-    ensures { λ p. ⌜ p .written ≤ length (now (output .entry)) ⌝ }
+    ensures { λ p. ⌜ p .written ≤ length (was output) ⌝ }
 {
     let mut q = [0u32; 102720];
     let mut a = [0u32; 131248];

@@ -3,6 +3,7 @@
 // the calls here. None is lost if `out` has room for the longest one (`Kept`).
 use engine_table::Table;
 use simulate_lines::Word;
+ghost use Rattle.notation.specs.Reference.{was, is};
 ghost use Prim.Native.Nat.{_≤_};
 ghost use Rattle.show.specs.Writing.{Kept};
 
@@ -14,21 +15,21 @@ pub const RECORDS: usize = 10096;
 pub const RUNS: usize = 512;
 
 fn print_refused(out: &mut [u8], n: usize, number: u32) -> usize
-    ensures { λ m. ⌜ Kept (now (out .entry)) n (now (out .exit)) m ⌝ }
+    ensures { λ m. ⌜ Kept (was out) n (is out) m ⌝ }
 {
     let m = show::room(out, n, simulate_lines::LINE);
     show::put_refused(out, m, number)
 }
 
 fn print_count(out: &mut [u8], n: usize, count: usize) -> usize
-    ensures { λ m. ⌜ Kept (now (out .entry)) n (now (out .exit)) m ⌝ }
+    ensures { λ m. ⌜ Kept (was out) n (is out) m ⌝ }
 {
     let m = show::room(out, n, simulate_lines::LINE);
     simulate_lines::put_unsupported(out, m, count)
 }
 
 pub fn print_unsupported(out: &mut [u8], n: usize, file: &[u8]) -> usize
-    ensures { λ m. ⌜ Kept (now (out .entry)) n (now (out .exit)) m ⌝ }
+    ensures { λ m. ⌜ Kept (was out) n (is out) m ⌝ }
 {
     let r = engine_entry::unsupported(file);
     if r.refused != 0 {
@@ -54,7 +55,7 @@ fn print_places(
     records: usize,
     values: &[u32; 32],
 ) -> usize
-    ensures { λ m. ⌜ Kept (now (out .entry)) n (now (out .exit)) m ⌝ }
+    ensures { λ m. ⌜ Kept (was out) n (is out) m ⌝ }
 {
     let t = table(file);
     let words = t.words;
@@ -63,7 +64,7 @@ fn print_places(
 }
 
 fn print_numbers(out: &mut [u8], n: usize, steps: u32, records: usize, horizon: u32) -> usize
-    ensures { λ m. ⌜ Kept (now (out .entry)) n (now (out .exit)) m ⌝ }
+    ensures { λ m. ⌜ Kept (was out) n (is out) m ⌝ }
 {
     let m = show::room(out, n, simulate_lines::LINE);
     let a = simulate_lines::put_steps(out, m, steps);
@@ -78,7 +79,7 @@ fn print_unknown(
     reasons: &[u32; 1500],
     count: usize,
 ) -> usize
-    ensures { λ m. ⌜ Kept (now (out .entry)) n (now (out .exit)) m ⌝ }
+    ensures { λ m. ⌜ Kept (was out) n (is out) m ⌝ }
 {
     simulate_lines::print_reasons(out, n, Word::SimUnknown, file, reasons, count)
 }
@@ -92,7 +93,7 @@ fn print_lent(
     a: &mut [u32],
     r: &mut [u32],
 ) -> usize
-    ensures { λ m. ⌜ Kept (now (out .entry)) n (now (out .exit)) m ⌝ }
+    ensures { λ m. ⌜ Kept (was out) n (is out) m ⌝ }
 {
     let s = engine_entry::simulate(file, q, a, r);
     if s.refused != 0 {
@@ -116,7 +117,7 @@ pub fn print_simulate(
     runs: usize,
 ) -> usize
     requires { ⌜ (queue ≤ 20544) × ((records ≤ 10096) × (runs ≤ 512)) ⌝ }
-    ensures { λ m. ⌜ Kept (now (out .entry)) n (now (out .exit)) m ⌝ }
+    ensures { λ m. ⌜ Kept (was out) n (is out) m ⌝ }
 {
     let mut q = [0u32; 102720];
     let mut a = [0u32; 131248];

@@ -1,10 +1,11 @@
 // The lines of `validate`'s answer.
 use model_validate::Validity;
+ghost use Rattle.notation.specs.Reference.{was, is};
 ghost use Rattle.show.specs.Writing.{Written};
 ghost use Rattle.print_validate.specs.Answer.{validate-lines};
 
 pub fn put_answer(out: &mut [u8], n: usize, file: &[u8]) -> usize
-    ensures { λ m. ⌜ Written (validate-lines (now (file .entry))) (now (out .entry)) n (now (out .exit)) m ⌝ }
+    ensures { λ m. ⌜ Written (validate-lines (was file)) (was out) n (is out) m ⌝ }
 {
     let v = model_validate::validate(file);
     match v {

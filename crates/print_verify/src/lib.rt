@@ -5,6 +5,7 @@ use print_minimize::Printed;
 use search_answer::Found;
 use search_answer::Verification;
 use simulate_lines::Word;
+ghost use Rattle.notation.specs.Reference.{was, is};
 ghost use Prim.Native.Nat.{_+_, _*_, _≤_};
 ghost use lib.ListN.{length};
 ghost use Rattle.show.specs.Writing.{Written};
@@ -15,7 +16,7 @@ const LINE: usize = 4096;
 
 // The status, or the refusal.
 fn put_found(out: &mut [u8], n: usize, status: Found) -> usize
-    ensures { λ m. ⌜ Written (first-line status) (now (out .entry)) n (now (out .exit)) m ⌝ }
+    ensures { λ m. ⌜ Written (first-line status) (was out) n (is out) m ⌝ }
 {
     match status {
         Found::Refused(number) => show::put_refused(out, n, number),
@@ -29,14 +30,14 @@ fn put_found(out: &mut [u8], n: usize, status: Found) -> usize
 
 // A word and a number within a line.
 fn put_bound(out: &mut [u8], n: usize, word: &[u8], number: u32) -> usize
-    ensures { λ m. ⌜ Written (bound (now (word .entry)) number) (now (out .entry)) n (now (out .exit)) m ⌝ }
+    ensures { λ m. ⌜ Written (bound (was word) number) (was out) n (is out) m ⌝ }
 {
     let a = show::put(out, n, word);
     show::put_number(out, a, number as u64)
 }
 
 fn put_bounds(out: &mut [u8], n: usize, depth: u32, horizon: u32, cases: u32, steps: u32) -> usize
-    ensures { λ m. ⌜ Written (bounds-line depth horizon cases steps) (now (out .entry)) n (now (out .exit)) m ⌝ }
+    ensures { λ m. ⌜ Written (bounds-line depth horizon cases steps) (was out) n (is out) m ⌝ }
 {
     let a = put_bound(out, n, b"bounds depth ", depth);
     let b = put_bound(out, a, b" horizon ", horizon);

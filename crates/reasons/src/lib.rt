@@ -1,6 +1,7 @@
 // Reasons: a kind and its texts, read and ordered as they are rendered, without building the rendering.
 use texts::Order;
 use texts::Seek;
+ghost use Rattle.notation.specs.Reference.{was, is};
 ghost use mathlib.Core.Path.{_≡_};
 ghost use Prim.Native.Nat.{_+_, _-_, _*_, _≤_, _<_};
 ghost use lib.ListN.{length, getD, drop};
@@ -165,7 +166,7 @@ fn words_len(kind: u32) -> usize
 }
 
 fn body_seek(f: &[u8], r: Reason, i: usize) -> Seek
-    ensures { λ s. ⌜ s ≡ seek (body (now (f .entry)) r) i ⌝ }
+    ensures { λ s. ⌜ s ≡ seek (body (was f) r) i ⌝ }
 {
     let s = texts::text_seek(f, r.first as usize, i);
     match s {
@@ -182,7 +183,7 @@ fn body_seek(f: &[u8], r: Reason, i: usize) -> Seek
 
 // The byte at an index of the rendering, or how far the index is past its end.
 pub fn byte_of(f: &[u8], r: Reason, i: usize) -> Seek
-    ensures { λ s. ⌜ s ≡ seek (render (now (f .entry)) r) i ⌝ }
+    ensures { λ s. ⌜ s ≡ seek (render (was f) r) i ⌝ }
 {
     if r.kind == SOURCE_NOTE {
         let s = source_seek(r.line, r.column, i);
@@ -195,14 +196,14 @@ pub fn byte_of(f: &[u8], r: Reason, i: usize) -> Seek
 }
 
 fn body_len(f: &[u8], r: Reason) -> usize
-    ensures { λ n. ⌜ (n ≡ length (body (now (f .entry)) r)) × (n < 768) ⌝ }
+    ensures { λ n. ⌜ (n ≡ length (body (was f) r)) × (n < 768) ⌝ }
 {
     texts::text_len(f, r.first as usize) + words_len(r.kind) + texts::text_len(f, r.second as usize)
 }
 
 // The length of the rendering.
 pub fn rendered_len(f: &[u8], r: Reason) -> usize
-    ensures { λ n. ⌜ (n ≡ length (render (now (f .entry)) r)) × (n < 809) ⌝ }
+    ensures { λ n. ⌜ (n ≡ length (render (was f) r)) × (n < 809) ⌝ }
 {
     let n = body_len(f, r);
     if r.kind == SOURCE_NOTE {
@@ -213,7 +214,7 @@ pub fn rendered_len(f: &[u8], r: Reason) -> usize
 
 // The byte at an index of the rendering, 0 past its end.
 pub fn byte_at(f: &[u8], r: Reason, i: usize) -> u8
-    ensures { λ b. ⌜ b ≡ getD (render (now (f .entry)) r) i 0 ⌝ }
+    ensures { λ b. ⌜ b ≡ getD (render (was f) r) i 0 ⌝ }
 {
     let s = byte_of(f, r, i);
     match s {
@@ -224,7 +225,7 @@ pub fn byte_at(f: &[u8], r: Reason, i: usize) -> u8
 
 // How the renderings stand to one another, bytewise; a text comes before its continuations.
 pub fn compare(f: &[u8], a: Reason, b: Reason) -> Order
-    ensures { λ o. ⌜ o ≡ orderT (render (now (f .entry)) a) (render (now (f .entry)) b) ⌝ }
+    ensures { λ o. ⌜ o ≡ orderT (render (was f) a) (render (was f) b) ⌝ }
 {
     let n = rendered_len(f, a);
     let m = rendered_len(f, b);
@@ -250,7 +251,7 @@ pub fn compare(f: &[u8], a: Reason, b: Reason) -> Order
 }
 
 fn equal(f: &[u8], a: Reason, b: Reason) -> bool
-    ensures { λ e. ⌜ e ≡ eqT (render (now (f .entry)) a) (render (now (f .entry)) b) ⌝ }
+    ensures { λ e. ⌜ e ≡ eqT (render (was f) a) (render (was f) b) ⌝ }
 {
     let o = compare(f, a, b);
     match o {
@@ -263,7 +264,7 @@ fn equal(f: &[u8], a: Reason, b: Reason) -> bool
 // The reason at an index of a list, five words to a reason.
 pub fn get(a: &[u32], i: usize) -> Reason
     requires { ⌜ i * 5 + 5 ≤ length (now a) ⌝ }
-    ensures { λ r. ⌜ r ≡ reason-of (drop (i * 5) (now (a .entry))) ⌝ }
+    ensures { λ r. ⌜ r ≡ reason-of (drop (i * 5) (was a)) ⌝ }
 {
     let at = i * 5;
     Reason {
@@ -278,7 +279,7 @@ pub fn get(a: &[u32], i: usize) -> Reason
 // Whether one of the first n reasons is rendered like r.
 pub fn contains(f: &[u8], a: &[u32], n: usize, r: Reason) -> bool
     requires { ⌜ n * 5 ≤ length (now a) ⌝ }
-    ensures { λ e. ⌜ e ≡ memT (render (now (f .entry)) r) (listed (now (f .entry)) n (now (a .entry))) ⌝ }
+    ensures { λ e. ⌜ e ≡ memT (render (was f) r) (listed (was f) n (was a)) ⌝ }
 {
     let mut i: usize = 0;
     while i < n {
@@ -293,7 +294,7 @@ pub fn contains(f: &[u8], a: &[u32], n: usize, r: Reason) -> bool
 // A reason behind the first n, unless one there is rendered like it; the answer is how many there are then.
 pub fn push_if_absent(f: &[u8], a: &mut [u32], n: usize, r: Reason) -> usize
     requires { ⌜ length (pushT (render (now f) r) (listed (now f) n (now a))) * 5 ≤ length (now a) ⌝ }
-    ensures { λ m. ⌜ Grows (now (f .entry)) (Readable (now (f .entry)) r) (pushT (render (now (f .entry)) r) (listed (now (f .entry)) n (now (a .entry)))) n (now (a .entry)) m (now (a .exit)) ⌝ }
+    ensures { λ m. ⌜ Grows (was f) (Readable (was f) r) (pushT (render (was f) r) (listed (was f) n (was a))) n (was a) m (is a) ⌝ }
 {
     if contains(f, a, n, r) {
         return n;
@@ -305,7 +306,7 @@ pub fn push_if_absent(f: &[u8], a: &mut [u32], n: usize, r: Reason) -> usize
 // Where a reason goes among the first n, in the order of renderings.
 fn find_spot(f: &[u8], a: &[u32], n: usize, r: Reason) -> Spot
     requires { ⌜ n * 5 ≤ length (now a) ⌝ }
-    ensures { λ s. ⌜ Goes (render (now (f .entry)) r) (listed (now (f .entry)) n (now (a .entry))) s ⌝ }
+    ensures { λ s. ⌜ Goes (render (was f) r) (listed (was f) n (was a)) s ⌝ }
 {
     let mut i: usize = 0;
     while i < n {
@@ -328,7 +329,7 @@ fn find_spot(f: &[u8], a: &[u32], n: usize, r: Reason) -> Spot
 // A reason at index k of the first n; those from there on move up.
 fn insert_at(a: &mut [u32], n: usize, k: usize, r: Reason)
     requires { ⌜ (k ≤ n) × (n * 5 + 5 ≤ length (now a)) ⌝ }
-    ensures { λ _. ⌜ Opens r n k (now (a .entry)) (now (a .exit)) ⌝ }
+    ensures { λ _. ⌜ Opens r n k (was a) (is a) ⌝ }
 {
     let w = [r.kind, r.first, r.second, r.line, r.column];
     areas::put_in(a, k * 5, n * 5, &w);
@@ -337,7 +338,7 @@ fn insert_at(a: &mut [u32], n: usize, k: usize, r: Reason)
 // A reason among the first n, which ascend as rendered, unless one there is rendered like it.
 pub fn insert_sorted(f: &[u8], a: &mut [u32], n: usize, r: Reason) -> usize
     requires { ⌜ length (insertT (render (now f) r) (listed (now f) n (now a))) * 5 ≤ length (now a) ⌝ }
-    ensures { λ m. ⌜ Grows (now (f .entry)) (Readable (now (f .entry)) r) (insertT (render (now (f .entry)) r) (listed (now (f .entry)) n (now (a .entry)))) n (now (a .entry)) m (now (a .exit)) ⌝ }
+    ensures { λ m. ⌜ Grows (was f) (Readable (was f) r) (insertT (render (was f) r) (listed (was f) n (was a))) n (was a) m (is a) ⌝ }
 {
     let s = find_spot(f, a, n, r);
     match s {
@@ -352,7 +353,7 @@ pub fn insert_sorted(f: &[u8], a: &mut [u32], n: usize, r: Reason) -> usize
 // The first m reasons of b inserted into the first n of a.
 pub fn merge(f: &[u8], a: &mut [u32], n: usize, b: &[u32], m: usize) -> usize
     requires { ⌜ (m * 5 ≤ length (now b)) × (length (insertAll (listed (now f) m (now b)) (listed (now f) n (now a))) * 5 ≤ length (now a)) ⌝ }
-    ensures { λ k. ⌜ Grows (now (f .entry)) (Clean (now (f .entry)) m (now (b .entry))) (insertAll (listed (now (f .entry)) m (now (b .entry))) (listed (now (f .entry)) n (now (a .entry)))) n (now (a .entry)) k (now (a .exit)) ⌝ }
+    ensures { λ k. ⌜ Grows (was f) (Clean (was f) m (was b)) (insertAll (listed (was f) m (was b)) (listed (was f) n (was a))) n (was a) k (is a) ⌝ }
 {
     let mut k = n;
     let mut j: usize = 0;

@@ -8,6 +8,7 @@ use show::Source;
 use simulate_lines::LINE;
 use simulate_lines::at_most;
 use simulate_lines::put_place;
+ghost use Rattle.notation.specs.Reference.{was, is};
 ghost use mathlib.Core.Path.{_≡_};
 ghost use mathlib.Core.List.{[], _∷_, _++_};
 ghost use Prim.Native.Nat.{_+_, _*_, _≤_};
@@ -34,7 +35,7 @@ const DETAILS: [u8; 210] =
 
 // A word of the table, 0 past its end.
 fn word_at(x: &[u32], k: usize) -> u32
-    ensures { λ r. ⌜ r ≡ getD (now (x .entry)) k 0 ⌝ }
+    ensures { λ r. ⌜ r ≡ getD (was x) k 0 ⌝ }
 {
     if k < x.len() {
         return x[k];
@@ -44,13 +45,13 @@ fn word_at(x: &[u32], k: usize) -> u32
 
 // The place of an automation's identifier.
 fn id_place(x: &[u32; 436], i: u32) -> u32
-    ensures { λ r. ⌜ r ≡ word (now (x .entry)) i 0 ⌝ }
+    ensures { λ r. ⌜ r ≡ word (was x) i 0 ⌝ }
 {
     word_at(x, 80 + i as usize * 8)
 }
 
 fn put_rule(out: &mut [u8], n: usize, f: &[u8], x: &[u32; 436], rule: Rule) -> usize
-    ensures { λ m. ⌜ Written (quoted-if (rule-of (now (x .entry)) (texts-of (now (f .entry)) (now (x .entry))) rule)) (now (out .entry)) n (now (out .exit)) m ⌝ }
+    ensures { λ m. ⌜ Written (quoted-if (rule-of (was x) (texts-of (was f) (was x)) rule)) (was out) n (is out) m ⌝ }
 {
     match rule {
         Rule::NoRule => show::put_byte(out, n, 45),
@@ -59,7 +60,7 @@ fn put_rule(out: &mut [u8], n: usize, f: &[u8], x: &[u32; 436], rule: Rule) -> u
 }
 
 fn put_where(out: &mut [u8], n: usize, source: Where) -> usize
-    ensures { λ m. ⌜ Written (placed-if (where-of source)) (now (out .entry)) n (now (out .exit)) m ⌝ }
+    ensures { λ m. ⌜ Written (placed-if (where-of source)) (was out) n (is out) m ⌝ }
 {
     match source {
         Where::Nowhere => show::put_byte(out, n, 45),
@@ -68,7 +69,7 @@ fn put_where(out: &mut [u8], n: usize, source: Where) -> usize
 }
 
 fn put_write(out: &mut [u8], n: usize, f: &[u8], x: &[u32; 436], e: u32, b: u32, a: u32) -> usize
-    ensures { λ m. ⌜ Written (quoted (text-of (now (f .entry)) (now (x .entry)) e) ++ (32 ∷ (quoted (text-of (now (f .entry)) (now (x .entry)) b) ++ (32 ∷ quoted (text-of (now (f .entry)) (now (x .entry)) a))))) (now (out .entry)) n (now (out .exit)) m ⌝ }
+    ensures { λ m. ⌜ Written (quoted (text-of (was f) (was x) e) ++ (32 ∷ (quoted (text-of (was f) (was x) b) ++ (32 ∷ quoted (text-of (was f) (was x) a))))) (was out) n (is out) m ⌝ }
 {
     let i = put_place(out, n, f, x, e);
     let j = show::put_byte(out, i, 32);
@@ -78,7 +79,7 @@ fn put_write(out: &mut [u8], n: usize, f: &[u8], x: &[u32; 436], e: u32, b: u32,
 }
 
 fn put_change(out: &mut [u8], n: usize, f: &[u8], x: &[u32; 436], change: Change) -> usize
-    ensures { λ m. ⌜ Written (changed (change-of (now (x .entry)) (texts-of (now (f .entry)) (now (x .entry))) change)) (now (out .entry)) n (now (out .exit)) m ⌝ }
+    ensures { λ m. ⌜ Written (changed (change-of (was x) (texts-of (was f) (was x)) change)) (was out) n (is out) m ⌝ }
 {
     match change {
         Change::NoChange => show::put(out, n, b"- - -"),
@@ -93,7 +94,7 @@ fn put_change(out: &mut [u8], n: usize, f: &[u8], x: &[u32; 436], change: Change
 // ---- a kind's name and detail
 
 fn put_name(out: &mut [u8], n: usize, kind: u32) -> usize
-    ensures { λ m. ⌜ Written (name-of kind) (now (out .entry)) n (now (out .exit)) m ⌝ }
+    ensures { λ m. ⌜ Written (name-of kind) (was out) n (is out) m ⌝ }
 {
     if kind < 18 {
         let at = texts::text_start(&NAMES, 0, kind);
@@ -103,14 +104,14 @@ fn put_name(out: &mut [u8], n: usize, kind: u32) -> usize
 }
 
 fn put_begin(out: &mut [u8], n: usize, kind: u32) -> usize
-    ensures { λ m. ⌜ Written (detail-begins kind) (now (out .entry)) n (now (out .exit)) m ⌝ }
+    ensures { λ m. ⌜ Written (detail-begins kind) (was out) n (is out) m ⌝ }
 {
     let at = texts::text_start(&DETAILS, 0, kind);
     show::put_text(out, n, &DETAILS, at)
 }
 
 fn put_verdict(out: &mut [u8], n: usize, number: u32) -> usize
-    ensures { λ m. ⌜ Written (truth-name (verdict-of number)) (now (out .entry)) n (now (out .exit)) m ⌝ }
+    ensures { λ m. ⌜ Written (truth-name (verdict-of number)) (was out) n (is out) m ⌝ }
 {
     if number == 0 {
         return show::put(out, n, b"Yes");
@@ -122,7 +123,7 @@ fn put_verdict(out: &mut [u8], n: usize, number: u32) -> usize
 }
 
 fn put_flag(out: &mut [u8], n: usize, number: u32) -> usize
-    ensures { λ m. ⌜ Written (detail-ends 17 number) (now (out .entry)) n (now (out .exit)) m ⌝ }
+    ensures { λ m. ⌜ Written (detail-ends 17 number) (was out) n (is out) m ⌝ }
 {
     if number == 1 {
         return show::put(out, n, b"true");
@@ -131,7 +132,7 @@ fn put_flag(out: &mut [u8], n: usize, number: u32) -> usize
 }
 
 fn put_seconds(out: &mut [u8], n: usize, number: u32) -> usize
-    ensures { λ m. ⌜ Written (detail-ends 15 number) (now (out .entry)) n (now (out .exit)) m ⌝ }
+    ensures { λ m. ⌜ Written (detail-ends 15 number) (was out) n (is out) m ⌝ }
 {
     let m = show::put_number(out, n, number as u64);
     show::put(out, m, b" seconds")
@@ -139,7 +140,7 @@ fn put_seconds(out: &mut [u8], n: usize, number: u32) -> usize
 
 // The verdict, the number or the flag of a detail.
 fn put_end(out: &mut [u8], n: usize, kind: u32, number: u32) -> usize
-    ensures { λ m. ⌜ Written (detail-ends kind number) (now (out .entry)) n (now (out .exit)) m ⌝ }
+    ensures { λ m. ⌜ Written (detail-ends kind number) (was out) n (is out) m ⌝ }
 {
     if kind < 10 {
         return n;
@@ -158,7 +159,7 @@ fn put_end(out: &mut [u8], n: usize, kind: u32, number: u32) -> usize
 
 // A record's detail, quoted.
 fn put_detail(out: &mut [u8], n: usize, f: &[u8], x: &[u32; 436], kind: u32, number: u32) -> usize
-    ensures { λ m. ⌜ Written (quoted (detail (kind-of (now (x .entry)) (texts-of (now (f .entry)) (now (x .entry))) kind number))) (now (out .entry)) n (now (out .exit)) m ⌝ }
+    ensures { λ m. ⌜ Written (quoted (detail (kind-of (was x) (texts-of (was f) (was x)) kind number))) (was out) n (is out) m ⌝ }
 {
     if 18 <= kind {
         return put_place(out, n, f, x, number);
@@ -173,7 +174,7 @@ fn put_detail(out: &mut [u8], n: usize, f: &[u8], x: &[u32; 436], kind: u32, num
 
 // `record INDEX SECOND KIND `
 fn put_head(out: &mut [u8], n: usize, k: usize, second: u32, kind: u32) -> usize
-    ensures { λ m. ⌜ Written (text "record " ++ (decimal k ++ (32 ∷ (decimal second ++ (32 ∷ (name-of kind ++ (32 ∷ []))))))) (now (out .entry)) n (now (out .exit)) m ⌝ }
+    ensures { λ m. ⌜ Written (text "record " ++ (decimal k ++ (32 ∷ (decimal second ++ (32 ∷ (name-of kind ++ (32 ∷ []))))))) (was out) n (is out) m ⌝ }
 {
     let a = show::put(out, n, b"record ");
     let b = show::put_number(out, a, k as u64);
@@ -185,7 +186,7 @@ fn put_head(out: &mut [u8], n: usize, k: usize, second: u32, kind: u32) -> usize
 }
 
 fn put_entry(out: &mut [u8], n: usize, f: &[u8], x: &[u32; 436], k: usize, r: Record) -> usize
-    ensures { λ m. ⌜ Written (record-line k (record-of (now (x .entry)) (texts-of (now (f .entry)) (now (x .entry))) r)) (now (out .entry)) n (now (out .exit)) m ⌝ }
+    ensures { λ m. ⌜ Written (record-line k (record-of (was x) (texts-of (was f) (was x)) r)) (was out) n (is out) m ⌝ }
 {
     let rule = r.rule;
     let source = r.source;
@@ -204,7 +205,7 @@ fn put_entry(out: &mut [u8], n: usize, f: &[u8], x: &[u32; 436], k: usize, r: Re
 // The record at k of the record area.
 pub fn put_record(out: &mut [u8], n: usize, f: &[u8], x: &[u32; 436], a: &[u32], k: usize) -> usize
     requires { ⌜ k * 13 + 13 ≤ length (now a) ⌝ }
-    ensures { λ m. ⌜ RecordPut (now (f .entry)) (now (x .entry)) (now (a .entry)) k (now (out .entry)) n (now (out .exit)) m ⌝ }
+    ensures { λ m. ⌜ RecordPut (was f) (was x) (was a) k (was out) n (is out) m ⌝ }
 {
     let r = records::get_record(a, k);
     put_entry(out, n, f, x, k, r)
@@ -215,7 +216,7 @@ pub fn put_record(out: &mut [u8], n: usize, f: &[u8], x: &[u32; 436], a: &[u32],
 
 fn print_record(out: &mut [u8], n: usize, f: &[u8], x: &[u32; 436], a: &[u32], k: usize) -> usize
     requires { ⌜ k * 13 + 13 ≤ length (now a) ⌝ }
-    ensures { λ m. ⌜ Kept (now (out .entry)) n (now (out .exit)) m ⌝ }
+    ensures { λ m. ⌜ Kept (was out) n (is out) m ⌝ }
 {
     let m = show::room(out, n, LINE);
     put_record(out, m, f, x, a, k)
@@ -230,7 +231,7 @@ pub fn print_records(
     a: &[u32],
     count: usize,
 ) -> usize
-    ensures { λ m. ⌜ Kept (now (out .entry)) n (now (out .exit)) m ⌝ }
+    ensures { λ m. ⌜ Kept (was out) n (is out) m ⌝ }
 {
     let many = at_most(count, a.len() / 13);
     let mut m = n;

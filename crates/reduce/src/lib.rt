@@ -5,6 +5,7 @@ use checker_result::Status;
 use engine_entry::Base;
 use engine_inputs::Events;
 use model_index::Index;
+ghost use Rattle.notation.specs.Reference.{was};
 ghost use mathlib.Core.Path.{_≡_};
 ghost use Prim.Native.Nat.{_*_, _≤_, _<_};
 ghost use lib.ListN.{length};
@@ -34,7 +35,7 @@ fn without(words: [u32; 400], count: usize, place: usize) -> Events
 // One of the first n violations, eight numbers each, is of the target.
 fn named(violated: &[u64; 256], n: usize, target: u64) -> bool
     requires { ⌜ n ≤ 32 ⌝ }
-    ensures { λ r. ⌜ r ≡ among (now (violated .entry)) n target ⌝ }
+    ensures { λ r. ⌜ r ≡ among (was violated) n target ⌝ }
 {
     let mut k: usize = 0;
     while k < n {
@@ -70,7 +71,7 @@ fn few(n: usize) -> usize
 
 // The check is a violation, of the target too.
 fn violates(j: Judgement, violated: &[u64; 256], target: u64) -> bool
-    ensures { λ r. ⌜ r ≡ violatesM (j .status) (j .violations) (now (violated .entry)) target ⌝ }
+    ensures { λ r. ⌜ r ≡ violatesM (j .status) (j .violations) (was violated) target ⌝ }
 {
     let status = j.status;
     if is_violation(status) {
@@ -146,7 +147,7 @@ fn attempt(
     incompletes: &mut [u32; 200],
 ) -> Reduced
     requires { ⌜ Open r ⌝ }
-    ensures { λ e. ⌜ Attempted (now (file .entry)) (now (starts .entry)) (shared .invariants) (ground (now (table .entry)) (shared .cells) (shared .notes) (now (notes .entry))) target r e (length (now (queue .entry))) (length (now (records .entry))) (length (now (runs .entry))) ⌝ }
+    ensures { λ e. ⌜ Attempted (was file) (was starts) (shared .invariants) (ground (was table) (shared .cells) (shared .notes) (was notes)) target r e (length (was queue)) (length (was records)) (length (was runs)) ⌝ }
 {
     let words = r.words;
     let n = r.count - 1;
@@ -187,7 +188,7 @@ pub fn reduce_events(
     runs: &mut [u32],
 ) -> Reduced
     requires { ⌜ Begun events n ⌝ }
-    ensures { λ r. ⌜ Reduces (now (file .entry)) index (ground (b .table) (b .cells) (b .count) (now (notes .entry))) target events n r (length (now (queue .entry))) (length (now (records .entry))) (length (now (runs .entry))) ⌝ }
+    ensures { λ r. ⌜ Reduces (was file) index (ground (b .table) (b .cells) (b .count) (was notes)) target events n r (length (was queue)) (length (was records)) (length (was runs)) ⌝ }
 {
     let table = b.table;
     let invariants = index.invariants;

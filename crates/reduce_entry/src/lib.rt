@@ -3,6 +3,7 @@ use engine_entry::Base;
 use engine_inputs::Events;
 use model_index::Index;
 use reduce_result::Minimized;
+ghost use Rattle.notation.specs.Reference.{was, is};
 ghost use Rattle.engine_entry.specs.Answers.{ground, lent};
 ghost use Rattle.reduce_entry.specs.Answers.{Minimizes};
 ghost use Rattle.reduce_entry.specs.Parts.{Accepted, Given, Aimed, ReducesTo, ReducesAll, RunsAs};
@@ -22,7 +23,7 @@ fn reduction(
     output: &mut [u8],
 ) -> Minimized
     requires { ⌜ Aimed (now file) index (ground (b .table) (b .cells) (b .count) (now notes)) target events n (now output) ⌝ }
-    ensures { λ e. ⌜ ReducesTo (now (file .entry)) index (ground (b .table) (b .cells) (b .count) (now (notes .entry))) target events n e (now (queue .entry)) (now (queue .exit)) (now (records .entry)) (now (records .exit)) (now (runs .entry)) (now (runs .exit)) (now (output .entry)) (now (output .exit)) ⌝ }
+    ensures { λ e. ⌜ ReducesTo (was file) index (ground (b .table) (b .cells) (b .count) (was notes)) target events n e (was queue) (is queue) (was records) (is records) (was runs) (is runs) (was output) (is output) ⌝ }
 {
     let r = reduce::reduce_events(
         file,
@@ -69,7 +70,7 @@ fn first_check(
     output: &mut [u8],
 ) -> Minimized
     requires { ⌜ Given (now file) index (ground (b .table) (b .cells) (b .count) (now notes)) events n (now output) ⌝ }
-    ensures { λ e. ⌜ ReducesAll (now (file .entry)) index (ground (b .table) (b .cells) (b .count) (now (notes .entry))) events n e (now (queue .entry)) (now (queue .exit)) (now (records .entry)) (now (records .exit)) (now (runs .entry)) (now (runs .exit)) (now (output .entry)) (now (output .exit)) ⌝ }
+    ensures { λ e. ⌜ ReducesAll (was file) index (ground (b .table) (b .cells) (b .count) (was notes)) events n e (was queue) (is queue) (was records) (is records) (was runs) (is runs) (was output) (is output) ⌝ }
 {
     let words = events.words;
     let c = reduce_result::check_of(file, index, b, notes, &words, n, queue, records, runs);
@@ -109,7 +110,7 @@ fn run(
     output: &mut [u8],
 ) -> Minimized
     requires { ⌜ Accepted (now file) index ⌝ }
-    ensures { λ e. ⌜ RunsAs (now (file .entry)) index e (lent (now (queue .entry)) (now (records .entry)) (now (runs .entry))) (lent (now (queue .exit)) (now (records .exit)) (now (runs .exit))) (now (output .entry)) (now (output .exit)) ⌝ }
+    ensures { λ e. ⌜ RunsAs (was file) index e (lent (was queue) (was records) (was runs)) (lent (is queue) (is records) (is runs)) (was output) (is output) ⌝ }
 {
     if output.len() < file.len() + 45 {
         return reduce_result::refused(44);
@@ -141,7 +142,7 @@ pub fn minimize(
     runs: &mut [u32],
     output: &mut [u8],
 ) -> Minimized
-    ensures { λ e. ⌜ Minimizes (now (file .entry)) e (lent (now (queue .entry)) (now (records .entry)) (now (runs .entry))) (lent (now (queue .exit)) (now (records .exit)) (now (runs .exit))) (now (output .entry)) (now (output .exit)) ⌝ }
+    ensures { λ e. ⌜ Minimizes (was file) e (lent (was queue) (was records) (was runs)) (lent (is queue) (is records) (is runs)) (was output) (is output) ⌝ }
 {
     let x = model_validate::accept(file);
     let status = x.status;

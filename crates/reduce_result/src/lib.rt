@@ -4,6 +4,7 @@ use checker_result::Shared;
 use engine_entry::Base;
 use model_index::Index;
 use reduce::Reduced;
+ghost use Rattle.notation.specs.Reference.{was, is};
 ghost use mathlib.Core.Path.{_≡_};
 ghost use Prim.Native.Nat.{_*_, _≤_};
 ghost use lib.ListN.{length};
@@ -44,7 +45,7 @@ pub fn refused(number: u32) -> Minimized
 }
 
 pub fn clear(queue: &mut [u32], records: &mut [u32], runs: &mut [u32])
-    ensures { λ _. ⌜ Cleared (now (queue .entry)) (now (queue .exit)) (now (records .entry)) (now (records .exit)) (now (runs .entry)) (now (runs .exit)) ⌝ }
+    ensures { λ _. ⌜ Cleared (was queue) (is queue) (was records) (is records) (was runs) (is runs) ⌝ }
 {
     areas::clear_all(queue);
     areas::clear_all(records);
@@ -74,7 +75,7 @@ pub fn check_of(
     runs: &mut [u32],
 ) -> CheckResult
     requires { ⌜ n * 4 ≤ length (now words) ⌝ }
-    ensures { λ r. ⌜ Whole (now (file .entry)) (index .invariants .starts) (index .invariants .count) (ground (b .table) (b .cells) (b .count) (now (notes .entry))) (now (words .entry)) n r (now (queue .entry)) (now (queue .exit)) (now (records .entry)) (now (records .exit)) (now (runs .entry)) (now (runs .exit)) ⌝ }
+    ensures { λ r. ⌜ Whole (was file) (index .invariants .starts) (index .invariants .count) (ground (b .table) (b .cells) (b .count) (was notes)) (was words) n r (was queue) (is queue) (was records) (is records) (was runs) (is runs) ⌝ }
 {
     let table = b.table;
     let cells = b.cells;
@@ -115,7 +116,7 @@ pub fn last_check(
     output: &mut [u8],
 ) -> Minimized
     requires { ⌜ Ready (now file) r (now output) ⌝ }
-    ensures { λ e. ⌜ Finished (now (file .entry)) index (ground (b .table) (b .cells) (b .count) (now (notes .entry))) target originals r e (now (queue .entry)) (now (queue .exit)) (now (records .entry)) (now (records .exit)) (now (runs .entry)) (now (runs .exit)) (now (output .entry)) (now (output .exit)) ⌝ }
+    ensures { λ e. ⌜ Finished (was file) index (ground (b .table) (b .cells) (b .count) (was notes)) target originals r e (was queue) (is queue) (was records) (is records) (was runs) (is runs) (was output) (is output) ⌝ }
 {
     let words = r.words;
     let check = check_of(file, index, b, notes, &words, r.count, queue, records, runs);

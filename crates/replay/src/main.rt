@@ -3,6 +3,7 @@
 // ahead of these bytes, and the length counts them too. A new entry gets a variant of Entry, an arm in print_lines and a
 // line in main.
 use model_walk::Num;
+ghost use Rattle.notation.specs.Reference.{is};
 ghost use Rattle.replay.specs.Reading.{Within};
 
 // What is asked of the models of a batch.
@@ -25,7 +26,7 @@ enum Next {
 
 // Reads the next model of a batch to the start of `file`.
 fn read_model(fd: i32, file: &mut [u8]) -> Next
-    ensures { λ r. ⌜ Within r (now (file .exit)) ⌝ }
+    ensures { λ r. ⌜ Within r (is file) ⌝ }
 {
     let mut four = [0u8; 4];
     let got = io::read_full(fd, &mut four);

@@ -2,6 +2,7 @@
 use search_cases::Plan;
 use search_cases::Search;
 use search_inputs::Placed;
+ghost use Rattle.notation.specs.Reference.{was, is};
 ghost use Prim.Native.Nat.{_+_, _*_, _≤_, _<_};
 ghost use lib.ListN.{length};
 ghost use Rattle.search_cases.specs.Parts.{Fitted, Shaped};
@@ -29,7 +30,7 @@ fn try_case(
     incompletes: &mut [u32; 200],
 ) -> Search
     requires { ⌜ Shaped p placed 0 (length (now w)) ⌝ }
-    ensures { λ r. ⌜ Tries (now (file .entry)) (entire p (now (table .entry)) (now (starts .entry)) (now (notes .entry))) placed o (now (w .entry)) r (now (w .exit)) (length (now (queue .entry))) (length (now (records .entry))) (length (now (runs .entry))) ⌝ }
+    ensures { λ r. ⌜ Tries (was file) (entire p (was table) (was starts) (was notes)) placed o (was w) r (is w) (length (was queue)) (length (was records)) (length (was runs)) ⌝ }
 {
     if p.cases <= o.cases {
         return search_cases::spent(file, o, w);
@@ -99,7 +100,7 @@ fn visit(
     incompletes: &mut [u32; 200],
 ) -> Search
     requires { ⌜ Shaped p placed remaining (length (now w)) ⌝ }
-    ensures { λ r. ⌜ Visits (now (file .entry)) (entire p (now (table .entry)) (now (starts .entry)) (now (notes .entry))) remaining placed o (now (w .entry)) r (now (w .exit)) (length (now (queue .entry))) (length (now (records .entry))) (length (now (runs .entry))) ⌝ }
+    ensures { λ r. ⌜ Visits (was file) (entire p (was table) (was starts) (was notes)) remaining placed o (was w) r (is w) (length (was queue)) (length (was records)) (length (was runs)) ⌝ }
 {
     if o.stopped {
         return o;
@@ -175,7 +176,7 @@ fn deepen(
     incompletes: &mut [u32; 200],
 ) -> Search
     requires { ⌜ (depth ≤ 5) × Fitted p (length (now w)) ⌝ }
-    ensures { λ r. ⌜ Deepens (now (file .entry)) (entire p (now (table .entry)) (now (starts .entry)) (now (notes .entry))) depth o (now (w .entry)) r (now (w .exit)) (length (now (queue .entry))) (length (now (records .entry))) (length (now (runs .entry))) ⌝ }
+    ensures { λ r. ⌜ Deepens (was file) (entire p (was table) (was starts) (was notes)) depth o (was w) r (is w) (length (was queue)) (length (was records)) (length (was runs)) ⌝ }
 {
     let none = Placed {
         count: 0,
@@ -222,7 +223,7 @@ pub fn search_depths(
     w: &mut [u32],
 ) -> Search
     requires { ⌜ (depth ≤ 5) × Fitted p (length (now w)) ⌝ }
-    ensures { λ r. ⌜ Deepens (now (file .entry)) (entire p (now (table .entry)) (now (starts .entry)) (now (notes .entry))) depth o (now (w .entry)) r (now (w .exit)) (length (now (queue .entry))) (length (now (records .entry))) (length (now (runs .entry))) ⌝ }
+    ensures { λ r. ⌜ Deepens (was file) (entire p (was table) (was starts) (was notes)) depth o (was w) r (is w) (length (was queue)) (length (was records)) (length (was runs)) ⌝ }
 {
     let mut reasons = [0u32; 1500];
     let mut violated = [0u64; 256];

@@ -3,6 +3,7 @@ use checker_result::CheckResult;
 use checker_result::Judgement;
 use search_cases::Plan;
 use search_cases::Search;
+ghost use Rattle.notation.specs.Reference.{was, is};
 ghost use mathlib.Core.Path.{_≡_};
 ghost use mathlib.Core.List.{List};
 ghost use Prim.Native.Nat.{ℕ};
@@ -72,7 +73,7 @@ pub fn refused(
     unknowns: &mut [u32; 2000],
     incompletes: &mut [u32; 200],
 ) -> Searched
-    ensures { λ r. ⌜ whole-of r (now (told .exit)) (now (violated .exit)) (now (unknowns .exit)) (now (incompletes .exit)) (now (reasons .exit)) ≡ no-verification number ⌝ }
+    ensures { λ r. ⌜ whole-of r (is told) (is violated) (is unknowns) (is incompletes) (is reasons) ≡ no-verification number ⌝ }
 {
     let check = checker_result::refused_judgement(0, reasons, violated, unknowns, incompletes);
     *told = [0u32; 2000];
@@ -113,7 +114,7 @@ pub fn no_witness(
     unknowns: &mut [u32; 2000],
     incompletes: &mut [u32; 200],
 ) -> Witness
-    ensures { λ r. ⌜ with-check r (result-of (r .check) (now (violated .exit)) (now (unknowns .exit)) (now (incompletes .exit)) (now (reasons .exit))) ≡ without ⌝ }
+    ensures { λ r. ⌜ with-check r (result-of (r .check) (is violated) (is unknowns) (is incompletes) (is reasons)) ≡ without ⌝ }
 {
     let check = checker_result::refused_judgement(0, reasons, violated, unknowns, incompletes);
     Witness {
@@ -149,7 +150,7 @@ pub fn told_of(
     told: &mut [u32; 2000],
 ) -> Searched
     requires { ⌜ length (now w) ≡ 4000 ⌝ }
-    ensures { λ r. ⌜ ((v us ws s : List ℕ) → Told (now (file .entry)) limits (p .alphabet) (p .gaps) (p .horizon) o (now (w .entry)) (with-check x (result-of (x .check) v us ws s)) (whole-of r (now (told .exit)) v us ws s)) ⌝ }
+    ensures { λ r. ⌜ ((v us ws s : List ℕ) → Told (was file) limits (p .alphabet) (p .gaps) (p .horizon) o (was w) (with-check x (result-of (x .check) v us ws s)) (whole-of r (is told) v us ws s)) ⌝ }
 {
     let alphabet = p.alphabet;
     let inputs = alphabet.words;
@@ -183,7 +184,7 @@ pub fn told_of(
 }
 
 pub fn clear(queue: &mut [u32], records: &mut [u32], runs: &mut [u32])
-    ensures { λ _. ⌜ (now (queue .exit) ≡ replicate (length (now (queue .entry))) 0) × ((now (records .exit) ≡ replicate (length (now (records .entry))) 0) × (now (runs .exit) ≡ replicate (length (now (runs .entry))) 0)) ⌝ }
+    ensures { λ _. ⌜ (is queue ≡ replicate (length (was queue)) 0) × ((is records ≡ replicate (length (was records)) 0) × (is runs ≡ replicate (length (was runs)) 0)) ⌝ }
 {
     areas::clear_all(queue);
     areas::clear_all(records);
@@ -200,7 +201,7 @@ pub fn with_lists(
     unknowns: &[u32; 2000],
     incompletes: &[u32; 200],
 ) -> Verification
-    ensures { λ r. ⌜ r ≡ whole-of x (now (list .entry)) (now (violated .entry)) (now (unknowns .entry)) (now (incompletes .entry)) (now (reasons .entry)) ⌝ }
+    ensures { λ r. ⌜ r ≡ whole-of x (was list) (was violated) (was unknowns) (was incompletes) (was reasons) ⌝ }
 {
     let status = x.status;
     let j = x.check;

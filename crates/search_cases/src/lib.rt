@@ -6,6 +6,7 @@ use model_index::Index;
 use search_inputs::Alphabet;
 use search_inputs::Gaps;
 use search_inputs::Placed;
+ghost use Rattle.notation.specs.Reference.{was, is};
 ghost use mathlib.Core.Path.{_≡_};
 ghost use Prim.Native.Nat.{_+_, _*_, _≤_, _<_};
 ghost use lib.ListN.{length};
@@ -59,7 +60,7 @@ pub fn few(n: usize, most: usize) -> usize
 // A limit of the model.
 pub fn limit(file: &[u8], limits: usize, k: usize) -> u32
     requires { ⌜ k ≤ 12 ⌝ }
-    ensures { λ r. ⌜ r ≡ limitM (now (file .entry)) limits k ⌝ }
+    ensures { λ r. ⌜ r ≡ limitM (was file) limits k ⌝ }
 {
     let p = engine_fields::capped(limits) as usize;
     engine_fields::four_at(file, p + k)
@@ -67,7 +68,7 @@ pub fn limit(file: &[u8], limits: usize, k: usize) -> u32
 
 // From the values at the start, and so many reasons of the notes.
 pub fn planned(file: &[u8], index: Index, cells: Cells, notes: usize) -> Plan
-    ensures { λ p. ⌜ Plans (now (file .entry)) index cells notes p ⌝ }
+    ensures { λ p. ⌜ Plans (was file) index cells notes p ⌝ }
 {
     let invariants = index.invariants;
     let shared = Shared {
@@ -134,7 +135,7 @@ pub fn refused_case(o: Search, number: u32) -> Search
 // The budget is spent: no case more.
 pub fn spent(f: &[u8], o: Search, w: &mut [u32]) -> Search
     requires { ⌜ length (now w) ≡ 4000 ⌝ }
-    ensures { λ r. ⌜ Spends (now (f .entry)) o (now (w .entry)) r (now (w .exit)) ⌝ }
+    ensures { λ r. ⌜ Spends (was f) o (was w) r (is w) ⌝ }
 {
     let witness = o.witness;
     let n = few(o.reasons, 400);
@@ -180,7 +181,7 @@ pub fn gather(
     incompletes: &[u32; 200],
 ) -> usize
     requires { ⌜ length (now w) ≡ 4000 ⌝ }
-    ensures { λ r. ⌜ Gathers (now (f .entry)) n unknown (now (unknowns .entry)) incomplete (now (incompletes .entry)) (now (w .entry)) r (now (w .exit)) ⌝ }
+    ensures { λ r. ⌜ Gathers (was f) n unknown (was unknowns) incomplete (was incompletes) (was w) r (is w) ⌝ }
 {
     let k = few(n, 400);
     let many = few(unknown, 400);
@@ -234,7 +235,7 @@ pub fn next_events(p: Plan, placed: Placed, k: usize) -> Placed
 // Before the first case: the reasons of the automations' notes, so many.
 pub fn begun(f: &[u8], notes: &[u32; 1500], n: usize, w: &mut [u32]) -> Search
     requires { ⌜ length (now w) ≡ 4000 ⌝ }
-    ensures { λ r. ⌜ Begins (now (f .entry)) n (now (notes .entry)) (now (w .entry)) r (now (w .exit)) ⌝ }
+    ensures { λ r. ⌜ Begins (was f) n (was notes) (was w) r (is w) ⌝ }
 {
     let many = few(n, 300);
     let count = reasons::merge(f, w, 0, notes, many);

@@ -6,6 +6,7 @@ use search_answer::Witness;
 use search_cases::Plan;
 use search_cases::Search;
 use search_inputs::Placed;
+ghost use Rattle.notation.specs.Reference.{was, is};
 ghost use Prim.Native.Nat.{_+_, _≤_};
 ghost use lib.ListN.{length};
 ghost use Rattle.engine_entry.specs.Answers.{lent};
@@ -36,7 +37,7 @@ fn witness_of(
     incompletes: &mut [u32; 200],
 ) -> Witness
     requires { ⌜ Writable (now file) (entire p (now table) (now starts) (now reasons)) placed (length (now queue)) (length (now records)) (length (now runs)) (length (now output)) ⌝ }
-    ensures { λ r. ⌜ Writes (now (file .entry)) (entire p (now (table .entry)) (now (starts .entry)) (now (reasons .entry))) placed (with-check r (result-of (r .check) (now (violated .exit)) (now (unknowns .exit)) (now (incompletes .exit)) (now (reasons .exit)))) (length (now (queue .entry))) (length (now (records .entry))) (length (now (runs .entry))) (lent (now (queue .exit)) (now (records .exit)) (now (runs .exit))) (now (output .entry)) (now (output .exit)) ⌝ }
+    ensures { λ r. ⌜ Writes (was file) (entire p (was table) (was starts) (was reasons)) placed (with-check r (result-of (r .check) (is violated) (is unknowns) (is incompletes) (is reasons))) (length (was queue)) (length (was records)) (length (was runs)) (lent (is queue) (is records) (is runs)) (was output) (is output) ⌝ }
 {
     let shared = p.shared;
     let words = placed.words;
@@ -88,7 +89,7 @@ fn ended(
     incompletes: &mut [u32; 200],
 ) -> Searched
     requires { ⌜ Reached (now file) (entire p (now table) (now starts) (now reasons)) o (now w) (length (now queue)) (length (now records)) (length (now runs)) (length (now output)) ⌝ }
-    ensures { λ r. ⌜ Ends (now (file .entry)) limits (entire p (now (table .entry)) (now (starts .entry)) (now (reasons .entry))) o (now (w .entry)) (whole-of r (now (told .exit)) (now (violated .exit)) (now (unknowns .exit)) (now (incompletes .exit)) (now (reasons .exit))) (length (now (queue .entry))) (length (now (records .entry))) (length (now (runs .entry))) (lent (now (queue .exit)) (now (records .exit)) (now (runs .exit))) (now (output .entry)) (now (output .exit)) ⌝ }
+    ensures { λ r. ⌜ Ends (was file) limits (entire p (was table) (was starts) (was reasons)) o (was w) (whole-of r (is told) (is violated) (is unknowns) (is incompletes) (is reasons)) (length (was queue)) (length (was records)) (length (was runs)) (lent (is queue) (is records) (is runs)) (was output) (is output) ⌝ }
 {
     if o.refused != 0 {
         search_answer::clear(queue, records, runs);
@@ -133,7 +134,7 @@ fn run(
     incompletes: &mut [u32; 200],
 ) -> Searched
     requires { ⌜ (Accepted (now file) index) × (length (now file) + 45 ≤ length (now output)) ⌝ }
-    ensures { λ r. ⌜ Runs (now (file .entry)) index (whole-of r (now (told .exit)) (now (violated .exit)) (now (unknowns .exit)) (now (incompletes .exit)) (now (reasons .exit))) (length (now (queue .entry))) (length (now (records .entry))) (length (now (runs .entry))) (lent (now (queue .exit)) (now (records .exit)) (now (runs .exit))) (now (output .entry)) (now (output .exit)) ⌝ }
+    ensures { λ r. ⌜ Runs (was file) index (whole-of r (is told) (is violated) (is unknowns) (is incompletes) (is reasons)) (length (was queue)) (length (was records)) (length (was runs)) (lent (is queue) (is records) (is runs)) (was output) (is output) ⌝ }
 {
     let mut w = [0u32; 4000];
     let b = engine_entry::prepared(file, index, reasons);
@@ -193,7 +194,7 @@ fn admitted(
     incompletes: &mut [u32; 200],
 ) -> Searched
     requires { ⌜ Accepted (now file) index ⌝ }
-    ensures { λ r. ⌜ Admits (now (file .entry)) index (whole-of r (now (told .exit)) (now (violated .exit)) (now (unknowns .exit)) (now (incompletes .exit)) (now (reasons .exit))) (lent (now (queue .entry)) (now (records .entry)) (now (runs .entry))) (lent (now (queue .exit)) (now (records .exit)) (now (runs .exit))) (now (output .entry)) (now (output .exit)) ⌝ }
+    ensures { λ r. ⌜ Admits (was file) index (whole-of r (is told) (is violated) (is unknowns) (is incompletes) (is reasons)) (lent (was queue) (was records) (was runs)) (lent (is queue) (is records) (is runs)) (was output) (is output) ⌝ }
 {
     let invariants = index.invariants;
     if invariants.count == 0 {
@@ -233,7 +234,7 @@ pub fn verify_lent(
     unknowns: &mut [u32; 2000],
     incompletes: &mut [u32; 200],
 ) -> Searched
-    ensures { λ r. ⌜ Verifies (now (file .entry)) (whole-of r (now (told .exit)) (now (violated .exit)) (now (unknowns .exit)) (now (incompletes .exit)) (now (reasons .exit))) (lent (now (queue .entry)) (now (records .entry)) (now (runs .entry))) (lent (now (queue .exit)) (now (records .exit)) (now (runs .exit))) (now (output .entry)) (now (output .exit)) ⌝ }
+    ensures { λ r. ⌜ Verifies (was file) (whole-of r (is told) (is violated) (is unknowns) (is incompletes) (is reasons)) (lent (was queue) (was records) (was runs)) (lent (is queue) (is records) (is runs)) (was output) (is output) ⌝ }
 {
     let x = model_validate::accept(file);
     let status = x.status;
@@ -267,7 +268,7 @@ pub fn verify(
     runs: &mut [u32],
     output: &mut [u8],
 ) -> Verification
-    ensures { λ r. ⌜ Verifies (now (file .entry)) r (lent (now (queue .entry)) (now (records .entry)) (now (runs .entry))) (lent (now (queue .exit)) (now (records .exit)) (now (runs .exit))) (now (output .entry)) (now (output .exit)) ⌝ }
+    ensures { λ r. ⌜ Verifies (was file) r (lent (was queue) (was records) (was runs)) (lent (is queue) (is records) (is runs)) (was output) (is output) ⌝ }
 {
     let mut told = [0u32; 2000];
     let mut reasons = [0u32; 1500];

@@ -1,5 +1,6 @@
 // What a search chooses from, a model's inputs and gaps, and the events that it has placed so far.
 use model_index::Index;
+ghost use Rattle.notation.specs.Reference.{was};
 ghost use mathlib.Core.Path.{_≡_};
 ghost use Prim.Native.Nat.{_≤_, _<_};
 ghost use lib.ListN.{length};
@@ -27,7 +28,7 @@ pub struct Placed {
 // A word of the first twelve inputs.
 fn input_word(s: &[u8], index: Index, k: usize) -> u32
     requires { ⌜ k < 36 ⌝ }
-    ensures { λ r. ⌜ r ≡ input-word (now (s .entry)) index k ⌝ }
+    ensures { λ r. ⌜ r ≡ input-word (was s) index k ⌝ }
 {
     let alphabet = index.alphabet;
     let count = alphabet.count as usize;
@@ -40,7 +41,7 @@ fn input_word(s: &[u8], index: Index, k: usize) -> u32
 
 // The first twelve inputs of the alphabet.
 pub fn alphabet_of(s: &[u8], index: Index) -> Alphabet
-    ensures { λ r. ⌜ AlphabetOf (now (s .entry)) index r ⌝ }
+    ensures { λ r. ⌜ AlphabetOf (was s) index r ⌝ }
 {
     let alphabet = index.alphabet;
     let count = engine_fields::at_most(alphabet.count, 12);
@@ -57,7 +58,7 @@ pub fn alphabet_of(s: &[u8], index: Index) -> Alphabet
 
 fn gap_word(s: &[u8], index: Index, k: usize) -> u32
     requires { ⌜ k < 4 ⌝ }
-    ensures { λ r. ⌜ r ≡ gap-word (now (s .entry)) index k ⌝ }
+    ensures { λ r. ⌜ r ≡ gap-word (was s) index k ⌝ }
 {
     let gaps = index.gaps;
     let count = gaps.count as usize;
@@ -70,7 +71,7 @@ fn gap_word(s: &[u8], index: Index, k: usize) -> u32
 
 // The first four gaps.
 pub fn gaps_of(s: &[u8], index: Index) -> Gaps
-    ensures { λ r. ⌜ GapsOf (now (s .entry)) index r ⌝ }
+    ensures { λ r. ⌜ GapsOf (was s) index r ⌝ }
 {
     let gaps = index.gaps;
     let count = engine_fields::at_most(gaps.count, 4);

@@ -1,6 +1,7 @@
 // What the programs print. The writers put a text behind the first n bytes of a lent area, and answer the next free index.
 // If the text doesn't fit, the answer is past the area's end, where every writer writes nothing.
 use reasons::Reason;
+ghost use Rattle.notation.specs.Reference.{was, is};
 ghost use mathlib.Core.Path.{_≡_};
 ghost use mathlib.Core.List.{[], _∷_};
 ghost use Prim.Native.Nat.{_+_, _≤_};
@@ -26,7 +27,7 @@ pub enum Source {
 // ---- parts of lines
 
 pub fn put_byte(out: &mut [u8], n: usize, b: u8) -> usize
-    ensures { λ m. ⌜ Written (b ∷ []) (now (out .entry)) n (now (out .exit)) m ⌝ }
+    ensures { λ m. ⌜ Written (b ∷ []) (was out) n (is out) m ⌝ }
 {
     if out.len() <= n {
         return FULL;
@@ -37,7 +38,7 @@ pub fn put_byte(out: &mut [u8], n: usize, b: u8) -> usize
 
 // A text as it is.
 pub fn put(out: &mut [u8], n: usize, t: &[u8]) -> usize
-    ensures { λ m. ⌜ Written (now (t .entry)) (now (out .entry)) n (now (out .exit)) m ⌝ }
+    ensures { λ m. ⌜ Written (was t) (was out) n (is out) m ⌝ }
 {
     let mut m = n;
     let mut i: usize = 0;
@@ -50,7 +51,7 @@ pub fn put(out: &mut [u8], n: usize, t: &[u8]) -> usize
 
 // A number in decimal.
 pub fn put_number(out: &mut [u8], n: usize, x: u64) -> usize
-    ensures { λ m. ⌜ Written (decimal x) (now (out .entry)) n (now (out .exit)) m ⌝ }
+    ensures { λ m. ⌜ Written (decimal x) (was out) n (is out) m ⌝ }
 {
     if x < 10 {
         return put_byte(out, n, 48 + x as u8);
@@ -61,7 +62,7 @@ pub fn put_number(out: &mut [u8], n: usize, x: u64) -> usize
 
 // A byte of a quoted text.
 pub fn put_escaped(out: &mut [u8], n: usize, b: u8) -> usize
-    ensures { λ m. ⌜ Written (escape b) (now (out .entry)) n (now (out .exit)) m ⌝ }
+    ensures { λ m. ⌜ Written (escape b) (was out) n (is out) m ⌝ }
 {
     if b == 34 {
         let m = put_byte(out, n, 92);
@@ -76,7 +77,7 @@ pub fn put_escaped(out: &mut [u8], n: usize, b: u8) -> usize
 
 // A text between quotes.
 pub fn put_quoted(out: &mut [u8], n: usize, t: &[u8]) -> usize
-    ensures { λ m. ⌜ Written (quoted (now (t .entry))) (now (out .entry)) n (now (out .exit)) m ⌝ }
+    ensures { λ m. ⌜ Written (quoted (was t)) (was out) n (is out) m ⌝ }
 {
     let mut m = put_byte(out, n, 34);
     let mut i: usize = 0;
@@ -89,7 +90,7 @@ pub fn put_quoted(out: &mut [u8], n: usize, t: &[u8]) -> usize
 
 // The text at a position of the model file.
 pub fn put_text(out: &mut [u8], n: usize, f: &[u8], at: usize) -> usize
-    ensures { λ m. ⌜ Written (textAt (now (f .entry)) at) (now (out .entry)) n (now (out .exit)) m ⌝ }
+    ensures { λ m. ⌜ Written (textAt (was f) at) (was out) n (is out) m ⌝ }
 {
     if f.len() <= at {
         return n;
@@ -100,7 +101,7 @@ pub fn put_text(out: &mut [u8], n: usize, f: &[u8], at: usize) -> usize
 }
 
 pub fn put_quoted_text(out: &mut [u8], n: usize, f: &[u8], at: usize) -> usize
-    ensures { λ m. ⌜ Written (quoted (textAt (now (f .entry)) at)) (now (out .entry)) n (now (out .exit)) m ⌝ }
+    ensures { λ m. ⌜ Written (quoted (textAt (was f) at)) (was out) n (is out) m ⌝ }
 {
     if f.len() <= at {
         return put(out, n, b"\"\"");
@@ -112,7 +113,7 @@ pub fn put_quoted_text(out: &mut [u8], n: usize, f: &[u8], at: usize) -> usize
 
 // The text at a position, quoted, or `-` for ABSENT.
 pub fn put_quoted_or_dash(out: &mut [u8], n: usize, f: &[u8], at: u32) -> usize
-    ensures { λ m. ⌜ Written (quoted-or-dash (now (f .entry)) at) (now (out .entry)) n (now (out .exit)) m ⌝ }
+    ensures { λ m. ⌜ Written (quoted-or-dash (was f) at) (was out) n (is out) m ⌝ }
 {
     if at == ABSENT {
         return put_byte(out, n, 45);
@@ -122,7 +123,7 @@ pub fn put_quoted_or_dash(out: &mut [u8], n: usize, f: &[u8], at: u32) -> usize
 
 // A reason as it is rendered.
 pub fn put_reason(out: &mut [u8], n: usize, f: &[u8], r: Reason) -> usize
-    ensures { λ m. ⌜ Written (render (now (f .entry)) r) (now (out .entry)) n (now (out .exit)) m ⌝ }
+    ensures { λ m. ⌜ Written (render (was f) r) (was out) n (is out) m ⌝ }
 {
     let count = reasons::rendered_len(f, r);
     let mut m = n;
@@ -135,7 +136,7 @@ pub fn put_reason(out: &mut [u8], n: usize, f: &[u8], r: Reason) -> usize
 }
 
 pub fn put_quoted_reason(out: &mut [u8], n: usize, f: &[u8], r: Reason) -> usize
-    ensures { λ m. ⌜ Written (quoted (render (now (f .entry)) r)) (now (out .entry)) n (now (out .exit)) m ⌝ }
+    ensures { λ m. ⌜ Written (quoted (render (was f) r)) (was out) n (is out) m ⌝ }
 {
     let count = reasons::rendered_len(f, r);
     let mut m = put_byte(out, n, 34);
@@ -149,7 +150,7 @@ pub fn put_quoted_reason(out: &mut [u8], n: usize, f: &[u8], r: Reason) -> usize
 
 // LINE:COLUMN, or `-`.
 pub fn put_source(out: &mut [u8], n: usize, s: Source) -> usize
-    ensures { λ m. ⌜ Written (source s) (now (out .entry)) n (now (out .exit)) m ⌝ }
+    ensures { λ m. ⌜ Written (source s) (was out) n (is out) m ⌝ }
 {
     match s {
         Source::At(line, column) => {
@@ -164,13 +165,13 @@ pub fn put_source(out: &mut [u8], n: usize, s: Source) -> usize
 // ---- lines
 
 pub fn put_accepted(out: &mut [u8], n: usize) -> usize
-    ensures { λ m. ⌜ Written accepted-line (now (out .entry)) n (now (out .exit)) m ⌝ }
+    ensures { λ m. ⌜ Written accepted-line (was out) n (is out) m ⌝ }
 {
     put(out, n, b"accepted\n")
 }
 
 pub fn put_refused(out: &mut [u8], n: usize, number: u32) -> usize
-    ensures { λ m. ⌜ Written (refused-line number) (now (out .entry)) n (now (out .exit)) m ⌝ }
+    ensures { λ m. ⌜ Written (refused-line number) (was out) n (is out) m ⌝ }
 {
     let m = put(out, n, b"refused ");
     let k = put_number(out, m, number as u64);
@@ -179,7 +180,7 @@ pub fn put_refused(out: &mut [u8], n: usize, number: u32) -> usize
 
 // The line before a model of a batch.
 pub fn put_model(out: &mut [u8], n: usize, k: u32) -> usize
-    ensures { λ m. ⌜ Written (model-line k) (now (out .entry)) n (now (out .exit)) m ⌝ }
+    ensures { λ m. ⌜ Written (model-line k) (was out) n (is out) m ⌝ }
 {
     let m = put(out, n, b"model ");
     let j = put_number(out, m, k as u64);
@@ -202,7 +203,7 @@ pub fn flush(out: &[u8], n: usize) -> usize
 
 // Flushes if fewer than `need` bytes are free. The answer is where the next text goes.
 pub fn room(out: &[u8], n: usize, need: usize) -> usize
-    ensures { λ r. ⌜ (r ≤ n) × (need ≤ length (now (out .entry)) → r + need ≤ length (now (out .entry))) ⌝ }
+    ensures { λ r. ⌜ (r ≤ n) × (need ≤ length (was out) → r + need ≤ length (was out)) ⌝ }
 {
     if n <= out.len() {
         if need <= out.len() - n {

@@ -2,6 +2,7 @@
 // entities' values at the end. They are written behind the first n bytes of a lent area as the writers of `show` do. x is the table
 // of the file f (crate `engine_table`); texts are named by their places.
 use reasons::Reason;
+ghost use Rattle.notation.specs.Reference.{was, is};
 ghost use Prim.Native.Nat.{_+_, _*_, _≤_, _<_};
 ghost use lib.ListN.{length, drop};
 ghost use Rattle.reasons.specs.Reasons.{render};
@@ -15,7 +16,7 @@ ghost use Rattle.simulate_lines.specs.Parts.{text-of};
 // ---- a word and a number
 
 fn put_number_line(out: &mut [u8], n: usize, word: &[u8], number: u64) -> usize
-    ensures { λ m. ⌜ Written (number-line (now (word .entry)) number) (now (out .entry)) n (now (out .exit)) m ⌝ }
+    ensures { λ m. ⌜ Written (number-line (was word) number) (was out) n (is out) m ⌝ }
 {
     let a = show::put(out, n, word);
     let b = show::put_byte(out, a, 32);
@@ -24,25 +25,25 @@ fn put_number_line(out: &mut [u8], n: usize, word: &[u8], number: u64) -> usize
 }
 
 pub fn put_steps(out: &mut [u8], n: usize, steps: u32) -> usize
-    ensures { λ m. ⌜ Written (steps-line steps) (now (out .entry)) n (now (out .exit)) m ⌝ }
+    ensures { λ m. ⌜ Written (steps-line steps) (was out) n (is out) m ⌝ }
 {
     put_number_line(out, n, b"steps", steps as u64)
 }
 
 pub fn put_records(out: &mut [u8], n: usize, records: usize) -> usize
-    ensures { λ m. ⌜ Written (records-line records) (now (out .entry)) n (now (out .exit)) m ⌝ }
+    ensures { λ m. ⌜ Written (records-line records) (was out) n (is out) m ⌝ }
 {
     put_number_line(out, n, b"records", records as u64)
 }
 
 pub fn put_horizon(out: &mut [u8], n: usize, horizon: u32) -> usize
-    ensures { λ m. ⌜ Written (horizon-line horizon) (now (out .entry)) n (now (out .exit)) m ⌝ }
+    ensures { λ m. ⌜ Written (horizon-line horizon) (was out) n (is out) m ⌝ }
 {
     put_number_line(out, n, b"horizon", horizon as u64)
 }
 
 pub fn put_unsupported(out: &mut [u8], n: usize, count: usize) -> usize
-    ensures { λ m. ⌜ Written (unsupported-line count) (now (out .entry)) n (now (out .exit)) m ⌝ }
+    ensures { λ m. ⌜ Written (unsupported-line count) (was out) n (is out) m ⌝ }
 {
     put_number_line(out, n, b"unsupported", count as u64)
 }
@@ -50,7 +51,7 @@ pub fn put_unsupported(out: &mut [u8], n: usize, count: usize) -> usize
 // ---- a word and a reason
 
 fn put_reason_line(out: &mut [u8], n: usize, word: &[u8], f: &[u8], r: Reason) -> usize
-    ensures { λ m. ⌜ Written (text-line (now (word .entry)) (render (now (f .entry)) r)) (now (out .entry)) n (now (out .exit)) m ⌝ }
+    ensures { λ m. ⌜ Written (text-line (was word) (render (was f) r)) (was out) n (is out) m ⌝ }
 {
     let a = show::put(out, n, word);
     let b = show::put_byte(out, a, 32);
@@ -61,7 +62,7 @@ fn put_reason_line(out: &mut [u8], n: usize, word: &[u8], f: &[u8], r: Reason) -
 // The reason at i of a list of reasons, for `unsupported` and for `simulate`.
 pub fn put_reason(out: &mut [u8], n: usize, f: &[u8], a: &[u32], i: usize) -> usize
     requires { ⌜ i * 5 + 5 ≤ length (now a) ⌝ }
-    ensures { λ m. ⌜ Written (reason-line (render (now (f .entry)) (reason-of (drop (i * 5) (now (a .entry)))))) (now (out .entry)) n (now (out .exit)) m ⌝ }
+    ensures { λ m. ⌜ Written (reason-line (render (was f) (reason-of (drop (i * 5) (was a))))) (was out) n (is out) m ⌝ }
 {
     let r = reasons::get(a, i);
     put_reason_line(out, n, b"reason", f, r)
@@ -69,7 +70,7 @@ pub fn put_reason(out: &mut [u8], n: usize, f: &[u8], a: &[u32], i: usize) -> us
 
 pub fn put_unknown(out: &mut [u8], n: usize, f: &[u8], a: &[u32], i: usize) -> usize
     requires { ⌜ i * 5 + 5 ≤ length (now a) ⌝ }
-    ensures { λ m. ⌜ Written (sim-unknown-line (render (now (f .entry)) (reason-of (drop (i * 5) (now (a .entry)))))) (now (out .entry)) n (now (out .exit)) m ⌝ }
+    ensures { λ m. ⌜ Written (sim-unknown-line (render (was f) (reason-of (drop (i * 5) (was a))))) (was out) n (is out) m ⌝ }
 {
     let r = reasons::get(a, i);
     put_reason_line(out, n, b"sim-unknown", f, r)
@@ -78,7 +79,7 @@ pub fn put_unknown(out: &mut [u8], n: usize, f: &[u8], a: &[u32], i: usize) -> u
 // ---- why a simulation is incomplete
 
 fn put_text_line(out: &mut [u8], n: usize, word: &[u8], t: &[u8]) -> usize
-    ensures { λ m. ⌜ Written (text-line (now (word .entry)) (now (t .entry))) (now (out .entry)) n (now (out .exit)) m ⌝ }
+    ensures { λ m. ⌜ Written (text-line (was word) (was t)) (was out) n (is out) m ⌝ }
 {
     let a = show::put(out, n, word);
     let b = show::put_byte(out, a, 32);
@@ -88,7 +89,7 @@ fn put_text_line(out: &mut [u8], n: usize, word: &[u8], t: &[u8]) -> usize
 
 // By the number of its halt.
 fn put_halted(out: &mut [u8], n: usize, why: u32) -> usize
-    ensures { λ m. ⌜ Written (incomplete-lines (halted why)) (now (out .entry)) n (now (out .exit)) m ⌝ }
+    ensures { λ m. ⌜ Written (incomplete-lines (halted why)) (was out) n (is out) m ⌝ }
 {
     if why == 0 {
         return n;
@@ -106,7 +107,7 @@ fn put_halted(out: &mut [u8], n: usize, why: u32) -> usize
 
 // By the number of its halt, and whether runs were left.
 pub fn put_incomplete(out: &mut [u8], n: usize, why: u32, waiting: bool) -> usize
-    ensures { λ m. ⌜ Written (incomplete-lines (incomplete-of why waiting)) (now (out .entry)) n (now (out .exit)) m ⌝ }
+    ensures { λ m. ⌜ Written (incomplete-lines (incomplete-of why waiting)) (was out) n (is out) m ⌝ }
 {
     let m = put_halted(out, n, why);
     if waiting {
@@ -124,7 +125,7 @@ pub fn put_incomplete(out: &mut [u8], n: usize, why: u32, waiting: bool) -> usiz
 
 // The text at a place, quoted; the empty text for a place past the last.
 pub fn put_place(out: &mut [u8], n: usize, f: &[u8], x: &[u32; 436], place: u32) -> usize
-    ensures { λ m. ⌜ Written (quoted (text-of (now (f .entry)) (now (x .entry)) place)) (now (out .entry)) n (now (out .exit)) m ⌝ }
+    ensures { λ m. ⌜ Written (quoted (text-of (was f) (was x) place)) (was out) n (is out) m ⌝ }
 {
     if x[9] <= place {
         return show::put(out, n, b"\"\"");
@@ -136,7 +137,7 @@ pub fn put_place(out: &mut [u8], n: usize, f: &[u8], x: &[u32; 436], place: u32)
 // The value of an entity at the end.
 pub fn put_final(out: &mut [u8], n: usize, f: &[u8], x: &[u32; 436], e: usize, value: u32) -> usize
     requires { ⌜ e < 32 ⌝ }
-    ensures { λ m. ⌜ Written (final-line (text-of (now (f .entry)) (now (x .entry)) (name (now (x .entry)) e)) (text-of (now (f .entry)) (now (x .entry)) value)) (now (out .entry)) n (now (out .exit)) m ⌝ }
+    ensures { λ m. ⌜ Written (final-line (text-of (was f) (was x) (name (was x) e)) (text-of (was f) (was x) value)) (was out) n (is out) m ⌝ }
 {
     let a = show::put(out, n, b"final ");
     let b = put_place(out, a, f, x, engine_fields::name_of(x, e));
@@ -169,7 +170,7 @@ pub fn at_most(n: usize, most: usize) -> usize
 
 fn print_reason(out: &mut [u8], n: usize, word: Word, f: &[u8], a: &[u32], i: usize) -> usize
     requires { ⌜ i * 5 + 5 ≤ length (now a) ⌝ }
-    ensures { λ m. ⌜ Kept (now (out .entry)) n (now (out .exit)) m ⌝ }
+    ensures { λ m. ⌜ Kept (was out) n (is out) m ⌝ }
 {
     let m = show::room(out, n, LINE);
     match word {
@@ -187,7 +188,7 @@ pub fn print_reasons(
     a: &[u32],
     count: usize,
 ) -> usize
-    ensures { λ m. ⌜ Kept (now (out .entry)) n (now (out .exit)) m ⌝ }
+    ensures { λ m. ⌜ Kept (was out) n (is out) m ⌝ }
 {
     let many = at_most(count, a.len() / 5);
     let mut m = n;
@@ -201,7 +202,7 @@ pub fn print_reasons(
 
 fn print_final(out: &mut [u8], n: usize, f: &[u8], x: &[u32; 436], e: usize, value: u32) -> usize
     requires { ⌜ e < 32 ⌝ }
-    ensures { λ m. ⌜ Kept (now (out .entry)) n (now (out .exit)) m ⌝ }
+    ensures { λ m. ⌜ Kept (was out) n (is out) m ⌝ }
 {
     let m = show::room(out, n, LINE);
     put_final(out, m, f, x, e, value)
@@ -209,7 +210,7 @@ fn print_final(out: &mut [u8], n: usize, f: &[u8], x: &[u32; 436], e: usize, val
 
 // The entities' values at the end, by the places of their texts.
 pub fn print_finals(out: &mut [u8], n: usize, f: &[u8], x: &[u32; 436], values: &[u32; 32]) -> usize
-    ensures { λ m. ⌜ Kept (now (out .entry)) n (now (out .exit)) m ⌝ }
+    ensures { λ m. ⌜ Kept (was out) n (is out) m ⌝ }
 {
     let many = engine_fields::at_most(x[0], 32);
     let mut m = n;
@@ -222,7 +223,7 @@ pub fn print_finals(out: &mut [u8], n: usize, f: &[u8], x: &[u32; 436], values: 
 }
 
 pub fn print_incomplete(out: &mut [u8], n: usize, why: u32, waiting: bool) -> usize
-    ensures { λ m. ⌜ Kept (now (out .entry)) n (now (out .exit)) m ⌝ }
+    ensures { λ m. ⌜ Kept (was out) n (is out) m ⌝ }
 {
     let m = show::room(out, n, LINE);
     put_incomplete(out, m, why, waiting)

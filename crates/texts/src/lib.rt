@@ -1,4 +1,5 @@
 // Texts in a file: a length byte, and as many bytes.
+ghost use Rattle.notation.specs.Reference.{was};
 ghost use mathlib.Core.Path.{_≡_};
 ghost use Prim.Native.Nat.{_≤_, _<_};
 ghost use lib.ListN.{length, getD};
@@ -19,14 +20,14 @@ pub enum Seek {
 
 pub fn byte(s: &[u8], at: usize) -> u32
     requires { ⌜ at < length (now s) ⌝ }
-    ensures { λ r. ⌜ (r ≡ getD (now (s .entry)) at 0) × (r < 256) ⌝ }
+    ensures { λ r. ⌜ (r ≡ getD (was s) at 0) × (r < 256) ⌝ }
 {
     s[at] as u32
 }
 
 // The length byte at a position, 0 past the end.
 pub fn length_byte(f: &[u8], at: usize) -> usize
-    ensures { λ r. ⌜ (r ≡ getD (now (f .entry)) at 0) × (r < 256) ⌝ }
+    ensures { λ r. ⌜ (r ≡ getD (was f) at 0) × (r < 256) ⌝ }
 {
     if at < f.len() {
         return byte(f, at) as usize;
@@ -37,7 +38,7 @@ pub fn length_byte(f: &[u8], at: usize) -> usize
 // The position of the text at a place, where the text at place 0 stands at `from`.
 pub fn text_start(f: &[u8], from: usize, place: u32) -> usize
     requires { ⌜ from ≤ 4294967295 ⌝ }
-    ensures { λ r. ⌜ r ≡ startFrom (now (f .entry)) from place ⌝ }
+    ensures { λ r. ⌜ r ≡ startFrom (was f) from place ⌝ }
 {
     let mut at = from;
     let mut left = place;
@@ -49,7 +50,7 @@ pub fn text_start(f: &[u8], from: usize, place: u32) -> usize
 }
 
 pub fn text_len(f: &[u8], at: usize) -> usize
-    ensures { λ r. ⌜ (r ≡ length (textAt (now (f .entry)) at)) × (r < 256) ⌝ }
+    ensures { λ r. ⌜ (r ≡ length (textAt (was f) at)) × (r < 256) ⌝ }
 {
     if f.len() <= at {
         return 0;
@@ -63,7 +64,7 @@ pub fn text_len(f: &[u8], at: usize) -> usize
 }
 
 pub fn text_seek(f: &[u8], at: usize, i: usize) -> Seek
-    ensures { λ r. ⌜ r ≡ seek (textAt (now (f .entry)) at) i ⌝ }
+    ensures { λ r. ⌜ r ≡ seek (textAt (was f) at) i ⌝ }
 {
     let n = text_len(f, at);
     if i < n {
