@@ -9,7 +9,13 @@ use Rattle.c_encoding.proofs.put_words.Reads as put-words-reads
 
 returns : tie.Need-returns
 unfolding laidReport
-returns c = rw (c .before .before .put-words5 .ensures, c .before .before .before .before .before .before .before .put-words4 .ensures, c .before .before .before .before .before .before .before .before .before .before .before .before .put-words3 .ensures, c .before .before .before .before .before .before .before .before .before .before .before .before .before .before .before .before .before .put-words2 .ensures, c .before .before .before .before .before .before .before .before .before .before .before .before .before .before .before .before .before .before .before .before .before .before .put-words .ensures, c .before .before .before .before .before .before .before .before .before .before .before .before .before .before .before .before .before .before .before .before .before .before .before .before .before .before .before .put-numbers .ensures)
+returns c =
+    let c7 = c .before .before .before .before .before .before .before in
+    let c12 = c7 .before .before .before .before .before in
+    let c17 = c12 .before .before .before .before .before in
+    let c22 = c17 .before .before .before .before .before in
+    let c27 = c22 .before .before .before .before .before in
+    rw (c .before .before .put-words5 .ensures, c7 .put-words4 .ensures, c12 .put-words3 .ensures, c17 .put-words2 .ensures, c22 .put-words .ensures, c27 .put-numbers .ensures)
 
 pub lay-report-spec : {M : Type 1} → statement M
 lay-report-spec =

@@ -9,7 +9,12 @@ use Rattle.c_encoding.proofs.put_words.Reads as put-words-reads
 
 returns : tie.Need-returns
 unfolding laidSearch
-returns c = rw (c .before .before .put-words4 .ensures, c .before .before .before .before .before .before .before .put-words3 .ensures, c .before .before .before .before .before .before .before .before .before .before .before .before .put-words2 .ensures, c .before .before .before .before .before .before .before .before .before .before .before .before .before .before .before .before .before .put-words .ensures, c .before .before .before .before .before .before .before .before .before .before .before .before .before .before .before .before .before .before .before .before .before .before .put-numbers .ensures)
+returns c =
+    let c7 = c .before .before .before .before .before .before .before in
+    let c12 = c7 .before .before .before .before .before in
+    let c17 = c12 .before .before .before .before .before in
+    let c22 = c17 .before .before .before .before .before in
+    rw (c .before .before .put-words4 .ensures, c7 .put-words3 .ensures, c12 .put-words2 .ensures, c17 .put-words .ensures, c22 .put-numbers .ensures)
 
 pub lay-search-spec : {M : Type 1} → statement M
 lay-search-spec =

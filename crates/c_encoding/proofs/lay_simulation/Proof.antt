@@ -9,7 +9,10 @@ use Rattle.c_encoding.proofs.put_words.Reads as put-words-reads
 
 returns : tie.Need-returns
 unfolding laidSimulation
-returns c = rw (c .before .before .put-words2 .ensures, c .before .before .before .before .before .before .before .put-words .ensures, c .before .before .before .before .before .before .before .before .before .before .before .before .put-numbers .ensures)
+returns c =
+    let c7 = c .before .before .before .before .before .before .before in
+    let c12 = c7 .before .before .before .before .before in
+    rw (c .before .before .put-words2 .ensures, c7 .put-words .ensures, c12 .put-numbers .ensures)
 
 pub lay-simulation-spec : {M : Type 1} → statement M
 lay-simulation-spec =

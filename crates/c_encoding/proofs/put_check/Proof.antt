@@ -10,7 +10,10 @@ use Rattle.c_encoding.proofs.status_number.Reads as status-number-reads
 
 returns : tie.Need-returns
 unfolding checkIn
-returns c = rw (c .before .before .put-simulation .ensures, c .before .before .before .before .before .before .before .lay-check .ensures, c .before .before .before .before .before .before .before .before .before .before .status-number .ensures)
+returns c =
+    let c7 = c .before .before .before .before .before .before .before in
+    let c10 = c7 .before .before .before in
+    rw (c .before .before .put-simulation .ensures, c7 .lay-check .ensures, c10 .status-number .ensures)
 
 pub put-check-spec : {M : Type 1} → statement M
 put-check-spec =

@@ -9,7 +9,10 @@ use Rattle.c_encoding.proofs.wide.Reads as wide-reads
 
 returns : tie.Need-returns
 unfolding coneIn
-returns c = rw (c .before .before .lay-cone .ensures, c .before .before .before .before .before .before .before .before .wide .ensures, c .before .before .before .before .before .before .before .wide2 .ensures)
+returns c =
+    let c7 = c .before .before .before .before .before .before .before in
+    let c8 = c7 .before in
+    rw (c .before .before .lay-cone .ensures, c8 .wide .ensures, c7 .wide2 .ensures)
 
 pub put-cone-spec : {M : Type 1} → statement M
 put-cone-spec =

@@ -11,7 +11,12 @@ use Rattle.c_encoding.proofs.wide.Reads as wide-reads
 
 returns : tie.Need-returns
 unfolding minimizedIn
-returns c = rw (c .before .before .put-result .ensures, c .before .before .before .before .before .before .before .lay-reduction .ensures, c .before .before .before .before .before .before .before .before .before .before .before .before .before .before .wide .ensures, c .before .before .before .before .before .before .before .before .before .before .before .before .before .wide2 .ensures, c .before .before .before .before .before .before .before .before .before .before .before .before .flag .ensures)
+returns c =
+    let c7 = c .before .before .before .before .before .before .before in
+    let c12 = c7 .before .before .before .before .before in
+    let c13 = c12 .before in
+    let c14 = c13 .before in
+    rw (c .before .before .put-result .ensures, c7 .lay-reduction .ensures, c14 .wide .ensures, c13 .wide2 .ensures, c12 .flag .ensures)
 
 pub put-minimized-spec : {M : Type 1} → statement M
 put-minimized-spec =

@@ -10,7 +10,10 @@ use Rattle.c_encoding.proofs.status_number.Reads as status-number-reads
 
 returns : tie.Need-returns
 unfolding checkIn
-returns c = rw (c .before .before .put-simulation .ensures, c .before .before .before .before .before .before .before .before .before .before .lay-check .ensures, c .before .before .before .before .before .before .before .before .before .before .before .before .before .before .before .before .before .before .before .status-number .ensures)
+returns c =
+    let c10 = c .before .before .before .before .before .before .before .before .before .before in
+    let c19 = c10 .before .before .before .before .before .before .before .before .before in
+    rw (c .before .before .put-simulation .ensures, c10 .lay-check .ensures, c19 .status-number .ensures)
 
 pub put-result-spec : {M : Type 1} → statement M
 put-result-spec =

@@ -11,7 +11,16 @@ use Rattle.c_encoding.proofs.wide.Reads as wide-reads
 
 returns : tie.Need-returns
 unfolding searchIn
-returns c = rw (c .before .before .lay-search .ensures, c .before .before .before .before .before .before .before .before .before .before .before .before .before .before .before .before .before .before .found-number .ensures, c .before .before .before .before .before .before .before .before .before .before .before .before .before .before .before .before .before .wide .ensures, c .before .before .before .before .before .before .before .before .before .before .before .before .before .before .before .before .wide2 .ensures, c .before .before .before .before .before .before .before .before .before .before .before .before .before .before .before .wide3 .ensures, c .before .before .before .before .before .before .before .before .before .before .before .before .before .before .wide4 .ensures, c .before .before .before .before .before .before .before .before .before .before .before .before .before .wide5 .ensures, c .before .before .before .before .before .before .before .before .before .before .before .before .wide6 .ensures, c .before .before .before .before .before .before .before .before .before .before .before .flag .ensures)
+returns c =
+    let c11 = c .before .before .before .before .before .before .before .before .before .before .before in
+    let c12 = c11 .before in
+    let c13 = c12 .before in
+    let c14 = c13 .before in
+    let c15 = c14 .before in
+    let c16 = c15 .before in
+    let c17 = c16 .before in
+    let c18 = c17 .before in
+    rw (c .before .before .lay-search .ensures, c18 .found-number .ensures, c17 .wide .ensures, c16 .wide2 .ensures, c15 .wide3 .ensures, c14 .wide4 .ensures, c13 .wide5 .ensures, c12 .wide6 .ensures, c11 .flag .ensures)
 
 pub put-searched-spec : {M : Type 1} → statement M
 put-searched-spec =

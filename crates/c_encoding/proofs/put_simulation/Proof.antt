@@ -10,7 +10,12 @@ use Rattle.c_encoding.proofs.wide.Reads as wide-reads
 
 returns : tie.Need-returns
 unfolding simulationIn
-returns c = rw (c .before .before .lay-simulation .ensures, c .before .before .before .before .before .before .before .before .before .before .wide .ensures, c .before .before .before .before .before .before .before .before .before .wide2 .ensures, c .before .before .before .before .before .before .before .before .wide3 .ensures, c .before .before .before .before .before .before .before .flag .ensures)
+returns c =
+    let c7 = c .before .before .before .before .before .before .before in
+    let c8 = c7 .before in
+    let c9 = c8 .before in
+    let c10 = c9 .before in
+    rw (c .before .before .lay-simulation .ensures, c10 .wide .ensures, c9 .wide2 .ensures, c8 .wide3 .ensures, c7 .flag .ensures)
 
 pub put-simulation-spec : {M : Type 1} → statement M
 put-simulation-spec =

@@ -32,6 +32,11 @@ put-words-spec =
     (λ c. search needs)
     (λ c. search needs)
     (λ c. search needs)
-    (λ c. let a = c .before .before .before .before .before .before .args in let l = c .before .before .before .loop in let w = c .wide in (search needs, (simp length-set (l .inv .1 .0), rw (w .ensures, l .inv .1 .1) (lists.put-one (a .out .now) (a .w .now) (a .at) (l .k) (omega arith) (search needs)))))
+    (λ c.
+    let c3 = c .before .before .before in
+    let c6 = c3 .before .before .before in
+    let a = c6 .args in let l = c3 .loop in let w = c .wide in (search needs, (simp length-set (l .inv .1 .0), rw (w .ensures, l .inv .1 .1) (lists.put-one (a .out .now) (a .w .now) (a .at) (l .k) (omega arith) (search needs)))))
     (λ c. search needs)
-    (λ c. let a = c .before .before .before .before .args in let l = c .before .loop in l .inv .1 .1 ∙ lists.put-all (a .out .now) (a .w .now) (a .at) (l .k) (omega arith)))
+    (λ c.
+    let c4 = c .before .before .before .before in
+    let a = c4 .args in let l = c .before .loop in l .inv .1 .1 ∙ lists.put-all (a .out .now) (a .w .now) (a .at) (l .k) (omega arith)))

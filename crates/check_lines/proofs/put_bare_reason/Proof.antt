@@ -14,4 +14,9 @@ put-bare-reason-spec =
     (λ c κs. search needs)
     (λ c κs. search needs)
     (λ c. search needs)
-    (λ c. show.is (laws.bare-reason-is _ _ _ _ (c .before .before .before .before .before .before .before .before .before .before .before .before .before .before .before .before .get .ensures)) (show.both (c .before .before .before .before .before .before .before .before .before .before .before .before .before .before .put .ensures) (show.both (c .before .before .before .before .before .before .before .before .before .before .put-byte .ensures) (show.both (c .before .before .before .before .before .before .put-reason .ensures) (c .before .before .put-byte2 .ensures))))))
+    (λ c.
+    let c6 = c .before .before .before .before .before .before in
+    let c10 = c6 .before .before .before .before in
+    let c14 = c10 .before .before .before .before in
+    let c16 = c14 .before .before in
+    show.is (laws.bare-reason-is _ _ _ _ (c16 .get .ensures)) (show.both (c14 .put .ensures) (show.both (c10 .put-byte .ensures) (show.both (c6 .put-reason .ensures) (c .before .before .put-byte2 .ensures))))))

@@ -15,4 +15,10 @@ put-bare-violated-spec =
     (λ c κs. search needs)
     (λ c κs. search needs)
     (λ c. search needs)
-    (λ c. show.is (laws.bare-is _ (c .before .before .before .before .before .before .before .before .before .before .before .before .before .before .before .before .before .before .before .before .before .before .before .args .v)) (show.both (c .before .before .before .before .before .before .before .before .before .before .before .before .before .before .before .before .before .before .put .ensures) (show.both (c .before .before .before .before .before .before .before .before .before .before .before .before .before .before .put-identifier .ensures) (show.both (c .before .before .before .before .before .before .before .before .before .before .put-moment .ensures) (show.both (c .before .before .before .before .before .before .put-origin .ensures) (c .before .before .put-byte .ensures)))))))
+    (λ c.
+    let c6 = c .before .before .before .before .before .before in
+    let c10 = c6 .before .before .before .before in
+    let c14 = c10 .before .before .before .before in
+    let c18 = c14 .before .before .before .before in
+    let c23 = c18 .before .before .before .before .before in
+    show.is (laws.bare-is _ (c23 .args .v)) (show.both (c18 .put .ensures) (show.both (c14 .put-identifier .ensures) (show.both (c10 .put-moment .ensures) (show.both (c6 .put-origin .ensures) (c .before .before .put-byte .ensures)))))))

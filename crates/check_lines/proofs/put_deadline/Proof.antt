@@ -14,4 +14,7 @@ put-deadline-spec =
     (λ c. search needs)
     (λ c κs. search needs)
     (λ c. search needs)
-    (λ c. show.is (laws.deadline-is _) (show.both (c .before .before .before .before .before .before .before .before .before .before .before .put .ensures) (show.both (c .before .before .before .before .before .before .before .put-number .ensures) (c .before .before .put2 .ensures)))))
+    (λ c.
+    let c7 = c .before .before .before .before .before .before .before in
+    let c11 = c7 .before .before .before .before in
+    show.is (laws.deadline-is _) (show.both (c11 .put .ensures) (show.both (c7 .put-number .ensures) (c .before .before .put2 .ensures)))))

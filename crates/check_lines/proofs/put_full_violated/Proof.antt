@@ -17,4 +17,12 @@ put-full-violated-spec =
     (λ c κs. search needs)
     (λ c κs. search needs)
     (λ c. search needs)
-    (λ c. show.is (laws.full-is _ (c .before .before .before .before .before .before .before .before .before .before .before .before .before .before .before .before .before .before .before .before .before .before .before .before .before .before .before .before .before .before .before .args .v)) (show.both (c .before .before .before .before .before .before .before .before .before .before .before .before .before .before .before .before .before .before .before .before .before .before .before .before .before .before .put .ensures) (show.both (c .before .before .before .before .before .before .before .before .before .before .before .before .before .before .before .before .before .before .before .before .before .before .put-quoted-identifier .ensures) (show.both (c .before .before .before .before .before .before .before .before .before .before .before .before .before .before .before .before .before .before .put-moment .ensures) (show.both (c .before .before .before .before .before .before .before .before .before .before .before .before .before .before .put-origin .ensures) (show.both (c .before .before .before .before .before .before .before .before .before .before .put-byte .ensures) (show.both (c .before .before .before .before .before .before .put-message .ensures) (c .before .before .put-byte2 .ensures)))))))))
+    (λ c.
+    let c6 = c .before .before .before .before .before .before in
+    let c10 = c6 .before .before .before .before in
+    let c14 = c10 .before .before .before .before in
+    let c18 = c14 .before .before .before .before in
+    let c22 = c18 .before .before .before .before in
+    let c26 = c22 .before .before .before .before in
+    let c31 = c26 .before .before .before .before .before in
+    show.is (laws.full-is _ (c31 .args .v)) (show.both (c26 .put .ensures) (show.both (c22 .put-quoted-identifier .ensures) (show.both (c18 .put-moment .ensures) (show.both (c14 .put-origin .ensures) (show.both (c10 .put-byte .ensures) (show.both (c6 .put-message .ensures) (c .before .before .put-byte2 .ensures)))))))))

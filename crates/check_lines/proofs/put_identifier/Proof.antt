@@ -7,4 +7,7 @@ use Rattle.check_lines.proofs.put_identifier.Tie as tie
 pub put-identifier-spec : {M : Type 1} → statement M
 put-identifier-spec =
     tie.close
-    (tie.spec (λ c κs. search needs) (λ c κs. search needs) (λ c κs. search needs) (λ c. search needs) (λ c. show.is (laws.identifier-is _ _ _ _ (c .before .before .before .before .before .place-of .ensures) (c .before .before .before .before .text-start .ensures)) (c .before .before .put-text .ensures)))
+    (tie.spec (λ c κs. search needs) (λ c κs. search needs) (λ c κs. search needs) (λ c. search needs) (λ c.
+    let c4 = c .before .before .before .before in
+    let c5 = c4 .before in
+    show.is (laws.identifier-is _ _ _ _ (c5 .place-of .ensures) (c4 .text-start .ensures)) (c .before .before .put-text .ensures)))

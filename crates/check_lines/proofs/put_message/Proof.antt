@@ -22,4 +22,8 @@ put-message-spec =
     (λ c. show.is (laws.forbidden _ _ (c .before .before .before .before .before .if3 .taken)) (c .before .before .put-quoted3 .ensures))
     (λ c κs. search needs)
     (λ c. search needs)
-    (λ c. show.is (laws.late _ _ (c .before .before .before .before .before .before .if1 .left) (c .before .before .before .before .before .if2 .left) (c .before .before .before .before .if3 .left)) (c .before .before .put-deadline .ensures)))
+    (λ c.
+    let c4 = c .before .before .before .before in
+    let c5 = c4 .before in
+    let c6 = c5 .before in
+    show.is (laws.late _ _ (c6 .if1 .left) (c5 .if2 .left) (c4 .if3 .left)) (c .before .before .put-deadline .ensures)))

@@ -32,4 +32,6 @@ violated-at-spec =
     (λ c. search needs)
     (λ c. search needs)
     (λ c. search needs)
-    (λ c. laws.violated-is (c .before .before .before .before .before .before .before .before .args .a .now) (c .before .before .before .before .before .before .before .before .args .k * 8)))
+    (λ c.
+    let c8 = c .before .before .before .before .before .before .before .before in
+    laws.violated-is (c8 .args .a .now) (c8 .args .k * 8)))

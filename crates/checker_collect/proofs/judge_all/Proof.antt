@@ -29,10 +29,18 @@ judge-all-spec =
     (λ c. (omega arith, laws.gathers-none _ _ _ _))
     (λ c. search needs)
     (λ c. omega (arith, c .before .before .at-most .ensures .1, c .loop-test .taken))
-    (λ c κs. laws.judge-room (c .before .before .before .before .before .before .before .before .before .before .before .before .pre) (c .before .before .before .before .before .loop .inv .1) (omega (arith, c .before .before .before .before .loop-test .taken, c .before .before .before .before .before .before .at-most .ensures .1)))
+    (λ c κs.
+    let c4 = c .before .before .before .before in
+    let c5 = c4 .before in
+    let c6 = c5 .before in
+    let c12 = c6 .before .before .before .before .before .before in
+    laws.judge-room (c12 .pre) (c5 .loop .inv .1) (omega (arith, c4 .loop-test .taken, c6 .at-most .ensures .1)))
     (λ c. search needs)
     (λ c. search needs)
-    (λ c. (omega arith, laws.gathers-more _ _ _ _ _ (c .before .before .before .before .before .before .before .before .before .before .before .before .loop .inv .1) (c .before .before .before .before .before .before .judge-one .ensures)))
+    (λ c.
+    let c6 = c .before .before .before .before .before .before in
+    let c12 = c6 .before .before .before .before .before .before in
+    (omega arith, laws.gathers-more _ _ _ _ _ (c12 .loop .inv .1) (c6 .judge-one .ensures)))
     (λ c. c .before .loop .inv .1 .long-v)
     (λ c. c .before .loop .inv .1 .long-u)
     (λ c. c .before .loop .inv .1 .long-w)

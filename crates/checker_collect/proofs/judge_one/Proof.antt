@@ -23,10 +23,22 @@ judge-one-spec =
     (λ c κs. search needs)
     (λ c κs. search needs)
     (λ c κs. search needs)
-    (λ c κs. laws.told-room _ _ _ _ (c .before .before .before .before .before .before .before .before .before .before .before .before .before .before .before .pre .1 .1 .0))
+    (λ c κs.
+    let c15 = c .before .before .before .before .before .before .before .before .before .before .before .before .before .before .before in
+    laws.told-room _ _ _ _ (c15 .pre .1 .1 .0))
     (λ c κs. search needs)
-    (λ c κs. laws.lack-room _ _ _ _ _ (c .before .incomplete-reasons .ensures) (c .before .before .before .before .before .before .before .before .before .before .before .before .before .before .before .before .before .before .before .before .pre .1 .1 .1))
+    (λ c κs.
+    let c20 = c .before .before .before .before .before .before .before .before .before .before .before .before .before .before .before .before .before .before .before .before in
+    laws.lack-room _ _ _ _ _ (c .before .incomplete-reasons .ensures) (c20 .pre .1 .1 .1))
     (λ c. search needs)
     (λ c. search needs)
     (λ c. search needs)
-    (λ c. laws.gathers-one (c .before .before .before .before .before .before .before .before .before .before .before .before .before .before .before .before .before .judge .result) (c .before .before .before .before .before .before .before .before .before .before .before .before .before .before .before .before .before .judge .ensures) (c .before .before .before .before .before .before .before .before .before .before .before .before .before .before .before .capped .ensures) (c .before .before .before .before .before .before .before .before .before .before .before .before .before .before .two-at .ensures .0) (c .before .before .before .before .before .before .before .before .before .before .before .before .push-violation .ensures) (c .before .before .before .before .before .before .before .before .before .unknown-reasons .ensures) (c .before .before .before .before .before .before .before .insert-told .ensures) (c .before .before .before .before .incomplete-reasons .ensures) (c .before .before .insert-told2 .ensures) (c .before .before .before .before .before .before .before .before .before .before .before .before .push-violation .kept .0) (c .before .before .before .before .before .before .before .insert-told .kept .1 .0) (c .before .before .insert-told2 .kept .1 .0)))
+    (λ c.
+    let c4 = c .before .before .before .before in
+    let c7 = c4 .before .before .before in
+    let c9 = c7 .before .before in
+    let c12 = c9 .before .before .before in
+    let c14 = c12 .before .before in
+    let c15 = c14 .before in
+    let c17 = c15 .before .before in
+    laws.gathers-one (c17 .judge .result) (c17 .judge .ensures) (c15 .capped .ensures) (c14 .two-at .ensures .0) (c12 .push-violation .ensures) (c9 .unknown-reasons .ensures) (c7 .insert-told .ensures) (c4 .incomplete-reasons .ensures) (c .before .before .insert-told2 .ensures) (c12 .push-violation .kept .0) (c7 .insert-told .kept .1 .0) (c .before .before .insert-told2 .kept .1 .0)))

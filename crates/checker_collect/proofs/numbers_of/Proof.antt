@@ -18,4 +18,9 @@ numbers-of-spec =
     (λ c κs. search needs)
     (λ c κs. search needs)
     (λ c. search needs)
-    (λ c. laws.numbers-are _ (c .before .before .before .before .before .before .args .r) (c .before .before .before .before .before .failure-number .ensures) (c .before .before .before .before .failure-deadline .ensures) (c .before .before .before .source-part .ensures) (c .before .before .source-part2 .ensures) (c .before .source-part3 .ensures)))
+    (λ c.
+    let c3 = c .before .before .before in
+    let c4 = c3 .before in
+    let c5 = c4 .before in
+    let c6 = c5 .before in
+    laws.numbers-are _ (c6 .args .r) (c5 .failure-number .ensures) (c4 .failure-deadline .ensures) (c3 .source-part .ensures) (c .before .before .source-part2 .ensures) (c .before .source-part3 .ensures)))

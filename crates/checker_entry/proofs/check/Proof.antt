@@ -12,4 +12,6 @@ check-spec =
     (λ c. search needs)
     (λ c. search needs)
     (λ c. search needs)
-    (λ c. laws.checks-as (c .with-lists .ensures) (c .before .before .before .before .before .before .before .before .before .before .before .check-lent .ensures)))
+    (λ c.
+    let c11 = c .before .before .before .before .before .before .before .before .before .before .before in
+    laws.checks-as (c .with-lists .ensures) (c11 .check-lent .ensures)))

@@ -16,4 +16,7 @@ check-events-spec =
     (λ c. search needs)
     (λ c. search needs)
     (λ c. search needs)
-    (λ c. laws.checked-done (c .before .before .before .before .before .before .before .before .before .before .before .before .before .before .run-events .ensures) (c .before .before .before .before .before .before .if1 .left) (c .verdict .ensures)))
+    (λ c.
+    let c6 = c .before .before .before .before .before .before in
+    let c14 = c6 .before .before .before .before .before .before .before .before in
+    laws.checked-done (c14 .run-events .ensures) (c6 .if1 .left) (c .verdict .ensures)))

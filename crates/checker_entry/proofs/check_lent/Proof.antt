@@ -12,8 +12,15 @@ check-lent-spec =
     (λ c κs. search needs)
     (λ c. search needs)
     (λ c κs. search needs)
-    (λ c. entry.check-refused _ _ (c .before .before .before .before .before .before .before .before .accept .ensures) (c .before .before .before .before .before .before .status .given .1) (c .refused-judgement .ensures) _)
+    (λ c.
+    let c6 = c .before .before .before .before .before .before in
+    let c8 = c6 .before .before in
+    entry.check-refused _ _ (c8 .accept .ensures) (c6 .status .given .1) (c .refused-judgement .ensures) _)
     (λ c. search needs)
     (λ c. search needs)
     (λ c. search needs)
-    (λ c. entry.check-read _ _ (c .before .before .before .before .before .before .before .before .before .before .before .before .before .before .before .before .accept .ensures) (c .before .before .before .before .before .before .before .before .before .before .before .before .before .before .enum-told .given .1) (c .before .before .before .before .before .before .run .ensures)))
+    (λ c.
+    let c6 = c .before .before .before .before .before .before in
+    let c14 = c6 .before .before .before .before .before .before .before .before in
+    let c16 = c14 .before .before in
+    entry.check-read _ _ (c16 .accept .ensures) (c14 .enum-told .given .1) (c6 .run .ensures)))

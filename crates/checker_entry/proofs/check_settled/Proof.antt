@@ -11,4 +11,6 @@ check-settled-spec =
     (λ c. search needs)
     (λ c. search needs)
     (λ c. search needs)
-    (λ c. record { result = _; checked = c .before .before .before .before .before .before .before .before .before .before .before .check-events .ensures; answered = c .settled .ensures }))
+    (λ c.
+    let c11 = c .before .before .before .before .before .before .before .before .before .before .before in
+    record { result = _; checked = c11 .check-events .ensures; answered = c .settled .ensures }))

@@ -12,4 +12,6 @@ check-whole-spec =
     (λ c. search needs)
     (λ c. search needs)
     (λ c. search needs)
-    (λ c. laws.whole-as (c .with-lists .ensures) (c .before .before .before .before .before .before .before .before .before .before .before .check-settled .ensures)))
+    (λ c.
+    let c11 = c .before .before .before .before .before .before .before .before .before .before .before in
+    laws.whole-as (c .with-lists .ensures) (c11 .check-settled .ensures)))

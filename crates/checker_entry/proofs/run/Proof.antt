@@ -17,4 +17,10 @@ run-spec =
     (λ c. search needs)
     (λ c. search needs)
     (λ c. search needs)
-    (λ c. entry.run-is _ _ (λ k. omega (arith, c .before .before .before .before .before .before .before .before .before .before .before .before .before .before .before .before .before .before .before .before .before .before .before .before .before .before .before .before .before .shared-slice-known .given k)) _ (c .before .before .before .before .before .before .before .before .before .before .before .before .before .before .before .before .before .before .before .before .before .before .before .before .prepared .ensures) (c .before .before .before .before .before .before .before .before .before .before .before .before .before .before .before .before .before .before .before .events-of .ensures) (c .before .before .before .before .before .before .before .before .before .before .before .before .before .before .before .before .before .at-most .ensures .0) (c .before .before .before .before .before .before .check-settled .ensures)))
+    (λ c.
+    let c6 = c .before .before .before .before .before .before in
+    let c17 = c6 .before .before .before .before .before .before .before .before .before .before .before in
+    let c19 = c17 .before .before in
+    let c24 = c19 .before .before .before .before .before in
+    let c29 = c24 .before .before .before .before .before in
+    entry.run-is _ _ (λ k. omega (arith, c29 .shared-slice-known .given k)) _ (c24 .prepared .ensures) (c19 .events-of .ensures) (c17 .at-most .ensures .0) (c6 .check-settled .ensures)))

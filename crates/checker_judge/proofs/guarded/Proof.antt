@@ -5,7 +5,9 @@ use Rattle.checker_judge.proofs.guarded.Tie as tie
 
 returns : tie.Need-returns
 unfolding guardedM
-returns c = rw (← (c .before .before .before .is-no .ensures), ← (c .before .is-unknown .ensures), ← (c .before .before .fails-if .ensures), ← (c .unsure .ensures))
+returns c =
+    let c3 = c .before .before .before in
+    rw (← (c3 .is-no .ensures), ← (c .before .is-unknown .ensures), ← (c .before .before .fails-if .ensures), ← (c .unsure .ensures))
 
 pub guarded-spec : {M : Type 1} → statement M
 guarded-spec =

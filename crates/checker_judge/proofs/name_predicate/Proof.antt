@@ -10,7 +10,10 @@ returns c = rw (← (c .before .byte-at .ensures .0), eq-eqb _ _ (c .if1 .taken)
 
 returns-2 : tie.Need-returns-2
 unfolding predicateM
-returns-2 c = rw (← (c .before .before .before .before .byte-at .ensures .0), ne-eqb _ _ (c .before .before .before .if1 .left), ← (c .before .before .two-at .ensures .0)) (c .name .ensures)
+returns-2 c =
+    let c3 = c .before .before .before in
+    let c4 = c3 .before in
+    rw (← (c4 .byte-at .ensures .0), ne-eqb _ _ (c3 .if1 .left), ← (c .before .before .two-at .ensures .0)) (c .name .ensures)
 
 pub name-predicate-spec : {M : Type 1} → statement M
 name-predicate-spec =

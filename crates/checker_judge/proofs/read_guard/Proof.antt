@@ -5,7 +5,10 @@ use Rattle.checker_judge.proofs.read_guard.Tie as tie
 
 returns : tie.Need-returns
 unfolding guardM
-returns c = rw (← (c .before .before .before .before .is-about .ensures), c .before .before .before .if1 .taken, ← (c .before .before .after .ensures), ← (c .before .evaluate-all .ensures)) (c .guarded .ensures)
+returns c =
+    let c3 = c .before .before .before in
+    let c4 = c3 .before in
+    rw (← (c4 .is-about .ensures), c3 .if1 .taken, ← (c .before .before .after .ensures), ← (c .before .evaluate-all .ensures)) (c .guarded .ensures)
 
 returns-2 : tie.Need-returns-2
 unfolding guardM

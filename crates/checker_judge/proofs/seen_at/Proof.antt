@@ -5,7 +5,12 @@ use Rattle.checker_judge.proofs.seen_at.Tie as tie
 
 returns : tie.Need-returns
 unfolding seenM goal-at within-at
-returns c = rw (← (c .before .before .before .before .before .before .after .ensures), ← (c .before .before .before .before .before .after-predicate .ensures), ← (c .before .before .before .before .evaluate .ensures), ← (c .before .before .before .evaluate2 .ensures), ← (c .before .before .evaluate3 .ensures), ← (c .before .after-predicate2 .ensures), ← (c .four-at .ensures))
+returns c =
+    let c3 = c .before .before .before in
+    let c4 = c3 .before in
+    let c5 = c4 .before in
+    let c6 = c5 .before in
+    rw (← (c6 .after .ensures), ← (c5 .after-predicate .ensures), ← (c4 .evaluate .ensures), ← (c3 .evaluate2 .ensures), ← (c .before .before .evaluate3 .ensures), ← (c .before .after-predicate2 .ensures), ← (c .four-at .ensures))
 
 pub seen-at-spec : {M : Type 1} → statement M
 seen-at-spec =

@@ -5,7 +5,9 @@ use Rattle.checker_response.proofs.response_failure.Tie as tie
 
 returns : tie.Need-returns
 unfolding failureM
-returns c = rw (c .before .before .if1 .taken, ← (c .before .missed-at-end .ensures), ← (c .before .before .before .missed .ensures)) (c .or-else .ensures)
+returns c =
+    let c3 = c .before .before .before in
+    rw (c .before .before .if1 .taken, ← (c .before .missed-at-end .ensures), ← (c3 .missed .ensures)) (c .or-else .ensures)
 
 returns-2 : tie.Need-returns-2
 unfolding failureM or-elseM failedM

@@ -12,8 +12,16 @@ add-stopped-spec =
     (λ c κs. search needs)
     (λ c κs. laws.insert-room _ _ 0 _ (omega (arith, c .before .before .before .before .before .before .pre)))
     (λ c. search needs)
-    (λ c. laws.starts-space _ _ (c .before .before .before .before .before .before .if1 .left) (c .before .before .before .before .before .if2 .taken) (c .before .before .before .before .by-itself .ensures) _ _ (c .before .before .insert-sorted .ensures))
+    (λ c.
+    let c4 = c .before .before .before .before in
+    let c5 = c4 .before in
+    let c6 = c5 .before in
+    laws.starts-space _ _ (c6 .if1 .left) (c5 .if2 .taken) (c4 .by-itself .ensures) _ _ (c .before .before .insert-sorted .ensures))
     (λ c κs. search needs)
     (λ c κs. laws.insert-room _ _ 0 _ (omega (arith, c .before .before .before .before .before .before .pre)))
     (λ c. search needs)
-    (λ c. laws.starts-steps _ _ (c .before .before .before .before .before .before .if1 .left) (c .before .before .before .before .before .if2 .left) (c .before .before .before .before .by-itself2 .ensures) _ _ (c .before .before .insert-sorted2 .ensures)))
+    (λ c.
+    let c4 = c .before .before .before .before in
+    let c5 = c4 .before in
+    let c6 = c5 .before in
+    laws.starts-steps _ _ (c6 .if1 .left) (c5 .if2 .left) (c4 .by-itself2 .ensures) _ _ (c .before .before .insert-sorted2 .ensures)))

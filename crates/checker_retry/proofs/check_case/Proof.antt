@@ -16,11 +16,25 @@ check-case-spec =
     (tie.spec
     (λ c κs. search needs)
     (λ c κs. search needs)
-    (λ c κs. c .before .before .before .before .before .before .before .before .before .before .before .before .before .before .before .before .before .before .before .before .before .before .before .before .before .before .before .before .before .pre)
-    (λ c. omega (arith, c .before .before .before .before .before .before .check-events .kept .1 .1 .1 .1 .1 .1 .0, c .before .before .before .before .before .before .before .before .before .before .before .before .before .before .before .before .before .before .before .before .before .before .before .check-part .kept .1 .1 .1 .1 .1 .1 .1 .0))
-    (λ c. omega (arith, c .before .before .before .before .before .before .check-events .kept .1 .1 .1 .1 .1 .1 .1 .0, c .before .before .before .before .before .before .before .before .before .before .before .before .before .before .before .before .before .before .before .before .before .before .before .check-part .kept .1 .1 .1 .1 .1 .1 .1 .1 .0))
-    (λ c. omega (arith, c .before .before .before .before .before .before .check-events .kept .1 .1 .1 .1 .1 .1 .1 .1 .0, c .before .before .before .before .before .before .before .before .before .before .before .before .before .before .before .before .before .before .before .before .before .before .before .check-part .kept .1 .1 .1 .1 .1 .1 .1 .1 .1 .0))
-    (λ c. laws.whole-as (c .before .before .before .before .before .before .check-events .ensures) (omega (arith, c .before .before .before .before .before .before .before .before .before .before .before .before .before .before .before .before .before .before .before .before .before .before .before .check-part .kept .1 .1 .1 .1 .1 .1 .1 .0)) (omega (arith, c .before .before .before .before .before .before .before .before .before .before .before .before .before .before .before .before .before .before .before .before .before .before .before .check-part .kept .1 .1 .1 .1 .1 .1 .1 .1 .0)) (omega (arith, c .before .before .before .before .before .before .before .before .before .before .before .before .before .before .before .before .before .before .before .before .before .before .before .check-part .kept .1 .1 .1 .1 .1 .1 .1 .1 .1 .0)))
+    (λ c κs.
+    let c29 = c .before .before .before .before .before .before .before .before .before .before .before .before .before .before .before .before .before .before .before .before .before .before .before .before .before .before .before .before .before in
+    c29 .pre)
+    (λ c.
+    let c6 = c .before .before .before .before .before .before in
+    let c23 = c6 .before .before .before .before .before .before .before .before .before .before .before .before .before .before .before .before .before in
+    omega (arith, c6 .check-events .kept .1 .1 .1 .1 .1 .1 .0, c23 .check-part .kept .1 .1 .1 .1 .1 .1 .1 .0))
+    (λ c.
+    let c6 = c .before .before .before .before .before .before in
+    let c23 = c6 .before .before .before .before .before .before .before .before .before .before .before .before .before .before .before .before .before in
+    omega (arith, c6 .check-events .kept .1 .1 .1 .1 .1 .1 .1 .0, c23 .check-part .kept .1 .1 .1 .1 .1 .1 .1 .1 .0))
+    (λ c.
+    let c6 = c .before .before .before .before .before .before in
+    let c23 = c6 .before .before .before .before .before .before .before .before .before .before .before .before .before .before .before .before .before in
+    omega (arith, c6 .check-events .kept .1 .1 .1 .1 .1 .1 .1 .1 .0, c23 .check-part .kept .1 .1 .1 .1 .1 .1 .1 .1 .1 .0))
+    (λ c.
+    let c6 = c .before .before .before .before .before .before in
+    let c23 = c6 .before .before .before .before .before .before .before .before .before .before .before .before .before .before .before .before .before in
+    laws.whole-as (c6 .check-events .ensures) (omega (arith, c23 .check-part .kept .1 .1 .1 .1 .1 .1 .1 .0)) (omega (arith, c23 .check-part .kept .1 .1 .1 .1 .1 .1 .1 .1 .0)) (omega (arith, c23 .check-part .kept .1 .1 .1 .1 .1 .1 .1 .1 .1 .0)))
     (λ c. search needs)
     (λ c. search needs)
     (λ c. search needs)

@@ -23,8 +23,12 @@ first-spec =
     μ-loop
     (λ c. laws.first-start _ _ _)
     (λ c κs. search needs)
-    (λ c. sym (c .before .before .before .loop .inv ∙ laws.first-here _ _ _ _ (c .before .before .loop-test .taken) (c .before .adds .ensures) (c .if1 .taken)))
+    (λ c.
+    let c3 = c .before .before .before in
+    sym (c3 .loop .inv ∙ laws.first-here _ _ _ _ (c .before .before .loop-test .taken) (c .before .adds .ensures) (c .if1 .taken)))
     (λ c. search needs)
     (λ c. search needs)
-    (λ c. c .before .before .before .loop .inv ∙ laws.first-later _ _ _ _ (c .before .before .loop-test .taken) (c .before .adds .ensures) (c .if1 .left))
+    (λ c.
+    let c3 = c .before .before .before in
+    c3 .loop .inv ∙ laws.first-later _ _ _ _ (c .before .before .loop-test .taken) (c .before .adds .ensures) (c .if1 .left))
     (λ c. sym (c .before .loop .inv ∙ laws.first-end _ _ _ _ (c .loop-test .left))))

@@ -9,4 +9,6 @@ use Rattle.lint_reach.proofs.with.Reads as with-reads
 
 pub round-spec : {M : Type 1} → statement M
 round-spec =
-    tie.close (tie.spec (λ c κs. search needs) (λ c. search needs) (λ c. search needs) (λ c κs. search needs) (λ c. laws.round-yes _ _ _ _ (c .before .before .before .first .ensures) (c .before .before .if1 .taken) (c .with .ensures)) (λ c. laws.round-no _ _ _ _ (c .before .first .ensures) (c .if1 .left)))
+    tie.close (tie.spec (λ c κs. search needs) (λ c. search needs) (λ c. search needs) (λ c κs. search needs) (λ c.
+    let c3 = c .before .before .before in
+    laws.round-yes _ _ _ _ (c3 .first .ensures) (c .before .before .if1 .taken) (c .with .ensures)) (λ c. laws.round-no _ _ _ _ (c .before .first .ensures) (c .if1 .left)))

@@ -20,4 +20,8 @@ coned-spec =
     (λ c κs. search needs)
     (λ c κs. search needs)
     (λ c κs. search needs)
-    (λ c. laws.told-is _ _ (c .before .before .before .before .before .before .before .before .before .before .before .named .ensures) (c .before .before .before .before .before .before .before .before .before .before .rule-sets .ensures) (c .before .before .before .before .before .before .before .close .ensures) (c .before .before .undeclared-names .ensures) (c .before .names-in .ensures)))
+    (λ c.
+    let c7 = c .before .before .before .before .before .before .before in
+    let c10 = c7 .before .before .before in
+    let c11 = c10 .before in
+    laws.told-is _ _ (c11 .named .ensures) (c10 .rule-sets .ensures) (c7 .close .ensures) (c .before .before .undeclared-names .ensures) (c .before .names-in .ensures)))

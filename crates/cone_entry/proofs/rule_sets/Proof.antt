@@ -35,13 +35,24 @@ rule-sets-spec =
     (λ c. search needs)
     (λ c. search needs)
     (λ c κs. search needs)
-    (λ c κs. (c .before .before .before .before .before .before .before .before .before .pre .0, sizes.sized _ _ (c .before .before .before .rule-walk .ensures) .0))
+    (λ c κs.
+    let c3 = c .before .before .before in
+    let c9 = c3 .before .before .before .before .before .before in
+    (c9 .pre .0, sizes.sized _ _ (c3 .rule-walk .ensures) .0))
     (λ c. search needs)
     (λ c. search needs)
-    (λ c κs. (c .before .before .before .before .before .before .before .before .before .before .before .before .before .pre .0, sizes.sized _ _ (c .before .before .before .before .before .before .before .rule-walk .ensures) .0))
+    (λ c κs.
+    let c7 = c .before .before .before .before .before .before .before in
+    let c13 = c7 .before .before .before .before .before .before in
+    (c13 .pre .0, sizes.sized _ _ (c7 .rule-walk .ensures) .0))
     (λ c. search needs)
     (λ c. search needs)
     (λ c. search needs)
     (λ c. search needs)
-    (λ c. (c .before .before .before .before .before .before .before .before .before .before .before .before .loop .inv .0 ∙ entry.fill-more _ _ _ _ (c .before .before .before .before .before .before .before .before .before .before .before .loop-test .taken) (laws.write-is _ _ _ (c .before .before .before .before .before .before .before .before .rule-walk .ensures) (c .before .before .before .before .writes .ensures)), c .before .before .before .before .before .before .before .before .before .before .before .before .loop .inv .1 ∙ entry.fill-more _ _ _ _ (c .before .before .before .before .before .before .before .before .before .before .before .loop-test .taken) (laws.need-is _ _ _ (c .before .before .before .before .before .before .before .before .rule-walk .ensures) (c .needs .ensures))))
+    (λ c.
+    let c4 = c .before .before .before .before in
+    let c8 = c4 .before .before .before .before in
+    let c11 = c8 .before .before .before in
+    let c12 = c11 .before in
+    (c12 .loop .inv .0 ∙ entry.fill-more _ _ _ _ (c11 .loop-test .taken) (laws.write-is _ _ _ (c8 .rule-walk .ensures) (c4 .writes .ensures)), c12 .loop .inv .1 ∙ entry.fill-more _ _ _ _ (c11 .loop-test .taken) (laws.need-is _ _ _ (c8 .rule-walk .ensures) (c .needs .ensures))))
     (λ c. record { writes = sym (c .before .loop .inv .0 ∙ entry.fill-end _ _ _ _ (c .loop-test .left)); needs = sym (c .before .loop .inv .1 ∙ entry.fill-end _ _ _ _ (c .loop-test .left)) }))

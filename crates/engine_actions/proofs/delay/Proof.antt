@@ -15,7 +15,10 @@ use Rattle.engine_state.proofs.next_step.Reads as next-step-reads
 
 returns : tie.Need-returns
 unfolding delayM
-returns c = states.moves (λ v n s. states.follow (afterM _ _) (c .before .before .before .before .before .before .before .log-action .ensures .does _ _ _) (states.renamed _ (c .before .before .next-step .ensures .does _ _ _) (λ k. laws.after-is _ _ _ _ (c .before .before .before .before .after .ensures))) two one none none)
+returns c =
+    let c4 = c .before .before .before .before in
+    let c7 = c4 .before .before .before in
+    states.moves (λ v n s. states.follow (afterM _ _) (c7 .log-action .ensures .does _ _ _) (states.renamed _ (c .before .before .next-step .ensures .does _ _ _) (λ k. laws.after-is _ _ _ _ (c4 .after .ensures))) two one none none)
 
 pub delay-spec : {M : Type 1} → statement M
 delay-spec =
@@ -23,7 +26,10 @@ delay-spec =
     (tie.spec
     (λ c κs. search needs)
     (λ c κs. search needs)
-    (λ c κs. omega (arith, c .before .before .before .before .before .before .before .before .pre, c .before .before .before .before .log-action .ensures .queue))
+    (λ c κs.
+    let c4 = c .before .before .before .before in
+    let c8 = c4 .before .before .before .before in
+    omega (arith, c8 .pre, c4 .log-action .ensures .queue))
     (λ c. search needs)
     (λ c. search needs)
     returns)

@@ -22,10 +22,22 @@ give-up-spec =
     (tie.spec
     (λ c κs. search needs)
     (λ c κs. (search needs, (search needs, note-readable _ (c .before .note-reason .ensures))))
-    (λ c κs. omega (arith, c .before .before .before .before .before .before .before .before .before .before .before .pre, c .before .before .before .uncertain .ensures .records))
-    (λ c κs. (omega (arith, c .before .before .before .before .before .before .before .before .before .before .before .before .before .before .before .before .before .pre, c .before .before .before .before .before .before .before .before .before .uncertain .ensures .runs, c .before .before .before .before .before .log-action .ensures .runs), (omega (arith, c .before .before .before .before .before .before .before .before .before .before .before .before .before .before .before .before .before .pre, c .before .before .before .before .before .before .before .before .before .uncertain .ensures .queue, c .before .before .before .before .before .log-action .ensures .queue), (omega (arith, c .before .before .before .before .before .log-action .ensures .records), omega (arith, c .before .before .before .before .before .before .before .before .before .before .before .before .before .before .before .before .before .pre, c .before .before .before .before .before .before .before .before .before .uncertain .ensures .runs, c .before .before .before .before .before .log-action .ensures .runs)))))
+    (λ c κs.
+    let c3 = c .before .before .before in
+    let c11 = c3 .before .before .before .before .before .before .before .before in
+    omega (arith, c11 .pre, c3 .uncertain .ensures .records))
+    (λ c κs.
+    let c5 = c .before .before .before .before .before in
+    let c9 = c5 .before .before .before .before in
+    let c17 = c9 .before .before .before .before .before .before .before .before in
+    (omega (arith, c17 .pre, c9 .uncertain .ensures .runs, c5 .log-action .ensures .runs), (omega (arith, c17 .pre, c9 .uncertain .ensures .queue, c5 .log-action .ensures .queue), (omega (arith, c5 .log-action .ensures .records), omega (arith, c17 .pre, c9 .uncertain .ensures .runs, c5 .log-action .ensures .runs)))))
     (λ c. search needs)
     (λ c. search needs)
     (λ c. search needs)
     (λ c. search needs)
-    (λ c. states.moves (λ v n s. states.renamed _ (states.follow (finishM _) (states.follow (log-actionM _ _ _ _) (c .before .before .before .before .before .before .before .before .before .before .before .before .before .before .before .before .uncertain .ensures .does _ _ _) (c .before .before .before .before .before .before .before .before .before .before .before .before .log-action .ensures .does _ _ _) none two none one) (c .before .before .before .before .before .before .finish .ensures .does _ _ _) two both two one) (λ k. laws.give-is _ _ _ _ _ _ _ (c .before .before .before .before .before .before .before .before .before .before .before .before .before .before .before .before .before .before .note-reason .ensures)))))
+    (λ c.
+    let c6 = c .before .before .before .before .before .before in
+    let c12 = c6 .before .before .before .before .before .before in
+    let c16 = c12 .before .before .before .before in
+    let c18 = c16 .before .before in
+    states.moves (λ v n s. states.renamed _ (states.follow (finishM _) (states.follow (log-actionM _ _ _ _) (c16 .uncertain .ensures .does _ _ _) (c12 .log-action .ensures .does _ _ _) none two none one) (c6 .finish .ensures .does _ _ _) two both two one) (λ k. laws.give-is _ _ _ _ _ _ _ (c18 .note-reason .ensures)))))

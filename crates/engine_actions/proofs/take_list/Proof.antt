@@ -17,7 +17,12 @@ use Rattle.runs.proofs.put_run.Reads as put-run-reads
 
 returns : tie.Need-returns
 unfolding take-listM
-returns c = states.moves (λ v n s. states.follow (nowM _) (states.follow (log-actionM 8 _ _ _) (steps.replaced _ _ _ (omega (arith, c .before .before .before .before .before .before .before .before .before .before .before .before .before .before .before .before .before .pre)) (search needs) _ _ _ (c .before .before .before .before .before .before .before .before .before .before .put-run .ensures) (c .before .before .before .before .before .before .before .before .before .before .before .before .with-list .ensures) (omega (arith, c .before .before .before .before .before .before .before .before .before .before .before .before .before .before .before .before .before .pre))) (c .before .before .before .before .before .before .log-action .ensures .does _ _ _) none two one none) (c .before .before .next-step .ensures .does _ _ _) two one one none)
+returns c =
+    let c6 = c .before .before .before .before .before .before in
+    let c10 = c6 .before .before .before .before in
+    let c12 = c10 .before .before in
+    let c17 = c12 .before .before .before .before .before in
+    states.moves (λ v n s. states.follow (nowM _) (states.follow (log-actionM 8 _ _ _) (steps.replaced _ _ _ (omega (arith, c17 .pre)) (search needs) _ _ _ (c10 .put-run .ensures) (c12 .with-list .ensures) (omega (arith, c17 .pre))) (c6 .log-action .ensures .does _ _ _) none two one none) (c .before .before .next-step .ensures .does _ _ _) two one one none)
 
 pub take-list-spec : {M : Type 1} → statement M
 take-list-spec =
@@ -26,7 +31,10 @@ take-list-spec =
     (λ c κs. search needs)
     (λ c κs. search needs)
     (λ c κs. search needs)
-    (λ c κs. omega (arith, c .before .before .before .before .before .before .before .before .before .before .before .before .before .before .pre, c .before .before .before .log-action .ensures .queue))
+    (λ c κs.
+    let c3 = c .before .before .before in
+    let c14 = c3 .before .before .before .before .before .before .before .before .before .before .before in
+    omega (arith, c14 .pre, c3 .log-action .ensures .queue))
     (λ c. search needs)
     (λ c. search needs)
     (λ c. search needs)

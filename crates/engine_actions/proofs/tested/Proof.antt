@@ -17,15 +17,25 @@ use Rattle.engine_trigger.proofs.finish.Reads as finish-reads
 
 returns : tie.Need-returns
 unfolding testedM
-returns c = wholes.part (c .before .before .next-step .ensures) same (wide (c .before .before .before .before .before .before .before .before .before .before .before .pre .1 .1 .0)) (wide (c .before .before .before .before .before .before .before .before .before .before .before .pre .1 .1 .1 .0)) (wide (c .before .before .before .before .before .before .before .before .before .before .before .pre .1 .1 .1 .1 .0)) apart apart apart (λ v n s k. laws.tested-is _ _ _ _ _ _ _ (c .before .before .before .before .enum-told .given .1))
+returns c =
+    let c4 = c .before .before .before .before in
+    let c11 = c4 .before .before .before .before .before .before .before in
+    wholes.part (c .before .before .next-step .ensures) same (wide (c11 .pre .1 .1 .0)) (wide (c11 .pre .1 .1 .1 .0)) (wide (c11 .pre .1 .1 .1 .1 .0)) apart apart apart (λ v n s k. laws.tested-is _ _ _ _ _ _ _ (c4 .enum-told .given .1))
 
 returns-2 : tie.Need-returns-2
 unfolding testedM
-returns-2 c = wholes.part (c .before .before .before .before .before .before .finish .ensures) same same same (wide (c .before .before .before .before .before .before .before .before .before .before .before .before .before .before .before .before .before .pre .1 .1 .1 .1 .0)) apart apart apart (λ v n s k. laws.tested-is _ _ _ _ _ _ _ (c .before .before .before .before .before .before .before .before .before .before .enum-told2 .given .1))
+returns-2 c =
+    let c6 = c .before .before .before .before .before .before in
+    let c10 = c6 .before .before .before .before in
+    let c17 = c10 .before .before .before .before .before .before .before in
+    wholes.part (c6 .finish .ensures) same same same (wide (c17 .pre .1 .1 .1 .1 .0)) apart apart apart (λ v n s k. laws.tested-is _ _ _ _ _ _ _ (c10 .enum-told2 .given .1))
 
 returns-3 : tie.Need-returns-3
 unfolding testedM
-returns-3 c = wholes.part (c .before .before .before .before .before .before .before .before .unclear .ensures) same same same same apart apart apart (λ v n s k. laws.tested-is _ _ _ _ _ _ _ (c .before .before .before .before .before .before .before .before .before .before .before .before .before .enum-told3 .given .1))
+returns-3 c =
+    let c8 = c .before .before .before .before .before .before .before .before in
+    let c13 = c8 .before .before .before .before .before in
+    wholes.part (c8 .unclear .ensures) same same same same apart apart apart (λ v n s k. laws.tested-is _ _ _ _ _ _ _ (c13 .enum-told3 .given .1))
 
 pub tested-spec : {M : Type 1} → statement M
 tested-spec =

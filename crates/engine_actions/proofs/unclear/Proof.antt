@@ -18,7 +18,12 @@ use Rattle.engine_trigger.proofs.finish.Reads as finish-reads
 
 returns : tie.Need-returns
 unfolding unclearM
-returns c = states.moves (λ v n s. states.follow (finishM _) (states.renamed _ (c .before .before .before .before .before .before .before .before .before .before .before .before .uncertain .ensures .does _ _ _) (λ k. laws.doubt-is _ _ _ _ _ _ _ (c .before .before .before .before .before .before .before .before .before .before .before .before .before .before .before .at-most .ensures .0) (c .before .before .before .before .before .before .before .before .before .before .before .before .before .before .about-rule .ensures))) (c .before .before .before .before .before .before .finish .ensures .does _ _ _) two two two one)
+returns c =
+    let c6 = c .before .before .before .before .before .before in
+    let c12 = c6 .before .before .before .before .before .before in
+    let c14 = c12 .before .before in
+    let c15 = c14 .before in
+    states.moves (λ v n s. states.follow (finishM _) (states.renamed _ (c12 .uncertain .ensures .does _ _ _) (λ k. laws.doubt-is _ _ _ _ _ _ _ (c15 .at-most .ensures .0) (c14 .about-rule .ensures))) (c6 .finish .ensures .does _ _ _) two two two one)
 
 pub unclear-spec : {M : Type 1} → statement M
 unclear-spec =
@@ -26,8 +31,13 @@ unclear-spec =
     (tie.spec
     (λ c κs. search needs)
     (λ c κs. search needs)
-    (λ c κs. (search needs, (search needs, about-readable _ _ (c .before .about-rule .ensures) (c .before .before .before .before .before .before .before .before .pre .0))))
-    (λ c κs. (omega (arith, c .before .before .before .before .before .before .before .before .before .before .before .before .before .before .pre, c .before .before .before .before .before .uncertain .ensures .runs), (omega (arith, c .before .before .before .before .before .before .before .before .before .before .before .before .before .before .pre, c .before .before .before .before .before .uncertain .ensures .queue), (omega (arith, c .before .before .before .before .before .before .before .before .before .before .before .before .before .before .pre, c .before .before .before .before .before .uncertain .ensures .records), omega (arith, c .before .before .before .before .before .before .before .before .before .before .before .before .before .before .pre, c .before .before .before .before .before .uncertain .ensures .runs)))))
+    (λ c κs.
+    let c8 = c .before .before .before .before .before .before .before .before in
+    (search needs, (search needs, about-readable _ _ (c .before .about-rule .ensures) (c8 .pre .0))))
+    (λ c κs.
+    let c5 = c .before .before .before .before .before in
+    let c14 = c5 .before .before .before .before .before .before .before .before .before in
+    (omega (arith, c14 .pre, c5 .uncertain .ensures .runs), (omega (arith, c14 .pre, c5 .uncertain .ensures .queue), (omega (arith, c14 .pre, c5 .uncertain .ensures .records), omega (arith, c14 .pre, c5 .uncertain .ensures .runs)))))
     (λ c. search needs)
     (λ c. search needs)
     (λ c. search needs)

@@ -18,4 +18,10 @@ run-spec =
     (λ c. search needs)
     (λ c. search needs)
     (λ c. search needs)
-    (λ c. entry.run-is _ _ (λ k. omega (arith, c .before .before .before .before .before .before .before .before .before .before .before .before .before .before .before .before .before .before .before .before .before .before .before .before .before .shared-slice-known .given k)) _ (c .before .before .before .before .before .before .before .before .before .before .before .before .before .before .before .before .before .before .before .before .prepared .ensures) (c .before .before .before .before .before .before .before .before .before .before .before .before .before .before .before .before .before .events-of .ensures) (c .before .before .before .before .before .before .before .before .before .before .before .before .before .before .before .at-most .ensures .0) (c .before .before .before .before .before .before .before .before .run-events .ensures) (c .settled .ensures)))
+    (λ c.
+    let c8 = c .before .before .before .before .before .before .before .before in
+    let c15 = c8 .before .before .before .before .before .before .before in
+    let c17 = c15 .before .before in
+    let c20 = c17 .before .before .before in
+    let c25 = c20 .before .before .before .before .before in
+    entry.run-is _ _ (λ k. omega (arith, c25 .shared-slice-known .given k)) _ (c20 .prepared .ensures) (c17 .events-of .ensures) (c15 .at-most .ensures .0) (c8 .run-events .ensures) (c .settled .ensures)))

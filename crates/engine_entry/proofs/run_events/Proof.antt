@@ -16,4 +16,7 @@ run-events-spec =
     (λ c. search needs)
     (λ c. search needs)
     (λ c. search needs)
-    (λ c. laws.ran-so (c .before .before .before .before .before .before .before .before .before .before .before .before .before .before .before .few .ensures) (c .before .before .before .before .before .before .before .before .before .before .simulated .ensures) (c .before .before .before .before .before .before .before .before .before .before .simulated .kept .1 .1 .1 .1 .1 .1 .1 .1 .1 .0) (c .before .before .at-most .ensures .0) (c .summed .ensures _)))
+    (λ c.
+    let c10 = c .before .before .before .before .before .before .before .before .before .before in
+    let c15 = c10 .before .before .before .before .before in
+    laws.ran-so (c15 .few .ensures) (c10 .simulated .ensures) (c10 .simulated .kept .1 .1 .1 .1 .1 .1 .1 .1 .1 .0) (c .before .before .at-most .ensures .0) (c .summed .ensures _)))

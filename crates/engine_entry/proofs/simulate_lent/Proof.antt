@@ -12,8 +12,15 @@ simulate-lent-spec =
     (λ c κs. search needs)
     (λ c. search needs)
     (λ c κs. search needs)
-    (λ c. entry.simulate-refused _ _ (c .before .before .before .before .before .accept .ensures) (c .before .before .before .status .given .1) (c .refused-summary .ensures) _)
+    (λ c.
+    let c3 = c .before .before .before in
+    let c5 = c3 .before .before in
+    entry.simulate-refused _ _ (c5 .accept .ensures) (c3 .status .given .1) (c .refused-summary .ensures) _)
     (λ c. search needs)
     (λ c. search needs)
     (λ c. search needs)
-    (λ c. entry.simulate-read _ _ (c .before .before .before .before .before .before .before .before .before .before .before .before .before .accept .ensures) (c .before .before .before .before .before .before .before .before .before .before .before .enum-told .given .1) (c .before .before .before .before .before .before .run .ensures)))
+    (λ c.
+    let c6 = c .before .before .before .before .before .before in
+    let c11 = c6 .before .before .before .before .before in
+    let c13 = c11 .before .before in
+    entry.simulate-read _ _ (c13 .accept .ensures) (c11 .enum-told .given .1) (c6 .run .ensures)))

@@ -13,5 +13,10 @@ unsupported-spec =
     (λ c κs. search needs)
     (λ c. search needs)
     (λ c κs. search needs)
-    (λ c. entry.notes-refused _ _ (c .before .before .before .before .accept .ensures) (c .before .before .status .given .1) (c .refused-notes .ensures))
-    (λ c. entry.notes-read _ _ (c .before .before .before .before .accept .ensures) (λ k. omega (arith, c .before .before .before .before .before .shared-slice-known .given k)) (c .before .before .enum-told .given .1) _ (c .prepared .ensures)))
+    (λ c.
+    let c4 = c .before .before .before .before in
+    entry.notes-refused _ _ (c4 .accept .ensures) (c .before .before .status .given .1) (c .refused-notes .ensures))
+    (λ c.
+    let c4 = c .before .before .before .before in
+    let c5 = c4 .before in
+    entry.notes-read _ _ (c4 .accept .ensures) (λ k. omega (arith, c5 .shared-slice-known .given k)) (c .before .before .enum-told .given .1) _ (c .prepared .ensures)))

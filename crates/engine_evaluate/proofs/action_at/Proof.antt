@@ -13,7 +13,11 @@ use Rattle.engine_evaluate.proofs.effect_at.Reads as effect-at-reads
 
 returns : tie.Need-returns
 unfolding actionM
-returns c = rw (← (c .before .before .before .before .before .byte-at .ensures .0), ← (c .before .before .before .before .after .ensures), ← (c .before .before .before .four-at .ensures), ← (c .before .before .four-at2 .ensures), ← (c .before .effect-at .ensures), ← (c .after-effect .ensures))
+returns c =
+    let c3 = c .before .before .before in
+    let c4 = c3 .before in
+    let c5 = c4 .before in
+    rw (← (c5 .byte-at .ensures .0), ← (c4 .after .ensures), ← (c3 .four-at .ensures), ← (c .before .before .four-at2 .ensures), ← (c .before .effect-at .ensures), ← (c .after-effect .ensures))
 
 pub action-at-spec : {M : Type 1} → statement M
 action-at-spec =

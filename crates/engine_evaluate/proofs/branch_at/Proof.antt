@@ -22,4 +22,7 @@ branch-at-spec =
     (λ c κs. search needs)
     (λ c. laws.branch-yes _ _ _ _ _ _ (c .before .before .evaluate-all .ensures) (c .enum-told .given .1))
     (λ c. laws.branch-unknown _ _ _ _ _ _ (c .before .before .evaluate-all .ensures) (c .enum-told2 .given .1))
-    (λ c. laws.branch-no _ _ _ _ _ _ (c .before .before .before .before .before .evaluate-all .ensures) _ _ (c .before .before .before .enum-told3 .given .1) (c .before .actions-at .ensures) (c .end-of .ensures)))
+    (λ c.
+    let c3 = c .before .before .before in
+    let c5 = c3 .before .before in
+    laws.branch-no _ _ _ _ _ _ (c5 .evaluate-all .ensures) _ _ (c3 .enum-told3 .given .1) (c .before .actions-at .ensures) (c .end-of .ensures)))

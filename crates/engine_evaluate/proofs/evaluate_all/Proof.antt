@@ -33,5 +33,9 @@ evaluate-all-spec =
     (λ c κs. search needs)
     (λ c. search needs)
     (λ c. search needs)
-    (λ c. c .before .before .before .before .before .loop .inv ∙ laws.all-more _ _ _ _ _ _ _ _ _ _ _ (c .before .before .before .before .loop-test .taken) (c .before .before .before .evaluate .ensures) (c .before .before .both .ensures) (c .before .predicate-size .ensures) (c .after2 .ensures))
+    (λ c.
+    let c3 = c .before .before .before in
+    let c4 = c3 .before in
+    let c5 = c4 .before in
+    c5 .loop .inv ∙ laws.all-more _ _ _ _ _ _ _ _ _ _ _ (c4 .loop-test .taken) (c3 .evaluate .ensures) (c .before .before .both .ensures) (c .before .predicate-size .ensures) (c .after2 .ensures))
     (λ c. sym (c .before .loop .inv ∙ laws.all-end _ _ _ _ _ _ _ (c .loop-test .left))))

@@ -19,11 +19,17 @@ returns-2 c = rw (ne-eqb _ _ (c .before .if1 .left), lt-ltb _ _ (c .if2 .taken))
 
 returns-3 : tie.Need-returns-3
 unfolding steppedM nextM
-returns-3 c = rw (ne-eqb _ _ (c .before .before .before .before .if1 .left), le-ltb _ _ (c .before .before .before .if2 .left), ← (c .before .place-in .ensures), lt-ltb _ _ (c .if3 .taken))
+returns-3 c =
+    let c3 = c .before .before .before in
+    let c4 = c3 .before in
+    rw (ne-eqb _ _ (c4 .if1 .left), le-ltb _ _ (c3 .if2 .left), ← (c .before .place-in .ensures), lt-ltb _ _ (c .if3 .taken))
 
 returns-4 : tie.Need-returns-4
 unfolding steppedM nextM
-returns-4 c = rw (ne-eqb _ _ (c .before .before .before .before .before .if1 .left), le-ltb _ _ (c .before .before .before .before .if2 .left), ← (c .before .before .place-in .ensures), le-ltb _ _ (c .before .if3 .left), ← (c .list-word .ensures))
+returns-4 c =
+    let c4 = c .before .before .before .before in
+    let c5 = c4 .before in
+    rw (ne-eqb _ _ (c5 .if1 .left), le-ltb _ _ (c4 .if2 .left), ← (c .before .before .place-in .ensures), le-ltb _ _ (c .before .if3 .left), ← (c .list-word .ensures))
 
 pub stepped-spec : {M : Type 1} → statement M
 stepped-spec =

@@ -18,9 +18,12 @@ use Rattle.engine_state.proofs.with_active.Reads as with-active-reads
 returns : tie.Need-returns
 unfolding drop-allM
 returns c =
+    let c4 = c .before .before .before .before in
+    let c7 = c4 .before .before .before in
+    let c11 = c7 .before .before .before .before in
     states.moves (λ v n s.
     states.follow (log-plainM 4)
-    (laws.no-runs _ _ _ _ (omega (arith, c .before .before .before .before .before .before .before .before .before .before .before .pre)) (c .before .before .before .before .before .before .before .clear .ensures) (c .before .before .before .before .with-active .ensures) (search needs))
+    (laws.no-runs _ _ _ _ (omega (arith, c11 .pre)) (c7 .clear .ensures) (c4 .with-active .ensures) (search needs))
     (c .before .before .log-plain .ensures .does _ _ _) none two one none)
 
 pub drop-all-spec : {M : Type 1} → statement M
@@ -30,7 +33,9 @@ drop-all-spec =
     (λ c. omega (arith, c .before .before .before .pre))
     (λ c κs. omega (arith, c .before .before .before .pre))
     (λ c κs. search needs)
-    (λ c κs. omega (arith, c .before .before .before .before .before .before .before .before .pre, ap (λ s. s .records) (c .before .with-active .ensures)))
+    (λ c κs.
+    let c8 = c .before .before .before .before .before .before .before .before in
+    omega (arith, c8 .pre, ap (λ s. s .records) (c .before .with-active .ensures)))
     (λ c. search needs)
     (λ c. search needs)
     returns)

@@ -17,7 +17,10 @@ use Rattle.engine_update.proofs.changed.Reads as changed-reads
 
 returns : tie.Need-returns
 unfolding expire-toM
-returns c = states.moves (λ v n s. states.renamed _ (states.follow (changedM _) (states.follow (log-writeM _ _) (states.celled _ _) (c .before .before .before .before .before .before .log-write .ensures .does _ _ _) none two none none) (c .before .before .changed .ensures .does _ _ _) two one none none) (λ k. laws.expire-is _ _ _ _ (c .before .before .before .before .before .before .before .before .before .name-of .ensures)))
+returns c =
+    let c6 = c .before .before .before .before .before .before in
+    let c9 = c6 .before .before .before in
+    states.moves (λ v n s. states.renamed _ (states.follow (changedM _) (states.follow (log-writeM _ _) (states.celled _ _) (c6 .log-write .ensures .does _ _ _) none two none none) (c .before .before .changed .ensures .does _ _ _) two one none none) (λ k. laws.expire-is _ _ _ _ (c9 .name-of .ensures)))
 
 pub expire-spec : {M : Type 1} → statement M
 expire-spec =
@@ -30,7 +33,10 @@ expire-spec =
     (λ c. search needs)
     (λ c. search needs)
     (λ c κs. omega (arith, c .before .before .before .before .before .before .pre))
-    (λ c κs. omega (arith, c .before .before .before .before .before .before .before .before .before .before .pre, c .before .before .before .log-write .ensures .queue))
+    (λ c κs.
+    let c3 = c .before .before .before in
+    let c10 = c3 .before .before .before .before .before .before .before in
+    omega (arith, c10 .pre, c3 .log-write .ensures .queue))
     (λ c. search needs)
     (λ c. search needs)
     returns)

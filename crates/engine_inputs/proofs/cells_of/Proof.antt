@@ -26,5 +26,7 @@ cells-of-spec =
     (λ c. search needs)
     (λ c. search needs)
     (λ c. search needs)
-    (λ c. (table.one-more (value-from _ _ _) (c .before .before .before .loop .values) (c .before .before .before .loop .e) (c .value-word .result) (c .before .before .before .loop .inv .0) (omega (arith, c .before .before .before .loop .inv .1 .0, c .before .before .loop-test .taken)) (c .value-word .ensures), (length-set (c .before .before .before .loop .values) (c .before .before .before .loop .e) (c .value-word .result) ∙ c .before .before .before .loop .inv .1 .0, omega arith)))
+    (λ c.
+    let c3 = c .before .before .before in
+    (table.one-more (value-from _ _ _) (c3 .loop .values) (c3 .loop .e) (c .value-word .result) (c3 .loop .inv .0) (omega (arith, c3 .loop .inv .1 .0, c .before .before .loop-test .taken)) (c .value-word .ensures), (length-set (c3 .loop .values) (c3 .loop .e) (c .value-word .result) ∙ c3 .loop .inv .1 .0, omega arith)))
     (λ c. record { values = λ j h. c .before .loop .inv .0 j (omega (arith, c .loop-test .left)); values-long = c .before .loop .inv .1 .0; versions = refl }))

@@ -9,9 +9,13 @@ use Rattle.engine_loop.proofs.horizon_reached.Tie as tie
 
 returns : tie.Need-returns
 unfolding horizonM
-returns c = states.moves (λ v n s. states.follow (log-plainM 9) (c .before .before .before .before .at-now .ensures .does _ _ _) (c .before .before .log-plain .ensures .does _ _ _) none two none none)
+returns c =
+    let c4 = c .before .before .before .before in
+    states.moves (λ v n s. states.follow (log-plainM 9) (c4 .at-now .ensures .does _ _ _) (c .before .before .log-plain .ensures .does _ _ _) none two none none)
 
 pub horizon-reached-spec : {M : Type 1} → statement M
 horizon-reached-spec =
     tie.close
-    (tie.spec (λ c. search needs) (λ c κs. search needs) (λ c κs. omega (arith, c .before .before .before .before .pre, c .before .at-now .ensures .records)) (λ c. search needs) returns)
+    (tie.spec (λ c. search needs) (λ c κs. search needs) (λ c κs.
+    let c4 = c .before .before .before .before in
+    omega (arith, c4 .pre, c .before .at-now .ensures .records)) (λ c. search needs) returns)

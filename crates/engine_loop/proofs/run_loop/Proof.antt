@@ -23,12 +23,26 @@ run-loop-spec =
     μ-loop
     (λ c. search needs)
     (λ c κs. omega (arith, c .before .before .before .before .before .before .before .pre))
-    (λ c. laws.loop-start _ _ _ (states.stay (λ k. refl) (same (omega (arith, c .before .before .before .before .before .before .before .before .pre))) (same (omega (arith, c .before .before .before .before .before .before .before .before .pre))) (same (omega (arith, c .before .before .before .before .before .before .before .before .pre))) (same (omega (arith, c .before .before .before .before .before .before .before .before .pre)))) (c .why-stop .ensures) (omega (arith, c .before .before .before .before .before .before .before .before .pre)))
-    (λ c κs. (omega (arith, c .before .before .before .before .before .before .before .before .loop .inv .steps .queue), (omega (arith, c .before .before .before .before .before .before .before .before .loop .inv .steps .records), (omega (arith, c .before .before .before .before .before .before .before .before .loop .inv .steps .runs), (omega (arith, c .before .before .before .before .before .before .before .before .loop .inv .steps .reasons), omega (arith, c .before .before .before .before .before .before .before .before .loop .inv .room))))))
-    (λ c. omega (arith, c .before .before .before .before .before .before .before .before .before .before .before .before .before .before .before .before .before .loop .inv .why-is .more (c .before .before .before .before .before .before .before .before .before .before .before .before .before .before .before .before .loop-test .taken)))
+    (λ c.
+    let c8 = c .before .before .before .before .before .before .before .before in
+    laws.loop-start _ _ _ (states.stay (λ k. refl) (same (omega (arith, c8 .pre))) (same (omega (arith, c8 .pre))) (same (omega (arith, c8 .pre))) (same (omega (arith, c8 .pre)))) (c .why-stop .ensures) (omega (arith, c8 .pre)))
+    (λ c κs.
+    let c8 = c .before .before .before .before .before .before .before .before in
+    (omega (arith, c8 .loop .inv .steps .queue), (omega (arith, c8 .loop .inv .steps .records), (omega (arith, c8 .loop .inv .steps .runs), (omega (arith, c8 .loop .inv .steps .reasons), omega (arith, c8 .loop .inv .room))))))
+    (λ c.
+    let c16 = c .before .before .before .before .before .before .before .before .before .before .before .before .before .before .before .before in
+    let c17 = c16 .before in
+    omega (arith, c17 .loop .inv .why-is .more (c16 .loop-test .taken)))
     (λ c κs. omega (arith, c .before .before .before .before .before .before .before .before .before .turn .ensures .queue))
-    (λ c. omega (arith, c .before .before .before .before .before .before .before .before .before .before .before .before .before .before .before .before .before .before .before .loop .inv .why-is .more (c .before .before .before .before .before .before .before .before .before .before .before .before .before .before .before .before .before .before .loop-test .taken)))
-    (λ c. laws.loop-step (c .before .before .before .before .before .before .before .before .before .before .before .before .before .before .before .before .before .before .before .loop .inv) (c .before .before .before .before .before .before .before .before .before .before .before .before .before .before .before .before .before .before .loop-test .taken) (c .before .before .before .before .before .before .before .before .before .before .turn .ensures .does [] [] []) (c .why-stop2 .ensures) (omega (arith, c .before .before .before .before .before .before .before .before .before .before .before .before .before .before .before .before .before .before .before .loop .inv .room, c .before .before .before .before .before .before .before .before .before .before .turn .ensures .reasons)))
+    (λ c.
+    let c18 = c .before .before .before .before .before .before .before .before .before .before .before .before .before .before .before .before .before .before in
+    let c19 = c18 .before in
+    omega (arith, c19 .loop .inv .why-is .more (c18 .loop-test .taken)))
+    (λ c.
+    let c10 = c .before .before .before .before .before .before .before .before .before .before in
+    let c18 = c10 .before .before .before .before .before .before .before .before in
+    let c19 = c18 .before in
+    laws.loop-step (c19 .loop .inv) (c18 .loop-test .taken) (c10 .turn .ensures .does [] [] []) (c .why-stop2 .ensures) (omega (arith, c19 .loop .inv .room, c10 .turn .ensures .reasons)))
     (λ c. search needs)
     (λ c. omega (arith, c .before .before .loop .inv .least))
     (λ c. search needs)

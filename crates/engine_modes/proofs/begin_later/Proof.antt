@@ -14,7 +14,10 @@ use Rattle.engine_modes.proofs.new_run.Reads as new-run-reads
 
 returns : tie.Need-returns
 unfolding begin-queuedM
-returns c = wholes.named (wholes.next (c .before .before .before .before .before .before .add-run .ensures) (c .before .before .log-rule .ensures) none two one none none none one) (λ v n s k. laws.begin-later-is _ _ _ _ _ (c .before .before .before .before .before .before .before .before .before .new-run .ensures))
+returns c =
+    let c6 = c .before .before .before .before .before .before in
+    let c9 = c6 .before .before .before in
+    wholes.named (wholes.next (c6 .add-run .ensures) (c .before .before .log-rule .ensures) none two one none none none one) (λ v n s k. laws.begin-later-is _ _ _ _ _ (c9 .new-run .ensures))
 
 pub begin-later-spec : {M : Type 1} → statement M
 begin-later-spec =

@@ -17,7 +17,11 @@ use Rattle.engine_modes.proofs.new_run.Reads as new-run-reads
 
 returns : tie.Need-returns
 unfolding begin-runM
-returns c = wholes.named (wholes.next {G = nowM _} (wholes.next (c .before .before .before .before .before .before .before .before .before .before .add-run .ensures) (c .before .before .before .before .before .before .log-rule .ensures) none two one none none none one) (wholes.named (c .before .before .next-step .ensures) (λ v n s k. refl)) two one one none none none one) (λ v n s k. laws.begin-now-is _ _ _ _ _ (c .before .before .before .before .before .before .before .before .before .before .before .before .before .new-run .ensures))
+returns c =
+    let c6 = c .before .before .before .before .before .before in
+    let c10 = c6 .before .before .before .before in
+    let c13 = c10 .before .before .before in
+    wholes.named (wholes.next {G = nowM _} (wholes.next (c10 .add-run .ensures) (c6 .log-rule .ensures) none two one none none none one) (wholes.named (c .before .before .next-step .ensures) (λ v n s k. refl)) two one one none none none one) (λ v n s k. laws.begin-now-is _ _ _ _ _ (c13 .new-run .ensures))
 
 pub begin-now-spec : {M : Type 1} → statement M
 begin-now-spec =
@@ -26,7 +30,11 @@ begin-now-spec =
     (λ c κs. search needs)
     (λ c κs. search needs)
     (λ c κs. search needs)
-    (λ c κs. omega (arith, c .before .before .before .before .before .before .before .before .before .before .before .before .before .before .before .before .pre, c .before .before .before .before .before .before .before .add-run .ensures .queue, c .before .before .before .log-rule .ensures .queue))
+    (λ c κs.
+    let c3 = c .before .before .before in
+    let c7 = c3 .before .before .before .before in
+    let c16 = c7 .before .before .before .before .before .before .before .before .before in
+    omega (arith, c16 .pre, c7 .add-run .ensures .queue, c3 .log-rule .ensures .queue))
     (λ c. search needs)
     (λ c. search needs)
     (λ c. search needs)

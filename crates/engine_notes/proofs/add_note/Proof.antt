@@ -13,7 +13,10 @@ add-note-spec = tie.close (tie.spec
     (λ c κs. search needs)
     (λ c κs. (search needs, laws.note-readable _ _ (c .before .note-of .ensures)))
     (λ c. search needs)
-    (λ c. record {
-      is = laws.add-some _ _ _ _ (c .before .before .before .before .before .if1 .left) (c .before .before .before .before .note-of .ensures) (c .before .before .put .ensures .is);
+    (λ c.
+    let c4 = c .before .before .before .before in
+    let c5 = c4 .before in
+    record {
+      is = laws.add-some _ _ _ _ (c5 .if1 .left) (c4 .note-of .ensures) (c .before .before .put .ensures .is);
       clean = c .before .before .put .ensures .clean;
     }))

@@ -32,6 +32,9 @@ part-notes-spec =
     (λ c κs. search needs)
     (λ c. search needs)
     (λ c. search needs)
-    (λ c. ((search needs, λ t k. c .before .before .part-note .ensures .clean t (c .before .before .before .before .before .loop .inv .0 .1 t k)), (c .before .before .before .before .before .loop .inv .1) ∙ laws.times-more _ _ _ _ _ (c .before .before .before .before .loop-test .taken) ∙ laws.to _ _ _ _ _ _ _ (c .before .before .part-note .ensures .is)))
+    (λ c.
+    let c4 = c .before .before .before .before in
+    let c5 = c4 .before in
+    ((search needs, λ t k. c .before .before .part-note .ensures .clean t (c5 .loop .inv .0 .1 t k)), (c5 .loop .inv .1) ∙ laws.times-more _ _ _ _ _ (c4 .loop-test .taken) ∙ laws.to _ _ _ _ _ _ _ (c .before .before .part-note .ensures .is)))
     (λ c. search needs)
     (λ c. record { is = sym (c .before .loop .inv .1 ∙ laws.times-none _ _ _ _ _ (c .loop-test .left)); clean = c .before .loop .inv .0 .1 }))

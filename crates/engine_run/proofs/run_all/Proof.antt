@@ -10,10 +10,22 @@ run-all-spec =
     tie.close
     (tie.spec
     (λ c κs. search needs)
-    (λ c κs. (omega (arith, c .before .before .before .before .before .before .before .before .before .before .before .begun .ensures .queue), (omega (arith, c .before .before .before .before .before .before .before .before .before .before .before .begun .ensures .records), (omega (arith, c .before .before .before .before .before .before .before .before .before .before .before .before .before .before .before .before .before .before .before .before .before .pre, c .before .before .before .before .before .before .before .before .before .before .before .begun .ensures .runs), (omega (arith, c .before .before .before .before .before .before .before .before .before .before .before .before .before .before .before .before .before .before .before .before .before .pre, c .before .before .before .before .before .before .before .before .before .before .before .begun .ensures .reasons), omega (arith, c .before .before .before .before .before .before .before .before .before .before .before .before .before .before .before .before .before .before .before .before .before .pre))))))
+    (λ c κs.
+    let c11 = c .before .before .before .before .before .before .before .before .before .before .before in
+    let c21 = c11 .before .before .before .before .before .before .before .before .before .before in
+    (omega (arith, c11 .begun .ensures .queue), (omega (arith, c11 .begun .ensures .records), (omega (arith, c21 .pre, c11 .begun .ensures .runs), (omega (arith, c21 .pre, c11 .begun .ensures .reasons), omega (arith, c21 .pre))))))
     (λ c κs. omega (arith, c .before .before .before .before .before .before .before .before .before .run-loop .ensures .records))
-    (λ c. c .before .before .before .before .before .before .before .before .before .before .before .before .run-loop .ensures .queue .0 ∙ c .before .before .before .before .before .before .before .before .before .before .before .before .before .before .before .before .before .before .before .before .before .before .before .before .begun .ensures .queue .0)
-    (λ c. c .before .before .closed .ensures .records .0 ∙ c .before .before .before .before .before .before .before .before .before .before .before .before .run-loop .ensures .records .0 ∙ c .before .before .before .before .before .before .before .before .before .before .before .before .before .before .before .before .before .before .before .before .before .before .before .before .begun .ensures .records .0)
+    (λ c.
+    let c12 = c .before .before .before .before .before .before .before .before .before .before .before .before in
+    let c24 = c12 .before .before .before .before .before .before .before .before .before .before .before .before in
+    c12 .run-loop .ensures .queue .0 ∙ c24 .begun .ensures .queue .0)
+    (λ c.
+    let c12 = c .before .before .before .before .before .before .before .before .before .before .before .before in
+    let c24 = c12 .before .before .before .before .before .before .before .before .before .before .before .before in
+    c .before .before .closed .ensures .records .0 ∙ c12 .run-loop .ensures .records .0 ∙ c24 .begun .ensures .records .0)
     (λ c. c .before .before .before .before .before .before .before .before .before .before .before .before .run-loop .ensures .runs .0)
     (λ c. c .before .before .before .before .before .before .before .before .before .before .before .before .run-loop .ensures .reasons .0)
-    (λ c. laws.wholly (c .before .before .before .before .before .before .before .before .before .before .before .before .before .before .before .before .before .before .before .before .before .before .before .before .begun .ensures) (c .before .before .before .before .before .before .before .before .before .before .before .before .run-loop .ensures) (c .before .before .closed .ensures)))
+    (λ c.
+    let c12 = c .before .before .before .before .before .before .before .before .before .before .before .before in
+    let c24 = c12 .before .before .before .before .before .before .before .before .before .before .before .before in
+    laws.wholly (c24 .begun .ensures) (c12 .run-loop .ensures) (c .before .before .closed .ensures)))

@@ -22,4 +22,7 @@ fixed-word-spec =
     (λ c. c .place-of3 .ensures ∙ sym (laws.fixed-6 _ _ _ (c .before .before .if3 .taken)))
     (λ c. search needs)
     (λ c κs. search needs)
-    (λ c. c .place-of4 .ensures ∙ sym (laws.fixed-else _ _ _ (c .before .before .before .before .if1 .left) (c .before .before .before .if2 .left) (c .before .before .if3 .left))))
+    (λ c.
+    let c3 = c .before .before .before in
+    let c4 = c3 .before in
+    c .place-of4 .ensures ∙ sym (laws.fixed-else _ _ _ (c4 .if1 .left) (c3 .if2 .left) (c .before .before .if3 .left))))

@@ -26,10 +26,16 @@ part-word-spec =
     (λ c κs. search needs)
     (λ c. search needs)
     (λ c κs. search needs)
-    (λ c. c .stale-at .ensures ∙ sym (laws.part-stale _ _ _ _ _ (c .before .before .before .before .if1 .left) (c .before .before .before .if2 .taken) (c .before .capped2 .ensures)))
+    (λ c.
+    let c3 = c .before .before .before in
+    let c4 = c3 .before in
+    c .stale-at .ensures ∙ sym (laws.part-stale _ _ _ _ _ (c4 .if1 .left) (c3 .if2 .taken) (c .before .capped2 .ensures)))
     (λ c. search needs)
     (λ c. search needs)
     (λ c κs. search needs)
     (λ c. search needs)
     (λ c κs. search needs)
-    (λ c. c .rule-word .ensures ∙ sym (laws.part-rule _ _ _ _ _ (c .before .before .before .before .if1 .left) (c .before .before .before .if2 .left) (c .before .capped3 .ensures))))
+    (λ c.
+    let c3 = c .before .before .before in
+    let c4 = c3 .before in
+    c .rule-word .ensures ∙ sym (laws.part-rule _ _ _ _ _ (c4 .if1 .left) (c3 .if2 .left) (c .before .capped3 .ensures))))

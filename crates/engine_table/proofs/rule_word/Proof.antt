@@ -39,4 +39,10 @@ rule-word-spec =
     (λ c κs. search needs)
     (λ c. c .capped4 .ensures ∙ ap Rattle.engine_fields.specs.Reads.cap (c .before .source-at .ensures) ∙ sym (laws.word-6 _ _ _ _ (c .before .before .if7 .taken)))
     (λ c κs. search needs)
-    (λ c. c .notes-word .ensures ∙ sym (laws.word-else _ _ _ _ (c .before .before .before .before .before .before .before .if1 .left) (c .before .before .before .before .before .before .if2 .left) (c .before .before .before .before .before .if3 .left) (c .before .before .before .before .if4 .left) (c .before .before .before .if5 .left) (c .before .before .if6 .left) (c .before .if7 .left))))
+    (λ c.
+    let c3 = c .before .before .before in
+    let c4 = c3 .before in
+    let c5 = c4 .before in
+    let c6 = c5 .before in
+    let c7 = c6 .before in
+    c .notes-word .ensures ∙ sym (laws.word-else _ _ _ _ (c7 .if1 .left) (c6 .if2 .left) (c5 .if3 .left) (c4 .if4 .left) (c3 .if5 .left) (c .before .before .if6 .left) (c .before .if7 .left))))

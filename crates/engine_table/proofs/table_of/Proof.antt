@@ -29,10 +29,24 @@ table-of-spec =
     (λ c. (λ j h. laws.so-low _ _ _ _ _ j h, (c .before .headed .ensures .long, (omega arith, omega arith))))
     (λ c. omega (arith, c .before .before .before .at-most .ensures .1))
     (λ c. omega (arith, c .before .before .before .at-most .ensures .1))
-    (λ c κs. (c .before .before .before .loop .inv .1 .1 .0, omega (arith, c .before .before .before .before .before .before .at-most .ensures .1, c .before .before .loop-test .taken)))
+    (λ c κs.
+    let c3 = c .before .before .before in
+    let c6 = c3 .before .before .before in
+    (c3 .loop .inv .1 .1 .0, omega (arith, c6 .at-most .ensures .1, c .before .before .loop-test .taken)))
     (λ c. search needs)
-    (λ c. omega (arith, c .before .before .before .before .before .before .before .at-most .ensures .1, c .before .before .before .loop-test .taken, c .before .before .before .before .loop .inv .1 .0))
+    (λ c.
+    let c3 = c .before .before .before in
+    let c4 = c3 .before in
+    let c7 = c4 .before .before .before in
+    omega (arith, c7 .at-most .ensures .1, c3 .loop-test .taken, c4 .loop .inv .1 .0))
     (λ c. search needs)
     (λ c. search needs)
-    (λ c. (laws.one-more (laws.so-far _ _ _ _ _) (c .before .before .before .before .loop .words) (c .before .before .before .before .loop .k) (c .part-word .result) (c .before .before .before .before .loop .inv .0) (omega (arith, c .before .before .before .before .loop .inv .1 .0, c .before .before .before .loop-test .taken, c .before .before .before .before .before .before .before .at-most .ensures .1)) (c .part-word .ensures ∙ laws.so-high _ _ _ _ _ _ (c .before .before .before .before .loop .inv .1 .1 .0)), (length-set (c .before .before .before .before .loop .words) (c .before .before .before .before .loop .k) (c .part-word .result) ∙ c .before .before .before .before .loop .inv .1 .0, (omega (arith, c .before .before .before .before .loop .inv .1 .1 .0), omega (arith, c .before .before .before .loop-test .taken)))))
-    (λ c. record { words = λ k h. c .before .loop .inv .0 k (omega (arith, c .loop-test .left, c .before .before .before .before .at-most .ensures .0, h)) ∙ laws.so-table _ _ _ (c .before .before .before .headed .ensures) k }))
+    (λ c.
+    let c3 = c .before .before .before in
+    let c4 = c3 .before in
+    let c7 = c4 .before .before .before in
+    (laws.one-more (laws.so-far _ _ _ _ _) (c4 .loop .words) (c4 .loop .k) (c .part-word .result) (c4 .loop .inv .0) (omega (arith, c4 .loop .inv .1 .0, c3 .loop-test .taken, c7 .at-most .ensures .1)) (c .part-word .ensures ∙ laws.so-high _ _ _ _ _ _ (c4 .loop .inv .1 .1 .0)), (length-set (c4 .loop .words) (c4 .loop .k) (c .part-word .result) ∙ c4 .loop .inv .1 .0, (omega (arith, c4 .loop .inv .1 .1 .0), omega (arith, c3 .loop-test .taken)))))
+    (λ c.
+    let c3 = c .before .before .before in
+    let c4 = c3 .before in
+    record { words = λ k h. c .before .loop .inv .0 k (omega (arith, c .loop-test .left, c4 .at-most .ensures .0, h)) ∙ laws.so-table _ _ _ (c3 .headed .ensures) k }))

@@ -19,7 +19,14 @@ use Rattle.runs.proofs.take_run.Reads as take-run-reads
 
 returns : tie.Need-returns
 unfolding finishM finish-runM
-returns c = laws.ran (finish-runM _) (c .before .before .before .before .before .before .before .before .before .before .before .before .before .before .before .before .run-at .ensures) (c .before .before .before .before .before .before .before .before .before .before .before .before .before .before .before .before .before .before .before .before .before .pre .0) (wholes.next (wholes.next (laws.removed _ _ _ (c .before .before .before .before .before .before .before .before .before .before .before .before .before .before .before .before .before .before .before .before .before .pre .1 .1 .1) (search needs) _ _ (c .before .before .before .before .before .before .before .before .before .before .before .before .before .before .take-run .ensures) (c .before .before .before .before .before .before .before .before .before .before .before .with-active .ensures) (c .before .before .before .before .before .before .before .before .before .before .before .before .before .before .before .before .before .before .before .before .before .pre .0)) (c .before .before .before .before .before .before .before .before .before .log-rule .ensures) none two one none none none none) (c .before .before .before .before .release .ensures) two one both none none none none)
+returns c =
+    let c4 = c .before .before .before .before in
+    let c9 = c4 .before .before .before .before .before in
+    let c11 = c9 .before .before in
+    let c14 = c11 .before .before .before in
+    let c16 = c14 .before .before in
+    let c21 = c16 .before .before .before .before .before in
+    laws.ran (finish-runM _) (c16 .run-at .ensures) (c21 .pre .0) (wholes.next (wholes.next (laws.removed _ _ _ (c21 .pre .1 .1 .1) (search needs) _ _ (c14 .take-run .ensures) (c11 .with-active .ensures) (c21 .pre .0)) (c9 .log-rule .ensures) none two one none none none none) (c4 .release .ensures) two one both none none none none)
 
 pub finish-spec : {M : Type 1} → statement M
 finish-spec =
@@ -29,8 +36,14 @@ finish-spec =
     (λ c κs. search needs)
     (λ c. search needs)
     (λ c κs. search needs)
-    (λ c κs. modes.fits-as 13 _ (ap (λ s. s .records) (c .before .with-active .ensures)) (c .before .before .before .before .before .before .before .before .before .before .before .pre .1 .1 .0))
-    (λ c κs. (omega (arith, c .before .before .before .before .before .before .before .before .before .before .before .before .before .before .before .before .pre, ap (λ s. s .items) (c .before .before .before .before .before .before .with-active .ensures), ap (λ s. s .first) (c .before .before .before .before .before .before .with-active .ensures), c .before .before .before .before .log-rule .ensures .queue), omega (arith, c .before .before .before .before .before .before .before .before .before .before .before .before .before .before .before .before .pre, ap (λ s. s .active) (c .before .before .before .before .before .before .with-active .ensures), c .before .before .before .before .log-rule .ensures .runs)))
+    (λ c κs.
+    let c11 = c .before .before .before .before .before .before .before .before .before .before .before in
+    modes.fits-as 13 _ (ap (λ s. s .records) (c .before .with-active .ensures)) (c11 .pre .1 .1 .0))
+    (λ c κs.
+    let c4 = c .before .before .before .before in
+    let c6 = c4 .before .before in
+    let c16 = c6 .before .before .before .before .before .before .before .before .before .before in
+    (omega (arith, c16 .pre, ap (λ s. s .items) (c6 .with-active .ensures), ap (λ s. s .first) (c6 .with-active .ensures), c4 .log-rule .ensures .queue), omega (arith, c16 .pre, ap (λ s. s .active) (c6 .with-active .ensures), c4 .log-rule .ensures .runs)))
     (λ c. search needs)
     (λ c. search needs)
     (λ c. search needs)

@@ -13,7 +13,12 @@ use Rattle.engine_evaluate.proofs.number_of.Reads as number-of-reads
 
 returns : tie.Need-returns
 unfolding log-triggerM
-returns c = states.moves (λ v n s. states.renamed _ (c .before .before .log .ensures .does _ _ _) (λ k. rw (← (c .before .before .before .before .before .before .before .rule-word .ensures), ← (c .before .before .before .before .before .before .four-at .ensures), ← (c .before .before .before .before .before .four-at2 .ensures), ← (c .before .before .before .before .number-of .ensures))))
+returns c =
+    let c4 = c .before .before .before .before in
+    let c5 = c4 .before in
+    let c6 = c5 .before in
+    let c7 = c6 .before in
+    states.moves (λ v n s. states.renamed _ (c .before .before .log .ensures .does _ _ _) (λ k. rw (← (c7 .rule-word .ensures), ← (c6 .four-at .ensures), ← (c5 .four-at2 .ensures), ← (c4 .number-of .ensures))))
 
 pub log-trigger-spec : {M : Type 1} → statement M
 log-trigger-spec =

@@ -18,11 +18,20 @@ use Rattle.runs.proofs.run_at.Reads as run-at-reads
 
 returns : tie.Need-returns
 unfolding releaseM release-atM release-runM
-returns c = states.moves (λ v n s. laws.with-found release-atM (c .before .before .before .before .before .before .before .before .before .before .before .before .before .before .find-queued .ensures) (c .before .before .before .before .before .before .before .before .before .before .before .before .found .given .1) (laws.with-run (release-runM _) (c .before .before .before .before .before .before .before .before .before .run-at .ensures) (c .before .before .before .before .before .before .before .before .before .before .before .before .before .before .find-queued .ensures .within _ (c .before .before .before .before .before .before .before .before .before .before .before .before .found .given .1)) (states.follow (nowM _) (laws.replaced _ _ _ (c .before .before .before .before .before .before .before .before .before .before .before .before .before .before .before .before .before .before .pre .1) (search needs) _ _ _ (c .before .before .before .before .before .before .put-run .ensures) (c .before .before .before .before .before .before .before .released .ensures) (c .before .before .before .before .before .before .before .before .before .before .before .before .before .before .find-queued .ensures .within _ (c .before .before .before .before .before .before .before .before .before .before .before .before .found .given .1))) (c .before .before .next-step .ensures .does _ _ _) two none one none)))
+returns c =
+    let c6 = c .before .before .before .before .before .before in
+    let c7 = c6 .before in
+    let c9 = c7 .before .before in
+    let c12 = c9 .before .before .before in
+    let c14 = c12 .before .before in
+    let c18 = c14 .before .before .before .before in
+    states.moves (λ v n s. laws.with-found release-atM (c14 .find-queued .ensures) (c12 .found .given .1) (laws.with-run (release-runM _) (c9 .run-at .ensures) (c14 .find-queued .ensures .within _ (c12 .found .given .1)) (states.follow (nowM _) (laws.replaced _ _ _ (c18 .pre .1) (search needs) _ _ _ (c6 .put-run .ensures) (c7 .released .ensures) (c14 .find-queued .ensures .within _ (c12 .found .given .1))) (c .before .before .next-step .ensures .does _ _ _) two none one none)))
 
 returns-2 : tie.Need-returns-2
 unfolding releaseM release-atM release-runM
-returns-2 c = states.moves (λ v n s. laws.with-found release-atM (c .before .before .find-queued .ensures) (c .enum-told .given .1) (states.stay (λ k. refl) (same (c .before .before .before .before .before .before .pre .0)) none (same (c .before .before .before .before .before .before .pre .1)) none))
+returns-2 c =
+    let c6 = c .before .before .before .before .before .before in
+    states.moves (λ v n s. laws.with-found release-atM (c .before .before .find-queued .ensures) (c .enum-told .given .1) (states.stay (λ k. refl) (same (c6 .pre .0)) none (same (c6 .pre .1)) none))
 
 pub release-spec : {M : Type 1} → statement M
 release-spec =
@@ -30,9 +39,16 @@ release-spec =
     (tie.spec
     (λ c κs. search needs)
     (λ c. search needs)
-    (λ c κs. omega (arith, c .before .before .before .before .before .before .before .before .pre, c .before .before .before .before .find-queued .ensures .within _ (c .before .before .found .given .1)))
+    (λ c κs.
+    let c4 = c .before .before .before .before in
+    let c8 = c4 .before .before .before .before in
+    omega (arith, c8 .pre, c4 .find-queued .ensures .within _ (c .before .before .found .given .1)))
     (λ c κs. search needs)
-    (λ c κs. omega (arith, c .before .before .before .before .before .before .before .before .before .before .before .pre, c .before .before .before .before .before .before .before .find-queued .ensures .within _ (c .before .before .before .before .before .found .given .1)))
+    (λ c κs.
+    let c5 = c .before .before .before .before .before in
+    let c7 = c5 .before .before in
+    let c11 = c7 .before .before .before .before in
+    omega (arith, c11 .pre, c7 .find-queued .ensures .within _ (c5 .found .given .1)))
     (λ c κs. search needs)
     (λ c. search needs)
     (λ c. search needs)

@@ -25,11 +25,22 @@ wake-spec =
     (tie.spec
     Inv-loop
     μ-loop
-    (λ c. (states.moves (λ v n s. states.stay (λ k. laws.wake-none _ _ _) (same (omega (arith, c .before .before .before .pre))) none (same (omega (arith, c .before .before .before .pre))) none), (omega (arith, c .before .before .before .pre), refl)))
-    (λ c κs. (omega (arith, c .before .before .before .before .before .before .before .pre), (omega (arith, c .before .before .before .before .before .before .before .pre, c .before .before .before .loop .inv .0 .queue), omega (arith, c .before .before .before .before .before .before .before .pre, c .before .before .before .loop .inv .0 .runs))))
+    (λ c.
+    let c3 = c .before .before .before in
+    (states.moves (λ v n s. states.stay (λ k. laws.wake-none _ _ _) (same (omega (arith, c3 .pre))) none (same (omega (arith, c3 .pre))) none), (omega (arith, c3 .pre), refl)))
+    (λ c κs.
+    let c3 = c .before .before .before in
+    let c7 = c3 .before .before .before .before in
+    (omega (arith, c7 .pre), (omega (arith, c7 .pre, c3 .loop .inv .0 .queue), omega (arith, c7 .pre, c3 .loop .inv .0 .runs))))
     (λ c. search needs)
     (λ c. search needs)
-    (λ c. (states.moves (λ v n s. states.renamed _ (states.follow (wake-oneM _ _ _) (c .before .before .before .before .before .before .before .before .loop .inv .0 .does _ _ _) (c .before .before .before .before .wake-one .ensures .0 .does _ _ _) both none both none) (λ k. laws.wake-more _ _ _ _)), (omega (arith, c .before .before .before .before .before .before .before .before .before .before .before .before .pre), c .before .before .before .before .wake-one .ensures .1 ∙ c .before .before .before .before .before .before .before .before .loop .inv .1 .1)))
+    (λ c.
+    let c4 = c .before .before .before .before in
+    let c8 = c4 .before .before .before .before in
+    let c12 = c8 .before .before .before .before in
+    (states.moves (λ v n s. states.renamed _ (states.follow (wake-oneM _ _ _) (c8 .loop .inv .0 .does _ _ _) (c4 .wake-one .ensures .0 .does _ _ _) both none both none) (λ k. laws.wake-more _ _ _ _)), (omega (arith, c12 .pre), c4 .wake-one .ensures .1 ∙ c8 .loop .inv .1 .1)))
     (λ c. search needs)
     (λ c. search needs)
-    (λ c. states.moves (λ v n s. laws.wake-all _ _ _ (omega (arith, c .before .before .before .before .before .pre)) (c .before .loop .inv .0 .does _ _ _))))
+    (λ c.
+    let c5 = c .before .before .before .before .before in
+    states.moves (λ v n s. laws.wake-all _ _ _ (omega (arith, c5 .pre)) (c .before .loop .inv .0 .does _ _ _))))

@@ -22,7 +22,14 @@ own-notes-spec =
     (λ c κs. search needs)
     (λ c κs. search needs)
     (λ c. search needs)
-    (λ c. record {
-      is = laws.own-is _ _ _ _ (c .before .before .before .before .before .before .before .before .before .before .before .before .before .before .before .rule-word .ensures) (c .before .before .before .before .before .before .before .before .before .before .before .before .before .before .rule-word2 .ensures) (c .before .before .before .before .before .before .before .before .before .before .before .before .before .rule-word3 .ensures) (c .before .before .before .before .before .before .before .before .before .before .before .before .rule-word4 .ensures) (c .before .before .before .before .before .before .before .before .before .before .part-notes .ensures .is) (c .before .before .before .before .before .before .part-notes2 .ensures .is) (c .before .before .part-notes3 .ensures .is);
-      clean = λ t k. c .before .before .part-notes3 .ensures .clean t (c .before .before .before .before .before .before .part-notes2 .ensures .clean t (c .before .before .before .before .before .before .before .before .before .before .part-notes .ensures .clean t k));
+    (λ c.
+    let c6 = c .before .before .before .before .before .before in
+    let c10 = c6 .before .before .before .before in
+    let c12 = c10 .before .before in
+    let c13 = c12 .before in
+    let c14 = c13 .before in
+    let c15 = c14 .before in
+    record {
+      is = laws.own-is _ _ _ _ (c15 .rule-word .ensures) (c14 .rule-word2 .ensures) (c13 .rule-word3 .ensures) (c12 .rule-word4 .ensures) (c10 .part-notes .ensures .is) (c6 .part-notes2 .ensures .is) (c .before .before .part-notes3 .ensures .is);
+      clean = λ t k. c .before .before .part-notes3 .ensures .clean t (c6 .part-notes2 .ensures .clean t (c10 .part-notes .ensures .clean t k));
     }))

@@ -17,7 +17,10 @@ rule-notes-spec =
     (λ c κs. search needs)
     (λ c κs. search needs)
     (λ c. search needs)
-    (λ c. record {
-      is = laws.rule-is _ _ _ _ (c .before .before .before .before .before .before .before .before .rule-word .ensures) (c .before .before .before .before .before .before .own-notes .ensures .is) (c .before .before .actions-notes .ensures .is);
-      clean = λ t k. c .before .before .actions-notes .ensures .clean t (c .before .before .before .before .before .before .own-notes .ensures .clean t k);
+    (λ c.
+    let c6 = c .before .before .before .before .before .before in
+    let c8 = c6 .before .before in
+    record {
+      is = laws.rule-is _ _ _ _ (c8 .rule-word .ensures) (c6 .own-notes .ensures .is) (c .before .before .actions-notes .ensures .is);
+      clean = λ t k. c .before .before .actions-notes .ensures .clean t (c6 .own-notes .ensures .clean t k);
     }))

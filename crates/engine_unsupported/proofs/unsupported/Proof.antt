@@ -29,11 +29,16 @@ unsupported-spec =
     μ-loop
     (λ c. search needs)
     (λ c κs. search needs)
-    (λ c. ((refl, (c .at-most .ensures .1, λ t. clean-zeros _ (c .before .before .before .before .pre .1))), laws.rules-start _ _ _ _ (c .at-most .ensures .0)))
+    (λ c.
+    let c4 = c .before .before .before .before in
+    ((refl, (c .at-most .ensures .1, λ t. clean-zeros _ (c4 .pre .1))), laws.rules-start _ _ _ _ (c .at-most .ensures .0)))
     (λ c κs. search needs)
     (λ c. search needs)
     (λ c. search needs)
-    (λ c. ((search needs, (c .before .before .before .before .before .loop .inv .0 .1 .0, λ t. c .before .before .rule-notes .ensures .clean t (c .before .before .before .before .before .loop .inv .0 .1 .1 t))), c .before .before .before .before .before .loop .inv .1 ∙ laws.rules-more _ _ _ _ _ _ (c .before .before .before .before .loop-test .taken) (c .before .before .rule-notes .ensures .is)))
+    (λ c.
+    let c4 = c .before .before .before .before in
+    let c5 = c4 .before in
+    ((search needs, (c5 .loop .inv .0 .1 .0, λ t. c .before .before .rule-notes .ensures .clean t (c5 .loop .inv .0 .1 .1 t))), c5 .loop .inv .1 ∙ laws.rules-more _ _ _ _ _ _ (c4 .loop-test .taken) (c .before .before .rule-notes .ensures .is)))
     (λ c. search needs)
     (λ c.
     let l = c .before .loop in

@@ -15,7 +15,9 @@ returns c = states.moves (λ v n s. states.stay (λ k. rw (eq-eqb _ _ (c .if1 .t
 
 returns-2 : tie.Need-returns-2
 unfolding changedM
-returns-2 c = states.moves (λ v n s. states.renamed _ (c .before .before .add .ensures .does _ _ _) (λ k. rw (ne-eqb _ _ (c .before .before .before .before .if1 .left))))
+returns-2 c =
+    let c4 = c .before .before .before .before in
+    states.moves (λ v n s. states.renamed _ (c .before .before .add .ensures .does _ _ _) (λ k. rw (ne-eqb _ _ (c4 .if1 .left))))
 
 pub changed-spec : {M : Type 1} → statement M
 changed-spec = tie.close (tie.spec returns (λ c κs. search needs) (λ c. search needs) returns-2)

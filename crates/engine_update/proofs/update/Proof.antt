@@ -17,14 +17,22 @@ use Rattle.engine_update.proofs.expiry.Reads as expiry-reads
 
 returns-2 : tie.Need-returns-2
 unfolding writeM
-returns-2 c = states.moves (λ v n s. states.renamed _ (states.follow (changedM _) (states.follow (log-writeM _ _) (states.follow (expiryM _ _) (states.celled _ _) (c .before .before .before .before .before .before .before .before .before .before .expiry .ensures .does _ n _) two none none none) (c .before .before .before .before .before .before .log-write .ensures .does _ _ _) one two none none) (c .before .before .changed .ensures .does _ _ _) both one none none) (λ k. laws.update-goes _ _ _ _ (c .before .before .before .before .before .before .before .before .before .before .before .before .before .before .before .before .before .entity-of .ensures) _ (c .before .before .before .before .before .before .before .before .before .before .before .before .before .before .before .before .if1 .left) (c .before .before .before .before .before .before .before .before .before .before .before .before .before .more-than .ensures)))
+returns-2 c =
+    let c6 = c .before .before .before .before .before .before in
+    let c10 = c6 .before .before .before .before in
+    let c13 = c10 .before .before .before in
+    let c16 = c13 .before .before .before in
+    let c17 = c16 .before in
+    states.moves (λ v n s. states.renamed _ (states.follow (changedM _) (states.follow (log-writeM _ _) (states.follow (expiryM _ _) (states.celled _ _) (c10 .expiry .ensures .does _ n _) two none none none) (c6 .log-write .ensures .does _ _ _) one two none none) (c .before .before .changed .ensures .does _ _ _) both one none none) (λ k. laws.update-goes _ _ _ _ (c17 .entity-of .ensures) _ (c16 .if1 .left) (c13 .more-than .ensures)))
 
 pub update-spec : {M : Type 1} → statement M
 update-spec =
     tie.close
     (tie.spec
     (λ c κs. search needs)
-    (λ c. states.moves (λ v n s. states.stay (λ k. laws.update-none _ _ _ _ (c .before .entity-of .ensures) (c .if1 .taken)) (same (c .before .before .before .before .pre .0)) (same (c .before .before .before .before .pre .1)) none none))
+    (λ c.
+    let c4 = c .before .before .before .before in
+    states.moves (λ v n s. states.stay (λ k. laws.update-none _ _ _ _ (c .before .entity-of .ensures) (c .if1 .taken)) (same (c4 .pre .0)) (same (c4 .pre .1)) none none))
     (λ c. search needs)
     (λ c. search needs)
     (λ c. search needs)
@@ -35,8 +43,15 @@ update-spec =
     (λ c. search needs)
     (λ c. search needs)
     (λ c κs. search needs)
-    (λ c κs. omega (arith, c .before .before .before .before .before .before .before .before .before .before .before .before .before .pre, c .before .before .before .expiry .ensures .records))
-    (λ c κs. omega (arith, c .before .before .before .before .before .before .before .before .before .before .before .before .before .before .before .before .before .pre, c .before .before .before .log-write .ensures .queue, c .before .before .before .before .before .before .before .expiry .ensures .queue))
+    (λ c κs.
+    let c3 = c .before .before .before in
+    let c13 = c3 .before .before .before .before .before .before .before .before .before .before in
+    omega (arith, c13 .pre, c3 .expiry .ensures .records))
+    (λ c κs.
+    let c3 = c .before .before .before in
+    let c7 = c3 .before .before .before .before in
+    let c17 = c7 .before .before .before .before .before .before .before .before .before .before in
+    omega (arith, c17 .pre, c3 .log-write .ensures .queue, c7 .expiry .ensures .queue))
     (λ c. search needs)
     (λ c. search needs)
     returns-2)

@@ -16,4 +16,8 @@ fukhtsege-check-spec =
     (λ c. search needs)
     (λ c. search needs)
     (λ c. search needs)
-    (λ c. laws.answered (omega (arith, c .before .before .before .before .before .before .before .before .before .before .before .before .before .before .before .before .before .before .before .before .before .before .before .if1 .left)) _ (c .before .before .before .before .before .before .before .before .before .before .before .before .before .before .before .check-lent .ensures) refl (c .before .before .before .put-check .ensures)))
+    (λ c.
+    let c3 = c .before .before .before in
+    let c15 = c3 .before .before .before .before .before .before .before .before .before .before .before .before in
+    let c23 = c15 .before .before .before .before .before .before .before .before in
+    laws.answered (omega (arith, c23 .if1 .left)) _ (c15 .check-lent .ensures) refl (c3 .put-check .ensures)))

@@ -15,4 +15,7 @@ fukhtsege-lint-spec =
     (λ c. search needs)
     (λ c. search needs)
     (λ c. search needs)
-    (λ c. laws.answered (omega (arith, c .before .before .before .before .before .before .before .before .before .before .before .if1 .left)) (c .before .before .before .before .before .before .before .before .lint .result) (c .before .before .before .before .before .before .before .before .lint .ensures) refl (c .before .before .put-report .ensures)))
+    (λ c.
+    let c8 = c .before .before .before .before .before .before .before .before in
+    let c11 = c8 .before .before .before in
+    laws.answered (omega (arith, c11 .if1 .left)) (c8 .lint .result) (c8 .lint .ensures) refl (c .before .before .put-report .ensures)))

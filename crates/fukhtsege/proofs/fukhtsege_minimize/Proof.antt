@@ -17,4 +17,7 @@ fukhtsege-minimize-spec =
     (λ c. search needs)
     (λ c. search needs)
     (λ c. search needs)
-    (λ c. laws.answered (omega (arith, c .before .before .before .before .before .before .before .before .before .before .before .before .before .before .before .before .before .if1 .left)) (c .before .before .before .before .before .before .before .before .before .before .before .before .minimize .result) (c .before .before .before .before .before .before .before .before .before .before .before .before .minimize .ensures) refl (c .before .before .put-minimized .ensures)))
+    (λ c.
+    let c12 = c .before .before .before .before .before .before .before .before .before .before .before .before in
+    let c17 = c12 .before .before .before .before .before in
+    laws.answered (omega (arith, c17 .if1 .left)) (c12 .minimize .result) (c12 .minimize .ensures) refl (c .before .before .put-minimized .ensures)))

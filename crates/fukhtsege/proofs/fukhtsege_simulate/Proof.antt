@@ -16,4 +16,7 @@ fukhtsege-simulate-spec =
     (λ c. search needs)
     (λ c. search needs)
     (λ c. search needs)
-    (λ c. laws.answered (omega (arith, c .before .before .before .before .before .before .before .before .before .before .before .before .before .before .before .before .if1 .left)) _ (c .before .before .before .before .before .before .before .before .before .before .before .simulate-lent .ensures) refl (c .before .before .put-simulation .ensures)))
+    (λ c.
+    let c11 = c .before .before .before .before .before .before .before .before .before .before .before in
+    let c16 = c11 .before .before .before .before .before in
+    laws.answered (omega (arith, c16 .if1 .left)) _ (c11 .simulate-lent .ensures) refl (c .before .before .put-simulation .ensures)))

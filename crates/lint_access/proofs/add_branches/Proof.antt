@@ -35,5 +35,10 @@ add-branches-spec =
     (λ c κs. search needs)
     (λ c. search needs)
     (λ c. search needs)
-    (λ c. c .before .before .before .before .loop .inv ∙ laws.along-more _ _ _ _ _ (c .before .before .before .loop-test .taken) (c .before .before .add-predicates .ensures) (c .list-end .ensures ∙ ap (listEnd _) (c .before .predicates-end .ensures)))
-    (λ c. sym (laws.branches-is _ _ _ _ ∙ laws.along-start _ _ _ (c .before .before .before .place-at .ensures) (c .before .before .past .ensures) ∙ c .before .loop .inv ∙ laws.along-end _ _ _ _ _ (c .loop-test .left))))
+    (λ c.
+    let c3 = c .before .before .before in
+    let c4 = c3 .before in
+    c4 .loop .inv ∙ laws.along-more _ _ _ _ _ (c3 .loop-test .taken) (c .before .before .add-predicates .ensures) (c .list-end .ensures ∙ ap (listEnd _) (c .before .predicates-end .ensures)))
+    (λ c.
+    let c3 = c .before .before .before in
+    sym (laws.branches-is _ _ _ _ ∙ laws.along-start _ _ _ (c3 .place-at .ensures) (c .before .before .past .ensures) ∙ c .before .loop .inv ∙ laws.along-end _ _ _ _ _ (c .loop-test .left))))

@@ -32,5 +32,9 @@ add-predicates-spec =
     (λ c κs. search needs)
     (λ c. search needs)
     (λ c. search needs)
-    (λ c. c .before .before .before .loop .inv ∙ laws.along-more _ _ _ _ _ (c .before .before .loop-test .taken) (c .before .add-predicate .ensures) (c .predicate-end .ensures))
-    (λ c. sym (laws.predicates-is _ _ _ _ ∙ laws.along-start _ _ _ (c .before .before .before .place-at .ensures) (c .before .before .past .ensures) ∙ c .before .loop .inv ∙ laws.along-end _ _ _ _ _ (c .loop-test .left))))
+    (λ c.
+    let c3 = c .before .before .before in
+    c3 .loop .inv ∙ laws.along-more _ _ _ _ _ (c .before .before .loop-test .taken) (c .before .add-predicate .ensures) (c .predicate-end .ensures))
+    (λ c.
+    let c3 = c .before .before .before in
+    sym (laws.predicates-is _ _ _ _ ∙ laws.along-start _ _ _ (c3 .place-at .ensures) (c .before .before .past .ensures) ∙ c .before .loop .inv ∙ laws.along-end _ _ _ _ _ (c .loop-test .left))))

@@ -31,5 +31,9 @@ add-triggers-spec =
     (λ c κs. search needs)
     (λ c. search needs)
     (λ c. search needs)
-    (λ c. c .before .before .before .loop .inv ∙ laws.along-more _ _ _ _ _ (c .before .before .loop-test .taken) (c .before .add-trigger .ensures) (c .past2 .ensures))
-    (λ c. sym (laws.triggers-is _ _ _ _ ∙ laws.along-start _ _ _ (c .before .before .before .place-at .ensures) (c .before .before .past .ensures) ∙ c .before .loop .inv ∙ laws.along-end _ _ _ _ _ (c .loop-test .left))))
+    (λ c.
+    let c3 = c .before .before .before in
+    c3 .loop .inv ∙ laws.along-more _ _ _ _ _ (c .before .before .loop-test .taken) (c .before .add-trigger .ensures) (c .past2 .ensures))
+    (λ c.
+    let c3 = c .before .before .before in
+    sym (laws.triggers-is _ _ _ _ ∙ laws.along-start _ _ _ (c3 .place-at .ensures) (c .before .before .past .ensures) ∙ c .before .loop .inv ∙ laws.along-end _ _ _ _ _ (c .loop-test .left))))

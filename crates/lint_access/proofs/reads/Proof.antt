@@ -36,4 +36,8 @@ reads-spec =
     (λ c. c .before .before .before .loop .inv ∙ laws.over-more _ _ _ _ _ (c .before .before .loop-test .taken) (c .add-reads .ensures))
     (λ c κs. search needs)
     (λ c κs. search needs)
-    (λ c. c .add-predicates .ensures ∙ laws.reads-is _ _ _ _ (c .before .before .before .before .before .triggers-at .ensures) (c .before .before .before .before .add-triggers .ensures) (c .before .before .before .loop .inv ∙ laws.over-end _ _ _ _ _ (c .before .before .loop-test .left)) (c .before .conditions-at .ensures)))
+    (λ c.
+    let c3 = c .before .before .before in
+    let c4 = c3 .before in
+    let c5 = c4 .before in
+    c .add-predicates .ensures ∙ laws.reads-is _ _ _ _ (c5 .triggers-at .ensures) (c4 .add-triggers .ensures) (c3 .loop .inv ∙ laws.over-end _ _ _ _ _ (c .before .before .loop-test .left)) (c .before .conditions-at .ensures)))

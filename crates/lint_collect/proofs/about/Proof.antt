@@ -23,4 +23,7 @@ about-spec =
     (λ c. search needs)
     (λ c κs. search needs)
     (λ c κs. search needs)
-    (λ c. laws.about-is _ _ _ _ _ (c .before .before .before .before .number-at .ensures) (c .before .before .before .past .ensures) (c .before .before .number-at2 .ensures) (c .before .with .ensures) (c .highest .ensures)))
+    (λ c.
+    let c3 = c .before .before .before in
+    let c4 = c3 .before in
+    laws.about-is _ _ _ _ _ (c4 .number-at .ensures) (c3 .past .ensures) (c .before .before .number-at2 .ensures) (c .before .with .ensures) (c .highest .ensures)))

@@ -25,4 +25,8 @@ action-leads-spec =
     (λ c κs. search needs)
     (λ c κs. search needs)
     (λ c κs. search needs)
-    (λ c. c .leads .ensures ∙ laws.action-is _ _ _ _ (c .before .before .before .before .before .kind-at .ensures) (c .before .before .before .before .if1 .left) (c .before .before .before .past .ensures) (c .before .before .place-at .ensures) (c .before .value .ensures)))
+    (λ c.
+    let c3 = c .before .before .before in
+    let c4 = c3 .before in
+    let c5 = c4 .before in
+    c .leads .ensures ∙ laws.action-is _ _ _ _ (c5 .kind-at .ensures) (c4 .if1 .left) (c3 .past .ensures) (c .before .before .place-at .ensures) (c .before .value .ensures)))

@@ -31,6 +31,10 @@ cycle-entries-spec =
     (λ c κs. search needs)
     (λ c. search needs)
     (λ c. search needs)
-    (λ c. ((λ k. c .before .before .before .before .before .before .before .loop .inv .0 k ∙ items.numbers-more _ _ _ _ (c .before .before .before .before .before .before .loop-test .taken) (items.one-finding _ (c .before .before .before .cycle-words .ensures) (c .before .before .push-finding .ensures k))), search needs))
+    (λ c.
+    let c3 = c .before .before .before in
+    let c6 = c3 .before .before .before in
+    let c7 = c6 .before in
+    ((λ k. c7 .loop .inv .0 k ∙ items.numbers-more _ _ _ _ (c6 .loop-test .taken) (items.one-finding _ (c3 .cycle-words .ensures) (c .before .before .push-finding .ensures k))), search needs))
     (λ c. search needs)
     (λ c. λ k. sym (c .before .loop .inv .0 k ∙ items.numbers-end _ _ _ _ (c .loop-test .left))))

@@ -32,12 +32,22 @@ cycle-writes-spec =
     (λ c. search needs)
     (λ c. search needs)
     (λ c κs. search needs)
-    (λ c κs. (c .before .before .before .before .before .before .before .before .before .before .before .before .pre .0, sizes.sized _ _ (c .before .rule-walk .ensures) .0))
+    (λ c κs.
+    let c12 = c .before .before .before .before .before .before .before .before .before .before .before .before in
+    (c12 .pre .0, sizes.sized _ _ (c .before .rule-walk .ensures) .0))
     (λ c κs. search needs)
     (λ c. search needs)
     (λ c. search needs)
-    (λ c. λ z y. c .before .before .before .before .before .before .before .before .before .loop .inv z y ∙ laws.writes-yes _ _ _ _ _ _ _ (c .before .before .before .before .before .before .before .before .loop-test .taken) (c .before .before .before .before .before .before .before .has .ensures) (c .before .before .before .before .before .before .if1 .taken) (c .before .before .before .rule-walk .ensures) (c .before .writes .ensures) (c .union .ensures))
+    (λ c.
+    let c3 = c .before .before .before in
+    let c6 = c3 .before .before .before in
+    let c7 = c6 .before in
+    let c8 = c7 .before in
+    let c9 = c8 .before in
+    λ z y. c9 .loop .inv z y ∙ laws.writes-yes _ _ _ _ _ _ _ (c8 .loop-test .taken) (c7 .has .ensures) (c6 .if1 .taken) (c3 .rule-walk .ensures) (c .before .writes .ensures) (c .union .ensures))
     (λ c. search needs)
     (λ c. search needs)
-    (λ c. λ z y. c .before .before .before .loop .inv z y ∙ laws.writes-no _ _ _ _ _ _ _ (c .before .before .loop-test .taken) (c .before .has .ensures) (c .if1 .left))
+    (λ c.
+    let c3 = c .before .before .before in
+    λ z y. c3 .loop .inv z y ∙ laws.writes-no _ _ _ _ _ _ _ (c .before .before .loop-test .taken) (c .before .has .ensures) (c .if1 .left))
     (λ c. sym (c .before .loop .inv _ _ ∙ laws.writes-end _ _ _ _ _ _ _ (c .loop-test .left))))

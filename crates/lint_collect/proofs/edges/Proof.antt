@@ -36,5 +36,8 @@ edges-spec =
     (λ c. search needs)
     (λ c. search needs)
     (λ c. search needs)
-    (λ c. c .before .before .before .before .before .before .loop .inv ∙ laws.fill-more _ _ _ _ (c .before .before .before .before .before .loop-test .taken) (laws.edge-row _ _ _ _ (c .before .before .rule-walk .ensures) (c .reach-row .ensures)))
+    (λ c.
+    let c5 = c .before .before .before .before .before in
+    let c6 = c5 .before in
+    c6 .loop .inv ∙ laws.fill-more _ _ _ _ (c5 .loop-test .taken) (laws.edge-row _ _ _ _ (c .before .before .rule-walk .ensures) (c .reach-row .ensures)))
     (λ c. sym (c .before .loop .inv ∙ laws.fill-end _ _ _ _ (c .loop-test .left))))

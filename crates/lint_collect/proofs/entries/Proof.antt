@@ -24,4 +24,8 @@ entries-spec =
     (λ c κs. search needs)
     (λ c. search needs)
     (λ c. search needs)
-    (λ c. record { components = c .before .before .before .before .find-components .ensures; inserted = next _ _ _ (next _ _ _ (c .before .before .before .before .before .before .before .before .before .before .before .before .before .rules-entries .ensures) (c .before .before .before .before .before .before .before .opposing-entries .ensures _)) (c .before .before .cycle-entries .ensures _) }))
+    (λ c.
+    let c4 = c .before .before .before .before in
+    let c7 = c4 .before .before .before in
+    let c13 = c7 .before .before .before .before .before .before in
+    record { components = c4 .find-components .ensures; inserted = next _ _ _ (next _ _ _ (c13 .rules-entries .ensures) (c7 .opposing-entries .ensures _)) (c .before .before .cycle-entries .ensures _) }))

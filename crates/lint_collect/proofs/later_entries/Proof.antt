@@ -37,9 +37,15 @@ later-entries-spec =
     (λ c. search needs)
     (λ c κs. search needs)
     (λ c. ((λ k. refl), refl))
-    (λ c κs. (c .before .before .before .before .before .before .before .before .before .before .before .before .pre .0, c .before .before .before .before .before .before .before .before .before .before .before .before .pre .2, search needs, sizes.sized _ _ (c .before .before .before .before .rule-walk .ensures) .0))
+    (λ c κs.
+    let c4 = c .before .before .before .before in
+    let c12 = c4 .before .before .before .before .before .before .before .before in
+    (c12 .pre .0, c12 .pre .2, search needs, sizes.sized _ _ (c4 .rule-walk .ensures) .0))
     (λ c. search needs)
     (λ c. search needs)
-    (λ c. ((λ k. c .before .before .before .before .before .before .loop .inv .0 k ∙ items.numbers-more _ _ _ _ (c .before .before .before .before .before .loop-test .taken) (c .before .before .pair-entries .ensures k)), search needs))
+    (λ c.
+    let c5 = c .before .before .before .before .before in
+    let c6 = c5 .before in
+    ((λ k. c6 .loop .inv .0 k ∙ items.numbers-more _ _ _ _ (c5 .loop-test .taken) (c .before .before .pair-entries .ensures k)), search needs))
     (λ c. search needs)
     (λ c. λ k. sym (laws.later-is _ _ _ _ _ (c .before .before .rule-walk .ensures) ∙ c .before .loop .inv .0 k ∙ items.numbers-end _ _ _ _ (c .loop-test .left))))

@@ -34,6 +34,9 @@ opposing-entries-spec =
     (λ c κs. search needs)
     (λ c. search needs)
     (λ c. search needs)
-    (λ c. ((λ k. c .before .before .before .before .before .loop .inv .0 k ∙ items.numbers-more _ _ _ _ (c .before .before .before .before .loop-test .taken) (c .before .before .later-entries .ensures k)), search needs))
+    (λ c.
+    let c4 = c .before .before .before .before in
+    let c5 = c4 .before in
+    ((λ k. c5 .loop .inv .0 k ∙ items.numbers-more _ _ _ _ (c4 .loop-test .taken) (c .before .before .later-entries .ensures k)), search needs))
     (λ c. search needs)
     (λ c. λ k. sym (c .before .loop .inv .0 k ∙ items.numbers-end _ _ _ _ (c .loop-test .left))))

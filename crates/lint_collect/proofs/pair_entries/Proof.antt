@@ -18,6 +18,13 @@ pair-entries-spec =
     (λ c κs. search needs)
     (λ c κs. search needs)
     (λ c κs. search needs)
-    (λ c κs. (c .before .before .before .before .before .before .before .before .before .pre .0, c .before .before .before .before .before .before .before .before .before .pre .3, sizes.sized _ _ (c .before .before .before .before .rule-walk .ensures) .0))
+    (λ c κs.
+    let c4 = c .before .before .before .before in
+    let c9 = c4 .before .before .before .before .before in
+    (c9 .pre .0, c9 .pre .3, sizes.sized _ _ (c4 .rule-walk .ensures) .0))
     (λ c. search needs)
-    (λ c. λ k. laws.pair-is _ _ _ _ _ _ _ (c .before .before .before .before .before .before .before .rule-walk .ensures) (c .before .before .before .before .before .before .with .ensures) (c .before .before .before .before .before .with2 .ensures) (c .before .before .oppose-pair .ensures k)))
+    (λ c.
+    let c5 = c .before .before .before .before .before in
+    let c6 = c5 .before in
+    let c7 = c6 .before in
+    λ k. laws.pair-is _ _ _ _ _ _ _ (c7 .rule-walk .ensures) (c6 .with .ensures) (c5 .with2 .ensures) (c .before .before .oppose-pair .ensures k)))

@@ -19,9 +19,21 @@ rule-entries-spec =
     (λ c. search needs)
     (λ c κs. search needs)
     (λ c κs. (c .before .before .before .before .before .before .before .before .pre .0, sizes.sized _ _ (c .before .before .rule-walk .ensures) .0))
-    (λ c κs. (c .before .before .before .before .before .before .before .before .before .before .pre .0, sizes.sized _ _ (c .before .before .before .before .rule-walk .ensures) .0))
+    (λ c κs.
+    let c4 = c .before .before .before .before in
+    let c10 = c4 .before .before .before .before .before .before in
+    (c10 .pre .0, sizes.sized _ _ (c4 .rule-walk .ensures) .0))
     (λ c κs. search needs)
-    (λ c κs. (c .before .before .before .before .before .before .before .before .before .before .before .before .before .before .before .pre .0, c .before .before .before .before .before .before .before .before .before .before .before .before .before .before .before .pre .1, c .before .before .before .before .before .before .before .before .before .before .before .before .before .before .before .pre .2, sizes.sized _ _ (c .before .before .before .before .before .before .before .before .before .rule-walk .ensures) .0))
+    (λ c κs.
+    let c9 = c .before .before .before .before .before .before .before .before .before in
+    let c15 = c9 .before .before .before .before .before .before in
+    (c15 .pre .0, c15 .pre .1, c15 .pre .2, sizes.sized _ _ (c9 .rule-walk .ensures) .0))
     (λ c. search needs)
     (λ c. search needs)
-    (λ c. laws.rule-is _ _ _ _ _ (c .before .before .before .before .before .before .before .before .before .before .before .before .before .before .rule-walk .ensures) (c .before .before .before .before .before .before .before .before .before .before .before .writes .ensures) (c .before .before .before .before .before .before .before .before .before .reads .ensures) (c .before .before .before .before .before .before .before .before .about .ensures) (c .before .before .before .before .rule-findings .ensures)))
+    (λ c.
+    let c4 = c .before .before .before .before in
+    let c8 = c4 .before .before .before .before in
+    let c9 = c8 .before in
+    let c11 = c9 .before .before in
+    let c14 = c11 .before .before .before in
+    laws.rule-is _ _ _ _ _ (c14 .rule-walk .ensures) (c11 .writes .ensures) (c9 .reads .ensures) (c8 .about .ensures) (c4 .rule-findings .ensures)))

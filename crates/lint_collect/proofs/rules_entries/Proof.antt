@@ -33,7 +33,11 @@ rules-entries-spec =
     (λ c κs. search needs)
     (λ c. search needs)
     (λ c. search needs)
-    (λ c. (c .before .before .before .before .before .before .before .before .loop .inv .0 ∙ items.numbers-more _ _ _ _ (c .before .before .before .before .before .before .before .loop-test .taken) (c .before .before .before .before .rule-entries .ensures), search needs))
+    (λ c.
+    let c4 = c .before .before .before .before in
+    let c7 = c4 .before .before .before in
+    let c8 = c7 .before in
+    (c8 .loop .inv .0 ∙ items.numbers-more _ _ _ _ (c7 .loop-test .taken) (c4 .rule-entries .ensures), search needs))
     (λ c. search needs)
     (λ c. search needs)
     (λ c. sym (c .before .loop .inv .0 ∙ items.numbers-end _ _ _ _ (c .loop-test .left))))

@@ -27,8 +27,14 @@ guarded-spec =
     (λ c. search needs)
     (λ c. search needs)
     (λ c κs. search needs)
-    (λ c. sym (laws.guarded-is _ (sectionOf _ _) _ _ ∙ c .before .before .before .before .loop .inv ∙ laws.list-here _ _ _ _ (c .before .before .before .loop-test .taken) (sym (c .before .guard .ensures) ∙ c .if1 .taken)))
+    (λ c.
+    let c3 = c .before .before .before in
+    let c4 = c3 .before in
+    sym (laws.guarded-is _ (sectionOf _ _) _ _ ∙ c4 .loop .inv ∙ laws.list-here _ _ _ _ (c3 .loop-test .taken) (sym (c .before .guard .ensures) ∙ c .if1 .taken)))
     (λ c. search needs)
     (λ c. search needs)
-    (λ c. c .before .before .before .before .loop .inv ∙ laws.list-later _ _ _ _ (c .before .before .before .loop-test .taken) (sym (c .before .guard .ensures) ∙ c .if1 .left))
+    (λ c.
+    let c3 = c .before .before .before in
+    let c4 = c3 .before in
+    c4 .loop .inv ∙ laws.list-later _ _ _ _ (c3 .loop-test .taken) (sym (c .before .guard .ensures) ∙ c .if1 .left))
     (λ c. sym (laws.guarded-is _ (sectionOf _ _) _ _ ∙ c .before .loop .inv ∙ laws.list-end _ _ _ _ (c .loop-test .left))))

@@ -33,8 +33,15 @@ highest-spec =
     (λ c κs. search needs)
     (λ c. search needs)
     (λ c. search needs)
-    (λ c. λ z. c .before .before .before .before .before .before .loop .inv z ∙ laws.highest-yes _ _ _ _ _ _ (c .before .before .before .before .before .loop-test .taken) (c .before .before .before .before .has .ensures) (c .before .before .before .if1 .taken) (c .before .tier .ensures) (c .greater .ensures))
+    (λ c.
+    let c3 = c .before .before .before in
+    let c4 = c3 .before in
+    let c5 = c4 .before in
+    let c6 = c5 .before in
+    λ z. c6 .loop .inv z ∙ laws.highest-yes _ _ _ _ _ _ (c5 .loop-test .taken) (c4 .has .ensures) (c3 .if1 .taken) (c .before .tier .ensures) (c .greater .ensures))
     (λ c. search needs)
     (λ c. search needs)
-    (λ c. λ z. c .before .before .before .loop .inv z ∙ laws.highest-no _ _ _ _ _ _ (c .before .before .loop-test .taken) (c .before .has .ensures) (c .if1 .left))
+    (λ c.
+    let c3 = c .before .before .before in
+    λ z. c3 .loop .inv z ∙ laws.highest-no _ _ _ _ _ _ (c .before .before .loop-test .taken) (c .before .has .ensures) (c .if1 .left))
     (λ c. sym (c .before .loop .inv _ ∙ laws.highest-end _ _ _ _ _ _ (c .loop-test .left))))

@@ -25,4 +25,9 @@ meets-spec =
     (λ c κs. search needs)
     (λ c κs. search needs)
     (λ c κs. search needs)
-    (λ c. c .clashes .ensures ∙ laws.meets-is _ _ _ (c .before .before .before .before .before .before .before .byte-at .ensures) (search needs) (c .before .before .before .before .before .past .ensures) (c .before .before .before .before .place-at .ensures) (c .before .before .before .past2 .ensures) (c .before .before .place-at2 .ensures) (c .before .predicate-end .ensures)))
+    (λ c.
+    let c3 = c .before .before .before in
+    let c4 = c3 .before in
+    let c5 = c4 .before in
+    let c7 = c5 .before .before in
+    c .clashes .ensures ∙ laws.meets-is _ _ _ (c7 .byte-at .ensures) (search needs) (c5 .past .ensures) (c4 .place-at .ensures) (c3 .past2 .ensures) (c .before .before .place-at2 .ensures) (c .before .predicate-end .ensures)))

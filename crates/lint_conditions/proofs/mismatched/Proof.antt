@@ -30,11 +30,18 @@ mismatched-spec =
     (λ c κs. search needs)
     (λ c κs. search needs)
     (λ c κs. search needs)
-    (λ c. laws.mismatched-is _ _ (c .before .before .before .conditions-at .ensures) (c .before .before .triggers-at .ensures) (c .before .place-at .ensures) (c .past .ensures))
+    (λ c.
+    let c3 = c .before .before .before in
+    laws.mismatched-is _ _ (c3 .conditions-at .ensures) (c .before .before .triggers-at .ensures) (c .before .place-at .ensures) (c .past .ensures))
     (λ c κs. search needs)
-    (λ c. sym (c .before .before .before .loop .inv ∙ laws.all-fails _ _ _ _ (c .before .before .loop-test .taken) (sym (c .before .mismatch .ensures) ∙ laws.not-true _ (c .if1 .taken))))
+    (λ c.
+    let c3 = c .before .before .before in
+    sym (c3 .loop .inv ∙ laws.all-fails _ _ _ _ (c .before .before .loop-test .taken) (sym (c .before .mismatch .ensures) ∙ laws.not-true _ (c .if1 .taken))))
     (λ c κs. search needs)
     (λ c. search needs)
     (λ c. search needs)
-    (λ c. c .before .before .before .before .loop .inv ∙ laws.all-later _ _ _ _ (c .before .before .before .loop-test .taken) (sym (c .before .before .mismatch .ensures) ∙ laws.not-false _ (c .before .if1 .left)) (c .past2 .ensures))
+    (λ c.
+    let c3 = c .before .before .before in
+    let c4 = c3 .before in
+    c4 .loop .inv ∙ laws.all-later _ _ _ _ (c3 .loop-test .taken) (sym (c .before .before .mismatch .ensures) ∙ laws.not-false _ (c .before .if1 .left)) (c .past2 .ensures))
     (λ c. sym (c .before .loop .inv ∙ laws.all-done _ _ _ _ (c .loop-test .left))))

@@ -22,4 +22,7 @@ stale-spec =
     (λ c. search needs)
     (λ c κs. search needs)
     (λ c κs. search needs)
-    (λ c. laws.stale-at _ _ (c .before .before .before .before .past .ensures) (c .before .before .before .place-at .ensures) (c .before .before .past2 .ensures) (c .before .past3 .ensures) (c .number-at .ensures)))
+    (λ c.
+    let c3 = c .before .before .before in
+    let c4 = c3 .before in
+    laws.stale-at _ _ (c4 .past .ensures) (c3 .place-at .ensures) (c .before .before .past2 .ensures) (c .before .past3 .ensures) (c .number-at .ensures)))

@@ -16,4 +16,6 @@ given-of-spec =
     (λ c κs. search needs)
     (λ c. search needs)
     (λ c κs. search needs)
-    (λ c. laws.given-is _ _ _ _ _ (c .before .before .before .before .place-of .ensures) (c .before .before .place-of2 .ensures) (c .place-of3 .ensures)))
+    (λ c.
+    let c4 = c .before .before .before .before in
+    laws.given-is _ _ _ _ _ (c4 .place-of .ensures) (c .before .before .place-of2 .ensures) (c .place-of3 .ensures)))

@@ -15,8 +15,18 @@ inserted-spec =
     (tie.spec
     (λ c κs. search needs)
     (λ c κs. search needs)
-    (λ c κs. laws.given-few _ _ (c .before .before .before .before .before .before .before .before .before .before .before .before .before .before .before .given-of .ensures) (c .before .before .before .before .before .before .before .before .before .before .before .before .before .before .before .before .before .before .before .before .before .before .pre))
-    (λ c κs. c .before .before .before .before .before .before .before .before .before .before .before .before .before .before .before .before .before .before .before .before .before .before .before .before .before .before .before .before .pre .rules)
+    (λ c κs.
+    let c15 = c .before .before .before .before .before .before .before .before .before .before .before .before .before .before .before in
+    let c22 = c15 .before .before .before .before .before .before .before in
+    laws.given-few _ _ (c15 .given-of .ensures) (c22 .pre))
+    (λ c κs.
+    let c28 = c .before .before .before .before .before .before .before .before .before .before .before .before .before .before .before .before .before .before .before .before .before .before .before .before .before .before .before .before in
+    c28 .pre .rules)
     (λ c. search needs)
     (λ c. search needs)
-    (λ c. laws.inserts _ _ _ _ _ _ (c .before .before .before .before .before .before .before .before .before .before .before .before .before .before .before .before .before .before .before .before .before .before .clear .ensures) (c .before .before .before .before .before .before .before .before .before .before .before .before .before .before .before .before .before .before .before .before .before .before .before .before .before .given-of .ensures) (c .before .before .before .before .before .before .before .before .before .entries .ensures) (c .before .before .before .notes .ensures)))
+    (λ c.
+    let c3 = c .before .before .before in
+    let c9 = c3 .before .before .before .before .before .before in
+    let c22 = c9 .before .before .before .before .before .before .before .before .before .before .before .before .before in
+    let c25 = c22 .before .before .before in
+    laws.inserts _ _ _ _ _ _ (c22 .clear .ensures) (c25 .given-of .ensures) (c9 .entries .ensures) (c3 .notes .ensures)))

@@ -17,7 +17,13 @@ lint-spec =
     (λ c κs. search needs)
     (λ c. search needs)
     (λ c κs. core.accepted-bounds _ _ (c .before .before .before .before .accept .ensures) (c .before .before .enum-told .given .1))
-    (λ c. core.refused-answers _ _ (c .before .before .before .before .accept .ensures) (c .before .before .status .given .1) (c .refused .ensures) _ _)
+    (λ c.
+    let c4 = c .before .before .before .before in
+    core.refused-answers _ _ (c4 .accept .ensures) (c .before .before .status .given .1) (c .refused .ensures) _ _)
     (λ c. search needs)
     (λ c. search needs)
-    (λ c. core.accepted-answers _ _ (c .before .before .before .before .before .before .before .before .before .accept .ensures) (c .before .before .before .before .before .before .before .enum-told .given .1) (c .before .before .before .before .linted .ensures)))
+    (λ c.
+    let c4 = c .before .before .before .before in
+    let c7 = c4 .before .before .before in
+    let c9 = c7 .before .before in
+    core.accepted-answers _ _ (c9 .accept .ensures) (c7 .enum-told .given .1) (c4 .linted .ensures)))

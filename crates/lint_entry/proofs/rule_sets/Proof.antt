@@ -41,10 +41,17 @@ rule-sets-spec =
     (λ c κs. (c .before .before .before .before .before .before .before .before .pre .0, sizes.sized _ _ (c .before .rule-walk .ensures) .0))
     (λ c. search needs)
     (λ c. search needs)
-    (λ c κs. (c .before .before .before .before .before .before .before .before .before .before .pre .0, sizes.sized _ _ (c .before .before .before .rule-walk .ensures) .0))
+    (λ c κs.
+    let c3 = c .before .before .before in
+    let c10 = c3 .before .before .before .before .before .before .before in
+    (c10 .pre .0, sizes.sized _ _ (c3 .rule-walk .ensures) .0))
     (λ c. search needs)
     (λ c. search needs)
     (λ c. search needs)
     (λ c. search needs)
-    (λ c. λ z y. (c .before .before .before .before .before .before .before .before .loop .inv z y .0 ∙ entry.fill-more _ _ _ _ (c .before .before .before .before .before .before .before .loop-test .taken) (laws.read-is _ _ _ (c .before .before .before .before .rule-walk .ensures) (c .before .before .reads .ensures)), c .before .before .before .before .before .before .before .before .loop .inv z y .1 ∙ entry.fill-more _ _ _ _ (c .before .before .before .before .before .before .before .loop-test .taken) (laws.write-is _ _ _ (c .before .before .before .before .rule-walk .ensures) (c .writes .ensures))))
+    (λ c.
+    let c4 = c .before .before .before .before in
+    let c7 = c4 .before .before .before in
+    let c8 = c7 .before in
+    λ z y. (c8 .loop .inv z y .0 ∙ entry.fill-more _ _ _ _ (c7 .loop-test .taken) (laws.read-is _ _ _ (c4 .rule-walk .ensures) (c .before .before .reads .ensures)), c8 .loop .inv z y .1 ∙ entry.fill-more _ _ _ _ (c7 .loop-test .taken) (laws.write-is _ _ _ (c4 .rule-walk .ensures) (c .writes .ensures))))
     (λ c. (sym (c .before .loop .inv _ _ .0 ∙ entry.fill-end _ _ _ _ (c .loop-test .left)), sym (c .before .loop .inv _ _ .1 ∙ entry.fill-end _ _ _ _ (c .loop-test .left)))))

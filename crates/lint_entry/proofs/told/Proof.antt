@@ -15,4 +15,8 @@ told-spec =
     (λ c κs. search needs)
     (λ c κs. search needs)
     (λ c κs. search needs)
-    (λ c. laws.told-is _ _ _ _ (c .before .before .before .before .before .before .before .before .before .before .before .before .before .before .before .first-sets .ensures) (c .before .before .before .before .before .before .before .before .before .before .rule-sets .ensures .0) (c .before .before .before .before .before .before .before .before .before .before .rule-sets .ensures .1) (c .before .before .before .before .before .undeclared-names .ensures)))
+    (λ c.
+    let c5 = c .before .before .before .before .before in
+    let c10 = c5 .before .before .before .before .before in
+    let c15 = c10 .before .before .before .before .before in
+    laws.told-is _ _ _ _ (c15 .first-sets .ensures) (c10 .rule-sets .ensures .0) (c10 .rule-sets .ensures .1) (c5 .undeclared-names .ensures)))

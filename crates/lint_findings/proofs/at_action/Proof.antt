@@ -14,4 +14,6 @@ use Rattle.lint_walk.proofs.past.Reads as past-reads
 pub at-action-spec : {M : Type 1} → statement M
 at-action-spec =
     tie.close
-    (tie.spec (λ c κs. search needs) (λ c κs. search needs) (λ c κs. search needs) (λ c κs. search needs) (λ c. c .finding .ensures ∙ laws.action-is _ _ _ _ _ _ (c .before .before .before .number-at .ensures) (c .before .before .past .ensures) (c .before .number-at2 .ensures)))
+    (tie.spec (λ c κs. search needs) (λ c κs. search needs) (λ c κs. search needs) (λ c κs. search needs) (λ c.
+    let c3 = c .before .before .before in
+    c .finding .ensures ∙ laws.action-is _ _ _ _ _ _ (c3 .number-at .ensures) (c .before .before .past .ensures) (c .before .number-at2 .ensures)))

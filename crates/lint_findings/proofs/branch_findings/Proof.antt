@@ -33,9 +33,17 @@ branch-findings-spec =
     (λ c κs. search needs)
     (λ c. search needs)
     (λ c. search needs)
-    (λ c. ((λ i. c .before .before .before .before .before .before .before .before .loop .inv .0 i ∙ laws.numbers-more _ _ _ _ (c .before .before .before .before .before .before .before .loop-test .taken) (laws.at-choice _ _ _ _ (c .before .before .before .before .before .kind-at .ensures) _ (c .before .before .before .before .if1 .taken) (c .before .before .choice-findings .ensures i))), search needs))
+    (λ c.
+    let c4 = c .before .before .before .before in
+    let c5 = c4 .before in
+    let c7 = c5 .before .before in
+    let c8 = c7 .before in
+    ((λ i. c8 .loop .inv .0 i ∙ laws.numbers-more _ _ _ _ (c7 .loop-test .taken) (laws.at-choice _ _ _ _ (c5 .kind-at .ensures) _ (c4 .if1 .taken) (c .before .before .choice-findings .ensures i))), search needs))
     (λ c. search needs)
     (λ c. search needs)
-    (λ c. ((λ i. c .before .before .before .before .loop .inv .0 i ∙ laws.numbers-more _ _ _ _ (c .before .before .before .loop-test .taken) (laws.at-other _ _ _ _ (c .before .kind-at .ensures) _ (c .if1 .left))), search needs))
+    (λ c.
+    let c3 = c .before .before .before in
+    let c4 = c3 .before in
+    ((λ i. c4 .loop .inv .0 i ∙ laws.numbers-more _ _ _ _ (c3 .loop-test .taken) (laws.at-other _ _ _ _ (c .before .kind-at .ensures) _ (c .if1 .left))), search needs))
     (λ c. search needs)
     (λ c. λ i. sym (c .before .loop .inv .0 i ∙ laws.numbers-end _ _ _ _ (c .loop-test .left))))

@@ -44,6 +44,15 @@ choice-findings-spec =
     (λ c κs. search needs)
     (λ c. search needs)
     (λ c. search needs)
-    (λ c. ((λ i. c .before .before .before .before .before .before .before .before .loop .inv .0 i ∙ laws.parts-more _ _ _ _ _ (c .before .before .before .before .before .before .before .loop-test .taken) (laws.with-finding _ (c .before .before .before .before .before .contradictory .ensures) refl (c .before .before .before .before .push-if .ensures i)) (c .list-end .ensures ∙ ap (listEnd _) (c .before .predicates-end .ensures))), search needs))
+    (λ c.
+    let c4 = c .before .before .before .before in
+    let c5 = c4 .before in
+    let c7 = c5 .before .before in
+    let c8 = c7 .before in
+    ((λ i. c8 .loop .inv .0 i ∙ laws.parts-more _ _ _ _ _ (c7 .loop-test .taken) (laws.with-finding _ (c5 .contradictory .ensures) refl (c4 .push-if .ensures i)) (c .list-end .ensures ∙ ap (listEnd _) (c .before .predicates-end .ensures))), search needs))
     (λ c. search needs)
-    (λ c. λ i. sym (laws.branch-is _ _ _ _ (c .before .before .before .before .before .at-action .ensures) (c .before .before .before .before .past .ensures) (c .before .before .before .place-at .ensures) (c .before .before .past2 .ensures) ∙ c .before .loop .inv .0 i ∙ laws.parts-end _ _ _ _ _ (c .loop-test .left))))
+    (λ c.
+    let c3 = c .before .before .before in
+    let c4 = c3 .before in
+    let c5 = c4 .before in
+    λ i. sym (laws.branch-is _ _ _ _ (c5 .at-action .ensures) (c4 .past .ensures) (c3 .place-at .ensures) (c .before .before .past2 .ensures) ∙ c .before .loop .inv .0 i ∙ laws.parts-end _ _ _ _ _ (c .loop-test .left))))

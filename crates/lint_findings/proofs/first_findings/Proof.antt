@@ -22,4 +22,9 @@ first-findings-spec =
     (λ c κs. search needs)
     (λ c κs. search needs)
     (λ c. search needs)
-    (λ c. λ i. laws.first-is _ _ _ _ _ _ (c .before .before .before .before .before .before .before .before .before .before .before .before .own-findings .ensures i) (c .before .before .before .before .before .before .before .before .branch-findings .ensures i) (laws.with-finding _ (c .before .before .before .before .many .ensures) (c .before .before .before .finding .ensures) (c .before .before .push-if .ensures i))))
+    (λ c.
+    let c3 = c .before .before .before in
+    let c4 = c3 .before in
+    let c8 = c4 .before .before .before .before in
+    let c12 = c8 .before .before .before .before in
+    λ i. laws.first-is _ _ _ _ _ _ (c12 .own-findings .ensures i) (c8 .branch-findings .ensures i) (laws.with-finding _ (c4 .many .ensures) (c3 .finding .ensures) (c .before .before .push-if .ensures i))))

@@ -35,6 +35,11 @@ fresh-findings-spec =
     (λ c κs. search needs)
     (λ c. search needs)
     (λ c. search needs)
-    (λ c. ((λ i. c .before .before .before .before .before .before .before .loop .inv .0 i ∙ laws.numbers-more _ _ _ _ (c .before .before .before .before .before .before .loop-test .taken) (laws.with-finding _ (c .before .before .before .before .before .stale-here .ensures) (c .before .before .before .finding .ensures) (c .before .before .push-if .ensures i))), search needs))
+    (λ c.
+    let c3 = c .before .before .before in
+    let c5 = c3 .before .before in
+    let c6 = c5 .before in
+    let c7 = c6 .before in
+    ((λ i. c7 .loop .inv .0 i ∙ laws.numbers-more _ _ _ _ (c6 .loop-test .taken) (laws.with-finding _ (c5 .stale-here .ensures) (c3 .finding .ensures) (c .before .before .push-if .ensures i))), search needs))
     (λ c. search needs)
     (λ c. λ i. sym (c .before .loop .inv .0 i ∙ laws.numbers-end _ _ _ _ (c .loop-test .left))))

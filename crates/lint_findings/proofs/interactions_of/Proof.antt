@@ -36,6 +36,10 @@ interactions-of-spec =
     (λ c κs. search needs)
     (λ c. search needs)
     (λ c. search needs)
-    (λ c. ((λ f. c .before .before .before .before .before .before .before .loop .inv .0 f ∙ laws.numbers-more _ _ _ _ (c .before .before .before .before .before .before .loop-test .taken) (laws.with-interaction _ _ (c .before .before .before .before .leads .ensures) (c .before .before .interact-if .ensures f))), search needs))
+    (λ c.
+    let c4 = c .before .before .before .before in
+    let c6 = c4 .before .before in
+    let c7 = c6 .before in
+    ((λ f. c7 .loop .inv .0 f ∙ laws.numbers-more _ _ _ _ (c6 .loop-test .taken) (laws.with-interaction _ _ (c4 .leads .ensures) (c .before .before .interact-if .ensures f))), search needs))
     (λ c. search needs)
     (λ c. λ f. sym (laws.interact-is _ _ (sectionOf _ _) _ _ _ _ _ ∙ c .before .loop .inv .0 f ∙ laws.numbers-end _ _ _ _ (c .loop-test .left))))

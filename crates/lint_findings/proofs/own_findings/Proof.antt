@@ -30,4 +30,14 @@ own-findings-spec =
     (λ c κs. search needs)
     (λ c κs. search needs)
     (λ c. search needs)
-    (λ c. λ i. laws.own-is _ _ _ _ _ _ (laws.with-finding _ (c .before .before .before .before .before .before .before .before .before .before .before .before .before .before .before .before .before .contradictory .ensures ∙ ap (contradictoryM _) (c .before .before .before .before .before .before .before .before .before .before .before .before .before .before .before .before .before .before .conditions-at .ensures)) (c .before .before .before .before .before .before .before .before .before .before .before .before .before .before .before .finding .ensures) (c .before .before .before .before .before .before .before .before .before .before .before .before .before .before .push-if .ensures i)) (laws.with-finding _ (c .before .before .before .before .before .before .before .before .before .before .before .mismatched .ensures) (c .before .before .before .before .before .before .before .before .before .finding2 .ensures) (c .before .before .before .before .before .before .before .before .push-if2 .ensures i)) (laws.with-finding _ (c .before .before .before .before .before .delayed .ensures) (c .before .before .before .finding3 .ensures) (c .before .before .push-if3 .ensures i))))
+    (λ c.
+    let c3 = c .before .before .before in
+    let c5 = c3 .before .before in
+    let c8 = c5 .before .before .before in
+    let c9 = c8 .before in
+    let c11 = c9 .before .before in
+    let c14 = c11 .before .before .before in
+    let c15 = c14 .before in
+    let c17 = c15 .before .before in
+    let c18 = c17 .before in
+    λ i. laws.own-is _ _ _ _ _ _ (laws.with-finding _ (c17 .contradictory .ensures ∙ ap (contradictoryM _) (c18 .conditions-at .ensures)) (c15 .finding .ensures) (c14 .push-if .ensures i)) (laws.with-finding _ (c11 .mismatched .ensures) (c9 .finding2 .ensures) (c8 .push-if2 .ensures i)) (laws.with-finding _ (c5 .delayed .ensures) (c3 .finding3 .ensures) (c .before .before .push-if3 .ensures i))))

@@ -18,4 +18,8 @@ rule-findings-spec =
     (λ c κs. c .before .before .before .before .before .before .before .before .before .before .before .before .before .pre)
     (λ c. search needs)
     (λ c. search needs)
-    (λ c. laws.rule-is _ _ _ _ _ _ _ _ _ (c .before .before .before .before .before .before .before .before .before .before .before .before .before .first-findings .ensures _) (c .before .before .before .before .before .before .before .before .before .fresh-findings .ensures _) (c .before .before .before .before .writes-findings .ensures)))
+    (λ c.
+    let c4 = c .before .before .before .before in
+    let c9 = c4 .before .before .before .before .before in
+    let c13 = c9 .before .before .before .before in
+    laws.rule-is _ _ _ _ _ _ _ _ _ (c13 .first-findings .ensures _) (c9 .fresh-findings .ensures _) (c4 .writes-findings .ensures)))

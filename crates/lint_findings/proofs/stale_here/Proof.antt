@@ -12,4 +12,6 @@ use Rattle.lint_conditions.proofs.stale.Reads as stale-reads
 pub stale-here-spec : {M : Type 1} → statement M
 stale-here-spec =
     tie.close
-    (tie.spec (λ c κs. search needs) (λ c. search needs) (λ c. search needs) (λ c κs. search needs) (λ c. c .stale .ensures ∙ laws.stale-yes _ _ _ _ (c .before .before .before .has .ensures) (c .before .before .if1 .taken)) (λ c. sym (laws.stale-no _ _ _ _ (c .before .has .ensures) (c .if1 .left))))
+    (tie.spec (λ c κs. search needs) (λ c. search needs) (λ c. search needs) (λ c κs. search needs) (λ c.
+    let c3 = c .before .before .before in
+    c .stale .ensures ∙ laws.stale-yes _ _ _ _ (c3 .has .ensures) (c .before .before .if1 .taken)) (λ c. sym (laws.stale-no _ _ _ _ (c .before .has .ensures) (c .if1 .left))))

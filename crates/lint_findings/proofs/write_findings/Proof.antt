@@ -25,14 +25,32 @@ write-findings-spec =
     (λ c κs. search needs)
     (λ c. search needs)
     (λ c κs. search needs)
-    (λ c. laws.write-undeclared _ _ _ _ _ _ (c .before .before .before .before .before .before .before .kind-at .ensures) (c .before .before .before .before .before .before .if1 .left) (c .before .before .before .before .before .past .ensures) (c .before .before .before .before .place-at .ensures) (c .before .first-of .ensures .0) (c .if2 .taken))
+    (λ c.
+    let c4 = c .before .before .before .before in
+    let c5 = c4 .before in
+    let c6 = c5 .before in
+    let c7 = c6 .before in
+    laws.write-undeclared _ _ _ _ _ _ (c7 .kind-at .ensures) (c6 .if1 .left) (c5 .past .ensures) (c4 .place-at .ensures) (c .before .first-of .ensures .0) (c .if2 .taken))
     (λ c κs. search needs)
     (λ c. search needs)
     (λ c κs. search needs)
     (λ c κs. search needs)
     (λ c κs. search needs)
     (λ c. search needs)
-    (λ c κs. c .before .before .before .before .before .before .before .before .before .before .before .before .before .before .before .before .before .before .before .pre .2)
+    (λ c κs.
+    let c19 = c .before .before .before .before .before .before .before .before .before .before .before .before .before .before .before .before .before .before .before in
+    c19 .pre .2)
     (λ c. search needs)
     (λ c. search needs)
-    (λ c. laws.write-is _ _ _ _ _ _ (c .before .before .before .before .before .before .before .before .before .before .before .before .before .before .before .before .before .before .kind-at .ensures) (c .before .before .before .before .before .before .before .before .before .before .before .before .before .before .before .before .before .if1 .left) (c .before .before .before .before .before .before .before .before .before .before .before .before .before .before .before .before .past .ensures) (c .before .before .before .before .before .before .before .before .before .before .before .before .before .before .before .place-at .ensures) (c .before .before .before .before .before .before .before .before .before .before .before .before .first-of .ensures .0) (c .before .before .before .before .before .before .before .before .before .before .before .if2 .left) (c .before .before .before .before .before .before .before .before .before .before .value .ensures) (laws.with-finding _ (c .before .before .before .before .before .before .before .before .risky .ensures) (c .before .before .before .before .before .before .before .before .before .at-action .ensures) (c .before .before .before .before .before .before .push-if .ensures _)) (c .before .before .interactions-of .ensures _)))
+    (λ c.
+    let c6 = c .before .before .before .before .before .before in
+    let c8 = c6 .before .before in
+    let c9 = c8 .before in
+    let c10 = c9 .before in
+    let c11 = c10 .before in
+    let c12 = c11 .before in
+    let c15 = c12 .before .before .before in
+    let c16 = c15 .before in
+    let c17 = c16 .before in
+    let c18 = c17 .before in
+    laws.write-is _ _ _ _ _ _ (c18 .kind-at .ensures) (c17 .if1 .left) (c16 .past .ensures) (c15 .place-at .ensures) (c12 .first-of .ensures .0) (c11 .if2 .left) (c10 .value .ensures) (laws.with-finding _ (c8 .risky .ensures) (c9 .at-action .ensures) (c6 .push-if .ensures _)) (c .before .before .interactions-of .ensures _)))

@@ -31,7 +31,11 @@ writes-findings-spec =
     (λ c κs. search needs)
     (λ c. search needs)
     (λ c. search needs)
-    (λ c. (c .before .before .before .before .before .before .before .before .before .loop .inv .0 ∙ laws.numbers-more _ _ _ _ (c .before .before .before .before .before .before .before .before .loop-test .taken) (c .before .before .before .before .write-findings .ensures), search needs))
+    (λ c.
+    let c4 = c .before .before .before .before in
+    let c8 = c4 .before .before .before .before in
+    let c9 = c8 .before in
+    (c9 .loop .inv .0 ∙ laws.numbers-more _ _ _ _ (c8 .loop-test .taken) (c4 .write-findings .ensures), search needs))
     (λ c. search needs)
     (λ c. search needs)
     (λ c. sym (c .before .loop .inv .0 ∙ laws.numbers-end _ _ _ _ (c .loop-test .left))))

@@ -13,5 +13,8 @@ put-component-at-spec =
     (λ c. search needs)
     (λ c κs. search needs)
     (λ c. search needs)
-    (λ c. show.is (laws.component-there _ _ _ _ (c .before .before .before .before .before .before .if1 .left) (c .before .before .before .before .before .if2 .taken)) (c .before .before .put-component .ensures))
+    (λ c.
+    let c5 = c .before .before .before .before .before in
+    let c6 = c5 .before in
+    show.is (laws.component-there _ _ _ _ (c6 .if1 .left) (c5 .if2 .taken)) (c .before .before .put-component .ensures))
     (λ c. show.is (laws.past-cycles _ _ _ _ (c .before .if1 .left) (c .if2 .left)) (show.nothing _ _)))

@@ -18,4 +18,9 @@ put-finding-spec =
     (λ c κs. search needs)
     (λ c κs. search needs)
     (λ c. search needs)
-    (λ c. show.is (laws.finding-is _ _ _ _ _ (c .before .before .before .before .before .before .before .before .before .before .before .before .before .before .before .wide .ensures) (c .before .before .before .before .before .before .before .note-of .ensures)) (show.both (c .before .before .before .before .before .before .before .before .before .before .before .put-kind .ensures _ _) (show.both (c .before .before .before .before .before .before .put-message .ensures) (c .before .before .put-places .ensures)))))
+    (λ c.
+    let c6 = c .before .before .before .before .before .before in
+    let c7 = c6 .before in
+    let c11 = c7 .before .before .before .before in
+    let c15 = c11 .before .before .before .before in
+    show.is (laws.finding-is _ _ _ _ _ (c15 .wide .ensures) (c7 .note-of .ensures)) (show.both (c11 .put-kind .ensures _ _) (show.both (c6 .put-message .ensures) (c .before .before .put-places .ensures)))))

@@ -18,6 +18,10 @@ put-finding-at-spec =
     (λ c. search needs)
     (λ c. search needs)
     (λ c. search needs)
-    (λ c κs. laws.fourteen (c .before .before .before .before .before .before .args .a .now) (14 * c .before .before .before .before .before .before .args .k) (14 * c .before .before .before .before .before .before .args .k + 14) refl (omega (arith, c .before .before .if1 .left)))
+    (λ c κs.
+    let c6 = c .before .before .before .before .before .before in
+    laws.fourteen (c6 .args .a .now) (14 * c6 .args .k) (14 * c6 .args .k + 14) refl (omega (arith, c .before .before .if1 .left)))
     (λ c. search needs)
-    (λ c. show.is (laws.finding-there _ _ _ _ _ _ (c .before .before .before .before .before .if1 .left) refl refl) (c .before .before .put-finding .ensures)))
+    (λ c.
+    let c5 = c .before .before .before .before .before in
+    show.is (laws.finding-there _ _ _ _ _ _ (c5 .if1 .left) refl refl) (c .before .before .put-finding .ensures)))

@@ -25,4 +25,9 @@ put-interaction-at-spec =
     (λ c κs. search needs)
     (λ c κs. search needs)
     (λ c. search needs)
-    (λ c. show.is (laws.interaction-there _ _ _ _ _ _ _ (c .before .before .before .before .before .before .before .before .before .before .if1 .left) (c .before .before .before .before .before .before .before .before .wide .ensures) (c .before .before .before .before .before .before .wide2 .ensures) (c .before .before .before .before .wide3 .ensures)) (c .before .before .put-interaction .ensures)))
+    (λ c.
+    let c4 = c .before .before .before .before in
+    let c6 = c4 .before .before in
+    let c8 = c6 .before .before in
+    let c10 = c8 .before .before in
+    show.is (laws.interaction-there _ _ _ _ _ _ _ (c10 .if1 .left) (c8 .wide .ensures) (c6 .wide2 .ensures) (c4 .wide3 .ensures)) (c .before .before .put-interaction .ensures)))

@@ -14,4 +14,6 @@ put-place-spec =
     (λ c κs. search needs)
     (λ c κs. search needs)
     (λ c. search needs)
-    (λ c. show.is (ap (λ (l : Text). 32 ∷ l) (laws.placed-is _ _)) (show.both (c .before .before .before .before .before .before .put-byte .ensures) (c .before .before .put-source .ensures))))
+    (λ c.
+    let c6 = c .before .before .before .before .before .before in
+    show.is (ap (λ (l : Text). 32 ∷ l) (laws.placed-is _ _)) (show.both (c6 .put-byte .ensures) (c .before .before .put-source .ensures))))

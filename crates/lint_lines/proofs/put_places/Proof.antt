@@ -17,4 +17,9 @@ put-places-spec =
     (λ c κs. search needs)
     (λ c κs. search needs)
     (λ c. search needs)
-    (λ c. show.is (laws.places-are _ _) (show.both (c .before .before .before .before .before .before .before .before .before .before .before .before .before .before .before .before .before .before .before .before .put .ensures) (show.both (c .before .before .before .before .before .before .before .before .before .before .before .before .before .before .before .put-members .ensures) (show.both (c .before .before .before .before .before .before .before .before .before .before .put2 .ensures) (show.both (c .before .before .before .before .before .before .put-sources .ensures) (c .before .before .put-byte .ensures)))))))
+    (λ c.
+    let c6 = c .before .before .before .before .before .before in
+    let c10 = c6 .before .before .before .before in
+    let c15 = c10 .before .before .before .before .before in
+    let c20 = c15 .before .before .before .before .before in
+    show.is (laws.places-are _ _) (show.both (c20 .put .ensures) (show.both (c15 .put-members .ensures) (show.both (c10 .put2 .ensures) (show.both (c6 .put-sources .ensures) (c .before .before .put-byte .ensures)))))))

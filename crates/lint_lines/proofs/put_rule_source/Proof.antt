@@ -18,5 +18,13 @@ put-rule-source-spec =
     (λ c κs. search needs)
     (λ c κs. search needs)
     (λ c. search needs)
-    (λ c. show.is (laws.rule-placed _ _ _ _ _ _ _ _ (c .before .before .before .before .before .before .before .before .start-at .ensures) (c .before .before .before .before .before .before .before .source-at .ensures) (c .before .before .before .before .before .before .number-at .ensures) (c .before .before .before .before .before .past .ensures) (c .before .before .before .before .number-at2 .ensures) ∙ words.chosen _ _ (sym (c .before .before .before .before .before .before .before .before .before .before .has .ensures) ∙ c .before .before .before .before .before .before .before .before .before .if1 .taken)) (c .before .before .put-place .ensures))
+    (λ c.
+    let c4 = c .before .before .before .before in
+    let c5 = c4 .before in
+    let c6 = c5 .before in
+    let c7 = c6 .before in
+    let c8 = c7 .before in
+    let c9 = c8 .before in
+    let c10 = c9 .before in
+    show.is (laws.rule-placed _ _ _ _ _ _ _ _ (c8 .start-at .ensures) (c7 .source-at .ensures) (c6 .number-at .ensures) (c5 .past .ensures) (c4 .number-at2 .ensures) ∙ words.chosen _ _ (sym (c10 .has .ensures) ∙ c9 .if1 .taken)) (c .before .before .put-place .ensures))
     (λ c. show.is (words.not-chosen _ _ (sym (c .before .has .ensures) ∙ c .if1 .left)) (show.nothing _ _)))

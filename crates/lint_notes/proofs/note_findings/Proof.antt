@@ -28,6 +28,10 @@ note-findings-spec =
     (λ c κs. search needs)
     (λ c. search needs)
     (λ c. search needs)
-    (λ c. ((λ k. c .before .before .before .before .before .before .loop .inv .0 k ∙ items.numbers-more _ _ _ _ (c .before .before .before .before .before .loop-test .taken) (items.one-finding _ (c .before .before .before .note-words .ensures) (c .before .before .push-finding .ensures k))), search needs))
+    (λ c.
+    let c3 = c .before .before .before in
+    let c5 = c3 .before .before in
+    let c6 = c5 .before in
+    ((λ k. c6 .loop .inv .0 k ∙ items.numbers-more _ _ _ _ (c5 .loop-test .taken) (items.one-finding _ (c3 .note-words .ensures) (c .before .before .push-finding .ensures k))), search needs))
     (λ c. search needs)
     (λ c. λ k. sym (c .before .loop .inv .0 k ∙ items.numbers-end _ _ _ _ (c .loop-test .left))))

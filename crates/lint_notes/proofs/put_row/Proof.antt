@@ -29,4 +29,11 @@ put-row-spec =
     (λ c κs. search needs)
     (λ c κs. search needs)
     (λ c. search needs)
-    (λ c. laws.row-is _ _ _ (c .before .before .before .before .before .before .before .before .before .conditions-at .ensures) (c .before .before .before .before .before .before .before .place-at .ensures) (c .before .before .before .before .before .before .triggers-at .ensures) (c .before .before .before .before .before .capped .ensures) (c .before .before .before .before .capped2 .ensures) (c .before .before .before .predicates-end .ensures) (c .before .before .capped3 .ensures) (c .before .past .ensures) (c .capped4 .ensures)))
+    (λ c.
+    let c3 = c .before .before .before in
+    let c4 = c3 .before in
+    let c5 = c4 .before in
+    let c6 = c5 .before in
+    let c7 = c6 .before in
+    let c9 = c7 .before .before in
+    laws.row-is _ _ _ (c9 .conditions-at .ensures) (c7 .place-at .ensures) (c6 .triggers-at .ensures) (c5 .capped .ensures) (c4 .capped2 .ensures) (c3 .predicates-end .ensures) (c .before .before .capped3 .ensures) (c .before .past .ensures) (c .capped4 .ensures)))

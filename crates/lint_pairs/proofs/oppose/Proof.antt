@@ -18,4 +18,8 @@ oppose-spec =
     (λ c κs. search needs)
     (λ c κs. search needs)
     (λ c. search needs)
-    (λ c. λ i. laws.found-is _ _ _ _ _ _ _ (c .before .before .before .before .before .before .first-of .ensures .0) (c .before .before .before .before .before .if1 .left) (c .before .before .before .pair-words .ensures) (c .before .before .push-finding .ensures i)))
+    (λ c.
+    let c3 = c .before .before .before in
+    let c5 = c3 .before .before in
+    let c6 = c5 .before in
+    λ i. laws.found-is _ _ _ _ _ _ _ (c6 .first-of .ensures .0) (c5 .if1 .left) (c3 .pair-words .ensures) (c .before .before .push-finding .ensures i)))

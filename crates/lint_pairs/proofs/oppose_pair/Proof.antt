@@ -34,6 +34,9 @@ oppose-pair-spec =
     (λ c κs. search needs)
     (λ c. search needs)
     (λ c. search needs)
-    (λ c. ((λ i. c .before .before .before .before .before .before .loop .inv .0 i ∙ items.numbers-more _ _ _ _ (c .before .before .before .before .before .loop-test .taken) (c .before .before .oppose-row .ensures i)), search needs))
+    (λ c.
+    let c5 = c .before .before .before .before .before in
+    let c6 = c5 .before in
+    ((λ i. c6 .loop .inv .0 i ∙ items.numbers-more _ _ _ _ (c5 .loop-test .taken) (c .before .before .oppose-row .ensures i)), search needs))
     (λ c. search needs)
     (λ c. λ i. sym (c .before .loop .inv .0 i ∙ items.numbers-end _ _ _ _ (c .loop-test .left))))

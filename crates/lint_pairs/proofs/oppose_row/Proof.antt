@@ -45,9 +45,27 @@ oppose-row-spec =
     (λ c κs. search needs)
     (λ c. search needs)
     (λ c. search needs)
-    (λ c. ((λ i. c .before .before .before .before .before .before .before .before .loop .inv .0 i ∙ items.numbers-more _ _ _ _ (c .before .before .before .before .before .before .before .loop-test .taken) (laws.oppose-yes _ _ _ _ _ (c .before .before .before .before .before .before .before .before .before .before .before .before .before .kind-at .ensures) (c .before .before .before .before .before .before .before .before .before .before .before .before .if1 .left) (c .before .before .before .before .before .before .before .before .before .before .before .past .ensures) (c .before .before .before .before .before .before .before .before .before .before .place-at .ensures) (c .before .before .before .before .before .before .before .before .before .value .ensures) _ (c .before .before .before .before .before .opposing .ensures) (c .before .before .before .before .if2 .taken) (c .before .before .oppose .ensures i))), search needs))
+    (λ c.
+    let c4 = c .before .before .before .before in
+    let c5 = c4 .before in
+    let c7 = c5 .before .before in
+    let c8 = c7 .before in
+    let c9 = c8 .before in
+    let c10 = c9 .before in
+    let c11 = c10 .before in
+    let c12 = c11 .before in
+    let c13 = c12 .before in
+    ((λ i. c8 .loop .inv .0 i ∙ items.numbers-more _ _ _ _ (c7 .loop-test .taken) (laws.oppose-yes _ _ _ _ _ (c13 .kind-at .ensures) (c12 .if1 .left) (c11 .past .ensures) (c10 .place-at .ensures) (c9 .value .ensures) _ (c5 .opposing .ensures) (c4 .if2 .taken) (c .before .before .oppose .ensures i))), search needs))
     (λ c. search needs)
     (λ c. search needs)
-    (λ c. ((λ i. c .before .before .before .before .loop .inv .0 i ∙ items.numbers-more _ _ _ _ (c .before .before .before .loop-test .taken) (laws.oppose-no _ _ _ _ _ (c .before .before .before .before .before .before .before .before .before .kind-at .ensures) (c .before .before .before .before .before .before .before .before .if1 .left) (c .before .before .before .before .before .before .before .past .ensures) (c .before .before .before .before .before .before .place-at .ensures) (c .before .before .before .before .before .value .ensures) _ (c .before .opposing .ensures) (c .if2 .left))), search needs))
+    (λ c.
+    let c3 = c .before .before .before in
+    let c4 = c3 .before in
+    let c5 = c4 .before in
+    let c6 = c5 .before in
+    let c7 = c6 .before in
+    let c8 = c7 .before in
+    let c9 = c8 .before in
+    ((λ i. c4 .loop .inv .0 i ∙ items.numbers-more _ _ _ _ (c3 .loop-test .taken) (laws.oppose-no _ _ _ _ _ (c9 .kind-at .ensures) (c8 .if1 .left) (c7 .past .ensures) (c6 .place-at .ensures) (c5 .value .ensures) _ (c .before .opposing .ensures) (c .if2 .left))), search needs))
     (λ c. search needs)
     (λ c. λ i. sym (c .before .loop .inv .0 i ∙ items.numbers-end _ _ _ _ (c .loop-test .left))))

@@ -20,7 +20,15 @@ opposing-spec =
     (λ c. sym (laws.opposing-none _ _ _ _ _ (c .before .kind-at .ensures) (c .if1 .taken)))
     (λ c κs. search needs)
     (λ c κs. search needs)
-    (λ c. laws.opposing-is _ _ _ _ _ (c .before .before .before .before .kind-at .ensures) (c .before .before .before .if1 .left) (c .before .before .past .ensures) (c .before .place-at .ensures) refl (sym (tests.opposed-other _ _ _ _ _ (c .if2 .taken))))
+    (λ c.
+    let c3 = c .before .before .before in
+    let c4 = c3 .before in
+    laws.opposing-is _ _ _ _ _ (c4 .kind-at .ensures) (c3 .if1 .left) (c .before .before .past .ensures) (c .before .place-at .ensures) refl (sym (tests.opposed-other _ _ _ _ _ (c .if2 .taken))))
     (λ c κs. search needs)
     (λ c κs. search needs)
-    (λ c. laws.opposing-is _ _ _ _ _ (c .before .before .before .before .before .before .kind-at .ensures) (c .before .before .before .before .before .if1 .left) (c .before .before .before .before .past .ensures) (c .before .before .before .place-at .ensures) (c .before .value .ensures) (c .opposed .ensures)))
+    (λ c.
+    let c3 = c .before .before .before in
+    let c4 = c3 .before in
+    let c5 = c4 .before in
+    let c6 = c5 .before in
+    laws.opposing-is _ _ _ _ _ (c6 .kind-at .ensures) (c5 .if1 .left) (c4 .past .ensures) (c3 .place-at .ensures) (c .before .value .ensures) (c .opposed .ensures)))

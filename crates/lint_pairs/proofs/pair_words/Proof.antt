@@ -25,4 +25,10 @@ pair-words-spec =
     (λ c κs. search needs)
     (λ c κs. search needs)
     (λ c. search needs)
-    (λ c. laws.pair-is _ _ _ _ _ _ (c .before .before .before .before .before .before .before .tier .ensures) (c .before .before .before .before .before .before .spelled .ensures) (c .before .before .before .before .before .number-at .ensures) (c .before .before .before .before .past .ensures) (c .before .before .before .number-at2 .ensures) (c .before .before .number-at3 .ensures) (c .before .past2 .ensures) (c .number-at4 .ensures)))
+    (λ c.
+    let c3 = c .before .before .before in
+    let c4 = c3 .before in
+    let c5 = c4 .before in
+    let c6 = c5 .before in
+    let c7 = c6 .before in
+    laws.pair-is _ _ _ _ _ _ (c7 .tier .ensures) (c6 .spelled .ensures) (c5 .number-at .ensures) (c4 .past .ensures) (c3 .number-at2 .ensures) (c .before .before .number-at3 .ensures) (c .before .past2 .ensures) (c .number-at4 .ensures)))

@@ -11,5 +11,11 @@ better-spec =
     (λ c. laws.better-before _ _ _ _ _ _ (c .before .name-place .ensures) (c .if1 .taken))
     (λ c. laws.better-first _ _ _ _ _ _ (c .before .before .name-place .ensures) (c .before .if1 .left) (c .if2 .taken))
     (λ c κs. search needs)
-    (λ c. laws.better-less _ _ _ _ _ _ (c .before .before .before .before .name-place .ensures) _ (c .before .before .before .if1 .left) (c .before .before .if2 .left) (c .before .name-place2 .ensures) (c .if3 .taken))
-    (λ c. laws.better-more _ _ _ _ _ _ (c .before .before .before .before .name-place .ensures) _ (c .before .before .before .if1 .left) (c .before .before .if2 .left) (c .before .name-place2 .ensures) (c .if3 .left)))
+    (λ c.
+    let c3 = c .before .before .before in
+    let c4 = c3 .before in
+    laws.better-less _ _ _ _ _ _ (c4 .name-place .ensures) _ (c3 .if1 .left) (c .before .before .if2 .left) (c .before .name-place2 .ensures) (c .if3 .taken))
+    (λ c.
+    let c3 = c .before .before .before in
+    let c4 = c3 .before in
+    laws.better-more _ _ _ _ _ _ (c4 .name-place .ensures) _ (c3 .if1 .left) (c .before .before .if2 .left) (c .before .name-place2 .ensures) (c .if3 .left)))

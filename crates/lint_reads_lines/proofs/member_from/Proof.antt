@@ -29,8 +29,16 @@ member-from-spec =
     (λ c κs. search needs)
     (λ c. search needs)
     (λ c. search needs)
-    (λ c. (c .before .before .before .before .before .loop .inv .0 ∙ loops.yes 32 (holds (c .before .before .before .before .before .before .before .args .set)) _ _ (c .before .before .before .before .before .loop .i) _ (c .before .before .before .before .loop-test .taken) (sym (c .before .before .before .has .ensures) ∙ c .before .before .if1 .taken) ∙ laws.next-best _ _ _ _ _ _ (c .before .name-place .ensures) (c .lesser .ensures), search needs))
+    (λ c.
+    let c3 = c .before .before .before in
+    let c4 = c3 .before in
+    let c5 = c4 .before in
+    let c7 = c5 .before .before in
+    (c5 .loop .inv .0 ∙ loops.yes 32 (holds (c7 .args .set)) _ _ (c5 .loop .i) _ (c4 .loop-test .taken) (sym (c3 .has .ensures) ∙ c .before .before .if1 .taken) ∙ laws.next-best _ _ _ _ _ _ (c .before .name-place .ensures) (c .lesser .ensures), search needs))
     (λ c. search needs)
     (λ c. search needs)
-    (λ c. (c .before .before .before .loop .inv .0 ∙ loops.no 32 (holds (c .before .before .before .before .before .args .set)) _ _ (c .before .before .before .loop .i) _ (c .before .before .loop-test .taken) (sym (c .before .has .ensures) ∙ c .if1 .left), search needs))
+    (λ c.
+    let c3 = c .before .before .before in
+    let c5 = c3 .before .before in
+    (c3 .loop .inv .0 ∙ loops.no 32 (holds (c5 .args .set)) _ _ (c3 .loop .i) _ (c .before .before .loop-test .taken) (sym (c .before .has .ensures) ∙ c .if1 .left), search needs))
     (λ c. sym (c .before .loop .inv .0 ∙ loops.over 32 _ _ _ _ _ (c .loop-test .left))))

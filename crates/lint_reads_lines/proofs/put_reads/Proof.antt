@@ -33,6 +33,14 @@ put-reads-spec =
     (λ c κs. search needs)
     (λ c. search needs)
     (λ c. search needs)
-    (λ c. words.further (loops.read-next _ _ _ _ _ _ (c .before .before .before .before .before .before .loop-test .taken) (c .before .before .before .before .before .read-from .ensures) (c .behind .ensures)) (c .before .before .before .before .before .before .before .loop .inv) (c .before .before .before .put-text-at .ensures))
+    (λ c.
+    let c3 = c .before .before .before in
+    let c5 = c3 .before .before in
+    let c6 = c5 .before in
+    let c7 = c6 .before in
+    words.further (loops.read-next _ _ _ _ _ _ (c6 .loop-test .taken) (c5 .read-from .ensures) (c .behind .ensures)) (c7 .loop .inv) (c3 .put-text-at .ensures))
     (λ c. c .before .loop .inv .written .same ∙ c .before .before .before .before .put-number .ensures .same)
-    (λ c. show.is (laws.reads-listed _ _ _ (c .before .before .before .before .before .reads-count .ensures)) (show.both (c .before .before .before .before .put-number .ensures) (words.finished (loops.read-end _ _ _ _ (c .loop-test .left)) (c .before .loop .inv)))))
+    (λ c.
+    let c4 = c .before .before .before .before in
+    let c5 = c4 .before in
+    show.is (laws.reads-listed _ _ _ (c5 .reads-count .ensures)) (show.both (c4 .put-number .ensures) (words.finished (loops.read-end _ _ _ _ (c .loop-test .left)) (c .before .loop .inv)))))

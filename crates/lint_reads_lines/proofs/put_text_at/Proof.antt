@@ -16,4 +16,8 @@ put-text-at-spec =
     (λ c κs. search needs)
     (λ c κs. search needs)
     (λ c. search needs)
-    (λ c. show.is (ap (λ (l : Text). 32 ∷ l) (laws.quoted-place _ _ _ (c .before .before .before .text-start .ensures)) ∙ laws.some-at _ _ (c .before .before .before .before .before .before .before .before .before .if1 .left)) (show.both (c .before .before .before .before .before .before .before .put-byte .ensures) (c .before .before .put-quoted-text .ensures))))
+    (λ c.
+    let c3 = c .before .before .before in
+    let c7 = c3 .before .before .before .before in
+    let c9 = c7 .before .before in
+    show.is (ap (λ (l : Text). 32 ∷ l) (laws.quoted-place _ _ _ (c3 .text-start .ensures)) ∙ laws.some-at _ _ (c9 .if1 .left)) (show.both (c7 .put-byte .ensures) (c .before .before .put-quoted-text .ensures))))

@@ -12,7 +12,15 @@ put-touched-spec =
     (λ c. show.is (laws.none-touched _ _ _ _ _ _ (c .before .rule-from .ensures) (c .if1 .taken)) (show.nothing _ _))
     (λ c κs. search needs)
     (λ c. search needs)
-    (λ c. show.is (laws.writes-touched _ _ _ _ _ _ (c .before .before .before .before .before .before .rule-from .ensures) (c .before .before .before .before .before .if1 .left) (c .before .before .before .before .if2 .taken)) (c .before .before .put-writes-line .ensures))
+    (λ c.
+    let c4 = c .before .before .before .before in
+    let c5 = c4 .before in
+    let c6 = c5 .before in
+    show.is (laws.writes-touched _ _ _ _ _ _ (c6 .rule-from .ensures) (c5 .if1 .left) (c4 .if2 .taken)) (c .before .before .put-writes-line .ensures))
     (λ c κs. search needs)
     (λ c. search needs)
-    (λ c. show.is (laws.reads-touched _ _ _ _ _ _ (c .before .before .before .before .before .before .rule-from .ensures) (c .before .before .before .before .before .if1 .left) (c .before .before .before .before .if2 .left)) (c .before .before .put-reads-line .ensures)))
+    (λ c.
+    let c4 = c .before .before .before .before in
+    let c5 = c4 .before in
+    let c6 = c5 .before in
+    show.is (laws.reads-touched _ _ _ _ _ _ (c6 .rule-from .ensures) (c5 .if1 .left) (c4 .if2 .left)) (c .before .before .put-reads-line .ensures)))

@@ -16,4 +16,10 @@ put-writes-line-spec =
     (λ c κs. search needs)
     (λ c κs. search needs)
     (λ c. search needs)
-    (λ c. show.is (laws.writes-line-is _ _ _ _ _ (c .before .before .before .before .before .before .before .set-at .ensures)) (show.both (c .before .before .before .before .before .before .before .before .before .before .before .before .before .before .before .before .before .before .before .put .ensures) (show.both (c .before .before .before .before .before .before .before .before .before .before .before .before .before .before .before .put-name .ensures) (show.both (c .before .before .before .before .before .before .before .before .before .before .before .put-byte .ensures) (show.both (c .before .before .before .before .before .before .put-members .ensures) (c .before .before .put-byte2 .ensures)))))))
+    (λ c.
+    let c6 = c .before .before .before .before .before .before in
+    let c7 = c6 .before in
+    let c11 = c7 .before .before .before .before in
+    let c15 = c11 .before .before .before .before in
+    let c19 = c15 .before .before .before .before in
+    show.is (laws.writes-line-is _ _ _ _ _ (c7 .set-at .ensures)) (show.both (c19 .put .ensures) (show.both (c15 .put-name .ensures) (show.both (c11 .put-byte .ensures) (show.both (c6 .put-members .ensures) (c .before .before .put-byte2 .ensures)))))))

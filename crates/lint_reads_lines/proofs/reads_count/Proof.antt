@@ -26,5 +26,8 @@ reads-count-spec =
     (λ c κs. search needs)
     (λ c. search needs)
     (λ c. search needs)
-    (λ c. loops.count-next _ _ _ _ _ _ _ _ (c .before .before .before .before .loop .inv) (c .before .before .before .loop-test .taken) (c .before .before .read-from .ensures) (c .before .counted .ensures) (c .behind .ensures))
+    (λ c.
+    let c3 = c .before .before .before in
+    let c4 = c3 .before in
+    loops.count-next _ _ _ _ _ _ _ _ (c4 .loop .inv) (c3 .loop-test .taken) (c .before .before .read-from .ensures) (c .before .counted .ensures) (c .behind .ensures))
     (λ c. sym (c .before .loop .inv .0 ∙ sym (loops.count-end _ _ _ _ (c .loop-test .left)))))

@@ -27,5 +27,7 @@ rule-from-spec =
     (λ c κs. search needs)
     (λ c. search needs)
     (λ c. search needs)
-    (λ c. (c .before .before .loop .inv .0 ∙ loops.each-turn _ _ (c .before .before .loop .i) _ (omega (arith, c .before .loop-test .taken, c .before .before .before .wide .ensures)) ∙ ap (through _ _) (sym (c .better .ensures)), omega (arith, c .before .loop-test .taken, c .before .before .before .wide .ensures)))
+    (λ c.
+    let c3 = c .before .before .before in
+    (c .before .before .loop .inv .0 ∙ loops.each-turn _ _ (c .before .before .loop .i) _ (omega (arith, c .before .loop-test .taken, c3 .wide .ensures)) ∙ ap (through _ _) (sym (c .better .ensures)), omega (arith, c .before .loop-test .taken, c3 .wide .ensures)))
     (λ c. sym (c .before .loop .inv .0 ∙ loops.each-over _ _ _ _ (omega (arith, c .loop-test .left, c .before .before .wide .ensures)))))

@@ -29,8 +29,13 @@ stranger-from-spec =
     (λ c κs. search needs)
     (λ c. search needs)
     (λ c. search needs)
-    (λ c. (c .before .before .before .before .loop .inv .0 ∙ loops.yes 64 _ _ _ (c .before .before .before .before .loop .k) _ (c .before .before .before .loop-test .taken) (sym (c .before .before .is-read .ensures) ∙ c .before .if1 .taken) ∙ laws.next-best _ _ _ _ _ _ refl (c .lesser .ensures), search needs))
+    (λ c.
+    let c3 = c .before .before .before in
+    let c4 = c3 .before in
+    (c4 .loop .inv .0 ∙ loops.yes 64 _ _ _ (c4 .loop .k) _ (c3 .loop-test .taken) (sym (c .before .before .is-read .ensures) ∙ c .before .if1 .taken) ∙ laws.next-best _ _ _ _ _ _ refl (c .lesser .ensures), search needs))
     (λ c. search needs)
     (λ c. search needs)
-    (λ c. (c .before .before .before .loop .inv .0 ∙ loops.no 64 _ _ _ (c .before .before .before .loop .k) _ (c .before .before .loop-test .taken) (sym (c .before .is-read .ensures) ∙ c .if1 .left), search needs))
+    (λ c.
+    let c3 = c .before .before .before in
+    (c3 .loop .inv .0 ∙ loops.no 64 _ _ _ (c3 .loop .k) _ (c .before .before .loop-test .taken) (sym (c .before .is-read .ensures) ∙ c .if1 .left), search needs))
     (λ c. sym (c .before .loop .inv .0 ∙ loops.over 64 _ _ _ _ _ (c .loop-test .left))))

@@ -35,8 +35,14 @@ rule-names-spec =
     (λ c κs. search needs)
     (λ c. search needs)
     (λ c. search needs)
-    (λ c. c .before .before .before .before .before .loop .inv ∙ laws.names-more _ _ _ _ _ _ _ (c .before .before .before .before .loop-test .taken) (laws.name-yes _ _ _ _ _ _ (c .before .before .awaits .ensures) (c .before .if1 .taken) (c .with-strange .ensures)))
+    (λ c.
+    let c4 = c .before .before .before .before in
+    let c5 = c4 .before in
+    c5 .loop .inv ∙ laws.names-more _ _ _ _ _ _ _ (c4 .loop-test .taken) (laws.name-yes _ _ _ _ _ _ (c .before .before .awaits .ensures) (c .before .if1 .taken) (c .with-strange .ensures)))
     (λ c. search needs)
     (λ c. search needs)
-    (λ c. c .before .before .before .before .loop .inv ∙ laws.names-more _ _ _ _ _ _ _ (c .before .before .before .loop-test .taken) (laws.name-no _ _ _ _ _ _ (c .before .awaits .ensures) (c .if1 .left)))
+    (λ c.
+    let c3 = c .before .before .before in
+    let c4 = c3 .before in
+    c4 .loop .inv ∙ laws.names-more _ _ _ _ _ _ _ (c3 .loop-test .taken) (laws.name-no _ _ _ _ _ _ (c .before .awaits .ensures) (c .if1 .left)))
     (λ c. sym (laws.rule-is _ _ _ _ _ _ (c .before .before .rule-walk .ensures) ∙ c .before .loop .inv ∙ laws.names-end _ _ _ _ _ _ _ (c .loop-test .left))))

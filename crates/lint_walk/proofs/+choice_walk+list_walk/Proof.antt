@@ -82,9 +82,17 @@ pub +choice-walk+list-walk-spec : {M : Type 1} → statement M
     (λ c κs. search needs)
     (λ c. search needs)
     (λ c. search needs)
-    (λ c. c .before .before .before .before .before .loop .inv ∙ laws.repeat-more _ _ _ (c .before .before .before .before .loop-test .taken) ∙ ap (repeat _ _) (laws.branch-next _ _ _ (c .before .before .predicates-end .ensures) (laws.moved-of _ _ _ (c .before .moved2 .ensures)) (c .list-walk .ensures)))
+    (λ c.
+    let c4 = c .before .before .before .before in
+    let c5 = c4 .before in
+    c5 .loop .inv ∙ laws.repeat-more _ _ _ (c4 .loop-test .taken) ∙ ap (repeat _ _) (laws.branch-next _ _ _ (c .before .before .predicates-end .ensures) (laws.moved-of _ _ _ (c .before .moved2 .ensures)) (c .list-walk .ensures)))
     (λ c κs. search needs)
-    (λ c. c .list-walk2 .ensures ∙ laws.choice-done _ _ (c .before .before .before .before .before .before .place-at .ensures) (c .before .before .before .before .before .past .ensures) (laws.moved-of _ _ _ (c .before .before .before .before .moved .ensures)) _ (c .before .before .before .loop .inv ∙ laws.repeat-none _ _ _ (c .before .before .loop-test .left))))
+    (λ c.
+    let c3 = c .before .before .before in
+    let c4 = c3 .before in
+    let c5 = c4 .before in
+    let c6 = c5 .before in
+    c .list-walk2 .ensures ∙ laws.choice-done _ _ (c6 .place-at .ensures) (c5 .past .ensures) (laws.moved-of _ _ _ (c4 .moved .ensures)) _ (c3 .loop .inv ∙ laws.repeat-none _ _ _ (c .before .before .loop-test .left))))
     λ t. list-walk-lts.spec (
       place-at-reads.Asked,
       place-at-reads.Learnt,
@@ -116,9 +124,22 @@ pub +choice-walk+list-walk-spec : {M : Type 1} → statement M
     (λ c κs. search needs)
     (λ c. search needs)
     (λ c. search needs)
-    (λ c. c .before .before .before .before .before .before .before .loop .inv ∙ laws.repeat-more _ _ _ (c .before .before .before .before .before .before .loop-test .taken) ∙ ap (repeat _ _) (laws.action-choice _ _ _ (sym (c .before .before .before .before .before .kind-at .ensures) ∙ c .before .before .before .before .if2 .taken) ∙ ap (choiceM _ (listM _ _)) (sym (c .before .before .entered .ensures)) ∙ sym (c .choice-walk .ensures)))
+    (λ c.
+    let c4 = c .before .before .before .before in
+    let c5 = c4 .before in
+    let c6 = c5 .before in
+    let c7 = c6 .before in
+    c7 .loop .inv ∙ laws.repeat-more _ _ _ (c6 .loop-test .taken) ∙ ap (repeat _ _) (laws.action-choice _ _ _ (sym (c5 .kind-at .ensures) ∙ c4 .if2 .taken) ∙ ap (choiceM _ (listM _ _)) (sym (c .before .before .entered .ensures)) ∙ sym (c .choice-walk .ensures)))
     (λ c κs. search needs)
     (λ c. search needs)
     (λ c. search needs)
-    (λ c. c .before .before .before .before .before .loop .inv ∙ laws.repeat-more _ _ _ (c .before .before .before .before .loop-test .taken) ∙ ap (repeat _ _) (laws.action-simple _ _ _ (λ e. c .before .before .if2 .left (c .before .before .before .kind-at .ensures ∙ e)) ∙ sym (c .simple-walk .ensures)))
-    (λ c. laws.list-done _ _ (c .before .before .before .before .place-at .ensures) (c .before .before .before .past .ensures) (laws.moved-of _ _ _ (c .before .before .moved .ensures)) _ (c .before .before .before .before .before .if1 .left) (c .before .loop .inv ∙ laws.repeat-none _ _ _ (c .loop-test .left)))
+    (λ c.
+    let c3 = c .before .before .before in
+    let c4 = c3 .before in
+    let c5 = c4 .before in
+    c5 .loop .inv ∙ laws.repeat-more _ _ _ (c4 .loop-test .taken) ∙ ap (repeat _ _) (laws.action-simple _ _ _ (λ e. c .before .before .if2 .left (c3 .kind-at .ensures ∙ e)) ∙ sym (c .simple-walk .ensures)))
+    (λ c.
+    let c3 = c .before .before .before in
+    let c4 = c3 .before in
+    let c5 = c4 .before in
+    laws.list-done _ _ (c4 .place-at .ensures) (c3 .past .ensures) (laws.moved-of _ _ _ (c .before .before .moved .ensures)) _ (c5 .if1 .left) (c .before .loop .inv ∙ laws.repeat-none _ _ _ (c .loop-test .left)))

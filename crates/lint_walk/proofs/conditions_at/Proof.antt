@@ -19,4 +19,6 @@ conditions-at-spec =
     (λ c κs. search needs)
     (λ c. search needs)
     (λ c κs. search needs)
-    (λ c. c .past2 .ensures ∙ laws.conditions-is _ _ _ _ _ (c .before .before .before .triggers-at .ensures) (c .before .before .place-at .ensures) (c .before .past .ensures)))
+    (λ c.
+    let c3 = c .before .before .before in
+    c .past2 .ensures ∙ laws.conditions-is _ _ _ _ _ (c3 .triggers-at .ensures) (c .before .before .place-at .ensures) (c .before .past .ensures)))

@@ -9,4 +9,6 @@ use Rattle.lint_walk.proofs.actions_at.Reads as actions-at-reads
 use Rattle.lint_walk.proofs.list_walk.Reads as list-walk-reads
 
 pub rule-walk-spec : {M : Type 1} → statement M
-rule-walk-spec = tie.close (tie.spec (λ c κs. search needs) (λ c κs. search needs) (λ c. c .list-walk .ensures ∙ laws.walk-is _ _ (c .before .before .before .before .pre) (c .before .before .actions-at .ensures)))
+rule-walk-spec = tie.close (tie.spec (λ c κs. search needs) (λ c κs. search needs) (λ c.
+    let c4 = c .before .before .before .before in
+    c .list-walk .ensures ∙ laws.walk-is _ _ (c4 .pre) (c .before .before .actions-at .ensures)))

@@ -21,4 +21,7 @@ simple-end-spec =
     (λ c κs. search needs)
     (λ c. c .past3 .ensures ∙ sym (laws.simple-5 _ _ (c .before .if4 .taken)))
     (λ c κs. search needs)
-    (λ c. c .past4 .ensures ∙ sym (laws.simple-else _ _ (c .before .before .before .before .if1 .left) (c .before .before .before .if2 .left) (c .before .before .if3 .left) (c .before .if4 .left))))
+    (λ c.
+    let c3 = c .before .before .before in
+    let c4 = c3 .before in
+    c .past4 .ensures ∙ sym (laws.simple-else _ _ (c4 .if1 .left) (c3 .if2 .left) (c .before .before .if3 .left) (c .before .if4 .left))))

@@ -20,4 +20,8 @@ simple-walk-spec =
     (λ c κs. search needs)
     (λ c κs. search needs)
     (λ c κs. search needs)
-    (λ c. laws.moved-of _ _ _ (c .moved .ensures) ∙ laws.simple-is _ _ _ _ _ _ (c .before .before .before .before .before .kind-at .ensures) (c .before .before .before .before .past .ensures) (c .before .before .before .simple-end .ensures) (c .before .noted .ensures)))
+    (λ c.
+    let c3 = c .before .before .before in
+    let c4 = c3 .before in
+    let c5 = c4 .before in
+    laws.moved-of _ _ _ (c .moved .ensures) ∙ laws.simple-is _ _ _ _ _ _ (c5 .kind-at .ensures) (c4 .past .ensures) (c3 .simple-end .ensures) (c .before .noted .ensures)))

@@ -19,7 +19,11 @@ put-inner-spec =
     (λ c. search needs)
     (λ c. search needs)
     (λ c. search needs)
-    (λ c. omega (arith, c .before .text-len .ensures .0, texts.length-fits (c .before .before .before .before .before .args .f .now) (c .before .before .before .before .before .args .at)))
+    (λ c.
+    let c5 = c .before .before .before .before .before in
+    omega (arith, c .before .text-len .ensures .0, texts.length-fits (c5 .args .f .now) (c5 .args .at)))
     (λ c κs. search needs)
     (λ c. search needs)
-    (λ c. show.is (ap (flat escape) (show.part _ _ _ _ _ (c .before .before .before .before .before .text-len .ensures .0) refl refl)) (c .before .before .put-escaped .ensures)))
+    (λ c.
+    let c5 = c .before .before .before .before .before in
+    show.is (ap (flat escape) (show.part _ _ _ _ _ (c5 .text-len .ensures .0) refl refl)) (c .before .before .put-escaped .ensures)))

@@ -12,4 +12,7 @@ put-inner-name-spec =
     (λ c κs. search needs)
     (λ c κs. search needs)
     (λ c. search needs)
-    (λ c. show.is (laws.inner-name _ _ _ _ _ (c .before .before .before .before .before .name-place .ensures) (c .before .before .before .before .text-start .ensures)) (c .before .before .put-inner .ensures)))
+    (λ c.
+    let c4 = c .before .before .before .before in
+    let c5 = c4 .before in
+    show.is (laws.inner-name _ _ _ _ _ (c5 .name-place .ensures) (c4 .text-start .ensures)) (c .before .before .put-inner .ensures)))

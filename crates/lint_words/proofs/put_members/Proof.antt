@@ -30,6 +30,13 @@ put-members-spec =
     (λ c κs. search needs)
     (λ c. search needs)
     (λ c. search needs)
-    (λ c. (loops.further (loops.turn 32 (holds (c .before .before .before .before .before .before .before .before .before .before .before .before .before .args .set)) _ (c .before .before .before .before .before .loop .i) (c .before .before .before .before .loop-test .taken)) (c .before .before .before .before .before .loop .inv .0) (c .before .before .put-member .ensures), search needs))
+    (λ c.
+    let c4 = c .before .before .before .before in
+    let c5 = c4 .before in
+    let c13 = c5 .before .before .before .before .before .before .before .before in
+    (loops.further (loops.turn 32 (holds (c13 .args .set)) _ (c5 .loop .i) (c4 .loop-test .taken)) (c5 .loop .inv .0) (c .before .before .put-member .ensures), search needs))
     (λ c. c .before .loop .inv .0 .written .same ∙ c .before .before .before .before .put-number .ensures .same)
-    (λ c. show.is (laws.names-listed _ _ _ _ (c .before .before .before .before .before .long .ensures) (search needs)) (show.both (c .before .before .before .before .put-number .ensures) (loops.finished (loops.end 32 _ _ _ (c .loop-test .left)) (c .before .loop .inv .0)))))
+    (λ c.
+    let c4 = c .before .before .before .before in
+    let c5 = c4 .before in
+    show.is (laws.names-listed _ _ _ _ (c5 .long .ensures) (search needs)) (show.both (c4 .put-number .ensures) (loops.finished (loops.end 32 _ _ _ (c .loop-test .left)) (c .before .loop .inv .0)))))

@@ -31,4 +31,10 @@ put-tier-spec =
     (λ c. search needs)
     (λ c κs. search needs)
     (λ c. search needs)
-    (λ c. show.is (laws.tier-other _ (c .before .before .before .before .before .before .before .before .before .if1 .left) (c .before .before .before .before .before .before .before .before .if2 .left) (c .before .before .before .before .before .before .before .if3 .left) (c .before .before .before .before .before .before .if4 .left) (c .before .before .before .before .before .if5 .left)) (c .before .before .put6 .ensures)))
+    (λ c.
+    let c5 = c .before .before .before .before .before in
+    let c6 = c5 .before in
+    let c7 = c6 .before in
+    let c8 = c7 .before in
+    let c9 = c8 .before in
+    show.is (laws.tier-other _ (c9 .if1 .left) (c8 .if2 .left) (c7 .if3 .left) (c6 .if4 .left) (c5 .if5 .left)) (c .before .before .put6 .ensures)))

@@ -77,25 +77,53 @@ pub +actions-check+choice-check-spec : {M : Type 1} → statement M
     (λ c κs. search needs)
     (λ c. search needs)
     (λ c. search needs)
-    (λ c. sym (laws.actions-more _ _ _ _ _ (c .before .before .before .if1 .left) ∙ checks.by-broken _ _ _ _ _ (c .before .before .u16-at .ensures) (c .enum-told .given .1)))
-    (λ c. laws.actions-more _ _ _ _ _ (c .before .before .before .before .if1 .left) ∙ checks.by-is _ _ _ _ _ (c .before .before .before .u16-at .ensures) (c .before .x .given .1))
+    (λ c.
+    let c3 = c .before .before .before in
+    sym (laws.actions-more _ _ _ _ _ (c3 .if1 .left) ∙ checks.by-broken _ _ _ _ _ (c .before .before .u16-at .ensures) (c .enum-told .given .1)))
+    (λ c.
+    let c3 = c .before .before .before in
+    let c4 = c3 .before in
+    laws.actions-more _ _ _ _ _ (c4 .if1 .left) ∙ checks.by-is _ _ _ _ _ (c3 .u16-at .ensures) (c .before .x .given .1))
     (λ c κs. search needs)
     (λ c. search needs)
     (λ c. search needs)
-    (λ c. sym (c .before .before .before .before .loop .inv ∙ checks.times-more _ _ _ _ _ (c .before .before .before .loop-test .taken) ∙ laws.assoc _ _ _ _ _ _ ∙ checks.refused _ _ _ _ _ (c .before .before .head-check .ensures) (c .enum-told2 .given .1)))
+    (λ c.
+    let c3 = c .before .before .before in
+    let c4 = c3 .before in
+    sym (c4 .loop .inv ∙ checks.times-more _ _ _ _ _ (c3 .loop-test .taken) ∙ laws.assoc _ _ _ _ _ _ ∙ checks.refused _ _ _ _ _ (c .before .before .head-check .ensures) (c .enum-told2 .given .1)))
     (λ c κs. search needs)
     (λ c. search needs)
     (λ c. search needs)
-    (λ c. sym (c .before .before .before .before .before .before .before .before .loop .inv ∙ checks.times-more _ _ _ _ _ (c .before .before .before .before .before .before .before .loop-test .taken) ∙ laws.assoc _ _ _ _ _ _ ∙ checks.to _ _ _ _ _ (c .before .before .before .before .before .before .head-check .ensures) (c .before .before .before .before .y .given .1) ∙ laws.by-then _ _ _ _ _ _ ∙ checks.by-broken _ _ _ _ _ (c .before .before .u8-at .ensures) (c .enum-told3 .given .1)))
+    (λ c.
+    let c4 = c .before .before .before .before in
+    let c6 = c4 .before .before in
+    let c7 = c6 .before in
+    let c8 = c7 .before in
+    sym (c8 .loop .inv ∙ checks.times-more _ _ _ _ _ (c7 .loop-test .taken) ∙ laws.assoc _ _ _ _ _ _ ∙ checks.to _ _ _ _ _ (c6 .head-check .ensures) (c4 .y .given .1) ∙ laws.by-then _ _ _ _ _ _ ∙ checks.by-broken _ _ _ _ _ (c .before .before .u8-at .ensures) (c .enum-told3 .given .1)))
     (λ c. search needs)
     (λ c κs. search needs)
     (λ c κs. search needs)
     (λ c. search needs)
     (λ c. search needs)
-    (λ c. sym (c .before .before .before .before .before .before .before .before .before .before .before .before .loop .inv ∙ checks.times-more _ _ _ _ _ (c .before .before .before .before .before .before .before .before .before .before .before .loop-test .taken) ∙ laws.assoc _ _ _ _ _ _ ∙ checks.to _ _ _ _ _ (c .before .before .before .before .before .before .before .before .before .before .head-check .ensures) (c .before .before .before .before .before .before .before .before .y .given .1) ∙ laws.by-then _ _ _ _ _ _ ∙ checks.by-is _ _ _ _ _ (c .before .before .before .before .before .before .u8-at .ensures) (c .before .before .before .before .z .given .1) ∙ checks.refused _ _ _ _ _ (⊎-elim (λ w. w .2 ∙ w .1 .ensures ∙ sym (checks.yes-check _ _ _ _ _ (eq-eqb _ _ (w .0 .taken)))) (λ w. w .2 ∙ w .1 .ensures ∙ sym (checks.no-check _ _ _ _ _ (ne-eqb _ _ (w .0 .left)))) (c .before .before .if2 .came)) (c .enum-told4 .given .1)))
+    (λ c.
+    let c4 = c .before .before .before .before in
+    let c6 = c4 .before .before in
+    let c8 = c6 .before .before in
+    let c10 = c8 .before .before in
+    let c11 = c10 .before in
+    let c12 = c11 .before in
+    sym (c12 .loop .inv ∙ checks.times-more _ _ _ _ _ (c11 .loop-test .taken) ∙ laws.assoc _ _ _ _ _ _ ∙ checks.to _ _ _ _ _ (c10 .head-check .ensures) (c8 .y .given .1) ∙ laws.by-then _ _ _ _ _ _ ∙ checks.by-is _ _ _ _ _ (c6 .u8-at .ensures) (c4 .z .given .1) ∙ checks.refused _ _ _ _ _ (⊎-elim (λ w. w .2 ∙ w .1 .ensures ∙ sym (checks.yes-check _ _ _ _ _ (eq-eqb _ _ (w .0 .taken)))) (λ w. w .2 ∙ w .1 .ensures ∙ sym (checks.no-check _ _ _ _ _ (ne-eqb _ _ (w .0 .left)))) (c .before .before .if2 .came)) (c .enum-told4 .given .1)))
     (λ c. search needs)
     (λ c. search needs)
-    (λ c. c .before .before .before .before .before .before .before .before .before .before .before .before .before .loop .inv ∙ checks.times-more _ _ _ _ _ (c .before .before .before .before .before .before .before .before .before .before .before .before .loop-test .taken) ∙ laws.assoc _ _ _ _ _ _ ∙ checks.to _ _ _ _ _ (c .before .before .before .before .before .before .before .before .before .before .before .head-check .ensures) (c .before .before .before .before .before .before .before .before .before .y .given .1) ∙ laws.by-then _ _ _ _ _ _ ∙ checks.by-is _ _ _ _ _ (c .before .before .before .before .before .before .before .u8-at .ensures) (c .before .before .before .before .before .z .given .1) ∙ checks.to _ _ _ _ _ (⊎-elim (λ w. w .2 ∙ w .1 .ensures ∙ sym (checks.yes-check _ _ _ _ _ (eq-eqb _ _ (w .0 .taken)))) (λ w. w .2 ∙ w .1 .ensures ∙ sym (checks.no-check _ _ _ _ _ (ne-eqb _ _ (w .0 .left)))) (c .before .before .before .if2 .came)) (c .before .r .given .1))
+    (λ c.
+    let c3 = c .before .before .before in
+    let c5 = c3 .before .before in
+    let c7 = c5 .before .before in
+    let c9 = c7 .before .before in
+    let c11 = c9 .before .before in
+    let c12 = c11 .before in
+    let c13 = c12 .before in
+    c13 .loop .inv ∙ checks.times-more _ _ _ _ _ (c12 .loop-test .taken) ∙ laws.assoc _ _ _ _ _ _ ∙ checks.to _ _ _ _ _ (c11 .head-check .ensures) (c9 .y .given .1) ∙ laws.by-then _ _ _ _ _ _ ∙ checks.by-is _ _ _ _ _ (c7 .u8-at .ensures) (c5 .z .given .1) ∙ checks.to _ _ _ _ _ (⊎-elim (λ w. w .2 ∙ w .1 .ensures ∙ sym (checks.yes-check _ _ _ _ _ (eq-eqb _ _ (w .0 .taken)))) (λ w. w .2 ∙ w .1 .ensures ∙ sym (checks.no-check _ _ _ _ _ (ne-eqb _ _ (w .0 .left)))) (c3 .if2 .came)) (c .before .r .given .1))
     (λ c. sym (c .before .loop .inv ∙ checks.times-none _ _ _ _ _ (c .loop-test .left)))
     )
     (λ t. choice-check-lts.spec (
@@ -118,14 +146,28 @@ pub +actions-check+choice-check-spec : {M : Type 1} → statement M
     (λ c κs. search needs)
     (λ c. search needs)
     (λ c. search needs)
-    (λ c. sym (c .before .before .before .before .loop .inv ∙ laws.times-then _ _ _ _ _ _ (c .before .before .before .loop-test .taken) ∙ laws.assoc _ _ _ _ _ _ ∙ checks.refused _ _ _ _ _ (c .before .before .predicates-check .ensures) (c .enum-told2 .given .1)))
+    (λ c.
+    let c3 = c .before .before .before in
+    let c4 = c3 .before in
+    sym (c4 .loop .inv ∙ laws.times-then _ _ _ _ _ _ (c3 .loop-test .taken) ∙ laws.assoc _ _ _ _ _ _ ∙ checks.refused _ _ _ _ _ (c .before .before .predicates-check .ensures) (c .enum-told2 .given .1)))
     (λ c κs. search needs)
     (λ c. search needs)
     (λ c. search needs)
-    (λ c. sym (c .before .before .before .before .before .before .before .before .loop .inv ∙ laws.times-then _ _ _ _ _ _ (c .before .before .before .before .before .before .before .loop-test .taken) ∙ laws.assoc _ _ _ _ _ _ ∙ checks.to _ _ _ _ _ (c .before .before .before .before .before .before .predicates-check .ensures) (c .before .before .before .before .y .given .1) ∙ checks.refused _ _ _ _ _ (c .before .before .actions-check .ensures) (c .enum-told3 .given .1)))
+    (λ c.
+    let c4 = c .before .before .before .before in
+    let c6 = c4 .before .before in
+    let c7 = c6 .before in
+    let c8 = c7 .before in
+    sym (c8 .loop .inv ∙ laws.times-then _ _ _ _ _ _ (c7 .loop-test .taken) ∙ laws.assoc _ _ _ _ _ _ ∙ checks.to _ _ _ _ _ (c6 .predicates-check .ensures) (c4 .y .given .1) ∙ checks.refused _ _ _ _ _ (c .before .before .actions-check .ensures) (c .enum-told3 .given .1)))
     (λ c. search needs)
     (λ c. search needs)
-    (λ c. c .before .before .before .before .before .before .before .before .before .loop .inv ∙ laws.times-then _ _ _ _ _ _ (c .before .before .before .before .before .before .before .before .loop-test .taken) ∙ laws.assoc _ _ _ _ _ _ ∙ checks.to _ _ _ _ _ (c .before .before .before .before .before .before .before .predicates-check .ensures) (c .before .before .before .before .before .y .given .1) ∙ checks.to _ _ _ _ _ (c .before .before .before .actions-check .ensures) (c .before .z .given .1))
+    (λ c.
+    let c3 = c .before .before .before in
+    let c5 = c3 .before .before in
+    let c7 = c5 .before .before in
+    let c8 = c7 .before in
+    let c9 = c8 .before in
+    c9 .loop .inv ∙ laws.times-then _ _ _ _ _ _ (c8 .loop-test .taken) ∙ laws.assoc _ _ _ _ _ _ ∙ checks.to _ _ _ _ _ (c7 .predicates-check .ensures) (c5 .y .given .1) ∙ checks.to _ _ _ _ _ (c3 .actions-check .ensures) (c .before .z .given .1))
     (λ c κs. search needs)
     (λ c. c .actions-check2 .ensures ∙ sym (c .before .before .loop .inv ∙ laws.none-then _ _ _ _ _ _ (c .before .loop-test .left)))
     )

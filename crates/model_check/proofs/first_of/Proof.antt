@@ -26,8 +26,12 @@ first-of-spec =
     (λ c. search needs)
     (λ c. search needs)
     (λ c κs. search needs)
-    (λ c. (sym (c .before .before .before .before .loop .inv .0 ∙ laws.first-here _ _ _ _ _ (omega arith) (sym (c .before .place-is .ensures) ∙ c .if1 .taken)), omega arith))
+    (λ c.
+    let c4 = c .before .before .before .before in
+    (sym (c4 .loop .inv .0 ∙ laws.first-here _ _ _ _ _ (omega arith) (sym (c .before .place-is .ensures) ∙ c .if1 .taken)), omega arith))
     (λ c. search needs)
     (λ c. search needs)
-    (λ c. (c .before .before .before .before .loop .inv .0 ∙ laws.first-later _ _ _ _ _ (omega arith) (sym (c .before .place-is .ensures) ∙ c .if1 .left) ∙ laws.first-same _ _ _ _ (omega arith), omega arith))
+    (λ c.
+    let c4 = c .before .before .before .before in
+    (c4 .loop .inv .0 ∙ laws.first-later _ _ _ _ _ (omega arith) (sym (c .before .place-is .ensures) ∙ c .if1 .left) ∙ laws.first-same _ _ _ _ (omega arith), omega arith))
     (λ c. (sym (c .before .loop .inv .0 ∙ laws.first-end _ _ _ _ _ (omega arith)), omega arith)))

@@ -24,8 +24,15 @@ triggers-check-spec =
     (λ c κs. search needs)
     (λ c. search needs)
     (λ c. search needs)
-    (λ c. sym (c .before .before .before .before .loop .inv ∙ laws.times-more _ _ _ _ _ (c .before .before .before .loop-test .taken) ∙ laws.refused _ _ _ _ _ (c .before .before .trigger-check .ensures) (c .enum-told .given .1)))
+    (λ c.
+    let c3 = c .before .before .before in
+    let c4 = c3 .before in
+    sym (c4 .loop .inv ∙ laws.times-more _ _ _ _ _ (c3 .loop-test .taken) ∙ laws.refused _ _ _ _ _ (c .before .before .trigger-check .ensures) (c .enum-told .given .1)))
     (λ c. search needs)
     (λ c. search needs)
-    (λ c. c .before .before .before .before .before .loop .inv ∙ laws.times-more _ _ _ _ _ (c .before .before .before .before .loop-test .taken) ∙ laws.to _ _ _ _ _ (c .before .before .before .trigger-check .ensures) (c .before .y .given .1))
+    (λ c.
+    let c3 = c .before .before .before in
+    let c4 = c3 .before in
+    let c5 = c4 .before in
+    c5 .loop .inv ∙ laws.times-more _ _ _ _ _ (c4 .loop-test .taken) ∙ laws.to _ _ _ _ _ (c3 .trigger-check .ensures) (c .before .y .given .1))
     (λ c. sym (c .before .loop .inv ∙ laws.times-none _ _ _ _ _ (c .loop-test .left))))

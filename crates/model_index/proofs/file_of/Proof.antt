@@ -23,4 +23,10 @@ file-of-spec =
     (λ c κs. search needs)
     (λ c κs. search needs)
     (λ c κs. search needs)
-    (λ c. laws.file-made _ _ _ _ _ _ _ _ (c .before .before .before .before .before .before .before .before .enum-told .given .1) (c .before .before .before .before .before .before .section .ensures) (c .before .before .before .before .before .section2 .ensures) (c .before .before .before .before .section3 .ensures) (c .before .before .before .section4 .ensures) (c .before .before .section5 .ensures) (c .before .section6 .ensures) (c .section7 .ensures)))
+    (λ c.
+    let c3 = c .before .before .before in
+    let c4 = c3 .before in
+    let c5 = c4 .before in
+    let c6 = c5 .before in
+    let c8 = c6 .before .before in
+    laws.file-made _ _ _ _ _ _ _ _ (c8 .enum-told .given .1) (c6 .section .ensures) (c5 .section2 .ensures) (c4 .section3 .ensures) (c3 .section4 .ensures) (c .before .before .section5 .ensures) (c .before .section6 .ensures) (c .section7 .ensures)))

@@ -24,21 +24,45 @@ ascending-at-spec =
     (λ c. search needs)
     (λ c. search needs)
     (λ c. sym (laws.ascending-none _ _ _ _ _ (c .before .before .u16-at .ensures) (c .enum-told .given .1)))
-    (λ c. sym (laws.ascending-is _ _ _ _ _ (c .before .before .before .before .u16-at .ensures) (c .before .before .x .given .1) ∙ laws.chained-none _ _ _ _ _ (c .if1 .taken)))
+    (λ c.
+    let c4 = c .before .before .before .before in
+    sym (laws.ascending-is _ _ _ _ _ (c4 .u16-at .ensures) (c .before .before .x .given .1) ∙ laws.chained-none _ _ _ _ _ (c .if1 .taken)))
     (λ c κs. search needs)
     (λ c. search needs)
     (λ c. search needs)
-    (λ c. sym (laws.ascending-is _ _ _ _ _ (c .before .before .before .before .before .before .before .u16-at .ensures) (c .before .before .before .before .before .x .given .1) ∙ laws.chained-broken _ _ _ _ (c .before .before .part-at .ensures) _ (c .before .before .before .if1 .left) (c .enum-told2 .given .1)))
+    (λ c.
+    let c3 = c .before .before .before in
+    let c5 = c3 .before .before in
+    let c7 = c5 .before .before in
+    sym (laws.ascending-is _ _ _ _ _ (c7 .u16-at .ensures) (c5 .x .given .1) ∙ laws.chained-broken _ _ _ _ (c .before .before .part-at .ensures) _ (c3 .if1 .left) (c .enum-told2 .given .1)))
     (λ c. search needs)
-    (λ c. laws.ascending-is _ _ _ _ _ (c .before .before .before .before .before .before .before .before .u16-at .ensures) (c .before .before .before .before .before .before .x .given .1) ∙ laws.chained-to _ _ _ _ (c .before .before .before .part-at .ensures) _ (c .before .before .before .before .if1 .left) (c .before .y .given .1))
+    (λ c.
+    let c3 = c .before .before .before in
+    let c4 = c3 .before in
+    let c6 = c4 .before .before in
+    let c8 = c6 .before .before in
+    laws.ascending-is _ _ _ _ _ (c8 .u16-at .ensures) (c6 .x .given .1) ∙ laws.chained-to _ _ _ _ (c3 .part-at .ensures) _ (c4 .if1 .left) (c .before .y .given .1))
     (λ c κs. search needs)
     (λ c. search needs)
     (λ c. search needs)
-    (λ c. sym (c .before .before .before .before .loop .inv ∙ laws.chain-broken _ _ _ _ (c .before .before .part-at2 .ensures) _ _ (c .before .before .before .loop-test .taken) (c .enum-told3 .given .1)))
+    (λ c.
+    let c3 = c .before .before .before in
+    let c4 = c3 .before in
+    sym (c4 .loop .inv ∙ laws.chain-broken _ _ _ _ (c .before .before .part-at2 .ensures) _ _ (c3 .loop-test .taken) (c .enum-told3 .given .1)))
     (λ c κs. search needs)
-    (λ c. sym (c .before .before .before .before .before .before .before .loop .inv ∙ laws.chain-off _ _ _ _ (c .before .before .before .before .before .part-at2 .ensures) _ (c .before .before .before .z .given .1) (c .before .precedes .ensures) _ (c .before .before .before .before .before .before .loop-test .taken) (not-true _ (c .if2 .taken))))
+    (λ c.
+    let c3 = c .before .before .before in
+    let c5 = c3 .before .before in
+    let c6 = c5 .before in
+    let c7 = c6 .before in
+    sym (c7 .loop .inv ∙ laws.chain-off _ _ _ _ (c5 .part-at2 .ensures) _ (c3 .z .given .1) (c .before .precedes .ensures) _ (c6 .loop-test .taken) (not-true _ (c .if2 .taken))))
     (λ c. search needs)
     (λ c. search needs)
-    (λ c. c .before .before .before .before .before .before .before .loop .inv ∙ laws.chain-on _ _ _ _ (c .before .before .before .before .before .part-at2 .ensures) _ (c .before .before .before .z .given .1) (c .before .precedes .ensures) _ (c .before .before .before .before .before .before .loop-test .taken) (not-false _ (c .if2 .left)))
+    (λ c.
+    let c3 = c .before .before .before in
+    let c5 = c3 .before .before in
+    let c6 = c5 .before in
+    let c7 = c6 .before in
+    c7 .loop .inv ∙ laws.chain-on _ _ _ _ (c5 .part-at2 .ensures) _ (c3 .z .given .1) (c .before .precedes .ensures) _ (c6 .loop-test .taken) (not-false _ (c .if2 .left)))
     (λ c. sym (c .before .loop .inv ∙ laws.chain-end _ _ _ _ _ _ (c .loop-test .left)))
     )

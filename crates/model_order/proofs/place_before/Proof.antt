@@ -16,6 +16,13 @@ place-before-spec =
     (λ c κs. search needs)
     (λ c. search needs)
     (λ c. search needs)
-    (λ c. sym (laws.place-none₂ _ _ _ (c .before .before .before .before .before .before .u16-at .ensures) (c .before .before .before .before .f .given .1) (c .before .before .u16-at2 .ensures) (c .enum-told2 .given .1)))
-    (λ c. sym (laws.place-both _ _ _ (c .before .before .before .before .before .before .before .u16-at .ensures) (c .before .before .before .before .before .f .given .1) (c .before .before .before .u16-at2 .ensures) (c .before .g .given .1)))
+    (λ c.
+    let c4 = c .before .before .before .before in
+    let c6 = c4 .before .before in
+    sym (laws.place-none₂ _ _ _ (c6 .u16-at .ensures) (c4 .f .given .1) (c .before .before .u16-at2 .ensures) (c .enum-told2 .given .1)))
+    (λ c.
+    let c3 = c .before .before .before in
+    let c5 = c3 .before .before in
+    let c7 = c5 .before .before in
+    sym (laws.place-both _ _ _ (c7 .u16-at .ensures) (c5 .f .given .1) (c3 .u16-at2 .ensures) (c .before .g .given .1)))
     )

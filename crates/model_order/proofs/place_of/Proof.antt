@@ -31,5 +31,7 @@ place-of-spec =
     (λ c. search needs)
     (λ c. search needs)
     (λ c. search needs)
-    (λ c. (c .before .before .before .before .loop .inv .0 ∙ laws.place-later _ _ _ _ (c .before .before .text-is .ensures) _ _ (omega arith) (c .before .if1 .left) (omega arith) ∙ laws.place-left _ _ _ _ (omega arith), (omega arith, omega arith)))
+    (λ c.
+    let c4 = c .before .before .before .before in
+    (c4 .loop .inv .0 ∙ laws.place-later _ _ _ _ (c .before .before .text-is .ensures) _ _ (omega arith) (c .before .if1 .left) (omega arith) ∙ laws.place-left _ _ _ _ (omega arith), (omega arith, omega arith)))
     (λ c. sym (c .before .loop .inv .0 ∙ laws.place-end _ _ _ _ _ (omega arith))))

@@ -30,14 +30,44 @@ text-is-spec =
     (λ c. omega (arith, laws.fits-is _ _ (sym (c .before .before .text-fits .ensures) ∙ not-false _ (c .before .if1 .left))))
     (λ c. omega (arith, c .shared-slice-known3 .given (c .before .before .before .before .before .args .p)))
     (λ c. laws.is-whole _ _ _ (sym (c .before .before .text-fits .ensures) ∙ not-false _ (c .before .if1 .left)))
-    (λ c. sym (c .before .loop .inv ∙ laws.is-ended _ _ _ (sym (c .before .before .before .before .text-fits .ensures) ∙ not-false _ (c .before .before .before .if1 .left)) _ (c .if2 .taken)))
-    (λ c. sym (c .before .before .loop .inv ∙ laws.is-longer _ _ _ (sym (c .before .before .before .before .before .text-fits .ensures) ∙ not-false _ (c .before .before .before .before .if1 .left)) _ (c .before .if2 .left) (c .if3 .taken)))
+    (λ c.
+    let c3 = c .before .before .before in
+    let c4 = c3 .before in
+    sym (c .before .loop .inv ∙ laws.is-ended _ _ _ (sym (c4 .text-fits .ensures) ∙ not-false _ (c3 .if1 .left)) _ (c .if2 .taken)))
+    (λ c.
+    let c4 = c .before .before .before .before in
+    let c5 = c4 .before in
+    sym (c .before .before .loop .inv ∙ laws.is-longer _ _ _ (sym (c5 .text-fits .ensures) ∙ not-false _ (c4 .if1 .left)) _ (c .before .if2 .left) (c .if3 .taken)))
     (λ c. search needs)
-    (λ c. omega (arith, laws.fits-is _ _ (sym (c .before .before .before .before .before .before .text-fits .ensures) ∙ not-false _ (c .before .before .before .before .before .if1 .left))))
-    (λ c. omega (arith, laws.fits-is _ _ (sym (c .before .before .before .before .before .before .text-fits .ensures) ∙ not-false _ (c .before .before .before .before .before .if1 .left))))
-    (λ c. omega (arith, laws.fits-is _ _ (sym (c .before .before .before .before .before .before .before .text-fits .ensures) ∙ not-false _ (c .before .before .before .before .before .before .if1 .left))))
-    (λ c. sym (c .before .before .before .before .before .loop .inv ∙ laws.is-other _ _ _ (sym (c .before .before .before .before .before .before .before .before .text-fits .ensures) ∙ not-false _ (c .before .before .before .before .before .before .before .if1 .left)) _ (c .before .before .before .before .if2 .left) (c .before .before .before .if3 .left) (c .if4 .taken)))
-    (λ c. omega (arith, laws.fits-is _ _ (sym (c .before .before .before .before .before .before .before .before .text-fits .ensures) ∙ not-false _ (c .before .before .before .before .before .before .before .if1 .left))))
+    (λ c.
+    let c5 = c .before .before .before .before .before in
+    let c6 = c5 .before in
+    omega (arith, laws.fits-is _ _ (sym (c6 .text-fits .ensures) ∙ not-false _ (c5 .if1 .left))))
+    (λ c.
+    let c5 = c .before .before .before .before .before in
+    let c6 = c5 .before in
+    omega (arith, laws.fits-is _ _ (sym (c6 .text-fits .ensures) ∙ not-false _ (c5 .if1 .left))))
+    (λ c.
+    let c6 = c .before .before .before .before .before .before in
+    let c7 = c6 .before in
+    omega (arith, laws.fits-is _ _ (sym (c7 .text-fits .ensures) ∙ not-false _ (c6 .if1 .left))))
+    (λ c.
+    let c3 = c .before .before .before in
+    let c4 = c3 .before in
+    let c5 = c4 .before in
+    let c7 = c5 .before .before in
+    let c8 = c7 .before in
+    sym (c5 .loop .inv ∙ laws.is-other _ _ _ (sym (c8 .text-fits .ensures) ∙ not-false _ (c7 .if1 .left)) _ (c4 .if2 .left) (c3 .if3 .left) (c .if4 .taken)))
+    (λ c.
+    let c7 = c .before .before .before .before .before .before .before in
+    let c8 = c7 .before in
+    omega (arith, laws.fits-is _ _ (sym (c8 .text-fits .ensures) ∙ not-false _ (c7 .if1 .left))))
     (λ c. omega arith)
-    (λ c. c .before .before .before .before .before .loop .inv ∙ laws.is-same _ _ _ (sym (c .before .before .before .before .before .before .before .before .text-fits .ensures) ∙ not-false _ (c .before .before .before .before .before .before .before .if1 .left)) _ (c .before .before .before .before .if2 .left) (c .before .before .before .if3 .left) (c .if4 .left))
+    (λ c.
+    let c3 = c .before .before .before in
+    let c4 = c3 .before in
+    let c5 = c4 .before in
+    let c7 = c5 .before .before in
+    let c8 = c7 .before in
+    c5 .loop .inv ∙ laws.is-same _ _ _ (sym (c8 .text-fits .ensures) ∙ not-false _ (c7 .if1 .left)) _ (c4 .if2 .left) (c3 .if3 .left) (c .if4 .left))
     )

@@ -15,13 +15,35 @@ texts-at-spec =
     (λ c. sym (laws.no-on _ _ (sym (c .before .has .ensures) ∙ not-true _ (c .if1 .taken))))
     (λ c. search needs)
     (λ c κs. search needs)
-    (λ c. sym (laws.no-off _ _ (sym (c .before .before .before .before .has .ensures) ∙ not-false _ (c .before .before .before .if1 .left)) (sym (c .before .has2 .ensures) ∙ not-true _ (c .if2 .taken))))
+    (λ c.
+    let c3 = c .before .before .before in
+    let c4 = c3 .before in
+    sym (laws.no-off _ _ (sym (c4 .has .ensures) ∙ not-false _ (c3 .if1 .left)) (sym (c .before .has2 .ensures) ∙ not-true _ (c .if2 .taken))))
     (λ c. search needs)
     (λ c κs. search needs)
-    (λ c. sym (laws.no-unknown _ _ (sym (c .before .before .before .before .before .before .before .has .ensures) ∙ not-false _ (c .before .before .before .before .before .before .if1 .left)) (sym (c .before .before .before .before .has2 .ensures) ∙ not-false _ (c .before .before .before .if2 .left)) (sym (c .before .has3 .ensures) ∙ not-true _ (c .if3 .taken))))
+    (λ c.
+    let c3 = c .before .before .before in
+    let c4 = c3 .before in
+    let c6 = c4 .before .before in
+    let c7 = c6 .before in
+    sym (laws.no-unknown _ _ (sym (c7 .has .ensures) ∙ not-false _ (c6 .if1 .left)) (sym (c4 .has2 .ensures) ∙ not-false _ (c3 .if2 .left)) (sym (c .before .has3 .ensures) ∙ not-true _ (c .if3 .taken))))
     (λ c. search needs)
     (λ c κs. search needs)
-    (λ c. sym (laws.no-unavailable _ _ (sym (c .before .before .before .before .before .before .before .before .before .before .has .ensures) ∙ not-false _ (c .before .before .before .before .before .before .before .before .before .if1 .left)) (sym (c .before .before .before .before .before .before .before .has2 .ensures) ∙ not-false _ (c .before .before .before .before .before .before .if2 .left)) (sym (c .before .before .before .before .has3 .ensures) ∙ not-false _ (c .before .before .before .if3 .left)) (sym (c .before .has4 .ensures) ∙ not-true _ (c .if4 .taken))))
+    (λ c.
+    let c3 = c .before .before .before in
+    let c4 = c3 .before in
+    let c6 = c4 .before .before in
+    let c7 = c6 .before in
+    let c9 = c7 .before .before in
+    let c10 = c9 .before in
+    sym (laws.no-unavailable _ _ (sym (c10 .has .ensures) ∙ not-false _ (c9 .if1 .left)) (sym (c7 .has2 .ensures) ∙ not-false _ (c6 .if2 .left)) (sym (c4 .has3 .ensures) ∙ not-false _ (c3 .if3 .left)) (sym (c .before .has4 .ensures) ∙ not-true _ (c .if4 .taken))))
     (λ c κs. search needs)
-    (λ c. c .ascending-at .ensures ∙ sym (laws.all-there _ _ (sym (c .before .before .before .before .before .before .before .before .before .before .before .has .ensures) ∙ not-false _ (c .before .before .before .before .before .before .before .before .before .before .if1 .left)) (sym (c .before .before .before .before .before .before .before .before .has2 .ensures) ∙ not-false _ (c .before .before .before .before .before .before .before .if2 .left)) (sym (c .before .before .before .before .before .has3 .ensures) ∙ not-false _ (c .before .before .before .before .if3 .left)) (sym (c .before .before .has4 .ensures) ∙ not-false _ (c .before .if4 .left))))
+    (λ c.
+    let c4 = c .before .before .before .before in
+    let c5 = c4 .before in
+    let c7 = c5 .before .before in
+    let c8 = c7 .before in
+    let c10 = c8 .before .before in
+    let c11 = c10 .before in
+    c .ascending-at .ensures ∙ sym (laws.all-there _ _ (sym (c11 .has .ensures) ∙ not-false _ (c10 .if1 .left)) (sym (c8 .has2 .ensures) ∙ not-false _ (c7 .if2 .left)) (sym (c5 .has3 .ensures) ∙ not-false _ (c4 .if3 .left)) (sym (c .before .before .has4 .ensures) ∙ not-false _ (c .before .if4 .left))))
     )

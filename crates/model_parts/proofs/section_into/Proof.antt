@@ -28,14 +28,26 @@ section-into-spec =
     (λ c. search needs)
     (λ c. search needs)
     (λ c. sym (laws.section-broken _ _ _ _ (c .before .before .u16-at .ensures) (c .before .before .before .before .pre) (c .enum-told .given .1)))
-    (λ c. (laws.section-is _ _ _ _ (c .before .before .before .u16-at .ensures) (c .before .before .before .before .before .pre) (c .before .x .given .1), omega arith))
+    (λ c.
+    let c3 = c .before .before .before in
+    let c5 = c3 .before .before in
+    (laws.section-is _ _ _ _ (c3 .u16-at .ensures) (c5 .pre) (c .before .x .given .1), omega arith))
     (λ c κs. search needs)
     (λ c κs. search needs)
     (λ c. search needs)
     (λ c. search needs)
-    (λ c. sym (c .before .before .before .before .before .before .loop .inv .0 ∙ laws.fill-broken _ _ _ _ _ _ _ (c .before .before .part-at .ensures) (c .before .before .before .put .ensures) _ (c .before .before .before .before .before .loop-test .taken) (c .enum-told2 .given .1)))
+    (λ c.
+    let c3 = c .before .before .before in
+    let c5 = c3 .before .before in
+    let c6 = c5 .before in
+    sym (c6 .loop .inv .0 ∙ laws.fill-broken _ _ _ _ _ _ _ (c .before .before .part-at .ensures) (c3 .put .ensures) _ (c5 .loop-test .taken) (c .enum-told2 .given .1)))
     (λ c. search needs)
     (λ c. search needs)
     (λ c. search needs)
-    (λ c. (c .before .before .before .before .before .before .before .loop .inv .0 ∙ laws.fill-more _ _ _ _ _ _ _ (c .before .before .before .part-at .ensures) (c .before .before .before .before .put .ensures) _ (c .before .before .before .before .before .before .loop-test .taken) (c .before .y .given .1), omega arith))
+    (λ c.
+    let c3 = c .before .before .before in
+    let c4 = c3 .before in
+    let c6 = c4 .before .before in
+    let c7 = c6 .before in
+    (c7 .loop .inv .0 ∙ laws.fill-more _ _ _ _ _ _ _ (c3 .part-at .ensures) (c4 .put .ensures) _ (c6 .loop-test .taken) (c .before .y .given .1), omega arith))
     (λ c. sym (c .before .loop .inv .0 ∙ laws.fill-end _ _ _ _ _ _ _ _ (c .loop-test .left))))

@@ -13,7 +13,14 @@ write-events-spec =
     (λ c. let a = c .before .before .before .before .before .before .args in let h = laws.section-size (a .events .now) (a .n) in search needs)
     (λ c. let a = c .before .before .before .before .before .before .args in let h = laws.section-size (a .events .now) (a .n) in search needs)
     (λ c. search needs)
-    (λ c κs. let a = c .before .before .before .before .before .before .before .args in let h = laws.section-size (a .events .now) (a .n) in search needs)
-    (λ c. let a = c .before .before .before .before .before .before .before .before .before .before .args in let h = laws.section-size (a .events .now) (a .n) in omega (arith, c .before .before .write-each .ensures .is-size))
+    (λ c κs.
+    let c7 = c .before .before .before .before .before .before .before in
+    let a = c7 .args in let h = laws.section-size (a .events .now) (a .n) in search needs)
+    (λ c.
+    let c10 = c .before .before .before .before .before .before .before .before .before .before in
+    let a = c10 .args in let h = laws.section-size (a .events .now) (a .n) in omega (arith, c .before .before .write-each .ensures .is-size))
     (λ c. search needs)
-    (λ c. let a = c .before .before .before .before .before .before .before .before .before .before .args in laws.section-wrote (a .events .now) (a .n) (c .before .before .before .before .before .before .before .before .before .before .pre .1) (c .before .before .before .before .before .before .write-count .ensures) refl (c .before .before .write-each .ensures)))
+    (λ c.
+    let c6 = c .before .before .before .before .before .before in
+    let c10 = c6 .before .before .before .before in
+    let a = c10 .args in laws.section-wrote (a .events .now) (a .n) (c10 .pre .1) (c6 .write-count .ensures) refl (c .before .before .write-each .ensures)))

@@ -16,6 +16,11 @@ entity-of-check-spec =
     (λ c κs. search needs)
     (λ c. sym (laws.entity-5 _ _ _ _ _ _ _ _ _ (sym (c .before .stale-bad .ensures) ∙ c .if1 .taken)))
     (λ c κs. search needs)
-    (λ c. sym (laws.entity-6 _ _ _ _ _ _ _ _ _ (sym (c .before .before .before .stale-bad .ensures) ∙ c .before .before .if1 .left) (sym (c .before .bad-domain .ensures) ∙ c .if2 .taken)))
+    (λ c.
+    let c3 = c .before .before .before in
+    sym (laws.entity-6 _ _ _ _ _ _ _ _ _ (sym (c3 .stale-bad .ensures) ∙ c .before .before .if1 .left) (sym (c .before .bad-domain .ensures) ∙ c .if2 .taken)))
     (λ c κs. search needs)
-    (λ c. c .value-check .ensures ∙ sym (laws.entity-value _ _ _ _ _ _ _ _ _ (sym (c .before .before .before .before .stale-bad .ensures) ∙ c .before .before .before .if1 .left) (sym (c .before .before .bad-domain .ensures) ∙ c .before .if2 .left))))
+    (λ c.
+    let c3 = c .before .before .before in
+    let c4 = c3 .before in
+    c .value-check .ensures ∙ sym (laws.entity-value _ _ _ _ _ _ _ _ _ (sym (c4 .stale-bad .ensures) ∙ c3 .if1 .left) (sym (c .before .before .bad-domain .ensures) ∙ c .before .if2 .left))))

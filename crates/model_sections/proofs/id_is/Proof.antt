@@ -26,7 +26,10 @@ id-is-spec =
     (λ c κs. search needs)
     (λ c. search needs)
     (λ c κs. search needs)
-    (λ c. c .place-is .ensures ∙ sym (laws.id-behind _ _ _ (c .before .before .before .before .before .enum-told .given .1) (c .before .before .before .before .u8-at .ensures) (c .before .before .x .given .1)))
+    (λ c.
+    let c4 = c .before .before .before .before in
+    let c5 = c4 .before in
+    c .place-is .ensures ∙ sym (laws.id-behind _ _ _ (c5 .enum-told .given .1) (c4 .u8-at .ensures) (c .before .before .x .given .1)))
     (λ c. c .place-is2 .ensures ∙ sym (laws.id-entity _ _ _ (c .before .enum-told3 .given .1)))
     (λ c. c .place-is3 .ensures ∙ sym (laws.id-event _ _ _ (c .before .enum-told4 .given .1)))
     (λ c. c .place-is4 .ensures ∙ sym (laws.id-input _ _ _ (c .before .enum-told5 .given .1)))

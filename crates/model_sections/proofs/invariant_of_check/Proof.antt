@@ -21,4 +21,6 @@ invariant-of-check-spec =
     (λ c κs. search needs)
     (λ c. c .transition-check .ensures ∙ sym (laws.invariant-2 _ _ _ _ (c .before .if3 .taken)))
     (λ c κs. search needs)
-    (λ c. c .response-check .ensures ∙ sym (laws.invariant-else _ _ _ _ (c .before .before .before .if1 .left) (c .before .before .if2 .left) (c .before .if3 .left))))
+    (λ c.
+    let c3 = c .before .before .before in
+    c .response-check .ensures ∙ sym (laws.invariant-else _ _ _ _ (c3 .if1 .left) (c .before .before .if2 .left) (c .before .if3 .left))))

@@ -18,6 +18,12 @@ rule-check-spec =
     (λ c. search needs)
     (λ c. sym (laws.rule-none _ _ _ _ _ _ (c .before .before .u16-at .ensures) (c .enum-told .given .1)))
     (λ c κs. search needs)
-    (λ c. sym (laws.rule-13 _ _ _ _ _ _ (c .before .before .before .before .before .u16-at .ensures) (c .before .before .before .x .given .1) (sym (c .before .bad-id .ensures) ∙ c .if1 .taken)))
+    (λ c.
+    let c3 = c .before .before .before in
+    let c5 = c3 .before .before in
+    sym (laws.rule-13 _ _ _ _ _ _ (c5 .u16-at .ensures) (c3 .x .given .1) (sym (c .before .bad-id .ensures) ∙ c .if1 .taken)))
     (λ c κs. search needs)
-    (λ c. c .rule-of-check .ensures ∙ sym (laws.rule-is _ _ _ _ _ _ (c .before .before .before .before .before .before .u16-at .ensures) (c .before .before .before .before .x .given .1) (sym (c .before .before .bad-id .ensures) ∙ c .before .if1 .left))))
+    (λ c.
+    let c4 = c .before .before .before .before in
+    let c6 = c4 .before .before in
+    c .rule-of-check .ensures ∙ sym (laws.rule-is _ _ _ _ _ _ (c6 .u16-at .ensures) (c4 .x .given .1) (sym (c .before .before .bad-id .ensures) ∙ c .before .if1 .left))))

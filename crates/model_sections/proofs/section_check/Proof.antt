@@ -29,8 +29,13 @@ section-check-spec =
     (λ c κs. search needs)
     (λ c. search needs)
     (λ c. search needs)
-    (λ c. sym (c .before .before .before .before .before .loop .inv .0 ∙ laws.parts-refused _ _ _ _ _ _ (c .before .before .part-check .ensures) _ (omega arith) (c .enum-told .given .1)))
+    (λ c.
+    let c5 = c .before .before .before .before .before in
+    sym (c5 .loop .inv .0 ∙ laws.parts-refused _ _ _ _ _ _ (c .before .before .part-check .ensures) _ (omega arith) (c .enum-told .given .1)))
     (λ c. search needs)
     (λ c. search needs)
-    (λ c. (c .before .before .before .before .before .before .loop .inv .0 ∙ laws.parts-next _ _ _ _ _ _ (c .before .before .before .part-check .ensures) _ (omega arith) (c .before .x .given .1) ∙ laws.parts-left _ _ _ _ _ _ (omega arith), omega arith))
+    (λ c.
+    let c3 = c .before .before .before in
+    let c6 = c3 .before .before .before in
+    (c6 .loop .inv .0 ∙ laws.parts-next _ _ _ _ _ _ (c3 .part-check .ensures) _ (omega arith) (c .before .x .given .1) ∙ laws.parts-left _ _ _ _ _ _ (omega arith), omega arith))
     (λ c. sym (c .before .loop .inv .0 ∙ laws.parts-end _ _ _ _ _ _ _ (omega arith))))

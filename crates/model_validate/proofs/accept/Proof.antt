@@ -8,4 +8,6 @@ use Rattle.model_index.proofs.file_of.Reads as file-of-reads
 use Rattle.model_validate.proofs.examine.Reads as examine-reads
 
 pub accept-spec : {M : Type 1} → statement M
-accept-spec = tie.close (tie.spec (λ c κs. search needs) (λ c κs. search needs) (λ c. agrees.file-says _ (c .file-of .ensures) (c .before .before .before .before .before .before .before .before .examine .ensures)))
+accept-spec = tie.close (tie.spec (λ c κs. search needs) (λ c κs. search needs) (λ c.
+    let c8 = c .before .before .before .before .before .before .before .before in
+    agrees.file-says _ (c .file-of .ensures) (c8 .examine .ensures)))

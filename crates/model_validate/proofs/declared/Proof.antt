@@ -18,4 +18,7 @@ declared-spec =
     (λ c κs. search needs)
     (λ c. search needs)
     (λ c κs. search needs)
-    (λ c. laws.declared-is _ _ _ (c .before .before .before .before .before .before .place-of .ensures) (c .before .before .before .before .place-of2 .ensures) (c .before .before .place-of3 .ensures) (c .place-of4 .ensures)))
+    (λ c.
+    let c4 = c .before .before .before .before in
+    let c6 = c4 .before .before in
+    laws.declared-is _ _ _ (c6 .place-of .ensures) (c4 .place-of2 .ensures) (c .before .before .place-of3 .ensures) (c .place-of4 .ensures)))

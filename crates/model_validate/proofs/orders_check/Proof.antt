@@ -17,5 +17,11 @@ orders-check-spec =
     (λ c. search needs)
     (λ c. sym (laws.orders-broken _ _ _ _ _ (c .before .before .u32-at .ensures) (c .enum-told .given .1)))
     (λ c κs. search needs)
-    (λ c. sym (laws.orders-9 _ _ _ _ _ (c .before .before .before .before .before .u32-at .ensures) (c .before .before .before .x .given .1) (sym (c .before .seconds-bad .ensures) ∙ c .if1 .taken)))
-    (λ c. sym (laws.orders-right _ _ _ _ _ (c .before .before .before .before .before .u32-at .ensures) (c .before .before .before .x .given .1) (sym (c .before .seconds-bad .ensures) ∙ c .if1 .left))))
+    (λ c.
+    let c3 = c .before .before .before in
+    let c5 = c3 .before .before in
+    sym (laws.orders-9 _ _ _ _ _ (c5 .u32-at .ensures) (c3 .x .given .1) (sym (c .before .seconds-bad .ensures) ∙ c .if1 .taken)))
+    (λ c.
+    let c3 = c .before .before .before in
+    let c5 = c3 .before .before in
+    sym (laws.orders-right _ _ _ _ _ (c5 .u32-at .ensures) (c3 .x .given .1) (sym (c .before .seconds-bad .ensures) ∙ c .if1 .left))))

@@ -18,7 +18,13 @@ title-bad-spec =
     (λ c. search needs)
     (λ c. search needs)
     (λ c. sym (laws.title-broken _ _ (c .before .before .u16-at .ensures) (c .enum-told .given .1)))
-    (λ c. sym (laws.title-version _ _ (c .before .before .before .before .before .u16-at .ensures) (c .before .before .before .x .given .1) (c .if1 .taken)))
+    (λ c.
+    let c3 = c .before .before .before in
+    let c5 = c3 .before .before in
+    sym (laws.title-version _ _ (c5 .u16-at .ensures) (c3 .x .given .1) (c .if1 .taken)))
     (λ c κs. search needs)
     (λ c κs. search needs)
-    (λ c. sym (laws.title-length _ _ (c .before .before .before .before .before .before .before .u16-at .ensures) (c .before .before .before .before .before .x .given .1) (c .before .before .if1 .left) (parts.place-length _ _ (c .before .text-start .ensures) (c .text-len .ensures .0)))))
+    (λ c.
+    let c5 = c .before .before .before .before .before in
+    let c7 = c5 .before .before in
+    sym (laws.title-length _ _ (c7 .u16-at .ensures) (c5 .x .given .1) (c .before .before .if1 .left) (parts.place-length _ _ (c .before .text-start .ensures) (c .text-len .ensures .0)))))

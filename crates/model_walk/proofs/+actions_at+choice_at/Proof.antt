@@ -75,25 +75,53 @@ pub +actions-at+choice-at-spec : {M : Type 1} → statement M
     (λ c κs. search needs)
     (λ c. search needs)
     (λ c. search needs)
-    (λ c. sym (laws.actions-more _ _ _ _ _ (c .before .before .before .if1 .left) ∙ laws.by-broken _ _ _ _ _ (c .before .before .u16-at .ensures) (c .enum-told .given .1)))
-    (λ c. laws.actions-more _ _ _ _ _ (c .before .before .before .before .if1 .left) ∙ laws.by-is _ _ _ _ _ (c .before .before .before .u16-at .ensures) (c .before .x .given .1))
+    (λ c.
+    let c3 = c .before .before .before in
+    sym (laws.actions-more _ _ _ _ _ (c3 .if1 .left) ∙ laws.by-broken _ _ _ _ _ (c .before .before .u16-at .ensures) (c .enum-told .given .1)))
+    (λ c.
+    let c3 = c .before .before .before in
+    let c4 = c3 .before in
+    laws.actions-more _ _ _ _ _ (c4 .if1 .left) ∙ laws.by-is _ _ _ _ _ (c3 .u16-at .ensures) (c .before .x .given .1))
     (λ c κs. search needs)
     (λ c. search needs)
     (λ c. search needs)
-    (λ c. sym (c .before .before .before .before .loop .inv ∙ laws.times-more _ _ _ _ _ (c .before .before .before .loop-test .taken) ∙ laws.assoc _ _ _ _ _ _ ∙ laws.broke _ _ _ _ _ (c .before .before .bytes-at .ensures) (c .enum-told2 .given .1)))
+    (λ c.
+    let c3 = c .before .before .before in
+    let c4 = c3 .before in
+    sym (c4 .loop .inv ∙ laws.times-more _ _ _ _ _ (c3 .loop-test .taken) ∙ laws.assoc _ _ _ _ _ _ ∙ laws.broke _ _ _ _ _ (c .before .before .bytes-at .ensures) (c .enum-told2 .given .1)))
     (λ c κs. search needs)
     (λ c. search needs)
     (λ c. search needs)
-    (λ c. sym (c .before .before .before .before .before .before .before .before .loop .inv ∙ laws.times-more _ _ _ _ _ (c .before .before .before .before .before .before .before .loop-test .taken) ∙ laws.assoc _ _ _ _ _ _ ∙ laws.to _ _ _ _ _ (c .before .before .before .before .before .before .bytes-at .ensures) (c .before .before .before .before .y .given .1) ∙ laws.by-then _ _ _ _ _ _ ∙ laws.by-broken _ _ _ _ _ (c .before .before .u8-at .ensures) (c .enum-told3 .given .1)))
+    (λ c.
+    let c4 = c .before .before .before .before in
+    let c6 = c4 .before .before in
+    let c7 = c6 .before in
+    let c8 = c7 .before in
+    sym (c8 .loop .inv ∙ laws.times-more _ _ _ _ _ (c7 .loop-test .taken) ∙ laws.assoc _ _ _ _ _ _ ∙ laws.to _ _ _ _ _ (c6 .bytes-at .ensures) (c4 .y .given .1) ∙ laws.by-then _ _ _ _ _ _ ∙ laws.by-broken _ _ _ _ _ (c .before .before .u8-at .ensures) (c .enum-told3 .given .1)))
     (λ c. search needs)
     (λ c κs. search needs)
     (λ c κs. search needs)
     (λ c. search needs)
     (λ c. search needs)
-    (λ c. sym (c .before .before .before .before .before .before .before .before .before .before .before .before .loop .inv ∙ laws.times-more _ _ _ _ _ (c .before .before .before .before .before .before .before .before .before .before .before .loop-test .taken) ∙ laws.assoc _ _ _ _ _ _ ∙ laws.to _ _ _ _ _ (c .before .before .before .before .before .before .before .before .before .before .bytes-at .ensures) (c .before .before .before .before .before .before .before .before .y .given .1) ∙ laws.by-then _ _ _ _ _ _ ∙ laws.by-is _ _ _ _ _ (c .before .before .before .before .before .before .u8-at .ensures) (c .before .before .before .before .z .given .1) ∙ laws.broke _ _ _ _ _ (⊎-elim (λ w. w .2 ∙ w .1 .ensures ∙ sym (laws.yes-walk _ _ _ _ _ (eq-eqb _ _ (w .0 .taken)))) (λ w. w .2 ∙ w .1 .ensures ∙ sym (laws.no-walk _ _ _ _ _ (ne-eqb _ _ (w .0 .left)))) (c .before .before .if2 .came)) (c .enum-told4 .given .1)))
+    (λ c.
+    let c4 = c .before .before .before .before in
+    let c6 = c4 .before .before in
+    let c8 = c6 .before .before in
+    let c10 = c8 .before .before in
+    let c11 = c10 .before in
+    let c12 = c11 .before in
+    sym (c12 .loop .inv ∙ laws.times-more _ _ _ _ _ (c11 .loop-test .taken) ∙ laws.assoc _ _ _ _ _ _ ∙ laws.to _ _ _ _ _ (c10 .bytes-at .ensures) (c8 .y .given .1) ∙ laws.by-then _ _ _ _ _ _ ∙ laws.by-is _ _ _ _ _ (c6 .u8-at .ensures) (c4 .z .given .1) ∙ laws.broke _ _ _ _ _ (⊎-elim (λ w. w .2 ∙ w .1 .ensures ∙ sym (laws.yes-walk _ _ _ _ _ (eq-eqb _ _ (w .0 .taken)))) (λ w. w .2 ∙ w .1 .ensures ∙ sym (laws.no-walk _ _ _ _ _ (ne-eqb _ _ (w .0 .left)))) (c .before .before .if2 .came)) (c .enum-told4 .given .1)))
     (λ c. search needs)
     (λ c. search needs)
-    (λ c. c .before .before .before .before .before .before .before .before .before .before .before .before .before .loop .inv ∙ laws.times-more _ _ _ _ _ (c .before .before .before .before .before .before .before .before .before .before .before .before .loop-test .taken) ∙ laws.assoc _ _ _ _ _ _ ∙ laws.to _ _ _ _ _ (c .before .before .before .before .before .before .before .before .before .before .before .bytes-at .ensures) (c .before .before .before .before .before .before .before .before .before .y .given .1) ∙ laws.by-then _ _ _ _ _ _ ∙ laws.by-is _ _ _ _ _ (c .before .before .before .before .before .before .before .u8-at .ensures) (c .before .before .before .before .before .z .given .1) ∙ laws.to _ _ _ _ _ (⊎-elim (λ w. w .2 ∙ w .1 .ensures ∙ sym (laws.yes-walk _ _ _ _ _ (eq-eqb _ _ (w .0 .taken)))) (λ w. w .2 ∙ w .1 .ensures ∙ sym (laws.no-walk _ _ _ _ _ (ne-eqb _ _ (w .0 .left)))) (c .before .before .before .if2 .came)) (c .before .r .given .1))
+    (λ c.
+    let c3 = c .before .before .before in
+    let c5 = c3 .before .before in
+    let c7 = c5 .before .before in
+    let c9 = c7 .before .before in
+    let c11 = c9 .before .before in
+    let c12 = c11 .before in
+    let c13 = c12 .before in
+    c13 .loop .inv ∙ laws.times-more _ _ _ _ _ (c12 .loop-test .taken) ∙ laws.assoc _ _ _ _ _ _ ∙ laws.to _ _ _ _ _ (c11 .bytes-at .ensures) (c9 .y .given .1) ∙ laws.by-then _ _ _ _ _ _ ∙ laws.by-is _ _ _ _ _ (c7 .u8-at .ensures) (c5 .z .given .1) ∙ laws.to _ _ _ _ _ (⊎-elim (λ w. w .2 ∙ w .1 .ensures ∙ sym (laws.yes-walk _ _ _ _ _ (eq-eqb _ _ (w .0 .taken)))) (λ w. w .2 ∙ w .1 .ensures ∙ sym (laws.no-walk _ _ _ _ _ (ne-eqb _ _ (w .0 .left)))) (c3 .if2 .came)) (c .before .r .given .1))
     (λ c. sym (c .before .loop .inv ∙ laws.times-none _ _ _ _ _ (c .loop-test .left)))
     )
     (λ t. choice-at-lts.spec (
@@ -116,14 +144,28 @@ pub +actions-at+choice-at-spec : {M : Type 1} → statement M
     (λ c κs. search needs)
     (λ c. search needs)
     (λ c. search needs)
-    (λ c. sym (c .before .before .before .before .loop .inv ∙ laws.times-then _ _ _ _ _ _ (c .before .before .before .loop-test .taken) ∙ laws.assoc _ _ _ _ _ _ ∙ laws.broke _ _ _ _ _ (c .before .before .pieces-at .ensures) (c .enum-told2 .given .1)))
+    (λ c.
+    let c3 = c .before .before .before in
+    let c4 = c3 .before in
+    sym (c4 .loop .inv ∙ laws.times-then _ _ _ _ _ _ (c3 .loop-test .taken) ∙ laws.assoc _ _ _ _ _ _ ∙ laws.broke _ _ _ _ _ (c .before .before .pieces-at .ensures) (c .enum-told2 .given .1)))
     (λ c κs. search needs)
     (λ c. search needs)
     (λ c. search needs)
-    (λ c. sym (c .before .before .before .before .before .before .before .before .loop .inv ∙ laws.times-then _ _ _ _ _ _ (c .before .before .before .before .before .before .before .loop-test .taken) ∙ laws.assoc _ _ _ _ _ _ ∙ laws.to _ _ _ _ _ (c .before .before .before .before .before .before .pieces-at .ensures) (c .before .before .before .before .y .given .1) ∙ laws.broke _ _ _ _ _ (c .before .before .actions-at .ensures) (c .enum-told3 .given .1)))
+    (λ c.
+    let c4 = c .before .before .before .before in
+    let c6 = c4 .before .before in
+    let c7 = c6 .before in
+    let c8 = c7 .before in
+    sym (c8 .loop .inv ∙ laws.times-then _ _ _ _ _ _ (c7 .loop-test .taken) ∙ laws.assoc _ _ _ _ _ _ ∙ laws.to _ _ _ _ _ (c6 .pieces-at .ensures) (c4 .y .given .1) ∙ laws.broke _ _ _ _ _ (c .before .before .actions-at .ensures) (c .enum-told3 .given .1)))
     (λ c. search needs)
     (λ c. search needs)
-    (λ c. c .before .before .before .before .before .before .before .before .before .loop .inv ∙ laws.times-then _ _ _ _ _ _ (c .before .before .before .before .before .before .before .before .loop-test .taken) ∙ laws.assoc _ _ _ _ _ _ ∙ laws.to _ _ _ _ _ (c .before .before .before .before .before .before .before .pieces-at .ensures) (c .before .before .before .before .before .y .given .1) ∙ laws.to _ _ _ _ _ (c .before .before .before .actions-at .ensures) (c .before .z .given .1))
+    (λ c.
+    let c3 = c .before .before .before in
+    let c5 = c3 .before .before in
+    let c7 = c5 .before .before in
+    let c8 = c7 .before in
+    let c9 = c8 .before in
+    c9 .loop .inv ∙ laws.times-then _ _ _ _ _ _ (c8 .loop-test .taken) ∙ laws.assoc _ _ _ _ _ _ ∙ laws.to _ _ _ _ _ (c7 .pieces-at .ensures) (c5 .y .given .1) ∙ laws.to _ _ _ _ _ (c3 .actions-at .ensures) (c .before .z .given .1))
     (λ c κs. search needs)
     (λ c. c .actions-at2 .ensures ∙ sym (c .before .before .loop .inv ∙ laws.none-then _ _ _ _ _ _ (c .before .loop-test .left)))
     )

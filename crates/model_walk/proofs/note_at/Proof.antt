@@ -13,5 +13,7 @@ note-at-spec =
     (λ c. search needs)
     (λ c. sym (laws.broke _ _ _ _ _ (c .before .before .place-at .ensures) (c .enum-told .given .1)))
     (λ c κs. search needs)
-    (λ c. sym (laws.to _ _ _ _ _ (c .before .before .before .before .place-at .ensures) (c .before .before .x .given .1) ∙ laws.noted-is _ _ _ ∙ laws.to-same (c .more .ensures)))
+    (λ c.
+    let c4 = c .before .before .before .before in
+    sym (laws.to _ _ _ _ _ (c4 .place-at .ensures) (c .before .before .x .given .1) ∙ laws.noted-is _ _ _ ∙ laws.to-same (c .more .ensures)))
     )

@@ -25,9 +25,16 @@ pieces-at-spec =
     (λ c κs. search needs)
     (λ c. search needs)
     (λ c. search needs)
-    (λ c. sym (c .before .before .before .before .loop .inv ∙ laws.times-more _ _ _ _ _ (c .before .before .before .loop-test .taken) ∙ laws.broke _ _ _ _ _ (c .before .before .piece-at .ensures) (c .enum-told2 .given .1)))
+    (λ c.
+    let c3 = c .before .before .before in
+    let c4 = c3 .before in
+    sym (c4 .loop .inv ∙ laws.times-more _ _ _ _ _ (c3 .loop-test .taken) ∙ laws.broke _ _ _ _ _ (c .before .before .piece-at .ensures) (c .enum-told2 .given .1)))
     (λ c. search needs)
     (λ c. search needs)
-    (λ c. c .before .before .before .before .before .loop .inv ∙ laws.times-more _ _ _ _ _ (c .before .before .before .before .loop-test .taken) ∙ laws.to _ _ _ _ _ (c .before .before .before .piece-at .ensures) (c .before .y .given .1))
+    (λ c.
+    let c3 = c .before .before .before in
+    let c4 = c3 .before in
+    let c5 = c4 .before in
+    c5 .loop .inv ∙ laws.times-more _ _ _ _ _ (c4 .loop-test .taken) ∙ laws.to _ _ _ _ _ (c3 .piece-at .ensures) (c .before .y .given .1))
     (λ c. sym (c .before .loop .inv ∙ laws.times-none _ _ _ _ _ (c .loop-test .left)))
     )

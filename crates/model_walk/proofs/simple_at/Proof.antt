@@ -20,5 +20,9 @@ simple-at-spec =
     (λ c. c .wait-at .ensures ∙ sym (laws.simple-5 _ _ _ _ (c .before .if5 .taken)))
     (λ c κs. search needs)
     (λ c. c .note-at .ensures ∙ sym (laws.simple-6 _ _ _ _ (c .before .if6 .taken)))
-    (λ c. sym (laws.simple-else _ _ _ _ (c .before .before .before .before .before .if1 .left) (c .before .before .before .before .if2 .left) (c .before .before .before .if3 .left) (c .before .before .if4 .left) (c .before .if5 .left) (c .if6 .left)))
+    (λ c.
+    let c3 = c .before .before .before in
+    let c4 = c3 .before in
+    let c5 = c4 .before in
+    sym (laws.simple-else _ _ _ _ (c5 .if1 .left) (c4 .if2 .left) (c3 .if3 .left) (c .before .before .if4 .left) (c .before .if5 .left) (c .if6 .left)))
     )

@@ -23,12 +23,22 @@ put-status-spec =
     (λ c. search needs)
     (λ c κs. search needs)
     (λ c. search needs)
-    (λ c. show.is (laws.refused (c .before .before .before .before .before .before .before .before .args .status) _ (cc)) (c .before .before .put-refused .ensures))
+    (λ c.
+    let c8 = c .before .before .before .before .before .before .before .before in
+    show.is (laws.refused (c8 .args .status) _ (cc)) (c .before .before .put-refused .ensures))
     (λ c. search needs)
-    (λ c. show.is (laws.unknown (c .before .before .before .before .before .before .before .before .args .status) (cc)) (c .before .before .put .ensures))
+    (λ c.
+    let c8 = c .before .before .before .before .before .before .before .before in
+    show.is (laws.unknown (c8 .args .status) (cc)) (c .before .before .put .ensures))
     (λ c. search needs)
-    (λ c. show.is (laws.violation (c .before .before .before .before .before .before .before .before .args .status) (cc)) (c .before .before .put2 .ensures))
+    (λ c.
+    let c8 = c .before .before .before .before .before .before .before .before in
+    show.is (laws.violation (c8 .args .status) (cc)) (c .before .before .put2 .ensures))
     (λ c. search needs)
-    (λ c. show.is (laws.incomplete (c .before .before .before .before .before .before .before .before .args .status) (cc)) (c .before .before .put3 .ensures))
+    (λ c.
+    let c8 = c .before .before .before .before .before .before .before .before in
+    show.is (laws.incomplete (c8 .args .status) (cc)) (c .before .before .put3 .ensures))
     (λ c. search needs)
-    (λ c. show.is (laws.no-violation (c .before .before .before .before .before .before .before .before .args .status) (cc)) (c .before .before .put4 .ensures)))
+    (λ c.
+    let c8 = c .before .before .before .before .before .before .before .before in
+    show.is (laws.no-violation (c8 .args .status) (cc)) (c .before .before .put4 .ensures)))

@@ -15,8 +15,14 @@ put-answer-line-spec =
     (λ c. search needs)
     (λ c κs. search needs)
     (λ c. search needs)
-    (λ c. show.is (laws.yes-is _ (c .before .before .before .before .before .if1 .taken)) (show.both (c .before .before .before .before .before .before .before .before .put .ensures) (c .before .before .put2 .ensures)))
+    (λ c.
+    let c5 = c .before .before .before .before .before in
+    let c8 = c5 .before .before .before in
+    show.is (laws.yes-is _ (c5 .if1 .taken)) (show.both (c8 .put .ensures) (c .before .before .put2 .ensures)))
     (λ c. search needs)
     (λ c κs. search needs)
     (λ c. search needs)
-    (λ c. show.is (laws.no-is _ (c .before .before .before .before .before .if1 .left)) (show.both (c .before .before .before .before .before .before .before .before .put .ensures) (c .before .before .put3 .ensures))))
+    (λ c.
+    let c5 = c .before .before .before .before .before in
+    let c8 = c5 .before .before .before in
+    show.is (laws.no-is _ (c5 .if1 .left)) (show.both (c8 .put .ensures) (c .before .before .put3 .ensures))))

@@ -10,4 +10,6 @@ use Rattle.texts.proofs.text_start.Reads as text-start-reads
 
 pub put-place-spec : {M : Type 1} → statement M
 put-place-spec =
-    tie.close (tie.spec (λ c κs. search needs) (λ c κs. search needs) (λ c. search needs) (λ c. show.is (laws.place-is _ _ (c .before .before .before .before .text-start .ensures)) (c .before .before .put-quoted-text .ensures)))
+    tie.close (tie.spec (λ c κs. search needs) (λ c κs. search needs) (λ c. search needs) (λ c.
+    let c4 = c .before .before .before .before in
+    show.is (laws.place-is _ _ (c4 .text-start .ensures)) (c .before .before .put-quoted-text .ensures)))

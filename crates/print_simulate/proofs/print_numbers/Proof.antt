@@ -13,4 +13,9 @@ print-numbers-spec =
     (λ c κs. search needs)
     (λ c κs. search needs)
     (λ c. search needs)
-    (λ c. show.kept (c .before .before .before .before .before .before .before .before .before .before .before .before .before .before .before .args .n) (show.both (c .before .before .before .before .before .before .before .before .before .before .put-steps .ensures) (show.both (c .before .before .before .before .before .before .put-records .ensures) (c .before .before .put-horizon .ensures))) (lengths.numbers-short (c .before .before .before .before .before .before .before .before .before .before .before .before .before .before .before .args .steps) (c .before .before .before .before .before .before .before .before .before .before .before .before .before .before .before .args .records) (c .before .before .before .before .before .before .before .before .before .before .before .before .before .before .before .args .horizon)) (c .before .before .before .before .before .before .before .before .before .before .before .before .room .ensures .1)))
+    (λ c.
+    let c6 = c .before .before .before .before .before .before in
+    let c10 = c6 .before .before .before .before in
+    let c12 = c10 .before .before in
+    let c15 = c12 .before .before .before in
+    show.kept (c15 .args .n) (show.both (c10 .put-steps .ensures) (show.both (c6 .put-records .ensures) (c .before .before .put-horizon .ensures))) (lengths.numbers-short (c15 .args .steps) (c15 .args .records) (c15 .args .horizon)) (c12 .room .ensures .1)))

@@ -6,4 +6,6 @@ use Rattle.print_simulate.proofs.print_places.Tie as tie
 pub print-places-spec : {M : Type 1} → statement M
 print-places-spec =
     tie.close
-    (tie.spec (λ c κs. search needs) (λ c κs. search needs) (λ c κs. search needs) (λ c. search needs) (λ c. λ many h. c .before .before .print-finals .ensures (omega arith) (c .before .before .before .before .before .before .before .print-records .ensures many h)))
+    (tie.spec (λ c κs. search needs) (λ c κs. search needs) (λ c κs. search needs) (λ c. search needs) (λ c.
+    let c7 = c .before .before .before .before .before .before .before in
+    λ many h. c .before .before .print-finals .ensures (omega arith) (c7 .print-records .ensures many h)))

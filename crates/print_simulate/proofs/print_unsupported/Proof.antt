@@ -15,4 +15,6 @@ print-unsupported-spec =
     (λ c. search needs)
     (λ c κs. search needs)
     (λ c. search needs)
-    (λ c. λ many h. c .before .before .print-reasons .ensures (omega arith) (c .before .before .before .before .before .before .before .print-count .ensures many h)))
+    (λ c.
+    let c7 = c .before .before .before .before .before .before .before in
+    λ many h. c .before .before .print-reasons .ensures (omega arith) (c7 .print-count .ensures many h)))

@@ -9,4 +9,6 @@ use Rattle.show.proofs.put.Reads as put-reads
 use Rattle.show.proofs.put_number.Reads as put-number-reads
 
 pub put-bound-spec : {M : Type 1} → statement M
-put-bound-spec = tie.close (tie.spec (λ c κs. search needs) (λ c κs. search needs) (λ c. search needs) (λ c. show.is (laws.bound-is _ _) (show.both (c .before .before .before .before .before .before .put .ensures) (c .before .before .put-number .ensures))))
+put-bound-spec = tie.close (tie.spec (λ c κs. search needs) (λ c κs. search needs) (λ c. search needs) (λ c.
+    let c6 = c .before .before .before .before .before .before in
+    show.is (laws.bound-is _ _) (show.both (c6 .put .ensures) (c .before .before .put-number .ensures))))

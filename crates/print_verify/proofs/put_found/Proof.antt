@@ -24,10 +24,18 @@ put-found-spec =
     (λ c. search needs)
     (λ c κs. search needs)
     (λ c. search needs)
-    (λ c. show.is (laws.refused (c .before .before .before .before .before .before .before .before .args .status) _ (cc)) (c .before .before .put-refused .ensures))
+    (λ c.
+    let c8 = c .before .before .before .before .before .before .before .before in
+    show.is (laws.refused (c8 .args .status) _ (cc)) (c .before .before .put-refused .ensures))
     (λ c. search needs)
-    (λ c. show.is (laws.none-found (c .before .before .before .before .before .before .before .before .args .status) (cc)) (c .before .before .put .ensures))
+    (λ c.
+    let c8 = c .before .before .before .before .before .before .before .before in
+    show.is (laws.none-found (c8 .args .status) (cc)) (c .before .before .put .ensures))
     (λ c. search needs)
-    (λ c. show.is (laws.found-one (c .before .before .before .before .before .before .before .before .args .status) (cc)) (c .before .before .put2 .ensures))
+    (λ c.
+    let c8 = c .before .before .before .before .before .before .before .before in
+    show.is (laws.found-one (c8 .args .status) (cc)) (c .before .before .put2 .ensures))
     (λ c. search needs)
-    (λ c. show.is (laws.unclear (c .before .before .before .before .before .before .before .before .args .status) (cc)) (c .before .before .put3 .ensures)))
+    (λ c.
+    let c8 = c .before .before .before .before .before .before .before .before in
+    show.is (laws.unclear (c8 .args .status) (cc)) (c .before .before .put3 .ensures)))

@@ -20,4 +20,7 @@ put-ahead-spec =
     (λ c. search needs)
     (λ c κs. search needs)
     (λ c. search needs)
-    (λ c. c .before .before .put .ensures ∙ ap (λ (l : List ℕ). written l ((c .before .before .before .before .before .before .before .before .before .before .args .first - 1 + c .before .before .before .before .before .before .before .before .before .before .args .i) * 5) (c .before .before .before .before .before .before .before .before .before .before .args .w .now)) (c .before .before .before .before .before .before .take-out .ensures)))
+    (λ c.
+    let c6 = c .before .before .before .before .before .before in
+    let c10 = c6 .before .before .before .before in
+    c .before .before .put .ensures ∙ ap (λ (l : List ℕ). written l ((c10 .args .first - 1 + c10 .args .i) * 5) (c10 .args .w .now)) (c6 .take-out .ensures)))

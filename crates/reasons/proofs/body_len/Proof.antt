@@ -15,4 +15,7 @@ body-len-spec =
     (λ c. search needs)
     (λ c κs. search needs)
     (λ c. search needs)
-    (λ c. (rendering.body-length (c .before .before .before .before .before .before .args .f .now) (c .before .before .before .before .before .before .args .r) _ _ _ (c .before .before .before .text-len .ensures .0) (c .before .before .words-len .ensures .0) (c .text-len2 .ensures .0), omega arith)))
+    (λ c.
+    let c3 = c .before .before .before in
+    let c6 = c3 .before .before .before in
+    (rendering.body-length (c6 .args .f .now) (c6 .args .r) _ _ _ (c3 .text-len .ensures .0) (c .before .before .words-len .ensures .0) (c .text-len2 .ensures .0), omega arith)))

@@ -28,11 +28,25 @@ find-spot-spec =
     (λ c κs. search needs)
     (λ c κs. search needs)
     (λ c. search needs)
-    (λ c. let a = c .before .before .before .before .before .before .before .before .args in listing.there _ _ (c .before .before .before .before .before .loop .i) _ (listing.next (a .f .now) (a .n) (a .a .now) (c .before .before .before .before .before .loop .i) (c .before .before .before .before .loop-test .taken)) (c .before .before .before .before .before .loop .inv .1) (ordering.is-same _ _ (cc)))
+    (λ c.
+    let c4 = c .before .before .before .before in
+    let c5 = c4 .before in
+    let c8 = c5 .before .before .before in
+    let a = c8 .args in listing.there _ _ (c5 .loop .i) _ (listing.next (a .f .now) (a .n) (a .a .now) (c5 .loop .i) (c4 .loop-test .taken)) (c5 .loop .inv .1) (ordering.is-same _ _ (cc)))
     (λ c. search needs)
-    (λ c. let a = c .before .before .before .before .before .before .before .before .args in let l = c .before .before .before .before .before .loop in let s = ordering.is-less (render (a .f .now) (a .r)) (render (a .f .now) (reason-of (drop (l .i * 5) (a .a .now)))) (cc) in (omega (arith, listing.length-listed (a .f .now) (a .n) (a .a .now)), listing.before _ _ (l .i) _ (listing.next (a .f .now) (a .n) (a .a .now) (l .i) (c .before .before .before .before .loop-test .taken)) (l .inv .1) (s .0) (s .1)))
+    (λ c.
+    let c4 = c .before .before .before .before in
+    let c5 = c4 .before in
+    let c8 = c5 .before .before .before in
+    let a = c8 .args in let l = c5 .loop in let s = ordering.is-less (render (a .f .now) (a .r)) (render (a .f .now) (reason-of (drop (l .i * 5) (a .a .now)))) (cc) in (omega (arith, listing.length-listed (a .f .now) (a .n) (a .a .now)), listing.before _ _ (l .i) _ (listing.next (a .f .now) (a .n) (a .a .now) (l .i) (c4 .loop-test .taken)) (l .inv .1) (s .0) (s .1)))
     (λ c. search needs)
     (λ c. search needs)
     (λ c. search needs)
-    (λ c. let a = c .before .before .before .before .before .before .before .before .args in let l = c .before .before .before .before .before .loop in let s = ordering.is-greater (render (a .f .now) (a .r)) (render (a .f .now) (reason-of (drop (l .i * 5) (a .a .now)))) (cc) in (omega arith, listing.behind _ _ (l .i) _ (listing.next (a .f .now) (a .n) (a .a .now) (l .i) (c .before .before .before .before .loop-test .taken)) (l .inv .1) (omega (arith, listing.length-listed (a .f .now) (a .n) (a .a .now))) (s .0) (s .1)))
-    (λ c. let a = c .before .before .before .before .args in let l = c .before .loop in (omega (arith, listing.length-listed (a .f .now) (a .n) (a .a .now)), listing.at-end _ _ (l .i) (omega (arith, listing.length-listed (a .f .now) (a .n) (a .a .now))) (l .inv .1))))
+    (λ c.
+    let c4 = c .before .before .before .before in
+    let c5 = c4 .before in
+    let c8 = c5 .before .before .before in
+    let a = c8 .args in let l = c5 .loop in let s = ordering.is-greater (render (a .f .now) (a .r)) (render (a .f .now) (reason-of (drop (l .i * 5) (a .a .now)))) (cc) in (omega arith, listing.behind _ _ (l .i) _ (listing.next (a .f .now) (a .n) (a .a .now) (l .i) (c4 .loop-test .taken)) (l .inv .1) (omega (arith, listing.length-listed (a .f .now) (a .n) (a .a .now))) (s .0) (s .1)))
+    (λ c.
+    let c4 = c .before .before .before .before in
+    let a = c4 .args in let l = c .before .loop in (omega (arith, listing.length-listed (a .f .now) (a .n) (a .a .now)), listing.at-end _ _ (l .i) (omega (arith, listing.length-listed (a .f .now) (a .n) (a .a .now))) (l .inv .1))))

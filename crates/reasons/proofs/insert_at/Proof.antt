@@ -20,7 +20,8 @@ insert-at-spec =
     (λ c κs. search needs)
     (λ c. search needs)
     (λ c.
-    let a = c .before .before .before .before .before .before .args in
+    let c6 = c .before .before .before .before .before .before in
+    let a = c6 .args in
     let e = c .before .before .put-in .ensures in
     record {
       is = ap (reasons (a .n + 1)) e ∙ entries.put-in (a .n) (a .k) (a .a .now) (a .r) (omega arith) (omega arith);

@@ -28,24 +28,33 @@ merge-spec =
     μ-loop
     (λ c. (refl, (refl, λ z y. y)))
     (λ c κs. search needs)
-    (λ c κs. let a = c .before .before .before .before .before .before .before .args in let l = c .before .before .before .loop in let q = rw (← c .get .ensures) at (listing.next (a .f .now) (a .m) (a .b .now) (l .j) (c .before .before .loop-test .taken)) in omega (arith, listing.room-all _ (listed (a .f .now) (l .k) (l .a)) (listed (a .f .now) (a .m) (a .b .now)) (render (a .f .now) (c .get .result)) (l .j) q (l .inv .1 .0)))
+    (λ c κs.
+    let c3 = c .before .before .before in
+    let c7 = c3 .before .before .before .before in
+    let a = c7 .args in let l = c3 .loop in let q = rw (← c .get .ensures) at (listing.next (a .f .now) (a .m) (a .b .now) (l .j) (c .before .before .loop-test .taken)) in omega (arith, listing.room-all _ (listed (a .f .now) (l .k) (l .a)) (listed (a .f .now) (a .m) (a .b .now)) (render (a .f .now) (c .get .result)) (l .j) q (l .inv .1 .0)))
     (λ c. search needs)
     (λ c. search needs)
-    (λ c. let a = c .before .before .before .before .before .before .before .before .before .before .args in let l = c .before .before .before .before .before .before .loop in let ts = listed (a .f .now) (a .m) (a .b .now) in let q = rw (← c .before .before .before .get .ensures) at (listing.next (a .f .now) (a .m) (a .b .now) (l .j) (c .before .before .before .before .before .loop-test .taken)) in
+    (λ c.
+    let c3 = c .before .before .before in
+    let c5 = c3 .before .before in
+    let c6 = c5 .before in
+    let c10 = c6 .before .before .before .before in
+    let a = c10 .args in let l = c6 .loop in let ts = listed (a .f .now) (a .m) (a .b .now) in let q = rw (← c3 .get .ensures) at (listing.next (a .f .now) (a .m) (a .b .now) (l .j) (c5 .loop-test .taken)) in
     let i = c .before .before .insert-sorted .ensures in (
       search needs,
       (
         l .inv .1 .0
-            ∙ listing.all-on (render (a .f .now) (c .before .before .before .get .result)) ts (l .j) _ q _
+            ∙ listing.all-on (render (a .f .now) (c3 .get .result)) ts (l .j) _ q _
             ∙ ap (insertAll (drop (l .j + 1) ts)) (sym (i .texts)),
         λ z y. i .clean
-            (subst (Readable (a .f .now)) (sym (c .before .before .before .get .ensures)) (cleaning.clean-at (a .f .now) z (l .j) (c .before .before .before .before .before .loop-test .taken)))
+            (subst (Readable (a .f .now)) (sym (c3 .get .ensures)) (cleaning.clean-at (a .f .now) z (l .j) (c5 .loop-test .taken)))
             (l .inv .1 .1 z y),
       ),
     ))
     (λ c. search needs)
     (λ c.
-    let a = c .before .before .before .before .before .args in
+    let c5 = c .before .before .before .before .before in
+    let a = c5 .args in
     let l = c .before .loop in
     let t = sym (l .inv .1 .0 ∙ listing.all-end (listed (a .f .now) (a .m) (a .b .now)) _ (l .j) (omega (arith, listing.length-listed (a .f .now) (a .m) (a .b .now)))) in
     record {

@@ -14,5 +14,10 @@ rendered-len-spec =
     (λ c κs. search needs)
     (λ c. search needs)
     (λ c. search needs)
-    (λ c. (rendering.source-length (c .before .before .before .before .before .before .args .f .now) (c .before .before .before .before .before .before .args .r) _ _ _ (c .before .before .if1 .taken) (c .before .digit-count .ensures .0) (c .digit-count2 .ensures .0) (c .before .before .before .before .body-len .ensures .0), omega arith))
-    (λ c. (rw (rendering.without (c .before .before .before .before .args .f .now) (c .before .before .before .before .args .r) (c .if1 .left)) (c .before .before .body-len .ensures .0), omega arith)))
+    (λ c.
+    let c4 = c .before .before .before .before in
+    let c6 = c4 .before .before in
+    (rendering.source-length (c6 .args .f .now) (c6 .args .r) _ _ _ (c .before .before .if1 .taken) (c .before .digit-count .ensures .0) (c .digit-count2 .ensures .0) (c4 .body-len .ensures .0), omega arith))
+    (λ c.
+    let c4 = c .before .before .before .before in
+    (rw (rendering.without (c4 .args .f .now) (c4 .args .r) (c .if1 .left)) (c .before .before .body-len .ensures .0), omega arith)))

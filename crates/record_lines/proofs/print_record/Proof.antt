@@ -12,4 +12,8 @@ print-record-spec =
     (λ c κs. search needs)
     (λ c κs. search needs)
     (λ c. search needs)
-    (λ c. show.kept (c .before .before .before .before .before .before .before .before .before .args .n) (c .before .before .put-record .ensures .written) (lengths.record-short (c .before .before .before .before .before .before .before .before .before .args .f .now) (λ i. omega (arith, c .before .before .before .before .before .before .before .shared-slice-known .given i)) (c .before .before .before .before .before .before .before .before .before .args .x .now) (c .before .before .before .before .before .before .before .before .before .args .k) (c .before .before .put-record .ensures .read)) (c .before .before .before .before .room .ensures .1)))
+    (λ c.
+    let c4 = c .before .before .before .before in
+    let c7 = c4 .before .before .before in
+    let c9 = c7 .before .before in
+    show.kept (c9 .args .n) (c .before .before .put-record .ensures .written) (lengths.record-short (c9 .args .f .now) (λ i. omega (arith, c7 .shared-slice-known .given i)) (c9 .args .x .now) (c9 .args .k) (c .before .before .put-record .ensures .read)) (c4 .room .ensures .1)))

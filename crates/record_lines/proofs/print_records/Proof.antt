@@ -24,6 +24,8 @@ print-records-spec =
     (λ c κs. search needs)
     (λ c. search needs)
     (λ c. search needs)
-    (λ c. (search needs, λ many h. c .before .before .print-record .ensures (omega arith) (c .before .before .before .before .before .loop .inv .1 many h)))
+    (λ c.
+    let c5 = c .before .before .before .before .before in
+    (search needs, λ many h. c .before .before .print-record .ensures (omega arith) (c5 .loop .inv .1 many h)))
     (λ c. search needs)
     (λ c. c .before .loop .inv .1))

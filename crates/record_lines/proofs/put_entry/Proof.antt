@@ -19,5 +19,24 @@ put-entry-spec =
     (λ c κs. search needs)
     (λ c κs. search needs)
     (λ c κs. search needs)
-    (λ c. c .before .before .put-byte4 .ensures .same ∙ c .before .before .before .before .before .before .put-detail .ensures .same ∙ c .before .before .before .before .before .before .before .before .before .before .put-byte3 .ensures .same ∙ c .before .before .before .before .before .before .before .before .before .before .before .before .before .before .put-change .ensures .same ∙ c .before .before .before .before .before .before .before .before .before .before .before .before .before .before .before .before .before .before .put-byte2 .ensures .same ∙ c .before .before .before .before .before .before .before .before .before .before .before .before .before .before .before .before .before .before .before .before .before .before .put-where .ensures .same ∙ c .before .before .before .before .before .before .before .before .before .before .before .before .before .before .before .before .before .before .before .before .before .before .before .before .before .before .put-byte .ensures .same ∙ c .before .before .before .before .before .before .before .before .before .before .before .before .before .before .before .before .before .before .before .before .before .before .before .before .before .before .before .before .before .before .put-rule .ensures .same ∙ c .before .before .before .before .before .before .before .before .before .before .before .before .before .before .before .before .before .before .before .before .before .before .before .before .before .before .before .before .before .before .before .before .before .before .put-head .ensures .same)
-    (λ c. show.is (laws.record-is (c .before .before .before .before .before .before .before .before .before .before .before .before .before .before .before .before .before .before .before .before .before .before .before .before .before .before .before .before .before .before .before .before .before .before .before .before .before .before .args .x .now) (texts-of (c .before .before .before .before .before .before .before .before .before .before .before .before .before .before .before .before .before .before .before .before .before .before .before .before .before .before .before .before .before .before .before .before .before .before .before .before .before .before .args .f .now) (c .before .before .before .before .before .before .before .before .before .before .before .before .before .before .before .before .before .before .before .before .before .before .before .before .before .before .before .before .before .before .before .before .before .before .before .before .before .before .args .x .now)) _ (c .before .before .before .before .before .before .before .before .before .before .before .before .before .before .before .before .before .before .before .before .before .before .before .before .before .before .before .before .before .before .before .before .before .before .before .before .before .before .args .r)) (show.both (c .before .before .before .before .before .before .before .before .before .before .before .before .before .before .before .before .before .before .before .before .before .before .before .before .before .before .before .before .before .before .before .before .before .before .put-head .ensures) (show.both (c .before .before .before .before .before .before .before .before .before .before .before .before .before .before .before .before .before .before .before .before .before .before .before .before .before .before .before .before .before .before .put-rule .ensures) (show.both (c .before .before .before .before .before .before .before .before .before .before .before .before .before .before .before .before .before .before .before .before .before .before .before .before .before .before .put-byte .ensures) (show.both (c .before .before .before .before .before .before .before .before .before .before .before .before .before .before .before .before .before .before .before .before .before .before .put-where .ensures) (show.both (c .before .before .before .before .before .before .before .before .before .before .before .before .before .before .before .before .before .before .put-byte2 .ensures) (show.both (c .before .before .before .before .before .before .before .before .before .before .before .before .before .before .put-change .ensures) (show.both (c .before .before .before .before .before .before .before .before .before .before .put-byte3 .ensures) (show.both (c .before .before .before .before .before .before .put-detail .ensures) (c .before .before .put-byte4 .ensures)))))))))))
+    (λ c.
+    let c6 = c .before .before .before .before .before .before in
+    let c10 = c6 .before .before .before .before in
+    let c14 = c10 .before .before .before .before in
+    let c18 = c14 .before .before .before .before in
+    let c22 = c18 .before .before .before .before in
+    let c26 = c22 .before .before .before .before in
+    let c30 = c26 .before .before .before .before in
+    let c34 = c30 .before .before .before .before in
+    c .before .before .put-byte4 .ensures .same ∙ c6 .put-detail .ensures .same ∙ c10 .put-byte3 .ensures .same ∙ c14 .put-change .ensures .same ∙ c18 .put-byte2 .ensures .same ∙ c22 .put-where .ensures .same ∙ c26 .put-byte .ensures .same ∙ c30 .put-rule .ensures .same ∙ c34 .put-head .ensures .same)
+    (λ c.
+    let c6 = c .before .before .before .before .before .before in
+    let c10 = c6 .before .before .before .before in
+    let c14 = c10 .before .before .before .before in
+    let c18 = c14 .before .before .before .before in
+    let c22 = c18 .before .before .before .before in
+    let c26 = c22 .before .before .before .before in
+    let c30 = c26 .before .before .before .before in
+    let c34 = c30 .before .before .before .before in
+    let c38 = c34 .before .before .before .before in
+    show.is (laws.record-is (c38 .args .x .now) (texts-of (c38 .args .f .now) (c38 .args .x .now)) _ (c38 .args .r)) (show.both (c34 .put-head .ensures) (show.both (c30 .put-rule .ensures) (show.both (c26 .put-byte .ensures) (show.both (c22 .put-where .ensures) (show.both (c18 .put-byte2 .ensures) (show.both (c14 .put-change .ensures) (show.both (c10 .put-byte3 .ensures) (show.both (c6 .put-detail .ensures) (c .before .before .put-byte4 .ensures)))))))))))

@@ -13,7 +13,10 @@ put-name-spec =
     (λ c. search needs)
     (λ c κs. search needs)
     (λ c. search needs)
-    (λ c. show.is (numbers.name-in _ _ (c .before .before .before .before .before .before .before .if1 .taken) (c .before .before .before .before .before .text-start .ensures)) (c .before .before .put-text .ensures))
+    (λ c.
+    let c5 = c .before .before .before .before .before in
+    let c7 = c5 .before .before in
+    show.is (numbers.name-in _ _ (c7 .if1 .taken) (c5 .text-start .ensures)) (c .before .before .put-text .ensures))
     (λ c. search needs)
     (λ c κs. search needs)
     (λ c. search needs)

@@ -15,4 +15,6 @@ put-where-spec =
     (λ c. search needs)
     (λ c. show.is (laws.nowhere (c .before .before .before .before .before .before .before .args .source) (cc)) (c .before .before .put-byte .ensures))
     (λ c. search needs)
-    (λ c. show.is (laws.somewhere (c .before .before .before .before .before .before .before .before .args .source) _ _ (cc)) (c .before .before .put-source .ensures)))
+    (λ c.
+    let c8 = c .before .before .before .before .before .before .before .before in
+    show.is (laws.somewhere (c8 .args .source) _ _ (cc)) (c .before .before .put-source .ensures)))

@@ -13,4 +13,9 @@ put-write-spec =
     (λ c κs. search needs)
     (λ c κs. search needs)
     (λ c. search needs)
-    (λ c. show.both (c .before .before .before .before .before .before .before .before .before .before .before .before .before .before .before .before .before .before .put-place .ensures) (show.both (c .before .before .before .before .before .before .before .before .before .before .before .before .before .before .put-byte .ensures) (show.both (c .before .before .before .before .before .before .before .before .before .before .put-place2 .ensures) (show.both (c .before .before .before .before .before .before .put-byte2 .ensures) (c .before .before .put-place3 .ensures))))))
+    (λ c.
+    let c6 = c .before .before .before .before .before .before in
+    let c10 = c6 .before .before .before .before in
+    let c14 = c10 .before .before .before .before in
+    let c18 = c14 .before .before .before .before in
+    show.both (c18 .put-place .ensures) (show.both (c14 .put-byte .ensures) (show.both (c10 .put-place2 .ensures) (show.both (c6 .put-byte2 .ensures) (c .before .before .put-place3 .ensures))))))

@@ -19,8 +19,15 @@ attempt-spec =
     (λ c. search needs)
     (λ c κs. search needs)
     (λ c κs. search needs)
-    (λ c κs. c .before .before .before .before .before .before .before .before .before .before .before .before .before .before .before .before .before .before .before .before .before .before .before .before .before .before .pre)
+    (λ c κs.
+    let c26 = c .before .before .before .before .before .before .before .before .before .before .before .before .before .before .before .before .before .before .before .before .before .before .before .before .before .before in
+    c26 .pre)
     (λ c. search needs)
     (λ c. search needs)
     (λ c. search needs)
-    (λ c. reduction.attempted _ _ (c .before .before .before .before .before .before .before .before .before .before .before .before .before .before .before .before .before .before .before .before .before .before .before .before .before .before .before .pre) (λ k. omega (arith, c .before .before .before .before .before .before .before .before .before .before .before .before .before .before .before .before .before .before .before .before .before .before .before .before .before .before .shared-slice-known .given k)) (c .before .before .before .before .before .before .before .before .before .before .before .before .before .before .before .before .before .before .before .before .without .ensures) (c .before .before .before .before .before .before .before .before .before .before .check-case .ensures) (c .before .violates .ensures) (c .tried .ensures)))
+    (λ c.
+    let c10 = c .before .before .before .before .before .before .before .before .before .before in
+    let c20 = c10 .before .before .before .before .before .before .before .before .before .before in
+    let c26 = c20 .before .before .before .before .before .before in
+    let c27 = c26 .before in
+    reduction.attempted _ _ (c27 .pre) (λ k. omega (arith, c26 .shared-slice-known .given k)) (c20 .without .ensures) (c10 .check-case .ensures) (c .before .violates .ensures) (c .tried .ensures)))

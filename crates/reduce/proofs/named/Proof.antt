@@ -26,8 +26,13 @@ named-spec =
     (λ c. search needs)
     (λ c. search needs)
     (λ c. search needs)
-    (λ c. sym (laws.among-hit _ _ (c .before .before .before .before .args .n) (c .before .before .before .loop .k) (omega (arith, c .before .before .loop-test .taken)) (c .if1 .taken)))
+    (λ c.
+    let c3 = c .before .before .before in
+    let c4 = c3 .before in
+    sym (laws.among-hit _ _ (c4 .args .n) (c3 .loop .k) (omega (arith, c .before .before .loop-test .taken)) (c .if1 .taken)))
     (λ c. search needs)
     (λ c. search needs)
-    (λ c. (laws.among-miss _ _ (c .before .before .before .loop .k) (c .before .before .before .loop .inv .0) (c .if1 .left), (omega (arith, c .before .before .loop-test .taken), c .before .before .before .loop .inv .1 .1)))
+    (λ c.
+    let c3 = c .before .before .before in
+    (laws.among-miss _ _ (c3 .loop .k) (c3 .loop .inv .0) (c .if1 .left), (omega (arith, c .before .before .loop-test .taken), c3 .loop .inv .1 .1)))
     (λ c. let z : c .before .loop .k ≡ c .before .before .args .n = omega (arith, c .loop-test .left, c .before .loop .inv .1 .0) in sym (c .before .loop .inv .0) ∙ ap (λ (j : ℕ). among (c .before .before .args .violated .now) j (c .before .before .args .target)) z))

@@ -26,10 +26,17 @@ reduce-events-spec =
     μ-loop
     (λ c κs. search needs)
     (λ c. reduction.loop-start (c .before .before .before .before .before .before .before .before .before .before .pre) (c .goes-on .ensures))
-    (λ c κs. reduction.loop-open (c .before .before .before .before .before .before .before .before .before .before .loop .inv) (c .before .before .before .before .before .before .before .before .before .loop-test .taken))
+    (λ c κs.
+    let c9 = c .before .before .before .before .before .before .before .before .before in
+    let c10 = c9 .before in
+    reduction.loop-open (c10 .loop .inv) (c9 .loop-test .taken))
     (λ c κs. search needs)
     (λ c. omega (arith, c .before .before .before .before .before .before .before .attempt .ensures .attempts, c .before .before .before .before .before .before .before .before .before .before .before .before .before .before .before .before .before .before .loop .inv .goes .more (c .before .before .before .before .before .before .before .before .before .before .before .before .before .before .before .before .before .loop-test .taken) .attempts))
-    (λ c. reduction.loop-step (c .before .before .before .before .before .before .before .before .before .before .before .before .before .before .before .before .before .before .loop .inv) (c .before .before .before .before .before .before .before .before .before .before .before .before .before .before .before .before .before .loop-test .taken) (c .before .before .before .before .before .before .before .attempt .ensures) (c .goes-on2 .ensures) (c .before .before .before .before .before .before .before .attempt .kept .1 .1 .1 .1 .1 .1 .1 .0) (c .before .before .before .before .before .before .before .attempt .kept .1 .1 .1 .1 .1 .1 .1 .1 .0) (c .before .before .before .before .before .before .before .attempt .kept .1 .1 .1 .1 .1 .1 .1 .1 .1 .0))
+    (λ c.
+    let c7 = c .before .before .before .before .before .before .before in
+    let c17 = c7 .before .before .before .before .before .before .before .before .before .before in
+    let c18 = c17 .before in
+    reduction.loop-step (c18 .loop .inv) (c17 .loop-test .taken) (c7 .attempt .ensures) (c .goes-on2 .ensures) (c7 .attempt .kept .1 .1 .1 .1 .1 .1 .1 .0) (c7 .attempt .kept .1 .1 .1 .1 .1 .1 .1 .1 .0) (c7 .attempt .kept .1 .1 .1 .1 .1 .1 .1 .1 .1 .0))
     (λ c. omega (arith, c .before .loop .inv .queue))
     (λ c. omega (arith, c .before .loop .inv .records))
     (λ c. omega (arith, c .before .loop .inv .runs))

@@ -14,10 +14,25 @@ reduction-spec =
     (λ c. search needs)
     (λ c. search needs)
     (λ c. search needs)
-    (λ c. outcome.reduction-full (c .before .before .before .before .before .before .before .before .before .before .before .before .before .before .before .before .before .before .before .before .before .before .before .before .before .before .before .before .args .queue .now) (c .before .before .before .before .before .before .before .before .before .before .before .before .before .before .before .before .before .before .before .before .before .before .before .before .before .before .before .before .args .records .now) (c .before .before .before .before .before .before .before .before .before .before .before .before .before .before .before .before .before .before .before .before .before .before .before .before .before .before .before .before .args .runs .now) (c .before .before .before .before .before .before .before .before .before .before .before .before .before .before .before .before .before .before .before .reduce-events .ensures) (c .before .before .before .before .before .before .before .before .before .before .before .if1 .taken) (c .refused .ensures) (c .before .before .before .before .before .before .before .clear .ensures) (c .before .before .before .before .before .before .before .before .before .before .before .before .before .before .before .before .before .before .before .reduce-events .kept .1 .1 .1 .1 .1 .1 .1 .0) (c .before .before .before .before .before .before .before .before .before .before .before .before .before .before .before .before .before .before .before .reduce-events .kept .1 .1 .1 .1 .1 .1 .1 .1 .0) (c .before .before .before .before .before .before .before .before .before .before .before .before .before .before .before .before .before .before .before .reduce-events .kept .1 .1 .1 .1 .1 .1 .1 .1 .1 .0) _)
-    (λ c κs. outcome.ready (c .before .before .before .before .before .before .before .before .before .before .before .before .reduce-events .ensures) (c .before .before .before .before .before .before .before .before .before .before .before .before .before .before .before .before .before .before .before .before .before .pre) (c .before .before .before .before .if1 .left))
+    (λ c.
+    let c7 = c .before .before .before .before .before .before .before in
+    let c11 = c7 .before .before .before .before in
+    let c19 = c11 .before .before .before .before .before .before .before .before in
+    let c28 = c19 .before .before .before .before .before .before .before .before .before in
+    outcome.reduction-full (c28 .args .queue .now) (c28 .args .records .now) (c28 .args .runs .now) (c19 .reduce-events .ensures) (c11 .if1 .taken) (c .refused .ensures) (c7 .clear .ensures) (c19 .reduce-events .kept .1 .1 .1 .1 .1 .1 .1 .0) (c19 .reduce-events .kept .1 .1 .1 .1 .1 .1 .1 .1 .0) (c19 .reduce-events .kept .1 .1 .1 .1 .1 .1 .1 .1 .1 .0) _)
+    (λ c κs.
+    let c4 = c .before .before .before .before in
+    let c12 = c4 .before .before .before .before .before .before .before .before in
+    let c21 = c12 .before .before .before .before .before .before .before .before .before in
+    outcome.ready (c12 .reduce-events .ensures) (c21 .pre) (c4 .if1 .left))
     (λ c. search needs)
     (λ c. search needs)
     (λ c. search needs)
     (λ c. search needs)
-    (λ c. outcome.reduction-done (c .before .before .before .before .before .before .before .before .before .before .before .before .before .before .before .before .before .before .before .before .before .before .before .before .before .before .before .before .before .before .args .queue .now) (c .before .before .before .before .before .before .before .before .before .before .before .before .before .before .before .before .before .before .before .before .before .before .before .before .before .before .before .before .before .before .args .records .now) (c .before .before .before .before .before .before .before .before .before .before .before .before .before .before .before .before .before .before .before .before .before .before .before .before .before .before .before .before .before .before .args .runs .now) (c .before .before .before .before .before .before .before .before .before .before .before .before .before .before .before .before .before .before .before .before .before .reduce-events .ensures) (λ k. omega (arith, c .before .before .before .before .before .before .before .before .before .before .before .before .before .before .before .before .before .before .before .before .before .before .before .before .before .before .before .before .before .shared-slice-known .given k)) (c .before .before .before .before .before .before .before .before .before .before .before .before .before .if1 .left) (c .before .before .before .before .before .before .before .before .last-check .ensures) ((c .before .before .before .before .before .before .before .before .before .before .before .before .before .before .before .before .before .before .before .before .before .reduce-events .kept .1 .1 .1 .1 .1 .1 .1 .0), ((c .before .before .before .before .before .before .before .before .before .before .before .before .before .before .before .before .before .before .before .before .before .reduce-events .kept .1 .1 .1 .1 .1 .1 .1 .1 .0), (c .before .before .before .before .before .before .before .before .before .before .before .before .before .before .before .before .before .before .before .before .before .reduce-events .kept .1 .1 .1 .1 .1 .1 .1 .1 .1 .0)))))
+    (λ c.
+    let c8 = c .before .before .before .before .before .before .before .before in
+    let c13 = c8 .before .before .before .before .before in
+    let c21 = c13 .before .before .before .before .before .before .before .before in
+    let c29 = c21 .before .before .before .before .before .before .before .before in
+    let c30 = c29 .before in
+    outcome.reduction-done (c30 .args .queue .now) (c30 .args .records .now) (c30 .args .runs .now) (c21 .reduce-events .ensures) (λ k. omega (arith, c29 .shared-slice-known .given k)) (c13 .if1 .left) (c8 .last-check .ensures) ((c21 .reduce-events .kept .1 .1 .1 .1 .1 .1 .1 .0), ((c21 .reduce-events .kept .1 .1 .1 .1 .1 .1 .1 .1 .0), (c21 .reduce-events .kept .1 .1 .1 .1 .1 .1 .1 .1 .1 .0)))))

@@ -15,9 +15,23 @@ run-spec =
     (λ c κs. search needs)
     (λ c. search needs)
     (λ c κs. search needs)
-    (λ c κs. entry.given (λ k. omega (arith, c .before .before .before .before .before .before .before .before .before .before .before .before .before .before .before .shared-slice-known .given k)) (c .before .before .before .before .before .before .before .before .prepared .ensures) (c .before .before .before .before .before .before .events-of .ensures) (c .before .before .before .before .before .at-most .ensures .0) (c .before .before .before .before .before .before .before .before .before .before .if1 .left) (c .before .before .before .before .before .before .before .before .before .before .before .before .before .before .before .before .pre))
+    (λ c κs.
+    let c5 = c .before .before .before .before .before in
+    let c6 = c5 .before in
+    let c8 = c6 .before .before in
+    let c10 = c8 .before .before in
+    let c15 = c10 .before .before .before .before .before in
+    let c16 = c15 .before in
+    entry.given (λ k. omega (arith, c15 .shared-slice-known .given k)) (c8 .prepared .ensures) (c6 .events-of .ensures) (c5 .at-most .ensures .0) (c10 .if1 .left) (c16 .pre))
     (λ c. search needs)
     (λ c. search needs)
     (λ c. search needs)
     (λ c. search needs)
-    (λ c. entry.run-is (λ k. omega (arith, c .before .before .before .before .before .before .before .before .before .before .before .before .before .before .before .before .before .before .before .before .before .before .before .before .shared-slice-known .given k)) (c .before .before .before .before .before .before .before .before .before .before .before .before .before .before .before .before .before .prepared .ensures) (c .before .before .before .before .before .before .before .before .before .before .before .before .before .before .before .events-of .ensures) (c .before .before .before .before .before .before .before .before .before .before .before .before .before .before .at-most .ensures .0) (c .before .before .before .before .before .before .before .before .before .before .before .before .before .before .before .before .before .before .before .if1 .left) (c .before .before .before .before .before .before .before .before .first-check .ensures)))
+    (λ c.
+    let c8 = c .before .before .before .before .before .before .before .before in
+    let c14 = c8 .before .before .before .before .before .before in
+    let c15 = c14 .before in
+    let c17 = c15 .before .before in
+    let c19 = c17 .before .before in
+    let c24 = c19 .before .before .before .before .before in
+    entry.run-is (λ k. omega (arith, c24 .shared-slice-known .given k)) (c17 .prepared .ensures) (c15 .events-of .ensures) (c14 .at-most .ensures .0) (c19 .if1 .left) (c8 .first-check .ensures)))

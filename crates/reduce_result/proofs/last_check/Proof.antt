@@ -14,13 +14,24 @@ last-check-spec =
     (λ c. search needs)
     (λ c. search needs)
     (λ c. search needs)
-    (λ c. laws.last-full (c .before .before .before .before .before .before .before .before .before .before .check-of .ensures) (c .before .if1 .taken) (c .refused .ensures) _)
+    (λ c.
+    let c10 = c .before .before .before .before .before .before .before .before .before .before in
+    laws.last-full (c10 .check-of .ensures) (c .before .if1 .taken) (c .refused .ensures) _)
     (λ c κs. search needs)
-    (λ c. omega (arith, c .before .before .before .before .before .before .before .before .before .before .before .before .before .before .before .before .before .before .before .before .before .before .pre .long))
-    (λ c κs. laws.asked-here (c .before .before .before .before .before .before .before .before .before .before .before .before .before .before .before .before .before .before .before .before .before .before .before .pre .room) (c .before .before .events-in .ensures))
+    (λ c.
+    let c22 = c .before .before .before .before .before .before .before .before .before .before .before .before .before .before .before .before .before .before .before .before .before .before in
+    omega (arith, c22 .pre .long))
+    (λ c κs.
+    let c23 = c .before .before .before .before .before .before .before .before .before .before .before .before .before .before .before .before .before .before .before .before .before .before .before in
+    laws.asked-here (c23 .pre .room) (c .before .before .events-in .ensures))
     (λ c κs. search needs)
     (λ c. search needs)
     (λ c. search needs)
     (λ c. search needs)
     (λ c. search needs)
-    (λ c. laws.last-done (c .before .before .before .before .before .before .before .before .before .before .before .before .before .before .before .before .before .check-of .ensures) (c .before .before .before .before .before .before .before .before .if1 .left) (c .before .before .before .before .before .before .before .events-in .ensures) (c .before .before .before .before .rewrite .ensures) (c .before .place .ensures)))
+    (λ c.
+    let c4 = c .before .before .before .before in
+    let c7 = c4 .before .before .before in
+    let c8 = c7 .before in
+    let c17 = c8 .before .before .before .before .before .before .before .before .before in
+    laws.last-done (c17 .check-of .ensures) (c8 .if1 .left) (c7 .events-in .ensures) (c4 .rewrite .ensures) (c .before .place .ensures)))

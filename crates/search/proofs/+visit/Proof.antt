@@ -80,7 +80,9 @@ visit-try-case-requires : (t : ℕ) → visit-lts.Need-try-case-requires (
   visit-below t,
   visit.Post,
 ) (visit-at t) visit.Post visit-Inv-loop visit-μ-loop
-visit-try-case-requires t c κs = record { fitted = c .before .before .before .before .before .before .before .before .before .before .before .before .before .before .before .before .before .before .pre .1 .fitted; words = c .before .before .before .before .before .before .before .before .before .before .before .before .before .before .before .before .before .before .pre .1 .words; events = omega (arith, c .before .before .before .before .before .before .before .before .before .before .before .before .before .before .before .before .before .before .pre .1 .events) }
+visit-try-case-requires t c κs =
+    let c18 = c .before .before .before .before .before .before .before .before .before .before .before .before .before .before .before .before .before .before in
+    record { fitted = c18 .pre .1 .fitted; words = c18 .pre .1 .words; events = omega (arith, c18 .pre .1 .events) }
 
 visit-same-length : (t : ℕ) → visit-lts.Need-same-length (
   last-at-reads.Asked,
@@ -140,7 +142,13 @@ visit-returns-3 : (t : ℕ) → visit-lts.Need-returns-3 (
   visit-below t,
   visit.Post,
 ) (visit-at t) visit.Post visit-Inv-loop visit-μ-loop
-visit-returns-3 t c = visits.case-so (c .before .before .before .before .before .before .before .before .before .before .before .before .before .before .before .before .before .before .before .before .before .if1 .left) (omega (arith, c .before .before .before .before .before .before .before .before .before .before .before .before .before .before .before .before .before .before .if2 .left, c .before .before .before .before .before .before .before .before .before .before .before .before .before .before .before .before .before .before .before .before .last-at .ensures)) (c .before .before .before .before .before .before .before .before .before .before .before .before .before .before .before .before .before .if3 .taken) (c .before .before .before .before .before .before .before .before .try-case .ensures)
+visit-returns-3 t c =
+    let c8 = c .before .before .before .before .before .before .before .before in
+    let c17 = c8 .before .before .before .before .before .before .before .before .before in
+    let c18 = c17 .before in
+    let c20 = c18 .before .before in
+    let c21 = c20 .before in
+    visits.case-so (c21 .if1 .left) (omega (arith, c18 .if2 .left, c20 .last-at .ensures)) (c17 .if3 .taken) (c8 .try-case .ensures)
 
 visit-mul-pairs : (t : ℕ) → visit-lts.Need-mul-pairs (
   last-at-reads.Asked,
@@ -176,7 +184,10 @@ visit-next-events-requires : (t : ℕ) → visit-lts.Need-next-events-requires (
   visit-below t,
   visit.Post,
 ) (visit-at t) visit.Post visit-Inv-loop visit-μ-loop
-visit-next-events-requires t c κs = (c .loop-test .taken, record { fitted = laws.fit-any (c .before .before .before .before .before .before .before .before .before .before .before .before .before .before .before .before .pre .1 .fitted) (sym (c .before .before .before .before .before .before .before .before .before .before .before .before .before .before .before .before .pre .1 .fitted .area)); words = c .before .before .before .before .before .before .before .before .before .before .before .before .before .before .before .before .pre .1 .words; events = omega (arith, c .before .before .before .before .before .before .before .before .before .before .before .before .before .before .before .before .pre .1 .events, c .before .before .before .before .before .before .if3 .left) })
+visit-next-events-requires t c κs =
+    let c6 = c .before .before .before .before .before .before in
+    let c16 = c6 .before .before .before .before .before .before .before .before .before .before in
+    (c .loop-test .taken, record { fitted = laws.fit-any (c16 .pre .1 .fitted) (sym (c16 .pre .1 .fitted .area)); words = c16 .pre .1 .words; events = omega (arith, c16 .pre .1 .events, c6 .if3 .left) })
 
 visit-sub-visit : (t : ℕ) → visit-lts.Need-sub-visit (
   last-at-reads.Asked,
@@ -200,7 +211,12 @@ visit-visit-requires : (t : ℕ) → visit-lts.Need-visit-requires (
   visit-below t,
   visit.Post,
 ) (visit-at t) visit.Post visit-Inv-loop visit-μ-loop
-visit-visit-requires t c κs = (omega (arith, c .before .before .before .before .before .before .before .before .before .before .before .before .before .before .before .if3 .left, c .before .before .before .before .before .before .before .before .before .before .before .before .before .before .before .before .before .before .before .before .before .before .before .before .before .pre .0), record { fitted = laws.fit-any (c .before .before .before .before .before .before .before .before .before .before .before .before .before .before .before .before .before .before .before .before .before .before .before .before .before .pre .1 .fitted) (c .before .before .before .before .before .before .before .before .before .before .loop .inv .1 .1 .1 .0); words = c .before .before .before .before .before .before .before .before .next-events .ensures .long ∙ c .before .before .before .before .before .before .before .before .before .before .before .before .before .before .before .before .before .before .before .before .before .before .before .before .before .pre .1 .words; events = omega (arith, c .before .before .before .before .before .before .before .before .before .before .before .before .before .before .before .before .before .before .before .before .before .before .before .before .before .pre .1 .events, c .before .before .before .before .before .before .before .before .before .before .before .before .before .before .before .if3 .left, c .before .before .before .before .before .before .before .before .next-events .ensures .count) })
+visit-visit-requires t c κs =
+    let c8 = c .before .before .before .before .before .before .before .before in
+    let c10 = c8 .before .before in
+    let c15 = c10 .before .before .before .before .before in
+    let c25 = c15 .before .before .before .before .before .before .before .before .before .before in
+    (omega (arith, c15 .if3 .left, c25 .pre .0), record { fitted = laws.fit-any (c25 .pre .1 .fitted) (c10 .loop .inv .1 .1 .1 .0); words = c8 .next-events .ensures .long ∙ c25 .pre .1 .words; events = omega (arith, c25 .pre .1 .events, c15 .if3 .left, c8 .next-events .ensures .count) })
 
 visit-add-k : (t : ℕ) → visit-lts.Need-add-k (
   last-at-reads.Asked,
@@ -236,7 +252,16 @@ visit-loop-again : (t : ℕ) → visit-lts.Need-loop-again (
   visit-below t,
   visit.Post,
 ) (visit-at t) visit.Post visit-Inv-loop visit-μ-loop
-visit-loop-again t c = (omega (arith, c .before .before .before .before .before .before .before .before .before .before .before .before .before .before .before .before .before .before .before .loop .inv .0, c .before .before .before .before .before .before .before .before .visit .kept .1 .1 .1 .1 .1 .1 .1 .1 .0), (omega (arith, c .before .before .before .before .before .before .before .before .before .before .before .before .before .before .before .before .before .before .before .loop .inv .1 .0, c .before .before .before .before .before .before .before .before .visit .kept .1 .1 .1 .1 .1 .1 .1 .1 .1 .0), (omega (arith, c .before .before .before .before .before .before .before .before .before .before .before .before .before .before .before .before .before .before .before .loop .inv .1 .1 .0, c .before .before .before .before .before .before .before .before .visit .kept .1 .1 .1 .1 .1 .1 .1 .1 .1 .1 .0), (omega (arith, c .before .before .before .before .before .before .before .before .before .before .before .before .before .before .before .before .before .before .before .loop .inv .1 .1 .1 .0, c .before .before .before .before .before .before .before .before .visit .kept .1 .1 .1 .1 .1 .1 .1 .1 .1 .1 .1 .0), (omega (arith, c .before .before .before .before .before .before .before .before .before .before .before .before .before .before .before .before .before .before .loop-test .taken), visits.walk-next (c .before .before .before .before .before .before .before .before .before .before .before .before .before .before .before .before .before .before .loop-test .taken) (omega (arith, c .before .before .before .before .before .before .before .before .before .before .before .before .before .before .before .before .before .before .before .before .before .before .before .before .before .if2 .left, c .before .before .before .before .before .before .before .before .before .before .before .before .before .before .before .before .before .before .before .before .before .before .before .before .before .before .before .last-at .ensures)) (omega (arith, c .before .before .before .before .before .before .before .before .before .before .before .before .before .before .before .before .before .before .before .before .before .before .before .before .before .before .before .before .before .before .before .before .before .before .pre .1 .events, c .before .before .before .before .before .before .before .before .before .before .before .before .before .before .before .before .before .before .before .before .before .before .before .before .if3 .left)) (c .before .before .before .before .before .before .before .before .before .before .before .before .before .before .before .before .before .next-events .ensures) (c .before .before .before .before .before .before .before .before .before .before .before .before .before .before .before .before .before .before .before .loop .inv .1 .1 .1 .1 .1) (c .before .before .before .before .before .before .before .before .before .before .before .before .before .before .before .before .before .before .before .loop .inv .0) (c .before .before .before .before .before .before .before .before .before .before .before .before .before .before .before .before .before .before .before .loop .inv .1 .0) (c .before .before .before .before .before .before .before .before .before .before .before .before .before .before .before .before .before .before .before .loop .inv .1 .1 .0) (c .before .before .before .before .before .before .before .before .visit .ensures))))))
+visit-loop-again t c =
+    let c8 = c .before .before .before .before .before .before .before .before in
+    let c17 = c8 .before .before .before .before .before .before .before .before .before in
+    let c18 = c17 .before in
+    let c19 = c18 .before in
+    let c24 = c19 .before .before .before .before .before in
+    let c25 = c24 .before in
+    let c27 = c25 .before .before in
+    let c34 = c27 .before .before .before .before .before .before .before in
+    (omega (arith, c19 .loop .inv .0, c8 .visit .kept .1 .1 .1 .1 .1 .1 .1 .1 .0), (omega (arith, c19 .loop .inv .1 .0, c8 .visit .kept .1 .1 .1 .1 .1 .1 .1 .1 .1 .0), (omega (arith, c19 .loop .inv .1 .1 .0, c8 .visit .kept .1 .1 .1 .1 .1 .1 .1 .1 .1 .1 .0), (omega (arith, c19 .loop .inv .1 .1 .1 .0, c8 .visit .kept .1 .1 .1 .1 .1 .1 .1 .1 .1 .1 .1 .0), (omega (arith, c18 .loop-test .taken), visits.walk-next (c18 .loop-test .taken) (omega (arith, c25 .if2 .left, c27 .last-at .ensures)) (omega (arith, c34 .pre .1 .events, c24 .if3 .left)) (c17 .next-events .ensures) (c19 .loop .inv .1 .1 .1 .1 .1) (c19 .loop .inv .0) (c19 .loop .inv .1 .0) (c19 .loop .inv .1 .1 .0) (c8 .visit .ensures))))))
 
 visit-same-length-5 : (t : ℕ) → visit-lts.Need-same-length-5 (
   last-at-reads.Asked,
@@ -296,7 +321,13 @@ visit-returns-4 : (t : ℕ) → visit-lts.Need-returns-4 (
   visit-below t,
   visit.Post,
 ) (visit-at t) visit.Post visit-Inv-loop visit-μ-loop
-visit-returns-4 t c = visits.walk-end (c .before .before .before .before .before .before .before .before .before .before .before .before .before .before .before .before .args .remaining) (c .before .before .before .before .before .before .if3 .left) refl (c .before .before .before .before .before .before .before .before .before .before .if1 .left) (omega (arith, c .before .before .before .before .before .before .before .if2 .left, c .before .before .before .before .before .before .before .before .before .last-at .ensures)) (c .loop-test .left) (c .before .loop .inv .1 .1 .1 .1 .0) (c .before .loop .inv .1 .1 .1 .1 .1)
+visit-returns-4 t c =
+    let c6 = c .before .before .before .before .before .before in
+    let c7 = c6 .before in
+    let c9 = c7 .before .before in
+    let c10 = c9 .before in
+    let c16 = c10 .before .before .before .before .before .before in
+    visits.walk-end (c16 .args .remaining) (c6 .if3 .left) refl (c10 .if1 .left) (omega (arith, c7 .if2 .left, c9 .last-at .ensures)) (c .loop-test .left) (c .before .loop .inv .1 .1 .1 .1 .0) (c .before .loop .inv .1 .1 .1 .1 .1)
 
 pub +visit-spec : {M : Type 1} → statement M
 +visit-spec = close μ-visit λ t. visit-lts.spec (

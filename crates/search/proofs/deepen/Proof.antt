@@ -23,12 +23,27 @@ deepen-spec =
     Inv-loop
     μ-loop
     (λ c. (refl, (refl, (refl, (refl, (omega arith, visits.depth-start))))))
-    (λ c κs. record { fitted = laws.fit-any (c .before .before .before .before .before .before .before .before .before .before .before .before .before .before .before .pre .1) (c .before .before .before .before .before .before .before .before .before .loop .inv .1 .1 .1 .0); words = length-replicate {A = ℕ} 20 0; events = omega (arith, c .before .before .before .before .before .before .before .before .loop-test .taken, c .before .before .before .before .before .before .before .before .before .before .before .before .before .before .before .pre .0) })
-    (λ c. omega (arith, c .before .before .before .before .before .before .before .before .before .before .before .before .before .before .before .before .before .loop-test .taken, c .before .before .before .before .before .before .before .before .before .before .before .before .before .before .before .before .before .before .before .before .before .before .before .before .pre .0))
-    (λ c. omega (arith, c .before .before .before .before .before .before .before .before .before .before .before .before .before .before .before .before .before .loop-test .taken))
-    (λ c. (omega (arith, c .before .before .before .before .before .before .before .before .before .before .before .before .before .before .before .before .before .before .loop .inv .0, c .before .before .before .before .before .before .before .before .visit .kept .1 .1 .1 .1 .1 .1 .1 .1 .0), (omega (arith, c .before .before .before .before .before .before .before .before .before .before .before .before .before .before .before .before .before .before .loop .inv .1 .0, c .before .before .before .before .before .before .before .before .visit .kept .1 .1 .1 .1 .1 .1 .1 .1 .1 .0), (omega (arith, c .before .before .before .before .before .before .before .before .before .before .before .before .before .before .before .before .before .before .loop .inv .1 .1 .0, c .before .before .before .before .before .before .before .before .visit .kept .1 .1 .1 .1 .1 .1 .1 .1 .1 .1 .0), (omega (arith, c .before .before .before .before .before .before .before .before .before .before .before .before .before .before .before .before .before .before .loop .inv .1 .1 .1 .0, c .before .before .before .before .before .before .before .before .visit .kept .1 .1 .1 .1 .1 .1 .1 .1 .1 .1 .1 .0), (omega (arith, c .before .before .before .before .before .before .before .before .before .before .before .before .before .before .before .before .before .loop-test .taken), visits.depth-next (c .before .before .before .before .before .before .before .before .before .before .before .before .before .before .before .before .before .before .loop .inv .1 .1 .1 .1 .1) (c .before .before .before .before .before .before .before .before .before .before .before .before .before .before .before .before .before .before .loop .inv .0) (c .before .before .before .before .before .before .before .before .before .before .before .before .before .before .before .before .before .before .loop .inv .1 .0) (c .before .before .before .before .before .before .before .before .before .before .before .before .before .before .before .before .before .before .loop .inv .1 .1 .0) (c .before .before .before .before .before .before .before .before .visit .ensures)))))))
+    (λ c κs.
+    let c8 = c .before .before .before .before .before .before .before .before in
+    let c9 = c8 .before in
+    let c15 = c9 .before .before .before .before .before .before in
+    record { fitted = laws.fit-any (c15 .pre .1) (c9 .loop .inv .1 .1 .1 .0); words = length-replicate {A = ℕ} 20 0; events = omega (arith, c8 .loop-test .taken, c15 .pre .0) })
+    (λ c.
+    let c17 = c .before .before .before .before .before .before .before .before .before .before .before .before .before .before .before .before .before in
+    let c24 = c17 .before .before .before .before .before .before .before in
+    omega (arith, c17 .loop-test .taken, c24 .pre .0))
+    (λ c.
+    let c17 = c .before .before .before .before .before .before .before .before .before .before .before .before .before .before .before .before .before in
+    omega (arith, c17 .loop-test .taken))
+    (λ c.
+    let c8 = c .before .before .before .before .before .before .before .before in
+    let c17 = c8 .before .before .before .before .before .before .before .before .before in
+    let c18 = c17 .before in
+    (omega (arith, c18 .loop .inv .0, c8 .visit .kept .1 .1 .1 .1 .1 .1 .1 .1 .0), (omega (arith, c18 .loop .inv .1 .0, c8 .visit .kept .1 .1 .1 .1 .1 .1 .1 .1 .1 .0), (omega (arith, c18 .loop .inv .1 .1 .0, c8 .visit .kept .1 .1 .1 .1 .1 .1 .1 .1 .1 .1 .0), (omega (arith, c18 .loop .inv .1 .1 .1 .0, c8 .visit .kept .1 .1 .1 .1 .1 .1 .1 .1 .1 .1 .1 .0), (omega (arith, c17 .loop-test .taken), visits.depth-next (c18 .loop .inv .1 .1 .1 .1 .1) (c18 .loop .inv .0) (c18 .loop .inv .1 .0) (c18 .loop .inv .1 .1 .0) (c8 .visit .ensures)))))))
     (λ c. search needs)
     (λ c. search needs)
     (λ c. search needs)
     (λ c. search needs)
-    (λ c. visits.depth-end (c .before .before .before .before .before .before .before .args .depth) (c .loop-test .left) (c .before .loop .inv .1 .1 .1 .1 .0) (c .before .loop .inv .1 .1 .1 .1 .1)))
+    (λ c.
+    let c7 = c .before .before .before .before .before .before .before in
+    visits.depth-end (c7 .args .depth) (c .loop-test .left) (c .before .loop .inv .1 .1 .1 .1 .0) (c .before .loop .inv .1 .1 .1 .1 .1)))

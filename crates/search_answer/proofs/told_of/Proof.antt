@@ -9,9 +9,15 @@ told-of-spec =
     tie.close
     (tie.spec
     (λ c κs. search needs)
-    (λ c κs. laws.told-room _ (c .before .before .before .before .before .before .before .before .before .before .before .args .w .now) _ _ (c .before .few .ensures .most) (c .before .before .before .before .before .before .before .before .before .before .before .pre) (search needs))
+    (λ c κs.
+    let c11 = c .before .before .before .before .before .before .before .before .before .before .before in
+    laws.told-room _ (c11 .args .w .now) _ _ (c .before .few .ensures .most) (c11 .pre) (search needs))
     (λ c κs. search needs)
     (λ c κs. search needs)
     (λ c κs. search needs)
     (λ c κs. search needs)
-    (λ c v us ws s. record { status-is = c .before .before .before .status-of .ensures; cases = refl; total = refl; depth = c .before .before .limit .ensures; horizon = refl; most = c .before .limit2 .ensures; steps = c .limit3 .ensures; alphabet = refl; inputs = refl; gaps = refl; seconds = refl; shortest = refl; events = refl; words = refl; written = refl; check = refl; reasons = laws.told-reasons _ _ (c .before .before .before .before .before .before .few .ensures) (c .before .before .before .before .merge .ensures) }))
+    (λ c v us ws s.
+    let c3 = c .before .before .before in
+    let c4 = c3 .before in
+    let c6 = c4 .before .before in
+    record { status-is = c3 .status-of .ensures; cases = refl; total = refl; depth = c .before .before .limit .ensures; horizon = refl; most = c .before .limit2 .ensures; steps = c .limit3 .ensures; alphabet = refl; inputs = refl; gaps = refl; seconds = refl; shortest = refl; events = refl; words = refl; written = refl; check = refl; reasons = laws.told-reasons _ _ (c6 .few .ensures) (c4 .merge .ensures) }))

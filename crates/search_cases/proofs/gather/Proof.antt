@@ -10,9 +10,22 @@ gather-spec =
     (tie.spec
     (λ c κs. search needs)
     (λ c κs. search needs)
-    (λ c κs. laws.merge-room _ _ _ _ _ (omega (arith, c .before .before .few2 .ensures .most)) (omega (arith, c .before .before .before .few .ensures .most, c .before .before .few2 .ensures .most)) (c .before .before .before .before .before .before .pre))
+    (λ c κs.
+    let c3 = c .before .before .before in
+    let c6 = c3 .before .before .before in
+    laws.merge-room _ _ _ _ _ (omega (arith, c .before .before .few2 .ensures .most)) (omega (arith, c3 .few .ensures .most, c .before .before .few2 .ensures .most)) (c6 .pre))
     (λ c κs. search needs)
     (λ c κs. search needs)
-    (λ c κs. laws.merge-room _ _ _ _ _ (omega (arith, c .before .before .few4 .ensures .most)) (omega (arith, c .before .before .before .few3 .ensures .most, c .before .before .few4 .ensures .most)) (omega (arith, c .before .before .before .before .before .before .merge .kept .1 .0, c .before .before .before .before .before .before .before .before .before .before .before .before .before .pre)))
+    (λ c κs.
+    let c3 = c .before .before .before in
+    let c6 = c3 .before .before .before in
+    let c13 = c6 .before .before .before .before .before .before .before in
+    laws.merge-room _ _ _ _ _ (omega (arith, c .before .before .few4 .ensures .most)) (omega (arith, c3 .few3 .ensures .most, c .before .before .few4 .ensures .most)) (omega (arith, c6 .merge .kept .1 .0, c13 .pre)))
     (λ c. search needs)
-    (λ c. laws.gathers-is _ _ _ _ _ (c .before .before .before .before .before .before .before .before .before .before .before .before .before .few .ensures) (c .before .before .before .before .before .before .before .before .before .before .before .before .few2 .ensures) (c .before .before .before .before .before .before .before .before .before .merge .ensures) (c .before .before .before .before .before .before .few3 .ensures) (c .before .before .before .before .before .few4 .ensures) (c .before .before .merge2 .ensures)))
+    (λ c.
+    let c5 = c .before .before .before .before .before in
+    let c6 = c5 .before in
+    let c9 = c6 .before .before .before in
+    let c12 = c9 .before .before .before in
+    let c13 = c12 .before in
+    laws.gathers-is _ _ _ _ _ (c13 .few .ensures) (c12 .few2 .ensures) (c9 .merge .ensures) (c6 .few3 .ensures) (c5 .few4 .ensures) (c .before .before .merge2 .ensures)))

@@ -16,7 +16,9 @@ by-itself-requires c κs = search needs
 
 -- src/lib.rt:138:9
 insert-sorted-requires : tie.Need-insert-sorted-requires
-insert-sorted-requires c κs = entry.insert-room _ _ _ _ (omega (arith, c .before .before .few .ensures .most, c .before .before .before .before .before .before .pre))
+insert-sorted-requires c κs =
+    let c6 = c .before .before .before .before .before .before in
+    entry.insert-room _ _ _ _ (omega (arith, c .before .before .few .ensures .most, c6 .pre))
 
 -- src/lib.rt:131:1
 same-length : tie.Need-same-length
@@ -24,7 +26,10 @@ same-length c = search needs
 
 -- src/lib.rt:131:1
 returns : tie.Need-returns
-returns c = record { refused = refl; cases = refl; steps = refl; found = refl; shortest = refl; stopped = refl; witness = refl; reasons = laws.spent-reasons _ _ (c .before .before .before .before .before .few .ensures) (c .before .before .before .before .by-itself .ensures) (c .before .before .insert-sorted .ensures) }
+returns c =
+    let c4 = c .before .before .before .before in
+    let c5 = c4 .before in
+    record { refused = refl; cases = refl; steps = refl; found = refl; shortest = refl; stopped = refl; witness = refl; reasons = laws.spent-reasons _ _ (c5 .few .ensures) (c4 .by-itself .ensures) (c .before .before .insert-sorted .ensures) }
 
 pub spent-spec : {M : Type 1} → statement M
 spent-spec =

@@ -13,4 +13,6 @@ verify-spec =
     (λ c. search needs)
     (λ c. search needs)
     (λ c. search needs)
-    (λ c. laws.verifies-as (c .with-lists .ensures) (c .before .before .before .before .before .before .before .before .before .before .before .before .before .before .verify-lent .ensures)))
+    (λ c.
+    let c14 = c .before .before .before .before .before .before .before .before .before .before .before .before .before .before in
+    laws.verifies-as (c .with-lists .ensures) (c14 .verify-lent .ensures)))

@@ -21,11 +21,17 @@ enum-told c = search needs
 
 -- src/lib.rt:269:38
 admitted-requires : tie.Need-admitted-requires
-admitted-requires c κs = entry.accepted-so _ _ (c .before .before .before .before .before .before .before .before .before .before .before .accept .ensures) (c .before .before .before .before .before .before .before .before .before .enum-told .given .1)
+admitted-requires c κs =
+    let c9 = c .before .before .before .before .before .before .before .before .before in
+    let c11 = c9 .before .before in
+    entry.accepted-so _ _ (c11 .accept .ensures) (c9 .enum-told .given .1)
 
 -- src/lib.rt:256:1
 returns : tie.Need-returns
-returns c = entry.verify-refused _ _ (c .before .before .before .before .before .before .before .before .before .accept .ensures) (c .before .before .before .before .before .before .before .status .given .1) (c .refused .ensures) _ _
+returns c =
+    let c7 = c .before .before .before .before .before .before .before in
+    let c9 = c7 .before .before in
+    entry.verify-refused _ _ (c9 .accept .ensures) (c7 .status .given .1) (c .refused .ensures) _ _
 
 -- src/lib.rt:256:1
 same-length : tie.Need-same-length
@@ -45,7 +51,11 @@ same-length-4 c = search needs
 
 -- src/lib.rt:256:1
 returns-2 : tie.Need-returns-2
-returns-2 c = entry.verify-read _ _ (c .before .before .before .before .before .before .before .before .before .before .before .before .before .before .before .before .before .before .before .before .accept .ensures) (c .before .before .before .before .before .before .before .before .before .before .before .before .before .before .before .before .before .before .enum-told .given .1) (c .before .before .before .before .before .before .before .before .admitted .ensures)
+returns-2 c =
+    let c8 = c .before .before .before .before .before .before .before .before in
+    let c18 = c8 .before .before .before .before .before .before .before .before .before .before in
+    let c20 = c18 .before .before in
+    entry.verify-read _ _ (c20 .accept .ensures) (c18 .enum-told .given .1) (c8 .admitted .ensures)
 
 pub verify-lent-spec : {M : Type 1} → statement M
 verify-lent-spec =

@@ -37,10 +37,17 @@ pub +put-number-spec : {M : Type 1} → statement M
     (λ c. search needs)
     (λ c κs. search needs)
     (λ c. search needs)
-    (λ c. laws.is (sym (digits.small (c .before .before .before .before .before .before .args .x) (c .before .before .before .before .if1 .taken))) (c .before .before .put-byte .ensures))
+    (λ c.
+    let c4 = c .before .before .before .before in
+    let c6 = c4 .before .before in
+    laws.is (sym (digits.small (c6 .args .x) (c4 .if1 .taken))) (c .before .before .put-byte .ensures))
     (λ c κs. (omega arith, tt))
     (λ c. search needs)
     (λ c. search needs)
     (λ c κs. search needs)
     (λ c. search needs)
-    (λ c. laws.is (sym (digits.step (c .before .before .before .before .before .before .before .before .before .before .args .x) (c .before .before .before .before .before .before .before .before .if1 .left) (omega arith))) (laws.both (c .before .before .before .before .before .before .put-number .ensures) (c .before .before .put-byte2 .ensures)))
+    (λ c.
+    let c6 = c .before .before .before .before .before .before in
+    let c8 = c6 .before .before in
+    let c10 = c8 .before .before in
+    laws.is (sym (digits.step (c10 .args .x) (c8 .if1 .left) (omega arith))) (laws.both (c6 .put-number .ensures) (c .before .before .put-byte2 .ensures)))

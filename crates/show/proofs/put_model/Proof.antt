@@ -12,4 +12,7 @@ put-model-spec =
     (λ c κs. search needs)
     (λ c κs. search needs)
     (λ c. search needs)
-    (λ c. laws.is (laws.model-is _) (laws.both (c .before .before .before .before .before .before .before .before .before .before .put .ensures) (laws.both (c .before .before .before .before .before .before .put-number .ensures) (c .before .before .put-byte .ensures)))))
+    (λ c.
+    let c6 = c .before .before .before .before .before .before in
+    let c10 = c6 .before .before .before .before in
+    laws.is (laws.model-is _) (laws.both (c10 .put .ensures) (laws.both (c6 .put-number .ensures) (c .before .before .put-byte .ensures)))))

@@ -27,7 +27,18 @@ put-quoted-spec =
     (λ c κs. search needs)
     (λ c. search needs)
     (λ c. search needs)
-    (λ c. (laws.is (laws.next-escaped (c .before .before .before .before .before .before .before .before .before .before .before .before .before .args .t .now) (c .before .before .before .before .before .before .loop .i) _ refl (c .before .before .before .before .before .loop-test .taken)) (laws.both (c .before .before .before .before .before .before .loop .inv .0) (c .before .before .put-escaped .ensures)), search needs))
+    (λ c.
+    let c5 = c .before .before .before .before .before in
+    let c6 = c5 .before in
+    let c13 = c6 .before .before .before .before .before .before .before in
+    (laws.is (laws.next-escaped (c13 .args .t .now) (c6 .loop .i) _ refl (c5 .loop-test .taken)) (laws.both (c6 .loop .inv .0) (c .before .before .put-escaped .ensures)), search needs))
     (λ c κs. search needs)
-    (λ c. c .before .before .put-byte2 .ensures .same ∙ c .before .before .before .before .before .loop .inv .0 .same ∙ c .before .before .before .before .before .before .before .before .put-byte .ensures .same)
-    (λ c. laws.is (laws.quoted-is _ _ (c .before .before .before .before .loop-test .left)) (laws.both (c .before .before .before .before .before .before .before .before .put-byte .ensures) (laws.both (c .before .before .before .before .before .loop .inv .0) (c .before .before .put-byte2 .ensures)))))
+    (λ c.
+    let c5 = c .before .before .before .before .before in
+    let c8 = c5 .before .before .before in
+    c .before .before .put-byte2 .ensures .same ∙ c5 .loop .inv .0 .same ∙ c8 .put-byte .ensures .same)
+    (λ c.
+    let c4 = c .before .before .before .before in
+    let c5 = c4 .before in
+    let c8 = c5 .before .before .before in
+    laws.is (laws.quoted-is _ _ (c4 .loop-test .left)) (laws.both (c8 .put-byte .ensures) (laws.both (c5 .loop .inv .0) (c .before .before .put-byte2 .ensures)))))

@@ -30,7 +30,17 @@ put-quoted-reason-spec =
     (λ c κs. search needs)
     (λ c. search needs)
     (λ c. search needs)
-    (λ c. (laws.is (laws.next-escaped (render (c .before .before .before .before .before .before .before .before .before .before .before .before .before .before .args .f .now) (c .before .before .before .before .before .before .before .before .before .before .before .before .before .before .args .r)) (c .before .before .before .before .before .before .loop .i) _ (c .before .before .before .byte-at .ensures) (omega arith)) (laws.both (c .before .before .before .before .before .before .loop .inv .0) (c .before .before .put-escaped .ensures)), omega arith))
+    (λ c.
+    let c3 = c .before .before .before in
+    let c6 = c3 .before .before .before in
+    let c14 = c6 .before .before .before .before .before .before .before .before in
+    (laws.is (laws.next-escaped (render (c14 .args .f .now) (c14 .args .r)) (c6 .loop .i) _ (c3 .byte-at .ensures) (omega arith)) (laws.both (c6 .loop .inv .0) (c .before .before .put-escaped .ensures)), omega arith))
     (λ c κs. search needs)
-    (λ c. c .before .before .put-byte2 .ensures .same ∙ c .before .before .before .before .before .loop .inv .0 .same ∙ c .before .before .before .before .before .before .before .before .put-byte .ensures .same)
-    (λ c. laws.is (laws.quoted-is _ (c .before .before .before .before .before .loop .i) (omega arith)) (laws.both (c .before .before .before .before .before .before .before .before .put-byte .ensures) (laws.both (c .before .before .before .before .before .loop .inv .0) (c .before .before .put-byte2 .ensures)))))
+    (λ c.
+    let c5 = c .before .before .before .before .before in
+    let c8 = c5 .before .before .before in
+    c .before .before .put-byte2 .ensures .same ∙ c5 .loop .inv .0 .same ∙ c8 .put-byte .ensures .same)
+    (λ c.
+    let c5 = c .before .before .before .before .before in
+    let c8 = c5 .before .before .before in
+    laws.is (laws.quoted-is _ (c5 .loop .i) (omega arith)) (laws.both (c8 .put-byte .ensures) (laws.both (c5 .loop .inv .0) (c .before .before .put-byte2 .ensures)))))

@@ -13,4 +13,8 @@ print-final-spec =
     (λ c κs. search needs)
     (λ c κs. search needs)
     (λ c. search needs)
-    (λ c. show.kept (c .before .before .before .before .before .before .before .before .args .n) (c .before .before .put-final .ensures) (lengths.final-short (c .before .before .before .before .before .before .before .before .args .f .now) (λ i. omega (arith, c .before .before .before .before .before .before .shared-slice-known .given i)) (c .before .before .before .before .before .before .before .before .args .x .now) (name (c .before .before .before .before .before .before .before .before .args .x .now) (c .before .before .before .before .before .before .before .before .args .e)) (c .before .before .before .before .before .before .before .before .args .value)) (c .before .before .before .before .room .ensures .1)))
+    (λ c.
+    let c4 = c .before .before .before .before in
+    let c6 = c4 .before .before in
+    let c8 = c6 .before .before in
+    show.kept (c8 .args .n) (c .before .before .put-final .ensures) (lengths.final-short (c8 .args .f .now) (λ i. omega (arith, c6 .shared-slice-known .given i)) (c8 .args .x .now) (name (c8 .args .x .now) (c8 .args .e)) (c8 .args .value)) (c4 .room .ensures .1)))

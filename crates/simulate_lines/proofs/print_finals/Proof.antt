@@ -27,6 +27,8 @@ print-finals-spec =
     (λ c κs. search needs)
     (λ c. search needs)
     (λ c. search needs)
-    (λ c. (search needs, λ many h. c .before .before .print-final .ensures (omega arith) (c .before .before .before .before .before .before .loop .inv .1 many h)))
+    (λ c.
+    let c6 = c .before .before .before .before .before .before in
+    (search needs, λ many h. c .before .before .print-final .ensures (omega arith) (c6 .loop .inv .1 many h)))
     (λ c. search needs)
     (λ c. c .before .loop .inv .1))

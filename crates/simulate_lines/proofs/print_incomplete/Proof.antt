@@ -11,4 +11,7 @@ print-incomplete-spec =
     (λ c κs. search needs)
     (λ c κs. search needs)
     (λ c. search needs)
-    (λ c. show.kept (c .before .before .before .before .before .before .before .args .n) (c .before .before .put-incomplete .ensures) (lengths.incomplete-short (c .before .before .before .before .before .before .before .args .why) (c .before .before .before .before .before .before .before .args .waiting)) (c .before .before .before .before .room .ensures .1)))
+    (λ c.
+    let c4 = c .before .before .before .before in
+    let c7 = c4 .before .before .before in
+    show.kept (c7 .args .n) (c .before .before .put-incomplete .ensures) (lengths.incomplete-short (c7 .args .why) (c7 .args .waiting)) (c4 .room .ensures .1)))

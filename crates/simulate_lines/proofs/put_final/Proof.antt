@@ -17,4 +17,11 @@ put-final-spec =
     (λ c κs. search needs)
     (λ c κs. search needs)
     (λ c. search needs)
-    (λ c. show.is (laws.final-is (texts-of (c .before .before .before .before .before .before .before .before .before .before .before .before .before .before .before .before .before .before .before .before .before .before .before .before .args .f .now) (c .before .before .before .before .before .before .before .before .before .before .before .before .before .before .before .before .before .before .before .before .before .before .before .before .args .x .now)) _ _ _ (c .before .before .before .before .before .before .before .before .before .before .before .before .before .before .before .name-of .ensures)) (show.both (c .before .before .before .before .before .before .before .before .before .before .before .before .before .before .before .before .before .before .before .put .ensures) (show.both (c .before .before .before .before .before .before .before .before .before .before .before .before .before .before .put-place .ensures) (show.both (c .before .before .before .before .before .before .before .before .before .before .put-byte .ensures) (show.both (c .before .before .before .before .before .before .put-place2 .ensures) (c .before .before .put-byte2 .ensures)))))))
+    (λ c.
+    let c6 = c .before .before .before .before .before .before in
+    let c10 = c6 .before .before .before .before in
+    let c14 = c10 .before .before .before .before in
+    let c15 = c14 .before in
+    let c19 = c15 .before .before .before .before in
+    let c24 = c19 .before .before .before .before .before in
+    show.is (laws.final-is (texts-of (c24 .args .f .now) (c24 .args .x .now)) _ _ _ (c15 .name-of .ensures)) (show.both (c19 .put .ensures) (show.both (c14 .put-place .ensures) (show.both (c10 .put-byte .ensures) (show.both (c6 .put-place2 .ensures) (c .before .before .put-byte2 .ensures)))))))

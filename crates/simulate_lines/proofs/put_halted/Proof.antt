@@ -18,4 +18,7 @@ put-halted-spec =
     (λ c. search needs)
     (λ c κs. search needs)
     (λ c. search needs)
-    (λ c. show.is (laws.steps _ (c .before .before .before .before .before .before .before .if1 .left) (c .before .before .before .before .before .before .if2 .left)) (c .before .before .put-text-line2 .ensures)))
+    (λ c.
+    let c6 = c .before .before .before .before .before .before in
+    let c7 = c6 .before in
+    show.is (laws.steps _ (c7 .if1 .left) (c6 .if2 .left)) (c .before .before .put-text-line2 .ensures)))

@@ -13,6 +13,9 @@ put-incomplete-spec =
     (λ c. search needs)
     (λ c κs. search needs)
     (λ c. search needs)
-    (λ c. show.is (laws.left _ _ (c .before .before .before .before .before .before .if1 .taken)) (show.both (c .before .before .before .before .before .before .before .before .before .put-halted .ensures) (c .before .before .put-text-line .ensures)))
+    (λ c.
+    let c6 = c .before .before .before .before .before .before in
+    let c9 = c6 .before .before .before in
+    show.is (laws.left _ _ (c6 .if1 .taken)) (show.both (c9 .put-halted .ensures) (c .before .before .put-text-line .ensures)))
     (λ c. search needs)
     (λ c. show.is (laws.none-left _ _ (c .if1 .left)) (c .before .before .before .put-halted .ensures)))

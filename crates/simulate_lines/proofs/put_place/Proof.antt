@@ -16,4 +16,7 @@ put-place-spec =
     (λ c κs. search needs)
     (λ c κs. search needs)
     (λ c. search needs)
-    (λ c. show.is (texts.there _ _ _ _ (c .before .before .before .before .text-start .ensures) (c .before .before .before .before .before .if1 .left)) (c .before .before .put-quoted-text .ensures)))
+    (λ c.
+    let c4 = c .before .before .before .before in
+    let c5 = c4 .before in
+    show.is (texts.there _ _ _ _ (c4 .text-start .ensures) (c5 .if1 .left)) (c .before .before .put-quoted-text .ensures)))
