@@ -16,7 +16,7 @@ ghost use lib.ListN.{length};
 ghost use Rattle.areas.specs.Areas.{written};
 ghost use Rattle.engine_summary.specs.Summary.{simulation-of};
 ghost use Rattle.checker_result.specs.Result.{result-of};
-ghost use Rattle.search_answer.specs.Whole.{whole-of};
+ghost use Rattle.search_answer.specs.Result.{whole-of};
 ghost use Rattle.c_encoding.specs.Numbers.{flagOf, statusNumber, foundNumber, refusalOf, laidNotes, laidSimulation, laidCheck, laidSearch, laidReduction, laidReport, laidCone, notesIn, simulationIn, checkIn, searchIn, verificationIn, minimizedIn, reportIn, coneIn};
 
 // ---- numbers
@@ -99,8 +99,8 @@ pub fn put_simulation(out: &mut [u64], at: usize, s: Summary, reasons: &[u32; 15
         s.records as u64,
         wide(s.horizon),
         s.unknown as u64,
-        wide(s.why),
-        flag(s.waiting),
+        wide(s.stop_reason),
+        flag(s.runs_left),
         0,
         0,
     ];
@@ -212,11 +212,11 @@ fn put_searched(out: &mut [u64], v: Searched, told: &[u32; 2000])
     let head = [
         found_number(status),
         wide(v.cases),
-        wide(v.total),
+        wide(v.total_steps),
         wide(v.depth),
         wide(v.horizon),
-        wide(v.most),
-        wide(v.steps),
+        wide(v.max_cases),
+        wide(v.max_steps_per_case),
         v.alphabet as u64,
         v.gaps as u64,
         v.reasons as u64,
@@ -286,8 +286,8 @@ fn put_result(out: &mut [u64], at: usize, c: CheckResult)
         horizon: s.horizon,
         values,
         unknown: s.unknown,
-        why: s.why,
-        waiting: s.waiting,
+        stop_reason: s.stop_reason,
+        runs_left: s.runs_left,
     };
     put_simulation(out, at + 2460, b, &reasons);
 }
@@ -298,9 +298,9 @@ pub fn put_minimized(out: &mut [u64], m: Minimized)
 {
     let head = [
         wide(m.invariant),
-        m.originals as u64,
+        m.original_events as u64,
         wide(m.attempts),
-        flag(m.minimal),
+        flag(m.deletion_minimal),
         m.events as u64,
         m.written as u64,
         0,

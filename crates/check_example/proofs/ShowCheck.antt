@@ -15,12 +15,12 @@ use Rattle.engine_spec.specs.Memory.{entries}
 use Rattle.engine_spec.specs.Records.{Areas}
 use Rattle.engine_spec.specs.Words.{source-words, texts-in, entry-words, sizes}
 use Rattle.engine_spec.proofs.Distinct.{answer-eq, refused-answer}
-use Rattle.engine_fields.specs.Reads.{atMost}
+use Rattle.engine_fields.specs.Fields.{atMost}
 use Rattle.checker_spec.specs.Check.{Violation, Status, Check, check, all-check}
 use Rattle.checker_spec.specs.Judge.{prohibited-state}
 use Rattle.checker_result.specs.declared.CheckResult.{CheckResult}
 use Rattle.checker_result.specs.declared.Status.the-variants as status
-use Rattle.checker_entry.specs.Answers.{status-as, violation-words, Shows, Says}
+use Rattle.checker_entry.specs.Contract.{status-as, violation-words, Shows, Says}
 use Rattle.check_lines.specs.Numbers.{violated-of, text-at, failure-of, source-of, violation-of}
 use Rattle.check_example.specs.Lampdoor.{lampdoor}
 use Rattle.check_example.specs.Printed.{lines-of, printed, all-printed}

@@ -5,7 +5,7 @@ use lib.ListN.{length}
 use Rattle.texts.specs.Texts.{Text, text}
 use Rattle.engine_spec.specs.Memory.{Lent}
 use Rattle.checker_result.specs.declared.CheckResult.{CheckResult}
-use Rattle.checker_entry.specs.Answers.{Checks}
+use Rattle.checker_entry.specs.Contract.{Checks}
 use Rattle.check_example.specs.Lampdoor.{lampdoor}
 use Rattle.check_example.specs.Printed.{printed}
 

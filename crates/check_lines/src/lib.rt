@@ -8,7 +8,7 @@ ghost use Prim.Native.Nat.{_+_, _*_, _≤_};
 ghost use lib.ListN.{length, drop};
 ghost use Rattle.reasons.specs.Reasons.{render};
 ghost use Rattle.reasons.specs.Lists.{reason-of};
-ghost use Rattle.engine_fields.specs.Reads.{atMost};
+ghost use Rattle.engine_fields.specs.Fields.{atMost};
 ghost use Rattle.record_lines.specs.Lines.{placed-if};
 ghost use Rattle.checker_spec.specs.Judge.{message, deadline-missed};
 ghost use Rattle.show.specs.Lines.{quoted};

@@ -19,7 +19,7 @@ use Rattle.reasons.specs.Readable.{AllReadable}
 use Rattle.reasons.specs.Lists.{listed, insertAll, Holds, Grows}
 use Rattle.reasons.proofs.Listing as listing
 use Rattle.reasons.proofs.Listing.{grown}
-use Rattle.engine_fields.specs.Reads.{two, cap, atMost}
+use Rattle.engine_fields.specs.Fields.{two, cap, atMost}
 use Rattle.engine_state.specs.declared.Cells.{Cells}
 use Rattle.checker_judge.specs.declared.Reading.{Reading}
 use Rattle.checker_response.specs.declared.Memory.{Memory}
@@ -27,10 +27,10 @@ use Rattle.checker_response.specs.Response.{failedM}
 use Rattle.checker_judge.specs.Judging.{judgeM, Judges}
 use Rattle.checker_reasons.specs.declared.Told.{Told}
 use Rattle.checker_reasons.specs.declared.Told.the-variants.{Nothing, One, Two}
-use Rattle.checker_reasons.specs.Told.{list-of, renderings, aboutM, ifM, incompleteM, unknownM}
+use Rattle.checker_reasons.specs.Reasons.{list-of, renderings, aboutM, ifM, incompleteM, unknownM}
 use Rattle.checker_reasons.proofs.Laws.{unknown-readable, incomplete-readable}
 use Rattle.checker_collect.specs.declared.Counts.{Counts}
-use Rattle.checker_collect.specs.Verdict.{failure-number, failure-deadline, sourceM, numbersM, Broken, brokenM, violatedM, Pushed, Gathered, oneM, firstM, Keeps, Changes, Gathers}
+use Rattle.checker_collect.specs.Collect.{failure-number, failure-deadline, sourceM, numbersM, Broken, brokenM, violatedM, Pushed, Gathered, oneM, firstM, Keeps, Changes, Gathers}
 
 sized : (b : Broken) → length (brokenM b) ≡ 8
 sized b = refl

@@ -9,7 +9,7 @@ ghost use mathlib.Core.Path.{_≡_};
 ghost use Prim.Native.Nat.{_+_, _*_, _≤_, _<_};
 ghost use lib.ListN.{length};
 ghost use Rattle.areas.specs.Areas.{written};
-ghost use Rattle.checker_collect.specs.Verdict.{failure-number, failure-deadline, sourceM, numbersM, Pushed, Gathers, GathersAll};
+ghost use Rattle.checker_collect.specs.Collect.{failure-number, failure-deadline, sourceM, numbersM, Pushed, Gathers, GathersAll};
 
 // ---- violations, eight numbers each
 

@@ -13,28 +13,28 @@ use Rattle.model_index.specs.declared.Index.{Index}
 use Rattle.model_index.specs.declared.Status.the-variants as status
 use Rattle.model_index.specs.Indexed as indexed
 use Rattle.model_index.specs.Indexed.{Indexed}
-use Rattle.model_validate.proofs.Agrees.{accept-read, accept-refused}
+use Rattle.model_validate.proofs.Refines.{accept-read, accept-refused}
 use Rattle.model_validate.proofs.Refusals.{Refuses, Refusal, refusal-numbers}
 use Rattle.engine_spec.specs.Cells.{initial-cells}
 use Rattle.engine_spec.specs.Memory.{Lent, entries, zeros, all-zeros, lent-after}
 use Rattle.engine_spec.specs.Records.{Areas}
 use Rattle.engine_spec.specs.Words.{words-in, entry-words}
 use Rattle.engine_spec.proofs.Memory.{refusals}
-use Rattle.engine_fields.specs.Reads.{atMost}
+use Rattle.engine_fields.specs.Fields.{atMost}
 use Rattle.engine_refinement.specs.Meaning.{Tabled}
 use Rattle.engine_refinement.specs.Events.{EventAt}
-use Rattle.engine_inputs.specs.Begin.{EventsOf}
-use Rattle.engine_inputs.proofs.Begins.{event-here}
-use Rattle.engine_entry.specs.Answers.{Ground, Grounds, lent}
-use Rattle.engine_entry.proofs.Core.{tb, queue-clear, runs-clear}
+use Rattle.engine_inputs.specs.Inputs.{EventsOf}
+use Rattle.engine_inputs.proofs.Refines.{event-here}
+use Rattle.engine_entry.specs.Contract.{Ground, Grounds, lent}
+use Rattle.engine_entry.proofs.Refines.{tb, queue-clear, runs-clear}
 use Rattle.engine_entry.proofs.Entry.{events-count}
 use Rattle.checker_spec.specs.Check as check
 use Rattle.checker_spec.specs.Check.{checked}
 use Rattle.checker_result.specs.declared.CheckResult.{CheckResult}
 use Rattle.checker_result.specs.Result.{no-check}
-use Rattle.checker_entry.specs.Answers.{Says, check-memory, Checks}
-use Rattle.checker_entry.specs.Parts.{Checked, Whole, RunsAs}
-use Rattle.checker_entry.proofs.Promise.{Promise, answers, refuses, promise, whole-shows, whole-refused}
+use Rattle.checker_entry.specs.Contract.{Says, check-memory, Checks}
+use Rattle.checker_entry.specs.Contracts.{Checked, Whole, RunsAs}
+use Rattle.checker_entry.proofs.Refines.{Promise, answers, refuses, promise, whole-shows, whole-refused}
 
 module _ (f : List ℕ) (i : Index) (m : Model) (acc : accepted f ≡ answer m) (o : Indexed f i m) (bytes : (k : ℕ) → getD f k 0 < 256) (g : Ground) (gr : Grounds f i g) where
   abbrev x : List ℕ

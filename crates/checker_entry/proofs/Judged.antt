@@ -21,11 +21,11 @@ use Rattle.model_spec.specs.File.{invariant}
 use Rattle.model_spec.specs.Rewrite.{place-of}
 use Rattle.model_parts.specs.Stand.{Reads}
 use Rattle.engine_spec.specs.Words.{source-words}
-use Rattle.engine_fields.specs.Reads.{two, cap}
+use Rattle.engine_fields.specs.Fields.{two, cap}
 use Rattle.engine_state.specs.declared.Cells.{Cells}
 use Rattle.engine_refinement.specs.Meaning.{where-of, cells-of, record-of, Tabled}
 use Rattle.engine_refinement.proofs.Numbers.{cap-is}
-use Rattle.engine_refinement.proofs.Truth.{Valued}
+use Rattle.engine_refinement.proofs.Evaluate.{Valued}
 use Rattle.engine_refinement.proofs.Words.{text-place}
 use Rattle.checker_spec.specs.Check.{Violation, violation-of}
 use Rattle.checker_spec.specs.Judge.{Reading, read-all, unknown-reasons, incomplete-reasons}
@@ -33,14 +33,14 @@ use Rattle.checker_response.specs.declared.Failure.{Failure}
 use Rattle.checker_response.specs.declared.Failure.the-variants.{NoFailure, ProhibitedState, GuardViolated, ForbiddenTransition, DeadlineMissed}
 use Rattle.checker_response.specs.Response.{failedM}
 use Rattle.checker_judge.specs.Judging.{judgeM}
-use Rattle.checker_reasons.specs.Told.{renderings, unknownM, incompleteM}
+use Rattle.checker_reasons.specs.Reasons.{renderings, unknownM, incompleteM}
 use Rattle.checker_judge.specs.declared.Reading.{Reading as Read}
 use Rattle.checker_refinement.specs.Meaning.{memory-of, failing-of, reading-of}
 use Rattle.checker_refinement.proofs.Record.{both-true, Parts, of-never, of-guard, of-transition, of-response, parts}
 use Rattle.checker_refinement.proofs.Judge.{Traced, judge-is}
 use Rattle.checker_refinement.proofs.Reasons.{unknown-is, incomplete-is}
-use Rattle.checker_collect.specs.Verdict.{sourceM, brokenM, violatedM, Gathered, oneM, firstM}
-use Rattle.checker_entry.specs.Answers.{violation-words}
+use Rattle.checker_collect.specs.Collect.{sourceM, brokenM, violatedM, Gathered, oneM, firstM}
+use Rattle.checker_entry.specs.Contract.{violation-words}
 
 -- ---- lists
 

@@ -6,16 +6,16 @@ use native.Mathlib.Omega.{arith}
 use Rattle.engine_summary.specs.declared.Summary.{Summary}
 use Rattle.engine_spec.specs.Memory.{Lent}
 use Rattle.engine_summary.specs.Summary.{simulation-of}
-use Rattle.engine_entry.specs.Answers.{Ground, ground}
-use Rattle.engine_entry.specs.Parts.{Ran}
+use Rattle.engine_entry.specs.Contract.{Ground, ground}
+use Rattle.engine_entry.specs.Contracts.{Ran}
 use Rattle.checker_result.specs.declared.Status.the-variants as status
 use Rattle.checker_result.specs.declared.CheckResult.{CheckResult}
 use Rattle.checker_result.specs.declared.Judgement.{Judgement}
 use Rattle.checker_result.specs.declared.Shared.{Shared}
 use Rattle.checker_result.specs.Result.{result-of}
-use Rattle.checker_entry.specs.Answers.{Checks}
+use Rattle.checker_entry.specs.Contract.{Checks}
 use Rattle.checker_result.specs.Verdicts.{Judged}
-use Rattle.checker_entry.specs.Parts.{Checked, Whole}
+use Rattle.checker_entry.specs.Contracts.{Checked, Whole}
 
 -- ---- a check with given events
 

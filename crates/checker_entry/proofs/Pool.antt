@@ -22,17 +22,17 @@ use Rattle.engine_refinement.specs.Meaning.{pool-of}
 use Rattle.engine_refinement.specs.Events.{Among, EventAt}
 use Rattle.engine_refinement.proofs.Pool.{mem-left, mem-right, among-to}
 use Rattle.engine_refinement.proofs.Simulated.{static-among}
-use Rattle.engine_entry.specs.Answers.{Ground, Grounds, incomplete-of}
-use Rattle.engine_entry.proofs.Core.{tb}
-use Rattle.engine_entry.proofs.Promise as simulator
+use Rattle.engine_entry.specs.Contract.{Ground, Grounds, incomplete-of}
+use Rattle.engine_entry.proofs.Refines.{tb}
+use Rattle.engine_entry.proofs.RunEvents as simulator
 use Rattle.engine_spec.specs.Unsupported.{unsupported}
 use Rattle.checker_spec.specs.Check.{judged}
 use Rattle.checker_spec.specs.Check as check
 use Rattle.checker_spec.specs.Judge.{Memory, reason-if, read-all, unknown-reasons, incomplete-reasons}
 use Rattle.checker_result.specs.declared.CheckResult.{CheckResult}
 use Rattle.checker_entry.specs.Pool.{invariant-pool, check-pool}
-use Rattle.checker_entry.specs.Parts.{Checked}
-use Rattle.checker_entry.proofs.Promise as promised
+use Rattle.checker_entry.specs.Contracts.{Checked}
+use Rattle.checker_entry.proofs.Refines as promised
 
 -- ---- the list
 

@@ -1,3 +1,3 @@
-pub mod Answers
-pub mod Parts
+pub mod Contract
+pub mod Contracts
 pub mod Pool

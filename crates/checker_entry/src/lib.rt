@@ -8,9 +8,9 @@ ghost use Rattle.notation.specs.Reference.{was, is};
 ghost use Prim.Native.Nat.{_*_, _≤_};
 ghost use lib.ListN.{length};
 ghost use Rattle.checker_result.specs.Result.{result-of};
-ghost use Rattle.checker_entry.specs.Answers.{Checks};
-ghost use Rattle.checker_entry.specs.Parts.{Checked, Whole, RunsAs};
-ghost use Rattle.engine_entry.specs.Answers.{ground, lent};
+ghost use Rattle.checker_entry.specs.Contract.{Checks};
+ghost use Rattle.checker_entry.specs.Contracts.{Checked, Whole, RunsAs};
+ghost use Rattle.engine_entry.specs.Contract.{ground, lent};
 
 // ---- a check, its lists in lent arrays
 

@@ -17,7 +17,7 @@ use Rattle.records.specs.declared.Where.the-variants.{Nowhere}
 use Rattle.records.specs.declared.Change.{Change}
 use Rattle.records.specs.declared.Change.the-variants.{NoChange, Write}
 use Rattle.records.specs.declared.Record.{Record}
-use Rattle.engine_fields.specs.Reads.{cap, entityOf}
+use Rattle.engine_fields.specs.Fields.{cap, entityOf}
 use Rattle.engine_state.specs.Machine.{storedM}
 use Rattle.engine_state.specs.declared.Cells.{Cells}
 use Rattle.checker_response.specs.declared.Failure.{Failure}

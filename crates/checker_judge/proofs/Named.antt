@@ -13,10 +13,10 @@ use Rattle.texts.specs.Lists.{if_then_else_}
 use Rattle.model_walk.proofs.Found.{Case, is-true, is-false, case}
 use Rattle.records.specs.declared.Change.{Change}
 use Rattle.records.specs.declared.Change.the-variants.{NoChange, Write}
-use Rattle.engine_fields.specs.Reads.{two, name, entities, entityFrom, entityOf}
+use Rattle.engine_fields.specs.Fields.{two, name, entities, entityFrom, entityOf}
 use Rattle.engine_state.specs.Machine.{later, storedM}
 use Rattle.engine_state.specs.declared.Cells.{Cells}
-use Rattle.engine_evaluate.specs.Truths.{valueM, evaluateM, sizeM, allFrom, allM}
+use Rattle.engine_evaluate.specs.Evaluate.{valueM, evaluateM, sizeM, allFrom, allM}
 use Rattle.engine_evaluate.specs.declared.Truth.{Truth}
 use Rattle.engine_evaluate.proofs.Laws.{one-less, none-left}
 use Rattle.checker_judge.specs.Judging.{putM, afterM, setM, goal-at}

@@ -12,9 +12,9 @@ use Rattle.model_walk.proofs.Found.{Case, is-true, is-false, case}
 use Rattle.records.specs.declared.Change.{Change}
 use Rattle.records.specs.declared.Change.the-variants.{NoChange, Write}
 use Rattle.records.specs.declared.Record.{Record}
-use Rattle.engine_fields.specs.Reads.{two}
+use Rattle.engine_fields.specs.Fields.{two}
 use Rattle.engine_state.specs.Machine.{later}
-use Rattle.engine_evaluate.specs.Truths.{evaluateM, allM}
+use Rattle.engine_evaluate.specs.Evaluate.{evaluateM, allM}
 use Rattle.engine_evaluate.specs.declared.Truth.{Truth}
 use Rattle.engine_evaluate.specs.declared.Truth.the-variants.{Yes, No, Unknown}
 use Rattle.checker_response.specs.declared.Failure.the-variants.{NoFailure, ProhibitedState}

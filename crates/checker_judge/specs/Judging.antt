@@ -12,10 +12,10 @@ use Rattle.records.specs.declared.Where.the-variants.{Nowhere}
 use Rattle.records.specs.declared.Change.{Change}
 use Rattle.records.specs.declared.Change.the-variants.{NoChange, Write}
 use Rattle.records.specs.declared.Record.{Record}
-use Rattle.engine_fields.specs.Reads.{two, four, cap, entityOf}
+use Rattle.engine_fields.specs.Fields.{two, four, cap, entityOf}
 use Rattle.engine_state.specs.Machine.{later, storedM}
 use Rattle.engine_state.specs.declared.Cells.{Cells}
-use Rattle.engine_evaluate.specs.Truths.{evaluateM, sizeM, allM}
+use Rattle.engine_evaluate.specs.Evaluate.{evaluateM, sizeM, allM}
 use Rattle.engine_evaluate.specs.declared.Truth.{Truth}
 use Rattle.checker_response.specs.declared.Failure.the-variants.{NoFailure, ProhibitedState, GuardViolated, ForbiddenTransition}
 use Rattle.checker_response.specs.declared.Wait.the-variants.{NoWait}

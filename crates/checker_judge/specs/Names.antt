@@ -11,9 +11,9 @@ use Rattle.records.specs.Records.{recorded}
 use Rattle.records.specs.declared.Change.{Change}
 use Rattle.records.specs.declared.Change.the-variants.{NoChange, Write}
 use Rattle.records.specs.declared.Record.{Record}
-use Rattle.engine_fields.specs.Reads.{two}
+use Rattle.engine_fields.specs.Fields.{two}
 use Rattle.engine_state.specs.Machine.{later}
-use Rattle.engine_evaluate.specs.Truths.{sizeM}
+use Rattle.engine_evaluate.specs.Evaluate.{sizeM}
 use Rattle.checker_response.specs.declared.Wait.{Wait}
 use Rattle.checker_response.specs.declared.Wait.the-variants.{NoWait, Until}
 use Rattle.checker_judge.specs.Judging.{goal-at}

@@ -7,7 +7,7 @@ use lib.ListN.{length, getD}
 use Rattle.records.specs.Records.{recorded}
 use Rattle.records.specs.declared.Change.the-variants.{NoChange}
 use Rattle.records.specs.declared.Record.{Record}
-use Rattle.engine_fields.specs.Reads.{entityOf}
+use Rattle.engine_fields.specs.Fields.{entityOf}
 use Rattle.engine_state.specs.declared.Cells.{Cells}
 use Rattle.checker_response.specs.declared.Failure.the-variants.{NoFailure}
 use Rattle.checker_response.specs.declared.Memory.{Memory}

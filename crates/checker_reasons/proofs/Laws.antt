@@ -18,7 +18,7 @@ use Rattle.reasons.proofs.Listing.{grows-none, length-insert}
 use Rattle.reasons.proofs.Cleaning.{one-text}
 use Rattle.engine_fields.proofs.Readable.{position-stands}
 use Rattle.checker_response.specs.declared.Memory.{Memory}
-use Rattle.checker_reasons.specs.Told.{list-of, renderings, aboutM, ifM, temporalM, unknownM, incompleteM}
+use Rattle.checker_reasons.specs.Reasons.{list-of, renderings, aboutM, ifM, temporalM, unknownM, incompleteM}
 use Rattle.checker_reasons.specs.declared.Told.{Told}
 use Rattle.checker_reasons.specs.declared.Told.the-variants.{Nothing, One, Two}
 

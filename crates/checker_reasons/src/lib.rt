@@ -12,8 +12,8 @@ ghost use Prim.Native.Nat.{_*_, _≤_};
 ghost use lib.ListN.{length};
 ghost use Rattle.reasons.specs.Readable.{AllReadable};
 ghost use Rattle.reasons.specs.Lists.{listed, insertAll, Grows};
-ghost use Rattle.engine_fields.specs.Reads.{cap};
-ghost use Rattle.checker_reasons.specs.Told.{list-of, renderings, aboutM, ifM, temporalM, unknownM, incompleteM};
+ghost use Rattle.engine_fields.specs.Fields.{cap};
+ghost use Rattle.checker_reasons.specs.Reasons.{list-of, renderings, aboutM, ifM, temporalM, unknownM, incompleteM};
 
 // An invariant gives at most two.
 pub enum Told {

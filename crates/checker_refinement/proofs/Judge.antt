@@ -19,13 +19,13 @@ use Rattle.records.specs.declared.Change.the-variants.{NoChange, Write}
 use Rattle.records.specs.declared.Record.{Record}
 use Rattle.engine_spec.specs.Cells.{Cell, is-cell, cell-of, overwrite, put}
 use Rattle.engine_spec.proofs.Lists.{none-some, Each}
-use Rattle.engine_fields.specs.Reads.{entityOf}
+use Rattle.engine_fields.specs.Fields.{entityOf}
 use Rattle.engine_state.specs.declared.Cells.{Cells}
 use Rattle.engine_refinement.specs.Meaning.{Placed, where-of, cells-of, change-of, record-of, Tabled}
 use Rattle.engine_refinement.proofs.Numbers.{cap-is}
-use Rattle.engine_refinement.proofs.Truth.{Valued, Sought, here, nowhere, cell-is}
+use Rattle.engine_refinement.proofs.Evaluate.{Valued, Sought, here, nowhere, cell-is}
 use Rattle.engine_refinement.proofs.Relation.{Celled}
-use Rattle.engine_refinement.proofs.Writes.{stored-is}
+use Rattle.engine_refinement.proofs.Update.{stored-is}
 use Rattle.checker_spec.specs.Judge.{after, read, reading, read-all}
 use Rattle.checker_spec.specs.Judge as judge
 use Rattle.checker_response.specs.Response.{failedM}

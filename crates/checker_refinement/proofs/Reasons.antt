@@ -14,13 +14,13 @@ use Rattle.model_parts.specs.Stand.{Reads}
 use Rattle.reasons.specs.Kinds as kinds
 use Rattle.reasons.specs.Reasons.{render, body, words}
 use Rattle.reasons.specs.declared.Reason.{Reason}
-use Rattle.engine_fields.specs.Reads.{two, cap}
+use Rattle.engine_fields.specs.Fields.{two, cap}
 use Rattle.engine_refinement.specs.Meaning.{Tabled}
 use Rattle.engine_refinement.proofs.Numbers.{cap-is}
 use Rattle.engine_refinement.proofs.Pool.{no-text, position-is}
 use Rattle.checker_spec.specs.Judge.{reason-if, unknown-reasons, incomplete-reasons}
 use Rattle.checker_response.specs.declared.Memory.{Memory}
-use Rattle.checker_reasons.specs.Told.{renderings, aboutM, ifM, temporalM, unknownM, incompleteM}
+use Rattle.checker_reasons.specs.Reasons.{renderings, aboutM, ifM, temporalM, unknownM, incompleteM}
 use Rattle.checker_reasons.specs.declared.Told.the-variants.{One, Two}
 use Rattle.checker_refinement.specs.Meaning.{memory-of}
 use Rattle.checker_refinement.proofs.Record.{Parts, of-never, of-guard, of-transition, of-response, parts}

@@ -24,13 +24,13 @@ use Rattle.engine_spec.specs.Cells.{Cell}
 use Rattle.engine_spec.specs.Truth.{moment-after}
 use Rattle.engine_spec.proofs.Windowless.{same-truth, same-truths}
 use Rattle.engine_spec.specs.Records.{Kind, kind-name, all-records}
-use Rattle.engine_fields.specs.Reads.{two, four}
+use Rattle.engine_fields.specs.Fields.{two, four}
 use Rattle.engine_state.specs.Machine.{later}
-use Rattle.engine_evaluate.specs.Truths.{evaluateM, sizeM, allM}
+use Rattle.engine_evaluate.specs.Evaluate.{evaluateM, sizeM, allM}
 use Rattle.engine_evaluate.specs.declared.Truth.{Truth}
 use Rattle.engine_refinement.specs.Meaning.{Placed, truth-of, cells-of, kind-of, change-of, record-of, Tabled}
 use Rattle.engine_refinement.proofs.Numbers.{byte-is, two-is, four-is, later-is}
-use Rattle.engine_refinement.proofs.Truth.{Valued, evaluate-is, all-is}
+use Rattle.engine_refinement.proofs.Evaluate.{Valued, evaluate-is, all-is}
 use Rattle.checker_spec.specs.Judge.{stated, stated-all, is-action, is-horizon, writes, passes, fails-if, read-response, read}
 use Rattle.checker_spec.specs.Judge as judge
 use Rattle.checker_response.specs.Response.{yesM, noM, unknownM, failsM, respondedM}

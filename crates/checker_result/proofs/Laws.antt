@@ -17,14 +17,14 @@ use Rattle.reasons.specs.declared.Reason.{Reason}
 use Rattle.reasons.proofs.Listing as listing
 use Rattle.reasons.proofs.Listing.{grows-none, grown}
 use Rattle.reasons.proofs.Cleaning.{zeros, holds-zeros}
-use Rattle.engine_fields.specs.Reads.{alone}
+use Rattle.engine_fields.specs.Fields.{alone}
 use Rattle.engine_fields.proofs.Readable.{alone-readable}
 use Rattle.engine_summary.specs.declared.Simulation.{Simulation}
 use Rattle.engine_summary.specs.declared.Summary.{Summary}
 use Rattle.engine_summary.specs.Summary.{no-simulation, simulation-of}
 use Rattle.engine_summary.specs.Summaries.{Few}
 use Rattle.checker_collect.specs.declared.Counts.{Counts}
-use Rattle.checker_collect.specs.Verdict.{brokenM, GathersAll}
+use Rattle.checker_collect.specs.Collect.{brokenM, GathersAll}
 use Rattle.checker_collect.proofs.Laws.{all-many}
 use Rattle.checker_result.specs.declared.Status.{Status}
 use Rattle.checker_result.specs.declared.Status.the-variants as status
@@ -119,7 +119,7 @@ module _ (f : List ℕ) (m : ℕ) (b a : List ℕ) where
 module _ {f x starts : List ℕ} {h : Shared} {a : List ℕ} (s : Summary) {told : List ℕ} where
   pub judged-is : {many : ℕ} → Few (s .unknown) many → {u₁ : List ℕ} {k : ℕ} →
       Grows f (Clean f many told) (insertAll (listed f many told) (listed f 0 (replicate 2000 0))) 0 (replicate 2000 0) k u₁ →
-      {w₁ w₂ : List ℕ} {j i : ℕ} → Starts f (s .why) (replicate 200 0) j w₁ → Ends f (s .waiting) j w₁ i w₂ → {n : ℕ} → Fits (s .records) (length a) n →
+      {w₁ w₂ : List ℕ} {j i : ℕ} → Starts f (s .«stop_reason») (replicate 200 0) j w₁ → Ends f (s .«runs_left») j w₁ i w₂ → {n : ℕ} → Fits (s .records) (length a) n →
       {t : Counts} {v' u₂ w₃ : List ℕ} → GathersAll f x starts (h .invariants) (h .cells) a n (record { violations = 0; unknown = k; incomplete = i }) t (replicate 256 0) v' u₁ u₂ w₂ w₃ →
       {y : Status} → y ≡ statusM t →
       Judged f x starts h a s (record { status = y; violations = t .violations; unknown = t .unknown; incomplete = t .incomplete; simulation = s }) told v' u₂ w₃
@@ -136,8 +136,8 @@ module _ {f x starts : List ℕ} {h : Shared} {a : List ℕ} (s : Summary) {told
         many = refl;
         unknown = subst (λ (q : ℕ). Holds f (insertAll (listed f q told) []) k u₁) (few .same ok)
             (grown f (insertAll (listed f many told)) merged (λ h. subst (λ (q : ℕ). Clean f q told) (sym (few .same ok)) (clean h)) (holds-zeros f (zeros 2000)));
-        incomplete = grown f (insertAll (map (render f) (leftM (s .waiting)))) (en .grows) (λ h. tt)
-            (grown f (insertAll (map (render f) (stoppedM (s .why)))) (st .grows) (λ h. tt) (holds-zeros f (zeros 200)));
+        incomplete = grown f (insertAll (map (render f) (leftM (s .«runs_left»)))) (en .grows) (λ h. tt)
+            (grown f (insertAll (map (render f) (stoppedM (s .«stop_reason»)))) (st .grows) (λ h. tt) (holds-zeros f (zeros 200)));
       });
     };
   }

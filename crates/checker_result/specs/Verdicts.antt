@@ -13,12 +13,12 @@ use Rattle.reasons.specs.Readable.{HasText}
 use Rattle.reasons.specs.Lists.{listed, insertAll, Clean, Grows}
 use Rattle.reasons.specs.Reasons.{render}
 use Rattle.reasons.specs.declared.Reason.{Reason}
-use Rattle.engine_fields.specs.Reads.{atMost, alone}
+use Rattle.engine_fields.specs.Fields.{atMost, alone}
 use Rattle.engine_state.specs.declared.Cells.{Cells}
 use Rattle.engine_summary.specs.declared.Simulation.{Simulation}
 use Rattle.engine_summary.specs.declared.Summary.{Summary}
 use Rattle.checker_collect.specs.declared.Counts.{Counts}
-use Rattle.checker_collect.specs.Verdict.{Gathered, firstM, Keeps}
+use Rattle.checker_collect.specs.Collect.{Gathered, firstM, Keeps}
 use Rattle.checker_result.specs.declared.Status.{Status}
 use Rattle.checker_result.specs.declared.Status.the-variants as status
 use Rattle.checker_result.specs.declared.CheckResult.{CheckResult}
@@ -57,7 +57,7 @@ unfoldable pub startM : List ℕ → Simulation → Gathered
 startM f s = record {
   violations = [];
   unknown = insertAll (listed f (s .unknown) (s .reasons)) [];
-  incomplete = insertAll (map (render f) (leftM (s .waiting))) (insertAll (map (render f) (stoppedM (s .why))) []);
+  incomplete = insertAll (map (render f) (leftM (s .«runs_left»))) (insertAll (map (render f) (stoppedM (s .«stop_reason»))) []);
 }
 
 abbrev pub counts : CheckResult → Counts

@@ -143,8 +143,8 @@ pub fn verdict(
     *incompletes = [0u32; 200];
     let many = engine_summary::few(s.unknown);
     let unknown = reasons::merge(f, unknowns, 0, told, many);
-    let stopped = add_stopped(f, incompletes, s.why);
-    let incomplete = add_waiting(f, incompletes, stopped, s.waiting);
+    let stopped = add_stopped(f, incompletes, s.stop_reason);
+    let incomplete = add_waiting(f, incompletes, stopped, s.runs_left);
     let start = Counts {
         violations: 0,
         unknown,

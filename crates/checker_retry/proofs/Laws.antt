@@ -17,14 +17,14 @@ use Rattle.engine_spec.specs.Simulate.{Simulation, simulated}
 use Rattle.engine_monotone.specs.Larger.{Larger}
 use Rattle.engine_monotone.proofs.Larger.{same-in-larger}
 use Rattle.engine_refinement.specs.Events.{EventAt}
-use Rattle.engine_entry.specs.Answers.{Ground, Grounds}
-use Rattle.engine_entry.proofs.Core.{tb}
+use Rattle.engine_entry.specs.Contract.{Ground, Grounds}
+use Rattle.engine_entry.proofs.Refines.{tb}
 use Rattle.checker_spec.specs.Check.{Check, judged, checked}
 use Rattle.checker_result.specs.declared.CheckResult.{CheckResult}
-use Rattle.checker_entry.specs.Parts.{Checked}
+use Rattle.checker_entry.specs.Contracts.{Checked}
 use Rattle.checker_entry.proofs.Pool.{in-pool}
-use Rattle.checker_entry.proofs.Promise as promised
-use Rattle.checker_retry.specs.Case.{refusedM, sizes, Tells, answers, refuses, Cased, Parted}
+use Rattle.checker_entry.proofs.Refines as promised
+use Rattle.checker_retry.specs.Retry.{refusedM, sizes, Tells, answers, refuses, Cased, Parted}
 
 -- a check that isn't refused is the same in larger areas
 checked-larger : (a b : Areas) → Larger a b → (m : Model) (cells : List Cell) (vs : List Event) (c : Check) →

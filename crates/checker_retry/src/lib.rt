@@ -7,9 +7,9 @@ ghost use Rattle.notation.specs.Reference.{was, is};
 ghost use mathlib.Core.Path.{_≡_};
 ghost use Prim.Native.Nat.{_*_, _≤_};
 ghost use lib.ListN.{length};
-ghost use Rattle.engine_entry.specs.Answers.{ground};
+ghost use Rattle.engine_entry.specs.Contract.{ground};
 ghost use Rattle.checker_result.specs.Result.{result-of};
-ghost use Rattle.checker_retry.specs.Case.{refusedM, Part, Parted, Cased};
+ghost use Rattle.checker_retry.specs.Retry.{refusedM, Part, Parted, Cased};
 
 fn is_refused(status: Status) -> bool
     ensures { λ r. ⌜ r ≡ refusedM status ⌝ }

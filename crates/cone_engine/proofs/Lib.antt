@@ -6,12 +6,12 @@ pub mod View
 -- operations and whole steps: inside they keep it, outside they change nothing of it
 pub mod Steps
 -- runs stay good
-pub mod Good
+pub mod Scoped
 -- the queue under a filter
 pub mod Queue
 -- the loop, seen from the cone
 pub mod Slice
 -- seconds never fall
-pub mod Tidy
+pub mod TimeOrder
 -- the cone of an accepted model
 pub mod Closure

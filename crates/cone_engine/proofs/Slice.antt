@@ -32,7 +32,7 @@ use Rattle.cone_engine.proofs.Queue.{Taken, late, late-le, pop-empty, p
 use Rattle.cone_engine.proofs.View
 use Rattle.cone_engine.proofs.View.{bare}
 use Rattle.cone_engine.proofs.Steps
-use Rattle.cone_engine.proofs.Good
+use Rattle.cone_engine.proofs.Scoped
 
 pub cons-nil : {A : Type 0} {x : A} {l : List A} → x ∷ l ≡ [] → ⊥
 cons-nil {A} e = false≢true (ap isNil e)

@@ -11,16 +11,16 @@ use Rattle.lint_walk.specs.Walks.{walkBy, walkM}
 use Rattle.lint_access.specs.Sets.{sectionBy, writesM}
 use Rattle.lint_access.proofs.Laws.{writes-by}
 use Rattle.lint_undeclared.specs.declared.Undeclared.{Undeclared}
-use Rattle.lint_undeclared.specs.Strange.{undeclaredM}
-use Rattle.lint_collect.specs.Order.{fillM}
+use Rattle.lint_undeclared.specs.Undeclared.{undeclaredM}
+use Rattle.lint_collect.specs.Collect.{fillM}
 use Rattle.cone_sets.specs.Sets.{namedM, needsM}
 use Rattle.cone_sets.proofs.Laws.{named-by, needs-by}
 use Rattle.cone_close.specs.declared.ConeSets.{ConeSets}
 use Rattle.cone_close.specs.Rounds.{closedM}
 use Rattle.cone_names.specs.declared.ConeNames.{ConeNames}
-use Rattle.cone_names.specs.Wanted.{namesM}
+use Rattle.cone_names.specs.Undeclared.{namesM}
 use Rattle.cone_entry.specs.declared.Touched.{Touched}
-use Rattle.cone_entry.specs.Parts.{writes-eachM, needs-eachM, Touches, model-setsM, model-namesM, Tells}
+use Rattle.cone_entry.specs.Contracts.{writes-eachM, needs-eachM, Touches, model-setsM, model-namesM, Tells}
 
 module _ (s : List ℕ) (e rules : Section) where
   pub writes-are : writes-eachM s e rules

@@ -9,8 +9,8 @@ ghost use Rattle.notation.specs.Reference.{was};
 ghost use mathlib.Core.Path.{_≡_};
 ghost use Prim.Native.Nat.{_≤_, _<_, _+_};
 ghost use lib.ListN.{length};
-ghost use Rattle.cone_entry.specs.Answers.{no-cone, Answers};
-ghost use Rattle.cone_entry.specs.Parts.{Touches, Bounds, Tells};
+ghost use Rattle.cone_entry.specs.Contract.{no-cone, Answers};
+ghost use Rattle.cone_entry.specs.Contracts.{Touches, Bounds, Tells};
 
 // `refused` is 0 or the refusal's number; then the rest is 0. `entities` is the set of declared entities by their numbers
 // in the file, `automations` that of automations. The first `undeclared` of `names` are the places of names that no entity

@@ -20,17 +20,17 @@ use Rattle.engine_spec.proofs.Distinct.{answer-eq, refused-answer, bind-inv}
 use Rattle.checker_spec.specs.Judge.{Failing, Reading, read-all, unknown-reasons}
 use Rattle.checker_spec.specs.Check.{Check, violation-of, judged, checked}
 use Rattle.cone_spec.specs.Cone.{names}
-use Rattle.cone_judge.specs.Told.{Told, failed, missed, told, About, holds, fails, late, about-failing, about, violation-told}
+use Rattle.cone_judge.specs.Reading.{Told, failed, missed, told, About, holds, fails, late, about-failing, about, violation-told}
 use Rattle.cone_engine.proofs.Base.{keep-append, keep-flat, each-flat, Every, every-end, le-leb}
 use Rattle.cone_engine.proofs.Queue
 use Rattle.cone_engine.proofs.View
 use Rattle.cone_engine.proofs.View.{boundary}
 use Rattle.cone_engine.proofs.Steps
-use Rattle.cone_engine.proofs.Good
+use Rattle.cone_engine.proofs.Scoped
 use Rattle.cone_engine.proofs.Slice
 use Rattle.cone_engine.proofs.Slice.{cons-nil}
-use Rattle.cone_engine.proofs.Tidy
-use Rattle.cone_engine.proofs.Tidy.{Tidy, Rising, headed, fair, rising-end, headed-end, tidy-loop}
+use Rattle.cone_engine.proofs.TimeOrder
+use Rattle.cone_engine.proofs.TimeOrder.{Tidy, Rising, headed, fair, rising-end, headed-end, tidy-loop}
 use Rattle.cone_judge.proofs.Judge
 use Rattle.cone_judge.proofs.Judge.{ends, ends-end}
 

@@ -42,7 +42,7 @@ use Rattle.checker_spec.specs.Judge.{
   read-all,
 }
 use Rattle.cone_spec.specs.Cone.{names}
-use Rattle.cone_judge.specs.Told.{told, About, late, about-failing, about}
+use Rattle.cone_judge.specs.Reading.{told, About, late, about-failing, about}
 use Rattle.cone_engine.proofs.Base.{
   Case,
   is-true,
@@ -65,7 +65,7 @@ use Rattle.cone_engine.proofs.Base.{
 }
 use Rattle.cone_engine.proofs.View
 use Rattle.cone_engine.proofs.View.{boundary}
-use Rattle.cone_engine.proofs.Tidy.{Rising, headed, fair}
+use Rattle.cone_engine.proofs.TimeOrder.{Rising, headed, fair}
 
 -- the last record is a boundary
 unfoldable pub ends : List Trace → Bool

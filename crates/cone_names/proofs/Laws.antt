@@ -8,7 +8,7 @@ use borrow.Author.Tests.{lt-ltb, le-ltb, le-leb, lt-leb, eq-eqb, ne-eqb}
 use Rattle.lint_reach.specs.Sets.{holds}
 use Rattle.lint_undeclared.specs.declared.Undeclared.{Undeclared}
 use Rattle.cone_names.specs.declared.ConeNames.{ConeNames}
-use Rattle.cone_names.specs.Wanted.{withM, no-names, readM, someM, wantedM, nameM, fromM, namesM}
+use Rattle.cone_names.specs.Undeclared.{withM, no-names, readM, someM, wantedM, nameM, fromM, namesM}
 
 module _ (n : ConeNames) (t : ℕ) where
   pub with-place : n .count < 64 → record { count = n .count + 1; list = set (n .list) (n .count) t } ≡ withM n t

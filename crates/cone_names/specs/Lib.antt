@@ -1,1 +1,1 @@
-pub mod Wanted
+pub mod Undeclared

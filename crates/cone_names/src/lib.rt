@@ -3,7 +3,7 @@ use lint_undeclared::Undeclared;
 ghost use mathlib.Core.Path.{_≡_};
 ghost use Prim.Native.Nat.{_≤_, _<_, _+_};
 ghost use lib.ListN.{length};
-ghost use Rattle.cone_names.specs.Wanted.{readM, wantedM, withM, nameM, namesM};
+ghost use Rattle.cone_names.specs.Undeclared.{readM, wantedM, withM, nameM, namesM};
 
 // Whether the j-th of the names is the one at a place, and its reader is among the automations.
 fn read_by(u: Undeclared, automations: u32, place: u32, j: usize) -> bool

@@ -28,10 +28,10 @@ use Rattle.lint_walk.specs.Walks.{walkM}
 use Rattle.lint_access.specs.Names.{nameAt}
 use Rattle.lint_access.specs.Sets.{writesM}
 use Rattle.lint_access.proofs.Rising.{mem-cons, mem-none, mem-append, mem-sorted}
-use Rattle.lint_access.proofs.Agrees.{Inside, members-below, writes-inside}
+use Rattle.lint_access.proofs.Refines.{Inside, members-below, writes-inside}
 use Rattle.lint_conditions.specs.declared.Names.{Names}
 use Rattle.lint_refinement.proofs.Accepted.{Fine, FineA}
-use Rattle.lint_refinement.proofs.Stage.{
+use Rattle.lint_refinement.proofs.FileFacts.{
   Stage,
   Bounded,
   if-bounded,
@@ -47,14 +47,14 @@ use Rattle.lint_refinement.proofs.Stage.{
 }
 use Rattle.lint_refinement.proofs.Rules.{es, writes-listed}
 use Rattle.lint_refinement.proofs.ById.{ids-apart}
-use Rattle.lint_refinement.proofs.Strangers.{Strange, one-not, flat-not}
+use Rattle.lint_refinement.proofs.Undeclared.{Strange, one-not, flat-not}
 use Rattle.cone_spec.specs.Cone.{Cone, needs, writes-one, pick, close}
 use Rattle.cone_sets.specs.Sets.{add-toggleM, needsM}
 use Rattle.cone_close.specs.declared.ConeSets.{ConeSets}
 use Rattle.cone_close.specs.Rounds.{addsM, firstM, takenM, roundM, roundsM}
 use Rattle.cone_refinement.proofs.Named.{needs-hold, needs-inside}
-use Rattle.cone_refinement.proofs.Picking.{pickN, pick-is, lifted, Picks, no-pick, a-pick, picks, meets}
-use Rattle.model_check.proofs.Agrees.{eqb-sym}
+use Rattle.cone_refinement.proofs.Selection.{pickN, pick-is, lifted, Picks, no-pick, a-pick, picks, meets}
+use Rattle.model_check.proofs.Refines.{eqb-sym}
 
 -- ---- lists
 

@@ -18,15 +18,15 @@ use Rattle.lint_reach.specs.Sets.{holds, members}
 use Rattle.lint_reach.proofs.Bits.{keep-none, keep-append, places-more}
 use Rattle.lint_access.specs.Names.{nameAt}
 use Rattle.lint_access.proofs.Rising.{rising-sorted, mem-sorted}
-use Rattle.lint_access.proofs.Agrees.{Declares, members-below, names-are}
+use Rattle.lint_access.proofs.Refines.{Declares, members-below, names-are}
 use Rattle.lint_conditions.specs.declared.Names.{Names}
 use Rattle.lint_refinement.specs.Numbers.{declared-set}
 use Rattle.lint_refinement.proofs.Lists.{rising-keep, sorted-rising, mem-keep, mem-at, found-at}
 use Rattle.lint_refinement.proofs.Sets.{set-members, places-at}
-use Rattle.lint_refinement.proofs.Stage.{Stage, no-rule, each-at}
+use Rattle.lint_refinement.proofs.FileFacts.{Stage, no-rule, each-at}
 use Rattle.lint_refinement.proofs.Rules.{es, names, ids}
 use Rattle.lint_refinement.proofs.ById.{set-is}
-use Rattle.lint_refinement.proofs.Strangers.{keep-texts, places-below}
+use Rattle.lint_refinement.proofs.Undeclared.{keep-texts, places-below}
 use Rattle.cone_close.specs.declared.ConeSets.{ConeSets}
 use Rattle.cone_refinement.proofs.Closing.{Kept}
 

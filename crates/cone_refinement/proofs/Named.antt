@@ -53,11 +53,11 @@ use Rattle.lint_walk.proofs.Found.{
   ActionAt,
   RuleAt,
 }
-use Rattle.lint_walk.proofs.Goes.{Walked}
+use Rattle.lint_walk.proofs.Refines.{Walked}
 use Rattle.lint_access.specs.Names.{nameAt}
 use Rattle.lint_access.specs.Sets.{Adds, over, add-entityM, add-predicateM, add-predicatesM, readsM}
 use Rattle.lint_access.proofs.Rising.{mem-append, mem-sorted}
-use Rattle.lint_access.proofs.Agrees.{
+use Rattle.lint_access.proofs.Refines.{
   Grounds,
   Inside,
   memN,

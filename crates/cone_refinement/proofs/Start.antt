@@ -21,7 +21,7 @@ use Rattle.lint_walk.specs.Walks.{walkM}
 use Rattle.lint_access.specs.Sets.{writesM}
 use Rattle.lint_access.proofs.Rising.{mem-none}
 use Rattle.lint_conditions.specs.declared.Names.{Names}
-use Rattle.lint_refinement.proofs.Stage.{
+use Rattle.lint_refinement.proofs.FileFacts.{
   Stage,
   Bounded,
   if-bounded,
@@ -39,7 +39,7 @@ use Rattle.cone_spec.specs.Cone.{Cone, close}
 use Rattle.cone_sets.specs.Sets.{add-namedM, namedM, needsM}
 use Rattle.cone_close.specs.Rounds.{closedM}
 use Rattle.cone_refinement.proofs.Named.{named-holds, named-inside}
-use Rattle.cone_refinement.proofs.Fine.{FineI, start-not}
+use Rattle.cone_refinement.proofs.Declared.{FineI, start-not}
 use Rattle.cone_refinement.proofs.Closing.{some-none, Kept, closing}
 
 pub each-self : {A : Type 0} (l : List A) → each (λ x. x) l ≡ l

@@ -10,15 +10,15 @@ use Rattle.runs.specs.declared.Run.{Run}
 use Rattle.runs.specs.declared.Source.{Source}
 use Rattle.reasons.specs.Kinds as kinds
 use Rattle.reasons.specs.declared.Reason.{Reason}
-use Rattle.engine_fields.specs.Reads.{two, four, atMost, entityOf, aboutRule, alone, noteReason}
-use Rattle.engine_evaluate.specs.Truths.{numberM, undecidedM, evaluateM, selectM}
+use Rattle.engine_fields.specs.Fields.{two, four, atMost, entityOf, aboutRule, alone, noteReason}
+use Rattle.engine_evaluate.specs.Evaluate.{numberM, undecidedM, evaluateM, selectM}
 use Rattle.engine_evaluate.specs.declared.Truth.{Truth}
 use Rattle.engine_evaluate.specs.declared.Branch.{Branch}
 use Rattle.engine_state.specs.Machine.{Machine, later}
 use Rattle.engine_state.specs.Changes.{uncertainM, log-actionM, next-stepM}
 use Rattle.engine_modes.specs.Modes.{nowM}
 use Rattle.engine_trigger.specs.Runs.{finishM}
-use Rattle.engine_actions.specs.Acts.{setM, toggledM, doubtM, flip-fromM, flip-atM, flipM, afterM, testedM, condition-asM, conditionM, chosenM, chooseM, wait, waitingM, begin-waitM, give-upM}
+use Rattle.engine_actions.specs.Perform.{setM, toggledM, doubtM, flip-fromM, flip-atM, flipM, afterM, testedM, condition-asM, conditionM, chosenM, chooseM, wait, waitingM, begin-waitM, give-upM}
 
 pub doubt-is : (f x : List ℕ) (r : Run) (kind i : ℕ) (why : Reason) (m : Machine) → i ≡ atMost (r .automation) 31 → why ≡ aboutRule f x i kind → uncertainM f why m ≡ doubtM f x r kind m
 unfolding doubtM

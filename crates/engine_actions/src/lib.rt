@@ -28,7 +28,7 @@ ghost use mathlib.Core.Path.{_≡_};
 ghost use Prim.Native.Nat.{_<_};
 ghost use Rattle.reasons.specs.Kinds.{OneText};
 ghost use Rattle.engine_state.specs.Steps.{Moves, Does, goes, kept, told, still, Fits-qa, Fits-qar, Fits-qau, Fits, by};
-ghost use Rattle.engine_actions.specs.Acts.{writtenM, setM, toggledM, flipM, delayM, unclearM, testedM, conditionM, take-listM, chooseM, begin-waitM, give-upM};
+ghost use Rattle.engine_actions.specs.Perform.{writtenM, setM, toggledM, flipM, delayM, unclearM, testedM, conditionM, take-listM, chooseM, begin-waitM, give-upM};
 
 fn write(
     x: &[u32; 436],
@@ -141,7 +141,7 @@ fn unclear(
     run: Run,
     kind: u32,
 ) -> State
-    requires { ⌜ OneText kind × ((k < st .active) × Fits st (now q) (now a) (now r) (now u)) ⌝ }
+    requires { ⌜ OneText kind × ((k < st .«live_runs») × Fits st (now q) (now a) (now r) (now u)) ⌝ }
     ensures { λ t. ⌜ Does (unclearM (was f) (was x) k run kind) st t (by q) (by a) (by r) (told (was f) (was u) (is u)) ⌝ }
 {
     let i = at_most(run.automation, 31);
@@ -162,7 +162,7 @@ fn tested(
     run: Run,
     verdict: Truth,
 ) -> State
-    requires { ⌜ (k < st .active) × Fits st (now q) (now a) (now r) (now u) ⌝ }
+    requires { ⌜ (k < st .«live_runs») × Fits st (now q) (now a) (now r) (now u) ⌝ }
     ensures { λ t. ⌜ Does (testedM (was f) (was x) k run verdict) st t (by q) (by a) (by r) (told (was f) (was u) (is u)) ⌝ }
 {
     match verdict {
@@ -186,7 +186,7 @@ pub fn condition(
     s: Source,
     at: u32,
 ) -> State
-    requires { ⌜ (k < st .active) × Fits st (now q) (now a) (now r) (now u) ⌝ }
+    requires { ⌜ (k < st .«live_runs») × Fits st (now q) (now a) (now r) (now u) ⌝ }
     ensures { λ t. ⌜ Moves (conditionM (was f) (was x) k run s at) st t (by q) (by a) (by r) (told (was f) (was u) (is u)) (goes (was values) (was values)) kept kept ⌝ }
 {
     let t = engine_evaluate::evaluate(f, x, values, st.now, at);
@@ -206,7 +206,7 @@ fn take_list(
     s: Source,
     at: u32,
 ) -> State
-    requires { ⌜ (k < st .active) × Fits-qar st (now q) (now a) (now r) ⌝ }
+    requires { ⌜ (k < st .«live_runs») × Fits-qar st (now q) (now a) (now r) ⌝ }
     ensures { λ t. ⌜ Does (take-listM (was f) k run s at) st t (by q) (by a) (by r) still ⌝ }
 {
     let longer = engine_evaluate::with_list(f, run, at);
@@ -229,7 +229,7 @@ pub fn choose(
     s: Source,
     at: u32,
 ) -> State
-    requires { ⌜ (k < st .active) × Fits st (now q) (now a) (now r) (now u) ⌝ }
+    requires { ⌜ (k < st .«live_runs») × Fits st (now q) (now a) (now r) (now u) ⌝ }
     ensures { λ t. ⌜ Moves (chooseM (was f) (was x) k run s at) st t (by q) (by a) (by r) (told (was f) (was u) (is u)) (goes (was values) (was values)) kept kept ⌝ }
 {
     let b = engine_evaluate::select(f, x, values, st.now, at);
@@ -252,7 +252,7 @@ pub fn begin_wait(
     s: Source,
     at: u32,
 ) -> State
-    requires { ⌜ (k < st .active) × Fits st (now q) (now a) (now r) (now u) ⌝ }
+    requires { ⌜ (k < st .«live_runs») × Fits st (now q) (now a) (now r) (now u) ⌝ }
     ensures { λ t. ⌜ Does (begin-waitM (was f) k run s at) st t (by q) (by a) (by r) (told (was f) (was u) (is u)) ⌝ }
 {
     if two_at(f, at as usize + 14) != 65535 {
@@ -262,11 +262,11 @@ pub fn begin_wait(
     }
     let seconds = four_at(f, at as usize + 16);
     let deadline = after(st.now, seconds);
-    let onward = engine_fields::byte_at(f, at as usize + 20) == 1;
+    let continue_on_timeout = engine_fields::byte_at(f, at as usize + 20) == 1;
     let w = Wait {
         trigger: at,
         deadline,
-        onward,
+        continue_on_timeout,
         source: s,
     };
     let waiting = with_phase(run, Phase::Waiting(w));
@@ -291,7 +291,7 @@ pub fn give_up(
     s: Source,
     reason: u32,
 ) -> State
-    requires { ⌜ (k < st .active) × Fits st (now q) (now a) (now r) (now u) ⌝ }
+    requires { ⌜ (k < st .«live_runs») × Fits st (now q) (now a) (now r) (now u) ⌝ }
     ensures { λ t. ⌜ Does (give-upM (was f) k run s reason) st t (by q) (by a) (by r) (told (was f) (was u) (is u)) ⌝ }
 {
     let why = engine_fields::note_reason(f, reason);

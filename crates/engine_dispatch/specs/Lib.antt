@@ -1,1 +1,1 @@
-pub mod Process
+pub mod Dispatch

@@ -23,8 +23,8 @@ ghost use Rattle.notation.specs.Reference.{was, is};
 ghost use mathlib.Core.Path.{_≡_};
 ghost use Prim.Native.Nat.{_<_};
 ghost use Rattle.engine_state.specs.Steps.{Moves, kept, told, Fits, by};
-ghost use Rattle.engine_actions.specs.Acts.{performM, go-onM, goingM, resumeM};
-ghost use Rattle.engine_dispatch.specs.Process.{processM};
+ghost use Rattle.engine_actions.specs.Perform.{performM, go-onM, goingM, resumeM};
+ghost use Rattle.engine_dispatch.specs.Dispatch.{processM};
 
 fn perform(
     f: &[u8],
@@ -41,7 +41,7 @@ fn perform(
     s: Source,
     e: Effect,
 ) -> State
-    requires { ⌜ (k < st .active) × Fits st (now q) (now a) (now r) (now u) ⌝ }
+    requires { ⌜ (k < st .«live_runs») × Fits st (now q) (now a) (now r) (now u) ⌝ }
     ensures { λ t. ⌜ Moves (performM (was f) (was x) k run s e) st t (by q) (by a) (by r) (told (was f) (was u) (is u)) (by values) (by versions) kept ⌝ }
 {
     match e {
@@ -70,7 +70,7 @@ fn go_on(
     st: State,
     k: usize,
 ) -> State
-    requires { ⌜ (k < st .active) × Fits st (now q) (now a) (now r) (now u) ⌝ }
+    requires { ⌜ (k < st .«live_runs») × Fits st (now q) (now a) (now r) (now u) ⌝ }
     ensures { λ t. ⌜ Moves (go-onM (was f) (was x) k) st t (by q) (by a) (by r) (told (was f) (was u) (is u)) (by values) (by versions) kept ⌝ }
 {
     let run = runs::run_at(r, k);
@@ -130,7 +130,7 @@ fn resume(
     requires { ⌜ Fits st (now q) (now a) (now r) (now u) ⌝ }
     ensures { λ t. ⌜ Moves (resumeM (was f) (was x) automation sequence) st t (by q) (by a) (by r) (told (was f) (was u) (is u)) (by values) (by versions) kept ⌝ }
 {
-    let found = runs::find_run(r, st.active, automation, sequence);
+    let found = runs::find_run(r, st.live_runs, automation, sequence);
     let Found::At(k) = found else {
         return st;
     };

@@ -12,7 +12,7 @@ use Rattle.model_index.specs.declared.Index.{Index}
 use Rattle.model_index.specs.declared.Status.the-variants as status
 use Rattle.model_index.specs.Indexed as indexed
 use Rattle.model_index.specs.Indexed.{Indexed}
-use Rattle.model_validate.proofs.Agrees.{accept-read, accept-refused}
+use Rattle.model_validate.proofs.Refines.{accept-read, accept-refused}
 use Rattle.model_validate.proofs.Refusals.{Refuses, Refusal, refusal-numbers}
 use mathlib.Core.Logic.{inl, inr}
 use Rattle.engine_spec.specs.Cells.{initial-cells}
@@ -23,7 +23,7 @@ use Rattle.engine_spec.specs.Simulate.{simulated, simulate, unsupported-of}
 use Rattle.engine_spec.specs.Unsupported.{unsupported}
 use Rattle.engine_spec.specs.Words.{words-in, entry-words, simulate-memory}
 use Rattle.engine_spec.proofs.Memory.{refusals}
-use Rattle.engine_fields.specs.Reads.{atMost}
+use Rattle.engine_fields.specs.Fields.{atMost}
 use Rattle.reasons.proofs.Listing.{reported}
 use Rattle.engine_refinement.specs.Meaning.{Tabled}
 use Rattle.engine_refinement.proofs.Accepted.{accepted-lawful}
@@ -31,16 +31,16 @@ use Rattle.engine_refinement.proofs.Numbers.{most-is}
 use Rattle.engine_refinement.proofs.Pool.{has-text}
 use Rattle.engine_refinement.proofs.Simulated.{EventAt}
 use Rattle.engine_table.proofs.Laws as table
-use Rattle.engine_inputs.specs.Begin.{EventsOf}
-use Rattle.engine_inputs.proofs.Begins.{event-here}
+use Rattle.engine_inputs.specs.Inputs.{EventsOf}
+use Rattle.engine_inputs.proofs.Refines.{event-here}
 use Rattle.engine_entry.specs.declared.Notes.{Notes}
 use Rattle.engine_summary.specs.declared.Simulation.{Simulation}
 use Rattle.engine_summary.specs.Summary.{no-simulation}
-use Rattle.engine_entry.specs.Answers.{Ground, Grounds, no-notes, NotesSay, Shows, Says, lent, Simulates}
+use Rattle.engine_entry.specs.Contract.{Ground, Grounds, no-notes, NotesSay, Shows, Says, lent, Simulates}
 use Rattle.engine_summary.specs.Summaries.{Answered}
-use Rattle.engine_entry.specs.Parts.{Ran, RunsAs}
-use Rattle.engine_entry.proofs.Core.{tb, notes-held, queue-clear, runs-clear}
-use Rattle.engine_entry.proofs.Promise.{records-here, Promise, answers, refuses, promise}
+use Rattle.engine_entry.specs.Contracts.{Ran, RunsAs}
+use Rattle.engine_entry.proofs.Refines.{tb, notes-held, queue-clear, runs-clear}
+use Rattle.engine_entry.proofs.RunEvents.{records-here, Promise, answers, refuses, promise}
 
 -- ---- unsupported
 

@@ -11,12 +11,12 @@ use Rattle.texts.specs.Texts.{Text}
 use Rattle.model_spec.specs.Model.{Model}
 use Rattle.engine_spec.specs.Cells.{Cell}
 use Rattle.model_spec.specs.Rewrite.{place-of}
-use Rattle.engine_fields.specs.Reads.{entities}
+use Rattle.engine_fields.specs.Fields.{entities}
 use Rattle.engine_refinement.specs.Meaning.{cell-at, cells-from, cells-of, Tabled}
-use Rattle.engine_refinement.proofs.Truth.{Valued, entities-are}
+use Rattle.engine_refinement.proofs.Evaluate.{Valued, entities-are}
 use Rattle.engine_refinement.proofs.Lists.{each-length}
 use Rattle.engine_refinement.proofs.Words.{text-place}
-use Rattle.engine_entry.specs.Answers.{values-of}
+use Rattle.engine_entry.specs.Contract.{values-of}
 use Rattle.engine_summary.specs.Summaries.{Firsts}
 use Rattle.engine_summary.proofs.Laws.{zeros}
 

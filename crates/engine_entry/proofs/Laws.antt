@@ -3,14 +3,14 @@ use Prim.Native.Nat.{ℕ}
 use mathlib.Core.Path.{_≡_, sym, subst}
 use mathlib.Core.List.{List}
 use lib.ListN.{length, getD}
-use Rattle.engine_fields.specs.Reads.{atMost}
+use Rattle.engine_fields.specs.Fields.{atMost}
 use Rattle.engine_run.specs.Run as run
 use Rattle.engine_run.specs.declared.Simulation.{Simulation as Run}
 use Rattle.engine_summary.specs.declared.Simulation.{Simulation}
 use Rattle.engine_spec.specs.Memory.{Lent}
-use Rattle.engine_entry.specs.Answers.{Ground, Simulates}
+use Rattle.engine_entry.specs.Contract.{Ground, Simulates}
 use Rattle.engine_summary.specs.Summaries.{Few, ShownAs}
-use Rattle.engine_entry.specs.Parts.{Ran}
+use Rattle.engine_entry.specs.Contracts.{Ran}
 
 -- ---- the answer
 

@@ -4,7 +4,7 @@ pub mod Numbers
 -- the values at the end
 pub mod Final
 -- the code's simulation is the definition's
-pub mod Core
-pub mod Promise
+pub mod Refines
+pub mod RunEvents
 -- the entries
 pub mod Entry

@@ -10,8 +10,8 @@ ghost use Prim.Native.Nat.{_*_, _≤_};
 ghost use lib.ListN.{length};
 ghost use Rattle.engine_spec.specs.Simulate.{unsupported-of};
 ghost use Rattle.engine_summary.specs.Summary.{simulation-of};
-ghost use Rattle.engine_entry.specs.Answers.{ground, Grounds, no-notes, NotesSay, lent, Simulates};
-ghost use Rattle.engine_entry.specs.Parts.{Ran, RunsAs};
+ghost use Rattle.engine_entry.specs.Contract.{ground, Grounds, no-notes, NotesSay, lent, Simulates};
+ghost use Rattle.engine_entry.specs.Contracts.{Ran, RunsAs};
 
 // ---- what the simulations of one model share
 

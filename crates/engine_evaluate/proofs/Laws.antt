@@ -11,12 +11,12 @@ use Rattle.model_walk.specs.declared.Walked.{Walked}
 use Rattle.model_walk.specs.declared.Walked.the-variants as walked
 use Rattle.runs.specs.Runs.{placeIn}
 use Rattle.runs.specs.declared.Place.{Place}
-use Rattle.engine_fields.specs.Reads.{two, cap, entityOf}
+use Rattle.engine_fields.specs.Fields.{two, cap, entityOf}
 use Rattle.texts.specs.Lists.{if_then_else_}
 use Rattle.engine_window.specs.Window.{openM}
 use Rattle.engine_state.specs.Machine.{later}
 use Rattle.engine_state.specs.declared.Move.{Move}
-use Rattle.engine_evaluate.specs.Truths.{bothM, againstM, valueM, evaluateM, sizeM, allFrom, allM, matchesM, anyFrom, anyM, endM, judgedM, branchM, selectFrom, selectM}
+use Rattle.engine_evaluate.specs.Evaluate.{bothM, againstM, valueM, evaluateM, sizeM, allFrom, allM, matchesM, anyFrom, anyM, endM, judgedM, branchM, selectFrom, selectM}
 use Rattle.engine_evaluate.specs.declared.Truth.{Truth}
 use Rattle.engine_evaluate.specs.declared.Truth.the-variants.{Yes, No, Unknown}
 use Rattle.engine_evaluate.specs.declared.Judged.{Judged}

@@ -8,9 +8,9 @@ use Rattle.model_walk.specs.Walk.{actionsM, choiceM}
 use Rattle.runs.specs.Runs.{placeIn}
 use Rattle.runs.specs.declared.Place.{Place}
 use Rattle.runs.specs.declared.Run.{Run}
-use Rattle.engine_fields.specs.Reads.{two, four, listWord}
+use Rattle.engine_fields.specs.Fields.{two, four, listWord}
 use Rattle.engine_state.specs.Machine.{later}
-use Rattle.engine_evaluate.specs.Truths.{sizeM, endM}
+use Rattle.engine_evaluate.specs.Evaluate.{sizeM, endM}
 use Rattle.engine_evaluate.specs.declared.Effect.{Effect}
 use Rattle.engine_evaluate.specs.declared.Effect.the-variants as effect
 use Rattle.engine_evaluate.specs.declared.Action.{Action}

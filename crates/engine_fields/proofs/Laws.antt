@@ -7,7 +7,7 @@ use borrow.Author.Tests.{eq-eqb, ne-eqb, lt-ltb, le-ltb, le-leb, lt-leb}
 use native.Mathlib.Omega.{arith}
 use Rattle.texts.specs.Places.{startFrom}
 use Rattle.runs.specs.Runs.{placeWord}
-use Rattle.engine_fields.specs.Reads.{two, four, cap, atMost, name, word, entities, entityFrom, entityOf, textPosition, aboutRule, alone, noteReason, listWord}
+use Rattle.engine_fields.specs.Fields.{two, four, cap, atMost, name, word, entities, entityFrom, entityOf, textPosition, aboutRule, alone, noteReason, listWord}
 use Rattle.reasons.specs.Kinds as kinds
 use Rattle.reasons.specs.Readable.{text-count}
 

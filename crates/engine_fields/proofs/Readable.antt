@@ -11,7 +11,7 @@ use Rattle.reasons.specs.declared.Reason.{Reason}
 use Rattle.reasons.specs.Kinds.{OneText, NoText}
 use Rattle.reasons.specs.Readable.{text-count, TextAt, Readable, HasText}
 use Rattle.reasons.proofs.Cleaning.{one-text, no-text}
-use Rattle.engine_fields.specs.Reads.{cap, textPosition, aboutRule, alone, noteReason}
+use Rattle.engine_fields.specs.Fields.{cap, textPosition, aboutRule, alone, noteReason}
 
 -- a text stands at most 256 bytes further on for each text before it
 pub start-low : (f : List ℕ) → ((i : ℕ) → getD f i 0 < 256) → (k p n : ℕ) → p ≤ n → startFrom f p k ≤ n + 256 * k

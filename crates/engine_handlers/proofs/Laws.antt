@@ -13,24 +13,24 @@ use Rattle.runs.specs.declared.Run.{Run}
 use Rattle.runs.specs.declared.Wait.{Wait}
 use Rattle.runs.specs.declared.Phase.the-variants.{Going, Waiting}
 use Rattle.runs.proofs.Laws as runs
-use Rattle.engine_fields.specs.Reads.{name, entityOf}
+use Rattle.engine_fields.specs.Fields.{name, entityOf}
 use Rattle.engine_state.specs.declared.State.{State}
 use Rattle.engine_state.specs.Machine.{Machine, entire, machine, with-active, storedM}
 use Rattle.engine_state.specs.Steps.{kept, goes, still, Steps}
 use Rattle.engine_state.proofs.Laws as states
-use Rattle.engine_update.specs.Writes.{cells}
-use Rattle.engine_handlers.specs.Works.{over-onM, over-endM, wait-overM, time-phaseM, time-runM, expire-toM, expireM, stale-atM, go-staleM, no-runsM}
+use Rattle.engine_update.specs.Update.{cells}
+use Rattle.engine_handlers.specs.Handlers.{over-onM, over-endM, wait-overM, time-phaseM, time-runM, expire-toM, expireM, stale-atM, go-staleM, no-runsM}
 
 module _ (k : ℕ) (r : Run) (w : Wait) (m : Machine) where
   pub over-early : (w .deadline ≡ m .now → ⊥) → m ≡ wait-overM k r w m
   unfolding wait-overM
   over-early h = rw (ne-eqb (w .deadline) (m .now) h)
 
-  pub over-goes : w .deadline ≡ m .now → w .onward ≡ true → over-onM k r w m ≡ wait-overM k r w m
+  pub over-goes : w .deadline ≡ m .now → w .«continue_on_timeout» ≡ true → over-onM k r w m ≡ wait-overM k r w m
   unfolding wait-overM
   over-goes h e = rw (eq-eqb (w .deadline) (m .now) h, e)
 
-  pub over-ends : w .deadline ≡ m .now → w .onward ≡ false → over-endM k r w m ≡ wait-overM k r w m
+  pub over-ends : w .deadline ≡ m .now → w .«continue_on_timeout» ≡ false → over-endM k r w m ≡ wait-overM k r w m
   unfolding wait-overM
   over-ends h e = rw (eq-eqb (w .deadline) (m .now) h, e)
 
@@ -73,7 +73,7 @@ none-of-runs a b n l e is h c =
     ∙ ap (λ i. cleared (area runWords i l) 0 (n * 28)) (sym z)
     ∙ areas.none-left runWords 28 runs.sized 0 (length a) n l e (omega arith)
 
-pub no-runs : (st s : State) (r b : List ℕ) → st .active * 28 ≤ length r → b ≡ cleared r 0 (st .active * 28)
+pub no-runs : (st s : State) (r b : List ℕ) → st .«live_runs» * 28 ≤ length r → b ≡ cleared r 0 (st .«live_runs» * 28)
     → s ≡ with-active 0 st → length b ≡ length r → {v n c : List ℕ} →
     Steps (λ k. no-runsM (machine (entire st v n c) k)) (entire st v n c) (entire s v n c) kept kept (goes r b) still
 no-runs st s r b h e g same {v} {n} {c = l} =
@@ -84,7 +84,7 @@ no-runs st s r b h e g same {v} {n} {c = l} =
       runs = (same, omega arith);
       reasons = refl;
       does = λ f q a _ u c held.
-          let zeros = none-of-runs r b (st .active) (c .runs) (sym (held .runs .many)) (held .runs .is) h e in
+          let zeros = none-of-runs r b (st .«live_runs») (c .runs) (sym (held .runs .many)) (held .runs .is) h e in
           record {
             content = states.k-runs [] c;
             held = record {

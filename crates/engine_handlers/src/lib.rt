@@ -17,7 +17,7 @@ use runs::Wait;
 ghost use Rattle.notation.specs.Reference.{was};
 ghost use Prim.Native.Nat.{_<_};
 ghost use Rattle.engine_state.specs.Steps.{Moves, Does, goes, kept, still, Fits-qa, Fits-ar, Fits-qar, by};
-ghost use Rattle.engine_handlers.specs.Works.{wait-overM, time-outM, expireM, go-staleM, drop-allM, externalM};
+ghost use Rattle.engine_handlers.specs.Handlers.{wait-overM, time-outM, expireM, go-staleM, drop-allM, externalM};
 
 fn wait_over(
     q: &mut [u32],
@@ -28,14 +28,14 @@ fn wait_over(
     run: Run,
     w: Wait,
 ) -> State
-    requires { ⌜ (k < st .active) × Fits-qar st (now q) (now a) (now r) ⌝ }
+    requires { ⌜ (k < st .«live_runs») × Fits-qar st (now q) (now a) (now r) ⌝ }
     ensures { λ t. ⌜ Does (wait-overM k run w) st t (by q) (by a) (by r) still ⌝ }
 {
     if w.deadline != st.now {
         return st;
     }
     let s = w.source;
-    if w.onward {
+    if w.continue_on_timeout {
         let s1 = log_action(a, st, 17, 1, s, run);
         let going = with_phase(run, Phase::Going);
         runs::put_run(r, k, going);
@@ -56,7 +56,7 @@ pub fn time_out(
     requires { ⌜ Fits-qar st (now q) (now a) (now r) ⌝ }
     ensures { λ t. ⌜ Does (time-outM automation sequence) st t (by q) (by a) (by r) still ⌝ }
 {
-    let found = runs::find_run(r, st.active, automation, sequence);
+    let found = runs::find_run(r, st.live_runs, automation, sequence);
     let Found::At(k) = found else {
         return st;
     };
@@ -126,7 +126,7 @@ pub fn drop_all(a: &mut [u32], r: &mut [u32], st: State) -> State
     requires { ⌜ Fits-ar st (now a) (now r) ⌝ }
     ensures { λ t. ⌜ Does (drop-allM) st t kept (by a) (by r) still ⌝ }
 {
-    let n = st.active;
+    let n = st.live_runs;
     areas::clear(r, 0, n * 28);
     let s1 = engine_state::with_active(st, 0);
     engine_state::log_plain(a, s1, 4)

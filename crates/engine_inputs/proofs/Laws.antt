@@ -6,8 +6,8 @@ use native.Mathlib.Omega.{arith}
 use lib.ListN.{getD, set, replicate}
 use lib.Seq.{getD-set-other}
 use borrow.Author.Tests.{lt-ltb, le-ltb, eq-eqb, ne-eqb}
-use Rattle.engine_fields.specs.Reads.{two, four, cap}
-use Rattle.engine_inputs.specs.Begin.{input-part, event-part, event-from, initial-at, value-from}
+use Rattle.engine_fields.specs.Fields.{two, four, cap}
+use Rattle.engine_inputs.specs.Inputs.{input-part, event-part, event-from, initial-at, value-from}
 
 module _ (s : List ℕ) (p j : ℕ) {kind : ℕ} (is-kind : kind ≡ getD s p 0) where
   pub part-kind : j ≡ 0 → kind ≡ input-part s p j

@@ -47,7 +47,7 @@ pub turn-empty : (f x : List ℕ) {st : Entire} {q a r u : List ℕ} → st .ite
 unfolding turnM turn-withM
 turn-empty f x {st} e d = states.knowing (λ c. turnM f x (machine st c)) d (λ _ q a r u c held. ap (λ t. turn-withM f x t (machine st c)) (nothing-of (c .queue) (sym (held .queue .many) ∙ e)))
 
-module _ (st : State) (q b : List ℕ) (t : Taken) (took : Took q (st .first) (st .items) b t) (same : length b ≡ length q) (h : (st .first + st .items) * 5 ≤ length q) (some : 0 < st .items) where
+module _ (st : State) (q b : List ℕ) (t : Taken) (took : Took q (st .«queue_start») (st .items) b t) (same : length b ≡ length q) (h : (st .«queue_start» + st .items) * 5 ≤ length q) (some : 0 < st .items) where
   pub taken : (s : State) (i : Item) → t ≡ One i → s ≡ with-turn (i .second) st → {v n c : List ℕ} → Steps (λ k. tookM i (machine (entire st v n c) k)) (entire st v n c) (entire s v n c) (goes q b) kept kept still
   taken s i _ e {v} {n} {c = l} = subst (λ z. Steps (λ c. tookM i (machine (entire st v n l) c)) (entire st v n l) (entire z v n l) (goes q b) kept kept still) (sym e) (record {
     queue = (same, omega (arith, h, same));
@@ -59,13 +59,13 @@ module _ (st : State) (q b : List ℕ) (t : Taken) (took : Took q (st .first) (s
         let l = leftOf secondOf (pop secondOf (c .queue)) in
         record {
           content = states.k-queue l c;
-          held = record { queue = record { room = ap (λ n. n / 5) same ∙ old .room; many = ap (λ n. n - 1) (old .many) ∙ sym (left-length (c .queue) (subst (λ n. 0 < n) (old .many) some)); is = took .left some (c .queue) (sym (old .many)) (old .is) ∙ ap (λ n. laid (st .first + 1) n l) (sym same) }; records = held .records; runs = held .runs; reasons = held .reasons };
+          held = record { queue = record { room = ap (λ n. n / 5) same ∙ old .room; many = ap (λ n. n - 1) (old .many) ∙ sym (left-length (c .queue) (subst (λ n. 0 < n) (old .many) some)); is = took .left some (c .queue) (sym (old .many)) (old .is) ∙ ap (λ n. laid (st .«queue_start» + 1) n l) (sym same) }; records = held .records; runs = held .runs; reasons = held .reasons };
           is = refl;
         };
   })
 
   -- a queue with items has a next one
-  pub never : (F : Content → Machine) {a r u f v n c : List ℕ} → t ≡ Nothing → st .records * 13 ≤ length a → st .active * 28 ≤ length r → st .reasons * 5 ≤ length u →
+  pub never : (F : Content → Machine) {a r u f v n c : List ℕ} → t ≡ Nothing → st .records * 13 ≤ length a → st .«live_runs» * 28 ≤ length r → st .reasons * 5 ≤ length u →
       Steps F (entire st v n c) (entire st v n c) (goes q b) (goes a a) (goes r r) (steps.told f u u)
   never F e ha hr hu = record {
     queue = (same, omega (arith, h, same));
@@ -76,7 +76,7 @@ module _ (st : State) (q b : List ℕ) (t : Taken) (took : Took q (st .first) (s
         absurd (not-nothing (c .queue) (subst (λ n. 0 < n) (held .queue .many) some) (sym e ∙ took .is (c .queue) (sym (held .queue .many)) (held .queue .is)));
   }
 
-pub with-taken : {st s : Entire} {A R : Lent} {q b : List ℕ} {U : Listing} (F : Taken → Machine → Machine) {b' : List ℕ} {t y : Taken} → Took q (st .first) (st .items) b' t → t ≡ y → Steps (λ c. F y (machine st c)) st s (goes q b) A R U → Steps (λ c. F (takenOf (pop secondOf (c .queue))) (machine st c)) st s (goes q b) A R U
+pub with-taken : {st s : Entire} {A R : Lent} {q b : List ℕ} {U : Listing} (F : Taken → Machine → Machine) {b' : List ℕ} {t y : Taken} → Took q (st .«queue_start») (st .items) b' t → t ≡ y → Steps (λ c. F y (machine st c)) st s (goes q b) A R U → Steps (λ c. F (takenOf (pop secondOf (c .queue))) (machine st c)) st s (goes q b) A R U
 with-taken {st} F took e d = states.knowing (λ c. F (takenOf (pop secondOf (c .queue))) (machine st c)) d (λ f _ a r u c held.
     ap (λ z. F z (machine st c)) (sym e ∙ took .is (c .queue) (sym (held .queue .many)) (held .queue .is)))
 
@@ -121,7 +121,7 @@ module _ {f x : List ℕ} {st s : State} {q q' a a' r r' u u' v v' n n' c c' : L
     room = h;
   }
 
-  pub loop-halts : (e : Ended) → e ≡ record { state = s; steps = getD x 3 0 - left; why = why } → (why ≡ 4 → ⊥) → Ends f x st e q q' a a' r r' u u' v v' n n' c c'
+  pub loop-halts : (e : Ended) → e ≡ record { state = s; steps = getD x 3 0 - left; «stop_reason» = why } → (why ≡ 4 → ⊥) → Ends f x st e q q' a a' r r' u u' v v' n n' c c'
   loop-halts e is h = subst (λ z. Ends f x st z q q' a a' r r' u u' v v' n n' c c') (sym is) (record {
     queue = l .steps .queue;
     records = l .steps .records;
@@ -129,31 +129,31 @@ module _ {f x : List ℕ} {st s : State} {q q' a a' r r' u u' v v' n n' c c' : L
     reasons = l .steps .reasons;
     does = λ k held.
         let y = l .steps .does f q a r u k held in
-        subst (λ p. Halts f q' a' r' u' v' n' c' (getD x 3 0) (record { state = s; steps = getD x 3 0 - left; why = why }) p) (sym (l .rest k held ∙ loop-end f x left (l .go k) (λ g. h (why-here k held ∙ g))))
-        (record { stands = y; steps = refl; why = why-here k held });
+        subst (λ p. Halts f q' a' r' u' v' n' c' (getD x 3 0) (record { state = s; steps = getD x 3 0 - left; «stop_reason» = why }) p) (sym (l .rest k held ∙ loop-end f x left (l .go k) (λ g. h (why-here k held ∙ g))))
+        (record { stands = y; steps = refl; «stop_reason» = why-here k held });
   })
 
 -- ---- before and after
 
-pub timed : (n : ℕ) (st : State) → Does (put-now n) st (record { now = n; items = st .items; first = st .first; records = st .records; active = st .active; reasons = st .reasons; made = st .made; full = st .full }) kept kept kept still
+pub timed : (n : ℕ) (st : State) → Does (put-now n) st (record { now = n; items = st .items; «queue_start» = st .«queue_start»; records = st .records; «live_runs» = st .«live_runs»; reasons = st .reasons; «runs_created» = st .«runs_created»; «overflow» = st .«overflow» }) kept kept kept still
 timed n st = states.moves (λ _ _ _. record { queue = refl; records = refl; runs = refl; reasons = refl; does = λ f q a r u k held. record { content = k; held = record { queue = held .queue; records = held .records; runs = held .runs; reasons = held .reasons }; is = refl } })
 
 module _ (x : List ℕ) (d : Ended) (a : List ℕ) (h : d .state .records * 13 ≤ length a) where
-  pub closed-why : (d .why ≡ 0 → ⊥) → Closes x d d a a
+  pub closed-why : (d .«stop_reason» ≡ 0 → ⊥) → Closes x d d a a
   unfolding closedM
-  closed-why z = record { queue = refl; records = (refl, h); runs = refl; does = λ f q r u v n c total p g. subst (λ e. Halts f q a r u v n c total d e) (no-why p (λ e. z (g .why ∙ e))) g }
+  closed-why z = record { queue = refl; records = (refl, h); runs = refl; does = λ f q r u v n c total p g. subst (λ e. Halts f q a r u v n c total d e) (no-why p (λ e. z (g .«stop_reason» ∙ e))) g }
     where
-      no-why : (p : Halt) → (p .why ≡ 0 → ⊥) → p ≡ closedM x p
-      no-why p g = rw (ne-eqb (p .why) 0 g)
+      no-why : (p : Halt) → (p .«stop_reason» ≡ 0 → ⊥) → p ≡ closedM x p
+      no-why p g = rw (ne-eqb (p .«stop_reason») 0 g)
 
-  pub closed-runs : d .why ≡ 0 → (d .state .active ≡ 0 → ⊥) → Closes x d d a a
+  pub closed-runs : d .«stop_reason» ≡ 0 → (d .state .«live_runs» ≡ 0 → ⊥) → Closes x d d a a
   unfolding closedM
-  closed-runs z left = record { queue = refl; records = (refl, h); runs = refl; does = λ f q r u v n c total p g. subst (λ e. Halts f q a r u v n c total d e) (no-end p (sym (g .why) ∙ z) (λ e. left (g .stands .held .runs .many ∙ ap (λ m. length (m .runs)) (g .stands .is) ∙ e))) g }
+  closed-runs z left = record { queue = refl; records = (refl, h); runs = refl; does = λ f q r u v n c total p g. subst (λ e. Halts f q a r u v n c total d e) (no-end p (sym (g .«stop_reason») ∙ z) (λ e. left (g .stands .held .runs .many ∙ ap (λ m. length (m .runs)) (g .stands .is) ∙ e))) g }
     where
-      no-end : (p : Halt) → p .why ≡ 0 → (length (p .last .runs) ≡ 0 → ⊥) → p ≡ closedM x p
-      no-end p e g = rw (eq-eqb (p .why) 0 e, ne-eqb (length (p .last .runs)) 0 g)
+      no-end : (p : Halt) → p .«stop_reason» ≡ 0 → (length (p .last .runs) ≡ 0 → ⊥) → p ≡ closedM x p
+      no-end p e g = rw (eq-eqb (p .«stop_reason») 0 e, ne-eqb (length (p .last .runs)) 0 g)
 
-  pub closed-end : (s : State) (b : List ℕ) → Does (horizonM x) (d .state) s kept (goes a b) kept still → d .why ≡ 0 → d .state .active ≡ 0 → Closes x d (record { state = s; steps = d .steps; why = 0 }) a b
+  pub closed-end : (s : State) (b : List ℕ) → Does (horizonM x) (d .state) s kept (goes a b) kept still → d .«stop_reason» ≡ 0 → d .state .«live_runs» ≡ 0 → Closes x d (record { state = s; steps = d .steps; «stop_reason» = 0 }) a b
   unfolding closedM
   closed-end s b e z none-left = record {
     queue = e .queue;
@@ -161,9 +161,9 @@ module _ (x : List ℕ) (d : Ended) (a : List ℕ) (h : d .state .records * 13 �
     runs = e .runs;
     does = λ f q r u v n c total p g.
         let y = e .does v n c .does f q a r u (g .stands .content) (g .stands .held) in
-        subst (λ h'. Halts f q b r u v n c total (record { state = s; steps = d .steps; why = 0 }) h') (the-end p (sym (g .why) ∙ z) (sym (ap (λ m. length (m .runs)) (g .stands .is)) ∙ sym (g .stands .held .runs .many) ∙ none-left))
-        (record { stands = record { content = y .content; held = y .held; is = y .is ∙ ap (horizonM x) (g .stands .is) }; steps = g .steps; why = refl });
+        subst (λ h'. Halts f q b r u v n c total (record { state = s; steps = d .steps; «stop_reason» = 0 }) h') (the-end p (sym (g .«stop_reason») ∙ z) (sym (ap (λ m. length (m .runs)) (g .stands .is)) ∙ sym (g .stands .held .runs .many) ∙ none-left))
+        (record { stands = record { content = y .content; held = y .held; is = y .is ∙ ap (horizonM x) (g .stands .is) }; steps = g .steps; «stop_reason» = refl });
   }
     where
-      the-end : (p : Halt) → p .why ≡ 0 → length (p .last .runs) ≡ 0 → halt (horizonM x (p .last)) (p .left) 0 ≡ closedM x p
-      the-end p e g = rw (eq-eqb (p .why) 0 e, eq-eqb (length (p .last .runs)) 0 g)
+      the-end : (p : Halt) → p .«stop_reason» ≡ 0 → length (p .last .runs) ≡ 0 → halt (horizonM x (p .last)) (p .left) 0 ≡ closedM x p
+      the-end p e g = rw (eq-eqb (p .«stop_reason») 0 e, eq-eqb (length (p .last .runs)) 0 g)

@@ -15,7 +15,7 @@ use Rattle.engine_state.specs.declared.State.{State}
 use Rattle.engine_state.specs.Machine.{Machine, Content, entire, machine, put-now, put-queue}
 use Rattle.engine_state.specs.Changes.{log-plainM}
 use Rattle.engine_state.specs.Steps.{Held, Stands, Side, goes, told, Side-told}
-use Rattle.engine_dispatch.specs.Process.{processM}
+use Rattle.engine_dispatch.specs.Dispatch.{processM}
 use Rattle.engine_loop.specs.declared.Ended.{Ended}
 use Rattle.engine_schedule.specs.Next.{whyM}
 
@@ -38,10 +38,10 @@ turnM f x m = turn-withM f x (takenOf (pop secondOf (m .queue))) m
 pub record Halt : Type 0 where
   pub last : Machine
   pub left : ℕ
-  pub why : ℕ
+  pub «stop_reason» : ℕ
 
 abbrev pub halt : Machine → (left why : ℕ) → Halt
-halt m l w = record { last = m; left = l; why = w }
+halt m l w = record { last = m; left = l; «stop_reason» = w }
 
 unfoldable pub loopM : (f x : List ℕ) → (left : ℕ) → Machine → Halt
 loopM f x zero m = halt m zero (whyM x zero m)
@@ -54,12 +54,12 @@ loopM f x (suc n) m = elim (eqb (whyM x (suc n) m) 4) [
 pub record Halts (f q a r u v n c : List ℕ) (total : ℕ) (e : Ended) (p : Halt) : Type 0 where
   pub stands : Stands f q a r u (entire (e .state) v n c) (p .last)
   pub steps : e .steps ≡ total - p .left
-  pub why : e .why ≡ p .why
+  pub «stop_reason» : e .«stop_reason» ≡ p .«stop_reason»
 
 pub record Ends (f x : List ℕ) (st : State) (e : Ended) (q q' a a' r r' u u' v v' n n' c c' : List ℕ) : Type 0 where
-  pub queue : Side 5 (goes q q') (st .first + st .items) (e .state .first + e .state .items)
+  pub queue : Side 5 (goes q q') (st .«queue_start» + st .items) (e .state .«queue_start» + e .state .items)
   pub records : Side 13 (goes a a') (st .records) (e .state .records)
-  pub runs : Side 28 (goes r r') (st .active) (e .state .active)
+  pub runs : Side 28 (goes r r') (st .«live_runs») (e .state .«live_runs»)
   pub reasons : Side-told (told f u u') (st .reasons) (e .state .reasons)
   pub does : (k : Content) → Held f q a r u (entire st v n c) k → Halts f q' a' r' u' v' n' c' (getD x 3 0) e (loopM f x (getD x 3 0) (machine (entire st v n c) k))
 
@@ -70,10 +70,10 @@ horizonM x m = log-plainM 9 (put-now (getD x 2 0) m)
 
 -- a simulation that reached the horizon with no run left says so
 unfoldable pub closedM : List ℕ → Halt → Halt
-closedM x p = if eqb (p .why) 0 then (if eqb (length (p .last .runs)) 0 then halt (horizonM x (p .last)) (p .left) 0 else p) else p
+closedM x p = if eqb (p .«stop_reason») 0 then (if eqb (length (p .last .runs)) 0 then halt (horizonM x (p .last)) (p .left) 0 else p) else p
 
 pub record Closes (x : List ℕ) (d e : Ended) (a a' : List ℕ) : Type 0 where
-  pub queue : e .state .first + e .state .items ≡ d .state .first + d .state .items
+  pub queue : e .state .«queue_start» + e .state .items ≡ d .state .«queue_start» + d .state .items
   pub records : Side 13 (goes a a') (d .state .records) (e .state .records)
-  pub runs : e .state .active ≡ d .state .active
+  pub runs : e .state .«live_runs» ≡ d .state .«live_runs»
   pub does : (f q r u v n c : List ℕ) (total : ℕ) (p : Halt) → Halts f q a r u v n c total d p → Halts f q a' r u v n c total e (closedM x p)

@@ -30,7 +30,7 @@ fn turn(
     if st.items == 0 {
         return st;
     }
-    let t = queue::take(q, st.first, st.items);
+    let t = queue::take(q, st.queue_start, st.items);
     let Taken::One(it) = t else {
         return st;
     };
@@ -43,7 +43,7 @@ fn turn(
 pub struct Ended {
     pub state: State,
     pub steps: u32,
-    pub why: u32,
+    pub stop_reason: u32,
 }
 
 pub fn run_loop(
@@ -63,17 +63,17 @@ pub fn run_loop(
 {
     let mut s = st;
     let mut left = x[3];
-    let mut why = engine_schedule::why_stop(x, q, s, left);
-    while why == 4 {
+    let mut stop_reason = engine_schedule::why_stop(x, q, s, left);
+    while stop_reason == 4 {
         s = turn(f, x, q, a, r, u, values, versions, sequences, s);
         left -= 1;
-        why = engine_schedule::why_stop(x, q, s, left);
+        stop_reason = engine_schedule::why_stop(x, q, s, left);
     }
     let steps = x[3] - left;
     Ended {
         state: s,
         steps,
-        why,
+        stop_reason,
     }
 }
 
@@ -101,16 +101,16 @@ pub fn closed(x: &[u32; 436], a: &mut [u32], d: Ended) -> Ended
     ensures { λ e. ⌜ Closes (was x) d e (was a) (is a) ⌝ }
 {
     let s = d.state;
-    if d.why != 0 {
+    if d.stop_reason != 0 {
         return d;
     }
-    if s.active != 0 {
+    if s.live_runs != 0 {
         return d;
     }
     let t = horizon_reached(x, a, s);
     Ended {
         state: t,
         steps: d.steps,
-        why: 0,
+        stop_reason: 0,
     }
 }

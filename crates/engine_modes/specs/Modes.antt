@@ -9,7 +9,7 @@ use Rattle.runs.specs.Lists.{tally, keep}
 use Rattle.runs.specs.Runs.{runOf, other}
 use Rattle.runs.specs.declared.Run.{Run}
 use Rattle.runs.specs.declared.Phase.the-variants.{Going}
-use Rattle.engine_fields.specs.Reads.{word}
+use Rattle.engine_fields.specs.Fields.{word}
 use Rattle.engine_evaluate.specs.Actions.{listM}
 use Rattle.engine_state.specs.Machine.{Machine, more, put-runs}
 use Rattle.engine_state.specs.Changes.{log-ruleM, add-runM, next-stepM}
@@ -30,13 +30,13 @@ unfoldable pub begin-runM : (i : ℕ) → Run → Machine → Machine
 begin-runM i r m = nowM r (log-ruleM 12 (r .number) (r .automation) (add-runM i r m))
 
 unfoldable pub begin-nowM : (f x : List ℕ) → (i : ℕ) → Machine → Machine
-begin-nowM f x i m = begin-runM i (newRun f x i false (m .made) (m .sequences)) m
+begin-nowM f x i m = begin-runM i (newRun f x i false (m .«runs_created») (m .sequences)) m
 
 unfoldable pub begin-queuedM : (i : ℕ) → Run → Machine → Machine
 begin-queuedM i r m = log-ruleM 13 (r .number) (r .automation) (add-runM i r m)
 
 unfoldable pub begin-laterM : (f x : List ℕ) → (i : ℕ) → Machine → Machine
-begin-laterM f x i m = begin-queuedM i (newRun f x i true (m .made) (m .sequences)) m
+begin-laterM f x i m = begin-queuedM i (newRun f x i true (m .«runs_created») (m .sequences)) m
 
 -- the automation's runs go
 unfoldable pub dropM : (automation : ℕ) → Machine → Machine

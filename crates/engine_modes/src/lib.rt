@@ -43,7 +43,7 @@ fn begin_now(
     requires { ⌜ (i < 32) × Fits-qar st (now q) (now a) (now r) ⌝ }
     ensures { λ s. ⌜ Moves (begin-nowM (was f) (was x) i) st s (by q) (by a) (by r) still kept kept (by sequences) ⌝ }
 {
-    let run = new_run(f, x, sequences, st.made, i, false);
+    let run = new_run(f, x, sequences, st.runs_created, i, false);
     let s1 = engine_state::add_run(r, sequences, st, i, run);
     let s2 = log_rule(a, s1, 12, run.number, run.automation);
     next_step(q, s2, run, s2.now)
@@ -61,7 +61,7 @@ fn begin_later(
     requires { ⌜ (i < 32) × Fits-ar st (now a) (now r) ⌝ }
     ensures { λ s. ⌜ Moves (begin-laterM (was f) (was x) i) st s kept (by a) (by r) still kept kept (by sequences) ⌝ }
 {
-    let run = new_run(f, x, sequences, st.made, i, true);
+    let run = new_run(f, x, sequences, st.runs_created, i, true);
     let s1 = engine_state::add_run(r, sequences, st, i, run);
     log_rule(a, s1, 13, run.number, run.automation)
 }
@@ -113,7 +113,7 @@ fn stop_and_start(
     requires { ⌜ (i < 32) × Fits-qar st (now q) (now a) (now r) ⌝ }
     ensures { λ s. ⌜ Moves (stop-startM (was f) (was x) i) st s (by q) (by a) (by r) still kept kept (by sequences) ⌝ }
 {
-    let left = runs::drop_runs(r, st.active, i as u32);
+    let left = runs::drop_runs(r, st.live_runs, i as u32);
     let s1 = engine_state::with_active(st, left);
     let s2 = log_rule(a, s1, 5, 0, i as u32);
     begin_now(f, x, q, a, r, sequences, s2, i)
@@ -133,7 +133,7 @@ pub fn carry_out(
     requires { ⌜ (i < 32) × Fits-qar st (now q) (now a) (now r) ⌝ }
     ensures { λ s. ⌜ Moves (carry-outM (was f) (was x) i) st s (by q) (by a) (by r) still kept kept (by sequences) ⌝ }
 {
-    let running = runs::count_runs(r, st.active, i as u32);
+    let running = runs::count_runs(r, st.live_runs, i as u32);
     let d = decide(rule_word(x, i, 1), rule_word(x, i, 2), running);
     match d {
         Decision::AlreadyRunning => log_rule(a, st, 6, 0, i as u32),

@@ -21,7 +21,7 @@ use Rattle.reasons.specs.Reasons.{render}
 use Rattle.reasons.specs.Readable.{Readable, HasText}
 use Rattle.reasons.specs.Lists.{listed, Grows}
 use Rattle.reasons.proofs.Listing.{one-more, length-listed}
-use Rattle.engine_fields.specs.Reads.{textPosition, noteReason}
+use Rattle.engine_fields.specs.Fields.{textPosition, noteReason}
 use Rattle.engine_fields.proofs.Readable.{position-stands}
 use Rattle.engine_fields.proofs.Readable as reads
 use Rattle.engine_notes.specs.declared.Noted.{Noted}

@@ -1,6 +1,6 @@
 -- The notes of parts as reasons, listed from the file. A listing goes over a part of the file, from a position on,
 -- with the reasons so far; it ends at a position, with the reasons after it. A part that is not there is passed over.
--- `proofs/Agrees` has, for each listing, that it adds the reasons of the part that the reader of `File` finds there.
+-- `proofs/Refines` has, for each listing, that it adds the reasons of the part that the reader of `File` finds there.
 use Prim.Native.Nat.{ℕ, zero, suc, _+_, _-_}
 use mathlib.Core.Path.{_≡_}
 use mathlib.Core.List.{List}
@@ -15,7 +15,7 @@ use Rattle.reasons.specs.declared.Reason.{Reason}
 use Rattle.reasons.specs.Reasons.{render}
 use Rattle.reasons.specs.Readable.{HasText}
 use Rattle.reasons.specs.Lists.{listed, Clean}
-use Rattle.engine_fields.specs.Reads.{textPosition, noteReason}
+use Rattle.engine_fields.specs.Fields.{textPosition, noteReason}
 use Rattle.engine_notes.specs.declared.Noted.{Noted}
 use Rattle.engine_notes.specs.declared.Part.{Part}
 use Rattle.engine_notes.specs.declared.Part.the-variants as part

@@ -15,18 +15,18 @@ use Rattle.model_spec.specs.Notes.{of-effect}
 use Rattle.model_walk.specs.Walk.{seen, capped, by, actionsM, choiceM, simpleM}
 use Rattle.model_walk.specs.declared.Walked.{Walked}
 use Rattle.model_walk.proofs.Laws.{bind-got}
-use Rattle.model_walk.proofs.Sees.{marks, sees-actions, sees-effect, sees-flag}
+use Rattle.model_walk.proofs.Refines.{marks, sees-actions, sees-effect, sees-flag}
 use Rattle.model_walk.proofs.Found.{bound, given, u8-wide, u16-wide, u32-wide, kind-wide, Kind, kind-found, place-found}
 use Rattle.model_walk.proofs.Found as found
-use Rattle.engine_fields.specs.Reads.{two, four}
+use Rattle.engine_fields.specs.Fields.{two, four}
 use Rattle.engine_state.specs.Machine.{later}
-use Rattle.engine_evaluate.specs.Truths.{sizeM, endM}
+use Rattle.engine_evaluate.specs.Evaluate.{sizeM, endM}
 use Rattle.engine_evaluate.specs.Actions.{effectM, afterM, actionM}
 use Rattle.engine_evaluate.specs.declared.Effect.{Effect as AEffect}
 use Rattle.engine_evaluate.specs.declared.Effect.the-variants as effects
 use Rattle.engine_refinement.specs.Meaning.{Tabled}
 use Rattle.engine_refinement.proofs.Numbers.{byte-is, two-is, four-is, later-is, cap-is, source-is}
-use Rattle.engine_refinement.proofs.Truth as truths
+use Rattle.engine_refinement.proofs.Evaluate as truths
 
 -- ---- depths
 

@@ -19,26 +19,26 @@ use Rattle.runs.specs.declared.Found.{Found}
 use Rattle.runs.specs.declared.Found.the-variants.{At, Nothing}
 use Rattle.reasons.specs.Kinds as kinds
 use Rattle.reasons.specs.declared.Reason.{Reason}
-use Rattle.engine_evaluate.specs.Truths.{matchesM, anyM}
+use Rattle.engine_evaluate.specs.Evaluate.{matchesM, anyM}
 use Rattle.engine_evaluate.specs.declared.Truth.{Truth}
 use Rattle.engine_evaluate.specs.declared.Truth.the-variants.{Yes, No, Unknown}
-use Rattle.engine_fields.specs.Reads.{two, word, stale}
+use Rattle.engine_fields.specs.Fields.{two, word, stale}
 use Rattle.engine_state.specs.declared.Move.{Move}
 use Rattle.engine_state.specs.declared.Told.{Told}
 use Rattle.engine_state.specs.declared.Setting.{Setting}
 use Rattle.engine_state.specs.Machine.{Machine}
 use Rattle.engine_state.specs.Changes.{addM, logM, add-runM, uncertainM, log-ruleM, log-actionM, log-plainM, log-writeM, next-stepM}
-use Rattle.engine_update.specs.Writes.{expiryM, changedM}
+use Rattle.engine_update.specs.Update.{expiryM, changedM}
 use Rattle.engine_modes.specs.Modes.{begin-runM, begin-nowM, begin-queuedM, begin-laterM, dropM, stop-startM, decidedM, carry-withM, carry-outM}
 use Rattle.engine_trigger.specs.Runs.{release-runM, release-atM, releaseM, outM, finish-runM, finishM, wake-phaseM, wake-runM, wake-oneM}
 use Rattle.engine_trigger.specs.Triggers.{admitM, log-triggerM, offer-asM, offerM}
 use Rattle.engine_modes.specs.declared.Decision.{Decision}
 use Rattle.engine_modes.specs.declared.Decision.the-variants.{AlreadyRunning, MaxReached, Start, StopAndStart, WaitInLine}
-use Rattle.engine_actions.specs.Acts.{doubtM, unclearM, testedM}
+use Rattle.engine_actions.specs.Perform.{doubtM, unclearM, testedM}
 
 -- the machine is full with the number n
 pub record Stuck (n : ℕ) (m : Machine) : Type 0 where
-  pub is : m .full ≡ n
+  pub is : m .«overflow» ≡ n
 
 module _ (n : ℕ) (z : n ≡ 0 → ⊥) where
   abbrev S : Machine → Type 0
@@ -48,8 +48,8 @@ module _ (n : ℕ) (z : n ≡ 0 → ⊥) where
   s-if true a c p q = p
   s-if false a c p q = q
 
-  not-open : (m : Machine) → S m → eqb (m .full) 0 ≡ false
-  not-open m p = ne-eqb (m .full) 0 (λ e. z (sym (p .is) ∙ e))
+  not-open : (m : Machine) → S m → eqb (m .«overflow») 0 ≡ false
+  not-open m p = ne-eqb (m .«overflow») 0 (λ e. z (sym (p .is) ∙ e))
 
   pub s-add : (s : ℕ) (w : Work) (m : Machine) → S m → S (addM s w m)
   unfolding addM

@@ -1,6 +1,6 @@
 -- what stands at positions: numbers, predicates, triggers, branches, actions
 pub mod Numbers
-pub mod Truth
+pub mod Evaluate
 pub mod Checked
 pub mod Effects
 -- a run's places
@@ -10,17 +10,17 @@ pub mod Overflow
 pub mod Full
 -- machine and engine, and the primitive changes
 pub mod Lists
-pub mod Pigeons
+pub mod Pigeonhole
 pub mod Relation
 -- a record's words
 pub mod Words
 pub mod Pool
 -- what an item does, from the bottom up
-pub mod Writes
+pub mod Update
 pub mod Runs
 pub mod Triggers
-pub mod Acts
-pub mod Works
+pub mod Perform
+pub mod Handlers
 -- the loop, and a whole simulation
 pub mod Loop
 pub mod Simulated

@@ -24,7 +24,7 @@ use Rattle.engine_spec.proofs.Lists.{Each}
 use Rattle.engine_spec.proofs.Closed.{loop-closed}
 use Rattle.model_walk.proofs.Found.{Case, is-true, is-false, case}
 use Rattle.engine_state.specs.Machine.{Machine, put-now, put-queue}
-use Rattle.engine_dispatch.specs.Process.{processM}
+use Rattle.engine_dispatch.specs.Dispatch.{processM}
 use Rattle.engine_schedule.specs.declared.Next.{Next as ANext}
 use Rattle.engine_schedule.specs.declared.Next.the-variants as nexts
 use Rattle.engine_schedule.specs.Next.{next-afterM, nextM, why-nextM, whyM}
@@ -34,8 +34,8 @@ use Rattle.engine_refinement.specs.Events.{GoodWork}
 use Rattle.engine_refinement.proofs.Full.{Stuck}
 use Rattle.engine_refinement.proofs.Overflow.{overflow-stays}
 use Rattle.engine_refinement.proofs.Relation.{Live, Sim, live, dead, weaker}
-use Rattle.engine_refinement.proofs.Writes.{Over}
-use Rattle.engine_refinement.proofs.Works.{process-is}
+use Rattle.engine_refinement.proofs.Update.{Over}
+use Rattle.engine_refinement.proofs.Handlers.{process-is}
 use Rattle.engine_refinement.proofs.Lists as lists
 
 -- why the loop ended, as texts
@@ -159,18 +159,18 @@ module _ (f x : List ℕ) (ts : List Text) (mo : Model) (tb : Tabled f x ts mo) 
   -- ---- the loop
 
   pub data Ends (p : Halt) (d : Ended) (total : ℕ) : Type 0 where
-    lives : (now : ℕ) → L now 0 (p .last) (d .engine) → d .steps + p .left ≡ total → p .why ≤ 2 →
-        d .incomplete ≡ reasons-of (p .why) → Ends p d total
-    stuck : (n : ℕ) → (n ≡ 0 → ⊥) → Stuck n (p .last) → d .engine .overflow ≡ some n → p .why ≡ 3 → Ends p d total
+    lives : (now : ℕ) → L now 0 (p .last) (d .engine) → d .steps + p .left ≡ total → p .«stop_reason» ≤ 2 →
+        d .incomplete ≡ reasons-of (p .«stop_reason») → Ends p d total
+    stuck : (n : ℕ) → (n ≡ 0 → ⊥) → Stuck n (p .last) → d .engine .overflow ≡ some n → p .«stop_reason» ≡ 3 → Ends p d total
 
   -- a full machine stops at once
   full-why : (left n : ℕ) (m : Machine) → (n ≡ 0 → ⊥) → Stuck n m → whyM x left m ≡ 3
   unfolding whyM
-  full-why left n m z p = rw (ne-eqb (m .full) 0 (λ e. z (sym (p .is) ∙ e)))
+  full-why left n m z p = rw (ne-eqb (m .«overflow») 0 (λ e. z (sym (p .is) ∙ e)))
 
-  free-why : (left : ℕ) (m : Machine) → m .full ≡ 0 → whyM x left m ≡ why-nextM left (nextM x m)
+  free-why : (left : ℕ) (m : Machine) → m .«overflow» ≡ 0 → whyM x left m ≡ why-nextM left (nextM x m)
   unfolding whyM
-  free-why left m e = rw (eq-eqb (m .full) 0 e)
+  free-why left m e = rw (eq-eqb (m .«overflow») 0 e)
 
   loop-stop : (n : ℕ) (m : Machine) (w : ℕ) → whyM x (suc n) m ≡ w → eqb w 4 ≡ false → loopM f x (suc n) m ≡ halt m (suc n) w
   unfolding loopM
@@ -220,10 +220,10 @@ module _ (f x : List ℕ) (ts : List Text) (mo : Model) (tb : Tabled f x ts mo) 
   unfolding why-nextM reasons-of
   loop-is zero steps {now} {room} {m} {e} r (dead n z p o) =
       stuck n z (rw (loop-end m 3 (full-why 0 n m z p)) p) (over-loop n 0 steps e o)
-      (ap (λ (h : Halt). h .why) (loop-end m 3 (full-why 0 n m z p)))
+      (ap (λ (h : Halt). h .«stop_reason») (loop-end m 3 (full-why 0 n m z p)))
   loop-is (suc left) steps {now} {room} {m} {e} r (dead n z p o) =
       stuck n z (rw (loop-stop left m 3 (full-why (suc left) n m z p) refl) p) (over-loop n (suc left) steps e o)
-      (ap (λ (h : Halt). h .why) (loop-stop left m 3 (full-why (suc left) n m z p) refl))
+      (ap (λ (h : Halt). h .«stop_reason») (loop-stop left m 3 (full-why (suc left) n m z p) refl))
   loop-is zero steps {now} {room} {m} {e} r (live l) = by (next-is l)
     where
       by : NextIs m (nextM x m) (next-of horizon e (pop (e .queue))) →

@@ -20,17 +20,17 @@ use Rattle.engine_spec.specs.Reasons.{runs-left}
 use Rattle.engine_spec.specs.Engine.{Ended, left-over}
 use Rattle.engine_spec.specs.Simulate.{Simulation, ended, outcome, unless-full, simulated}
 use Rattle.engine_spec.proofs.Lists.{Each}
-use Rattle.engine_fields.specs.Reads.{name, entities}
+use Rattle.engine_fields.specs.Fields.{name, entities}
 use Rattle.engine_state.specs.Machine.{Machine}
 use Rattle.engine_schedule.specs.Events.{eventM, begunM}
 use Rattle.engine_loop.specs.Loop.{Halt, loopM, closedM}
 use Rattle.engine_refinement.specs.Meaning.{work-of, record-of, cell-at, cells-from, cells-of, run-of, pool-of, Column, Tabled}
 use Rattle.engine_refinement.specs.Events.{Among, GoodWork, EventAt}
-use Rattle.engine_refinement.proofs.Truth.{Valued, entities-are}
+use Rattle.engine_refinement.proofs.Evaluate.{Valued, entities-are}
 use Rattle.engine_refinement.proofs.Checked.{known-value}
-use Rattle.engine_refinement.proofs.Pigeons.{at-most}
+use Rattle.engine_refinement.proofs.Pigeonhole.{at-most}
 use Rattle.engine_refinement.proofs.Relation.{Worded, Live}
-use Rattle.engine_refinement.proofs.Acts.{declared}
+use Rattle.engine_refinement.proofs.Perform.{declared}
 use Rattle.engine_refinement.proofs.Loop.{reasons-of}
 use Rattle.engine_refinement.proofs.Simulated.{Beginning, Result, ends, full, ended-is, runs-none, runs-some}
 use Rattle.engine_refinement.proofs.Lists as lists
@@ -42,7 +42,7 @@ module _ (f x : List ℕ) (ts : List Text) (mo : Model) (tb : Tabled f x ts mo) 
     trace = each (record-of x ts) (p .last .records);
     final-state = each (λ (c : Cell). (c .name, c .value)) (cells-of x ts (p .last .values) (p .last .versions));
     unknown = p .last .reasons;
-    incomplete = reasons-of (p .why) ++ (if eqb (length (p .last .runs)) 0 then [] else runs-left ∷ []);
+    incomplete = reasons-of (p .«stop_reason») ++ (if eqb (length (p .last .runs)) 0 then [] else runs-left ∷ []);
     steps = mo .scenario .limits .max-steps - p .left;
     horizon = mo .scenario .limits .horizon;
   }
@@ -57,8 +57,8 @@ module _ (f x : List ℕ) (ts : List Text) (mo : Model) (tb : Tabled f x ts mo) 
 
   -- an answer, or the number of the area that was full
   pub data Answered (p : Halt) (a : Answer Simulation) : Type 0 where
-    shows : p .last .full ≡ 0 → a ≡ answer (shown p) → p .why ≤ 2 → Kept (p .last) → Answered p a
-    refuses : (n : ℕ) → (n ≡ 0 → ⊥) → p .last .full ≡ n → a ≡ refused n → Answered p a
+    shows : p .last .«overflow» ≡ 0 → a ≡ answer (shown p) → p .«stop_reason» ≤ 2 → Kept (p .last) → Answered p a
+    refuses : (n : ℕ) → (n ≡ 0 → ⊥) → p .last .«overflow» ≡ n → a ≡ refused n → Answered p a
 
   left-is : (n : ℕ) (rs : List Run) → length rs ≡ n → left-over rs ≡ (if eqb n 0 then [] else runs-left ∷ [])
   left-is zero rs h = runs-none f x ts mo tb rs h
@@ -68,7 +68,7 @@ module _ (f x : List ℕ) (ts : List Text) (mo : Model) (tb : Tabled f x ts mo) 
 
   shown-is : (p : Halt) (d : Ended) (now : ℕ) → Live f x ts mo tb now 0 (p .last) (d .engine) →
       d .steps + p .left ≡ mo .scenario .limits .max-steps →
-      d .incomplete ≡ reasons-of (p .why) ++ left-over (d .engine .runs) → outcome mo d ≡ shown p
+      d .incomplete ≡ reasons-of (p .«stop_reason») ++ left-over (d .engine .runs) → outcome mo d ≡ shown p
   unfolding outcome shown
   shown-is p d now l s i =
       let r = left-is (length (p .last .runs)) (d .engine .runs) (ap length (l .runs .is) ∙ lists.each-length (run-of x ts f) (p .last .runs)) in

@@ -19,7 +19,7 @@ use Rattle.reasons.specs.Readable.{text-count, HasText}
 use Rattle.engine_spec.specs.Reasons.{unknown-trigger-condition, toggle-of-unknown, unknown-action-condition, unknown-choose-condition, unsupported-wait}
 use Rattle.engine_spec.specs.Unsupported.{unsupported}
 use Rattle.engine_spec.proofs.Lists.{eqT-same}
-use Rattle.engine_fields.specs.Reads.{textPosition, word, aboutRule, alone, noteReason}
+use Rattle.engine_fields.specs.Fields.{textPosition, word, aboutRule, alone, noteReason}
 use Rattle.engine_fields.proofs.Readable.{start-low}
 use Rattle.engine_refinement.specs.Meaning.{id-at, rule-pool, pool-of, Tabled}
 use Rattle.engine_refinement.specs.Events.{Among}

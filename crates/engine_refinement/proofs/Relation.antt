@@ -38,7 +38,7 @@ use Rattle.engine_spec.specs.Engine.{is-run, of-rule, other-run, of-other-rule,
 use Rattle.engine_spec.proofs.Lists.{Each, tally-end, eqT-same}
 use Rattle.engine_spec.proofs.Runs.{InOrder, Later, order-keep, order-each, order-end, kept-key, once}
 use Rattle.model_walk.proofs.Found.{Case, is-true, is-false, case}
-use Rattle.engine_fields.specs.Reads.{word}
+use Rattle.engine_fields.specs.Fields.{word}
 use Rattle.engine_state.specs.declared.Cells.{Cells}
 use Rattle.engine_state.specs.declared.Told.{Told}
 use Rattle.engine_state.specs.Machine.{Machine, more, put-full, put-counts, put-cells, put-queue, put-records, put-runs, put-reasons}
@@ -47,41 +47,41 @@ use Rattle.engine_trigger.specs.Runs.{no-run}
 use Rattle.engine_refinement.specs.Meaning.{id-at, key-of, cells-of, item-of, Placed, record-of, run-of, pool-of, Tabled}
 use Rattle.engine_refinement.specs.Events.{Among, GoodWork}
 use Rattle.engine_refinement.proofs.Numbers.{more-is}
-use Rattle.engine_refinement.proofs.Truth.{Valued}
+use Rattle.engine_refinement.proofs.Evaluate.{Valued}
 use Rattle.engine_refinement.proofs.Stack.{Places}
 use Rattle.engine_refinement.proofs.Full.{Stuck}
-use Rattle.engine_refinement.proofs.Pigeons.{Differ, at-most, differ-end}
+use Rattle.engine_refinement.proofs.Pigeonhole.{Differ, at-most, differ-end}
 use Rattle.engine_refinement.proofs.Lists as lists
 
 -- the laws of the primitive changes, by cases
-module _ (m : Machine) (z : m .full ≡ 0) where
+module _ (m : Machine) (z : m .«overflow» ≡ 0) where
   add-goes : (s : ℕ) (w : QWork) → ltb (length (m .queue)) (m .queueSize) ≡ true →
       addM s w m ≡ put-queue (m .queue ++ item s w ∷ []) m
   unfolding addM
-  add-goes s w t = rw (eq-eqb (m .full) 0 z, t)
+  add-goes s w t = rw (eq-eqb (m .«overflow») 0 z, t)
 
   add-full : (s : ℕ) (w : QWork) → ltb (length (m .queue)) (m .queueSize) ≡ false → addM s w m ≡ put-full 41 m
   unfolding addM
-  add-full s w t = rw (eq-eqb (m .full) 0 z, t)
+  add-full s w t = rw (eq-eqb (m .«overflow») 0 z, t)
 
   log-goes : (t : Told) (u : Rule) (w : Where) (c : AChange) → ltb (length (m .records)) (m .recordSize) ≡ true →
       logM t u w c m ≡ put-records (m .records ++ entry (m .now) t u w c ∷ []) m
   unfolding logM
-  log-goes t u w c e = rw (eq-eqb (m .full) 0 z, e)
+  log-goes t u w c e = rw (eq-eqb (m .«overflow») 0 z, e)
 
   log-full : (t : Told) (u : Rule) (w : Where) (c : AChange) → ltb (length (m .records)) (m .recordSize) ≡ false →
       logM t u w c m ≡ put-full 42 m
   unfolding logM
-  log-full t u w c e = rw (eq-eqb (m .full) 0 z, e)
+  log-full t u w c e = rw (eq-eqb (m .«overflow») 0 z, e)
 
   run-goes : (i : ℕ) (r : ARun) → ltb (length (m .runs)) (m .runSize) ≡ true →
-      add-runM i r m ≡ put-counts (more (m .made)) (set (m .sequences) i (more (getD (m .sequences) i 0))) (put-runs (m .runs ++ r ∷ []) m)
+      add-runM i r m ≡ put-counts (more (m .«runs_created»)) (set (m .sequences) i (more (getD (m .sequences) i 0))) (put-runs (m .runs ++ r ∷ []) m)
   unfolding add-runM
-  run-goes i r e = rw (eq-eqb (m .full) 0 z, e)
+  run-goes i r e = rw (eq-eqb (m .«overflow») 0 z, e)
 
   run-full : (i : ℕ) (r : ARun) → ltb (length (m .runs)) (m .runSize) ≡ false → add-runM i r m ≡ put-full 43 m
   unfolding add-runM
-  run-full i r e = rw (eq-eqb (m .full) 0 z, e)
+  run-full i r e = rw (eq-eqb (m .«overflow») 0 z, e)
 
 -- what is noted of an area with room, and of one without
 noted-room : (n used size : ℕ) (o : Option ℕ) → o ≡ none → used < size → noted n used size o ≡ none
@@ -165,15 +165,15 @@ module _ (f x : List ℕ) (ts : List Text) (mo : Model) (tb : Tabled f x ts mo) 
   pub record Live (now room : ℕ) (m : Machine) (e : Engine) : Type 0 where
     pub time : m .now ≡ now
     pub soon : now ≤ 86400
-    pub free : m .full ≡ 0
+    pub free : m .«overflow» ≡ 0
     pub calm : e .overflow ≡ none
     pub queue : Queued (m .queue) (e .queue)
     pub records : Recorded (m .records) (e .trace)
     pub runs : Running (m .sequences) (m .runs) (e .runs)
     pub cells : Celled (m .values) (m .versions) (e .cells)
     pub reasons : Reasoned (m .reasons) (e .unknown)
-    pub made : Made (m .made) (m .sequences) (e .made)
-    pub low : Low room (m .made) (m .versions)
+    pub made : Made (m .«runs_created») (m .sequences) (e .made)
+    pub low : Low room (m .«runs_created») (m .versions)
     pub sizes : Sized (m .queueSize) (m .recordSize) (m .runSize) (e .areas)
     pub start : e .start ≡ mo .start
 
@@ -223,7 +223,7 @@ module _ (f x : List ℕ) (ts : List Text) (mo : Model) (tb : Tabled f x ts mo) 
       cases (is-false b) =
           dead 41 (λ o. absurd (omega arith)) (record {
             is =
-                ap (λ (k : Machine). k .full) (add-full m (l .free) t w b);
+                ap (λ (k : Machine). k .«overflow») (add-full m (l .free) t w b);
           }) (noted-full 41 (length
           (e .queue)) (e .areas .queue) (e .overflow) (l .calm) (omega
           (arith, ltb-false (length (m .queue)) (m .queueSize) b, used, l .sizes .queue)))
@@ -265,7 +265,7 @@ module _ (f x : List ℕ) (ts : List Text) (mo : Model) (tb : Tabled f x ts mo) 
       cases (is-false b) =
           dead 42 (λ o. absurd (omega arith)) (record {
             is =
-                ap (λ (k : Machine). k .full) (log-full m (l .free) t u w c b);
+                ap (λ (k : Machine). k .«overflow») (log-full m (l .free) t u w c b);
           }) (noted-full 42 (length
           (e .trace)) (e .areas .records) (e .overflow) (l .calm) (omega
           (arith, ltb-false (length (m .records)) (m .recordSize) b, used, l .sizes .records-are)))
@@ -273,7 +273,7 @@ module _ (f x : List ℕ) (ts : List Text) (mo : Model) (tb : Tabled f x ts mo) 
   -- ---- other cells, other runs
 
   pub cells-are : {now s t : ℕ} {m : Machine} {e : Engine} → Live now s m e → (c : Cells) (cs : List Cell) →
-      Celled (c .values) (c .versions) cs → Low t (m .made) (c .versions) →
+      Celled (c .values) (c .versions) cs → Low t (m .«runs_created») (c .versions) →
       Live now t (put-cells c m) (with-cells cs e)
   unfolding with-cells
   cells-are l c cs g h = record { time = l .time; soon = l .soon; free = l .free; calm = l .calm; queue = l .queue; records = l .records; runs = l .runs; cells = g; reasons = l .reasons; made = l .made; low = h; sizes = l .sizes; start = l .start }
@@ -474,7 +474,7 @@ module _ (f x : List ℕ) (ts : List Text) (mo : Model) (tb : Tabled f x ts mo) 
       used : length (e .runs) ≡ length (m .runs)
       used = ap length (l .runs .is) ∙ lists.each-length (run-of x ts f) (m .runs)
 
-      made-low : m .made < 4294967295
+      made-low : m .«runs_created» < 4294967295
       made-low = omega (arith, l .low .made-low)
 
       seq-low : getD (m .sequences) i 0 < 4294967295
@@ -490,18 +490,18 @@ module _ (f x : List ℕ) (ts : List Text) (mo : Model) (tb : Tabled f x ts mo) 
             calm = noted-room 43 (length (e .runs)) (e .areas .runs) (e .overflow) (l .calm) (omega (arith, ltb-true (length (m .runs)) (m .runSize) b, used, l .sizes .runs));
             queue = l .queue;
             records = l .records;
-            runs = more-running (m .sequences) i (m .made) h (e .made) (l .made) seq-low (m .runs) (e .runs) (l .runs) r w;
+            runs = more-running (m .sequences) i (m .«runs_created») h (e .made) (l .made) seq-low (m .runs) (e .runs) (l .runs) r w;
             cells = l .cells;
             reasons = l .reasons;
-            made = subst (λ (t : Text). Made (more (m .made)) (set (m .sequences) i (more (getD (m .sequences) i 0))) (e .made ++ t ∷ [])) (ap (id-at x ts) (sym (w .automation))) (more-made (m .sequences) i (m .made) h (e .made) (l .made) seq-low made-low);
-            low = record { made-low = omega (arith, l .low .made-low, more-is (m .made) made-low); version-low = λ e. omega (arith, l .low .version-low e) };
+            made = subst (λ (t : Text). Made (more (m .«runs_created»)) (set (m .sequences) i (more (getD (m .sequences) i 0))) (e .made ++ t ∷ [])) (ap (id-at x ts) (sym (w .automation))) (more-made (m .sequences) i (m .«runs_created») h (e .made) (l .made) seq-low made-low);
+            low = record { made-low = omega (arith, l .low .made-low, more-is (m .«runs_created») made-low); version-low = λ e. omega (arith, l .low .version-low e) };
             sizes = l .sizes;
             start = l .start;
           }))
       cases (is-false b) =
           dead 43 (λ o. absurd (omega arith)) (record {
             is =
-                ap (λ (k : Machine). k .full) (run-full m (l .free) i r b);
+                ap (λ (k : Machine). k .«overflow») (run-full m (l .free) i r b);
           }) (noted-full 43 (length
           (e .runs)) (e .areas .runs) (e .overflow) (l .calm) (omega
           (arith, ltb-false (length (m .runs)) (m .runSize) b, used, l .sizes .runs)))

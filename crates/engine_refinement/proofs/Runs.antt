@@ -26,7 +26,7 @@ use Rattle.engine_spec.specs.Modes.{decide}
 use Rattle.engine_spec.specs.Modes as modes
 use Rattle.engine_spec.specs.Engine.{in-line, of-rule, store, new-run, _then_, next-step, log-rule, let-go, release, finish, begin, carry-out}
 use Rattle.engine_spec.proofs.Closed.{c-log, c-release, c-begin}
-use Rattle.engine_fields.specs.Reads.{word}
+use Rattle.engine_fields.specs.Fields.{word}
 use Rattle.engine_state.specs.Machine.{Machine, more}
 use Rattle.engine_state.specs.Changes.{log-ruleM}
 use Rattle.engine_modes.specs.Modes.{nowM, newRun, begin-runM, begin-nowM, begin-queuedM, begin-laterM, dropM, stop-startM, decideM, decidedM, carry-withM, carry-outM}
@@ -42,7 +42,7 @@ use Rattle.engine_refinement.proofs.Overflow.{overflow-stays}
 use Rattle.engine_refinement.proofs.Relation.{GoodRun, Made, NewRun, Live, Sim, live, follow, weaker, runs-are, add-run-is, stored, removed, dropped, count-is, line-test, no-rule}
 use Rattle.engine_refinement.proofs.Words.{Tells}
 use Rattle.engine_refinement.proofs.Pool.{pool-is}
-use Rattle.engine_refinement.proofs.Writes.{Over, log-rule-is, now-is}
+use Rattle.engine_refinement.proofs.Update.{Over, log-rule-is, now-is}
 use Rattle.engine_refinement.proofs.Lists as lists
 
 over-rule : (n now : ℕ) (K : Kind) (t : Text) (e : Engine) → Over n e → Over n (log-rule now K t e)
@@ -212,9 +212,9 @@ module _ (f x : List ℕ) (ts : List Text) (mo : Model) (tb : Tabled f x ts mo) 
   pass-is i h = record { before = row i h .before; after = row i h .after; is = row i h .checked; told = pool-is f x ts mo tb i h .told }
 
   module _ {now s : ℕ} {m : Machine} {e : Engine} (l : L now (suc s) m e) (i : ℕ) (h : i < rules) where
-    begins-here : (later : Bool) → Begins (m .sequences) i later (e .made) (newRun f x i later (m .made) (m .sequences))
+    begins-here : (later : Bool) → Begins (m .sequences) i later (e .made) (newRun f x i later (m .«runs_created») (m .sequences))
     begins-here later =
-        begins i h later (m .made) (m .sequences) (e .made) (l .made)
+        begins i h later (m .«runs_created») (m .sequences) (e .made) (l .made)
         (omega (arith, l .low .made-low)) (pass-is i h)
 
     module _ (r : ARun) (b : Begins (m .sequences) i false (e .made) r) where
@@ -263,11 +263,11 @@ module _ (f x : List ℕ) (ts : List Text) (mo : Model) (tb : Tabled f x ts mo) 
 
     pub begin-now-is : S now s (begin-nowM f x i m) (begin now (A i) false e)
     unfolding begin-nowM
-    begin-now-is = begin-run-is (newRun f x i false (m .made) (m .sequences)) (begins-here false)
+    begin-now-is = begin-run-is (newRun f x i false (m .«runs_created») (m .sequences)) (begins-here false)
 
     pub begin-later-is : S now s (begin-laterM f x i m) (begin now (A i) true e)
     unfolding begin-laterM
-    begin-later-is = begin-queued-is (newRun f x i true (m .made) (m .sequences)) (begins-here true)
+    begin-later-is = begin-queued-is (newRun f x i true (m .«runs_created») (m .sequences)) (begins-here true)
 
   cancelling : Says 5 0 Kind.cancel
   unfolding kind-of kind-number detail-number

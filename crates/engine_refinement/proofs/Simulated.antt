@@ -28,23 +28,23 @@ use Rattle.engine_spec.specs.Simulate.{ended}
 use Rattle.engine_spec.proofs.Lists.{Each}
 use Rattle.engine_spec.proofs.Closed.{end-closed, c-adds}
 use Rattle.model_walk.proofs.Found.{Case, is-true, is-false, case}
-use Rattle.engine_fields.specs.Reads.{stale, entities}
+use Rattle.engine_fields.specs.Fields.{stale, entities}
 use Rattle.engine_state.specs.Machine.{Machine, put-now}
 use Rattle.engine_state.specs.Changes.{addM, logM, log-plainM}
-use Rattle.engine_update.specs.Writes.{expiryM}
+use Rattle.engine_update.specs.Update.{expiryM}
 use Rattle.engine_schedule.specs.Events.{eventM, add-eventM, add-eventsM, expiriesM, add-expiriesM, begunM}
 use Rattle.engine_loop.specs.Loop.{Halt, halt, loopM, horizonM, closedM}
 use Rattle.engine_refinement.specs.Meaning.{kind-of, item-of, cell-at, cells-from, cells-of, run-of, pool-of, Tabled}
 use Rattle.engine_refinement.specs.Events.{Among}
 pub use Rattle.engine_refinement.specs.Events.{EventAt}
-use Rattle.engine_refinement.proofs.Truth.{Valued, entities-are}
+use Rattle.engine_refinement.proofs.Evaluate.{Valued, entities-are}
 use Rattle.engine_refinement.proofs.Full.{Stuck, s-add, s-expiry, s-log-plain}
 use Rattle.engine_refinement.proofs.Overflow.{overflow-stays}
-use Rattle.engine_refinement.proofs.Pigeons.{Differ}
+use Rattle.engine_refinement.proofs.Pigeonhole.{Differ}
 use Rattle.engine_refinement.proofs.Pool.{mem-left, among-to, among-self}
 use Rattle.engine_refinement.proofs.Relation.{Live, Sim, live, dead, follow, add-is}
 use Rattle.engine_refinement.proofs.Words.{Tells}
-use Rattle.engine_refinement.proofs.Writes.{Over, log-plain-is, expiry-is}
+use Rattle.engine_refinement.proofs.Update.{Over, log-plain-is, expiry-is}
 use Rattle.engine_refinement.proofs.Loop.{reasons-of, Ends, lives, stuck, loop-is}
 use Rattle.engine_refinement.proofs.Lists as lists
 use Rattle.engine_refinement.proofs.Triggers.{adds-end}
@@ -118,8 +118,8 @@ module _ (f x : List ℕ) (ts : List Text) (mo : Model) (tb : Tabled f x ts mo) 
   -- the machine before a simulation with these areas and cells
   pub record Beginning (m : Machine) (areas : Areas) (cells : List Cell) : Type 0 where
     pub now : m .now ≡ 0
-    pub full : m .full ≡ 0
-    pub made : m .made ≡ 0
+    pub full : m .«overflow» ≡ 0
+    pub made : m .«runs_created» ≡ 0
     pub sequences : (i : ℕ) → getD (m .sequences) i 0 ≡ 0
     pub sequences-long : length (m .sequences) ≡ 32
     pub cells-are : cells ≡ cells-of x ts (m .values) (m .versions)
@@ -204,7 +204,7 @@ module _ (f x : List ℕ) (ts : List Text) (mo : Model) (tb : Tabled f x ts mo) 
   add-same : (s : ℕ) (w : QWork) (m : Machine) → Same m (addM s w m)
   unfolding addM
   add-same s w m =
-      by (eqb (m .full) 0) (ltb (length (m .queue)) (m .queueSize)) _ _ (record { values = refl; versions = refl })
+      by (eqb (m .«overflow») 0) (ltb (length (m .queue)) (m .queueSize)) _ _ (record { values = refl; versions = refl })
       (record { values = refl; versions = refl })
     where
       by : (a b : Bool) (p q : Machine) → Same m p → Same m q → Same m (if a then (if b then p else q) else m)
@@ -268,7 +268,7 @@ module _ (f x : List ℕ) (ts : List Text) (mo : Model) (tb : Tabled f x ts mo) 
   log-same : (k : ℕ) (m : Machine) → Same m (log-plainM k m)
   unfolding log-plainM logM
   log-same k m =
-      by (eqb (m .full) 0) (ltb (length (m .records)) (m .recordSize)) _ _ (record { values = refl; versions = refl })
+      by (eqb (m .«overflow») 0) (ltb (length (m .records)) (m .recordSize)) _ _ (record { values = refl; versions = refl })
       (record { values = refl; versions = refl })
     where
       by : (a b : Bool) (p q : Machine) → Same m p → Same m q → Same m (if a then (if b then p else q) else m)
@@ -309,8 +309,8 @@ module _ (f x : List ℕ) (ts : List Text) (mo : Model) (tb : Tabled f x ts mo) 
 
   -- the same steps, reasons, records, cells and runs; or the area that was full
   pub data Result (p : Halt) (d : Ended) (total : ℕ) : Type 0 where
-    ends : (now : ℕ) → L now 0 (p .last) (d .engine) → d .steps + p .left ≡ total → p .why ≤ 2 →
-        d .incomplete ≡ reasons-of (p .why) ++ left-over (d .engine .runs) → Result p d total
+    ends : (now : ℕ) → L now 0 (p .last) (d .engine) → d .steps + p .left ≡ total → p .«stop_reason» ≤ 2 →
+        d .incomplete ≡ reasons-of (p .«stop_reason») ++ left-over (d .engine .runs) → Result p d total
     full : (n : ℕ) → (n ≡ 0 → ⊥) → Stuck n (p .last) → d .engine .overflow ≡ some n → Result p d total
 
   pub runs-none : (rs : List Run) → length rs ≡ 0 → left-over rs ≡ []
@@ -325,7 +325,7 @@ module _ (f x : List ℕ) (ts : List Text) (mo : Model) (tb : Tabled f x ts mo) 
 
   closed-stuck : (n : ℕ) (p : Halt) → (n ≡ 0 → ⊥) → Stuck n (p .last) → Stuck n (closedM x p .last)
   unfolding closedM horizonM
-  closed-stuck n p z h = by (eqb (p .why) 0) (eqb (length (p .last .runs)) 0)
+  closed-stuck n p z h = by (eqb (p .«stop_reason») 0) (eqb (length (p .last .runs)) 0)
     where
       by : (a b : Bool) →
           Stuck n
@@ -352,7 +352,7 @@ module _ (f x : List ℕ) (ts : List Text) (mo : Model) (tb : Tabled f x ts mo) 
   unfolding log append
   log-runs-same h e = refl
 
-  module _ (p : Halt) (d : Ended) (total now : ℕ) (l : L now 0 (p .last) (d .engine)) (steps : d .steps + p .left ≡ total) (low : p .why ≤ 2) (told : d .incomplete ≡ reasons-of (p .why)) where
+  module _ (p : Halt) (d : Ended) (total now : ℕ) (l : L now 0 (p .last) (d .engine)) (steps : d .steps + p .left ≡ total) (low : p .«stop_reason» ≤ 2) (told : d .incomplete ≡ reasons-of (p .«stop_reason»)) where
     long : length (d .engine .runs) ≡ length (p .last .runs)
     long = ap length (l .runs .is) ∙ lists.each-length (run-of x ts f) (p .last .runs)
 
@@ -365,27 +365,27 @@ module _ (f x : List ℕ) (ts : List Text) (mo : Model) (tb : Tabled f x ts mo) 
     unchanged e t k o =
         rw (e, kept d t k o) (ends now l steps low (ap (λ (y : List Text). y ++ left-over (d .engine .runs)) told))
 
-    other-why : eqb (p .why) 0 ≡ false → closedM x p ≡ p
+    other-why : eqb (p .«stop_reason») 0 ≡ false → closedM x p ≡ p
     unfolding closedM
     other-why b = rw b
 
     other-runs : eqb (length (p .last .runs)) 0 ≡ false → closedM x p ≡ p
     unfolding closedM
-    other-runs b = by (eqb (p .why) 0)
+    other-runs b = by (eqb (p .«stop_reason») 0)
       where
         by : (a : Bool) →
             (if a then (if eqb (length (p .last .runs)) 0 then halt (horizonM x (p .last)) (p .left) 0 else p) else p) ≡ p
         by true = rw b
         by false = refl
 
-    finished : eqb (p .why) 0 ≡ true → eqb (length (p .last .runs)) 0 ≡ true →
+    finished : eqb (p .«stop_reason») 0 ≡ true → eqb (length (p .last .runs)) 0 ≡ true →
         closedM x p ≡ halt (log-plainM 9 (put-now (getD x 2 0) (p .last))) (p .left) 0
     unfolding closedM horizonM
     finished a b = rw (a, b)
 
     closed-live : Result (closedM x p) (closed horizon d) total
     unfolding reasons-of
-    closed-live = by (case (eqb (p .why) 0)) (case (eqb (length (p .last .runs)) 0))
+    closed-live = by (case (eqb (p .«stop_reason») 0)) (case (eqb (length (p .last .runs)) 0))
       where
         spent : (w : ℕ) → eqb w 0 ≡ false → (k : List Text) → (t : Text) × ((j : List Text) × (reasons-of w ++ k ≡ t ∷ j))
         spent w b k = or (case (eqb w 1))
@@ -394,7 +394,7 @@ module _ (f x : List ℕ) (ts : List Text) (mo : Model) (tb : Tabled f x ts mo) 
             or (is-true c) = (space-spent, (k, rw (b, c)))
             or (is-false c) = (steps-spent, (k, rw (b, c)))
 
-        by : Case (eqb (p .why) 0) → Case (eqb (length (p .last .runs)) 0) → Result (closedM x p) (closed horizon d) total
+        by : Case (eqb (p .«stop_reason») 0) → Case (eqb (length (p .last .runs)) 0) → Result (closedM x p) (closed horizon d) total
         by (is-true a) (is-true b) =
             let n : left-over (d .engine .runs) ≡ [] = runs-none (d .engine .runs) (long ∙ eqb-true _ _ b) in
             let i : d .incomplete ≡ [] = told ∙ rw a in
@@ -414,7 +414,7 @@ module _ (f x : List ℕ) (ts : List Text) (mo : Model) (tb : Tabled f x ts mo) 
             let i : d .incomplete ≡ [] = told ∙ rw a in
             unchanged (other-runs b) runs-left [] (ap (λ (y : List Text). y ++ left-over (d .engine .runs)) i ∙ n)
         by (is-false a) c =
-            let o = spent (p .why) a (left-over (d .engine .runs)) in
+            let o = spent (p .«stop_reason») a (left-over (d .engine .runs)) in
             unchanged (other-why a) (o .0) (o .1 .0) (ap (λ (y : List Text). y ++ left-over (d .engine .runs)) told ∙ o .1 .1)
 
   pub closed-is : (p : Halt) (d : Ended) (total : ℕ) → Ends f x ts mo tb p d total →

@@ -16,7 +16,7 @@ use Rattle.runs.specs.Runs.{placeWord, placeIn}
 use Rattle.runs.specs.declared.Run.{Run}
 use Rattle.runs.specs.declared.Place.{Place}
 use Rattle.engine_spec.specs.Engine.{_then_}
-use Rattle.engine_fields.specs.Reads.{two, listWord}
+use Rattle.engine_fields.specs.Fields.{two, listWord}
 use Rattle.engine_state.specs.Machine.{later}
 use Rattle.engine_evaluate.specs.Actions.{actionM, put-places, listM, wordM, topM, nextM, steppedM}
 use Rattle.engine_refinement.specs.Meaning.{found-actions, list-of, actions-at, pool-of, Tabled}

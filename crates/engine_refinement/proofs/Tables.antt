@@ -26,7 +26,7 @@ use Rattle.model_order.proofs.Places.{in-order, same-place, texts-ascend, text-
 use Rattle.engine_spec.proofs.Lists.{Case, is-true, is-false, case, eqT-same}
 use Rattle.engine_spec.proofs.Distinct.{answer-eq, refused-answer, when-inv, Fresh, accepted-fresh}
 use Rattle.reasons.specs.Readable.{text-count}
-use Rattle.engine_fields.specs.Reads.{two, name, stale, word}
+use Rattle.engine_fields.specs.Fields.{two, name, stale, word}
 use Rattle.engine_window.specs.Window.{startM}
 use Rattle.engine_refinement.specs.Meaning.{stale-of, mode-number, pool-of, Row, Column, Tabled}
 use Rattle.engine_refinement.proofs.Numbers.{two-is}

@@ -30,9 +30,9 @@ use Rattle.engine_spec.proofs.Lists.{keep-append}
 use Rattle.engine_spec.proofs.Closed.{c-admit, c-offers}
 use Rattle.model_walk.proofs.Found.{Case, is-true, is-false, case, counted-found}
 use Rattle.model_parts.proofs.Stands.{more}
-use Rattle.engine_fields.specs.Reads.{two, word, aboutRule}
-use Rattle.engine_fields.specs.Reads as reads
-use Rattle.engine_evaluate.specs.Truths.{numberM, matchesM, anyM, allM}
+use Rattle.engine_fields.specs.Fields.{two, word, aboutRule}
+use Rattle.engine_fields.specs.Fields as reads
+use Rattle.engine_evaluate.specs.Evaluate.{numberM, matchesM, anyM, allM}
 use Rattle.engine_evaluate.specs.declared.Truth.{Truth}
 use Rattle.engine_evaluate.specs.declared.Truth.the-variants.{Yes, No, Unknown}
 use Rattle.engine_state.specs.declared.Move.{Move}
@@ -43,13 +43,13 @@ use Rattle.engine_trigger.specs.Runs.{no-run, runM, put-runM, phaseM, wake-phas
 use Rattle.engine_trigger.specs.Triggers.{admitM, log-triggerM, offer-asM, offerM, offer-firstM, triggerM}
 use Rattle.engine_refinement.specs.Meaning.{truth-of, verdict-of, found-trigger, id-at, kind-of, run-of, wait-of, Row, Tabled}
 use Rattle.engine_refinement.proofs.Numbers.{two-is, most-is, source-is}
-use Rattle.engine_refinement.proofs.Truth.{Moved, matches-is, any-is, all-is}
+use Rattle.engine_refinement.proofs.Evaluate.{Moved, matches-is, any-is, all-is}
 use Rattle.engine_refinement.proofs.Full.{s-admit, s-offer, s-wake-one}
 use Rattle.engine_refinement.proofs.Overflow.{overflow-stays}
 use Rattle.engine_refinement.proofs.Relation.{GoodRun, GoodPhase, Running, Live, Sim, live, dead, follow, weaker, runs-are, placed, uncertain-is, no-rule}
 use Rattle.engine_refinement.proofs.Words.{Tells}
 use Rattle.engine_refinement.proofs.Pool.{pool-is, trigger-reason}
-use Rattle.engine_refinement.proofs.Writes.{Over, log-at-is, now-is}
+use Rattle.engine_refinement.proofs.Update.{Over, log-at-is, now-is}
 use Rattle.engine_refinement.proofs.Runs.{row, id-is, run-good, run-is, carry-is}
 use Rattle.engine_refinement.proofs.Lists as lists
 use Rattle.reasons.specs.Kinds as kinds
@@ -173,7 +173,7 @@ module _ (f : List ℕ) (v : Move) where
 
   next-runs : (r : ARun) (t : ℕ) (m : Machine) → next-stepM r t m .runs ≡ m .runs
   unfolding next-stepM addM
-  next-runs r t m = by (eqb (m .full) 0) (ltb (length (m .queue)) (m .queueSize)) _ _ refl refl
+  next-runs r t m = by (eqb (m .«overflow») 0) (ltb (length (m .queue)) (m .queueSize)) _ _ refl refl
     where
       by : (a b : Bool) (p q : Machine) → p .runs ≡ m .runs → q .runs ≡ m .runs →
           (if a then (if b then p else q) else m) .runs ≡ m .runs

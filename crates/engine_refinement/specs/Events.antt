@@ -10,7 +10,7 @@ use Rattle.queue.specs.declared.Work.{Work as QWork}
 use Rattle.queue.specs.declared.Work.the-variants as queue
 use Rattle.engine_spec.specs.Each.{Each}
 use Rattle.engine_spec.specs.Records.{Work}
-use Rattle.engine_fields.specs.Reads.{name}
+use Rattle.engine_fields.specs.Fields.{name}
 use Rattle.engine_schedule.specs.Events.{eventM}
 use Rattle.engine_refinement.specs.Meaning.{work-of, Tabled}
 

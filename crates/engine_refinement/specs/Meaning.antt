@@ -43,7 +43,7 @@ use Rattle.engine_spec.specs.Unsupported.{unsupported}
 use Rattle.engine_spec.specs.Engine.{_then_}
 use Rattle.reasons.specs.Readable.{text-count}
 use Rattle.engine_window.specs.Window.{startM}
-use Rattle.engine_fields.specs.Reads.{name, stale, word, entities}
+use Rattle.engine_fields.specs.Fields.{name, stale, word, entities}
 use Rattle.engine_evaluate.specs.declared.Truth.{Truth}
 use Rattle.engine_evaluate.specs.declared.Truth.the-variants as truth
 
@@ -168,7 +168,7 @@ module _ (x : List ℕ) (ts : List Text) where
     actions-at (suc d) l = list-of (placeIn (getD l d 0)) then actions-at d l
 
     unfoldable pub wait-of : Wait → Waiting
-    wait-of w = record { trigger = found-trigger (trigger ts f (w .trigger)); deadline = w .deadline; continue = w .onward; source = source-of (w .source) }
+    wait-of w = record { trigger = found-trigger (trigger ts f (w .trigger)); deadline = w .deadline; continue = w .«continue_on_timeout»; source = source-of (w .source) }
 
     abbrev pub waiting-of : Phase → Option Waiting
     waiting-of phase.Going = none

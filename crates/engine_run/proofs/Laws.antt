@@ -42,32 +42,32 @@ module _ {f x l : List ℕ} {n : ℕ} {st s : State} {d e : Ended} {q q' q₂ a 
 
 -- ---- the answer
 
-no-is : (total : ℕ) (p : Halt) → (p .last .full ≡ 0 → ⊥) → refusalM (p .last .full) ≡ answerM total p
+no-is : (total : ℕ) (p : Halt) → (p .last .«overflow» ≡ 0 → ⊥) → refusalM (p .last .«overflow») ≡ answerM total p
 unfolding answerM
-no-is total p g = rw (ne-eqb (p .last .full) 0 g)
+no-is total p g = rw (ne-eqb (p .last .«overflow») 0 g)
 
-yes-is : (total : ℕ) (p : Halt) → p .last .full ≡ 0 →
-    record { refused = 0; steps = total - p .left; records = length (p .last .records); reasons = length (p .last .reasons); why = p .why; waiting = not (eqb (length (p .last .runs)) 0); values = p .last .values } ≡ answerM total p
+yes-is : (total : ℕ) (p : Halt) → p .last .«overflow» ≡ 0 →
+    record { refused = 0; steps = total - p .left; records = length (p .last .records); reasons = length (p .last .reasons); «stop_reason» = p .«stop_reason»; «runs_left» = not (eqb (length (p .last .runs)) 0); values = p .last .values } ≡ answerM total p
 unfolding answerM
-yes-is total p g = rw (eq-eqb (p .last .full) 0 g)
+yes-is total p g = rw (eq-eqb (p .last .«overflow») 0 g)
 
 unfoldable simulation : (steps records reasons why active : ℕ) → List ℕ → Simulation
-simulation s r n w a v = record { refused = 0; steps = s; records = r; reasons = n; why = w; waiting = not (eqb a 0); values = v }
+simulation s r n w a v = record { refused = 0; steps = s; records = r; reasons = n; «stop_reason» = w; «runs_left» = not (eqb a 0); values = v }
 
-pub told-is : {f q a r u v n c : List ℕ} {total : ℕ} {e : Ended} (p : Halt) → Halts f q a r u v n c total e p → p .last .full ≡ 0 → answer-endedM e v ≡ answerM total p
+pub told-is : {f q a r u v n c : List ℕ} {total : ℕ} {e : Ended} (p : Halt) → Halts f q a r u v n c total e p → p .last .«overflow» ≡ 0 → answer-endedM e v ≡ answerM total p
 unfolding answer-endedM simulation
 told-is {v = v} {total = total} {e = e} p g z =
     let m = p .last in
     let er : e .state .records ≡ length (m .records) = g .stands .held .records .many ∙ ap (λ n. length (n .records)) (g .stands .is) in
     let en : e .state .reasons ≡ length (m .reasons) = g .stands .held .reasons .many ∙ ap (λ n. length (n .reasons)) (g .stands .is) in
-    let ea : e .state .active ≡ length (m .runs) = g .stands .held .runs .many ∙ ap (λ n. length (n .runs)) (g .stands .is) in
+    let ea : e .state .«live_runs» ≡ length (m .runs) = g .stands .held .runs .many ∙ ap (λ n. length (n .runs)) (g .stands .is) in
     let ev : v ≡ m .values = ap (λ n. n .values) (g .stands .is) in
-    ap (λ i. simulation i (e .state .records) (e .state .reasons) (e .why) (e .state .active) v) (g .steps)
-    ∙ ap (λ i. simulation (total - p .left) i (e .state .reasons) (e .why) (e .state .active) v) er
-    ∙ ap (λ i. simulation (total - p .left) (length (m .records)) i (e .why) (e .state .active) v) en
-    ∙ ap (λ i. simulation (total - p .left) (length (m .records)) (length (m .reasons)) i (e .state .active) v) (g .why)
-    ∙ ap (λ i. simulation (total - p .left) (length (m .records)) (length (m .reasons)) (p .why) i v) ea
-    ∙ ap (λ i. simulation (total - p .left) (length (m .records)) (length (m .reasons)) (p .why) (length (m .runs)) i) ev
+    ap (λ i. simulation i (e .state .records) (e .state .reasons) (e .«stop_reason») (e .state .«live_runs») v) (g .steps)
+    ∙ ap (λ i. simulation (total - p .left) i (e .state .reasons) (e .«stop_reason») (e .state .«live_runs») v) er
+    ∙ ap (λ i. simulation (total - p .left) (length (m .records)) i (e .«stop_reason») (e .state .«live_runs») v) en
+    ∙ ap (λ i. simulation (total - p .left) (length (m .records)) (length (m .reasons)) i (e .state .«live_runs») v) (g .«stop_reason»)
+    ∙ ap (λ i. simulation (total - p .left) (length (m .records)) (length (m .reasons)) (p .«stop_reason») i v) ea
+    ∙ ap (λ i. simulation (total - p .left) (length (m .records)) (length (m .reasons)) (p .«stop_reason») (length (m .runs)) i) ev
     ∙ yes-is total p z
 
 -- ---- the areas at the start
@@ -97,15 +97,15 @@ module _ (f : List ℕ) (c : Cells) (so-far : ℕ) (q q₁ a a₁ r r₁ u : Lis
     halted t h = (subst (λ z. Wholly f x l n z e q₁ q₂ a₁ a₂ r₁ r₂ u u₂ (c .values) v (c .versions) i (replicate 32 0) j) is w) .does (nothing-yet (length q / 5) (length a / 13) (length r / 28) t) (held-none t h)
 
     -- where the loop halts the areas hold the items and runs that are left
-    pub no-items : (t : List Text) → Holds f t so-far u → (q₃ : List ℕ) → q₃ ≡ cleared q₂ (e .state .first * 5) (e .state .items * 5) → q₃ ≡ replicate (length q₂) 0
+    pub no-items : (t : List Text) → Holds f t so-far u → (q₃ : List ℕ) → q₃ ≡ cleared q₂ (e .state .«queue_start» * 5) (e .state .items * 5) → q₃ ≡ replicate (length q₂) 0
     no-items t h q₃ c =
         let left = halted t h .stands .held in
-        queue.none-left q₂ q₃ (e .state .first) (e .state .items) _ (sym (left .queue .many)) (left .queue .is) (w .items-fit) c
+        queue.none-left q₂ q₃ (e .state .«queue_start») (e .state .items) _ (sym (left .queue .many)) (left .queue .is) (w .items-fit) c
 
-    pub no-runs : (t : List Text) → Holds f t so-far u → (r₃ : List ℕ) → r₃ ≡ cleared r₂ 0 (e .state .active * 28) → r₃ ≡ replicate (length r₂) 0
+    pub no-runs : (t : List Text) → Holds f t so-far u → (r₃ : List ℕ) → r₃ ≡ cleared r₂ 0 (e .state .«live_runs» * 28) → r₃ ≡ replicate (length r₂) 0
     no-runs t h r₃ c =
         let left = halted t h .stands .held in
-        none-of-runs r₂ r₃ (e .state .active) _ (sym (left .runs .many)) (left .runs .is) (w .runs-fit) c
+        none-of-runs r₂ r₃ (e .state .«live_runs») _ (sym (left .runs .many)) (left .runs .is) (w .runs-fit) c
 
     same-records : length a₂ ≡ length a
     same-records = w .records ∙ zeros a a₁ ea
@@ -113,7 +113,7 @@ module _ (f : List ℕ) (c : Cells) (so-far : ℕ) (q q₁ a a₁ r r₁ u : Lis
     texts-are : {g y : List ℕ} {t : List Text} {k : ℕ} → Holds g t k y → Holds g t (length t) y
     texts-are {g} {y} {t} h = subst (λ k. Holds g t k y) (h .many) h
 
-    pub answered : (q₃ r₃ : List ℕ) (s : Simulation) → q₃ ≡ cleared q₂ (e .state .first * 5) (e .state .items * 5) → r₃ ≡ cleared r₂ 0 (e .state .active * 28) → e .state .full ≡ 0 → s ≡ answer-endedM e v → Simulates f x l n c so-far s q q₃ a a₂ r r₃ u u₂
+    pub answered : (q₃ r₃ : List ℕ) (s : Simulation) → q₃ ≡ cleared q₂ (e .state .«queue_start» * 5) (e .state .items * 5) → r₃ ≡ cleared r₂ 0 (e .state .«live_runs» * 28) → e .state .«overflow» ≡ 0 → s ≡ answer-endedM e v → Simulates f x l n c so-far s q q₃ a a₂ r r₃ u u₂
     answered q₃ r₃ s cq cr z es = record {
       queue = λ t h. no-items t h q₃ cq ∙ ap (λ k. replicate k 0) (w .queue ∙ zeros q q₁ eq);
       runs = λ t h. no-runs t h r₃ cr ∙ ap (λ k. replicate k 0) (w .runs ∙ zeros r r₁ er);
@@ -122,14 +122,14 @@ module _ (f : List ℕ) (c : Cells) (so-far : ℕ) (q q₁ a a₁ r r₁ u : Lis
       where
         by : (p : Halt) → Halts f q₂ a₂ r₂ u₂ v i j (getD x 3 0) e p → Answers f x s a a₂ u₂ p
         by p g =
-            let zero : p .last .full ≡ 0 = sym (ap (λ m. m .full) (g .stands .is)) ∙ z in
+            let zero : p .last .«overflow» ≡ 0 = sym (ap (λ m. m .«overflow») (g .stands .is)) ∙ z in
             record {
               answer = es ∙ told-is p g zero;
-              records = rw (eq-eqb (p .last .full) 0 zero) (g .stands .held .records .is ∙ ap (λ k. area recordWords k (g .stands .content .records)) same-records ∙ ap (λ m. area recordWords (length a) (m .records)) (g .stands .is));
+              records = rw (eq-eqb (p .last .«overflow») 0 zero) (g .stands .held .records .is ∙ ap (λ k. area recordWords k (g .stands .content .records)) same-records ∙ ap (λ m. area recordWords (length a) (m .records)) (g .stands .is));
               reasons = subst (λ m. Holds f (m .reasons) (length (m .reasons)) u₂) (g .stands .is) (texts-are (g .stands .held .reasons));
             }
 
-    pub refused : (q₃ r₃ a₃ : List ℕ) (s : Simulation) → q₃ ≡ cleared q₂ (e .state .first * 5) (e .state .items * 5) → r₃ ≡ cleared r₂ 0 (e .state .active * 28) → a₃ ≡ replicate (length a₂) 0 → (e .state .full ≡ 0 → ⊥) → s ≡ refusalM (e .state .full) → Simulates f x l n c so-far s q q₃ a a₃ r r₃ u u₂
+    pub refused : (q₃ r₃ a₃ : List ℕ) (s : Simulation) → q₃ ≡ cleared q₂ (e .state .«queue_start» * 5) (e .state .items * 5) → r₃ ≡ cleared r₂ 0 (e .state .«live_runs» * 28) → a₃ ≡ replicate (length a₂) 0 → (e .state .«overflow» ≡ 0 → ⊥) → s ≡ refusalM (e .state .«overflow») → Simulates f x l n c so-far s q q₃ a a₃ r r₃ u u₂
     refused q₃ r₃ a₃ s cq cr ca z es = record {
       queue = λ t h. no-items t h q₃ cq ∙ ap (λ k. replicate k 0) (w .queue ∙ zeros q q₁ eq);
       runs = λ t h. no-runs t h r₃ cr ∙ ap (λ k. replicate k 0) (w .runs ∙ zeros r r₁ er);
@@ -138,9 +138,9 @@ module _ (f : List ℕ) (c : Cells) (so-far : ℕ) (q q₁ a a₁ r r₁ u : Lis
       where
         by : (p : Halt) → Halts f q₂ a₂ r₂ u₂ v i j (getD x 3 0) e p → Answers f x s a a₃ u₂ p
         by p g =
-            let full : e .state .full ≡ p .last .full = ap (λ m. m .full) (g .stands .is) in
+            let full : e .state .«overflow» ≡ p .last .«overflow» = ap (λ m. m .«overflow») (g .stands .is) in
             record {
               answer = es ∙ ap refusalM full ∙ no-is (getD x 3 0) p (λ k. z (full ∙ k));
-              records = rw (ne-eqb (p .last .full) 0 (λ k. z (full ∙ k))) (ca ∙ ap (λ k. replicate k 0) same-records ∙ sym (areas.area-none recordWords (length a)));
+              records = rw (ne-eqb (p .last .«overflow») 0 (λ k. z (full ∙ k))) (ca ∙ ap (λ k. replicate k 0) same-records ∙ sym (areas.area-none recordWords (length a)));
               reasons = subst (λ m. Holds f (m .reasons) (length (m .reasons)) u₂) (g .stands .is) (texts-are (g .stands .held .reasons));
             }

@@ -41,10 +41,10 @@ fn start(first: usize, reasons: usize) -> State
         items: 0,
         first,
         records: 0,
-        active: 0,
+        live_runs: 0,
         reasons,
-        made: 0,
-        full: 0,
+        runs_created: 0,
+        overflow: 0,
     }
 }
 
@@ -54,8 +54,8 @@ pub struct Simulation {
     pub steps: u32,
     pub records: usize,
     pub reasons: usize,
-    pub why: u32,
-    pub waiting: bool,
+    pub stop_reason: u32,
+    pub runs_left: bool,
     pub values: [u32; 32],
 }
 
@@ -67,8 +67,8 @@ fn refusal(number: u32) -> Simulation
         steps: 0,
         records: 0,
         reasons: 0,
-        why: 0,
-        waiting: false,
+        stop_reason: 0,
+        runs_left: false,
         values: [0u32; 32],
     }
 }
@@ -77,14 +77,14 @@ fn answer(e: Ended, values: [u32; 32]) -> Simulation
     ensures { λ r. ⌜ r ≡ answer-endedM e values ⌝ }
 {
     let st = e.state;
-    let waiting = st.active != 0;
+    let runs_left = st.live_runs != 0;
     Simulation {
         refused: 0,
         steps: e.steps,
         records: st.records,
         reasons: st.reasons,
-        why: e.why,
-        waiting,
+        stop_reason: e.stop_reason,
+        runs_left,
         values,
     }
 }
@@ -147,11 +147,11 @@ pub fn simulated(
     );
     let s = e.state;
     // Only the items and runs that are left: the rest is zeros.
-    clear_items(q, s.first, s.items);
-    clear_runs(r, s.active);
-    if s.full != 0 {
+    clear_items(q, s.queue_start, s.items);
+    clear_runs(r, s.live_runs);
+    if s.overflow != 0 {
         areas::clear_all(a);
-        return refusal(s.full);
+        return refusal(s.overflow);
     }
     answer(e, values)
 }

@@ -12,11 +12,11 @@ use Rattle.queue.specs.Queue as queue
 use Rattle.queue.specs.declared.Item.{Item}
 use Rattle.queue.specs.declared.Taken.{Taken}
 use Rattle.queue.specs.declared.Taken.the-variants.{One, Nothing}
-use Rattle.engine_fields.specs.Reads.{entities, atMost}
+use Rattle.engine_fields.specs.Fields.{entities, atMost}
 use Rattle.engine_state.specs.declared.State.{State}
 use Rattle.engine_state.specs.Machine.{Machine, Content, entire, machine}
 use Rattle.engine_state.specs.Steps.{Held}
-use Rattle.engine_update.specs.Writes.{expiryM}
+use Rattle.engine_update.specs.Update.{expiryM}
 use Rattle.engine_schedule.specs.Next.{Seen, next-afterM, nextM, why-nextM, whyM, Why}
 use Rattle.engine_schedule.specs.Events.{add-eventM, add-eventsM, expiriesM, add-expiriesM}
 use Rattle.engine_schedule.specs.declared.Next.{Next}
@@ -24,7 +24,7 @@ use Rattle.engine_schedule.specs.declared.Next.the-variants.{Stop, Space
 
 -- ---- what comes next
 
-module _ (x q : List ℕ) (st : State) (t : Taken) (ens : queue.Next q (st .first) (st .items) t) where
+module _ (x q : List ℕ) (st : State) (t : Taken) (ens : queue.Next q (st .«queue_start») (st .items) t) where
   after-is : (y : Taken) → t ≡ y → (f a b u v n c : List ℕ) (k : Content) → Held f q a b u (entire st v n c) k → next-afterM x y (machine (entire st v n c) k) ≡ nextM x (machine (entire st v n c) k)
   unfolding nextM
   after-is y e f a b u v n c k held = ap (λ z. next-afterM x z (machine (entire st v n c) k)) (sym e ∙ ens .is (k .queue) (sym (held .queue .many)) (held .queue .is))
@@ -59,13 +59,13 @@ module _ (x q : List ℕ) (st : State) (t : Taken) (ens : queue.Next q (st .firs
         seen-take h = record { is = λ f a b u v n c k held. rw (few f a b u v n c k held, short f a b u v n c k held, le-ltb (getD x 2 0) (i .second) h) at (after-is (One i) e f a b u v n c k held) }
 
 module _ (x : List ℕ) (left : ℕ) (q : List ℕ) (st : State) where
-  pub why-full : (st .full ≡ 0 → ⊥) → Why x left q st 3
+  pub why-full : (st .«overflow» ≡ 0 → ⊥) → Why x left q st 3
   unfolding whyM
-  why-full h = record { seen = record { is = λ f a b u v n c k held. rw (ne-eqb (st .full) 0 h) }; more = λ e. absurd (omega arith) }
+  why-full h = record { seen = record { is = λ f a b u v n c k held. rw (ne-eqb (st .«overflow») 0 h) }; more = λ e. absurd (omega arith) }
 
-  pub why-next : (n g : Next) (r : ℕ) → st .full ≡ 0 → Seen (nextM x) q st n → n ≡ g → r ≡ why-nextM left g → (r ≡ 4 → 0 < left) → Why x left q st r
+  pub why-next : (n g : Next) (r : ℕ) → st .«overflow» ≡ 0 → Seen (nextM x) q st n → n ≡ g → r ≡ why-nextM left g → (r ≡ 4 → 0 < left) → Why x left q st r
   unfolding whyM
-  why-next n g r z seen e is more = record { seen = record { is = λ f a b u v n c k held. rw (eq-eqb (st .full) 0 z) (is ∙ ap (why-nextM left) (sym e ∙ seen .is f a b u v n c k held)) }; more = more }
+  why-next n g r z seen e is more = record { seen = record { is = λ f a b u v n c k held. rw (eq-eqb (st .«overflow») 0 z) (is ∙ ap (why-nextM left) (sym e ∙ seen .is f a b u v n c k held)) }; more = more }
 
 pub take-none : (left : ℕ) → left ≡ 0 → 2 ≡ why-nextM left Take
 unfolding why-nextM

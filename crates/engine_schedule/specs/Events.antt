@@ -6,10 +6,10 @@ use lib.ListN.{getD}
 use Rattle.texts.specs.Lists.{if_then_else_}
 use Rattle.queue.specs.declared.Work.{Work}
 use Rattle.queue.specs.declared.Work.the-variants.{Set, Restart, Reload}
-use Rattle.engine_fields.specs.Reads.{entities}
+use Rattle.engine_fields.specs.Fields.{entities}
 use Rattle.engine_state.specs.Machine.{Machine}
 use Rattle.engine_state.specs.Changes.{addM, log-plainM}
-use Rattle.engine_update.specs.Writes.{expiryM}
+use Rattle.engine_update.specs.Update.{expiryM}
 
 unfoldable pub eventM : (kind entity value : ℕ) → Work
 eventM k e v = if eqb k 0 then Set e v else if eqb k 1 then Restart else Reload

@@ -36,7 +36,7 @@ why-nextM left Take = if eqb left 0 then 2 else 4
 
 -- 4: the loop goes on; 0 nothing left before the horizon, 1 space, 2 steps, 3 an area is full
 unfoldable pub whyM : List ℕ → (left : ℕ) → Machine → ℕ
-whyM x left m = if eqb (m .full) 0 then why-nextM left (nextM x m) else 3
+whyM x left m = if eqb (m .«overflow») 0 then why-nextM left (nextM x m) else 3
 
 pub record Why (x : List ℕ) (left : ℕ) (q : List ℕ) (st : State) (r : ℕ) : Type 0 where
   pub seen : Seen (whyM x left) q st r
@@ -45,4 +45,4 @@ pub record Why (x : List ℕ) (left : ℕ) (q : List ℕ) (st : State) (r : ℕ)
 -- ---- a turn
 
 abbrev pub with-turn : (second : ℕ) → State → State
-with-turn n st = record { now = n; items = st .items - 1; first = st .first + 1; records = st .records; active = st .active; reasons = st .reasons; made = st .made; full = st .full }
+with-turn n st = record { now = n; items = st .items - 1; «queue_start» = st .«queue_start» + 1; records = st .records; «live_runs» = st .«live_runs»; reasons = st .reasons; «runs_created» = st .«runs_created»; «overflow» = st .«overflow» }

@@ -26,7 +26,7 @@ fn next_of(x: &[u32; 436], q: &[u32], st: State) -> Next
     requires { ⌜ Fits-q st (now q) ⌝ }
     ensures { λ r. ⌜ Seen (nextM (was x)) (was q) st r ⌝ }
 {
-    let t = queue::next(q, st.first, st.items);
+    let t = queue::next(q, st.queue_start, st.items);
     let Taken::One(it) = t else {
         return Next::Stop;
     };
@@ -47,7 +47,7 @@ pub fn why_stop(x: &[u32; 436], q: &[u32], st: State, left: u32) -> u32
     requires { ⌜ Fits-q st (now q) ⌝ }
     ensures { λ r. ⌜ Why (was x) left (was q) st r ⌝ }
 {
-    if st.full != 0 {
+    if st.overflow != 0 {
         return 3;
     }
     let n = next_of(x, q, st);
@@ -65,13 +65,13 @@ pub fn why_stop(x: &[u32; 436], q: &[u32], st: State, left: u32) -> u32
 
 // An item was taken: the state at its second, and the queue behind its entry.
 pub fn at_second(st: State, second: u32) -> State
-    requires { ⌜ (0 < st .items) × (st .first < 18446744073709551615) ⌝ }
+    requires { ⌜ (0 < st .items) × (st .«queue_start» < 18446744073709551615) ⌝ }
     ensures { λ r. ⌜ r ≡ with-turn second st ⌝ }
 {
     let mut s = st;
     s.now = second;
     s.items = s.items - 1;
-    s.first = s.first + 1;
+    s.queue_start = s.queue_start + 1;
     s
 }
 

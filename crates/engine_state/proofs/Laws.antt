@@ -86,24 +86,24 @@ k-reasons l k = record { queueSize = k .queueSize; recordSize = k .recordSize; r
 -- ---- an item more
 
 module _ (s : ℕ) (w : Work) (m : Machine) where
-  add-stuck : (m .full ≡ 0 → ⊥) → m ≡ addM s w m
+  add-stuck : (m .«overflow» ≡ 0 → ⊥) → m ≡ addM s w m
   unfolding addM
-  add-stuck z = rw (ne-eqb (m .full) 0 z)
+  add-stuck z = rw (ne-eqb (m .«overflow») 0 z)
 
-  add-goes : m .full ≡ 0 → ltb (length (m .queue)) (m .queueSize) ≡ true → put-queue (m .queue ++ item s w ∷ []) m ≡ addM s w m
+  add-goes : m .«overflow» ≡ 0 → ltb (length (m .queue)) (m .queueSize) ≡ true → put-queue (m .queue ++ item s w ∷ []) m ≡ addM s w m
   unfolding addM
-  add-goes z t = rw (eq-eqb (m .full) 0 z, t)
+  add-goes z t = rw (eq-eqb (m .«overflow») 0 z, t)
 
-  add-full : m .full ≡ 0 → ltb (length (m .queue)) (m .queueSize) ≡ false → put-full 41 m ≡ addM s w m
+  add-full : m .«overflow» ≡ 0 → ltb (length (m .queue)) (m .queueSize) ≡ false → put-full 41 m ≡ addM s w m
   unfolding addM
-  add-full z t = rw (eq-eqb (m .full) 0 z, t)
+  add-full z t = rw (eq-eqb (m .«overflow») 0 z, t)
 
 module _ (st : Entire) (q : List ℕ) (s : ℕ) (w : Work) where
-  pub stuck : (st .first + st .items) * 5 ≤ length q → (st .full ≡ 0 → ⊥) → Turns (addM s w) st st (goes q q) kept kept still
+  pub stuck : (st .«queue_start» + st .items) * 5 ≤ length q → (st .«overflow» ≡ 0 → ⊥) → Turns (addM s w) st st (goes q q) kept kept still
   stuck h z = record { queue = (refl, h); records = refl; runs = refl; reasons = refl; does = λ f _ a r u k held. record { content = k; held = held; is = add-stuck s w (machine st k) z } }
 
-  module _ (b : List ℕ) (p : Put) (ins : Inserted q (st .first) (st .items) (item s w) b p) (z : st .full ≡ 0) (same : length b ≡ length q) where
-    size-is : (size : ℕ) (l : List Item) → Queued q (st .first) (st .items) size l → ltb (length l) size ≡ p .done
+  module _ (b : List ℕ) (p : Put) (ins : Inserted q (st .«queue_start») (st .items) (item s w) b p) (z : st .«overflow» ≡ 0) (same : length b ≡ length q) where
+    size-is : (size : ℕ) (l : List Item) → Queued q (st .«queue_start») (st .items) size l → ltb (length l) size ≡ p .done
     size-is size l h = ap (λ n. ltb n size) (sym (h .many)) ∙ ap (λ n. ltb (st .items) n) (sym (h .room)) ∙ sym (ins .room)
 
     pub added : p .done ≡ true → Turns (addM s w) st (with-queue (p .first) (st .items + 1) st) (goes q b) kept kept still
@@ -120,10 +120,10 @@ module _ (st : Entire) (q : List ℕ) (s : ℕ) (w : Work) where
           };
     }
       where
-        more-queued : (size : ℕ) (l : List Item) → Queued q (st .first) (st .items) size l → Queued b (p .first) (st .items + 1) size (l ++ item s w ∷ [])
+        more-queued : (size : ℕ) (l : List Item) → Queued q (st .«queue_start») (st .items) size l → Queued b (p .first) (st .items + 1) size (l ++ item s w ∷ [])
         more-queued size l h = record { room = ap (λ n. n / 5) same ∙ h .room; many = ap (λ n. n + 1) (h .many) ∙ sym (length-one l (item s w)); is = ins .more e l (sym (h .many)) (h .is) ∙ ap (λ n. laid (p .first) n (l ++ item s w ∷ [])) (sym same) }
 
-    pub add-refused : (st .first + st .items) * 5 ≤ length q → p .done ≡ false → Turns (addM s w) st (with-full 41 st) (goes q b) kept kept still
+    pub add-refused : (st .«queue_start» + st .items) * 5 ≤ length q → p .done ≡ false → Turns (addM s w) st (with-full 41 st) (goes q b) kept kept still
     add-refused h e = record {
       queue = (same, omega (arith, h, same));
       records = refl;
@@ -137,29 +137,29 @@ module _ (st : Entire) (q : List ℕ) (s : ℕ) (w : Work) where
           };
     }
       where
-        same-queued : (size : ℕ) (l : List Item) → Queued q (st .first) (st .items) size l → Queued b (st .first) (st .items) size l
-        same-queued size l h = record { room = ap (λ n. n / 5) same ∙ h .room; many = h .many; is = ins .same e .0 ∙ h .is ∙ ap (λ n. laid (st .first) n l) (sym same) }
+        same-queued : (size : ℕ) (l : List Item) → Queued q (st .«queue_start») (st .items) size l → Queued b (st .«queue_start») (st .items) size l
+        same-queued size l h = record { room = ap (λ n. n / 5) same ∙ h .room; many = h .many; is = ins .same e .0 ∙ h .is ∙ ap (λ n. laid (st .«queue_start») n l) (sym same) }
 
 -- ---- a record more
 
 module _ (t : Told) (v : Rule) (w : Where) (x : Change) (m : Machine) where
-  log-stuck : (m .full ≡ 0 → ⊥) → m ≡ logM t v w x m
+  log-stuck : (m .«overflow» ≡ 0 → ⊥) → m ≡ logM t v w x m
   unfolding logM
-  log-stuck z = rw (ne-eqb (m .full) 0 z)
+  log-stuck z = rw (ne-eqb (m .«overflow») 0 z)
 
-  log-goes : m .full ≡ 0 → ltb (length (m .records)) (m .recordSize) ≡ true → put-records (m .records ++ entry (m .now) t v w x ∷ []) m ≡ logM t v w x m
+  log-goes : m .«overflow» ≡ 0 → ltb (length (m .records)) (m .recordSize) ≡ true → put-records (m .records ++ entry (m .now) t v w x ∷ []) m ≡ logM t v w x m
   unfolding logM
-  log-goes z e = rw (eq-eqb (m .full) 0 z, e)
+  log-goes z e = rw (eq-eqb (m .«overflow») 0 z, e)
 
-  log-full : m .full ≡ 0 → ltb (length (m .records)) (m .recordSize) ≡ false → put-full 42 m ≡ logM t v w x m
+  log-full : m .«overflow» ≡ 0 → ltb (length (m .records)) (m .recordSize) ≡ false → put-full 42 m ≡ logM t v w x m
   unfolding logM
-  log-full z e = rw (eq-eqb (m .full) 0 z, e)
+  log-full z e = rw (eq-eqb (m .«overflow») 0 z, e)
 
 module _ (st : Entire) (a : List ℕ) (t : Told) (v : Rule) (w : Where) (x : Change) where
-  pub unlogged : st .records * 13 ≤ length a → (st .full ≡ 0 → ⊥) → Turns (logM t v w x) st st kept (goes a a) kept still
+  pub unlogged : st .records * 13 ≤ length a → (st .«overflow» ≡ 0 → ⊥) → Turns (logM t v w x) st st kept (goes a a) kept still
   unlogged h z = record { queue = refl; records = (refl, h); runs = refl; reasons = refl; does = λ f q _ r u k held. record { content = k; held = held; is = log-stuck t v w x (machine st k) z } }
 
-  module _ (b : List ℕ) (p : Bool) (ins : records.Pushed a (st .records) (entry (st .now) t v w x) b p) (z : st .full ≡ 0) (same : length b ≡ length a) where
+  module _ (b : List ℕ) (p : Bool) (ins : records.Pushed a (st .records) (entry (st .now) t v w x) b p) (z : st .«overflow» ≡ 0) (same : length b ≡ length a) where
     record-room : (size : ℕ) (l : List Record) → Logged a (st .records) size l → ltb (length l) size ≡ p
     record-room size l h = ap (λ n. ltb n size) (sym (h .many)) ∙ ap (λ n. ltb (st .records) n) (sym (h .room)) ∙ sym (ins .room)
 
@@ -200,32 +200,32 @@ module _ (st : Entire) (a : List ℕ) (t : Told) (v : Rule) (w : Where) (x : Cha
 -- ---- a run more
 
 module _ (i : ℕ) (x : Run) (m : Machine) where
-  run-stuck : (m .full ≡ 0 → ⊥) → m ≡ add-runM i x m
+  run-stuck : (m .«overflow» ≡ 0 → ⊥) → m ≡ add-runM i x m
   unfolding add-runM
-  run-stuck z = rw (ne-eqb (m .full) 0 z)
+  run-stuck z = rw (ne-eqb (m .«overflow») 0 z)
 
-  run-goes : m .full ≡ 0 → ltb (length (m .runs)) (m .runSize) ≡ true → put-counts (more (m .made)) (set (m .sequences) i (more (getD (m .sequences) i 0))) (put-runs (m .runs ++ x ∷ []) m) ≡ add-runM i x m
+  run-goes : m .«overflow» ≡ 0 → ltb (length (m .runs)) (m .runSize) ≡ true → put-counts (more (m .«runs_created»)) (set (m .sequences) i (more (getD (m .sequences) i 0))) (put-runs (m .runs ++ x ∷ []) m) ≡ add-runM i x m
   unfolding add-runM
-  run-goes z e = rw (eq-eqb (m .full) 0 z, e)
+  run-goes z e = rw (eq-eqb (m .«overflow») 0 z, e)
 
-  run-full : m .full ≡ 0 → ltb (length (m .runs)) (m .runSize) ≡ false → put-full 43 m ≡ add-runM i x m
+  run-full : m .«overflow» ≡ 0 → ltb (length (m .runs)) (m .runSize) ≡ false → put-full 43 m ≡ add-runM i x m
   unfolding add-runM
-  run-full z e = rw (eq-eqb (m .full) 0 z, e)
+  run-full z e = rw (eq-eqb (m .«overflow») 0 z, e)
 
 module _ (st : Entire) (r : List ℕ) (i : ℕ) (x : Run) where
-  pub unrun : st .active * 28 ≤ length r → (st .full ≡ 0 → ⊥) → Turns (add-runM i x) st st kept kept (goes r r) still
+  pub unrun : st .«live_runs» * 28 ≤ length r → (st .«overflow» ≡ 0 → ⊥) → Turns (add-runM i x) st st kept kept (goes r r) still
   unrun h z = record { queue = refl; records = refl; runs = (refl, h); reasons = refl; does = λ f q a _ u k held. record { content = k; held = held; is = run-stuck i x (machine st k) z } }
 
-  module _ (b : List ℕ) (p : Bool) (ins : runs.Pushed r (st .active) x b p) (z : st .full ≡ 0) (same : length b ≡ length r) where
-    run-room : (size : ℕ) (l : List Run) → Running r (st .active) size l → ltb (length l) size ≡ p
-    run-room size l h = ap (λ n. ltb n size) (sym (h .many)) ∙ ap (λ n. ltb (st .active) n) (sym (h .room)) ∙ sym (ins .room)
+  module _ (b : List ℕ) (p : Bool) (ins : runs.Pushed r (st .«live_runs») x b p) (z : st .«overflow» ≡ 0) (same : length b ≡ length r) where
+    run-room : (size : ℕ) (l : List Run) → Running r (st .«live_runs») size l → ltb (length l) size ≡ p
+    run-room size l h = ap (λ n. ltb n size) (sym (h .many)) ∙ ap (λ n. ltb (st .«live_runs») n) (sym (h .room)) ∙ sym (ins .room)
 
-    pub run-added : (made next : ℕ) → made ≡ more (st .made) → next ≡ more (getD (st .sequences) i 0) → p ≡ true →
-        Turns (add-runM i x) st (with-run (st .active + 1) made (set (st .sequences) i next) st) kept kept (goes r b) still
+    pub run-added : (made next : ℕ) → made ≡ more (st .«runs_created») → next ≡ more (getD (st .sequences) i 0) → p ≡ true →
+        Turns (add-runM i x) st (with-run (st .«live_runs» + 1) made (set (st .sequences) i next) st) kept kept (goes r b) still
     run-added made next em en e = record {
       queue = refl;
       records = refl;
-      runs = (same, room-is 28 (st .active) (length r) (length b) (omega arith) same (sym (ins .room) ∙ e));
+      runs = (same, room-is 28 (st .«live_runs») (length r) (length b) (omega arith) same (sym (ins .room) ∙ e));
       reasons = refl;
       does = λ f q a _ u k held.
           record {
@@ -235,13 +235,13 @@ module _ (st : Entire) (r : List ℕ) (i : ℕ) (x : Run) where
           };
     }
       where
-        more-running : (size : ℕ) (l : List Run) → Running r (st .active) size l → Running b (st .active + 1) size (l ++ x ∷ [])
+        more-running : (size : ℕ) (l : List Run) → Running r (st .«live_runs») size l → Running b (st .«live_runs» + 1) size (l ++ x ∷ [])
         more-running size l h = record { room = ap (λ n. n / 28) same ∙ h .room; many = ap (λ n. n + 1) (h .many) ∙ sym (length-one l x); is = ins .more e l (sym (h .many), h .is) ∙ ap (λ n. area runs.runWords n (l ++ x ∷ [])) (sym same) }
 
-        counts-are : (k : Content) → machine (with-run (st .active + 1) made (set (st .sequences) i next) st) k ≡ put-counts (more (st .made)) (set (st .sequences) i (more (getD (st .sequences) i 0))) (machine st k)
-        counts-are k = ap (λ n. put-counts n (set (st .sequences) i next) (machine st k)) em ∙ ap (λ n. put-counts (more (st .made)) (set (st .sequences) i n) (machine st k)) en
+        counts-are : (k : Content) → machine (with-run (st .«live_runs» + 1) made (set (st .sequences) i next) st) k ≡ put-counts (more (st .«runs_created»)) (set (st .sequences) i (more (getD (st .sequences) i 0))) (machine st k)
+        counts-are k = ap (λ n. put-counts n (set (st .sequences) i next) (machine st k)) em ∙ ap (λ n. put-counts (more (st .«runs_created»)) (set (st .sequences) i n) (machine st k)) en
 
-    pub run-refused : st .active * 28 ≤ length r → p ≡ false → Turns (add-runM i x) st (with-full 43 st) kept kept (goes r b) still
+    pub run-refused : st .«live_runs» * 28 ≤ length r → p ≡ false → Turns (add-runM i x) st (with-full 43 st) kept kept (goes r b) still
     run-refused h e = record {
       queue = refl;
       records = refl;
@@ -255,7 +255,7 @@ module _ (st : Entire) (r : List ℕ) (i : ℕ) (x : Run) where
           };
     }
       where
-        same-running : (size : ℕ) (l : List Run) → Running r (st .active) size l → Running b (st .active) size l
+        same-running : (size : ℕ) (l : List Run) → Running r (st .«live_runs») size l → Running b (st .«live_runs») size l
         same-running size l h = record { room = ap (λ n. n / 28) same ∙ h .room; many = h .many; is = ins .same e ∙ h .is ∙ ap (λ n. area runs.runWords n l) (sym same) }
 
 -- ---- a reason more
@@ -396,9 +396,9 @@ pub follow : {F : Content → Machine} {st mid s : Entire} {Q Q' Q'' A A' A'' R 
     Steps F st mid Q A R U → Steps (λ k. G (machine mid k)) mid s Q' A' R' U' →
     Joined Q Q' Q'' → Joined A A' A'' → Joined R R' R'' → Joined-told U U' U'' → Steps (λ k. G (F k)) st s Q'' A'' R'' U''
 follow {F} {st} {mid} {s} {Q} {Q'} {Q''} {A} {A'} {A''} {R} {R'} {R''} {U} {U'} {U''} G d e jq ja jr ju = record {
-  queue = side 5 (st .first + st .items) (mid .first + mid .items) (s .first + s .items) jq (d .queue) (e .queue);
+  queue = side 5 (st .«queue_start» + st .items) (mid .«queue_start» + mid .items) (s .«queue_start» + s .items) jq (d .queue) (e .queue);
   records = side 13 (st .records) (mid .records) (s .records) ja (d .records) (e .records);
-  runs = side 28 (st .active) (mid .active) (s .active) jr (d .runs) (e .runs);
+  runs = side 28 (st .«live_runs») (mid .«live_runs») (s .«live_runs») jr (d .runs) (e .runs);
   reasons = side-told (st .reasons) (mid .reasons) (s .reasons) ju (d .reasons) (e .reasons);
   does = λ f q a r u k held.
       let x = d .does (file U'' f) (first Q'' q) (first A'' a) (first R'' r) (first-told U'' u) k (moved st k (file-start ju f) (start jq q) (start ja a) (start jr r) (start-told ju u) held) in
@@ -433,13 +433,13 @@ stays-told-is n (same h) x = refl
 
 -- nothing changes
 pub stay : {F : Content → Machine} {st : Entire} {Q A R : Lent} {U : Listing} → ((k : Content) → machine st k ≡ F k) →
-    Stays 5 (st .first + st .items) Q → Stays 13 (st .records) A → Stays 28 (st .active) R → Stays-told (st .reasons) U → Steps F st st Q A R U
+    Stays 5 (st .«queue_start» + st .items) Q → Stays 13 (st .records) A → Stays 28 (st .«live_runs») R → Stays-told (st .reasons) U → Steps F st st Q A R U
 stay {F} {st} e q a r u = record {
-  queue = stays-side 5 (st .first + st .items) q;
+  queue = stays-side 5 (st .«queue_start» + st .items) q;
   records = stays-side 13 (st .records) a;
-  runs = stays-side 28 (st .active) r;
+  runs = stays-side 28 (st .«live_runs») r;
   reasons = stays-side-told (st .reasons) u;
-  does = λ f q₀ a₀ r₀ u₀ k held. record { content = k; held = moved st k refl (stays-is 5 (st .first + st .items) q q₀) (stays-is 13 (st .records) a a₀) (stays-is 28 (st .active) r r₀) (stays-told-is (st .reasons) u u₀) held; is = e k };
+  does = λ f q₀ a₀ r₀ u₀ k held. record { content = k; held = moved st k refl (stays-is 5 (st .«queue_start» + st .items) q q₀) (stays-is 13 (st .records) a a₀) (stays-is 28 (st .«live_runs») r r₀) (stays-told-is (st .reasons) u u₀) held; is = e k };
 }
 
 -- the same change by another name
@@ -499,13 +499,13 @@ wide-file n same x = refl
 wide-file n (wide h) x = refl
 
 pub widen : {F : Content → Machine} {st s : Entire} {Q A R Q' A' R' : Lent} {U U' : Listing} → Steps F st s Q A R U →
-    Wide 5 (st .first + st .items) Q Q' → Wide 13 (st .records) A A' → Wide 28 (st .active) R R' → Wide-told (st .reasons) U U' → Steps F st s Q' A' R' U'
+    Wide 5 (st .«queue_start» + st .items) Q Q' → Wide 13 (st .records) A A' → Wide 28 (st .«live_runs») R R' → Wide-told (st .reasons) U U' → Steps F st s Q' A' R' U'
 widen {F} {st} {s} {Q} {A} {R} {Q'} {A'} {R'} {U} {U'} d wq wa wr wu = record {
-  queue = wide-side 5 (st .first + st .items) (s .first + s .items) wq (d .queue);
+  queue = wide-side 5 (st .«queue_start» + st .items) (s .«queue_start» + s .items) wq (d .queue);
   records = wide-side 13 (st .records) (s .records) wa (d .records);
-  runs = wide-side 28 (st .active) (s .active) wr (d .runs);
+  runs = wide-side 28 (st .«live_runs») (s .«live_runs») wr (d .runs);
   reasons = wide-side-told (st .reasons) (s .reasons) wu (d .reasons);
   does = λ f q a r u k held.
-      let x = d .does (file U' f) (first Q' q) (first A' a) (first R' r) (first-told U' u) k (moved st k (wide-file (st .reasons) wu f) (wide-first 5 (st .first + st .items) wq q) (wide-first 13 (st .records) wa a) (wide-first 28 (st .active) wr r) (wide-first-told (st .reasons) wu u) held) in
-      record { content = x .content; held = moved s (x .content) (sym (wide-file (st .reasons) wu f)) (wide-last 5 (st .first + st .items) wq q) (wide-last 13 (st .records) wa a) (wide-last 28 (st .active) wr r) (wide-last-told (st .reasons) wu u) (x .held); is = x .is };
+      let x = d .does (file U' f) (first Q' q) (first A' a) (first R' r) (first-told U' u) k (moved st k (wide-file (st .reasons) wu f) (wide-first 5 (st .«queue_start» + st .items) wq q) (wide-first 13 (st .records) wa a) (wide-first 28 (st .«live_runs») wr r) (wide-first-told (st .reasons) wu u) held) in
+      record { content = x .content; held = moved s (x .content) (sym (wide-file (st .reasons) wu f)) (wide-last 5 (st .«queue_start» + st .items) wq q) (wide-last 13 (st .records) wa a) (wide-last 28 (st .«live_runs») wr r) (wide-last-told (st .reasons) wu u) (x .held); is = x .is };
 }

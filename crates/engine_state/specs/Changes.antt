@@ -40,22 +40,22 @@ set-cells = put-cells
 -- an item more; 41: the queue is full
 unfoldable pub addM : (second : ℕ) → Work → Machine → Machine
 addM s w m =
-    if eqb (m .full) 0 then
+    if eqb (m .«overflow») 0 then
     (if ltb (length (m .queue)) (m .queueSize) then put-queue (m .queue ++ item s w ∷ []) m else put-full 41 m)
     else m
 
 -- a record more; 42: no room for records
 unfoldable pub logM : Told → Rule → Where → Change → Machine → Machine
 logM t u w c m =
-    if eqb (m .full) 0 then
+    if eqb (m .«overflow») 0 then
     (if ltb (length (m .records)) (m .recordSize) then put-records (m .records ++ entry (m .now) t u w c ∷ []) m else put-full 42 m)
     else m
 
 -- a run more, which its automation counts; 43: no room for runs
 unfoldable pub add-runM : (i : ℕ) → Run → Machine → Machine
 add-runM i r m =
-    if eqb (m .full) 0 then
-    (if ltb (length (m .runs)) (m .runSize) then put-counts (more (m .made)) (set (m .sequences) i (more (getD (m .sequences) i 0))) (put-runs (m .runs ++ r ∷ []) m) else put-full 43 m)
+    if eqb (m .«overflow») 0 then
+    (if ltb (length (m .runs)) (m .runSize) then put-counts (more (m .«runs_created»)) (set (m .sequences) i (more (getD (m .sequences) i 0))) (put-runs (m .runs ++ r ∷ []) m) else put-full 43 m)
     else m
 
 -- a reason more over the file f, unless there are 300

@@ -34,9 +34,9 @@ pub record Running (r : List ℕ) (n size : ℕ) (l : List Run) : Type 0 where
 
 -- the areas of queue, records, runs and reasons hold this, over the file f
 pub record Held (f q a r u : List ℕ) (st : Entire) (k : Content) : Type 0 where
-  pub queue : Queued q (st .first) (st .items) (k .queueSize) (k .queue)
+  pub queue : Queued q (st .«queue_start») (st .items) (k .queueSize) (k .queue)
   pub records : Logged a (st .records) (k .recordSize) (k .records)
-  pub runs : Running r (st .active) (k .runSize) (k .runs)
+  pub runs : Running r (st .«live_runs») (k .runSize) (k .runs)
   pub reasons : Holds f (k .reasons) (st .reasons) u
 
 -- the state and the areas stand for the machine m
@@ -91,9 +91,9 @@ last-told (told f b c) x = c
 
 -- from the state st to s, with the areas of queue, records, runs and reasons: if the areas hold k before, they stand for F k after
 pub record Steps (F : Content → Machine) (st s : Entire) (Q A R : Lent) (U : Listing) : Type 0 where
-  pub queue : Side 5 Q (st .first + st .items) (s .first + s .items)
+  pub queue : Side 5 Q (st .«queue_start» + st .items) (s .«queue_start» + s .items)
   pub records : Side 13 A (st .records) (s .records)
-  pub runs : Side 28 R (st .active) (s .active)
+  pub runs : Side 28 R (st .«live_runs») (s .«live_runs»)
   pub reasons : Side-told U (st .reasons) (s .reasons)
   pub does : (f q a r u : List ℕ) (k : Content) → Held (file U f) (first Q q) (first A a) (first R r) (first-told U u) st k →
       Stands (file U f) (last Q q) (last A a) (last R r) (last-told U u) s (F k)
@@ -104,9 +104,9 @@ Turns F st s Q A R U = Steps (λ k. F (machine st k)) st s Q A R U
 
 -- what a function does that may be lent values, versions and sequences too
 pub record Moves (F : Machine → Machine) (st s : State) (Q A R : Lent) (U : Listing) (L N C : Lent) : Type 0 where
-  pub queue : Side 5 Q (st .first + st .items) (s .first + s .items)
+  pub queue : Side 5 Q (st .«queue_start» + st .items) (s .«queue_start» + s .items)
   pub records : Side 13 A (st .records) (s .records)
-  pub runs : Side 28 R (st .active) (s .active)
+  pub runs : Side 28 R (st .«live_runs») (s .«live_runs»)
   pub reasons : Side-told U (st .reasons) (s .reasons)
   pub does : (v n c : List ℕ) → Turns F (entire st (first L v) (first N n) (first C c)) (entire s (last L v) (last N n) (last C c)) Q A R U
 
@@ -117,22 +117,22 @@ Does F st s Q A R U = Moves F st s Q A R U kept kept kept
 -- ---- room for what the areas hold
 
 abbrev pub Fits-q : State → List ℕ → Type 0
-Fits-q st q = (st .first + st .items) * 5 ≤ length q
+Fits-q st q = (st .«queue_start» + st .items) * 5 ≤ length q
 
 abbrev pub Fits-qa : State → (q a : List ℕ) → Type 0
-Fits-qa st q a = ((st .first + st .items) * 5 ≤ length q) × (st .records * 13 ≤ length a)
+Fits-qa st q a = ((st .«queue_start» + st .items) * 5 ≤ length q) × (st .records * 13 ≤ length a)
 
 abbrev pub Fits-qr : State → (q r : List ℕ) → Type 0
-Fits-qr st q r = ((st .first + st .items) * 5 ≤ length q) × (st .active * 28 ≤ length r)
+Fits-qr st q r = ((st .«queue_start» + st .items) * 5 ≤ length q) × (st .«live_runs» * 28 ≤ length r)
 
 abbrev pub Fits-ar : State → (a r : List ℕ) → Type 0
-Fits-ar st a r = (st .records * 13 ≤ length a) × (st .active * 28 ≤ length r)
+Fits-ar st a r = (st .records * 13 ≤ length a) × (st .«live_runs» * 28 ≤ length r)
 
 abbrev pub Fits-qar : State → (q a r : List ℕ) → Type 0
-Fits-qar st q a r = ((st .first + st .items) * 5 ≤ length q) × ((st .records * 13 ≤ length a) × (st .active * 28 ≤ length r))
+Fits-qar st q a r = ((st .«queue_start» + st .items) * 5 ≤ length q) × ((st .records * 13 ≤ length a) × (st .«live_runs» * 28 ≤ length r))
 
 abbrev pub Fits-qau : State → (q a u : List ℕ) → Type 0
-Fits-qau st q a u = ((st .first + st .items) * 5 ≤ length q) × ((st .records * 13 ≤ length a) × ((st .reasons * 5 ≤ length u) × (1500 ≤ length u)))
+Fits-qau st q a u = ((st .«queue_start» + st .items) * 5 ≤ length q) × ((st .records * 13 ≤ length a) × ((st .reasons * 5 ≤ length u) × (1500 ≤ length u)))
 
 abbrev pub Fits : State → (q a r u : List ℕ) → Type 0
-Fits st q a r u = ((st .first + st .items) * 5 ≤ length q) × ((st .records * 13 ≤ length a) × ((st .active * 28 ≤ length r) × ((st .reasons * 5 ≤ length u) × (1500 ≤ length u))))
+Fits st q a r u = ((st .«queue_start» + st .items) * 5 ≤ length q) × ((st .records * 13 ≤ length a) × ((st .«live_runs» * 28 ≤ length r) × ((st .reasons * 5 ≤ length u) × (1500 ≤ length u))))

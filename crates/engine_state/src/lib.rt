@@ -30,12 +30,12 @@ pub struct Cells {
 pub struct State {
     pub now: u32,
     pub items: usize,
-    pub first: usize,
+    pub queue_start: usize,
     pub records: usize,
-    pub active: usize,
+    pub live_runs: usize,
     pub reasons: usize,
-    pub made: u32,
-    pub full: u32,
+    pub runs_created: u32,
+    pub overflow: u32,
 }
 
 // What a record says: its kind, and a number or a place.
@@ -86,7 +86,7 @@ pub fn with_active(st: State, n: usize) -> State
     ensures { λ r. ⌜ r ≡ with-active n st ⌝ }
 {
     let mut s = st;
-    s.active = n;
+    s.live_runs = n;
     s
 }
 
@@ -94,21 +94,21 @@ pub fn with_active(st: State, n: usize) -> State
 
 // An item more, unless an area is full.
 pub fn add(q: &mut [u32], st: State, second: u32, work: Work) -> State
-    requires { ⌜ (st .first + st .items) * 5 ≤ length (now q) ⌝ }
+    requires { ⌜ (st .«queue_start» + st .items) * 5 ≤ length (now q) ⌝ }
     ensures { λ r. ⌜ Does (addM second work) st r (by q) kept kept still ⌝ }
 {
     let mut s = st;
-    if s.full != 0 {
+    if s.overflow != 0 {
         return s;
     }
     let n = s.items;
-    let p = queue::insert(q, s.first, n, Item { second, work });
+    let p = queue::insert(q, s.queue_start, n, Item { second, work });
     if p.done {
         s.items = n + 1;
-        s.first = p.first;
+        s.queue_start = p.first;
         return s;
     }
-    s.full = 41;
+    s.overflow = 41;
     s
 }
 
@@ -118,7 +118,7 @@ pub fn log(a: &mut [u32], st: State, what: Told, rule: Rule, source: Where, chan
     ensures { λ r. ⌜ Does (logM what rule source change) st r kept (by a) kept still ⌝ }
 {
     let mut s = st;
-    if s.full != 0 {
+    if s.overflow != 0 {
         return s;
     }
     let n = s.records;
@@ -135,29 +135,29 @@ pub fn log(a: &mut [u32], st: State, what: Told, rule: Rule, source: Where, chan
         s.records = n + 1;
         return s;
     }
-    s.full = 42;
+    s.overflow = 42;
     s
 }
 
 // A run more of the i-th automation, unless an area is full.
 pub fn add_run(r: &mut [u32], sequences: &mut [u32; 32], st: State, i: usize, run: Run) -> State
-    requires { ⌜ (st .active * 28 ≤ length (now r)) × (i < 32) ⌝ }
+    requires { ⌜ (st .«live_runs» * 28 ≤ length (now r)) × (i < 32) ⌝ }
     ensures { λ s. ⌜ Moves (add-runM i run) st s kept kept (by r) still kept kept (by sequences) ⌝ }
 {
     let mut s = st;
-    if s.full != 0 {
+    if s.overflow != 0 {
         return s;
     }
-    let n = s.active;
-    let made = more_than(s.made);
+    let n = s.live_runs;
+    let made = more_than(s.runs_created);
     let sequence = more_than(sequences[i]);
     if runs::push_run(r, n, run) {
-        s.active = n + 1;
-        s.made = made;
+        s.live_runs = n + 1;
+        s.runs_created = made;
         sequences[i] = sequence;
         return s;
     }
-    s.full = 43;
+    s.overflow = 43;
     s
 }
 
@@ -251,7 +251,7 @@ pub fn log_write(a: &mut [u32], st: State, w: Setting, m: Move) -> State
 
 // The run goes on at a second.
 pub fn next_step(q: &mut [u32], st: State, run: Run, second: u32) -> State
-    requires { ⌜ (st .first + st .items) * 5 ≤ length (now q) ⌝ }
+    requires { ⌜ (st .«queue_start» + st .items) * 5 ≤ length (now q) ⌝ }
     ensures { λ r. ⌜ Does (next-stepM run second) st r (by q) kept kept still ⌝ }
 {
     add(

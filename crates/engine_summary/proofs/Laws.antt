@@ -33,9 +33,9 @@ module _ (vs : List ℕ) where
 -- ---- the answer
 
 pub summed-so : (s : Run) (n h : ℕ) (vs : List ℕ) → Firsts (s .values) n vs →
-    Summed s n h (record { refused = s .refused; steps = s .steps; records = s .records; horizon = h; values = vs; unknown = s .reasons; why = s .why; waiting = s .waiting })
+    Summed s n h (record { refused = s .refused; steps = s .steps; records = s .records; horizon = h; values = vs; unknown = s .reasons; «stop_reason» = s .«stop_reason»; «runs_left» = s .«runs_left» })
 summed-so s n h vs f u = record {
-  done = λ y. record { accepted = y; steps = refl; records = refl; horizon = refl; values = f; unknown = refl; reasons = refl; why = refl; waiting = refl };
+  done = λ y. record { accepted = y; steps = refl; records = refl; horizon = refl; values = f; unknown = refl; reasons = refl; «stop_reason» = refl; «runs_left» = refl };
   full = λ y. refl;
 }
 

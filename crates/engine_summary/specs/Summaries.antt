@@ -29,8 +29,8 @@ pub record Repeats (s : Run) (n h : ℕ) (u : List ℕ) (r : Simulation) : Type 
   pub values : Firsts (s .values) n (r .values)
   pub unknown : r .unknown ≡ s .reasons
   pub reasons : r .reasons ≡ u
-  pub why : r .why ≡ s .why
-  pub waiting : r .waiting ≡ s .waiting
+  pub «stop_reason» : r .«stop_reason» ≡ s .«stop_reason»
+  pub «runs_left» : r .«runs_left» ≡ s .«runs_left»
 
 pub record ShownAs (s : Run) (n h : ℕ) (u : List ℕ) (r : Simulation) : Type 0 where
   pub done : s .refused ≡ 0 → Repeats s n h u r

@@ -18,8 +18,8 @@ pub struct Simulation {
     pub values: [u32; 32],
     pub unknown: usize,
     pub reasons: [u32; 1500],
-    pub why: u32,
-    pub waiting: bool,
+    pub stop_reason: u32,
+    pub runs_left: bool,
 }
 
 pub fn refused(number: u32) -> Simulation
@@ -33,8 +33,8 @@ pub fn refused(number: u32) -> Simulation
         values: [0u32; 32],
         unknown: 0,
         reasons: [0u32; 1500],
-        why: 0,
-        waiting: false,
+        stop_reason: 0,
+        runs_left: false,
     }
 }
 
@@ -64,8 +64,8 @@ pub struct Summary {
     pub horizon: u32,
     pub values: [u32; 32],
     pub unknown: usize,
-    pub why: u32,
-    pub waiting: bool,
+    pub stop_reason: u32,
+    pub runs_left: bool,
 }
 
 // The simulation of a model with so many entities and this horizon.
@@ -83,8 +83,8 @@ pub fn summed(s: engine_run::Simulation, entities: usize, horizon: u32) -> Summa
         horizon,
         values,
         unknown: s.reasons,
-        why: s.why,
-        waiting: s.waiting,
+        stop_reason: s.stop_reason,
+        runs_left: s.runs_left,
     }
 }
 
@@ -100,8 +100,8 @@ pub fn refused_summary(number: u32, words: &mut [u32; 1500]) -> Summary
         horizon: 0,
         values: [0u32; 32],
         unknown: 0,
-        why: 0,
-        waiting: false,
+        stop_reason: 0,
+        runs_left: false,
     }
 }
 
@@ -129,8 +129,8 @@ pub fn with_reasons(b: Summary, words: &[u32; 1500]) -> Simulation
         values,
         unknown: b.unknown,
         reasons,
-        why: b.why,
-        waiting: b.waiting,
+        stop_reason: b.stop_reason,
+        runs_left: b.runs_left,
     }
 }
 

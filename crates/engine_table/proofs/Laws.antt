@@ -16,7 +16,7 @@ use Rattle.model_walk.specs.declared.Piece.the-variants as piece
 use Rattle.model_walk.specs.Walk.{piecesM, actionsM}
 use Rattle.model_order.specs.Order.{place-from}
 use Rattle.model_index.specs.declared.Index.{Index}
-use Rattle.engine_fields.specs.Reads.{two, four, cap}
+use Rattle.engine_fields.specs.Fields.{two, four, cap}
 use Rattle.engine_table.specs.Table.{end-of, stale-at, conditions-at, actions-at, source-at, rule-word, count-word, fixed-word, start-word, head-word, part-word, table-word, Headed}
 
 pub end-to : {w : Walked} (at : ℕ) {p n : ℕ} → w ≡ walked.To p n → p ≡ end-of w at

@@ -18,9 +18,9 @@ use Rattle.runs.specs.declared.Phase.the-variants.{Going, Waiting}
 use Rattle.runs.specs.declared.Found.{Found}
 use Rattle.reasons.specs.Kinds as kinds
 use Rattle.reasons.specs.declared.Reason.{Reason}
-use Rattle.engine_fields.specs.Reads.{two, word, rules, atMost, aboutRule}
+use Rattle.engine_fields.specs.Fields.{two, word, rules, atMost, aboutRule}
 use Rattle.engine_state.specs.Changes.{uncertainM}
-use Rattle.engine_evaluate.specs.Truths.{matchesM, anyM, allM}
+use Rattle.engine_evaluate.specs.Evaluate.{matchesM, anyM, allM}
 use Rattle.engine_evaluate.specs.declared.Truth.{Truth}
 use Rattle.engine_evaluate.specs.declared.Truth.the-variants.{Yes, Unknown}
 use Rattle.engine_evaluate.specs.declared.Judged.{Judged}
@@ -36,8 +36,8 @@ use Rattle.engine_trigger.specs.Triggers.{admitM, offer-asM, offerM, off
 
 -- ---- changes of the run area
 
-module _ (st : Entire) (r b : List ℕ) (h : st .active * 28 ≤ length r) (same : length b ≡ length r) where
-  pub replaced : (k : ℕ) (x y : Run) → Replaced r k y b → y ≡ x → k < st .active → Steps (λ c. put-runM k x (machine st c)) st st kept kept (goes r b) still
+module _ (st : Entire) (r b : List ℕ) (h : st .«live_runs» * 28 ≤ length r) (same : length b ≡ length r) where
+  pub replaced : (k : ℕ) (x y : Run) → Replaced r k y b → y ≡ x → k < st .«live_runs» → Steps (λ c. put-runM k x (machine st c)) st st kept kept (goes r b) still
   replaced k x y rep e lt = record {
     queue = refl;
     records = refl;
@@ -46,7 +46,7 @@ module _ (st : Entire) (r b : List ℕ) (h : st .active * 28 ≤ length r) (same
     does = λ f q a _ u c held.
         record {
           content = states.k-runs (set (c .runs) k x) c;
-          held = record { queue = held .queue; records = held .records; runs = modes.held-runs r b (st .active) same (st .active) (c .runSize) (c .runs) (set (c .runs) k x) (held .runs) (held .runs .many ∙ sym (length-set (c .runs) k x)) (rep .is (st .active) (c .runs) (sym (held .runs .many), held .runs .is) lt ∙ ap (λ z. area runWords (length r) (set (c .runs) k z)) e); reasons = held .reasons };
+          held = record { queue = held .queue; records = held .records; runs = modes.held-runs r b (st .«live_runs») same (st .«live_runs») (c .runSize) (c .runs) (set (c .runs) k x) (held .runs) (held .runs .many ∙ sym (length-set (c .runs) k x)) (rep .is (st .«live_runs») (c .runs) (sym (held .runs .many), held .runs .is) lt ∙ ap (λ z. area runWords (length r) (set (c .runs) k z)) e); reasons = held .reasons };
           is = refl;
         };
   }
@@ -54,7 +54,7 @@ module _ (st : Entire) (r b : List ℕ) (h : st .active * 28 ≤ length r) (same
   out-length : (l : List Run) (k : ℕ) → k < length l → length (take k l ++ drop (k + 1) l) ≡ length l - 1
   out-length l k g = length-append (take k l) (drop (k + 1) l) ∙ omega (arith, length-take-le k l (omega arith), length-drop (k + 1) l)
 
-  removed-from : (k : ℕ) → Removed r (st .active) k b → k < st .active → Steps (λ c. outM k (machine st c)) st (modes.active (st .active - 1) st) kept kept (goes r b) still
+  removed-from : (k : ℕ) → Removed r (st .«live_runs») k b → k < st .«live_runs» → Steps (λ c. outM k (machine st c)) st (modes.active (st .«live_runs» - 1) st) kept kept (goes r b) still
   unfolding outM
   removed-from k rem lt = record {
     queue = refl;
@@ -66,32 +66,32 @@ module _ (st : Entire) (r b : List ℕ) (h : st .active * 28 ≤ length r) (same
         let l' = take k (c .runs) ++ drop (k + 1) (c .runs) in
         record {
           content = states.k-runs l' c;
-          held = record { queue = held .queue; records = held .records; runs = modes.held-runs r b (st .active) same (st .active - 1) (c .runSize) (c .runs) l' old (ap (λ n. n - 1) (old .many) ∙ sym (out-length (c .runs) k (subst (λ n. k < n) (old .many) lt))) (rem .is (c .runs) (sym (old .many), old .is)); reasons = held .reasons };
+          held = record { queue = held .queue; records = held .records; runs = modes.held-runs r b (st .«live_runs») same (st .«live_runs» - 1) (c .runSize) (c .runs) l' old (ap (λ n. n - 1) (old .many) ∙ sym (out-length (c .runs) k (subst (λ n. k < n) (old .many) lt))) (rem .is (c .runs) (sym (old .many), old .is)); reasons = held .reasons };
           is = refl;
         };
   }
 
-module _ (st : State) (r b : List ℕ) (h : st .active * 28 ≤ length r) (same : length b ≡ length r) (s : State) where
-  pub removed : (k : ℕ) → Removed r (st .active) k b → s ≡ with-active (st .active - 1) st → k < st .active → Moves (outM k) st s kept kept (goes r b) still kept kept kept
+module _ (st : State) (r b : List ℕ) (h : st .«live_runs» * 28 ≤ length r) (same : length b ≡ length r) (s : State) where
+  pub removed : (k : ℕ) → Removed r (st .«live_runs») k b → s ≡ with-active (st .«live_runs» - 1) st → k < st .«live_runs» → Moves (outM k) st s kept kept (goes r b) still kept kept kept
   removed k rem e lt = states.moves (λ v n c. subst (λ z. Steps (λ k'. outM k (machine (entire st v n c) k')) (entire st v n c) (entire z v n c) kept kept (goes r b) still) (sym e) (removed-from (entire st v n c) r b h same k rem lt))
 
 -- ---- what is read of the run area is what the machine holds
 
 module _ {st s : Entire} {Q A : Lent} {r b : List ℕ} {U : Listing} where
-  pub with-run : (F : Run → Machine → Machine) {k : ℕ} {x : Run} → x ≡ runAt r k → k < st .active → Steps (λ c. F x (machine st c)) st s Q A (goes r b) U → Steps (λ c. F (runM k (machine st c)) (machine st c)) st s Q A (goes r b) U
+  pub with-run : (F : Run → Machine → Machine) {k : ℕ} {x : Run} → x ≡ runAt r k → k < st .«live_runs» → Steps (λ c. F x (machine st c)) st s Q A (goes r b) U → Steps (λ c. F (runM k (machine st c)) (machine st c)) st s Q A (goes r b) U
   unfolding runM
   with-run F {k} {x} e lt d = states.knowing (λ c. F (whole (getD (c .runs) k no-run)) (machine st c)) d (λ f q a _ u c held.
       ap (λ z. F z (machine st c)) (e ∙ ap (λ z. runAt z k) (held .runs .is) ∙ runs.run-is (length r) (c .runs) k no-run (subst (λ n. k < n) (held .runs .many) lt)))
 
-  pub with-found : (F : Found → Machine → Machine) {p : Run → Bool} {x y : Found} → Sought p r (st .active) x → x ≡ y → Steps (λ c. F y (machine st c)) st s Q A (goes r b) U → Steps (λ c. F (placeFrom p 0 (c .runs)) (machine st c)) st s Q A (goes r b) U
+  pub with-found : (F : Found → Machine → Machine) {p : Run → Bool} {x y : Found} → Sought p r (st .«live_runs») x → x ≡ y → Steps (λ c. F y (machine st c)) st s Q A (goes r b) U → Steps (λ c. F (placeFrom p 0 (c .runs)) (machine st c)) st s Q A (goes r b) U
   with-found F {p} sought e d = states.knowing (λ c. F (placeFrom p 0 (c .runs)) (machine st c)) d (λ f q a _ u c held.
       ap (λ z. F z (machine st c)) (sym e ∙ sought .is (c .runs) (sym (held .runs .many), held .runs .is)))
 
 module _ {st s : State} {Q A : Lent} {r b : List ℕ} {U : Listing} {L N C : Lent} where
-  pub ran : (F : Run → Machine → Machine) {k : ℕ} {x : Run} → x ≡ runAt r k → k < st .active → Moves (F x) st s Q A (goes r b) U L N C → Moves (λ m. F (runM k m) m) st s Q A (goes r b) U L N C
+  pub ran : (F : Run → Machine → Machine) {k : ℕ} {x : Run} → x ≡ runAt r k → k < st .«live_runs» → Moves (F x) st s Q A (goes r b) U L N C → Moves (λ m. F (runM k m) m) st s Q A (goes r b) U L N C
   ran F e lt d = states.moves (λ v n c. with-run F e lt (d .does v n c))
 
-  pub found : (F : Found → Machine → Machine) {p : Run → Bool} {x y : Found} → Sought p r (st .active) x → x ≡ y → Moves (F y) st s Q A (goes r b) U L N C → Moves (λ m. F (placeFrom p 0 (m .runs)) m) st s Q A (goes r b) U L N C
+  pub found : (F : Found → Machine → Machine) {p : Run → Bool} {x y : Found} → Sought p r (st .«live_runs») x → x ≡ y → Moves (F y) st s Q A (goes r b) U L N C → Moves (λ m. F (placeFrom p 0 (m .runs)) m) st s Q A (goes r b) U L N C
   found F sought e d = states.moves (λ v n c. with-found F sought e (d .does v n c))
 
 -- ---- runs that wake
@@ -118,7 +118,7 @@ pub wake-more : (f : List ℕ) (v : Move) (k : ℕ) (m : Machine) → wake-oneM 
 unfolding wake-firstM
 wake-more f v k m = rw (add-one k)
 
-pub wake-all : (f : List ℕ) (v : Move) (k : ℕ) {st s : Entire} {q q' r r' : List ℕ} → k ≡ st .active → Steps (λ c. wake-firstM f v k (machine st c)) st s (goes q q') kept (goes r r') still →
+pub wake-all : (f : List ℕ) (v : Move) (k : ℕ) {st s : Entire} {q q' r r' : List ℕ} → k ≡ st .«live_runs» → Steps (λ c. wake-firstM f v k (machine st c)) st s (goes q q') kept (goes r r') still →
     Steps (λ c. wakeM f v (machine st c)) st s (goes q q') kept (goes r r') still
 unfolding wakeM
 wake-all f v k {st} e d = states.knowing (λ c. wake-firstM f v (length (c .runs)) (machine st c)) d (λ _ q a _ u c held. ap (λ n. wake-firstM f v n (machine st c)) (e ∙ held .runs .many))

@@ -11,7 +11,7 @@ use Rattle.runs.specs.declared.Phase.{Phase}
 use Rattle.runs.specs.declared.Phase.the-variants.{Going, Waiting}
 use Rattle.runs.specs.declared.Found.{Found}
 use Rattle.runs.specs.declared.Found.the-variants.{At, Nothing}
-use Rattle.engine_evaluate.specs.Truths.{matchesM}
+use Rattle.engine_evaluate.specs.Evaluate.{matchesM}
 use Rattle.engine_state.specs.declared.Move.{Move}
 use Rattle.engine_state.specs.Machine.{Machine, put-runs}
 use Rattle.engine_state.specs.Changes.{log-ruleM}

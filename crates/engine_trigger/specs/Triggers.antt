@@ -6,8 +6,8 @@ use Rattle.texts.specs.Lists.{if_then_else_}
 use Rattle.records.specs.declared.Rule.the-variants.{Of}
 use Rattle.records.specs.declared.Where.the-variants.{From}
 use Rattle.records.specs.declared.Change.the-variants.{NoChange}
-use Rattle.engine_fields.specs.Reads.{two, four, word, rules, aboutRule}
-use Rattle.engine_evaluate.specs.Truths.{numberM, anyM, allM}
+use Rattle.engine_fields.specs.Fields.{two, four, word, rules, aboutRule}
+use Rattle.engine_evaluate.specs.Evaluate.{numberM, anyM, allM}
 use Rattle.engine_evaluate.specs.declared.Truth.{Truth}
 use Rattle.engine_evaluate.specs.declared.Truth.the-variants.{Yes, No, Unknown}
 use Rattle.engine_state.specs.declared.Move.{Move}

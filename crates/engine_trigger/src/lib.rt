@@ -51,7 +51,7 @@ pub fn release(q: &mut [u32], r: &mut [u32], st: State, automation: u32) -> Stat
     requires { ⌜ Fits-qr st (now q) (now r) ⌝ }
     ensures { λ s. ⌜ Does (releaseM automation) st s (by q) kept (by r) still ⌝ }
 {
-    let found = runs::find_queued(r, st.active, automation);
+    let found = runs::find_queued(r, st.live_runs, automation);
     match found {
         Found::At(k) => {
             let run = runs::run_at(r, k);
@@ -64,10 +64,10 @@ pub fn release(q: &mut [u32], r: &mut [u32], st: State, automation: u32) -> Stat
 
 // The run at k ends.
 pub fn finish(q: &mut [u32], a: &mut [u32], r: &mut [u32], st: State, k: usize) -> State
-    requires { ⌜ (k < st .active) × Fits-qar st (now q) (now a) (now r) ⌝ }
+    requires { ⌜ (k < st .«live_runs») × Fits-qar st (now q) (now a) (now r) ⌝ }
     ensures { λ s. ⌜ Does (finishM k) st s (by q) (by a) (by r) still ⌝ }
 {
-    let n = st.active;
+    let n = st.live_runs;
     let run = runs::run_at(r, k);
     runs::take_run(r, n, k);
     let s1 = engine_state::with_active(st, n - 1);
@@ -77,8 +77,8 @@ pub fn finish(q: &mut [u32], a: &mut [u32], r: &mut [u32], st: State, k: usize) 
 
 // The run at k goes on, if it waits for this change.
 fn wake_one(f: &[u8], q: &mut [u32], r: &mut [u32], st: State, k: usize, m: Move) -> State
-    requires { ⌜ (k < st .active) × Fits-qr st (now q) (now r) ⌝ }
-    ensures { λ s. ⌜ Does (wake-oneM (was f) m k) st s (by q) kept (by r) still × (s .active ≡ st .active) ⌝ }
+    requires { ⌜ (k < st .«live_runs») × Fits-qr st (now q) (now r) ⌝ }
+    ensures { λ s. ⌜ Does (wake-oneM (was f) m k) st s (by q) kept (by r) still × (s .«live_runs» ≡ st .«live_runs») ⌝ }
 {
     let phase = runs::phase_at(r, k);
     let Phase::Waiting(w) = phase else {
@@ -97,7 +97,7 @@ fn wake(f: &[u8], q: &mut [u32], r: &mut [u32], st: State, m: Move) -> State
     requires { ⌜ Fits-qr st (now q) (now r) ⌝ }
     ensures { λ s. ⌜ Does (wakeM (was f) m) st s (by q) kept (by r) still ⌝ }
 {
-    let n = st.active;
+    let n = st.live_runs;
     let mut s = st;
     let mut k: usize = 0;
     while k < n {

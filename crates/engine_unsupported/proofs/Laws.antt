@@ -13,7 +13,7 @@ use Rattle.reasons.specs.declared.Reason.{Reason}
 use Rattle.reasons.specs.Reasons.{render}
 use Rattle.reasons.specs.Readable.{Readable, HasText}
 use Rattle.reasons.specs.Lists.{reasons, listed}
-use Rattle.engine_fields.specs.Reads.{word, rules, atMost, textPosition}
+use Rattle.engine_fields.specs.Fields.{word, rules, atMost, textPosition}
 use Rattle.engine_fields.proofs.Readable.{position-stands}
 use Rattle.engine_unsupported.specs.declared.Head.{Head}
 use Rattle.engine_notes.specs.declared.Part.the-variants as part

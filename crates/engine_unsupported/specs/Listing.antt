@@ -1,5 +1,5 @@
 -- The notes of the automations as reasons, listed from the file: of actions, and of whole automations, as engine_notes has
--- it of their other parts. `proofs/Agrees` has, for each listing, that it adds the reasons of the part that the reader of
+-- it of their other parts. `proofs/Refines` has, for each listing, that it adds the reasons of the part that the reader of
 -- `File` finds there.
 use Prim.Native.Nat.{ℕ, zero, suc, _+_}
 use mathlib.Core.List.{List, []}
@@ -10,7 +10,7 @@ use Rattle.model_spec.specs.File.{u8, u16, u32}
 use Rattle.reasons.specs.Kinds as kinds
 use Rattle.reasons.specs.declared.Reason.{Reason}
 use Rattle.reasons.specs.Reasons.{render}
-use Rattle.engine_fields.specs.Reads.{word, rules, textPosition}
+use Rattle.engine_fields.specs.Fields.{word, rules, textPosition}
 use Rattle.engine_unsupported.specs.declared.Head.{Head}
 use Rattle.engine_notes.specs.declared.Part.the-variants as part
 use Rattle.engine_notes.specs.Listing.{after, Listing, _⨾_, read, by, stay, skipM, timesM, insertM, triggerM, predicateM, partsM}

@@ -9,7 +9,7 @@ use Rattle.model_spec.specs.Model.{Automation}
 use Rattle.model_spec.specs.File.{counted, place, predicate, trigger, actions}
 use Rattle.model_parts.specs.Stand.{Reads}
 use Rattle.reasons.specs.Readable.{text-count}
-use Rattle.engine_fields.specs.Reads.{word}
+use Rattle.engine_fields.specs.Fields.{word}
 
 -- the i-th row of the table x is the automation r
 pub record RuleAt (f x : List ℕ) (ts : List Text) (i : ℕ) (r : Automation) : Type 0 where

@@ -5,11 +5,11 @@ use mathlib.Core.List.{List}
 use lib.ListN.{getD, set}
 use borrow.Author.Tests.{ne-eqb, lt-ltb, le-ltb}
 use Rattle.queue.specs.declared.Work.the-variants.{Stale}
-use Rattle.engine_fields.specs.Reads.{name, stale, entityOf}
+use Rattle.engine_fields.specs.Fields.{name, stale, entityOf}
 use Rattle.engine_state.specs.Changes.{addM}
 use Rattle.engine_state.specs.declared.Setting.{Setting}
 use Rattle.engine_state.specs.Machine.{Machine, more, later}
-use Rattle.engine_update.specs.Writes.{expiryM, writeM, update-atM, updateM}
+use Rattle.engine_update.specs.Update.{expiryM, writeM, update-atM, updateM}
 
 pub expiry-goes : (x : List ℕ) (e t first second name' version : ℕ) (m : Machine) → t ≡ stale x e → (t ≡ 4294967295 → ⊥) → first ≡ later (m .now) t → second ≡ later first 1 → name' ≡ name x e → version ≡ getD (m .versions) e 0 →
     addM second (Stale name' version) m ≡ expiryM x e m

@@ -9,7 +9,7 @@ use queue::Work;
 ghost use Rattle.notation.specs.Reference.{was};
 ghost use Prim.Native.Nat.{_<_};
 ghost use Rattle.engine_state.specs.Steps.{Moves, Does, goes, kept, still, Fits-q, Fits-qa, by};
-ghost use Rattle.engine_update.specs.Writes.{expiryM, changedM, updateM};
+ghost use Rattle.engine_update.specs.Update.{expiryM, changedM, updateM};
 
 // The entity's value will be stale.
 pub fn expiry(x: &[u32; 436], q: &mut [u32], versions: &[u32; 32], st: State, e: usize) -> State

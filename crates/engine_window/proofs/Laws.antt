@@ -8,7 +8,7 @@ use lib.ListN.{getD}
 use borrow.Author.Tests.{lt-ltb, le-ltb, le-leb, lt-leb}
 use Rattle.model_spec.specs.Model.{Moment}
 use Rattle.engine_spec.specs.Truth.{moment-after, marked, day-before, is-open}
-use Rattle.engine_fields.specs.Reads.{four}
+use Rattle.engine_fields.specs.Fields.{four}
 use Rattle.engine_window.specs.Window.{startM, openM}
 
 pub marks-is : (d n : ℕ) → eqb (d / 2 ^ n % 2) 1 ≡ marked d n

@@ -5,7 +5,7 @@ use mathlib.Core.List.{List}
 use lib.ListN.{getD}
 use Rattle.model_spec.specs.Model.{Moment}
 use Rattle.engine_spec.specs.Truth.{moment-after, is-open}
-use Rattle.engine_fields.specs.Reads.{four}
+use Rattle.engine_fields.specs.Fields.{four}
 
 -- the moment of second 0
 abbrev pub startM : List ℕ → Moment

@@ -4,7 +4,7 @@ use mathlib.Core.Path.{_≡_, refl}
 use mathlib.Core.List.{List}
 use native.Mathlib.Omega.{arith}
 use lib.ListN.{length}
-use Rattle.fukhtsege.specs.Answers.{Entry}
+use Rattle.fukhtsege.specs.Contract.{Entry}
 
 module _ {A : Type 0} {size : ℕ} {Kept : Type 0} {Promise : A → Type 0} {refusal : A → ℕ} {numbers : A → List ℕ → List ℕ} {a : List ℕ} where
   pub too-short : length a < size → Kept → Entry size Kept Promise refusal numbers 47 a a

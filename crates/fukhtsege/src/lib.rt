@@ -3,11 +3,11 @@
 use model_validate::Validity;
 ghost use Rattle.notation.specs.Reference.{was, is};
 ghost use mathlib.Core.Path.{_≡_};
-ghost use Rattle.engine_entry.specs.Answers.{lent};
+ghost use Rattle.engine_entry.specs.Contract.{lent};
 ghost use Rattle.lint_spec.specs.Memory as lint;
-ghost use Rattle.model_validate.specs.Answers.{validated};
+ghost use Rattle.model_validate.specs.Contract.{validated};
 ghost use Rattle.c_encoding.specs.Numbers.{validityNumber};
-ghost use Rattle.fukhtsege.specs.Answers.{ListsC, SimulatesC, ChecksC, VerifiesC, MinimizesC, LintsC, ConesC};
+ghost use Rattle.fukhtsege.specs.Contract.{ListsC, SimulatesC, ChecksC, VerifiesC, MinimizesC, LintsC, ConesC};
 
 // The result if the answer is too short.
 pub const SHORT_ANSWER: u32 = 47;

@@ -12,7 +12,7 @@ use lib.Seq.{take-at, length-take-le}
 use borrow.Author.Tests.{lt-ltb, le-ltb, eq-eqb, ne-eqb}
 use Rattle.areas.specs.Areas.{written, area}
 use Rattle.areas.proofs.Laws as areas
-use Rattle.lint_areas.specs.Board.{Item, finding, interaction, Board, board, more-findings, more-interactions, refused, push, pushes}
+use Rattle.lint_areas.specs.Areas.{Item, finding, interaction, Board, board, more-findings, more-interactions, refused, push, pushes}
 use Rattle.lint_areas.specs.Filled.{exactly, findings-of, interactions-of, over}
 
 -- words of the right number are kept

@@ -7,7 +7,7 @@ use lib.ListN.{length}
 use borrow.Author.Tests.{lt-ltb, le-ltb, eq-eqb, ne-eqb}
 use Rattle.areas.specs.Areas.{written}
 use Rattle.lint_areas.specs.declared.Out.{Out}
-use Rattle.lint_areas.specs.Board.{Item, finding, interaction, Board, board, more-findings, more-interactions, refused, push, pushes, onlyIf}
+use Rattle.lint_areas.specs.Areas.{Item, finding, interaction, Board, board, more-findings, more-interactions, refused, push, pushes, onlyIf}
 
 pub pushes-append : (l m : List Item) (b : Board) → pushes (l ++ m) b ≡ pushes m (pushes l b)
 unfolding pushes

@@ -3,7 +3,7 @@ use Prim.Native.Nat.{ℕ, zero, suc}
 use mathlib.Core.List.{List, [], _∷_, _++_}
 use mathlib.Core.Option.{Option, none, some}
 use lib.ListN.{take, replicate}
-use Rattle.lint_areas.specs.Board.{Item, finding, interaction}
+use Rattle.lint_areas.specs.Areas.{Item, finding, interaction}
 
 -- n words: those given, and zeros if they are fewer
 unfoldable pub exactly : ℕ → List ℕ → List ℕ

@@ -1,2 +1,2 @@
-pub mod Board
+pub mod Areas
 pub mod Filled

@@ -6,7 +6,7 @@ ghost use Prim.Native.Nat.{_+_, _*_, _≤_, _<_};
 ghost use mathlib.Core.List.{List, _∷_, []};
 ghost use Prim.Native.Nat.{ℕ};
 ghost use lib.ListN.{length, replicate};
-ghost use Rattle.lint_areas.specs.Board.{board, pushes, finding, interaction, onlyIf};
+ghost use Rattle.lint_areas.specs.Areas.{board, pushes, finding, interaction, onlyIf};
 
 // How many entries each area holds, and 45 or 46 after the first that found no place, else 0.
 pub struct Out {

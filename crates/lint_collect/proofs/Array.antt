@@ -14,7 +14,7 @@ use Rattle.lint_reach.specs.Paths.{Full}
 use Rattle.lint_reach.specs.Cycles.{Copies}
 use Rattle.lint_walk.specs.declared.Walk.{Walk}
 use Rattle.lint_walk.specs.Walks.{walkM}
-use Rattle.lint_collect.specs.Order.{leadsToM, fillM, rowM, edgesM}
+use Rattle.lint_collect.specs.Collect.{leadsToM, fillM, rowM, edgesM}
 
 module _ {A : Type 0} (f : ℕ → A) (d : A) where
   fill-length : (n k : ℕ) (l : List A) → length (fillM f n k l) ≡ length l

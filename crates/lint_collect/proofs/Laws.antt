@@ -12,20 +12,20 @@ use Rattle.lint_walk.specs.declared.Walk.{Walk}
 use Rattle.lint_walk.specs.Raw.{placeM, numberM, past, kindM}
 use Rattle.lint_walk.specs.Walks.{walkBy, walkM}
 use Rattle.lint_access.specs.Sets.{sectionBy, readsM, writesM}
-use Rattle.lint_areas.specs.Board.{Item, finding, Board, pushes}
+use Rattle.lint_areas.specs.Areas.{Item, finding, Board, pushes}
 use Rattle.lint_reach.specs.declared.Components.{Components}
 use Rattle.lint_reach.specs.Sets.{holds}
 use Rattle.lint_reach.specs.Steps.{Square}
 use Rattle.lint_reach.specs.Cycles.{Cycles}
 use Rattle.lint_conditions.specs.declared.Names.{Names}
-use Rattle.lint_conditions.specs.Tests.{any-listM, highestM, leadsM}
+use Rattle.lint_conditions.specs.Conditions.{any-listM, highestM, leadsM}
 use Rattle.lint_findings.specs.declared.About.{About}
 use Rattle.lint_findings.specs.Entries.{items-numbersM, valueM, ruleItems}
 use Rattle.lint_pairs.specs.Pairs.{pairItems}
 use Rattle.lint_access.proofs.Laws.{reads-by, writes-by}
 use Rattle.lint_findings.proofs.Laws.{numbers-start, numbers-end, rule-by}
 use Rattle.lint_pairs.proofs.Laws.{pair-by}
-use Rattle.lint_collect.specs.Order.{aboutAt, ruleAt, rulesItems, pairAt, laterItems, opposingItems, actionLeadsM, leadsToM, fillM, rowM, edgesM, cycleWritesFrom, cycleWritesM, cycleM, cyclesItems}
+use Rattle.lint_collect.specs.Collect.{aboutAt, ruleAt, rulesItems, pairAt, laterItems, opposingItems, actionLeadsM, leadsToM, fillM, rowM, edgesM, cycleWritesFrom, cycleWritesM, cycleM, cyclesItems}
 
 module _ (s : List ℕ) where
   pub about-is : (e : Section) (i source writes : ℕ) {l q c b t : ℕ} → l ≡ numberM s source → q ≡ past s source 4 → c ≡ numberM s q → b ≡ bitOr 0 (2 ^ i) → t ≡ highestM s e writes →

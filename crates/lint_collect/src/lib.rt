@@ -9,10 +9,10 @@ ghost use mathlib.Core.Path.{_≡_};
 ghost use mathlib.Core.List.{List};
 ghost use Prim.Native.Nat.{ℕ, _≤_, _<_, _+_, _-_};
 ghost use Rattle.lint_reach.specs.Cycles.{Cycles};
-ghost use Rattle.lint_areas.specs.Board.{board, pushes};
+ghost use Rattle.lint_areas.specs.Areas.{board, pushes};
 ghost use Rattle.lint_walk.specs.Walks.{walkBy};
-ghost use Rattle.lint_conditions.specs.Given.{sectionOf, namesBy};
-ghost use Rattle.lint_collect.specs.Order.{Lints, aboutAt, ruleAt, rulesItems, pairAt, laterItems, opposingItems, actionLeadsM, leadsToM, rowM, edgesM, cycleWritesM, cycleM, cyclesItems};
+ghost use Rattle.lint_conditions.specs.Context.{sectionOf, namesBy};
+ghost use Rattle.lint_collect.specs.Collect.{Lints, aboutAt, ruleAt, rulesItems, pairAt, laterItems, opposingItems, actionLeadsM, leadsToM, rowM, edgesM, cycleWritesM, cycleM, cyclesItems};
 
 // ---- each automation
 

@@ -14,7 +14,7 @@ use Rattle.lint_reach.specs.Sets.{holds}
 use Rattle.lint_walk.specs.declared.Walk.{Walk}
 use Rattle.lint_walk.specs.Raw.{byteM, placeM, numberM, past, predicateEnd, kindM, triggersM, conditionsM}
 use Rattle.lint_conditions.specs.declared.Names.{Names}
-use Rattle.lint_conditions.specs.Tests.{anyM, allM, any-listM, clashM, clashesM, meetsM, contradictoryFrom, contradictoryM, mismatchM, mismatchedM, setsOffM, leadsM, delaysM, guardM, guardedM, unguardedM, tierM, staleM, opposedM, greaterM, highestFrom, highestM}
+use Rattle.lint_conditions.specs.Conditions.{anyM, allM, any-listM, clashM, clashesM, meetsM, contradictoryFrom, contradictoryM, mismatchM, mismatchedM, setsOffM, leadsM, delaysM, guardM, guardedM, unguardedM, tierM, staleM, opposedM, greaterM, highestFrom, highestM}
 
 -- ---- loops
 

@@ -1,3 +1,3 @@
 pub mod Laws
-pub mod Agrees
+pub mod Refines
 pub mod More

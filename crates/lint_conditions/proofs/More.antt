@@ -24,10 +24,10 @@ use Rattle.lint_spec.specs.Findings.{is-star, guards, opposed, rank}
 use Rattle.lint_walk.specs.declared.Walk.{Walk}
 use Rattle.lint_walk.specs.Raw.{byteM, placeM, numberM, past, kindM}
 use Rattle.lint_walk.proofs.Found.{past-is, byte-got, place-got, number-got, EffectAt, set-at, toggle-at, delay-at, condition-at, choose-at, wait-at, unknown-at, ActionAt}
-use Rattle.lint_walk.proofs.Goes.{ActionsAt, no-action, action, Walked}
-use Rattle.lint_conditions.specs.Tests.{any-listM, delaysM, guardM, guardedM, tierM, staleM, opposedM}
+use Rattle.lint_walk.proofs.Refines.{ActionsAt, no-action, action, Walked}
+use Rattle.lint_conditions.specs.Conditions.{any-listM, delaysM, guardM, guardedM, tierM, staleM, opposedM}
 use Rattle.lint_conditions.proofs.Laws as laws
-use Rattle.lint_conditions.proofs.Agrees.{or-is}
+use Rattle.lint_conditions.proofs.Refines.{or-is}
 
 -- ---- opposing writes
 

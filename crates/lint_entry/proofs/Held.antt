@@ -23,7 +23,7 @@ use Rattle.lint_spec.specs.Findings.{Interaction, Entry}
 use Rattle.lint_spec.specs.Lint.{overflow}
 use Rattle.lint_spec.specs.Words.{interaction-words}
 use Rattle.lint_spec.specs.Memory.{Both, neither, both}
-use Rattle.lint_areas.specs.Board.{Item, finding, interaction, Board, board, more-findings, more-interactions, refused, push, pushes}
+use Rattle.lint_areas.specs.Areas.{Item, finding, interaction, Board, board, more-findings, more-interactions, refused, push, pushes}
 use Rattle.lint_areas.specs.Filled.{exactly, findings-of}
 use Rattle.lint_areas.proofs.Holds.{Shaped, shaped-none, shaped-finding, shaped-interaction, exact}
 

@@ -16,15 +16,15 @@ use Rattle.lint_access.specs.Sets.{sectionBy, readsM, writesM}
 use Rattle.lint_access.proofs.Laws.{reads-by, writes-by}
 use Rattle.model_parts.specs.declared.Extent.{Extent}
 use Rattle.lint_conditions.specs.declared.Given.{Given}
-use Rattle.lint_conditions.specs.Given.{sectionOf, namesBy}
+use Rattle.lint_conditions.specs.Context.{sectionOf, namesBy}
 use Rattle.lint_undeclared.specs.declared.Undeclared.{Undeclared}
-use Rattle.lint_undeclared.specs.Strange.{undeclaredM}
-use Rattle.lint_areas.specs.Board.{Board, board}
-use Rattle.lint_collect.specs.Order.{fillM, Lints}
+use Rattle.lint_undeclared.specs.Undeclared.{undeclaredM}
+use Rattle.lint_areas.specs.Areas.{Board, board}
+use Rattle.lint_collect.specs.Collect.{fillM, Lints}
 use Rattle.lint_collect.specs.declared.Linted.{Linted}
 use Rattle.lint_notes.specs.Notes.{AllNotes}
-use Rattle.lint_refinement.specs.Ground.{namesOf}
-use Rattle.lint_entry.specs.Parts.{givenBy, firstM, readSets, writeSets, Bounds, Inserts, Tells}
+use Rattle.lint_refinement.specs.Context.{namesOf}
+use Rattle.lint_entry.specs.Contracts.{givenBy, firstM, readSets, writeSets, Bounds, Inserts, Tells}
 
 pub first-is : (l : List ℕ) (n : ℕ) → firstM l n ≡ fillM (λ i. getD l i 0) (n - 0) 0 (replicate 32 0)
 unfolding firstM

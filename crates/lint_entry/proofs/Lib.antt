@@ -1,3 +1,3 @@
 pub mod Laws
 pub mod Held
-pub mod Core
+pub mod Refines

@@ -12,10 +12,10 @@ ghost use mathlib.Core.Path.{_≡_};
 ghost use Prim.Native.Nat.{_≤_, _<_, _+_, _-_};
 ghost use lib.ListN.{length};
 ghost use Rattle.lint_spec.specs.Memory.{lent};
-ghost use Rattle.lint_areas.specs.Board.{board};
-ghost use Rattle.lint_conditions.specs.Given.{sectionOf};
-ghost use Rattle.lint_entry.specs.Answers.{no-lint, Answers};
-ghost use Rattle.lint_entry.specs.Parts.{givenBy, firstM, readSets, writeSets, Bounds, Inserts, Tells, AnswersAs};
+ghost use Rattle.lint_areas.specs.Areas.{board};
+ghost use Rattle.lint_conditions.specs.Context.{sectionOf};
+ghost use Rattle.lint_entry.specs.Contract.{no-lint, Answers};
+ghost use Rattle.lint_entry.specs.Contracts.{givenBy, firstM, readSets, writeSets, Bounds, Inserts, Tells, AnswersAs};
 
 // `refused` is 0 or the refusal's number; then the rest is 0. As many `findings` and `interactions` stand in their areas.
 // The first `components` of `cycles` are the components, as sets of automations by number. `reads` and `writes` are sets of

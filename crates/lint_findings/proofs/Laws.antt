@@ -15,10 +15,10 @@ use Rattle.lint_reach.specs.Sets.{holds}
 use Rattle.lint_walk.specs.declared.Walk.{Walk}
 use Rattle.lint_walk.specs.Raw.{placeM, numberM, past, predicatesEnd, kindM, conditionsM}
 use Rattle.lint_walk.specs.Walks.{walkBy, listEnd}
-use Rattle.lint_areas.specs.Board.{Item, finding, interaction, Board, pushes, onlyIf}
+use Rattle.lint_areas.specs.Areas.{Item, finding, interaction, Board, pushes, onlyIf}
 use Rattle.lint_areas.proofs.Laws.{pushes-append, next}
 use Rattle.lint_conditions.specs.declared.Names.{Names}
-use Rattle.lint_conditions.specs.Tests.{contradictoryM, mismatchedM, delaysM, staleM, tierM, unguardedM, leadsM}
+use Rattle.lint_conditions.specs.Conditions.{contradictoryM, mismatchedM, delaysM, staleM, tierM, unguardedM, leadsM}
 use Rattle.lint_findings.specs.declared.About.{About}
 use Rattle.lint_findings.specs.Entries.{items-numbersM, items-partsM, aboutM, actionM, delayedM, ownItems, branchItems, branchesAt, branchesItems, staleHereM, freshItems, valueM, riskyM, interactItems, fanoutItems, writeItems, writesItems, firstItems, ruleItems}
 

@@ -12,9 +12,9 @@ use Rattle.lint_reach.specs.Sets.{holds}
 use Rattle.lint_walk.specs.declared.Walk.{Walk}
 use Rattle.lint_walk.specs.Raw.{placeM, numberM, past, predicatesEnd, kindM, conditionsM}
 use Rattle.lint_walk.specs.Walks.{listEnd}
-use Rattle.lint_areas.specs.Board.{Item, finding, interaction, onlyIf}
+use Rattle.lint_areas.specs.Areas.{Item, finding, interaction, onlyIf}
 use Rattle.lint_conditions.specs.declared.Names.{Names}
-use Rattle.lint_conditions.specs.Tests.{contradictoryM, mismatchedM, delaysM, staleM, tierM, unguardedM, leadsM}
+use Rattle.lint_conditions.specs.Conditions.{contradictoryM, mismatchedM, delaysM, staleM, tierM, unguardedM, leadsM}
 use Rattle.lint_findings.specs.declared.About.{About}
 
 -- the entries of n numbers from k on

@@ -7,8 +7,8 @@ ghost use mathlib.Core.Path.{_≡_};
 ghost use mathlib.Core.List.{List};
 ghost use Prim.Native.Nat.{ℕ, _≤_, _<_, _+_, _-_};
 ghost use Rattle.lint_walk.specs.Walks.{walkBy};
-ghost use Rattle.lint_areas.specs.Board.{board, pushes};
-ghost use Rattle.lint_conditions.specs.Given.{sectionOf, namesBy};
+ghost use Rattle.lint_areas.specs.Areas.{board, pushes};
+ghost use Rattle.lint_conditions.specs.Context.{sectionOf, namesBy};
 ghost use Rattle.lint_findings.specs.Entries.{aboutM, actionM, delayedM, ownItems, branchItems, branchesItems, staleHereM, freshItems, valueM, riskyM, interactItems, writeItems, writesItems, firstItems, ruleItems};
 
 // An automation: its number, the set of it alone, the highest tier that it writes, its source.

@@ -10,11 +10,11 @@ use Rattle.texts.specs.Texts.{Text}
 use Rattle.reasons.specs.Readable.{HasText}
 use Rattle.reasons.specs.Lists.{listed, reasons, Clean}
 use Rattle.reasons.proofs.Cleaning.{zeros, clean-zeros}
-use Rattle.engine_fields.specs.Reads.{cap}
+use Rattle.engine_fields.specs.Fields.{cap}
 use Rattle.engine_unsupported.specs.Listing.{ruleM}
 use Rattle.lint_walk.specs.Raw.{placeM, numberM, past, triggersM, conditionsM, actionsM, predicatesEnd}
 use Rattle.lint_walk.specs.Walks.{walkM}
-use Rattle.lint_areas.specs.Board.{finding, Board, pushes}
+use Rattle.lint_areas.specs.Areas.{finding, Board, pushes}
 use Rattle.lint_findings.specs.Entries.{items-numbersM}
 use Rattle.lint_findings.proofs.Laws.{numbers-start}
 use Rattle.lint_notes.specs.Notes.{noteM, noteItems, RowOf, Few, RuleNotes, NotesAt, AllNotes, no-notes, more-notes}

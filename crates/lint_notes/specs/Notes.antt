@@ -7,11 +7,11 @@ use lib.ListN.{getD}
 use Rattle.model_parts.specs.declared.Section.{Section}
 use Rattle.reasons.specs.Readable.{HasText}
 use Rattle.reasons.specs.Lists.{listed, Clean}
-use Rattle.engine_fields.specs.Reads.{cap, word}
+use Rattle.engine_fields.specs.Fields.{cap, word}
 use Rattle.engine_unsupported.specs.Listing.{ruleM}
 use Rattle.lint_walk.specs.Raw.{placeM, numberM, past, triggersM, conditionsM, actionsM}
 use Rattle.lint_walk.specs.Walks.{walkM}
-use Rattle.lint_areas.specs.Board.{Item, finding, Board, pushes}
+use Rattle.lint_areas.specs.Areas.{Item, finding, Board, pushes}
 use Rattle.lint_findings.specs.Entries.{items-numbersM}
 
 -- the words of the j-th reason's finding

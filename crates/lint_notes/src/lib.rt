@@ -5,7 +5,7 @@ ghost use Rattle.notation.specs.Reference.{was, is};
 ghost use mathlib.Core.Path.{_≡_};
 ghost use mathlib.Core.List.{List};
 ghost use Prim.Native.Nat.{ℕ, _≤_, _<_, _+_, _*_, _-_};
-ghost use Rattle.lint_areas.specs.Board.{board, pushes};
+ghost use Rattle.lint_areas.specs.Areas.{board, pushes};
 ghost use Rattle.lint_notes.specs.Notes.{noteM, noteItems, RowOf, Few, NotesAt, AllNotes};
 
 // ---- where the notes of an automation stand

@@ -12,9 +12,9 @@ use Rattle.model_check.specs.Checks.{number-of}
 use Rattle.lint_walk.specs.declared.Walk.{Walk}
 use Rattle.lint_walk.specs.Raw.{placeM, numberM, past, kindM}
 use Rattle.lint_walk.specs.Walks.{walkBy}
-use Rattle.lint_areas.specs.Board.{Item, finding, Board, pushes, onlyIf}
+use Rattle.lint_areas.specs.Areas.{Item, finding, Board, pushes, onlyIf}
 use Rattle.lint_conditions.specs.declared.Names.{Names}
-use Rattle.lint_conditions.specs.Tests.{tierM, opposedM}
+use Rattle.lint_conditions.specs.Conditions.{tierM, opposedM}
 use Rattle.lint_findings.specs.Entries.{items-numbersM, valueM}
 use Rattle.lint_findings.proofs.Laws.{numbers-start}
 use Rattle.lint_pairs.specs.Pairs.{spelledM, pairM, opposeItems, opposingM, foundItems, rowItems, pairItems}

@@ -9,9 +9,9 @@ use Rattle.model_parts.specs.declared.Section.{Section}
 use Rattle.model_check.specs.Checks.{number-of}
 use Rattle.lint_walk.specs.declared.Walk.{Walk}
 use Rattle.lint_walk.specs.Raw.{placeM, numberM, past, kindM}
-use Rattle.lint_areas.specs.Board.{Item, finding, onlyIf}
+use Rattle.lint_areas.specs.Areas.{Item, finding, onlyIf}
 use Rattle.lint_conditions.specs.declared.Names.{Names}
-use Rattle.lint_conditions.specs.Tests.{tierM, opposedM}
+use Rattle.lint_conditions.specs.Conditions.{tierM, opposedM}
 use Rattle.lint_findings.specs.Entries.{items-numbersM, valueM}
 
 -- a tier's word where Rust spells `accesssafety`

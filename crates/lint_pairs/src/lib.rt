@@ -7,8 +7,8 @@ ghost use mathlib.Core.Path.{_≡_};
 ghost use mathlib.Core.List.{List};
 ghost use Prim.Native.Nat.{ℕ, _≤_, _<_};
 ghost use Rattle.lint_walk.specs.Walks.{walkBy};
-ghost use Rattle.lint_areas.specs.Board.{board, pushes};
-ghost use Rattle.lint_conditions.specs.Given.{sectionOf, namesBy};
+ghost use Rattle.lint_areas.specs.Areas.{board, pushes};
+ghost use Rattle.lint_conditions.specs.Context.{sectionOf, namesBy};
 ghost use Rattle.lint_pairs.specs.Pairs.{spelledM, pairM, opposingM, foundItems, rowItems, pairItems};
 
 // The tier's word where Rust spells `accesssafety`.

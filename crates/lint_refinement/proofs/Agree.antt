@@ -13,7 +13,7 @@ use Rattle.lint_spec.specs.Findings.{Problem, Finding, Interaction, Entry}
 use Rattle.lint_spec.specs.Lint.{finding-in, interaction-in, overflow}
 use Rattle.lint_spec.specs.Words.{source-words, sources-of, finding-words, interaction-words, Reasoned, noted, plain, Worded}
 use Rattle.lint_spec.specs.Memory.{Both, neither, both}
-use Rattle.lint_areas.specs.Board.{Item, onlyIf}
+use Rattle.lint_areas.specs.Areas.{Item, onlyIf}
 use Rattle.lint_areas.specs.Filled.{findings-of, interactions-of, over}
 use Rattle.lint_areas.proofs.Holds.{Shaped, shaped-none, shaped-finding, shaped-interaction}
 use Rattle.lint_findings.specs.Entries.{items-numbersM}

@@ -26,14 +26,14 @@ use Rattle.lint_reach.specs.Sets.{holds, members}
 use Rattle.lint_walk.specs.Walks.{walkM}
 use Rattle.lint_access.specs.Names.{nameAt}
 use Rattle.lint_access.specs.Sets.{readsM, writesM}
-use Rattle.lint_access.proofs.Agrees.{members-below, reads-inside, writes-inside}
+use Rattle.lint_access.proofs.Refines.{members-below, reads-inside, writes-inside}
 use Rattle.lint_conditions.specs.declared.Names.{Names}
-use Rattle.lint_collect.specs.Order.{fillM}
+use Rattle.lint_collect.specs.Collect.{fillM}
 use Rattle.lint_refinement.specs.Numbers.{padded, entities-of, declared-set, undeclared, stranger-places, stranger-readers}
 use Rattle.lint_refinement.proofs.Lists.{mem-at}
 use Rattle.lint_refinement.proofs.Sets.{once-at, eqb-suc, set-members, places-at}
-use Rattle.lint_refinement.proofs.Stage.{Stage, no-rule, each-at, writes-small, reads-small, rule-start, rule-of, rule-at, walked-at}
-use Rattle.lint_refinement.proofs.Strangers.{places-below}
+use Rattle.lint_refinement.proofs.FileFacts.{Stage, no-rule, each-at, writes-small, reads-small, rule-start, rule-of, rule-at, walked-at}
+use Rattle.lint_refinement.proofs.Undeclared.{places-below}
 use Rattle.lint_refinement.proofs.Cycled.{each-each, places-long}
 use Rattle.lint_refinement.proofs.Rules.{es, names, ids, names-once, reads-listed, writes-listed}
 

@@ -15,7 +15,7 @@ use Rattle.model_index.specs.Indexed.{Indexed}
 use Rattle.engine_spec.specs.Words.{texts-in}
 use Rattle.lint_spec.specs.Words.{names-in, ids-in}
 use Rattle.lint_access.proofs.Rising.{Rising, rising-ascending}
-use Rattle.lint_refinement.specs.Ground.{Bounds}
+use Rattle.lint_refinement.specs.Context.{Bounds}
 use Rattle.lint_refinement.proofs.Accepted.{accepted-lawful}
 use Rattle.lint_refinement.proofs.Sets.{Once}
 

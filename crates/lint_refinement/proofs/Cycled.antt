@@ -37,22 +37,22 @@ use Rattle.lint_reach.proofs.Bits.{holds-or, holds-none, keep-none, keep-append
 use Rattle.lint_walk.specs.Raw.{placeM, past, kindM}
 use Rattle.lint_walk.specs.Walks.{walkM}
 use Rattle.lint_walk.proofs.Found.{ActionAt}
-use Rattle.lint_walk.proofs.Goes.{ActionsAt, no-action, action}
+use Rattle.lint_walk.proofs.Refines.{ActionsAt, no-action, action}
 use Rattle.lint_access.specs.Names.{nameAt}
 use Rattle.lint_access.specs.Sets.{writesM}
 use Rattle.lint_access.proofs.Rising.{mem-none, mem-append}
 use Rattle.lint_conditions.specs.declared.Names.{Names}
-use Rattle.lint_conditions.specs.Tests.{any-listM, leadsM}
-use Rattle.lint_conditions.proofs.Agrees.{leads-agrees, or-is}
-use Rattle.lint_areas.specs.Board.{Item}
+use Rattle.lint_conditions.specs.Conditions.{any-listM, leadsM}
+use Rattle.lint_conditions.proofs.Refines.{leads-agrees, or-is}
+use Rattle.lint_areas.specs.Areas.{Item}
 use Rattle.lint_findings.specs.Entries.{items-numbersM, valueM}
-use Rattle.lint_collect.specs.Order.{actionLeadsM, leadsToM, edgesM, cycleWritesFrom, cycleWritesM, cycleM, cyclesItems}
+use Rattle.lint_collect.specs.Collect.{actionLeadsM, leadsToM, edgesM, cycleWritesFrom, cycleWritesM, cycleM, cyclesItems}
 use Rattle.lint_collect.proofs.Array.{edges-copy}
 use Rattle.lint_refinement.proofs.Sets.{set-members, places-at}
 use Rattle.lint_refinement.proofs.Agree.{Stands, as-finding, agree-numbers}
 use Rattle.lint_refinement.proofs.Tiers.{highest-word}
 use Rattle.lint_refinement.proofs.Accepted.{FineA}
-use Rattle.lint_refinement.proofs.Stage.{Stage, no-rule, each-at, nth, rule-start, rule-of, rule-at, legal-at, walked-at}
+use Rattle.lint_refinement.proofs.FileFacts.{Stage, no-rule, each-at, nth, rule-start, rule-of, rule-at, legal-at, walked-at}
 use Rattle.lint_refinement.proofs.Rules.{es, names, ids, Agrees, Writes, writes, others, write-at, writes-held}
 
 -- ---- lists

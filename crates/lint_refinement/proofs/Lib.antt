@@ -3,13 +3,13 @@ pub mod Sets
 pub mod Agree
 pub mod Tiers
 pub mod Accepted
-pub mod Stage
+pub mod FileFacts
 pub mod Rules
 pub mod Pairs
 pub mod Cycled
-pub mod Staged
+pub mod FactsHold
 pub mod Noted
-pub mod Strangers
+pub mod Undeclared
 pub mod Packed
 pub mod ById
 pub mod Columns

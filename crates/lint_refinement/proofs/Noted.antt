@@ -22,25 +22,25 @@ use Rattle.reasons.specs.Lists.{words-of, reason-of, reasons, listed}
 use Rattle.engine_spec.specs.Unsupported.{unsupported, rule-reasons}
 use Rattle.engine_spec.proofs.Lists.{sorted-many}
 use Rattle.model_spec.specs.Rewrite.{place-of}
-use Rattle.engine_fields.specs.Reads.{cap, word}
+use Rattle.engine_fields.specs.Fields.{cap, word}
 use Rattle.engine_unsupported.specs.Rows.{RuleAt as Row}
 use Rattle.engine_unsupported.proofs.Adding.{many-rules}
-use Rattle.engine_unsupported.proofs.Agrees.{alone-agrees}
+use Rattle.engine_unsupported.proofs.Refines.{alone-agrees}
 use Rattle.lint_spec.specs.Findings.{unsupported-note, Finding, unsupported-entry, unsupported-entries}
 use Rattle.lint_spec.specs.Words.{set-of, code-number, certainty-number, tier-number, source-words, sources-of, entity-number, ids-set, finding-words, noted}
 use Rattle.lint_spec.specs.Memory.{neither, both}
 use Rattle.lint_walk.specs.Raw.{numberM, past, triggersM, conditionsM, actionsM}
 use Rattle.lint_walk.specs.Walks.{walkM, listEnd}
 use Rattle.lint_walk.proofs.Found.{past-is, place-got, RuleAt}
-use Rattle.lint_walk.proofs.Goes.{list-ends}
+use Rattle.lint_walk.proofs.Refines.{list-ends}
 use Rattle.lint_conditions.specs.declared.Names.{Names}
-use Rattle.lint_areas.specs.Board.{Item, Board, pushes}
+use Rattle.lint_areas.specs.Areas.{Item, Board, pushes}
 use Rattle.lint_areas.proofs.Laws.{pushes-append}
 use Rattle.lint_findings.specs.Entries.{items-numbersM}
 use Rattle.lint_notes.specs.Notes.{noteM, noteItems, RowOf, RuleNotes, AllNotes, no-notes, more-notes}
 use Rattle.lint_refinement.proofs.Lists.{flat-longer}
 use Rattle.lint_refinement.proofs.Agree.{as-finding, agree-append}
-use Rattle.lint_refinement.proofs.Stage.{Stage, no-rule, rule-start, rule-of, rule-at, walked-at, id-number}
+use Rattle.lint_refinement.proofs.FileFacts.{Stage, no-rule, rule-start, rule-of, rule-at, walked-at, id-number}
 use Rattle.lint_refinement.proofs.Rules.{names, ids, Agrees}
 
 cap-is : (p : ℕ) → p ≤ 4294967295 → cap p ≡ p

@@ -24,13 +24,13 @@ use Rattle.lint_access.specs.Names.{nameAt}
 use Rattle.lint_access.proofs.Rising.{Rising, mem-sorted, rising-sorted, unique}
 use Rattle.lint_conditions.specs.declared.Names.{Names}
 use Rattle.lint_undeclared.specs.declared.Undeclared.{Undeclared}
-use Rattle.lint_undeclared.specs.Strange.{withM, strangeM, nameM, namesM, ruleM, rulesM, undeclaredM}
+use Rattle.lint_undeclared.specs.Undeclared.{withM, strangeM, nameM, namesM, ruleM, rulesM, undeclaredM}
 use Rattle.lint_refinement.specs.Numbers.{padded, undeclared}
 use Rattle.lint_refinement.proofs.Lists.{flat-append, rising-keep, mem-keep, mem-at}
 use Rattle.lint_refinement.proofs.Sets.{Once}
 use Rattle.lint_refinement.proofs.Accepted.{Declared, FineP, FineT, Fine, FineA, Legal}
-use Rattle.lint_refinement.proofs.Stage.{Stage, no-rule, id-number}
-use Rattle.lint_refinement.proofs.Strangers.{keep-append, found-places, strange-places}
+use Rattle.lint_refinement.proofs.FileFacts.{Stage, no-rule, id-number}
+use Rattle.lint_refinement.proofs.Undeclared.{keep-append, found-places, strange-places}
 use Rattle.lint_refinement.proofs.Rules.{es, names, ids}
 
 -- ---- no more than notes

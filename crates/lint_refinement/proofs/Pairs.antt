@@ -17,7 +17,7 @@ use Rattle.model_spec.specs.Model.{Tier, Automation, Model}
 use Rattle.model_walk.proofs.Found.{Case, is-true, is-false, case}
 use Rattle.model_parts.specs.declared.Section.{Section}
 use Rattle.model_check.specs.Checks.{number-of}
-use Rattle.model_check.proofs.Agrees.{eqb-sym}
+use Rattle.model_check.proofs.Refines.{eqb-sym}
 use Rattle.model_spec.specs.Rewrite.{place-of}
 use Rattle.lint_spec.specs.Touches.{Action, Write, write, written-by}
 use Rattle.lint_spec.specs.Touches as touches
@@ -29,17 +29,17 @@ use Rattle.lint_walk.specs.Raw.{placeM, past, kindM}
 use Rattle.lint_walk.specs.Walks.{walkM}
 use Rattle.lint_walk.proofs.Found.{ActionAt}
 use Rattle.lint_conditions.specs.declared.Names.{Names}
-use Rattle.lint_conditions.specs.Tests.{tierM, opposedM}
+use Rattle.lint_conditions.specs.Conditions.{tierM, opposedM}
 use Rattle.lint_conditions.proofs.More.{opposed-agrees}
-use Rattle.lint_areas.specs.Board.{Item, onlyIf}
+use Rattle.lint_areas.specs.Areas.{Item, onlyIf}
 use Rattle.lint_findings.specs.Entries.{items-numbersM, valueM}
 use Rattle.lint_pairs.specs.Pairs.{spelledM, pairM, opposeItems, rowItems, pairItems}
-use Rattle.lint_collect.specs.Order.{pairAt, laterItems, opposingItems}
+use Rattle.lint_collect.specs.Collect.{pairAt, laterItems, opposingItems}
 use Rattle.lint_refinement.proofs.Lists.{flat-flat}
 use Rattle.lint_refinement.proofs.Agree.{as-finding, agree-append, agree-if, agree-numbers}
 use Rattle.lint_refinement.proofs.Tiers.{entity-at, no-entity, tier-at, spelled-word}
 use Rattle.lint_refinement.proofs.Accepted.{FineA}
-use Rattle.lint_refinement.proofs.Stage.{Stage, no-rule, legal-at, walked-at, id-number, agree-actions}
+use Rattle.lint_refinement.proofs.FileFacts.{Stage, no-rule, legal-at, walked-at, id-number, agree-actions}
 use Rattle.lint_refinement.proofs.Rules.{es, names, ids, Agrees, name-number, declared-number, Valued, WriteAt, Writes, writes, others, write-at}
 
 module _ {s : List ℕ} {d : Names} {rs : Section} {ts : List Text} {m : Model} (st : Stage s d rs ts m) where

@@ -35,25 +35,25 @@ use Rattle.lint_walk.specs.declared.Walk.{Walk}
 use Rattle.lint_walk.specs.Raw.{placeM, past, predicatesEnd, kindM, conditionsM, actionsM}
 use Rattle.lint_walk.specs.Walks.{walkM, listEnd}
 use Rattle.lint_walk.proofs.Found.{past-is, place-got, SourceAt, predicates-end, EffectAt, set-at, toggle-at, delay-at, condition-at, choose-at, wait-at, unknown-at, ActionAt, RuleAt}
-use Rattle.lint_walk.proofs.Goes.{Walked, list-ends}
+use Rattle.lint_walk.proofs.Refines.{Walked, list-ends}
 use Rattle.lint_access.specs.Names.{nameAt}
 use Rattle.lint_access.specs.Sets.{readsM, writesM}
-use Rattle.lint_access.proofs.Agrees.{name-once, number-at, reads-hold, reads-inside, writes-hold, Declares, members-below, names-are, writes-are, each-append}
+use Rattle.lint_access.proofs.Refines.{name-once, number-at, reads-hold, reads-inside, writes-hold, Declares, members-below, names-are, writes-are, each-append}
 use Rattle.lint_access.proofs.Rising.{mem-cons, mem-none, mem-append, rising-sorted}
 use Rattle.lint_conditions.specs.declared.Names.{Names}
-use Rattle.lint_conditions.specs.Tests.{contradictoryM, mismatchedM, delaysM, guardedM, unguardedM, leadsM, tierM, staleM}
-use Rattle.lint_conditions.proofs.Agrees.{contradictory-agrees, mismatched-agrees, Value, leads-agrees}
+use Rattle.lint_conditions.specs.Conditions.{contradictoryM, mismatchedM, delaysM, guardedM, unguardedM, leadsM, tierM, staleM}
+use Rattle.lint_conditions.proofs.Refines.{contradictory-agrees, mismatched-agrees, Value, leads-agrees}
 use Rattle.lint_conditions.proofs.More.{delays-agree, guarded-agrees}
-use Rattle.lint_areas.specs.Board.{Item, onlyIf}
+use Rattle.lint_areas.specs.Areas.{Item, onlyIf}
 use Rattle.lint_findings.specs.declared.About.{About}
 use Rattle.lint_findings.specs.Entries.{items-numbersM, items-partsM, aboutM, actionM, delayedM, ownItems, branchItems, branchesAt, branchesItems, fanoutItems, staleHereM, freshItems, valueM, riskyM, interactItems, writeItems, writesItems, firstItems, ruleItems}
-use Rattle.lint_collect.specs.Order.{aboutAt, ruleAt}
+use Rattle.lint_collect.specs.Collect.{aboutAt, ruleAt}
 use Rattle.lint_refinement.proofs.Lists.{flat-flat, each-keep, flat-keep, each-empty, either, rising-keep, sorted-rising, mem-keep, mem-at, not-at, found-at}
 use Rattle.lint_refinement.proofs.Sets.{Once, set-empty, place-at}
 use Rattle.lint_refinement.proofs.Agree.{Stands, as-finding, as-interaction, Agree, agree-append, agree-if, agree-numbers}
 use Rattle.lint_refinement.proofs.Tiers.{entity-at, no-entity, tier-at, expires-at, expires-none, highest-word}
 use Rattle.lint_refinement.proofs.Accepted.{Declared, FineA}
-use Rattle.lint_refinement.proofs.Stage.{Stage, no-rule, writes-small, rule-start, rule-of, rule-at, legal-at, walked-at, id-number, agree-actions}
+use Rattle.lint_refinement.proofs.FileFacts.{Stage, no-rule, writes-small, rule-start, rule-of, rule-at, legal-at, walked-at, id-number, agree-actions}
 
 -- the entities that an action writes are declared
 written-fine : (es : List Entity) (a : Action) → FineA es a → (t : Text) → memT t (each (λ w. w .entity) (listed (write (a .source) (a .effect)))) ≡ true → Declared es t

@@ -21,9 +21,9 @@ use Rattle.lint_spec.specs.Findings.{rank, rank-name, greater, tier-of, highest
 use Rattle.lint_spec.specs.Words.{tier-number}
 use Rattle.lint_reach.specs.Sets.{holds}
 use Rattle.lint_access.specs.Names.{nameAt}
-use Rattle.lint_access.proofs.Agrees.{Grounds, name-once}
+use Rattle.lint_access.proofs.Refines.{Grounds, name-once}
 use Rattle.lint_access.proofs.Rising.{mem-cons, mem-none}
-use Rattle.lint_conditions.specs.Tests.{tierM, staleM, greaterM, highestFrom, highestM}
+use Rattle.lint_conditions.specs.Conditions.{tierM, staleM, greaterM, highestFrom, highestM}
 use Rattle.lint_conditions.proofs.More.{entity-agrees}
 use Rattle.lint_pairs.specs.Pairs.{spelledM}
 use Rattle.lint_refinement.proofs.Lists.{either}

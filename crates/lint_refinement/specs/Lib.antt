@@ -1,2 +1,2 @@
-pub mod Ground
+pub mod Context
 pub mod Numbers

@@ -12,9 +12,9 @@ use Rattle.model_check.specs.Checks.{number-of}
 use Rattle.lint_walk.specs.declared.Walk.{Walk}
 use Rattle.lint_walk.specs.Raw.{placeM, past, kindM}
 use Rattle.lint_walk.specs.Walks.{walkBy, walkM}
-use Rattle.lint_conditions.specs.Tests.{any-listM}
+use Rattle.lint_conditions.specs.Conditions.{any-listM}
 use Rattle.lint_undeclared.specs.declared.Undeclared.{Undeclared}
-use Rattle.lint_undeclared.specs.Strange.{withM, none, awaitM, awaitsM, strangeM, readM, nameM, namesM, ruleM, rulesM, undeclaredM}
+use Rattle.lint_undeclared.specs.Undeclared.{withM, none, awaitM, awaitsM, strangeM, readM, nameM, namesM, ruleM, rulesM, undeclaredM}
 
 module _ (u : Undeclared) (i t : ℕ) where
   pub with-place : u .count < 64 → record { count = u .count + 1; names = set (u .names) (u .count) t; readers = set (u .readers) (u .count) i } ≡ withM u i t

@@ -1,1 +1,1 @@
-pub mod Strange
+pub mod Undeclared

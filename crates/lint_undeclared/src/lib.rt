@@ -4,8 +4,8 @@ ghost use Rattle.notation.specs.Reference.{was};
 ghost use mathlib.Core.Path.{_≡_};
 ghost use Prim.Native.Nat.{_≤_, _<_, _+_, _-_};
 ghost use Rattle.lint_walk.specs.Walks.{walkBy};
-ghost use Rattle.lint_conditions.specs.Given.{sectionOf};
-ghost use Rattle.lint_undeclared.specs.Strange.{awaitM, awaitsM, withM, readM, ruleM, undeclaredM};
+ghost use Rattle.lint_conditions.specs.Context.{sectionOf};
+ghost use Rattle.lint_undeclared.specs.Undeclared.{awaitM, awaitsM, withM, readM, ruleM, undeclaredM};
 
 // Whether the action at a position waits for the entity that a place names.
 fn awaits_at(s: &[u8], place: u32, at: usize) -> bool

@@ -11,7 +11,7 @@ use Rattle.model_spec.specs.Model.{Source, Predicate, state, window, Trigger, E
 use Rattle.model_spec.specs.File.{got, Reader, _>>=_, give, refuse, u8, u16, u32, times, counted, flag, source, mode, place, predicate, trigger, branches, effect, actions, automation, effect-kinds}
 use Rattle.model_walk.proofs.Found.{bound, given, Wide, wide-sum, u8-wide, u16-wide, u32-wide, source-wide, kind-wide, counted-found, Kind, kind-found, place-found, predicate-wide, u8-value, Value?, trigger-found}
 use Rattle.model_walk.proofs.Found as found
-use Rattle.model_walk.proofs.Sees.{sees-flag, sees-mode}
+use Rattle.model_walk.proofs.Refines.{sees-flag, sees-mode}
 use Rattle.model_parts.proofs.Stands.{more}
 use Rattle.lint_spec.specs.Touches.{Action}
 use Rattle.lint_walk.specs.Raw.{value-of, byteM, placeM, numberM, past, repeat, predicateEnd, predicatesEnd, simpleEnd, kindM, triggersM, conditionsM, actionsM}

@@ -1,4 +1,4 @@
 pub mod Laws
 pub mod Found
-pub mod Goes
+pub mod Refines
 pub mod Sizes

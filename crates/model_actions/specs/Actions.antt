@@ -1,5 +1,5 @@
 -- Checks of actions over a file: what `validate` tests of each, on places, as model_check's Checks has it of their parts.
--- `proofs/Agrees` has that they say what `Validate` says of the list that the reader of `File` finds there.
+-- `proofs/Refines` has that they say what `Validate` says of the list that the reader of `File` finds there.
 use Prim.Native.Nat.{ℕ, zero, suc, _+_}
 use lib.Dec.{ltb, eqb}
 use Rattle.texts.specs.Lists.{if_then_else_}

@@ -1,6 +1,6 @@
 -- Checks over a file: what `validate` tests of each part, on places. A check goes over a part of the file, from a position
 -- on, with the number of actions so far; it ends at a position with the number of actions after it, or with a refusal.
--- `proofs/Agrees` has, for each check, that it says what `Validate` says of the part that the reader of `File` finds there.
+-- `proofs/Refines` has, for each check, that it says what `Validate` says of the part that the reader of `File` finds there.
 use Prim.Native.Nat.{ℕ, zero, suc, _+_, _-_}
 use mathlib.Core.Bool.{Bool, true, false}
 use mathlib.Core.List.{List}

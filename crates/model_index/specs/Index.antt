@@ -13,7 +13,7 @@ use Rattle.model_walk.specs.Walk.{placeM, bytesM, or-zerosM}
 use Rattle.model_parts.specs.declared.Section.{Section}
 use Rattle.model_parts.specs.declared.Extent.{Extent}
 use Rattle.model_parts.specs.declared.Part.the-variants as part
-use Rattle.model_parts.specs.Parts.{partM, none, sectionM, section}
+use Rattle.model_parts.specs.Parts.{partM, no-starts, sectionM, section}
 use Rattle.model_order.specs.Order.{ascendingM, textsM}
 use Rattle.model_index.specs.declared.File.{File}
 use Rattle.model_index.specs.declared.Status.the-variants as status
@@ -22,7 +22,7 @@ use Rattle.model_index.specs.declared.Front.{Front}
 use Rattle.model_index.specs.declared.Outline.{Outline}
 
 abbrev pub empty : Section
-empty = record { count = 0; starts = none; end = walked.Broken }
+empty = record { count = 0; starts = no-starts; end = walked.Broken }
 
 unfoldable pub refusedM : ℕ → File
 refusedM n = record {
@@ -98,9 +98,9 @@ file-of o t e v i a g r = elim (o .status) [
 
 -- three arrays of zeros
 pub record Zeros (a b c : List ℕ) : Type 0 where
-  pub first : a ≡ none
-  pub second : b ≡ none
-  pub third : c ≡ none
+  pub first : a ≡ no-starts
+  pub second : b ≡ no-starts
+  pub third : c ≡ no-starts
 
 -- what follows the invariants, for a file with so many texts
 unfoldable pub restM : List ℕ → (texts : ℕ) → ((alphabet gaps : Section) → ℕ → (rules : Section) → Index) → ℕ → ℕ → File

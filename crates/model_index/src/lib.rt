@@ -9,7 +9,7 @@ ghost use mathlib.Core.Path.{_≡_};
 ghost use mathlib.Core.List.{List};
 ghost use Prim.Native.Nat.{ℕ};
 ghost use Rattle.model_spec.specs.File.{decode};
-ghost use Rattle.model_parts.specs.Parts.{none, section};
+ghost use Rattle.model_parts.specs.Parts.{no-starts, section};
 ghost use Rattle.model_index.specs.Index.{empty, refusedM, refusalM, index-of, file-of, Zeros, restM, bodyM};
 ghost use Rattle.model_index.specs.Indexed.{Says};
 
@@ -274,7 +274,7 @@ pub fn read(
     gaps: &mut [usize; 100],
     rules: &mut [usize; 100],
 ) -> Outline
-    requires { ⌜ (now texts ≡ none) × (Zeros (now entities) (now events) (now invariants) × Zeros (now alphabet) (now gaps) (now rules)) ⌝ }
+    requires { ⌜ (now texts ≡ no-starts) × (Zeros (now entities) (now events) (now invariants) × Zeros (now alphabet) (now gaps) (now rules)) ⌝ }
     ensures { λ r. ⌜ Says (was s) (file-of r (is texts) (is entities) (is events) (is invariants) (is alphabet) (is gaps) (is rules)) (decode (was s)) ⌝ }
 {
     if 32768 < s.len() {

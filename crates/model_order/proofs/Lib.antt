@@ -1,3 +1,3 @@
 pub mod Laws
 pub mod Places
-pub mod Sees
+pub mod Refines

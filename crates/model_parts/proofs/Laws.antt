@@ -20,7 +20,7 @@ use Rattle.model_walk.proofs.Laws.{is-got, is-broken}
 use Rattle.model_parts.specs.declared.Part.{Part}
 use Rattle.model_parts.specs.declared.Part.the-variants as part
 use Rattle.model_parts.specs.declared.Section.{Section}
-use Rattle.model_parts.specs.Parts.{letterM, textM, entityM, inputM, eventM, conditionM, invariantM, ruleM, partM, put, none, fill, sectionM}
+use Rattle.model_parts.specs.Parts.{letterM, textM, entityM, inputM, eventM, conditionM, invariantM, ruleM, partM, put, no-starts, fill, sectionM}
 
 pub text-is : (s : List ℕ) (p n : ℕ) → textM s p n ≡ by u8 (λ i. timesM i letterM) s p n
 unfolding textM
@@ -120,7 +120,7 @@ unfolding put
 put-out i p l h = rw (le-ltb i 100 h)
 
 module _ (k : Walk) (s : List ℕ) (p n : ℕ) {x : Num} (e : found x ≡ u16 s p) where
-  module _ {l : List ℕ} (f : l ≡ none) where
+  module _ {l : List ℕ} (f : l ≡ no-starts) where
     pub section-is : {c q : ℕ} → x ≡ num.Is c q → sectionM k s p n ≡ fill c 0 c k l s q n
     unfolding sectionM
     section-is h = rw (is-got e h, f, sectionM)

@@ -13,10 +13,10 @@ use Rattle.model_spec.specs.File.{Got, got, broken, Reader, _>>=_, give, u16, t
 use Rattle.model_walk.specs.declared.Walked.{Walked}
 use Rattle.model_walk.specs.declared.Walked.the-variants as walked
 use Rattle.model_walk.specs.Walk.{capped, seen, Walk, and-then, _⨾_, by, stay, timesM, countedM}
-use Rattle.model_walk.proofs.Sees.{Sees}
+use Rattle.model_walk.proofs.Refines.{Sees}
 use Rattle.model_walk.proofs.Laws as walks
 use Rattle.model_parts.specs.declared.Section.{Section}
-use Rattle.model_parts.specs.Parts.{put, none, fill, sectionM}
+use Rattle.model_parts.specs.Parts.{put, no-starts, fill, sectionM}
 use Rattle.model_parts.specs.Stand.{Reads, Stand}
 use Rattle.model_parts.proofs.Laws as laws
 
@@ -48,16 +48,16 @@ module _ (k : Walk) (s : List ℕ) where
   section-ends p n = cases (u16 s p)
     where
       section : Got ℕ → Section
-      section (got c q) = fill c 0 c k none s q n
-      section broken = record { count = 0; starts = none; end = walked.Broken }
+      section (got c q) = fill c 0 c k no-starts s q n
+      section broken = record { count = 0; starts = no-starts; end = walked.Broken }
 
       cases : (x : Got ℕ) → section x .end ≡ elim x [ got c q ↦ timesM c k s q n | broken ↦ walked.Broken ]
-      cases (got c q) = fill-ends c 0 c none q n
+      cases (got c q) = fill-ends c 0 c no-starts q n
       cases broken = refl
 
   pub section-counts : (p n : ℕ) {c q : ℕ} → u16 s p ≡ got c q → sectionM k s p n .count ≡ c
   unfolding sectionM
-  section-counts p n {c} {q} e = rw (e, sectionM) (fill-counts c 0 c none q n)
+  section-counts p n {c} {q} e = rw (e, sectionM) (fill-counts c 0 c no-starts q n)
 
 -- ---- its positions
 
@@ -146,6 +146,6 @@ module _ {A : Type 0} (w : A → ℕ) (r : Reader A) (k : Walk) (e : Sees w r k)
   pub section-stands : (p n : ℕ) {c q : ℕ} → u16 s p ≡ got c q → (xs : List A) (next : ℕ) → times c r s q ≡ got xs next → Stand r s (sectionM k s p (capped n) .starts) xs
   unfolding sectionM
   section-stands p n {c} {q} f xs next h d j a b =
-      let g = stands w r k e s d c 0 c none (length-replicate {A = ℕ} 100 0) q n xs next h j (omega arith) b in
+      let g = stands w r k e s d c 0 c no-starts (length-replicate {A = ℕ} 100 0) q n xs next h j (omega arith) b in
       let z : 0 + j ≡ j = omega arith in
-      rw (f, sectionM) (subst (λ (x : ℕ). Reads r s (getD (fill c 0 c k none s q (capped n) .starts) x 0) (getD xs j d)) z g)
+      rw (f, sectionM) (subst (λ (x : ℕ). Reads r s (getD (fill c 0 c k no-starts s q (capped n) .starts) x 0) (getD xs j d)) z g)

@@ -60,8 +60,8 @@ module _ (ts : ℕ) where
 unfoldable pub put : ℕ → ℕ → List ℕ → List ℕ
 put i p l = if ltb i 100 then set l i p else l
 
-abbrev pub none : List ℕ
-none = replicate 100 0
+abbrev pub no-starts : List ℕ
+no-starts = replicate 100 0
 
 -- `left` parts more, the first of them the i-th of c
 unfoldable pub fill : (left i c : ℕ) → Walk → List ℕ → List ℕ → ℕ → ℕ → Section
@@ -73,8 +73,8 @@ fill (suc left) i c k l s p n = elim (k s p n) [
 
 unfoldable pub sectionM : Walk → List ℕ → ℕ → ℕ → Section
 sectionM k s p n = elim (u16 s p) [
-  | got c q ↦ fill c 0 c k none s q n
-  | broken ↦ record { count = 0; starts = none; end = walked.Broken }
+  | got c q ↦ fill c 0 c k no-starts s q n
+  | broken ↦ record { count = 0; starts = no-starts; end = walked.Broken }
 ]
 
 -- a section from its extent and its positions

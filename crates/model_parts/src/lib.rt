@@ -5,7 +5,7 @@ use model_walk::Walked;
 ghost use Rattle.notation.specs.Reference.{was, is};
 ghost use mathlib.Core.Path.{_≡_};
 ghost use Rattle.model_walk.specs.Walk.{_⨾_, by, timesM, bytesM};
-ghost use Rattle.model_parts.specs.Parts.{textM, entityM, inputM, eventM, conditionM, invariantM, ruleM, partM, put, none, sectionM, section};
+ghost use Rattle.model_parts.specs.Parts.{textM, entityM, inputM, eventM, conditionM, invariantM, ruleM, partM, put, no-starts, sectionM, section};
 
 // What a section is a list of. Texts don't name texts; any other part does.
 pub enum Part {
@@ -220,7 +220,7 @@ pub fn section_into(
     notes: u32,
     starts: &mut [usize; 100],
 ) -> Extent
-    requires { ⌜ now starts ≡ none ⌝ }
+    requires { ⌜ now starts ≡ no-starts ⌝ }
     ensures { λ r. ⌜ section r (is starts) ≡ sectionM (partM texts part) (was s) at notes ⌝ }
 {
     let x = model_walk::u16_at(s, at);

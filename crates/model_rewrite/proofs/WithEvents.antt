@@ -22,7 +22,7 @@ use Rattle.model_parts.specs.Stand.{Reads}
 use Rattle.model_rewrite.proofs.Spelled.{Spells, spells-give, spells-bind, spells-last, spells-require, spells-u8, local-u32, local-counted, local-input, local-invariant, local-limits, local-automation}
 use Rattle.model_rewrite.proofs.Behind.{Found, Twin, twin-give, twin-bind, twin-zeros, local-start}
 use Rattle.model_rewrite.proofs.Opened.{Opened, opened, after, model-is}
-use Rattle.model_rewrite.proofs.Agrees.{place-is, head-ascends, first-part, start-inside, end-inside, rewritten-is, same-texts}
+use Rattle.model_rewrite.proofs.Refines.{place-is, head-ascends, first-part, start-inside, end-inside, rewritten-is, same-texts}
 
 -- ---- what can be written
 

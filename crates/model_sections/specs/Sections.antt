@@ -1,5 +1,5 @@
 -- The checks of a section, on places, part by part.
--- `proofs/Agrees` has that they say what `Validate` says of the parts that the reader of `File` finds there.
+-- `proofs/Refines` has that they say what `Validate` says of the parts that the reader of `File` finds there.
 use Prim.Native.Nat.{ℕ, zero, suc, _+_, _*_}
 use mathlib.Core.Bool.{Bool, true, false, _||_}
 use mathlib.Core.List.{List}

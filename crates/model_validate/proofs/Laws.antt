@@ -30,7 +30,7 @@ use Rattle.model_check.proofs.Laws as checks
 use Rattle.model_validate.specs.declared.Numbers.{Numbers}
 use Rattle.model_sections.specs.declared.Part.the-variants as part
 use Rattle.model_sections.specs.Sections.{seconds-bad, gaps-bad, partsM}
-use Rattle.model_validate.specs.Whole.{title-bad, size-bad, limits-bad, start-bad, alphabet-bad, ordersM, Small, sectionsM, modelM, declared-in, numbers-of, indexM}
+use Rattle.model_validate.specs.ModelChecks.{title-bad, size-bad, limits-bad, start-bad, alphabet-bad, ordersM, Small, sectionsM, modelM, declared-in, numbers-of, indexM}
 
 -- ---- the tests before the sections
 

@@ -1,2 +1,2 @@
-pub mod Whole
-pub mod Answers
+pub mod ModelChecks
+pub mod Contract

@@ -11,12 +11,12 @@ ghost use Rattle.notation.specs.Reference.{was, is};
 ghost use mathlib.Core.Path.{_≡_};
 ghost use Prim.Native.Nat.{_≤_};
 ghost use Rattle.model_spec.specs.Validate.{accepted, bad-limits};
-ghost use Rattle.model_parts.specs.Parts.{none};
+ghost use Rattle.model_parts.specs.Parts.{no-starts};
 ghost use Rattle.model_index.specs.Index.{file-of, Zeros};
 ghost use Rattle.model_index.specs.Indexed.{Says};
 ghost use Rattle.model_check.specs.Checks.{declaration};
-ghost use Rattle.model_validate.specs.Whole.{title-bad, size-bad, limits-bad, start-bad, alphabet-bad, ordersM, Small, sectionsM, modelM, declared-in};
-ghost use Rattle.model_validate.specs.Answers.{validated};
+ghost use Rattle.model_validate.specs.ModelChecks.{title-bad, size-bad, limits-bad, start-bad, alphabet-bad, ordersM, Small, sectionsM, modelM, declared-in};
+ghost use Rattle.model_validate.specs.Contract.{validated};
 
 // lib.rs: the version of the model file.
 pub const FORMAT_VERSION: u32 = 1;
@@ -272,7 +272,7 @@ fn examine(
     gaps: &mut [usize; 100],
     rules: &mut [usize; 100],
 ) -> Outline
-    requires { ⌜ (now texts ≡ none) × (Zeros (now entities) (now events) (now invariants) × Zeros (now alphabet) (now gaps) (now rules)) ⌝ }
+    requires { ⌜ (now texts ≡ no-starts) × (Zeros (now entities) (now events) (now invariants) × Zeros (now alphabet) (now gaps) (now rules)) ⌝ }
     ensures { λ r. ⌜ Says (was s) (file-of r (is texts) (is entities) (is events) (is invariants) (is alphabet) (is gaps) (is rules)) (accepted (was s)) ⌝ }
 {
     let x = model_index::read(

@@ -15,7 +15,7 @@ use Rattle.model_spec.specs.Model.{Source, Predicate, state, window, Trigger, E
 use Rattle.model_spec.specs.File.{Got, got, broken, Reader, _>>=_, give, refuse, require, u8, u16, u32, times, counted, kinds, number?, source, tier, place, place?, predicate, trigger, entity}
 use Rattle.model_walk.specs.declared.Walked.the-variants as walked
 use Rattle.model_walk.specs.Walk.{seen, capped, predicate-size, kindM, by, staying, stay, stop}
-use Rattle.model_walk.proofs.Sees.{Sees, quiet, sees-tier}
+use Rattle.model_walk.proofs.Refines.{Sees, quiet, sees-tier}
 use Rattle.model_walk.proofs.Laws.{bind-got, bind-broken, u8-in, u8-out, u16-in, u16-out, u32-in, u32-out}
 
 -- a test, with its equation

@@ -1,3 +1,3 @@
 pub mod Laws
-pub mod Sees
+pub mod Refines
 pub mod Found

@@ -1,6 +1,6 @@
 -- Walks: a reader that keeps no value. A walk goes over a part of the file, from a position on; it ends at a position, with
 -- the notes so far (65 for more than 64), or finds the file rules broken. Places are only compared with the number of texts.
--- `proofs/Sees` has, for each walk, that it ends where the reader of `File` ends.
+-- `proofs/Refines` has, for each walk, that it ends where the reader of `File` ends.
 use Prim.Native.Nat.{ℕ, zero, suc, _+_}
 use mathlib.Core.Bool.{Bool}
 use mathlib.Core.List.{List}

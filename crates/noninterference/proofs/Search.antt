@@ -33,7 +33,7 @@ use Rattle.checker_spec.specs.Verify.{
   verification-of,
   verified,
 }
-use Rattle.cone_judge.specs.Told.{violation-told}
+use Rattle.cone_judge.specs.Reading.{violation-told}
 use Rattle.noninterference.specs.Demand.{witness-events, witness-incomplete, SameVerification}
 use Rattle.cone_engine.proofs.Base.{none-some}
 use Rattle.cone_engine.proofs.Slice.{cons-nil}

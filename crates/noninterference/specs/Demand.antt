@@ -15,7 +15,7 @@ use Rattle.engine_spec.specs.Simulate.{Simulation}
 use Rattle.checker_spec.specs.Judge.{Reading, read-all, unknown-reasons}
 use Rattle.checker_spec.specs.Check.{Check, violation-of, check}
 use Rattle.checker_spec.specs.Verify.{Verification, verify}
-use Rattle.cone_judge.specs.Told.{About, about, violation-told, all-told}
+use Rattle.cone_judge.specs.Reading.{About, about, violation-told, all-told}
 use Rattle.noninterference.specs.Alike.{Alike, SameSearch}
 
 -- ---- what a check and a search tell

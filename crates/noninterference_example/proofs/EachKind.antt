@@ -15,7 +15,7 @@ use Rattle.checker_spec.specs.Judge.{Failure, prohibited-state, guard-violated,
 use Rattle.checker_spec.specs.Check.{Violation, Status, check, all-check}
 use Rattle.checker_spec.specs.Verify.{counterexample, verify, all-verify}
 use Rattle.cone_spec.specs.Cone.{all-cone}
-use Rattle.cone_judge.specs.Told.{About, fails, late}
+use Rattle.cone_judge.specs.Reading.{About, fails, late}
 use Rattle.noninterference.specs.Alike.{all-alike}
 use Rattle.noninterference.specs.Demand.{all-demand}
 use Rattle.noninterference_example.specs.EachKind.{before-midnight, first-from, first, second, all-each-kind}

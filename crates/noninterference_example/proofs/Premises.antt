@@ -15,7 +15,7 @@ use Rattle.engine_spec.proofs.Distinct.{answer-eq, refused-answer}
 use Rattle.checker_spec.specs.Check.{Violation, Status, Check, check}
 use Rattle.checker_spec.specs.Verify.{Found, Verification, verify}
 use Rattle.cone_spec.specs.Cone.{cone-of}
-use Rattle.cone_judge.specs.Told.{About}
+use Rattle.cone_judge.specs.Reading.{About}
 use Rattle.noninterference.specs.Alike.{Alike, SameSearch, input-in, cone-declarations, cone-automations, cone-events}
 use Rattle.noninterference.specs.Demand.{about-all, witness-events, witness-incomplete, SameCheck, SameVerification}
 use Rattle.noninterference.proofs.Demand.{demand3}

@@ -13,7 +13,7 @@ use Rattle.checker_spec.specs.Judge.{forbidden-transition}
 use Rattle.checker_spec.specs.Check.{Status, check, all-check}
 use Rattle.checker_spec.specs.Verify.{counterexample, verify, all-verify}
 use Rattle.cone_spec.specs.Cone.{all-cone}
-use Rattle.cone_judge.specs.Told.{About, holds, fails}
+use Rattle.cone_judge.specs.Reading.{About, holds, fails}
 use Rattle.noninterference.specs.Alike.{all-alike}
 use Rattle.noninterference.specs.Demand.{all-demand}
 use Rattle.noninterference_example.specs.Stale.{first, second, all-stale}

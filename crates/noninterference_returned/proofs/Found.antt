@@ -19,8 +19,8 @@ use Rattle.checker_spec.specs.Verify as verify
 use Rattle.model_spec.specs.Events.{input-words, event-words}
 use Rattle.model_spec.proofs.Events.{event-size}
 use Rattle.search_answer.specs.declared.Verification.{Verification}
-use Rattle.search_answer.specs.Whole.{no-verification}
-use Rattle.search_entry.specs.Answers.{found-as, WitnessSays, Shows, Says, Verifies}
+use Rattle.search_answer.specs.Result.{no-verification}
+use Rattle.search_entry.specs.Contract.{found-as, WitnessSays, Shows, Says, Verifies}
 use Rattle.noninterference.specs.Alike.{Alike, SameSearch}
 use Rattle.noninterference.specs.Demand.{witness-events, witness-incomplete}
 use Rattle.noninterference.proofs.Demand.{verify-is, demand3}

@@ -11,8 +11,8 @@ use Rattle.model_spec.specs.Rewrite.{place-of}
 use Rattle.engine_spec.specs.Words.{source-words}
 use Rattle.checker_spec.specs.Check.{Violation}
 use Rattle.checker_spec.specs.Judge.{Failure, prohibited-state, guard-violated, forbidden-transition, deadline-missed}
-use Rattle.checker_entry.specs.Answers.{failure-words, violation-words}
-use Rattle.cone_judge.specs.Told.{Told, failed, missed, told}
+use Rattle.checker_entry.specs.Contract.{failure-words, violation-words}
+use Rattle.cone_judge.specs.Reading.{Told, failed, missed, told}
 
 -- ---- what is told, as numbers
 

@@ -19,12 +19,12 @@ use Rattle.model_walk.proofs.Found.{bound, given, Kind, kind-found, place-found
 use Rattle.model_walk.proofs.Found as found
 use Rattle.model_index.specs.Index.{readM}
 use Rattle.model_index.specs.Indexed.{Indexed, Says}
-use Rattle.model_index.proofs.Whole.{says}
+use Rattle.model_index.proofs.Refines.{says}
 use Rattle.engine_spec.specs.Words.{texts-in}
 use Rattle.engine_spec.proofs.Lists.{Each, Case, is-true, is-false, case, eqT-eq, eqT-same}
 use Rattle.engine_spec.proofs.Validated.{accepted-decoded}
 use Rattle.engine_refinement.proofs.Accepted.{accepted-lawful}
-use Rattle.search_inputs.proofs.Means.{fine-here}
+use Rattle.search_inputs.proofs.Refines.{fine-here}
 
 -- the text is one of the list
 pub record In (t : Text) (ts : List Text) : Type 0 where

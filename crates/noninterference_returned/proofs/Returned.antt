@@ -15,13 +15,13 @@ use Rattle.engine_spec.specs.Memory.{Lent, entries}
 use Rattle.engine_spec.specs.Words.{texts-in, entry-words}
 use Rattle.engine_spec.proofs.Lists.{Each}
 use Rattle.engine_refinement.proofs.Lists.{each-length, each-getD, each-at}
-use Rattle.engine_entry.specs.Answers.{incomplete-of}
+use Rattle.engine_entry.specs.Contract.{incomplete-of}
 use Rattle.checker_spec.specs.Check.{Violation, violation-of, Check, check}
 use Rattle.checker_spec.specs.Judge.{Failing, prohibited-state}
 use Rattle.checker_result.specs.declared.CheckResult.{CheckResult}
 use Rattle.checker_result.specs.Result.{no-check}
-use Rattle.checker_entry.specs.Answers.{violation-words, Shows, Says, Checks}
-use Rattle.cone_judge.specs.Told.{Told, told, violation-told}
+use Rattle.checker_entry.specs.Contract.{violation-words, Shows, Says, Checks}
+use Rattle.cone_judge.specs.Reading.{Told, told, violation-told}
 use Rattle.noninterference.specs.Alike.{Alike}
 use Rattle.noninterference.specs.Demand.{reading-for}
 use Rattle.noninterference.proofs.Demand.{demand3}
@@ -60,7 +60,7 @@ answered f r before after ch done = by (check (entries entry-words before) f) re
 
 complete : {f : List ℕ} {before : Lent} {r : CheckResult} → Complete r → (a : Answered f before r) → a .c .simulation .incomplete ≡ []
 unfolding incomplete-of
-complete done a = sym (a .shows .simulation .incomplete) ∙ rw (done .stopped, done .waiting)
+complete done a = sym (a .shows .simulation .incomplete) ∙ rw (done .stopped, done .«runs_left»)
 
 -- ---- two answers
 

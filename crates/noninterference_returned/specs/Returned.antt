@@ -15,10 +15,10 @@ use Rattle.engine_spec.specs.Words.{texts-in, entry-words}
 use Rattle.checker_spec.specs.Check.{Check, check}
 use Rattle.checker_result.specs.declared.CheckResult.{CheckResult}
 use Rattle.checker_result.specs.declared.Status.the-variants as status
-use Rattle.checker_entry.specs.Answers.{Checks}
+use Rattle.checker_entry.specs.Contract.{Checks}
 use Rattle.search_answer.specs.declared.Found.the-variants as found
 use Rattle.search_answer.specs.declared.Verification.{Verification}
-use Rattle.search_entry.specs.Answers.{Verifies}
+use Rattle.search_entry.specs.Contract.{Verifies}
 use Rattle.noninterference.specs.Alike.{Alike, SameSearch}
 use Rattle.noninterference.specs.Demand.{SameCheck}
 
@@ -58,8 +58,8 @@ pub record SameReturned (m m′ : Model) (f f′ : List ℕ) (before before′ :
 -- the answer isn't refused and its simulation isn't incomplete
 pub record Complete (r : CheckResult) : Type 0 where
   pub answered : (n : ℕ) → r .status ≡ status.Refused n → ⊥
-  pub stopped : r .simulation .why ≡ 0
-  pub waiting : r .simulation .waiting ≡ false
+  pub stopped : r .simulation .«stop_reason» ≡ 0
+  pub «runs_left» : r .simulation .«runs_left» ≡ false
 
 -- ---- what `verify` returns
 

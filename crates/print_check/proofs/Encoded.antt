@@ -16,14 +16,14 @@ use Rattle.reasons.proofs.Listing as listing
 use Rattle.model_spec.specs.Model.{Source, Model}
 use Rattle.model_spec.specs.Rewrite.{place-of}
 use Rattle.engine_spec.specs.Words.{source-words, texts-in}
-use Rattle.engine_fields.specs.Reads.{atMost}
+use Rattle.engine_fields.specs.Fields.{atMost}
 use Rattle.engine_fields.proofs.Laws as reads
 use Rattle.engine_refinement.specs.Meaning.{Tabled}
 use Rattle.engine_refinement.proofs.Words.{text-place}
 use Rattle.checker_spec.specs.Judge.{Failure, prohibited-state, guard-violated, forbidden-transition, deadline-missed}
 use Rattle.checker_spec.specs.Check as check
 use Rattle.checker_result.specs.declared.CheckResult.{CheckResult}
-use Rattle.checker_entry.specs.Answers.{failure-words, violation-words, Shows}
+use Rattle.checker_entry.specs.Contract.{failure-words, violation-words, Shows}
 use Rattle.check_lines.specs.Numbers.{violated-of, text-at, failure-of, source-of, violation-of}
 
 -- ---- eight numbers

@@ -7,7 +7,7 @@ use Rattle.show.specs.Lines.{refused-line}
 use Rattle.check_lines.specs.Lines.{status-line}
 use Rattle.checker_result.specs.declared.Status.{Status}
 use Rattle.checker_result.specs.declared.Status.the-variants as status
-use Rattle.checker_entry.specs.Answers.{status-as}
+use Rattle.checker_entry.specs.Contract.{status-as}
 use Rattle.print_check.specs.Answer.{first-line}
 
 module _ (s : Status) where

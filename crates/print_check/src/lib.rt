@@ -103,7 +103,7 @@ fn print_simulation(out: &mut [u8], n: usize, file: &[u8], a: &[u32], s: Simulat
     let i = record_lines::print_records(out, n, file, &words, a, s.records);
     let j = simulate_lines::print_finals(out, i, file, &words, &values);
     let k = print_sim_unknown(out, j, file, &reasons, s.unknown);
-    simulate_lines::print_incomplete(out, k, s.why, s.waiting)
+    simulate_lines::print_incomplete(out, k, s.stop_reason, s.runs_left)
 }
 
 fn print_answer(

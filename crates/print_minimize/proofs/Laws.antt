@@ -18,7 +18,7 @@ use Rattle.checker_spec.specs.Minimize.{minimize, reduced-file}
 use Rattle.checker_spec.specs.Minimize as checker
 use Rattle.reduce_result.specs.declared.Minimized.{Minimized}
 use Rattle.reduce_result.specs.Result.{no-reduction}
-use Rattle.reduce_entry.specs.Answers.{Says, output-after, Minimizes}
+use Rattle.reduce_entry.specs.Contract.{Says, output-after, Minimizes}
 
 -- the new file stands in the output
 pub written-fits : {f : List ℕ} {r : Minimized} {before after : Lent} {o o' : List ℕ} → Minimizes f r before after o o'

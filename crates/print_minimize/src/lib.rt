@@ -135,9 +135,9 @@ fn put_invariant(out: &mut [u8], n: usize, file: &[u8], place: u32) -> usize
 fn print_numbers(out: &mut [u8], n: usize, file: &[u8], r: Minimized) -> usize {
     let m = show::room(out, n, LINE);
     let a = put_invariant(out, m, file, r.invariant);
-    let b = put_number_line(out, a, b"original_events", r.originals as u64);
+    let b = put_number_line(out, a, b"original_events", r.original_events as u64);
     let c = put_number_line(out, b, b"attempts", r.attempts as u64);
-    let d = put_answer_line(out, c, b"deletion_minimal", r.minimal);
+    let d = put_answer_line(out, c, b"deletion_minimal", r.deletion_minimal);
     put_number_line(out, d, b"reduced", r.events as u64)
 }
 

@@ -104,7 +104,7 @@ fn print_lent(
     let m = print_numbers(out, n, s.steps, s.records, s.horizon);
     let k = print_places(out, m, file, a, s.records, &values);
     let l = print_unknown(out, k, file, &reasons, s.unknown);
-    simulate_lines::print_incomplete(out, l, s.why, s.waiting)
+    simulate_lines::print_incomplete(out, l, s.stop_reason, s.runs_left)
 }
 
 // `simulate` with areas of so many entries.

@@ -3,7 +3,7 @@ use mathlib.Core.Path.{_≡_}
 use mathlib.Core.List.{List}
 use Prim.Native.Nat.{ℕ}
 use Rattle.model_validate.specs.declared.Validity.the-variants.{Accepted, Refused}
-use Rattle.model_validate.specs.Answers.{validated}
+use Rattle.model_validate.specs.Contract.{validated}
 use Rattle.show.specs.Lines.{accepted-line, refused-line}
 use Rattle.print_validate.specs.Answer.{validity-lines, validate-lines}
 

@@ -4,7 +4,7 @@ use mathlib.Core.List.{List}
 use Rattle.texts.specs.Texts.{Text}
 use Rattle.model_validate.specs.declared.Validity.{Validity}
 use Rattle.model_validate.specs.declared.Validity.the-variants.{Accepted, Refused}
-use Rattle.model_validate.specs.Answers.{validated}
+use Rattle.model_validate.specs.Contract.{validated}
 use Rattle.show.specs.Lines.{accepted-line, refused-line}
 
 unfoldable pub validity-lines : Validity → Text

@@ -51,9 +51,16 @@ fn print_counts(out: &mut [u8], n: usize, v: Verification) -> usize {
     let status = v.status;
     let a = put_found(out, m, status);
     let b = print_minimize::put_number_line(out, a, b"cases", v.cases as u64);
-    let c = print_minimize::put_number_line(out, b, b"total_steps", v.total as u64);
+    let c = print_minimize::put_number_line(out, b, b"total_steps", v.total_steps as u64);
     let d = print_minimize::put_answer_line(out, c, b"shortest_by_event_count", v.shortest);
-    put_bounds(out, d, v.depth, v.horizon, v.most, v.steps)
+    put_bounds(
+        out,
+        d,
+        v.depth,
+        v.horizon,
+        v.max_cases,
+        v.max_steps_per_case,
+    )
 }
 
 // The input at k of the alphabet, in three words.

@@ -16,12 +16,12 @@ use Rattle.records.specs.declared.Change.the-variants.{NoChange, Write}
 use Rattle.records.specs.declared.Record.{Record}
 use Rattle.engine_spec.specs.Truth.{truth-name}
 use Rattle.engine_spec.specs.Records.{detail}
-use Rattle.engine_fields.specs.Reads.{word}
+use Rattle.engine_fields.specs.Fields.{word}
 use Rattle.engine_refinement.specs.Meaning.{verdict-of, id-at, kind-of, rule-of, where-of, change-of, record-of}
 use Rattle.show.specs.declared.Source.the-variants.{At}
 use Rattle.show.specs.Lines.{newline, quoted, dash, source}
 use Rattle.record_lines.specs.Lines.{quoted-if, placed-if, changed, record-line}
-use Rattle.record_lines.specs.Parts.{name-of, detail-ends}
+use Rattle.record_lines.specs.RecordWords.{name-of, detail-ends}
 use Rattle.record_lines.proofs.Numbers.{name-is}
 
 -- ---- the parts of a record's line

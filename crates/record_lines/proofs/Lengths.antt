@@ -26,9 +26,9 @@ use Rattle.engine_refinement.specs.Meaning.{verdict-of, id-at, kind-of, rule-of
 use Rattle.show.specs.declared.Source.the-variants.{At}
 use Rattle.show.specs.Lines.{newline, quoted, source}
 use Rattle.show.proofs.Laws as show
-use Rattle.simulate_lines.specs.Parts.{texts-of, text-of}
+use Rattle.simulate_lines.specs.FileTexts.{texts-of, text-of}
 use Rattle.record_lines.specs.Lines.{quoted-if, placed-if, changed, record-line}
-use Rattle.record_lines.specs.Parts.{name-of, detail-begins, detail-ends}
+use Rattle.record_lines.specs.RecordWords.{name-of, detail-begins, detail-ends}
 use Rattle.simulate_lines.proofs.Lengths.{app, glue, quoted-short}
 use Rattle.record_lines.proofs.Numbers.{each, _and_, name-out, name-is, detail-known, detail-text}
 

@@ -19,7 +19,7 @@ use Rattle.engine_spec.specs.Records.{Kind, kind-name, detail, all-records}
 use Rattle.engine_refinement.specs.Meaning.{verdict-of, kind-of}
 use Rattle.show.specs.Lines.{escape, quoted, all-lines}
 use Rattle.show.proofs.Laws as show
-use Rattle.record_lines.specs.Parts.{names-file, details-file, name-of, detail-begins, detail-ends}
+use Rattle.record_lines.specs.RecordWords.{names-file, details-file, name-of, detail-begins, detail-ends}
 use Rattle.simulate_lines.proofs.Laws.{flat-append}
 
 -- ---- a rule for n numbers from i on, shown at each of them

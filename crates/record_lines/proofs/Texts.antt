@@ -10,7 +10,7 @@ use Rattle.texts.specs.Places.{textsFrom}
 use Rattle.texts.proofs.Laws as texts
 use Rattle.model_spec.specs.Model.{Model}
 use Rattle.engine_refinement.specs.Meaning.{Tabled}
-use Rattle.simulate_lines.specs.Parts.{texts-of}
+use Rattle.simulate_lines.specs.FileTexts.{texts-of}
 
 -- for an accepted model's table these are the texts that its numbers stand for
 pub same-texts : {f x : List ℕ} {ts : List Text} {m : Model} → Tabled f x ts m → texts-of f x ≡ ts

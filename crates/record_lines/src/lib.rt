@@ -16,13 +16,13 @@ ghost use lib.ListN.{length, getD};
 ghost use Rattle.texts.specs.Texts.{text, decimal};
 ghost use Rattle.engine_spec.specs.Truth.{truth-name};
 ghost use Rattle.engine_spec.specs.Records.{detail};
-ghost use Rattle.engine_fields.specs.Reads.{word};
+ghost use Rattle.engine_fields.specs.Fields.{word};
 ghost use Rattle.engine_refinement.specs.Meaning.{verdict-of, kind-of, rule-of, where-of, change-of, record-of};
 ghost use Rattle.show.specs.Lines.{quoted};
 ghost use Rattle.show.specs.Writing.{Written, Kept};
 ghost use Rattle.record_lines.specs.Lines.{quoted-if, placed-if, changed, record-line};
-ghost use Rattle.simulate_lines.specs.Parts.{texts-of, text-of};
-ghost use Rattle.record_lines.specs.Parts.{name-of, detail-begins, detail-ends, RecordPut};
+ghost use Rattle.simulate_lines.specs.FileTexts.{texts-of, text-of};
+ghost use Rattle.record_lines.specs.RecordWords.{name-of, detail-begins, detail-ends, RecordPut};
 
 // The names of the kinds 0 to 17, and what their details begin with, each behind its length.
 const NAMES: [u8; 135] =

@@ -12,7 +12,7 @@ use borrow.Author.Tests.{lt-ltb, le-ltb, eq-eqb, ne-eqb}
 use Rattle.checker_result.specs.declared.Status.{Status}
 use Rattle.checker_result.specs.declared.Status.the-variants as status
 use Rattle.reduce.specs.declared.Reduced.{Reduced}
-use Rattle.reduce.specs.Parts.{among, is-violation, fewM, violatesM, Stops, passed, GoesOn, Tried}
+use Rattle.reduce.specs.Contracts.{among, is-violation, fewM, violatesM, Stops, passed, GoesOn, Tried}
 
 -- ---- the target among the violations
 

@@ -19,17 +19,17 @@ use Rattle.engine_spec.proofs.Lists.{Case, is-true, is-false, case}
 use Rattle.engine_refinement.specs.Meaning.{Tabled}
 use Rattle.engine_refinement.specs.Events.{EventAt}
 use Rattle.engine_inputs.specs.declared.Events.{Events}
-use Rattle.engine_entry.specs.Answers.{Ground, Grounds}
-use Rattle.engine_entry.proofs.Core.{tb}
-use Rattle.engine_entry.proofs.Promise.{texts-here}
+use Rattle.engine_entry.specs.Contract.{Ground, Grounds}
+use Rattle.engine_entry.proofs.Refines.{tb}
+use Rattle.engine_entry.proofs.RunEvents.{texts-here}
 use Rattle.checker_spec.specs.Check.{Check, checked}
 use Rattle.checker_spec.specs.Minimize.{remove, violates, reduce}
 use Rattle.checker_spec.specs.Minimize as minimize
 use Rattle.checker_result.specs.declared.CheckResult.{CheckResult}
-use Rattle.checker_retry.specs.Case.{Tells, answers, refuses, Cased}
+use Rattle.checker_retry.specs.Retry.{Tells, answers, refuses, Cased}
 use Rattle.reduce.specs.declared.Reduced.{Reduced}
 use Rattle.reduce.specs.Events.{Left}
-use Rattle.reduce.specs.Parts.{
+use Rattle.reduce.specs.Contracts.{
   Without,
   violatesM,
   Stops,
@@ -49,7 +49,7 @@ use Rattle.reduce.specs.Parts.{
   Begun,
   Reduces,
 }
-use Rattle.reduce.specs.Parts as parts
+use Rattle.reduce.specs.Contracts as parts
 use Rattle.reduce.proofs.Words.{left-without, left-at}
 use Rattle.reduce.proofs.Violations.{checked-fair, violates-is}
 
@@ -160,7 +160,7 @@ module _ {f starts : List ℕ} {many : ℕ} {g : Ground} (target : ℕ) (r : Red
             ∙ ap refused (sym no))
 
     module _ (z : c .simulation .refused ≡ 0) (b : Bool) (is-b : b ≡ violatesM (c .status) (c .violations) (c .violated) target) where
-      verdict : (k : Check) → checked areas m cells rest ≡ answer k → Rattle.checker_entry.specs.Answers.Shows f c k
+      verdict : (k : Check) → checked areas m cells rest ≡ answer k → Rattle.checker_entry.specs.Contract.Shows f c k
           → violates name k ≡ b
       verdict k y shows = sym (is-b ∙ violates-is f x i m acc o t (texts-here f i m acc o bytes g gr) c k shows
           (checked-fair f x i m acc o t areas rest k y) target inside)

@@ -43,9 +43,9 @@ use Rattle.checker_spec.specs.Judge.{
 }
 use Rattle.checker_spec.specs.Minimize.{violates}
 use Rattle.checker_result.specs.declared.CheckResult.{CheckResult}
-use Rattle.checker_entry.specs.Answers.{status-as, failure-words, violation-words, Shows}
+use Rattle.checker_entry.specs.Contract.{status-as, failure-words, violation-words, Shows}
 use Rattle.checker_entry.proofs.Judged.{named}
-use Rattle.reduce.specs.Parts.{among, is-violation, fewM, violatesM}
+use Rattle.reduce.specs.Contracts.{among, is-violation, fewM, violatesM}
 
 -- ---- lists
 

@@ -23,12 +23,12 @@ use Rattle.engine_refinement.proofs.Lists.{each-getD}
 use Rattle.engine_refinement.proofs.Outcome.{event-at}
 use Rattle.engine_refinement.specs.Events.{EventAt}
 use Rattle.engine_refinement.proofs.Words.{text-place}
-use Rattle.engine_inputs.specs.Begin.{EventsOf}
-use Rattle.engine_inputs.proofs.Begins.{Fine, events-accepted, events-fine, events-are, event-words-here}
+use Rattle.engine_inputs.specs.Inputs.{EventsOf}
+use Rattle.engine_inputs.proofs.Refines.{Fine, events-accepted, events-fine, events-are, event-words-here}
 use Rattle.checker_spec.specs.Minimize.{remove}
 use Rattle.checker_spec.proofs.Some.{some-all, some-some, some-each, remove-some}
 use Rattle.reduce.specs.Events.{Left}
-use Rattle.reduce.specs.Parts.{Without}
+use Rattle.reduce.specs.Contracts.{Without}
 
 -- ---- lists without an element
 

@@ -1,2 +1,2 @@
 pub mod Events
-pub mod Parts
+pub mod Contracts

@@ -9,8 +9,8 @@ ghost use Rattle.notation.specs.Reference.{was};
 ghost use mathlib.Core.Path.{_≡_};
 ghost use Prim.Native.Nat.{_*_, _≤_, _<_};
 ghost use lib.ListN.{length};
-ghost use Rattle.engine_entry.specs.Answers.{ground};
-ghost use Rattle.reduce.specs.Parts.{Without, among, is-violation, fewM, violatesM, GoesOn, Open, Tried, Attempted, Begun, Reduces};
+ghost use Rattle.engine_entry.specs.Contract.{ground};
+ghost use Rattle.reduce.specs.Contracts.{Without, among, is-violation, fewM, violatesM, GoesOn, Open, Tried, Attempted, Begun, Reduces};
 
 // `refused` is 0, or 41 to 43 where a check was refused. The first `count` events in `words`, four words each, are left;
 // so many candidates were checked, and the place reached.

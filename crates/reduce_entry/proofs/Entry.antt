@@ -14,30 +14,30 @@ use Rattle.model_index.specs.declared.Index.{Index}
 use Rattle.model_index.specs.declared.Status.the-variants as status
 use Rattle.model_index.specs.Indexed as indexed
 use Rattle.model_index.specs.Indexed.{Indexed}
-use Rattle.model_validate.proofs.Agrees.{accept-read, accept-refused}
+use Rattle.model_validate.proofs.Refines.{accept-read, accept-refused}
 use Rattle.model_validate.proofs.Refusals.{Refuses, Refusal, refusal-numbers}
 use Rattle.engine_spec.specs.Cells.{initial-cells}
 use Rattle.engine_spec.specs.Memory.{Lent, entries, zeros, all-zeros, lent-after}
 use Rattle.engine_spec.specs.Records.{Areas}
 use Rattle.engine_spec.specs.Words.{words-in, entry-words}
 use Rattle.engine_spec.proofs.Memory.{refusals}
-use Rattle.engine_fields.specs.Reads.{atMost}
+use Rattle.engine_fields.specs.Fields.{atMost}
 use Rattle.engine_inputs.specs.declared.Events.{Events}
-use Rattle.engine_inputs.specs.Begin.{EventsOf}
+use Rattle.engine_inputs.specs.Inputs.{EventsOf}
 use Rattle.engine_refinement.proofs.Accepted.{accepted-lawful}
-use Rattle.engine_entry.specs.Answers.{Ground, Grounds, lent}
-use Rattle.engine_entry.proofs.Core.{tb}
+use Rattle.engine_entry.specs.Contract.{Ground, Grounds, lent}
+use Rattle.engine_entry.proofs.Refines.{tb}
 use Rattle.engine_entry.proofs.Entry.{events-count}
 use Rattle.checker_spec.specs.Minimize.{minimized, minimize}
 use Rattle.checker_spec.specs.Minimize as checker
 use Rattle.checker_spec.specs.Verify.{short-of-room}
 use Rattle.reduce.specs.Events.{Left}
-use Rattle.reduce.specs.Parts.{sizes}
+use Rattle.reduce.specs.Contracts.{sizes}
 use Rattle.reduce.proofs.Words.{own-left}
 use Rattle.reduce_result.specs.declared.Minimized.{Minimized}
 use Rattle.reduce_result.specs.Result.{no-reduction}
-use Rattle.reduce_entry.specs.Answers.{Says, last-trace, output-after, Minimizes}
-use Rattle.reduce_entry.specs.Parts.{Outcome, answers, refuses, Accepted, Given, ReducesAll, RunsAs}
+use Rattle.reduce_entry.specs.Contract.{Says, last-trace, output-after, Minimizes}
+use Rattle.reduce_entry.specs.Contracts.{Outcome, answers, refuses, Accepted, Given, ReducesAll, RunsAs}
 use Rattle.reduce_entry.proofs.File.{small-file}
 
 abbrev after : (file : List ℕ) → Answer checker.Minimized → Lent → Lent

@@ -14,7 +14,7 @@ use Rattle.model_index.specs.declared.Index.{Index}
 use Rattle.model_index.specs.Indexed.{Indexed}
 use Rattle.model_rewrite.specs.Span.{spanM}
 use Rattle.model_rewrite.specs.Written.{file-with, Room}
-use Rattle.model_rewrite.proofs.Agrees.{place-is, texts-found, file-agrees, asked}
+use Rattle.model_rewrite.proofs.Refines.{place-is, texts-found, file-agrees, asked}
 use Rattle.model_rewrite.proofs.Opened.{opened}
 use Rattle.model_rewrite.proofs.WithEvents.{some-events}
 use Rattle.engine_spec.proofs.Validated.{accepted-decoded}

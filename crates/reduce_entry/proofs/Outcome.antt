@@ -24,30 +24,30 @@ use Rattle.engine_refinement.specs.Meaning.{Tabled}
 use Rattle.engine_refinement.specs.Events.{EventAt}
 use Rattle.engine_refinement.proofs.Words.{text-place}
 use Rattle.engine_inputs.specs.declared.Events.{Events}
-use Rattle.engine_entry.specs.Answers.{Ground, Grounds}
-use Rattle.engine_entry.proofs.Core.{tb, queue-clear, runs-clear}
-use Rattle.engine_entry.proofs.Promise.{texts-here}
+use Rattle.engine_entry.specs.Contract.{Ground, Grounds}
+use Rattle.engine_entry.proofs.Refines.{tb, queue-clear, runs-clear}
+use Rattle.engine_entry.proofs.RunEvents.{texts-here}
 use Rattle.checker_spec.specs.Check.{Check, checked, Violation}
 use Rattle.checker_spec.specs.Check as check
 use Rattle.checker_spec.specs.Minimize.{reduce, target-of, minimized, reduced-file}
 use Rattle.checker_spec.specs.Minimize as checker
 use Rattle.checker_result.specs.declared.CheckResult.{CheckResult}
-use Rattle.checker_entry.specs.Answers as shown
-use Rattle.checker_entry.specs.Parts.{Checked}
-use Rattle.checker_entry.proofs.Promise as promised
-use Rattle.checker_entry.proofs.Promise.{Promise, promise}
+use Rattle.checker_entry.specs.Contract as shown
+use Rattle.checker_entry.specs.Contracts.{Checked}
+use Rattle.checker_entry.proofs.Refines as promised
+use Rattle.checker_entry.proofs.Refines.{Promise, promise}
 use Rattle.reduce.specs.declared.Reduced.{Reduced}
 use Rattle.model_spec.specs.Events.{event-words}
 use Rattle.reduce.specs.Events.{Left}
-use Rattle.reduce.specs.Parts.{is-violation, sizes, from, Ends, Reduces}
-use Rattle.reduce.specs.Parts as parts
+use Rattle.reduce.specs.Contracts.{is-violation, sizes, from, Ends, Reduces}
+use Rattle.reduce.specs.Contracts as parts
 use Rattle.reduce.proofs.Violations.{none-such, Fair, checked-fair, violation-is, Target, target-is}
 use Rattle.reduce.proofs.Words.{left-at}
 use Rattle.reduce_result.specs.declared.Minimized.{Minimized}
 use Rattle.reduce_result.specs.Result.{no-reduction}
-use Rattle.reduce_entry.specs.Answers.{Shows}
+use Rattle.reduce_entry.specs.Contract.{Shows}
 use Rattle.reduce_result.specs.Last.{Cleared, Ready, Repeats, Finished}
-use Rattle.reduce_entry.specs.Parts.{Outcome, answers, refuses, reduced-to, Given, Aimed, ReducesTo, ReducesAll}
+use Rattle.reduce_entry.specs.Contracts.{Outcome, answers, refuses, reduced-to, Given, Aimed, ReducesTo, ReducesAll}
 use Rattle.reduce_entry.proofs.File.{file-is, file-fits}
 
 no-event : Event
@@ -214,9 +214,9 @@ module _ {f : List ℕ} {i : Index} {g : Ground} {target : ℕ} {e : Events} {n 
         shows c s p = record {
           accepted = p .accepted;
           invariant = invariant-is (r .invariant) (p .invariant);
-          originals = p .originals ∙ left .many;
+          «original_events» = p .«original_events» ∙ left .many;
           attempts = p .attempts;
-          minimal = p .minimal ∙ ap (eqb (x .reached)) (kept .many);
+          «deletion_minimal» = p .«deletion_minimal» ∙ ap (eqb (x .reached)) (kept .many);
           events = p .events ∙ kept .many;
           words = p .words ∙ kept .held ∙ ap (λ (ts : List Text). area (event-words ts) 400 ws) (sym here);
           written = p .wrote .is-size ∙ ap length bytes-are;

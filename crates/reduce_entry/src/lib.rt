@@ -4,9 +4,9 @@ use engine_inputs::Events;
 use model_index::Index;
 use reduce_result::Minimized;
 ghost use Rattle.notation.specs.Reference.{was, is};
-ghost use Rattle.engine_entry.specs.Answers.{ground, lent};
-ghost use Rattle.reduce_entry.specs.Answers.{Minimizes};
-ghost use Rattle.reduce_entry.specs.Parts.{Accepted, Given, Aimed, ReducesTo, ReducesAll, RunsAs};
+ghost use Rattle.engine_entry.specs.Contract.{ground, lent};
+ghost use Rattle.reduce_entry.specs.Contract.{Minimizes};
+ghost use Rattle.reduce_entry.specs.Contracts.{Accepted, Given, Aimed, ReducesTo, ReducesAll, RunsAs};
 
 // The reduction of a model whose events violate the target.
 fn reduction(

@@ -9,11 +9,11 @@ use Rattle.model_rewrite.specs.declared.Span.{Span}
 use Rattle.model_rewrite.specs.Span.{spanM}
 use Rattle.model_rewrite.specs.Written.{file-with, Room, Wrote}
 use Rattle.model_index.specs.declared.Index.{Index}
-use Rattle.engine_entry.specs.Answers.{Ground}
+use Rattle.engine_entry.specs.Contract.{Ground}
 use Rattle.checker_result.specs.declared.CheckResult.{CheckResult}
 use Rattle.checker_result.specs.Result.{no-check}
-use Rattle.checker_entry.specs.Parts.{Whole}
-use Rattle.checker_entry.proofs.Promise.{whole-done, whole-full}
+use Rattle.checker_entry.specs.Contracts.{Whole}
+use Rattle.checker_entry.proofs.Refines.{whole-done, whole-full}
 use Rattle.reduce.specs.declared.Reduced.{Reduced}
 use Rattle.reduce_result.specs.declared.Minimized.{Minimized}
 use Rattle.reduce_result.specs.Result.{no-reduction}
@@ -23,9 +23,9 @@ pub refused-is : (n : ℕ) {c : CheckResult} → c ≡ no-check n →
     record {
       refused = n;
       invariant = 0;
-      originals = 0;
+      «original_events» = 0;
       attempts = 0;
-      minimal = false;
+      «deletion_minimal» = false;
       events = 0;
       words = replicate 400 0;
       written = 0;
@@ -60,9 +60,9 @@ module _ {f : List ℕ} {i : Index} {g : Ground} {target n : ℕ} {x : Reduced} 
       Finished f i g target n x (record {
         refused = 0;
         invariant = p;
-        originals = n;
+        «original_events» = n;
         attempts = x .attempts;
-        minimal = eqb (x .reached) (x .count);
+        «deletion_minimal» = eqb (x .reached) (x .count);
         events = x .count;
         words = x .words;
         written = size;
@@ -74,9 +74,9 @@ module _ {f : List ℕ} {i : Index} {g : Ground} {target n : ℕ} {x : Reduced} 
     done = λ y. record {
       accepted = refl;
       invariant = h;
-      originals = refl;
+      «original_events» = refl;
       attempts = refl;
-      minimal = refl;
+      «deletion_minimal» = refl;
       events = refl;
       words = refl;
       check = refl;

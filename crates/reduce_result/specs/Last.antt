@@ -9,9 +9,9 @@ use Rattle.model_spec.specs.Validate.{accepted}
 use Rattle.model_index.specs.declared.Index.{Index}
 use Rattle.model_rewrite.specs.Span.{spanM}
 use Rattle.model_rewrite.specs.Written.{file-with, Room, Wrote}
-use Rattle.engine_entry.specs.Answers.{Ground}
+use Rattle.engine_entry.specs.Contract.{Ground}
 use Rattle.checker_result.specs.declared.CheckResult.{CheckResult}
-use Rattle.checker_entry.specs.Parts.{Checked}
+use Rattle.checker_entry.specs.Contracts.{Checked}
 use Rattle.reduce.specs.declared.Reduced.{Reduced}
 use Rattle.reduce_result.specs.declared.Minimized.{Minimized}
 use Rattle.reduce_result.specs.Result.{no-reduction}
@@ -37,9 +37,9 @@ pub record Ready (f : List ℕ) (x : Reduced) (o : List ℕ) : Type 0 where
 pub record Repeats (f : List ℕ) (target n : ℕ) (x : Reduced) (c : CheckResult) (r : Minimized) (o o' : List ℕ) : Type 0 where
   pub accepted : r .refused ≡ 0
   pub invariant : Placed target (r .invariant)
-  pub originals : r .originals ≡ n
+  pub «original_events» : r .«original_events» ≡ n
   pub attempts : r .attempts ≡ x .attempts
-  pub minimal : r .minimal ≡ eqb (x .reached) (x .count)
+  pub «deletion_minimal» : r .«deletion_minimal» ≡ eqb (x .reached) (x .count)
   pub events : r .events ≡ x .count
   pub words : r .words ≡ x .words
   pub check : r .check ≡ c

@@ -10,9 +10,9 @@ unfoldable pub no-reduction : (number : ℕ) → Minimized
 no-reduction n = record {
   refused = n;
   invariant = 0;
-  originals = 0;
+  «original_events» = 0;
   attempts = 0;
-  minimal = false;
+  «deletion_minimal» = false;
   events = 0;
   words = replicate 400 0;
   written = 0;

@@ -8,8 +8,8 @@ ghost use Rattle.notation.specs.Reference.{was, is};
 ghost use mathlib.Core.Path.{_≡_};
 ghost use Prim.Native.Nat.{_*_, _≤_};
 ghost use lib.ListN.{length};
-ghost use Rattle.engine_entry.specs.Answers.{ground};
-ghost use Rattle.checker_entry.specs.Parts.{Whole};
+ghost use Rattle.engine_entry.specs.Contract.{ground};
+ghost use Rattle.checker_entry.specs.Contracts.{Whole};
 ghost use Rattle.reduce_result.specs.Result.{no-reduction};
 ghost use Rattle.reduce_result.specs.Last.{Cleared, Placed, Ready, Finished};
 
@@ -18,9 +18,9 @@ ghost use Rattle.reduce_result.specs.Last.{Cleared, Placed, Ready, Finis
 pub struct Minimized {
     pub refused: u32,
     pub invariant: u32,
-    pub originals: usize,
+    pub original_events: usize,
     pub attempts: u32,
-    pub minimal: bool,
+    pub deletion_minimal: bool,
     pub events: usize,
     pub words: [u32; 400],
     pub written: usize,
@@ -34,9 +34,9 @@ pub fn refused(number: u32) -> Minimized
     Minimized {
         refused: number,
         invariant: 0,
-        originals: 0,
+        original_events: 0,
         attempts: 0,
-        minimal: false,
+        deletion_minimal: false,
         events: 0,
         words: [0u32; 400],
         written: 0,
@@ -108,7 +108,7 @@ pub fn last_check(
     b: Base,
     notes: &[u32; 1500],
     target: u64,
-    originals: usize,
+    original_events: usize,
     r: Reduced,
     queue: &mut [u32],
     records: &mut [u32],

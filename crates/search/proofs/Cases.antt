@@ -17,28 +17,28 @@ use Rattle.reasons.specs.Reasons.{render, body, words}
 use Rattle.model_spec.specs.Answer.{Answer, answer, refused, _>>=_, accept}
 use Rattle.model_spec.specs.Model.{Input, Event, Model}
 use Rattle.model_spec.specs.Validate.{check-input}
-use Rattle.engine_fields.specs.Reads.{alone}
+use Rattle.engine_fields.specs.Fields.{alone}
 use Rattle.engine_refinement.specs.Meaning.{Tabled}
 use Rattle.engine_refinement.specs.Events.{Among, EventAt}
 use Rattle.engine_refinement.proofs.Pool.{no-text, mem-right, among-to}
-use Rattle.engine_entry.proofs.Core.{tb}
+use Rattle.engine_entry.proofs.Refines.{tb}
 use Rattle.checker_spec.specs.Check.{Check, is-violation, checked}
 use Rattle.checker_spec.specs.Check as check
 use Rattle.checker_spec.specs.Verify as verify
 use Rattle.checker_spec.specs.Verify.{after-case, out-of-budget, try-case}
 use Rattle.checker_result.specs.declared.CheckResult.{CheckResult}
 use Rattle.checker_result.specs.declared.Status.{Status}
-use Rattle.checker_entry.specs.Answers.{status-as}
-use Rattle.checker_entry.specs.Answers as said
-use Rattle.checker_entry.specs.Parts.{RefusedAs}
+use Rattle.checker_entry.specs.Contract.{status-as}
+use Rattle.checker_entry.specs.Contract as said
+use Rattle.checker_entry.specs.Contracts.{RefusedAs}
 use Rattle.checker_entry.specs.Pool.{check-pool}
 use Rattle.checker_entry.proofs.Pool.{few-in-pool, among-both, mem-first}
-use Rattle.checker_retry.specs.Case.{Tells, answers, refuses, Cased}
+use Rattle.checker_retry.specs.Retry.{Tells, answers, refuses, Cased}
 use Rattle.search_inputs.specs.declared.Placed.{Placed}
-use Rattle.engine_inputs.proofs.Begins.{Fine}
-use Rattle.search_inputs.proofs.Means.{fine-here, input-accepted, event-at-here}
+use Rattle.engine_inputs.proofs.Refines.{Fine}
+use Rattle.search_inputs.proofs.Refines.{fine-here, input-accepted, event-at-here}
 use Rattle.search_cases.specs.declared.Search.{Search}
-use Rattle.search_cases.specs.Parts.{refusalM, violatesM, refusedM, Spends, Found, Other, Gathers}
+use Rattle.search_cases.specs.Contracts.{refusalM, violatesM, refusedM, Spends, Found, Other, Gathers}
 use Rattle.search.specs.Meaning.{none-such, cells-of, sizes, search-pool, Entire, Setting, PlacedAs, WitnessIs, Held, Outcome}
 use Rattle.search.proofs.Sorted.{sorted-few, sorted-again, sorted-both, sorted-one, sorted-none}
 use Rattle.search.proofs.Budget.{few-steps}

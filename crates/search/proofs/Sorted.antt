@@ -28,7 +28,7 @@ use Rattle.reasons.proofs.Listing as listing
 use Rattle.reasons.proofs.Sorting.{in-front, alone, merged, either-way, anywhere}
 use Rattle.engine_spec.proofs.Lists.{Case, is-true, is-false, case, eqT-eq}
 use Rattle.engine_refinement.specs.Events.{Among}
-use Rattle.engine_refinement.proofs.Pigeons.{Differ, at-most}
+use Rattle.engine_refinement.proofs.Pigeonhole.{Differ, at-most}
 use Rattle.checker_entry.proofs.Pool.{sorted-among}
 
 mem-in : (x : Text) (l : List Text) → memT x l ≡ true → ascending.Among x l

@@ -16,7 +16,7 @@ use Rattle.areas.proofs.Laws as areas
 use Rattle.model_spec.specs.Answer.{Answer, answer, refused, _>>=_}
 use Rattle.model_spec.specs.Model.{Input, reload, Event, Model}
 use Rattle.engine_spec.specs.Records.{Areas}
-use Rattle.engine_fields.specs.Reads.{cap}
+use Rattle.engine_fields.specs.Fields.{cap}
 use Rattle.engine_refinement.proofs.Numbers.{cap-is}
 use Rattle.checker_spec.specs.Verify as verify
 use Rattle.checker_spec.specs.Verify.{last-at, unless-stopped}
@@ -24,9 +24,9 @@ use Rattle.search_inputs.specs.declared.Placed.{Placed}
 use Rattle.model_spec.specs.Events.{input-words, event-words}
 use Rattle.model_spec.proofs.Events.{input-size, event-size}
 use Rattle.search_inputs.specs.Inputs.{gap-words, lastM, placing}
-use Rattle.search_inputs.proofs.Means.{gap-size}
+use Rattle.search_inputs.proofs.Refines.{gap-size}
 use Rattle.search_cases.specs.declared.Search.{Search}
-use Rattle.search_cases.specs.Parts.{nextAt, Nexts}
+use Rattle.search_cases.specs.Contracts.{nextAt, Nexts}
 use Rattle.search.specs.Meaning.{
   none-such,
   cells-of,

@@ -18,7 +18,7 @@ use Rattle.engine_spec.specs.Cells.{Cell, initial-cells}
 use Rattle.engine_spec.specs.Records.{Areas}
 pub use Rattle.engine_spec.specs.Words.{sizes}
 use Rattle.engine_refinement.specs.Events.{Among}
-use Rattle.engine_entry.specs.Answers.{Ground, ground, Grounds}
+use Rattle.engine_entry.specs.Contract.{Ground, ground, Grounds}
 use Rattle.checker_spec.specs.Check.{checked}
 use Rattle.checker_spec.specs.Verify as verify
 use Rattle.checker_entry.specs.Pool.{check-pool}

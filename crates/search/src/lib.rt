@@ -5,7 +5,7 @@ use search_inputs::Placed;
 ghost use Rattle.notation.specs.Reference.{was, is};
 ghost use Prim.Native.Nat.{_+_, _*_, _≤_, _<_};
 ghost use lib.ListN.{length};
-ghost use Rattle.search_cases.specs.Parts.{Fitted, Shaped};
+ghost use Rattle.search_cases.specs.Contracts.{Fitted, Shaped};
 ghost use Rattle.search.specs.Meaning.{entire};
 ghost use Rattle.search.specs.Contracts.{Tries, Visits, Deepens};
 

@@ -14,21 +14,21 @@ use Rattle.reasons.proofs.Cleaning.{zeros, holds-zeros}
 use Rattle.checker_collect.proofs.Laws.{all-many}
 use Rattle.checker_result.specs.declared.CheckResult.{CheckResult}
 use Rattle.checker_result.specs.Result.{no-check, result-of}
-use Rattle.search_cases.specs.Parts.{AtMost}
+use Rattle.search_cases.specs.Contracts.{AtMost}
 use Rattle.search_answer.specs.declared.Found.the-variants as found
 use Rattle.search_answer.specs.declared.Searched.{Searched}
-use Rattle.search_answer.specs.Whole.{whole-of, unverified, no-verification}
-use Rattle.search_answer.specs.Told.{statusM, WithCheck, without}
+use Rattle.search_answer.specs.Result.{whole-of, unverified, no-verification}
+use Rattle.search_answer.specs.Answer.{statusM, WithCheck, without}
 
 pub refused-is : (n : ℕ) {c : CheckResult} → c ≡ no-check 0 → unverified n c ≡ no-verification n
 unfolding no-verification
 refused-is n e = rw e
 
 pub with-lists-is : (x : Searched) {t v us ws s : List ℕ} {c : CheckResult} → c ≡ result-of (x .check) v us ws s →
-    record { status = x .status; cases = x .cases; total = x .total; depth = x .depth; horizon = x .horizon; most = x .most; steps = x .steps; alphabet = x .alphabet; inputs = x .inputs; gaps = x .gaps; seconds = x .seconds; reasons = x .reasons; told = t; shortest = x .shortest; events = x .events; words = x .words; written = x .written; check = c }
+    record { status = x .status; cases = x .cases; «total_steps» = x .«total_steps»; depth = x .depth; horizon = x .horizon; «max_cases» = x .«max_cases»; «max_steps_per_case» = x .«max_steps_per_case»; alphabet = x .alphabet; inputs = x .inputs; gaps = x .gaps; seconds = x .seconds; reasons = x .reasons; told = t; shortest = x .shortest; events = x .events; words = x .words; written = x .written; check = c }
     ≡ whole-of x t v us ws s
 with-lists-is x {t} e =
-    ap (λ (c : CheckResult). record { status = x .status; cases = x .cases; total = x .total; depth = x .depth; horizon = x .horizon; most = x .most; steps = x .steps; alphabet = x .alphabet; inputs = x .inputs; gaps = x .gaps; seconds = x .seconds; reasons = x .reasons; told = t; shortest = x .shortest; events = x .events; words = x .words; written = x .written; check = c }) e
+    ap (λ (c : CheckResult). record { status = x .status; cases = x .cases; «total_steps» = x .«total_steps»; depth = x .depth; horizon = x .horizon; «max_cases» = x .«max_cases»; «max_steps_per_case» = x .«max_steps_per_case»; alphabet = x .alphabet; inputs = x .inputs; gaps = x .gaps; seconds = x .seconds; reasons = x .reasons; told = t; shortest = x .shortest; events = x .events; words = x .words; written = x .written; check = c }) e
 
 pub without-is : {c : CheckResult} → c ≡ no-check 0 → _≡_ {A = WithCheck}
     (record { events = 0; words = replicate 20 0; written = 0; check = c }) without

@@ -1,2 +1,2 @@
-pub mod Whole
-pub mod Told
+pub mod Result
+pub mod Answer

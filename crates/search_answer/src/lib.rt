@@ -9,8 +9,8 @@ ghost use mathlib.Core.List.{List};
 ghost use Prim.Native.Nat.{ℕ};
 ghost use lib.ListN.{length, replicate};
 ghost use Rattle.checker_result.specs.Result.{result-of};
-ghost use Rattle.search_answer.specs.Whole.{whole-of, no-verification};
-ghost use Rattle.search_answer.specs.Told.{statusM, with-check, without, Told};
+ghost use Rattle.search_answer.specs.Result.{whole-of, no-verification};
+ghost use Rattle.search_answer.specs.Answer.{statusM, with-check, without, Told};
 
 pub enum Found {
     Refused(u32),
@@ -25,11 +25,11 @@ pub enum Found {
 pub struct Verification {
     pub status: Found,
     pub cases: u32,
-    pub total: u32,
+    pub total_steps: u32,
     pub depth: u32,
     pub horizon: u32,
-    pub most: u32,
-    pub steps: u32,
+    pub max_cases: u32,
+    pub max_steps_per_case: u32,
     pub alphabet: usize,
     pub inputs: [u32; 36],
     pub gaps: usize,
@@ -47,11 +47,11 @@ pub struct Verification {
 pub struct Searched {
     pub status: Found,
     pub cases: u32,
-    pub total: u32,
+    pub total_steps: u32,
     pub depth: u32,
     pub horizon: u32,
-    pub most: u32,
-    pub steps: u32,
+    pub max_cases: u32,
+    pub max_steps_per_case: u32,
     pub alphabet: usize,
     pub inputs: [u32; 36],
     pub gaps: usize,
@@ -80,11 +80,11 @@ pub fn refused(
     Searched {
         status: Found::Refused(number),
         cases: 0,
-        total: 0,
+        total_steps: 0,
         depth: 0,
         horizon: 0,
-        most: 0,
-        steps: 0,
+        max_cases: 0,
+        max_steps_per_case: 0,
         alphabet: 0,
         inputs: [0u32; 36],
         gaps: 0,
@@ -165,11 +165,11 @@ pub fn told_of(
     Searched {
         status,
         cases: o.cases,
-        total: o.steps,
+        total_steps: o.steps,
         depth: search_cases::limit(file, limits, 8),
         horizon: p.horizon,
-        most: search_cases::limit(file, limits, 12),
-        steps: search_cases::limit(file, limits, 4),
+        max_cases: search_cases::limit(file, limits, 12),
+        max_steps_per_case: search_cases::limit(file, limits, 4),
         alphabet: alphabet.count,
         inputs,
         gaps: gaps.count,
@@ -213,11 +213,11 @@ pub fn with_lists(
     Verification {
         status,
         cases: x.cases,
-        total: x.total,
+        total_steps: x.total_steps,
         depth: x.depth,
         horizon: x.horizon,
-        most: x.most,
-        steps: x.steps,
+        max_cases: x.max_cases,
+        max_steps_per_case: x.max_steps_per_case,
         alphabet: x.alphabet,
         inputs,
         gaps: x.gaps,

@@ -12,7 +12,7 @@ use Rattle.reasons.specs.Lists.{listed, insertAll, Clean, Grows}
 use Rattle.reasons.specs.Reasons.{render}
 use Rattle.reasons.specs.declared.Reason.{Reason}
 use Rattle.reasons.proofs.Listing as listing
-use Rattle.engine_fields.specs.Reads.{four, cap, alone}
+use Rattle.engine_fields.specs.Fields.{four, cap, alone}
 use Rattle.engine_fields.proofs.Readable.{alone-readable}
 use Rattle.checker_collect.proofs.Laws.{all-many}
 use Rattle.search_inputs.specs.declared.Alphabet.{Alphabet}
@@ -20,7 +20,7 @@ use Rattle.search_inputs.specs.declared.Gaps.{Gaps}
 use Rattle.search_inputs.specs.declared.Placed.{Placed}
 use Rattle.search_inputs.specs.Inputs.{lastM, Placing}
 use Rattle.search_cases.specs.declared.Plan.{Plan}
-use Rattle.search_cases.specs.Parts.{AtMost, limitM, Fitted, Gathers, nextAt, Nexts}
+use Rattle.search_cases.specs.Contracts.{AtMost, limitM, Fitted, Gathers, nextAt, Nexts}
 
 pub limit-is : (f : List ℕ) (at k : ℕ) {p r : ℕ} → p ≡ cap at → r ≡ four f (p + k) → r ≡ limitM f at k
 unfolding limitM

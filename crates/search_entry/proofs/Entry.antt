@@ -16,28 +16,28 @@ use Rattle.model_index.specs.declared.Index.{Index}
 use Rattle.model_index.specs.declared.Status.the-variants as status
 use Rattle.model_index.specs.Indexed as indexed
 use Rattle.model_index.specs.Indexed.{Indexed}
-use Rattle.model_validate.proofs.Agrees.{accept-read, accept-refused}
+use Rattle.model_validate.proofs.Refines.{accept-read, accept-refused}
 use Rattle.model_validate.proofs.Refusals.{Refuses, Refusal, refusal-numbers}
 use Rattle.engine_spec.specs.Memory.{Lent, entries, zeros, all-zeros, lent-after}
 use Rattle.engine_spec.specs.Records.{Areas}
 use Rattle.engine_spec.specs.Words.{words-in, entry-words}
 use Rattle.engine_spec.proofs.Memory.{refusals}
-use Rattle.engine_fields.specs.Reads.{atMost}
+use Rattle.engine_fields.specs.Fields.{atMost}
 use Rattle.engine_state.specs.declared.Cells.{Cells}
 use Rattle.engine_refinement.proofs.Numbers.{most-is}
-use Rattle.engine_entry.specs.Answers.{ground, Grounds}
+use Rattle.engine_entry.specs.Contract.{ground, Grounds}
 use Rattle.checker_spec.specs.Verify as verify
 use Rattle.checker_spec.specs.Verify.{searched, verified, short-of-room}
 use Rattle.search_inputs.proofs.Lawful.{accepted-searchable}
 use Rattle.search_cases.specs.declared.Plan.{Plan}
 use Rattle.search_cases.specs.declared.Search.{Search}
-use Rattle.search_cases.specs.Parts.{limitM, Plans, Begins}
+use Rattle.search_cases.specs.Contracts.{limitM, Plans, Begins}
 use Rattle.search.specs.Meaning.{cells-of, sizes, Entire, entire, Setting, Outcome}
 use Rattle.search.specs.Contracts.{Deepens}
 use Rattle.search_answer.specs.declared.Verification.{Verification}
-use Rattle.search_answer.specs.Whole.{no-verification}
-use Rattle.search_entry.specs.Answers.{Says, witness-trace, output-after, Gives, Verifies}
-use Rattle.search_entry.specs.Parts.{Reached, Ending, Ends, Accepted, Runs, Admits}
+use Rattle.search_answer.specs.Result.{no-verification}
+use Rattle.search_entry.specs.Contract.{Says, witness-trace, output-after, Gives, Verifies}
+use Rattle.search_entry.specs.Contracts.{Reached, Ending, Ends, Accepted, Runs, Admits}
 use Rattle.search_entry.proofs.Start.{limits-are, setting, start-of, start-held}
 
 -- ---- the search

@@ -16,21 +16,21 @@ use Rattle.reasons.proofs.Sorting.{one-by-one}
 use Rattle.model_spec.specs.Answer.{Answer, answer, refused, _>>=_}
 use Rattle.engine_spec.specs.Memory.{Lent}
 use Rattle.engine_spec.specs.Words.{texts-in, words-in}
-use Rattle.engine_entry.proofs.Promise.{texts-here}
+use Rattle.engine_entry.proofs.RunEvents.{texts-here}
 use Rattle.checker_spec.specs.Verify as verify
 use Rattle.checker_spec.specs.Verify.{found-of, verification-of, witness-file}
 use Rattle.model_spec.specs.Events.{input-words, event-words}
 use Rattle.search_cases.specs.declared.Search.{Search}
-use Rattle.search_cases.specs.Parts.{limitM}
+use Rattle.search_cases.specs.Contracts.{limitM}
 use Rattle.search.specs.Meaning.{Entire, Setting, Witnessed, Held, Outcome}
 use Rattle.engine_refinement.proofs.Pool.{has-text}
 use Rattle.search.proofs.Cases.{table, few-reasons}
 use Rattle.search.proofs.Sorted.{sorted-again}
 use Rattle.search_answer.specs.declared.Verification.{Verification}
-use Rattle.search_answer.specs.Whole.{no-verification}
-use Rattle.search_entry.specs.Answers.{found-as, NoWitness, Witnesses, WitnessSays, Shows, witness-trace, output-after}
-use Rattle.search_answer.specs.Told.{statusM, WithCheck, Told, without}
-use Rattle.search_entry.specs.Parts.{Writable, Written, Writes, Reached, answer-of, Ending, Ends}
+use Rattle.search_answer.specs.Result.{no-verification}
+use Rattle.search_entry.specs.Contract.{found-as, NoWitness, Witnesses, WitnessSays, Shows, witness-trace, output-after}
+use Rattle.search_answer.specs.Answer.{statusM, WithCheck, Told, without}
+use Rattle.search_entry.specs.Contracts.{Writable, Written, Writes, Reached, answer-of, Ending, Ends}
 use Rattle.search_entry.proofs.Start.{limits-are}
 
 -- ---- the status
@@ -61,11 +61,11 @@ module _ {f : List ℕ} {at : ℕ} {p : Entire} {q a u : ℕ} (x : Setting f p q
         record {
           status-is = e;
           cases = t .cases ∙ h .cases;
-          total = t .total ∙ h .steps;
+          «total_steps» = t .«total_steps» ∙ h .steps;
           depth = t .depth ∙ ap (λ (j : ℕ). limitM f j 8) (sym here) ∙ l .depth;
           horizon = t .horizon ∙ x .horizon;
-          most = t .most ∙ ap (λ (j : ℕ). limitM f j 12) (sym here) ∙ l .cases;
-          steps = t .steps ∙ ap (λ (j : ℕ). limitM f j 4) (sym here) ∙ l .steps;
+          «max_cases» = t .«max_cases» ∙ ap (λ (j : ℕ). limitM f j 12) (sym here) ∙ l .cases;
+          «max_steps_per_case» = t .«max_steps_per_case» ∙ ap (λ (j : ℕ). limitM f j 4) (sym here) ∙ l .steps;
           alphabet = t .alphabet ∙ x .inputs;
           inputs = t .inputs ∙ x .words ∙ ap (λ (ts : List Text). area (input-words ts) 36 (x .m .scenario .alphabet))
               (sym texts-are);
@@ -100,7 +100,7 @@ module _ {f : List ℕ} {at : ℕ} {p : Entire} {q a u : ℕ} (x : Setting f p q
       words = t .words ∙ k .words ∙ g .placed .words
           ∙ ap (λ (ts : List Text). area (event-words ts) 20 (v .events)) (sym texts-are);
       written = t .written ∙ k .written .is-size;
-      check = subst (λ (z : _). Rattle.checker_entry.specs.Answers.Shows f z (v .check)) (sym (t .check)) (k .check);
+      check = subst (λ (z : _). Rattle.checker_entry.specs.Contract.Shows f z (v .check)) (sym (t .check)) (k .check);
     }
 
     some-status : (v : verify.Witness) → o .found ≡ true → r .status ≡ found-as (found-of (some v) (sortedT (s .reasons)))

@@ -14,23 +14,23 @@ use Rattle.model_rewrite.specs.Span.{spanM}
 use Rattle.model_rewrite.specs.Written.{file-with, Room, Wrote}
 use Rattle.model_spec.specs.Events.{event-words, EventWords}
 use Rattle.model_spec.proofs.Events.{event-size}
-use Rattle.engine_inputs.proofs.Begins.{Fine, event-words-here}
-use Rattle.model_rewrite.proofs.Agrees.{asked, told}
+use Rattle.engine_inputs.proofs.Refines.{Fine, event-words-here}
+use Rattle.model_rewrite.proofs.Refines.{asked, told}
 use Rattle.model_rewrite.proofs.WithEvents.{few-events}
 use Rattle.engine_spec.specs.Words.{words-in}
 use Rattle.engine_spec.proofs.Validated.{accepted-decoded}
-use Rattle.engine_entry.specs.Answers.{lent}
-use Rattle.engine_entry.proofs.Core.{queue-clear, runs-clear}
+use Rattle.engine_entry.specs.Contract.{lent}
+use Rattle.engine_entry.proofs.Refines.{queue-clear, runs-clear}
 use Rattle.checker_spec.specs.Check.{Check, checked}
 use Rattle.checker_result.specs.declared.CheckResult.{CheckResult}
-use Rattle.checker_entry.specs.Answers as said
-use Rattle.checker_entry.specs.Parts.{Checked, Whole}
-use Rattle.checker_entry.proofs.Promise.{Promise, answers, refuses, promise, whole-shows}
+use Rattle.checker_entry.specs.Contract as said
+use Rattle.checker_entry.specs.Contracts.{Checked, Whole}
+use Rattle.checker_entry.proofs.Refines.{Promise, answers, refuses, promise, whole-shows}
 use Rattle.search_inputs.specs.declared.Placed.{Placed}
-use Rattle.search_inputs.proofs.Means.{fine-here}
+use Rattle.search_inputs.proofs.Refines.{fine-here}
 use Rattle.search.specs.Meaning.{none-such, cells-of, sizes, Entire, Setting, PlacedAs}
 use Rattle.search.proofs.Cases.{events-at}
-use Rattle.search_entry.specs.Parts.{Writable, Written, Writes}
+use Rattle.search_entry.specs.Contracts.{Writable, Written, Writes}
 
 module _ {f : List ℕ} {p : Entire} {q a u : ℕ} (x : Setting f p q a u) where
   decoded : decode f ≡ answer (x .m)

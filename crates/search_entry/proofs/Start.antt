@@ -21,20 +21,20 @@ use Rattle.model_index.specs.declared.Index.{Index}
 use Rattle.model_index.specs.Indexed.{Indexed}
 use Rattle.engine_spec.specs.Reasons.{unsupported-wait}
 use Rattle.engine_spec.specs.Unsupported.{unsupported}
-use Rattle.engine_fields.specs.Reads.{four, cap}
+use Rattle.engine_fields.specs.Fields.{four, cap}
 use Rattle.engine_state.specs.declared.Cells.{Cells}
 use Rattle.engine_refinement.specs.Meaning.{rule-pool, pool-of}
 use Rattle.engine_refinement.proofs.Accepted.{accepted-lawful, accepted-small}
 use Rattle.engine_refinement.proofs.Numbers.{four-is, cap-is, most-is}
-use Rattle.engine_entry.specs.Answers.{ground, Grounds}
-use Rattle.engine_entry.proofs.Core.{tb, notes-held}
+use Rattle.engine_entry.specs.Contract.{ground, Grounds}
+use Rattle.engine_entry.proofs.Refines.{tb, notes-held}
 use Rattle.checker_spec.specs.Verify as verify
 use Rattle.checker_entry.proofs.Pool.{notes-among}
 use Rattle.search_inputs.proofs.Lawful.{Searchable, accepted-searchable}
-use Rattle.search_inputs.proofs.Means.{alphabet-is, gaps-are}
+use Rattle.search_inputs.proofs.Refines.{alphabet-is, gaps-are}
 use Rattle.search_cases.specs.declared.Plan.{Plan}
 use Rattle.search_cases.specs.declared.Search.{Search}
-use Rattle.search_cases.specs.Parts.{limitM, Plans, Fitted, Begins}
+use Rattle.search_cases.specs.Contracts.{limitM, Plans, Fitted, Begins}
 use Rattle.search.specs.Meaning.{cells-of, Entire, entire, Setting, Held}
 use Rattle.search.proofs.Cases.{widen}
 

@@ -9,13 +9,13 @@ use search_inputs::Placed;
 ghost use Rattle.notation.specs.Reference.{was, is};
 ghost use Prim.Native.Nat.{_+_, _≤_};
 ghost use lib.ListN.{length};
-ghost use Rattle.engine_entry.specs.Answers.{lent};
+ghost use Rattle.engine_entry.specs.Contract.{lent};
 ghost use Rattle.checker_result.specs.Result.{result-of};
 ghost use Rattle.search.specs.Meaning.{entire};
-ghost use Rattle.search_answer.specs.Whole.{whole-of};
-ghost use Rattle.search_entry.specs.Answers.{Verifies};
-ghost use Rattle.search_answer.specs.Told.{with-check};
-ghost use Rattle.search_entry.specs.Parts.{Writable, Writes, Reached, Ends, Accepted, Runs, Admits};
+ghost use Rattle.search_answer.specs.Result.{whole-of};
+ghost use Rattle.search_entry.specs.Contract.{Verifies};
+ghost use Rattle.search_answer.specs.Answer.{with-check};
+ghost use Rattle.search_entry.specs.Contracts.{Writable, Writes, Reached, Ends, Accepted, Runs, Admits};
 
 // ---- the witness
 

@@ -5,8 +5,8 @@ use Prim.Native.Nat.{ℕ, _-_, _*_, _/_, _%_, _≤_, _<_}
 use lib.ListN.{getD}
 use borrow.Author.Tests.{lt-ltb, le-ltb, eq-eqb, ne-eqb}
 use Rattle.model_index.specs.declared.Index.{Index}
-use Rattle.engine_fields.specs.Reads.{four, cap}
-use Rattle.engine_inputs.specs.Begin.{input-part}
+use Rattle.engine_fields.specs.Fields.{four, cap}
+use Rattle.engine_inputs.specs.Inputs.{input-part}
 use Rattle.search_inputs.specs.declared.Placed.{Placed}
 use Rattle.search_inputs.specs.Inputs.{input-word, gap-word, lastM}
 

@@ -1,3 +1,3 @@
 pub mod Laws
 pub mod Lawful
-pub mod Means
+pub mod Refines

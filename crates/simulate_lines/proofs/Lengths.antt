@@ -22,7 +22,7 @@ use Rattle.show.specs.Lines.{newline, quoted}
 use Rattle.show.specs.Lines as lines
 use Rattle.show.proofs.Laws as show
 use Rattle.simulate_lines.specs.Lines.{number-line, steps-line, records-line, horizon-line, text-line, sim-incomplete-line, incomplete-of, incomplete-lines, final-line, all-lines}
-use Rattle.simulate_lines.specs.Parts.{texts-of, text-of}
+use Rattle.simulate_lines.specs.FileTexts.{texts-of, text-of}
 
 module _ (s t : Text) (m n : ℕ) (a : length s ≤ m) (b : length t ≤ n) where
   pub app : length (s ++ t) ≤ m + n

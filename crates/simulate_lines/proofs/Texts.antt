@@ -8,7 +8,7 @@ use Rattle.texts.specs.Places.{textAt, startFrom, textsFrom}
 use Rattle.texts.proofs.Laws as texts
 use Rattle.show.specs.Lines.{quoted}
 use Rattle.show.proofs.Laws as show
-use Rattle.simulate_lines.specs.Parts.{texts-of, text-of}
+use Rattle.simulate_lines.specs.FileTexts.{texts-of, text-of}
 
 module _ (f x : List ℕ) (k : ℕ) where
   pub there : (at : ℕ) → at ≡ startFrom f 6 k → k < getD x 9 0 → quoted (textAt f at) ≡ quoted (text-of f x k)

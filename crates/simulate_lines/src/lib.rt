@@ -7,11 +7,11 @@ ghost use Prim.Native.Nat.{_+_, _*_, _≤_, _<_};
 ghost use lib.ListN.{length, drop};
 ghost use Rattle.reasons.specs.Reasons.{render};
 ghost use Rattle.reasons.specs.Lists.{reason-of};
-ghost use Rattle.engine_fields.specs.Reads.{name};
+ghost use Rattle.engine_fields.specs.Fields.{name};
 ghost use Rattle.show.specs.Lines.{quoted};
 ghost use Rattle.show.specs.Writing.{Written, Kept};
 ghost use Rattle.simulate_lines.specs.Lines.{number-line, text-line, steps-line, records-line, horizon-line, unsupported-line, reason-line, sim-unknown-line, halted, incomplete-of, incomplete-lines, final-line};
-ghost use Rattle.simulate_lines.specs.Parts.{text-of};
+ghost use Rattle.simulate_lines.specs.FileTexts.{text-of};
 
 // ---- a word and a number
 

@@ -3,7 +3,7 @@ use mathlib.Core.List.{List}
 use Prim.Native.Nat.{_-_, _*_, _≤_}
 use native.Mathlib.Omega.{arith}
 use Rattle.records.specs.declared.Record.{Record}
-use Rattle.checker_collect.specs.Verdict.{firstM, Changes}
+use Rattle.checker_collect.specs.Collect.{firstM, Changes}
 use Rattle.checker_collect.proofs.Laws as laws
 use Rattle.checker_collect.proofs.judge_all.Statement.{statement}
 use Rattle.checker_collect.proofs.judge_all.Tie as tie

@@ -1,4 +1,4 @@
-use Rattle.checker_reasons.specs.Told.{aboutM}
+use Rattle.checker_reasons.specs.Reasons.{aboutM}
 use borrow.Author.Needs.{needs}
 use Rattle.checker_reasons.proofs.about.Statement.{statement}
 use Rattle.checker_reasons.proofs.about.Tie as tie

@@ -1,4 +1,4 @@
-use Rattle.checker_reasons.specs.Told.{incompleteM}
+use Rattle.checker_reasons.specs.Reasons.{incompleteM}
 use borrow.Author.Needs.{needs}
 use Rattle.checker_reasons.proofs.incomplete_reasons.Statement.{statement}
 use Rattle.checker_reasons.proofs.incomplete_reasons.Tie as tie

@@ -1,4 +1,4 @@
-use Rattle.checker_reasons.specs.Told.{temporalM}
+use Rattle.checker_reasons.specs.Reasons.{temporalM}
 use borrow.Author.Needs.{needs}
 use Rattle.checker_reasons.proofs.temporal.Statement.{statement}
 use Rattle.checker_reasons.proofs.temporal.Tie as tie

@@ -1,4 +1,4 @@
-use Rattle.checker_reasons.specs.Told.{ifM}
+use Rattle.checker_reasons.specs.Reasons.{ifM}
 use Rattle.checker_reasons.proofs.told_if.Statement.{statement}
 use Rattle.checker_reasons.proofs.told_if.Tie as tie
 

@@ -1,5 +1,5 @@
 use borrow.Author.Tests.{eq-eqb, ne-eqb}
-use Rattle.checker_reasons.specs.Told.{unknownM}
+use Rattle.checker_reasons.specs.Reasons.{unknownM}
 use borrow.Author.Needs.{needs}
 use Rattle.checker_reasons.proofs.unknown_reasons.Statement.{statement}
 use Rattle.checker_reasons.proofs.unknown_reasons.Tie as tie

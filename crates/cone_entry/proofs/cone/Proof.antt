@@ -1,4 +1,4 @@
-use Rattle.cone_entry.proofs.Core as core
+use Rattle.cone_entry.proofs.Refines as core
 use borrow.Author.Needs.{needs}
 use Rattle.cone_entry.proofs.cone.Statement.{statement}
 use Rattle.cone_entry.proofs.cone.Tie as tie

@@ -1,5 +1,5 @@
 use mathlib.Core.Path.{refl}
-use Rattle.cone_entry.specs.Answers.{no-cone}
+use Rattle.cone_entry.specs.Contract.{no-cone}
 use Rattle.cone_entry.proofs.refused.Statement.{statement}
 use Rattle.cone_entry.proofs.refused.Tie as tie
 use Rattle.cone_entry.proofs.refused.Reads as reads

@@ -2,13 +2,13 @@ use borrow.Author.Needs.{needs}
 use mathlib.Core.Path.{_≡_, sym, _∙_}
 use Prim.Native.Nat.{_-_}
 use lib.ListN.{getD}
-use Rattle.lint_collect.specs.Order.{fillM}
+use Rattle.lint_collect.specs.Collect.{fillM}
 use Rattle.lint_collect.proofs.Laws as entry
 use Rattle.lint_walk.proofs.Sizes as sizes
 use Rattle.lint_walk.specs.Walks.{walkM}
 use Rattle.lint_access.specs.Sets.{writesM}
 use Rattle.cone_sets.specs.Sets.{needsM}
-use Rattle.cone_entry.specs.Parts.{writes-eachM, needs-eachM}
+use Rattle.cone_entry.specs.Contracts.{writes-eachM, needs-eachM}
 use Rattle.cone_entry.proofs.Laws as laws
 use Rattle.cone_entry.proofs.rule_sets.Statement.{statement}
 use Rattle.cone_entry.proofs.rule_sets.Tie as tie

@@ -1,7 +1,7 @@
 use borrow.Author.Needs.{needs}
 use mathlib.Core.Path.{_≡_, sym, _∙_}
 use Prim.Native.Nat.{_-_}
-use Rattle.cone_names.specs.Wanted.{fromM, namesM}
+use Rattle.cone_names.specs.Undeclared.{fromM, namesM}
 use Rattle.cone_names.proofs.Laws as laws
 use Rattle.cone_names.proofs.names_in.Statement.{statement}
 use Rattle.cone_names.proofs.names_in.Tie as tie

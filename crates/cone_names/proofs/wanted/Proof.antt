@@ -1,7 +1,7 @@
 use borrow.Author.Needs.{needs}
 use mathlib.Core.Path.{_≡_, sym, _∙_}
 use Prim.Native.Nat.{_-_}
-use Rattle.cone_names.specs.Wanted.{wantedM, someM}
+use Rattle.cone_names.specs.Undeclared.{wantedM, someM}
 use Rattle.cone_names.proofs.Laws as laws
 use Rattle.cone_names.proofs.wanted.Statement.{statement}
 use Rattle.cone_names.proofs.wanted.Tie as tie

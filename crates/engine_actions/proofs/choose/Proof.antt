@@ -3,9 +3,9 @@ use mathlib.Core.Path.{refl}
 use Rattle.engine_state.proofs.Laws.{same, wide}
 use Rattle.engine_trigger.proofs.Laws as steps
 use Rattle.engine_actions.proofs.Laws as laws
-use Rattle.engine_modes.proofs.Wholes as wholes
-use Rattle.engine_modes.proofs.Wholes.{apart, lent}
-use Rattle.engine_actions.specs.Acts.{chosenM}
+use Rattle.engine_modes.proofs.Compose as wholes
+use Rattle.engine_modes.proofs.Compose.{apart, lent}
+use Rattle.engine_actions.specs.Perform.{chosenM}
 use borrow.Author.Needs.{needs}
 use Rattle.engine_actions.proofs.choose.Statement.{statement}
 use Rattle.engine_actions.proofs.choose.Tie as tie

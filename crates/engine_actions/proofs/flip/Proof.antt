@@ -5,8 +5,8 @@ use Rattle.engine_state.proofs.Laws.{none, one, two, same, wide}
 use Rattle.engine_state.proofs.Laws as states
 use Rattle.engine_trigger.proofs.Laws as steps
 use Rattle.engine_actions.proofs.Laws as laws
-use Rattle.engine_modes.proofs.Wholes as wholes
-use Rattle.engine_modes.proofs.Wholes.{apart, shared}
+use Rattle.engine_modes.proofs.Compose as wholes
+use Rattle.engine_modes.proofs.Compose.{apart, shared}
 use Rattle.engine_modes.specs.Modes.{nowM}
 use borrow.Author.Needs.{needs}
 use Rattle.engine_actions.proofs.flip.Statement.{statement}

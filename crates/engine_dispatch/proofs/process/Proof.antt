@@ -1,9 +1,9 @@
 use Rattle.engine_state.proofs.Laws.{same, wide}
 use Rattle.engine_trigger.proofs.Laws as steps
 use Rattle.engine_dispatch.proofs.Laws as laws
-use Rattle.engine_modes.proofs.Wholes as wholes
-use Rattle.engine_modes.proofs.Wholes.{lent, shared}
-use Rattle.engine_dispatch.specs.Process.{processM}
+use Rattle.engine_modes.proofs.Compose as wholes
+use Rattle.engine_modes.proofs.Compose.{lent, shared}
+use Rattle.engine_dispatch.specs.Dispatch.{processM}
 use borrow.Author.Needs.{needs}
 use Rattle.engine_dispatch.proofs.process.Statement.{statement}
 use Rattle.engine_dispatch.proofs.process.Tie as tie

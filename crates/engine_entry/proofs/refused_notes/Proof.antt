@@ -1,5 +1,5 @@
 use mathlib.Core.Path.{refl}
-use Rattle.engine_entry.specs.Answers.{no-notes}
+use Rattle.engine_entry.specs.Contract.{no-notes}
 use Rattle.engine_entry.proofs.refused_notes.Statement.{statement}
 use Rattle.engine_entry.proofs.refused_notes.Tie as tie
 

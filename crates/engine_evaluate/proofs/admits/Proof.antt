@@ -1,6 +1,6 @@
 use borrow.Author.Tests.{eq-eqb, ne-eqb}
 use Rattle.engine_evaluate.proofs.Laws as laws
-use Rattle.engine_evaluate.specs.Truths.{admitsM}
+use Rattle.engine_evaluate.specs.Evaluate.{admitsM}
 use Rattle.engine_evaluate.proofs.admits.Statement.{statement}
 use Rattle.engine_evaluate.proofs.admits.Tie as tie
 use Rattle.engine_evaluate.proofs.admits.Reads as reads

@@ -1,7 +1,7 @@
 use mathlib.Core.Path.{sym, _∙_}
 use borrow.Author.Tests.{eq-eqb, ne-eqb}
 use Rattle.engine_evaluate.proofs.Laws as laws
-use Rattle.engine_evaluate.specs.Truths.{againstM}
+use Rattle.engine_evaluate.specs.Evaluate.{againstM}
 use borrow.Author.Needs.{needs}
 use Rattle.engine_evaluate.proofs.against.Statement.{statement}
 use Rattle.engine_evaluate.proofs.against.Tie as tie

@@ -1,7 +1,7 @@
 use borrow.Author.Needs.{needs}
 use mathlib.Core.Path.{_≡_, sym, _∙_}
 use Rattle.engine_evaluate.proofs.Laws as laws
-use Rattle.engine_evaluate.specs.Truths.{anyM, anyFrom}
+use Rattle.engine_evaluate.specs.Evaluate.{anyM, anyFrom}
 use Rattle.engine_evaluate.proofs.any_matches.Statement.{statement}
 use Rattle.engine_evaluate.proofs.any_matches.Tie as tie
 use Rattle.engine_evaluate.proofs.any_matches.Reads as reads

@@ -1,5 +1,5 @@
 use Rattle.engine_evaluate.proofs.Laws as laws
-use Rattle.engine_evaluate.specs.Truths.{bothM}
+use Rattle.engine_evaluate.specs.Evaluate.{bothM}
 use borrow.Author.Needs.{needs}
 use Rattle.engine_evaluate.proofs.both.Statement.{statement}
 use Rattle.engine_evaluate.proofs.both.Tie as tie

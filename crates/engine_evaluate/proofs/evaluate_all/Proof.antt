@@ -1,7 +1,7 @@
 use borrow.Author.Needs.{needs}
 use mathlib.Core.Path.{_≡_, sym, _∙_}
 use Rattle.engine_evaluate.proofs.Laws as laws
-use Rattle.engine_evaluate.specs.Truths.{allM, allFrom}
+use Rattle.engine_evaluate.specs.Evaluate.{allM, allFrom}
 use Rattle.engine_evaluate.proofs.evaluate_all.Statement.{statement}
 use Rattle.engine_evaluate.proofs.evaluate_all.Tie as tie
 use Rattle.engine_evaluate.proofs.evaluate_all.Reads as reads

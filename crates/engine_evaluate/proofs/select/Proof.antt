@@ -1,7 +1,7 @@
 use borrow.Author.Needs.{needs}
 use mathlib.Core.Path.{_≡_, sym, _∙_}
 use Rattle.engine_evaluate.proofs.Laws as laws
-use Rattle.engine_evaluate.specs.Truths.{selectM, selectFrom}
+use Rattle.engine_evaluate.specs.Evaluate.{selectM, selectFrom}
 use Rattle.engine_evaluate.proofs.select.Statement.{statement}
 use Rattle.engine_evaluate.proofs.select.Tie as tie
 use Rattle.engine_evaluate.proofs.select.Reads as reads

@@ -1,6 +1,6 @@
 use borrow.Author.Tests.{eq-eqb, ne-eqb}
 use Rattle.engine_evaluate.proofs.Laws as laws
-use Rattle.engine_evaluate.specs.Truths.{undecidedM}
+use Rattle.engine_evaluate.specs.Evaluate.{undecidedM}
 use borrow.Author.Needs.{needs}
 use Rattle.engine_evaluate.proofs.undecided.Statement.{statement}
 use Rattle.engine_evaluate.proofs.undecided.Tie as tie

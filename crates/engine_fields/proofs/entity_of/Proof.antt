@@ -2,7 +2,7 @@ use borrow.Author.Needs.{needs}
 use mathlib.Core.Path.{_≡_, sym, _∙_}
 use native.Mathlib.Omega.{arith}
 use Rattle.engine_fields.proofs.Laws as laws
-use Rattle.engine_fields.specs.Reads.{entityOf, entityFrom}
+use Rattle.engine_fields.specs.Fields.{entityOf, entityFrom}
 use Prim.Native.Nat.{_-_, _≤_}
 use Rattle.engine_fields.proofs.entity_of.Statement.{statement}
 use Rattle.engine_fields.proofs.entity_of.Tie as tie

@@ -4,7 +4,7 @@ use Rattle.engine_state.proofs.Laws.{none, one, two}
 use Rattle.engine_state.proofs.Laws as states
 use Rattle.engine_trigger.proofs.Laws as steps
 use Rattle.engine_handlers.proofs.Laws as laws
-use Rattle.engine_handlers.specs.Works.{drop-allM}
+use Rattle.engine_handlers.specs.Handlers.{drop-allM}
 use Rattle.engine_state.specs.Changes.{log-plainM}
 use borrow.Author.Needs.{needs}
 use Rattle.engine_handlers.proofs.drop_all.Statement.{statement}

@@ -3,8 +3,8 @@ use Rattle.engine_state.proofs.Laws.{none, one, two}
 use Rattle.engine_state.proofs.Laws as states
 use Rattle.engine_trigger.proofs.Laws as steps
 use Rattle.engine_handlers.proofs.Laws as laws
-use Rattle.engine_handlers.specs.Works.{expire-toM}
-use Rattle.engine_update.specs.Writes.{changedM}
+use Rattle.engine_handlers.specs.Handlers.{expire-toM}
+use Rattle.engine_update.specs.Update.{changedM}
 use Rattle.engine_state.specs.Changes.{log-writeM}
 use borrow.Author.Needs.{needs}
 use Rattle.engine_handlers.proofs.expire.Statement.{statement}

@@ -1,5 +1,5 @@
 use Rattle.engine_trigger.proofs.Laws as steps
-use Rattle.engine_handlers.specs.Works.{externalM}
+use Rattle.engine_handlers.specs.Handlers.{externalM}
 use borrow.Author.Needs.{needs}
 use Rattle.engine_handlers.proofs.external.Statement.{statement}
 use Rattle.engine_handlers.proofs.external.Tie as tie

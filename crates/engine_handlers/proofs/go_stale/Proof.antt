@@ -2,8 +2,8 @@ use Rattle.engine_state.proofs.Laws.{none, same}
 use Rattle.engine_state.proofs.Laws as states
 use Rattle.engine_trigger.proofs.Laws as steps
 use Rattle.engine_handlers.proofs.Laws as laws
-use Rattle.engine_modes.proofs.Wholes as wholes
-use Rattle.engine_modes.proofs.Wholes.{apart, lent, shared}
+use Rattle.engine_modes.proofs.Compose as wholes
+use Rattle.engine_modes.proofs.Compose.{apart, lent, shared}
 use borrow.Author.Needs.{needs}
 use Rattle.engine_handlers.proofs.go_stale.Statement.{statement}
 use Rattle.engine_handlers.proofs.go_stale.Tie as tie

@@ -4,7 +4,7 @@ use Rattle.engine_state.proofs.Laws.{none, same}
 use Rattle.engine_state.proofs.Laws as states
 use Rattle.engine_trigger.proofs.Laws as steps
 use Rattle.engine_handlers.proofs.Laws as laws
-use Rattle.engine_handlers.specs.Works.{time-outM, time-atM, time-runM}
+use Rattle.engine_handlers.specs.Handlers.{time-outM, time-atM, time-runM}
 use borrow.Author.Needs.{needs}
 use Rattle.engine_handlers.proofs.time_out.Statement.{statement}
 use Rattle.engine_handlers.proofs.time_out.Tie as tie

@@ -3,7 +3,7 @@ use Rattle.engine_state.proofs.Laws.{none, one, two, both, same}
 use Rattle.engine_state.proofs.Laws as states
 use Rattle.engine_trigger.proofs.Laws as steps
 use Rattle.engine_handlers.proofs.Laws as laws
-use Rattle.engine_handlers.specs.Works.{over-onM, over-endM}
+use Rattle.engine_handlers.specs.Handlers.{over-onM, over-endM}
 use Rattle.engine_modes.specs.Modes.{nowM}
 use Rattle.engine_trigger.specs.Runs.{put-runM, finishM}
 use borrow.Author.Needs.{needs}

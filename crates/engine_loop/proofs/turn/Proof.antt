@@ -4,7 +4,7 @@ use Rattle.engine_state.proofs.Laws.{two, both, same}
 use Rattle.engine_state.proofs.Laws as states
 use Rattle.engine_loop.proofs.Laws as laws
 use Rattle.engine_loop.specs.Loop.{turnM, turn-withM}
-use Rattle.engine_dispatch.specs.Process.{processM}
+use Rattle.engine_dispatch.specs.Dispatch.{processM}
 use borrow.Author.Needs.{needs}
 use Rattle.engine_loop.proofs.turn.Statement.{statement}
 use Rattle.engine_loop.proofs.turn.Tie as tie
@@ -37,7 +37,7 @@ turn-spec =
     let c13 = c6 .before .before .before .before .before .before .before in
     states.moves (λ v n s. laws.never (c13 .args .st) _ _ _ (c4 .take .ensures) (search needs) (omega (arith, c13 .pre)) (omega (arith, c6 .if1 .left)) _ (c .enum-told .given .1) (omega (arith, c13 .pre)) (omega (arith, c13 .pre)) (omega (arith, c13 .pre))))
     (λ c κs. omega (arith, c .before .before .before .before .before .before .before .if1 .left))
-    (λ c κs. (omega (arith, c .before .before .before .before .before .before .before .before .before .before .before .before .before .before .before .before .before .before .before .before .before .before .pre, ap (λ s. s .items) (c .before .before .before .before .before .before .before .at-second .ensures), ap (λ s. s .first) (c .before .before .before .before .before .before .before .at-second .ensures)), (omega (arith, c .before .before .before .before .before .before .before .before .before .before .before .before .before .before .before .before .before .before .before .before .before .before .pre, ap (λ s. s .records) (c .before .before .before .before .before .before .before .at-second .ensures)), (omega (arith, c .before .before .before .before .before .before .before .before .before .before .before .before .before .before .before .before .before .before .before .before .before .before .pre, ap (λ s. s .active) (c .before .before .before .before .before .before .before .at-second .ensures)), (omega (arith, c .before .before .before .before .before .before .before .before .before .before .before .before .before .before .before .before .before .before .before .before .before .before .pre, ap (λ s. s .reasons) (c .before .before .before .before .before .before .before .at-second .ensures)), omega (arith, c .before .before .before .before .before .before .before .before .before .before .before .before .before .before .before .before .before .before .before .before .before .before .pre))))))
+    (λ c κs. (omega (arith, c .before .before .before .before .before .before .before .before .before .before .before .before .before .before .before .before .before .before .before .before .before .before .pre, ap (λ s. s .items) (c .before .before .before .before .before .before .before .at-second .ensures), ap (λ s. s .«queue_start») (c .before .before .before .before .before .before .before .at-second .ensures)), (omega (arith, c .before .before .before .before .before .before .before .before .before .before .before .before .before .before .before .before .before .before .before .before .before .before .pre, ap (λ s. s .records) (c .before .before .before .before .before .before .before .at-second .ensures)), (omega (arith, c .before .before .before .before .before .before .before .before .before .before .before .before .before .before .before .before .before .before .before .before .before .before .pre, ap (λ s. s .«live_runs») (c .before .before .before .before .before .before .before .at-second .ensures)), (omega (arith, c .before .before .before .before .before .before .before .before .before .before .before .before .before .before .before .before .before .before .before .before .before .before .pre, ap (λ s. s .reasons) (c .before .before .before .before .before .before .before .at-second .ensures)), omega (arith, c .before .before .before .before .before .before .before .before .before .before .before .before .before .before .before .before .before .before .before .before .before .before .pre))))))
     (λ c. search needs)
     (λ c. search needs)
     (λ c. search needs)

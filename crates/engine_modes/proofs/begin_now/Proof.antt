@@ -3,7 +3,7 @@ use native.Mathlib.Omega.{arith}
 use Rattle.engine_state.proofs.Laws.{none, one, two}
 use Rattle.engine_state.proofs.Laws as states
 use Rattle.engine_modes.proofs.Laws as laws
-use Rattle.engine_modes.proofs.Wholes as wholes
+use Rattle.engine_modes.proofs.Compose as wholes
 use Rattle.engine_modes.specs.Modes.{begin-runM, nowM}
 use borrow.Author.Needs.{needs}
 use Rattle.engine_modes.proofs.begin_now.Statement.{statement}

@@ -1,7 +1,7 @@
 use Rattle.engine_state.proofs.Laws.{none, same, wide}
 use Rattle.engine_modes.proofs.Laws as laws
-use Rattle.engine_modes.proofs.Wholes as wholes
-use Rattle.engine_modes.proofs.Wholes.{apart, lent, shared}
+use Rattle.engine_modes.proofs.Compose as wholes
+use Rattle.engine_modes.proofs.Compose.{apart, lent, shared}
 use Rattle.engine_modes.specs.Modes.{carry-outM, carry-withM, decidedM}
 use borrow.Author.Needs.{needs}
 use Rattle.engine_modes.proofs.carry_out.Statement.{statement}

@@ -4,7 +4,7 @@ use native.Mathlib.Omega.{arith}
 use Rattle.engine_state.proofs.Laws.{none, one, two, both}
 use Rattle.engine_state.proofs.Laws as states
 use Rattle.engine_modes.proofs.Laws as laws
-use Rattle.engine_modes.proofs.Wholes as wholes
+use Rattle.engine_modes.proofs.Compose as wholes
 use Rattle.engine_modes.specs.Modes.{stop-startM}
 use borrow.Author.Needs.{needs}
 use Rattle.engine_modes.proofs.stop_and_start.Statement.{statement}
@@ -42,7 +42,7 @@ stop-and-start-spec =
     let c8 = c6 .before .before in
     let c11 = c8 .before .before .before in
     let c17 = c11 .before .before .before .before .before .before in
-    (c17 .pre .0, (laws.fits-as 5 _ (c6 .log-rule .ensures .queue ∙ ap (λ s. s .first + s .items) (c8 .with-active .ensures)) (c17 .pre .1 .0), (c6 .log-rule .ensures .records .1, omega (arith, c17 .pre, ap (λ s. s .active) (c8 .with-active .ensures), c6 .log-rule .ensures .runs, c11 .drop-runs .ensures .room)))))
+    (c17 .pre .0, (laws.fits-as 5 _ (c6 .log-rule .ensures .queue ∙ ap (λ s. s .«queue_start» + s .items) (c8 .with-active .ensures)) (c17 .pre .1 .0), (c6 .log-rule .ensures .records .1, omega (arith, c17 .pre, ap (λ s. s .«live_runs») (c8 .with-active .ensures), c6 .log-rule .ensures .runs, c11 .drop-runs .ensures .room)))))
     (λ c. search needs)
     (λ c. search needs)
     (λ c. search needs)

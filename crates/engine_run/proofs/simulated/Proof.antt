@@ -25,7 +25,7 @@ simulated-spec =
     (λ c κs.
     let c9 = c .before .before .before .before .before .before .before .before .before in
     let c28 = c9 .before .before .before .before .before .before .before .before .before .before .before .before .before .before .before .before .before .before .before in
-    (omega (arith, c28 .pre), (omega (arith, ap (λ s. s .items) (c9 .start .ensures), ap (λ s. s .first) (c9 .start .ensures)), (omega (arith, ap (λ s. s .records) (c9 .start .ensures)), (omega (arith, ap (λ s. s .active) (c9 .start .ensures)), (omega (arith, c28 .pre, ap (λ s. s .reasons) (c9 .start .ensures)), omega (arith, c28 .pre)))))))
+    (omega (arith, c28 .pre), (omega (arith, ap (λ s. s .items) (c9 .start .ensures), ap (λ s. s .«queue_start») (c9 .start .ensures)), (omega (arith, ap (λ s. s .records) (c9 .start .ensures)), (omega (arith, ap (λ s. s .«live_runs») (c9 .start .ensures)), (omega (arith, c28 .pre, ap (λ s. s .reasons) (c9 .start .ensures)), omega (arith, c28 .pre)))))))
     (λ c κs. c .before .before .before .before .before .before .before .before .before .before .run-all .ensures .items-fit)
     (λ c κs.
     let c14 = c .before .before .before .before .before .before .before .before .before .before .before .before .before .before in

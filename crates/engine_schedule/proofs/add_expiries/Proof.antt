@@ -5,7 +5,7 @@ use Rattle.engine_state.proofs.Laws as states
 use Rattle.engine_schedule.proofs.Laws as laws
 use Prim.Native.Nat.{_≤_, _-_}
 use Rattle.engine_schedule.specs.Events.{expiriesM}
-use Rattle.engine_update.specs.Writes.{expiryM}
+use Rattle.engine_update.specs.Update.{expiryM}
 use Rattle.engine_state.specs.Steps.{Moves, kept, goes, still}
 use Rattle.engine_schedule.proofs.add_expiries.Statement.{statement}
 use Rattle.engine_schedule.proofs.add_expiries.Tie as tie

@@ -31,13 +31,13 @@ rule-word-spec =
     (λ c. c .capped .ensures ∙ sym (laws.word-3 _ _ _ _ (c .before .if4 .taken)))
     (λ c κs. search needs)
     (λ c κs. search needs)
-    (λ c. c .capped2 .ensures ∙ ap Rattle.engine_fields.specs.Reads.cap (c .before .conditions-at .ensures .0) ∙ sym (laws.word-4 _ _ _ _ (c .before .before .if5 .taken)))
+    (λ c. c .capped2 .ensures ∙ ap Rattle.engine_fields.specs.Fields.cap (c .before .conditions-at .ensures .0) ∙ sym (laws.word-4 _ _ _ _ (c .before .before .if5 .taken)))
     (λ c κs. search needs)
     (λ c κs. search needs)
-    (λ c. c .capped3 .ensures ∙ ap Rattle.engine_fields.specs.Reads.cap (c .before .actions-at .ensures) ∙ sym (laws.word-5 _ _ _ _ (c .before .before .if6 .taken)))
+    (λ c. c .capped3 .ensures ∙ ap Rattle.engine_fields.specs.Fields.cap (c .before .actions-at .ensures) ∙ sym (laws.word-5 _ _ _ _ (c .before .before .if6 .taken)))
     (λ c κs. search needs)
     (λ c κs. search needs)
-    (λ c. c .capped4 .ensures ∙ ap Rattle.engine_fields.specs.Reads.cap (c .before .source-at .ensures) ∙ sym (laws.word-6 _ _ _ _ (c .before .before .if7 .taken)))
+    (λ c. c .capped4 .ensures ∙ ap Rattle.engine_fields.specs.Fields.cap (c .before .source-at .ensures) ∙ sym (laws.word-6 _ _ _ _ (c .before .before .if7 .taken)))
     (λ c κs. search needs)
     (λ c.
     let c3 = c .before .before .before in

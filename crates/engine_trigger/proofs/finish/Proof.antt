@@ -3,7 +3,7 @@ use native.Mathlib.Omega.{arith}
 use Rattle.engine_state.proofs.Laws.{none, one, two, both}
 use Rattle.engine_state.proofs.Laws as states
 use Rattle.engine_modes.proofs.Laws as modes
-use Rattle.engine_modes.proofs.Wholes as wholes
+use Rattle.engine_modes.proofs.Compose as wholes
 use Rattle.engine_trigger.proofs.Laws as laws
 use Rattle.engine_trigger.specs.Runs.{finish-runM, finishM}
 use borrow.Author.Needs.{needs}
@@ -43,7 +43,7 @@ finish-spec =
     let c4 = c .before .before .before .before in
     let c6 = c4 .before .before in
     let c16 = c6 .before .before .before .before .before .before .before .before .before .before in
-    (omega (arith, c16 .pre, ap (λ s. s .items) (c6 .with-active .ensures), ap (λ s. s .first) (c6 .with-active .ensures), c4 .log-rule .ensures .queue), omega (arith, c16 .pre, ap (λ s. s .active) (c6 .with-active .ensures), c4 .log-rule .ensures .runs)))
+    (omega (arith, c16 .pre, ap (λ s. s .items) (c6 .with-active .ensures), ap (λ s. s .«queue_start») (c6 .with-active .ensures), c4 .log-rule .ensures .queue), omega (arith, c16 .pre, ap (λ s. s .«live_runs») (c6 .with-active .ensures), c4 .log-rule .ensures .runs)))
     (λ c. search needs)
     (λ c. search needs)
     (λ c. search needs)

@@ -1,8 +1,8 @@
 use Rattle.engine_state.proofs.Laws.{none, two, both, same}
 use Rattle.engine_state.proofs.Laws as states
 use Rattle.engine_modes.proofs.Laws as modes
-use Rattle.engine_modes.proofs.Wholes as wholes
-use Rattle.engine_modes.proofs.Wholes.{apart, lent, shared}
+use Rattle.engine_modes.proofs.Compose as wholes
+use Rattle.engine_modes.proofs.Compose.{apart, lent, shared}
 use Rattle.engine_trigger.proofs.Laws as laws
 use Rattle.engine_trigger.specs.Triggers.{offer-asM}
 use borrow.Author.Needs.{needs}

@@ -3,7 +3,7 @@ use native.Mathlib.Omega.{arith}
 use Rattle.engine_state.proofs.Laws.{none, two, both, same}
 use Rattle.engine_state.proofs.Laws as states
 use Rattle.engine_modes.proofs.Laws as modes
-use Rattle.engine_modes.proofs.Wholes as wholes
+use Rattle.engine_modes.proofs.Compose as wholes
 use Rattle.engine_trigger.proofs.Laws as laws
 use Prim.Native.Nat.{_≤_, _-_}
 use mathlib.Core.Path.{sym, subst}

@@ -14,7 +14,7 @@ use Rattle.engine_trigger.proofs.wake.Lts as lts
 use Rattle.engine_trigger.proofs.wake_one.Reads as wake-one-reads
 
 abbrev Inv-loop : tie.InvT-loop
-Inv-loop f q₀ r₀ m n s₀ k₀ q r s k = Does (wake-firstM f m k) s₀ s (goes q₀ q) kept (goes r₀ r) still × ((k ≤ n) × (s .active ≡ n))
+Inv-loop f q₀ r₀ m n s₀ k₀ q r s k = Does (wake-firstM f m k) s₀ s (goes q₀ q) kept (goes r₀ r) still × ((k ≤ n) × (s .«live_runs» ≡ n))
 
 abbrev μ-loop : tie.MeasureT-loop
 μ-loop f q₀ r₀ m n s₀ k₀ q r s k = n - k

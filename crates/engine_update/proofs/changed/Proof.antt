@@ -1,7 +1,7 @@
 use borrow.Author.Tests.{eq-eqb, ne-eqb}
 use Rattle.engine_state.proofs.Laws.{none, same}
 use Rattle.engine_state.proofs.Laws as states
-use Rattle.engine_update.specs.Writes.{changedM}
+use Rattle.engine_update.specs.Update.{changedM}
 use borrow.Author.Needs.{needs}
 use Rattle.engine_update.proofs.changed.Statement.{statement}
 use Rattle.engine_update.proofs.changed.Tie as tie

@@ -3,7 +3,7 @@ use borrow.Author.Tests.{eq-eqb}
 use Rattle.engine_state.proofs.Laws.{none, same}
 use Rattle.engine_state.proofs.Laws as states
 use Rattle.engine_update.proofs.Laws as laws
-use Rattle.engine_update.specs.Writes.{expiryM}
+use Rattle.engine_update.specs.Update.{expiryM}
 use borrow.Author.Needs.{needs}
 use Rattle.engine_update.proofs.expiry.Statement.{statement}
 use Rattle.engine_update.proofs.expiry.Tie as tie

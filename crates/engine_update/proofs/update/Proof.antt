@@ -2,7 +2,7 @@ use native.Mathlib.Omega.{arith}
 use Rattle.engine_state.proofs.Laws.{none, one, two, both, same}
 use Rattle.engine_state.proofs.Laws as states
 use Rattle.engine_update.proofs.Laws as laws
-use Rattle.engine_update.specs.Writes.{expiryM, changedM, writeM}
+use Rattle.engine_update.specs.Update.{expiryM, changedM, writeM}
 use Rattle.engine_state.specs.Changes.{log-writeM}
 use borrow.Author.Needs.{needs}
 use Rattle.engine_update.proofs.update.Statement.{statement}

@@ -3,12 +3,12 @@ use mathlib.Core.Path.{_≡_, refl, sym, _∙_}
 use mathlib.Core.List.{List, _∷_, []}
 use Prim.Native.Nat.{ℕ, _-_}
 use lib.ListN.{length, getD}
-use Rattle.lint_areas.specs.Board.{board, pushes, finding}
+use Rattle.lint_areas.specs.Areas.{board, pushes, finding}
 use Rattle.lint_findings.specs.Entries.{items-numbersM}
 use Rattle.lint_findings.proofs.Laws as items
-use Rattle.lint_conditions.specs.Given.{sectionOf}
+use Rattle.lint_conditions.specs.Context.{sectionOf}
 use Rattle.lint_collect.proofs.Laws as laws
-use Rattle.lint_collect.specs.Order.{cycleM, cyclesItems}
+use Rattle.lint_collect.specs.Collect.{cycleM, cyclesItems}
 use Rattle.lint_collect.proofs.cycle_entries.Statement.{statement}
 use Rattle.lint_collect.proofs.cycle_entries.Tie as tie
 

@@ -4,7 +4,7 @@ use Prim.Native.Nat.{_-_}
 use Rattle.model_walk.specs.declared.Walked.{Walked}
 use Rattle.lint_walk.proofs.Sizes as sizes
 use Rattle.lint_collect.proofs.Laws as laws
-use Rattle.lint_collect.specs.Order.{cycleWritesFrom, cycleWritesM}
+use Rattle.lint_collect.specs.Collect.{cycleWritesFrom, cycleWritesM}
 use Rattle.lint_collect.proofs.cycle_writes.Statement.{statement}
 use Rattle.lint_collect.proofs.cycle_writes.Tie as tie
 use Rattle.lint_collect.proofs.cycle_writes.Reads as reads

@@ -4,9 +4,9 @@ use Prim.Native.Nat.{_-_}
 use lib.ListN.{getD}
 use Rattle.lint_walk.specs.Walks.{walkM}
 use Rattle.lint_walk.proofs.Sizes as sizes
-use Rattle.lint_conditions.specs.Given.{sectionOf}
+use Rattle.lint_conditions.specs.Context.{sectionOf}
 use Rattle.lint_collect.proofs.Laws as laws
-use Rattle.lint_collect.specs.Order.{fillM, rowM, edgesM}
+use Rattle.lint_collect.specs.Collect.{fillM, rowM, edgesM}
 use Rattle.lint_collect.proofs.edges.Statement.{statement}
 use Rattle.lint_collect.proofs.edges.Tie as tie
 use Rattle.lint_collect.proofs.edges.Reads as reads

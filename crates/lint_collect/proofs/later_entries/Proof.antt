@@ -3,14 +3,14 @@ use mathlib.Core.Path.{_≡_, refl, sym, _∙_}
 use mathlib.Core.List.{List}
 use Prim.Native.Nat.{ℕ, _-_}
 use lib.ListN.{length}
-use Rattle.lint_areas.specs.Board.{board, pushes}
+use Rattle.lint_areas.specs.Areas.{board, pushes}
 use Rattle.lint_walk.specs.Walks.{walkBy}
 use Rattle.lint_walk.proofs.Sizes as sizes
 use Rattle.lint_findings.specs.Entries.{items-numbersM}
 use Rattle.lint_findings.proofs.Laws as items
-use Rattle.lint_conditions.specs.Given.{sectionOf, namesBy}
+use Rattle.lint_conditions.specs.Context.{sectionOf, namesBy}
 use Rattle.lint_collect.proofs.Laws as laws
-use Rattle.lint_collect.specs.Order.{pairAt}
+use Rattle.lint_collect.specs.Collect.{pairAt}
 use Rattle.lint_collect.proofs.later_entries.Statement.{statement}
 use Rattle.lint_collect.proofs.later_entries.Tie as tie
 use Rattle.lint_collect.proofs.later_entries.Reads as reads

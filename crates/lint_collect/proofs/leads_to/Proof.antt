@@ -3,11 +3,11 @@ use mathlib.Core.Path.{_≡_, sym, _∙_}
 use Prim.Native.Nat.{_-_}
 use Rattle.lint_findings.proofs.Laws as items
 use Rattle.lint_walk.specs.Walks.{walkBy}
-use Rattle.lint_conditions.specs.Tests.{any-listM}
+use Rattle.lint_conditions.specs.Conditions.{any-listM}
 use Rattle.lint_conditions.proofs.Laws as tests
 use Rattle.lint_walk.proofs.Sizes as sizes
 use Rattle.lint_collect.proofs.Laws as laws
-use Rattle.lint_collect.specs.Order.{actionLeadsM, leadsToM}
+use Rattle.lint_collect.specs.Collect.{actionLeadsM, leadsToM}
 use Rattle.lint_collect.proofs.leads_to.Statement.{statement}
 use Rattle.lint_collect.proofs.leads_to.Tie as tie
 use Rattle.lint_collect.proofs.leads_to.Reads as reads

@@ -4,9 +4,9 @@ use Prim.Native.Nat.{_-_}
 use mathlib.Core.Bool.{false}
 use lib.ListN.{getD, replicate}
 use Rattle.lint_walk.specs.Walks.{walkBy}
-use Rattle.lint_conditions.specs.Given.{sectionOf}
+use Rattle.lint_conditions.specs.Context.{sectionOf}
 use Rattle.lint_collect.proofs.Laws as laws
-use Rattle.lint_collect.specs.Order.{leadsToM, fillM}
+use Rattle.lint_collect.specs.Collect.{leadsToM, fillM}
 use Rattle.lint_collect.proofs.reach_row.Statement.{statement}
 use Rattle.lint_collect.proofs.reach_row.Tie as tie
 use Rattle.lint_collect.proofs.reach_row.Reads as reads

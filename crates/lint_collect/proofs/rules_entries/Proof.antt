@@ -2,14 +2,14 @@ use borrow.Author.Needs.{needs}
 use mathlib.Core.Path.{_≡_, refl, sym, _∙_}
 use Prim.Native.Nat.{_-_}
 use lib.ListN.{length}
-use Rattle.lint_areas.specs.Board.{board, pushes}
+use Rattle.lint_areas.specs.Areas.{board, pushes}
 use Rattle.lint_findings.specs.Entries.{items-numbersM}
 use Rattle.lint_findings.proofs.Laws as items
 use Rattle.lint_conditions.proofs.Laws as tests
 use Rattle.lint_walk.proofs.Sizes as sizes
-use Rattle.lint_conditions.specs.Given.{sectionOf, namesBy}
+use Rattle.lint_conditions.specs.Context.{sectionOf, namesBy}
 use Rattle.lint_collect.proofs.Laws as laws
-use Rattle.lint_collect.specs.Order.{ruleAt, rulesItems}
+use Rattle.lint_collect.specs.Collect.{ruleAt, rulesItems}
 use Rattle.lint_collect.proofs.rules_entries.Statement.{statement}
 use Rattle.lint_collect.proofs.rules_entries.Tie as tie
 use Rattle.lint_collect.proofs.rules_entries.Reads as reads

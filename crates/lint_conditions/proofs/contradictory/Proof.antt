@@ -2,7 +2,7 @@ use borrow.Author.Needs.{needs}
 use mathlib.Core.Path.{_≡_, sym, _∙_}
 use Prim.Native.Nat.{_-_}
 use Rattle.lint_conditions.proofs.Laws as laws
-use Rattle.lint_conditions.specs.Tests.{contradictoryFrom, contradictoryM}
+use Rattle.lint_conditions.specs.Conditions.{contradictoryFrom, contradictoryM}
 use Rattle.lint_walk.specs.Raw.{past}
 use Rattle.lint_conditions.proofs.contradictory.Statement.{statement}
 use Rattle.lint_conditions.proofs.contradictory.Tie as tie

@@ -4,7 +4,7 @@ use Prim.Native.Nat.{_-_}
 use borrow.Author.Tests.{eq-eqb, ne-eqb}
 use lib.Dec.{eqb}
 use Rattle.lint_conditions.proofs.Laws as laws
-use Rattle.lint_conditions.specs.Tests.{any-listM, delaysM}
+use Rattle.lint_conditions.specs.Conditions.{any-listM, delaysM}
 use Rattle.lint_walk.specs.Raw.{kindM}
 use Rattle.lint_walk.specs.Walks.{walkBy}
 use Rattle.lint_conditions.proofs.delays.Statement.{statement}

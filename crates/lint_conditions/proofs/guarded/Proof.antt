@@ -2,8 +2,8 @@ use borrow.Author.Needs.{needs}
 use mathlib.Core.Path.{_≡_, sym, _∙_}
 use Prim.Native.Nat.{_-_}
 use Rattle.lint_conditions.proofs.Laws as laws
-use Rattle.lint_conditions.specs.Given.{sectionOf}
-use Rattle.lint_conditions.specs.Tests.{any-listM, guardM}
+use Rattle.lint_conditions.specs.Context.{sectionOf}
+use Rattle.lint_conditions.specs.Conditions.{any-listM, guardM}
 use Rattle.lint_conditions.proofs.guarded.Statement.{statement}
 use Rattle.lint_conditions.proofs.guarded.Tie as tie
 use Rattle.lint_conditions.proofs.guarded.Reads as reads

@@ -3,7 +3,7 @@ use mathlib.Core.Path.{_≡_, refl, sym, _∙_}
 use Prim.Native.Nat.{_-_}
 use Rattle.lint_conditions.proofs.Laws as laws
 use Rattle.model_walk.specs.declared.Walked.{Walked}
-use Rattle.lint_conditions.specs.Tests.{highestFrom, highestM}
+use Rattle.lint_conditions.specs.Conditions.{highestFrom, highestM}
 use Rattle.lint_conditions.proofs.highest.Statement.{statement}
 use Rattle.lint_conditions.proofs.highest.Tie as tie
 use Rattle.lint_conditions.proofs.highest.Reads as reads

@@ -2,7 +2,7 @@ use borrow.Author.Needs.{needs}
 use mathlib.Core.Path.{_≡_, sym, _∙_}
 use Prim.Native.Nat.{_-_}
 use Rattle.lint_conditions.proofs.Laws as laws
-use Rattle.lint_conditions.specs.Tests.{allM, mismatchM, mismatchedM}
+use Rattle.lint_conditions.specs.Conditions.{allM, mismatchM, mismatchedM}
 use Rattle.lint_walk.specs.Raw.{past}
 use Rattle.lint_conditions.proofs.mismatched.Statement.{statement}
 use Rattle.lint_conditions.proofs.mismatched.Tie as tie

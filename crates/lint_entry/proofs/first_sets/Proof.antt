@@ -2,9 +2,9 @@ use borrow.Author.Needs.{needs}
 use mathlib.Core.Path.{_≡_, refl, sym, _∙_}
 use Prim.Native.Nat.{_-_}
 use lib.ListN.{getD}
-use Rattle.lint_collect.specs.Order.{fillM}
+use Rattle.lint_collect.specs.Collect.{fillM}
 use Rattle.lint_collect.proofs.Laws as entry
-use Rattle.lint_entry.specs.Parts.{firstM}
+use Rattle.lint_entry.specs.Contracts.{firstM}
 use Rattle.lint_entry.proofs.Laws as laws
 use Rattle.lint_entry.proofs.first_sets.Statement.{statement}
 use Rattle.lint_entry.proofs.first_sets.Tie as tie

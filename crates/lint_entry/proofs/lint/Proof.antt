@@ -1,4 +1,4 @@
-use Rattle.lint_entry.proofs.Core as core
+use Rattle.lint_entry.proofs.Refines as core
 use borrow.Author.Needs.{needs}
 use Rattle.lint_entry.proofs.lint.Statement.{statement}
 use Rattle.lint_entry.proofs.lint.Tie as tie

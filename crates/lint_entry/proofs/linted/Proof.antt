@@ -1,5 +1,5 @@
 use Rattle.lint_entry.proofs.Laws as laws
-use Rattle.lint_entry.proofs.Core as core
+use Rattle.lint_entry.proofs.Refines as core
 use borrow.Author.Needs.{needs}
 use native.Mathlib.Omega.{arith}
 use Rattle.lint_entry.proofs.linted.Statement.{statement}

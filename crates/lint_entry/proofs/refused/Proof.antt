@@ -1,5 +1,5 @@
 use mathlib.Core.Path.{refl}
-use Rattle.lint_entry.specs.Answers.{no-lint}
+use Rattle.lint_entry.specs.Contract.{no-lint}
 use Rattle.lint_entry.proofs.refused.Statement.{statement}
 use Rattle.lint_entry.proofs.refused.Tie as tie
 use Rattle.lint_entry.proofs.refused.Reads as reads

@@ -3,12 +3,12 @@ use mathlib.Core.Path.{_≡_, sym, _∙_}
 use Prim.Native.Nat.{_-_}
 use Rattle.model_walk.specs.declared.Walked.{Walked}
 use lib.ListN.{getD}
-use Rattle.lint_collect.specs.Order.{fillM}
+use Rattle.lint_collect.specs.Collect.{fillM}
 use Rattle.lint_collect.proofs.Laws as entry
 use Rattle.lint_walk.proofs.Sizes as sizes
 use Rattle.lint_walk.specs.Walks.{walkM}
 use Rattle.lint_access.specs.Sets.{readsM, writesM}
-use Rattle.lint_entry.specs.Parts.{readSets, writeSets}
+use Rattle.lint_entry.specs.Contracts.{readSets, writeSets}
 use Rattle.lint_entry.proofs.Laws as laws
 use Rattle.lint_entry.proofs.rule_sets.Statement.{statement}
 use Rattle.lint_entry.proofs.rule_sets.Tie as tie

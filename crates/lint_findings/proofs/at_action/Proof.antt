@@ -1,6 +1,6 @@
 use mathlib.Core.Path.{_∙_}
 use Prim.Native.Nat.{_-_}
-use Rattle.lint_areas.specs.Board.{finding}
+use Rattle.lint_areas.specs.Areas.{finding}
 use Rattle.lint_findings.proofs.Laws as laws
 use borrow.Author.Needs.{needs}
 use Rattle.lint_findings.proofs.at_action.Statement.{statement}

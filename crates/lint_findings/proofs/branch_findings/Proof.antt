@@ -4,7 +4,7 @@ use mathlib.Core.List.{List}
 use Prim.Native.Nat.{ℕ, _-_}
 use lib.ListN.{length}
 use Rattle.lint_walk.specs.Walks.{walkBy}
-use Rattle.lint_areas.specs.Board.{board, pushes}
+use Rattle.lint_areas.specs.Areas.{board, pushes}
 use Rattle.lint_findings.proofs.Laws as laws
 use Rattle.lint_findings.specs.Entries.{items-numbersM, branchesAt, branchesItems}
 use Rattle.lint_findings.proofs.branch_findings.Statement.{statement}

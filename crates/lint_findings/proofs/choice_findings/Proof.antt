@@ -3,10 +3,10 @@ use mathlib.Core.Path.{_≡_, refl, sym, ap, _∙_}
 use mathlib.Core.List.{List}
 use Prim.Native.Nat.{ℕ, _-_}
 use lib.ListN.{length}
-use Rattle.lint_areas.specs.Board.{board, pushes, onlyIf, finding}
+use Rattle.lint_areas.specs.Areas.{board, pushes, onlyIf, finding}
 use Rattle.lint_findings.proofs.Laws as laws
 use Rattle.lint_findings.specs.Entries.{items-partsM}
-use Rattle.lint_conditions.specs.Tests.{contradictoryM}
+use Rattle.lint_conditions.specs.Conditions.{contradictoryM}
 use Rattle.lint_walk.specs.Raw.{predicatesEnd}
 use Rattle.lint_walk.specs.Walks.{listEnd}
 use Rattle.lint_findings.proofs.choice_findings.Statement.{statement}

@@ -3,8 +3,8 @@ use mathlib.Core.Path.{_≡_, refl, sym, _∙_}
 use mathlib.Core.List.{List}
 use Prim.Native.Nat.{ℕ, _-_}
 use lib.ListN.{length}
-use Rattle.lint_areas.specs.Board.{board, pushes, onlyIf, finding}
-use Rattle.lint_conditions.specs.Given.{sectionOf}
+use Rattle.lint_areas.specs.Areas.{board, pushes, onlyIf, finding}
+use Rattle.lint_conditions.specs.Context.{sectionOf}
 use Rattle.lint_findings.proofs.Laws as laws
 use Rattle.lint_findings.specs.Entries.{items-numbersM, aboutM, staleHereM, freshItems}
 use Rattle.lint_findings.proofs.fresh_findings.Statement.{statement}

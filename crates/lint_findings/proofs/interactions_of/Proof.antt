@@ -3,11 +3,11 @@ use mathlib.Core.Path.{_≡_, refl, sym, _∙_}
 use mathlib.Core.List.{List, _∷_, []}
 use Prim.Native.Nat.{ℕ, _-_}
 use lib.ListN.{length, getD}
-use Rattle.lint_areas.specs.Board.{board, pushes, onlyIf, interaction}
-use Rattle.lint_conditions.specs.Given.{sectionOf}
+use Rattle.lint_areas.specs.Areas.{board, pushes, onlyIf, interaction}
+use Rattle.lint_conditions.specs.Context.{sectionOf}
 use Rattle.lint_findings.proofs.Laws as laws
 use Rattle.lint_findings.specs.Entries.{items-numbersM}
-use Rattle.lint_conditions.specs.Tests.{leadsM}
+use Rattle.lint_conditions.specs.Conditions.{leadsM}
 use Rattle.lint_findings.proofs.interactions_of.Statement.{statement}
 use Rattle.lint_findings.proofs.interactions_of.Tie as tie
 use Rattle.lint_findings.proofs.interactions_of.Reads as reads

@@ -1,8 +1,8 @@
 use mathlib.Core.Path.{ap, _∙_}
 use Prim.Native.Nat.{_-_}
-use Rattle.lint_areas.specs.Board.{finding}
+use Rattle.lint_areas.specs.Areas.{finding}
 use Rattle.lint_findings.proofs.Laws as laws
-use Rattle.lint_conditions.specs.Tests.{contradictoryM}
+use Rattle.lint_conditions.specs.Conditions.{contradictoryM}
 use borrow.Author.Needs.{needs}
 use Rattle.lint_findings.proofs.own_findings.Statement.{statement}
 use Rattle.lint_findings.proofs.own_findings.Tie as tie

@@ -3,8 +3,8 @@ use mathlib.Core.Path.{_≡_, refl, sym, _∙_}
 use Prim.Native.Nat.{_-_}
 use lib.ListN.{length, getD}
 use Rattle.lint_walk.specs.Walks.{walkBy}
-use Rattle.lint_areas.specs.Board.{board, pushes}
-use Rattle.lint_conditions.specs.Given.{sectionOf, namesBy}
+use Rattle.lint_areas.specs.Areas.{board, pushes}
+use Rattle.lint_conditions.specs.Context.{sectionOf, namesBy}
 use Rattle.lint_findings.proofs.Laws as laws
 use Rattle.lint_findings.specs.Entries.{items-numbersM, writeItems, writesItems}
 use Rattle.lint_findings.proofs.writes_findings.Statement.{statement}

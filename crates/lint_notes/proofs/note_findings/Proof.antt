@@ -3,7 +3,7 @@ use mathlib.Core.Path.{_≡_, refl, sym, _∙_}
 use mathlib.Core.List.{List, _∷_, []}
 use Prim.Native.Nat.{ℕ, _-_}
 use lib.ListN.{length}
-use Rattle.lint_areas.specs.Board.{board, pushes, finding}
+use Rattle.lint_areas.specs.Areas.{board, pushes, finding}
 use Rattle.lint_findings.specs.Entries.{items-numbersM}
 use Rattle.lint_findings.proofs.Laws as items
 use Rattle.lint_notes.specs.Notes.{noteM, noteItems}

@@ -3,7 +3,7 @@ use mathlib.Core.Path.{_≡_, refl}
 use mathlib.Core.List.{List}
 use Prim.Native.Nat.{ℕ, _-_}
 use lib.ListN.{length}
-use Rattle.lint_areas.specs.Board.{Board, board}
+use Rattle.lint_areas.specs.Areas.{Board, board}
 use Rattle.lint_notes.specs.Notes.{AllNotes}
 use Rattle.lint_notes.proofs.Laws as laws
 use Rattle.lint_notes.proofs.notes.Statement.{statement}

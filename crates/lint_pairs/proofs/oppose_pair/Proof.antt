@@ -4,8 +4,8 @@ use mathlib.Core.List.{List}
 use Prim.Native.Nat.{ℕ, _-_}
 use lib.ListN.{length, getD}
 use Rattle.lint_walk.specs.Walks.{walkBy}
-use Rattle.lint_areas.specs.Board.{board, pushes}
-use Rattle.lint_conditions.specs.Given.{namesBy}
+use Rattle.lint_areas.specs.Areas.{board, pushes}
+use Rattle.lint_conditions.specs.Context.{namesBy}
 use Rattle.lint_findings.proofs.Laws as items
 use Rattle.lint_pairs.proofs.Laws as laws
 use Rattle.lint_findings.specs.Entries.{items-numbersM}

@@ -2,9 +2,9 @@ use borrow.Author.Needs.{needs}
 use mathlib.Core.Path.{_≡_, sym, _∙_}
 use Prim.Native.Nat.{_-_}
 use Rattle.lint_walk.specs.Walks.{walkBy}
-use Rattle.lint_conditions.specs.Tests.{any-listM}
+use Rattle.lint_conditions.specs.Conditions.{any-listM}
 use Rattle.lint_conditions.proofs.Laws as tests
-use Rattle.lint_undeclared.specs.Strange.{awaitM, awaitsM}
+use Rattle.lint_undeclared.specs.Undeclared.{awaitM, awaitsM}
 use Rattle.lint_undeclared.proofs.Laws as laws
 use Rattle.lint_undeclared.proofs.awaits.Statement.{statement}
 use Rattle.lint_undeclared.proofs.awaits.Tie as tie

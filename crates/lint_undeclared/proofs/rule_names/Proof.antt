@@ -3,8 +3,8 @@ use mathlib.Core.Path.{_≡_, refl, sym, _∙_}
 use Prim.Native.Nat.{_-_}
 use Rattle.lint_walk.specs.Walks.{walkOf}
 use Rattle.lint_walk.proofs.Sizes as sizes
-use Rattle.lint_undeclared.specs.Strange.{namesM}
-use Rattle.lint_conditions.specs.Given.{sectionOf}
+use Rattle.lint_undeclared.specs.Undeclared.{namesM}
+use Rattle.lint_conditions.specs.Context.{sectionOf}
 use Rattle.lint_undeclared.proofs.Laws as laws
 use Rattle.lint_undeclared.proofs.rule_names.Statement.{statement}
 use Rattle.lint_undeclared.proofs.rule_names.Tie as tie

@@ -1,8 +1,8 @@
 use borrow.Author.Needs.{needs}
 use mathlib.Core.Path.{_≡_, sym, _∙_}
 use Prim.Native.Nat.{_-_}
-use Rattle.lint_undeclared.specs.Strange.{rulesM, undeclaredM}
-use Rattle.lint_conditions.specs.Given.{sectionOf}
+use Rattle.lint_undeclared.specs.Undeclared.{rulesM, undeclaredM}
+use Rattle.lint_conditions.specs.Context.{sectionOf}
 use Rattle.lint_undeclared.proofs.Laws as laws
 use Rattle.lint_undeclared.proofs.undeclared_names.Statement.{statement}
 use Rattle.lint_undeclared.proofs.undeclared_names.Tie as tie

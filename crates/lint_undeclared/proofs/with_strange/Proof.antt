@@ -1,4 +1,4 @@
-use Rattle.lint_conditions.specs.Given.{sectionOf}
+use Rattle.lint_conditions.specs.Context.{sectionOf}
 use Rattle.lint_undeclared.proofs.Laws as laws
 use borrow.Author.Needs.{needs}
 use Rattle.lint_undeclared.proofs.with_strange.Statement.{statement}

@@ -1,6 +1,6 @@
 use mathlib.Core.Path.{sym, _∙_}
 use Rattle.model_index.proofs.Laws as laws
-use Rattle.model_index.proofs.Whole.{says}
+use Rattle.model_index.proofs.Refines.{says}
 use borrow.Author.Needs.{needs}
 use Rattle.model_index.proofs.read.Statement.{statement}
 use Rattle.model_index.proofs.read.Tie as tie

@@ -1,6 +1,6 @@
 use borrow.Author.Needs.{needs}
 use mathlib.Core.Path.{_∙_}
-use Rattle.simulate_lines.specs.Parts.{texts-of}
+use Rattle.simulate_lines.specs.FileTexts.{texts-of}
 use Rattle.show.proofs.Laws as show
 use Rattle.record_lines.proofs.Laws as laws
 use Rattle.record_lines.proofs.put_entry.Statement.{statement}

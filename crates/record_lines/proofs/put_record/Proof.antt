@@ -3,7 +3,7 @@ use mathlib.Core.Path.{ap}
 use Rattle.records.specs.declared.Record.{Record}
 use Rattle.engine_refinement.specs.Meaning.{record-of}
 use Rattle.record_lines.specs.Lines.{record-line}
-use Rattle.simulate_lines.specs.Parts.{texts-of}
+use Rattle.simulate_lines.specs.FileTexts.{texts-of}
 use Rattle.show.proofs.Laws as show
 use Rattle.record_lines.proofs.put_record.Statement.{statement}
 use Rattle.record_lines.proofs.put_record.Tie as tie

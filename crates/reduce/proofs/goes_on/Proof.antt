@@ -1,6 +1,6 @@
 use native.Mathlib.Omega.{arith}
 use mathlib.Core.Path.{refl}
-use Rattle.reduce.specs.Parts.{refusal, spent}
+use Rattle.reduce.specs.Contracts.{refusal, spent}
 use Rattle.reduce.proofs.Laws as laws
 use Rattle.reduce.proofs.goes_on.Statement.{statement}
 use Rattle.reduce.proofs.goes_on.Tie as tie

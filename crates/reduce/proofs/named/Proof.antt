@@ -3,7 +3,7 @@ use mathlib.Core.Path.{_≡_, sym, ap, _∙_}
 use mathlib.Core.Bool.{false}
 use Prim.Native.Nat.{ℕ, _-_, _≤_}
 use native.Mathlib.Omega.{arith}
-use Rattle.reduce.specs.Parts.{among}
+use Rattle.reduce.specs.Contracts.{among}
 use Rattle.reduce.proofs.Laws as laws
 use Rattle.reduce.proofs.named.Statement.{statement}
 use Rattle.reduce.proofs.named.Tie as tie

@@ -1,7 +1,7 @@
 use borrow.Author.Needs.{needs}
 use Prim.Native.Nat.{_-_}
 use native.Mathlib.Omega.{arith}
-use Rattle.engine_entry.specs.Answers.{ground}
+use Rattle.engine_entry.specs.Contract.{ground}
 use Rattle.reduce.proofs.Reduction as reduction
 use Rattle.reduce.proofs.Reduction.{Looped}
 use Rattle.reduce.proofs.reduce_events.Statement.{statement}

@@ -1,7 +1,7 @@
 use borrow.Author.Needs.{needs}
 use native.Mathlib.Omega.{arith}
 use mathlib.Core.Path.{sym, ap, _∙_}
-use Rattle.checker_entry.proofs.Promise.{whole-done, whole-full}
+use Rattle.checker_entry.proofs.Refines.{whole-done, whole-full}
 use Rattle.reduce_result.specs.Result.{no-reduction}
 use Rattle.reduce_entry.proofs.Outcome as outcome
 use Rattle.reduce_entry.proofs.first_check.Statement.{statement}

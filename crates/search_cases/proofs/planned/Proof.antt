@@ -1,6 +1,6 @@
 use Prim.Native.Nat.{ℕ}
 use mathlib.Core.Path.{refl, subst}
-use Rattle.search_cases.specs.Parts.{AtMost}
+use Rattle.search_cases.specs.Contracts.{AtMost}
 use borrow.Author.Needs.{needs}
 use Rattle.search_cases.proofs.planned.Statement.{statement}
 use Rattle.search_cases.proofs.planned.Tie as tie

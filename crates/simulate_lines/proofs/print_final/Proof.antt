@@ -1,6 +1,6 @@
 use native.Mathlib.Omega.{arith}
 use borrow.Author.Needs.{needs}
-use Rattle.engine_fields.specs.Reads.{name}
+use Rattle.engine_fields.specs.Fields.{name}
 use Rattle.show.proofs.Laws as show
 use Rattle.simulate_lines.proofs.Lengths as lengths
 use Rattle.simulate_lines.proofs.print_final.Statement.{statement}

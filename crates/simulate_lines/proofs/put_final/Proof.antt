@@ -1,5 +1,5 @@
 use borrow.Author.Needs.{needs}
-use Rattle.simulate_lines.specs.Parts.{texts-of}
+use Rattle.simulate_lines.specs.FileTexts.{texts-of}
 use Rattle.show.proofs.Laws as show
 use Rattle.simulate_lines.proofs.Laws as laws
 use Rattle.simulate_lines.proofs.put_final.Statement.{statement}

@@ -1,0 +1,146 @@
+-- What a run does next: the actions, over the file f and the table x.
+use Prim.Native.Nat.{ℕ, _+_}
+use mathlib.Core.Bool.{Bool, true, false}
+use mathlib.Core.List.{List}
+use lib.Dec.{ltb, eqb}
+use lib.ListN.{getD}
+use Rattle.texts.specs.Lists.{if_then_else_}
+use Rattle.queue.specs.declared.Work.the-variants.{Timeout}
+use Rattle.records.specs.declared.Rule.the-variants.{Of}
+use Rattle.records.specs.declared.Where.the-variants.{From}
+use Rattle.runs.specs.Lists.{placeFrom}
+use Rattle.runs.specs.Runs.{isRun}
+use Rattle.runs.specs.declared.Run.{Run}
+use Rattle.runs.specs.declared.Source.{Source}
+use Rattle.runs.specs.declared.Wait.{Wait}
+use Rattle.runs.specs.declared.Phase.{Phase}
+use Rattle.runs.specs.declared.Phase.the-variants.{Going, Waiting}
+use Rattle.runs.specs.declared.Found.{Found}
+use Rattle.runs.specs.declared.Found.the-variants.{At, Nothing}
+use Rattle.engine_fields.specs.Fields.{two, four, atMost, entityOf, aboutRule, alone, noteReason}
+use Rattle.engine_evaluate.specs.Evaluate.{numberM, undecidedM, evaluateM, selectM}
+use Rattle.engine_evaluate.specs.Actions.{actionM, listM, topM, steppedM}
+use Rattle.engine_evaluate.specs.declared.Truth.{Truth}
+use Rattle.engine_evaluate.specs.declared.Truth.the-variants.{Yes, No, Unknown}
+use Rattle.engine_evaluate.specs.declared.Branch.{Branch}
+use Rattle.engine_evaluate.specs.declared.Branch.the-variants.{Take, Unclear, Skip}
+use Rattle.engine_evaluate.specs.declared.Effect.{Effect}
+use Rattle.engine_evaluate.specs.declared.Effect.the-variants as effect
+use Rattle.engine_evaluate.specs.declared.Action.{Action}
+use Rattle.engine_state.specs.Machine.{Machine, later}
+use Rattle.engine_state.specs.Changes.{addM, uncertainM, log-actionM, next-stepM}
+use Rattle.engine_update.specs.Update.{updateM, setting}
+use Rattle.engine_modes.specs.Modes.{nowM}
+use Rattle.engine_trigger.specs.Runs.{runM, put-runM, phaseM, finishM}
+use Rattle.reasons.specs.Kinds as kinds
+
+unfoldable pub writtenM : List ℕ → Run → Source → (entity value : ℕ) → Machine → Machine
+writtenM x r s e v m = updateM x (setting e v 2 (Of (r .automation)) (From (s .line) (s .column))) m
+
+unfoldable pub setM : List ℕ → Run → Source → (entity value : ℕ) → Machine → Machine
+setM x r s e v m = nowM r (writtenM x r s e v m)
+
+-- on and off, each for the other
+unfoldable pub toggledM : List ℕ → ℕ → ℕ
+toggledM x v = if eqb v (getD x 4 0) then getD x 5 0 else getD x 4 0
+
+-- a reason about a run's automation
+unfoldable pub doubtM : (f x : List ℕ) → Run → (kind : ℕ) → Machine → Machine
+doubtM f x r kind m = uncertainM f (aboutRule f x (atMost (r .automation) 31) kind) m
+
+unfoldable pub flip-fromM : (f x : List ℕ) → Run → Source → (entity old : ℕ) → Machine → Machine
+flip-fromM f x r s e old m = if undecidedM x old then nowM r (doubtM f x r kinds.toggle m) else setM x r s e (toggledM x old) m
+
+unfoldable pub flip-atM : (f x : List ℕ) → Run → Source → (entity place : ℕ) → Machine → Machine
+flip-atM f x r s e i m = if ltb 31 i then m else flip-fromM f x r s e (getD (m .values) i 0) m
+
+unfoldable pub flipM : (f x : List ℕ) → Run → Source → (entity : ℕ) → Machine → Machine
+flipM f x r s e m = flip-atM f x r s e (entityOf x e) m
+
+-- the run goes on after so many seconds
+abbrev pub afterM : Run → (seconds : ℕ) → Machine → Machine
+afterM r n m = next-stepM r (later (m .now) n) m
+
+unfoldable pub delayM : Run → Source → (seconds : ℕ) → Machine → Machine
+delayM r s n m = afterM r n (log-actionM 15 n s r m)
+
+-- the run ends for a reason
+unfoldable pub unclearM : (f x : List ℕ) → (k : ℕ) → Run → (kind : ℕ) → Machine → Machine
+unclearM f x k r kind m = finishM k (doubtM f x r kind m)
+
+unfoldable pub testedM : (f x : List ℕ) → (k : ℕ) → Run → Truth → Machine → Machine
+testedM f x k r Yes m = nowM r m
+testedM f x k r No m = finishM k m
+testedM f x k r Unknown m = unclearM f x k r kinds.action-condition m
+
+unfoldable pub condition-asM : (f x : List ℕ) → (k : ℕ) → Run → Source → Truth → Machine → Machine
+condition-asM f x k r s t m = testedM f x k r t (log-actionM 11 (numberM t) s r m)
+
+unfoldable pub conditionM : (f x : List ℕ) → (k : ℕ) → Run → Source → (at : ℕ) → Machine → Machine
+conditionM f x k r s at m = condition-asM f x k r s (evaluateM f x (m .values) (m .now) at) m
+
+unfoldable pub take-listM : (f : List ℕ) → (k : ℕ) → Run → Source → (at : ℕ) → Machine → Machine
+take-listM f k r s at m = nowM r (log-actionM 8 0 s r (put-runM k (listM f r at) m))
+
+unfoldable pub chosenM : (f x : List ℕ) → (k : ℕ) → Run → Source → Branch → Machine → Machine
+chosenM f x k r s (Take p) m = take-listM f k r s p m
+chosenM f x k r s Unclear m = unclearM f x k r kinds.choose-condition m
+chosenM f x k r s (Skip p) m = unclearM f x k r kinds.choose-condition m
+
+unfoldable pub chooseM : (f x : List ℕ) → (k : ℕ) → Run → Source → (at : ℕ) → Machine → Machine
+chooseM f x k r s at m = chosenM f x k r s (selectM f x (m .values) (m .now) at) m
+
+abbrev pub wait : (trigger deadline : ℕ) → Bool → Source → Wait
+wait t d b s = record { trigger = t; deadline = d; «continue_on_timeout» = b; source = s }
+
+unfoldable pub waitingM : (k : ℕ) → Run → Source → (seconds deadline : ℕ) → Wait → Machine → Machine
+waitingM k r s n d w m = log-actionM 16 n s r (addM d (Timeout (r .automation) (r .sequence)) (put-runM k (phaseM (Waiting w) r) m))
+
+-- a trigger with a note isn't waited for
+unfoldable pub begin-waitM : (f : List ℕ) → (k : ℕ) → Run → Source → (at : ℕ) → Machine → Machine
+begin-waitM f k r s at m =
+    if eqb (two f (at + 14)) 65535 then
+    waitingM k r s (four f (at + 16)) (later (m .now) (four f (at + 16))) (wait at (later (m .now) (four f (at + 16))) (eqb (getD f (at + 20) 0) 1) s) m
+    else finishM k (uncertainM f (alone kinds.wait) m)
+
+unfoldable pub give-upM : (f : List ℕ) → (k : ℕ) → Run → Source → (reason : ℕ) → Machine → Machine
+give-upM f k r s n m = finishM k (log-actionM 18 n s r (uncertainM f (noteReason f n) m))
+
+unfoldable pub performM : (f x : List ℕ) → (k : ℕ) → Run → Source → Effect → Machine → Machine
+performM f x k r s (effect.Set e v) m = setM x r s e v m
+performM f x k r s (effect.Toggle e) m = flipM f x r s e m
+performM f x k r s (effect.Delay n) m = delayM r s n m
+performM f x k r s (effect.Condition at) m = conditionM f x k r s at m
+performM f x k r s (effect.Choose at) m = chooseM f x k r s at m
+performM f x k r s (effect.Wait at) m = begin-waitM f k r s at m
+performM f x k r s (effect.Unknown n) m = give-upM f k r s n m
+
+-- the run, with its action behind it, does the action
+unfoldable pub actM : (f x : List ℕ) → (k : ℕ) → Run → Source → Effect → Machine → Machine
+actM f x k r s e m = performM f x k r s e (put-runM k r m)
+
+unfoldable pub act-nextM : (f x : List ℕ) → (k : ℕ) → Run → Action → Machine → Machine
+act-nextM f x k r a m = actM f x k (steppedM r (a .next)) (a .source) (a .effect) m
+
+unfoldable pub go-on-runM : (f x : List ℕ) → (k : ℕ) → Run → Machine → Machine
+go-on-runM f x k r m = if eqb (r .depth) 0 then finishM k m else act-nextM f x k r (actionM f x (topM r .position)) m
+
+unfoldable pub go-onM : (f x : List ℕ) → (k : ℕ) → Machine → Machine
+go-onM f x k m = go-on-runM f x k (runM k m) m
+
+unfoldable pub going-phase : Phase → Bool
+going-phase Going = true
+going-phase (Waiting w) = false
+
+unfoldable pub goingM : Run → Bool
+goingM r = if r .queued then false else going-phase (r .phase)
+
+unfoldable pub resume-runM : (f x : List ℕ) → (k : ℕ) → Run → Machine → Machine
+resume-runM f x k r m = if goingM r then go-onM f x k m else m
+
+unfoldable pub resume-atM : (f x : List ℕ) → Found → Machine → Machine
+resume-atM f x (At k) m = resume-runM f x k (runM k m) m
+resume-atM f x Nothing m = m
+
+unfoldable pub resumeM : (f x : List ℕ) → (automation sequence : ℕ) → Machine → Machine
+resumeM f x a n m = resume-atM f x (placeFrom (isRun a n) 0 (m .runs)) m
