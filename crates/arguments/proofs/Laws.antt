@@ -22,10 +22,12 @@ module _ (most k b : ℕ) where
   enough h g = rw (le-ltb b 48 h, le-ltb most (k * 10 + (b - 48)) g)
 
 -- one turn
-pub turn : {x : ℕ} (most k i n : ℕ) (t : List ℕ) → x ≡ with-digits most k (drop i t) → i < length t → n ≡ with-digit most k (getD t i 0) → x ≡ with-digits most n (drop (i + 1) t)
+pub turn : {x : ℕ} (most k i n : ℕ) (t : List ℕ) → x ≡ with-digits most k (drop i t) → i < length t →
+    n ≡ with-digit most k (getD t i 0) → x ≡ with-digits most n (drop (i + 1) t)
 unfolding with-digits
 turn most k i n t e h g =
-    let c : drop i t ≡ getD t i 0 ∷ drop (i + 1) t = drop-cons t i 0 h ∙ ap (λ (j : ℕ). getD t i 0 ∷ drop j t) (sym (add-one i)) in
+    let c : drop i t ≡ getD t i 0 ∷ drop (i + 1) t =
+    drop-cons t i 0 h ∙ ap (λ (j : ℕ). getD t i 0 ∷ drop j t) (sym (add-one i)) in
     e ∙ ap (with-digits most k) c ∙ ap (λ (j : ℕ). with-digits most j (drop (i + 1) t)) (sym g)
 
 pub end : {x : ℕ} (most k i : ℕ) (t : List ℕ) → x ≡ with-digits most k (drop i t) → length t ≤ i → k ≡ x

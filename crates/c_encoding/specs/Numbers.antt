@@ -42,7 +42,8 @@ laidSimulation at head values reasons a = written (written (written a at head) (
 
 unfoldable pub simulationIn : (at : ℕ) → Simulation → List ℕ → List ℕ
 simulationIn at s a =
-    laidSimulation at (s .steps ∷ s .records ∷ s .horizon ∷ s .unknown ∷ s .«stop_reason» ∷ flagOf (s .«runs_left») ∷ 0 ∷ 0 ∷ []) (s .values) (s .reasons) a
+    laidSimulation at (s .steps ∷ s .records ∷ s .horizon ∷ s .unknown ∷ s .«stop_reason» ∷ flagOf
+    (s .«runs_left») ∷ 0 ∷ 0 ∷ []) (s .values) (s .reasons) a
 
 -- ---- check
 
@@ -60,7 +61,8 @@ laidCheck at head violated unknowns incompletes a =
 unfoldable pub checkIn : (at : ℕ) → CheckResult → List ℕ → List ℕ
 checkIn at c a =
     simulationIn (at + 2460) (c .simulation)
-    (laidCheck at (statusNumber (c .status) ∷ c .violations ∷ c .unknown ∷ c .incomplete ∷ []) (c .violated) (c .unknowns) (c .incompletes) a)
+    (laidCheck at (statusNumber (c .status) ∷ c .violations ∷ c .unknown ∷ c .incomplete ∷ []) (c .violated) (c .unknowns)
+    (c .incompletes) a)
 
 -- ---- verify
 
@@ -83,12 +85,18 @@ laidSearch head inputs seconds words told a =
 -- the numbers of a search, with its reasons' words
 unfoldable pub searchIn : Searched → (told a : List ℕ) → List ℕ
 searchIn v told a =
-    laidSearch (foundNumber (v .status) ∷ v .cases ∷ v .«total_steps» ∷ v .depth ∷ v .horizon ∷ v .«max_cases» ∷ v .«max_steps_per_case» ∷ v .alphabet ∷ v .gaps ∷ v .reasons ∷ flagOf (v .shortest) ∷ v .events ∷ v .written ∷ 0 ∷ 0 ∷ 0 ∷ []) (v .inputs) (v .seconds) (v .words) told a
+    laidSearch (foundNumber
+    (v .status) ∷ v .cases ∷ v .«total_steps» ∷ v .depth ∷ v .horizon ∷ v .«max_cases» ∷ v .«max_steps_per_case» ∷ v
+    .alphabet ∷ v .gaps ∷ v .reasons ∷ flagOf (v .shortest) ∷ v .events ∷ v .written ∷ 0 ∷ 0 ∷ 0 ∷ []) (v .inputs)
+    (v .seconds) (v .words) told a
 
 unfoldable pub verificationIn : Verification → List ℕ → List ℕ
 verificationIn v a =
     checkIn 2076 (v .check)
-    (laidSearch (foundNumber (v .status) ∷ v .cases ∷ v .«total_steps» ∷ v .depth ∷ v .horizon ∷ v .«max_cases» ∷ v .«max_steps_per_case» ∷ v .alphabet ∷ v .gaps ∷ v .reasons ∷ flagOf (v .shortest) ∷ v .events ∷ v .written ∷ 0 ∷ 0 ∷ 0 ∷ []) (v .inputs) (v .seconds) (v .words) (v .told) a)
+    (laidSearch (foundNumber
+    (v .status) ∷ v .cases ∷ v .«total_steps» ∷ v .depth ∷ v .horizon ∷ v .«max_cases» ∷ v .«max_steps_per_case» ∷ v
+    .alphabet ∷ v .gaps ∷ v .reasons ∷ flagOf (v .shortest) ∷ v .events ∷ v .written ∷ 0 ∷ 0 ∷ 0 ∷ []) (v .inputs)
+    (v .seconds) (v .words) (v .told) a)
 
 -- ---- minimize
 
@@ -98,7 +106,8 @@ laidReduction head words a = written (written a 0 head) 8 words
 unfoldable pub minimizedIn : Minimized → List ℕ → List ℕ
 minimizedIn m a =
     checkIn 408 (m .check)
-    (laidReduction (m .invariant ∷ m .«original_events» ∷ m .attempts ∷ flagOf (m .«deletion_minimal») ∷ m .events ∷ m .written ∷ 0 ∷ 0 ∷ []) (m .words) a)
+    (laidReduction (m .invariant ∷ m .«original_events» ∷ m .attempts ∷ flagOf
+    (m .«deletion_minimal») ∷ m .events ∷ m .written ∷ 0 ∷ 0 ∷ []) (m .words) a)
 
 -- ---- lint
 
@@ -108,7 +117,8 @@ laidReport head cycles reads writes names readers a =
 
 unfoldable pub reportIn : Report → List ℕ → List ℕ
 reportIn r a =
-    laidReport (r .findings ∷ r .interactions ∷ r .components ∷ r .undeclared ∷ []) (r .cycles) (r .reads) (r .writes) (r .names) (r .readers) a
+    laidReport (r .findings ∷ r .interactions ∷ r .components ∷ r .undeclared ∷ []) (r .cycles) (r .reads) (r .writes)
+    (r .names) (r .readers) a
 
 -- ---- cone
 

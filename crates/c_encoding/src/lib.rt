@@ -17,7 +17,27 @@ ghost use Rattle.areas.specs.Areas.{written};
 ghost use Rattle.engine_summary.specs.Summary.{simulation-of};
 ghost use Rattle.checker_result.specs.Result.{result-of};
 ghost use Rattle.search_answer.specs.Result.{whole-of};
-ghost use Rattle.c_encoding.specs.Numbers.{flagOf, statusNumber, foundNumber, refusalOf, laidNotes, laidSimulation, laidCheck, laidSearch, laidReduction, laidReport, laidCone, notesIn, simulationIn, checkIn, searchIn, verificationIn, minimizedIn, reportIn, coneIn};
+ghost use Rattle.c_encoding.specs.Numbers.{
+  flagOf,
+  statusNumber,
+  foundNumber,
+  refusalOf,
+  laidNotes,
+  laidSimulation,
+  laidCheck,
+  laidSearch,
+  laidReduction,
+  laidReport,
+  laidCone,
+  notesIn,
+  simulationIn,
+  checkIn,
+  searchIn,
+  verificationIn,
+  minimizedIn,
+  reportIn,
+  coneIn,
+};
 
 // ---- numbers
 
@@ -148,7 +168,8 @@ pub fn put_check(
     incompletes: &[u32; 200],
 )
     requires { ⌜ at + 4000 ≤ length (now out) ⌝ }
-    ensures { λ _. ⌜ is out ≡ checkIn at (result-of j (was violated) (was unknowns) (was incompletes) (was reasons)) (was out) ⌝ }
+    ensures { λ _. ⌜ is out ≡ checkIn at (result-of j (was violated) (was unknowns) (was incompletes) (was reasons))
+        (was out) ⌝ }
 {
     let status = j.status;
     let head = [
@@ -243,7 +264,9 @@ pub fn put_verification(
     incompletes: &[u32; 200],
 )
     requires { ⌜ 6076 ≤ length (now out) ⌝ }
-    ensures { λ _. ⌜ is out ≡ verificationIn (whole-of v (was told) (was violated) (was unknowns) (was incompletes) (was reasons)) (was out) ⌝ }
+    ensures { λ _.
+        ⌜ is out ≡ verificationIn (whole-of v (was told) (was violated) (was unknowns) (was incompletes) (was reasons))
+        (was out) ⌝ }
 {
     put_searched(out, v, told);
     let j = v.check;
@@ -323,7 +346,8 @@ fn lay_report<'a>(
     readers: &'a [u32; 64],
 )
     requires { ⌜ 228 ≤ length (now out) ⌝ }
-    ensures { λ _. ⌜ is out ≡ laidReport (was head) (was cycles) (was reads) (was writes) (was names) (was readers) (was out) ⌝ }
+    ensures { λ _. ⌜ is out ≡ laidReport (was head) (was cycles) (was reads) (was writes) (was names) (was readers)
+        (was out) ⌝ }
 {
     put_numbers(out, 0, head);
     put_words(out, 4, cycles);

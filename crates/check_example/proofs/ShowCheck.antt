@@ -65,7 +65,8 @@ numbers = area (violation-words (texts-in lampdoor)) 256 (nodoor ∷ [])
 
 -- opens what reads the numbers back, for proofs by computation
 unfoldable all-numbers : Unit {0}
-unfolding violated-of text-at failure-of source-of violation-of placed textAt startFrom atMost violation-words source-words texts-in area words
+unfolding violated-of text-at failure-of source-of violation-of placed textAt startFrom atMost violation-words source-words
+    texts-in area words
 all-numbers = tt
 
 -- whatever stands behind the last reason

@@ -55,5 +55,6 @@ printed f r =
 
 -- opens the file, for proofs by computation
 unfoldable pub all-printed : Unit {0}
-unfolding show.all-lines reason.all-lines engine.all-lines checker.all-lines first-line lines-from violated-lines reason-lines behind lines-of printed
+unfolding show.all-lines reason.all-lines engine.all-lines checker.all-lines first-line lines-from violated-lines
+    reason-lines behind lines-of printed
 all-printed = tt

@@ -14,7 +14,14 @@ use Rattle.check_lines.specs.Lines.{status-line, bare-violated, full-vio
 
 -- of the scope's example
 nodoor : Violation
-nodoor = record { invariant = text "nodoor"; at = 5; index = 4; source = some (record { line = 7; column = 3 }); failure = prohibited-state }
+nodoor = record {
+  invariant = text "nodoor";
+  at = 5;
+  index = 4;
+  source = some (record { line = 7; column = 3 });
+  failure =
+      prohibited-state;
+}
 
 bare : status-line Status.violation ++ bare-violated nodoor ≡ text "status violation\nviolated nodoor 5 4 7:3\n"
 unfolding nodoor all-lines engine.all-lines show.all-lines all-lists all-texts status-name placed
@@ -24,11 +31,19 @@ full : full-violated nodoor ≡ text "violated \"nodoor\" 5 4 7:3 \"prohibited s
 unfolding nodoor all-lines engine.all-lines show.all-lines all-lists all-texts message placed
 full = refl
 
-late : full-violated (record { invariant = text "in\"time"; at = 16; index = 9; source = none; failure = deadline-missed 15 })
+late : full-violated (record {
+  invariant = text "in\"time";
+  at = 16;
+  index = 9;
+  source = none;
+  failure =
+      deadline-missed 15;
+})
     ≡ text "violated \"in\\\"time\" 16 9 - \"response deadline 15 missed\"\n"
 unfolding all-lines engine.all-lines show.all-lines all-lists all-texts message
 late = refl
 
-reasons : bare-reason (text "unknown") (text "1:1: a\"b") ++ full-reason (text "incomplete") (text "1:1: a\"b") ≡ text "unknown 1:1: a\"b\nincomplete \"1:1: a\\\"b\"\n"
+reasons : bare-reason (text "unknown") (text "1:1: a\"b") ++ full-reason (text "incomplete") (text "1:1: a\"b")
+    ≡ text "unknown 1:1: a\"b\nincomplete \"1:1: a\\\"b\"\n"
 unfolding all-lines reason.all-lines show.all-lines all-lists
 reasons = refl

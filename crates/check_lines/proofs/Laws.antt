@@ -27,19 +27,42 @@ use Rattle.check_lines.specs.Numbers.{violated-of, text-at, failure-of, 
 
 -- ---- the numbers of a violation
 
-pub violated-is : (a : List ℕ) (at : ℕ) → record { place = getD a at 0; second = getD a (at + 1) 0; index = getD a (at + 2) 0; failure = getD a (at + 3) 0; deadline = getD a (at + 4) 0; sourced = getD a (at + 5) 0; line = getD a (at + 6) 0; column = getD a (at + 7) 0 } ≡ violated-of (drop at a)
+pub violated-is : (a : List ℕ) (at : ℕ) → record {
+  place = getD a at 0;
+  second = getD a (at + 1) 0;
+  index =
+      getD a (at + 2) 0;
+  failure = getD a (at + 3) 0;
+  deadline = getD a (at + 4) 0;
+  sourced = getD a (at + 5) 0;
+  line =
+      getD a (at + 6) 0;
+  column = getD a (at + 7) 0;
+} ≡ violated-of (drop at a)
 unfolding violated-of
 violated-is a at =
     let e : at + 0 ≡ at = omega arith in
-    rw (getD-drop at a 0 0, getD-drop at a 1 0, getD-drop at a 2 0, getD-drop at a 3 0, getD-drop at a 4 0, getD-drop at a 5 0, getD-drop at a 6 0, getD-drop at a 7 0, e)
+    rw (
+      getD-drop at a 0 0,
+      getD-drop at a 1 0,
+      getD-drop at a 2 0,
+      getD-drop at a 3 0,
+      getD-drop at a 4 0,
+      getD-drop at a 5 0,
+      getD-drop at a 6 0,
+      getD-drop at a 7 0,
+      e,
+    )
 
 -- ---- the parts of a violation's line
 
-pub identifier-is : (f : List ℕ) (place q at : ℕ) → q ≡ atMost place 65535 → at ≡ startFrom f 6 q → textAt f at ≡ text-at f place
+pub identifier-is : (f : List ℕ) (place q at : ℕ) → q ≡ atMost place 65535 → at ≡ startFrom f 6 q →
+    textAt f at ≡ text-at f place
 unfolding text-at
 identifier-is f place q at e h = rw (h, e)
 
-pub quoted-is : (f : List ℕ) (place q at : ℕ) → q ≡ atMost place 65535 → at ≡ startFrom f 6 q → quoted (textAt f at) ≡ quoted (text-at f place)
+pub quoted-is : (f : List ℕ) (place q at : ℕ) → q ≡ atMost place 65535 → at ≡ startFrom f 6 q →
+    quoted (textAt f at) ≡ quoted (text-at f place)
 quoted-is f place q at e h = ap quoted (identifier-is f place q at e h)
 
 pub moment-is : (s i : ℕ) → 32 ∷ (decimal s ++ (32 ∷ (decimal i ++ (32 ∷ [])))) ≡ moment s i
@@ -67,7 +90,8 @@ plain-digits zero n t p = p
 plain-digits (suc f) n t p =
     ⊎-elim
     (λ h. rw (digits.low f n t h) (plain-cons (48 + n) t (λ e. omega arith) (λ e. omega arith) p))
-    (λ h. rw (digits.high f n t h) (plain-digits f (n / 10) ((48 + n % 10) ∷ t) (plain-cons (48 + n % 10) t (λ e. omega arith) (λ e. omega arith) p)))
+    (λ h. rw (digits.high f n t h) (plain-digits f (n / 10) ((48 + n % 10) ∷ t)
+    (plain-cons (48 + n % 10) t (λ e. omega arith) (λ e. omega arith) p)))
     (lt-or-ge n 10)
 
 plain-decimal : (n : ℕ) → flat escape (decimal n) ≡ decimal n
@@ -87,7 +111,8 @@ plain-between : (a b c : Text) → flat escape a ≡ a → flat escape b ≡ b �
     34 ∷ (a ++ (b ++ (c ++ (34 ∷ [])))) ≡ 34 ∷ (flat escape (a ++ (b ++ c)) ++ (34 ∷ []))
 plain-between a b c e g h = rw (flat-append escape a (b ++ c), flat-append escape b c, e, g, h) (simp append-assoc)
 
-pub deadline-is : (d : ℕ) → text "\"response deadline " ++ (decimal d ++ text " missed\"") ≡ quoted (message (deadline-missed d))
+pub deadline-is : (d : ℕ) → text "\"response deadline " ++ (decimal d ++ text " missed\"")
+    ≡ quoted (message (deadline-missed d))
 unfolding quoted message
 deadline-is d =
     plain-between (text "response deadline ") (decimal d) (text " missed") begins (plain-decimal d) ends
@@ -105,18 +130,26 @@ module _ (k d : ℕ) where
   unfolding failure-of message
   forbidden e = rw e
 
-  pub late : (k ≡ 1 → ⊥) → (k ≡ 2 → ⊥) → (k ≡ 3 → ⊥) → quoted (message (deadline-missed d)) ≡ quoted (message (failure-of k d))
+  pub late : (k ≡ 1 → ⊥) → (k ≡ 2 → ⊥) → (k ≡ 3 → ⊥) →
+      quoted (message (deadline-missed d)) ≡ quoted (message (failure-of k d))
   unfolding failure-of
   late a b c = rw (ne-eqb k 1 a, ne-eqb k 2 b, ne-eqb k 3 c)
 
 -- ---- the lines
 
 module _ (f : List ℕ) (v : Violated) where
-  pub bare-is : text "violated " ++ (text-at f (v .place) ++ (moment (v .second) (v .index) ++ (placed-if (source-of (v .sourced) (v .line) (v .column)) ++ newline))) ≡ bare-violated (violation-of f v)
+  pub bare-is : text
+      "violated " ++ (text-at f (v .place) ++ (moment (v .second)
+      (v .index) ++ (placed-if (source-of (v .sourced) (v .line) (v .column)) ++ newline)))
+      ≡ bare-violated (violation-of f v)
   unfolding bare-violated violation-of
   bare-is = refl
 
-  pub full-is : text "violated " ++ (quoted (text-at f (v .place)) ++ (moment (v .second) (v .index) ++ (placed-if (source-of (v .sourced) (v .line) (v .column)) ++ (32 ∷ (quoted (message (failure-of (v .failure) (v .deadline))) ++ newline))))) ≡ full-violated (violation-of f v)
+  pub full-is : text
+      "violated " ++ (quoted (text-at f (v .place)) ++ (moment (v .second)
+      (v .index) ++ (placed-if (source-of (v .sourced) (v .line)
+      (v .column)) ++ (32 ∷ (quoted (message (failure-of (v .failure) (v .deadline))) ++ newline)))))
+      ≡ full-violated (violation-of f v)
   unfolding full-violated violation-of
   full-is = refl
 

@@ -12,7 +12,14 @@ use Rattle.reasons.specs.Reasons.{render, placed}
 use Rattle.reasons.proofs.Digits as digits
 use Rattle.model_spec.specs.Model.{Source}
 use Rattle.engine_fields.specs.Fields.{atMost}
-use Rattle.checker_spec.specs.Judge.{Failure, prohibited-state, guard-violated, forbidden-transition, deadline-missed, message}
+use Rattle.checker_spec.specs.Judge.{
+  Failure,
+  prohibited-state,
+  guard-violated,
+  forbidden-transition,
+  deadline-missed,
+  message,
+}
 use Rattle.show.specs.Lines.{newline, quoted}
 use Rattle.show.proofs.Laws as show
 use Rattle.simulate_lines.specs.Lines.{text-line}
@@ -30,18 +37,30 @@ module _ (s t : Text) (m n : ℕ) (a : length s ≤ m) (b : length t ≤ n) wher
 source-short : (s : Option Source) → length (placed-if s) ≤ 41
 unfolding placed-if placed
 source-short none = omega arith
-source-short (some s) = omega (arith, length-append (decimal (s .line)) (58 ∷ decimal (s .column)), digits.at-most (s .line), digits.at-most (s .column))
+source-short (some s) = omega (
+  arith,
+  length-append (decimal (s .line)) (58 ∷ decimal (s .column)),
+  digits.at-most (s .line),
+  digits.at-most (s .column),
+)
 
 message-short : (e : Failure) → length (message e) ≤ 45
 unfolding message
 message-short prohibited-state = omega arith
 message-short guard-violated = omega arith
 message-short forbidden-transition = omega arith
-message-short (deadline-missed d) = app (text "response deadline ") (decimal d ++ text " missed") 18 27 (omega arith) (app (decimal d) (text " missed") 20 7 (digits.at-most d) (omega arith))
+message-short (deadline-missed d) = app (text "response deadline ") (decimal d ++ text " missed") 18 27 (omega arith)
+    (app (decimal d) (text " missed") 20 7 (digits.at-most d) (omega arith))
 
 moment-short : (s i : ℕ) → length (moment s i) ≤ 43
 unfolding moment
-moment-short s i = omega (arith, length-append (decimal s) (32 ∷ (decimal i ++ (32 ∷ []))), length-append (decimal i) (32 ∷ []), digits.at-most s, digits.at-most i)
+moment-short s i = omega (
+  arith,
+  length-append (decimal s) (32 ∷ (decimal i ++ (32 ∷ []))),
+  length-append (decimal i) (32 ∷ []),
+  digits.at-most s,
+  digits.at-most i,
+)
 
 -- ---- the lines, over a file f of bytes
 
@@ -70,7 +89,8 @@ module _ (f : List ℕ) (bytes : (i : ℕ) → getD f i 0 < 256) where
         let s = source-of (v .sourced) (v .line) (v .column) in
         let e = failure-of (v .failure) (v .deadline) in
         let q : length (quoted (message e)) ≤ 92 = omega (arith, show.length-quoted (message e), message-short e) in
-        let i : length (quoted (text-at f (v .place))) ≤ 512 = omega (arith, show.length-quoted (text-at f (v .place)), text-short (v .place)) in
+        let i : length (quoted (text-at f (v .place))) ≤ 512 =
+        omega (arith, show.length-quoted (text-at f (v .place)), text-short (v .place)) in
         let t₁ : Text = quoted (message e) ++ newline in
         let t₂ : Text = placed-if s ++ (32 ∷ t₁) in
         let t₃ : Text = moment (v .second) (v .index) ++ t₂ in
@@ -90,4 +110,9 @@ module _ (f : List ℕ) (r : Reason) (word : Text) (few : length word ≤ 10) (s
 
   pub full-reason-short : length (full-reason word (render f r)) ≤ 4096
   unfolding text-line
-  full-reason-short = omega (arith, length-append word (32 ∷ (quoted (render f r) ++ newline)), length-append (quoted (render f r)) newline, show.length-quoted (render f r))
+  full-reason-short = omega (
+    arith,
+    length-append word (32 ∷ (quoted (render f r) ++ newline)),
+    length-append (quoted (render f r)) newline,
+    show.length-quoted (render f r),
+  )

@@ -1,5 +1,5 @@
--- The lines of `check`, with their newlines: what a reader of the programs' output sees. The line of a violation and of a reason
--- comes in two forms: with bare texts (`showcheck`), and with quoted texts and the message (`showfullcheck`).
+-- The lines of `check`, with their newlines: what a reader of the programs' output sees. The line of a violation and of a
+-- reason comes in two forms: with bare texts (`showcheck`), and with quoted texts and the message (`showfullcheck`).
 use Prim.Native.Nat.{ℕ}
 use mathlib.Core.List.{[], _∷_, _++_}
 use Rattle.texts.specs.Texts.{Text, text, decimal}

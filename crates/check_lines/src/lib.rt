@@ -17,7 +17,8 @@ ghost use Rattle.check_lines.specs.Lines.{moment, bare-violated, full-vi
 ghost use Rattle.check_lines.specs.Numbers.{violated-of, text-at, failure-of, source-of, violation-of};
 
 // The eight numbers of a violation: the place of the invariant's identifier among the texts, the second, the record's index,
-// the failure (1 prohibited state, 2 guard, 3 transition, 4 deadline), the deadline; 1, line and column of the source, or zeros.
+// the failure (1 prohibited state, 2 guard, 3 transition, 4 deadline), the deadline; 1, line and column of the source, or
+// zeros.
 pub struct Violated {
     pub place: u64,
     pub second: u64,
@@ -157,7 +158,8 @@ pub fn put_bare_reason(
     i: usize,
 ) -> usize
     requires { ⌜ i * 5 + 5 ≤ length (now a) ⌝ }
-    ensures { λ m. ⌜ Written (bare-reason (was word) (render (was f) (reason-of (drop (i * 5) (was a))))) (was out) n (is out) m ⌝ }
+    ensures { λ m. ⌜ Written (bare-reason (was word) (render (was f) (reason-of (drop (i * 5) (was a))))) (was out) n
+        (is out) m ⌝ }
 {
     let r = reasons::get(a, i);
     let j = show::put(out, n, word);
@@ -176,7 +178,8 @@ pub fn put_full_reason(
     i: usize,
 ) -> usize
     requires { ⌜ i * 5 + 5 ≤ length (now a) ⌝ }
-    ensures { λ m. ⌜ Written (full-reason (was word) (render (was f) (reason-of (drop (i * 5) (was a))))) (was out) n (is out) m ⌝ }
+    ensures { λ m. ⌜ Written (full-reason (was word) (render (was f) (reason-of (drop (i * 5) (was a))))) (was out) n
+        (is out) m ⌝ }
 {
     let r = reasons::get(a, i);
     let j = show::put(out, n, word);

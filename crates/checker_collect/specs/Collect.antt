@@ -15,7 +15,13 @@ use Rattle.reasons.specs.Lists.{insertAll, Holds}
 use Rattle.engine_fields.specs.Fields.{two, cap, atMost}
 use Rattle.engine_state.specs.declared.Cells.{Cells}
 use Rattle.checker_response.specs.declared.Failure.{Failure}
-use Rattle.checker_response.specs.declared.Failure.the-variants.{NoFailure, ProhibitedState, GuardViolated, ForbiddenTransition, DeadlineMissed}
+use Rattle.checker_response.specs.declared.Failure.the-variants.{
+  NoFailure,
+  ProhibitedState,
+  GuardViolated,
+  ForbiddenTransition,
+  DeadlineMissed,
+}
 use Rattle.checker_judge.specs.declared.Reading.{Reading}
 use Rattle.checker_response.specs.Response.{failedM}
 use Rattle.checker_judge.specs.Judging.{judgeM}
@@ -94,7 +100,8 @@ pub record Keeps (f v u w : List ℕ) (s : Counts) (g : Gathered) : Type 0 where
   pub incomplete : Holds f (g .incomplete) (s .incomplete) w
 
 -- counts grow by at most so much, the areas keep their sizes, and what they hold is changed by F
-pub record Changes (F : List Record → Gathered → Gathered) (one two three : ℕ) (f a : List ℕ) (n : ℕ) (s t : Counts) (v v' u u' w w' : List ℕ) : Type 0 where
+pub record Changes (F : List Record → Gathered → Gathered) (one two three : ℕ) (f a : List ℕ) (n : ℕ) (s t : Counts)
+    (v v' u u' w w' : List ℕ) : Type 0 where
   pub most-violations : t .violations ≤ s .violations + one
   pub most-unknown : t .unknown ≤ s .unknown + two
   pub most-incomplete : t .incomplete ≤ s .incomplete + three
@@ -104,8 +111,10 @@ pub record Changes (F : List Record → Gathered → Gathered) (one two three : 
   pub does : (l : List Record) → length l ≡ n → a ≡ recorded (length a) l → (g : Gathered) → Keeps f v u w s g →
       Keeps f v' u' w' t (F l g)
 
-abbrev pub Gathers : (f x : List ℕ) → (at : ℕ) → Cells → (a : List ℕ) → (n : ℕ) → (s t : Counts) → (v v' u u' w w' : List ℕ) → Type 0
+abbrev pub Gathers : (f x : List ℕ) → (at : ℕ) → Cells → (a : List ℕ) → (n : ℕ) → (s t : Counts) →
+    (v v' u u' w w' : List ℕ) → Type 0
 Gathers f x at c a n = Changes (oneM f x at c) 1 2 1 f a n
 
-abbrev pub GathersAll : (f x starts : List ℕ) → (count : ℕ) → Cells → (a : List ℕ) → (n : ℕ) → (s t : Counts) → (v v' u u' w w' : List ℕ) → Type 0
+abbrev pub GathersAll : (f x starts : List ℕ) → (count : ℕ) → Cells → (a : List ℕ) → (n : ℕ) → (s t : Counts) →
+    (v v' u u' w w' : List ℕ) → Type 0
 GathersAll f x starts count c a n = Changes (λ (l : List Record). firstM f x starts c l (atMost count 32)) 32 64 32 f a n

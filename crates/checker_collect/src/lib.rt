@@ -9,7 +9,15 @@ ghost use mathlib.Core.Path.{_≡_};
 ghost use Prim.Native.Nat.{_+_, _*_, _≤_, _<_};
 ghost use lib.ListN.{length};
 ghost use Rattle.areas.specs.Areas.{written};
-ghost use Rattle.checker_collect.specs.Collect.{failure-number, failure-deadline, sourceM, numbersM, Pushed, Gathers, GathersAll};
+ghost use Rattle.checker_collect.specs.Collect.{
+  failure-number,
+  failure-deadline,
+  sourceM,
+  numbersM,
+  Pushed,
+  Gathers,
+  GathersAll,
+};
 
 // ---- violations, eight numbers each
 
@@ -131,7 +139,8 @@ fn judge_one(
     w: &mut [u32],
     s: Counts,
 ) -> Counts
-    requires { ⌜ (n * 13 ≤ length (now a)) × ((s .violations * 8 + 8 ≤ length (now v)) × ((s .unknown * 5 + 10 ≤ length (now u)) × (s .incomplete * 5 + 5 ≤ length (now w)))) ⌝ }
+    requires { ⌜ (n * 13 ≤ length (now a)) × ((s .violations * 8 + 8 ≤ length (now v))
+        × ((s .unknown * 5 + 10 ≤ length (now u)) × (s .incomplete * 5 + 5 ≤ length (now w)))) ⌝ }
     ensures { λ t. ⌜ Gathers (was f) (was x) at cells (was a) n s t (was v) (is v) (was u) (is u) (was w) (is w) ⌝ }
 {
     let r = checker_judge::judge(f, x, at, cells, a, n);
@@ -163,8 +172,10 @@ pub fn judge_all(
     w: &mut [u32],
     s: Counts,
 ) -> Counts
-    requires { ⌜ (n * 13 ≤ length (now a)) × ((s .violations * 8 + 256 ≤ length (now v)) × ((s .unknown * 5 + 320 ≤ length (now u)) × (s .incomplete * 5 + 160 ≤ length (now w)))) ⌝ }
-    ensures { λ t. ⌜ GathersAll (was f) (was x) (was starts) count cells (was a) n s t (was v) (is v) (was u) (is u) (was w) (is w) ⌝ }
+    requires { ⌜ (n * 13 ≤ length (now a)) × ((s .violations * 8 + 256 ≤ length (now v))
+        × ((s .unknown * 5 + 320 ≤ length (now u)) × (s .incomplete * 5 + 160 ≤ length (now w)))) ⌝ }
+    ensures { λ t. ⌜ GathersAll (was f) (was x) (was starts) count cells (was a) n s t (was v) (is v) (was u) (is u) (was w)
+        (is w) ⌝ }
 {
     let many = engine_fields::at_most(count, 32);
     let mut t = s;

@@ -36,7 +36,8 @@ use Rattle.checker_entry.specs.Contract.{Says, check-memory, Checks}
 use Rattle.checker_entry.specs.Contracts.{Checked, Whole, RunsAs}
 use Rattle.checker_entry.proofs.Refines.{Promise, answers, refuses, promise, whole-shows, whole-refused}
 
-module _ (f : List ℕ) (i : Index) (m : Model) (acc : accepted f ≡ answer m) (o : Indexed f i m) (bytes : (k : ℕ) → getD f k 0 < 256) (g : Ground) (gr : Grounds f i g) where
+module _ (f : List ℕ) (i : Index) (m : Model) (acc : accepted f ≡ answer m) (o : Indexed f i m)
+    (bytes : (k : ℕ) → getD f k 0 < 256) (g : Ground) (gr : Grounds f i g) where
   abbrev x : List ℕ
   x = g .table
 
@@ -53,7 +54,9 @@ module _ (f : List ℕ) (i : Index) (m : Model) (acc : accepted f ≡ answer m) 
   unfolding check.check _>>=_
   check-law areas = rw acc
 
-  module _ {v : List ℕ} (ev : EventsOf f i v) {n : ℕ} (many : n ≡ atMost (getD x 8 0) 100) {r : CheckResult} {q q' a a' u u' : List ℕ} (wh : Whole f (i .invariants .starts) (i .invariants .count) g v n r q q' a a' u u') where
+  module _ {v : List ℕ} (ev : EventsOf f i v) {n : ℕ} (many : n ≡ atMost (getD x 8 0) 100)
+      {r : CheckResult} {q q' a a' u u' : List ℕ} (wh : Whole f (i .invariants .starts) (i .invariants .count)
+      g v n r q q' a a' u u') where
     abbrev ch : Checked f (i .invariants .starts) (i .invariants .count) g v n (wh .result) q q' a a' u u'
     ch = wh .checked
 
@@ -76,17 +79,22 @@ module _ (f : List ℕ) (i : Index) (m : Model) (acc : accepted f ≡ answer m) 
         by : Promise f i m acc o bytes g gr v none-such events evs all-events ch → Checks f r (lent q a u) (lent q' a' u')
         by (answers c e k z) = record {
           says = subst (Says f r) (sym (check-law sizes ∙ e)) (whole-shows wh c k);
-          memory = rw (queue-clear f i m acc o bytes g gr (ch .ran), runs-clear f i m acc o bytes g gr (ch .ran), z) (sym (ap after (check-law sizes ∙ e)));
+          memory = rw (queue-clear f i m acc o bytes g gr (ch .ran), runs-clear f i m acc o bytes g gr (ch .ran), z)
+              (sym (ap after (check-law sizes ∙ e)));
         }
         by (refuses k lo hi e is z) = record {
           says = subst (Says f r) (sym (check-law sizes ∙ e)) (whole-refused wh k lo is);
-          memory = rw (queue-clear f i m acc o bytes g gr (ch .ran), runs-clear f i m acc o bytes g gr (ch .ran), z) (sym (ap after (check-law sizes ∙ e) ∙ refusals (words-in f) (λ (b : check.Check). b .simulation .trace) (lent q a u) .areas k lo hi));
+          memory = rw (queue-clear f i m acc o bytes g gr (ch .ran), runs-clear f i m acc o bytes g gr (ch .ran), z)
+              (sym (ap after (check-law sizes ∙ e) ∙ refusals (words-in f) (λ (b : check.Check). b .simulation .trace)
+              (lent q a u) .areas k lo hi));
         }
 
 -- ---- the entry
 
-pub run-is : (f : List ℕ) (i : Index) → ((k : ℕ) → getD f k 0 < 256) → (g : Ground) → Grounds f i g → {v : List ℕ} → EventsOf f i v →
-    {n : ℕ} → n ≡ atMost (getD (g .table) 8 0) 100 → {r : CheckResult} {q q' a a' u u' : List ℕ} → Whole f (i .invariants .starts) (i .invariants .count) g v n r q q' a a' u u' →
+pub run-is : (f : List ℕ) (i : Index) → ((k : ℕ) → getD f k 0 < 256) → (g : Ground) → Grounds f i g → {v : List ℕ} →
+    EventsOf f i v →
+    {n : ℕ} → n ≡ atMost (getD (g .table) 8 0) 100 → {r : CheckResult} {q q' a a' u u' : List ℕ} →
+    Whole f (i .invariants .starts) (i .invariants .count) g v n r q q' a a' u u' →
     RunsAs f i r (lent q a u) (lent q' a' u')
 run-is f i bytes g gr ev many wh m acc o = runs-as f i m acc o bytes g gr ev many wh
 
@@ -103,13 +111,16 @@ module _ (f : List ℕ) (x : File) (says : indexed.Says f x (accepted f)) where
       let acc = accept-refused f x says e in
       record {
         says = subst (Says f r) (sym (law acc (entries entry-words before))) is;
-        memory = sym (ap (λ (y : Answer check.Check). lent-after (words-in f) (λ (b : check.Check). b .simulation .trace) y before) (law acc (entries entry-words before)) ∙ kept (subst (Refuses Refusal) acc (refusal-numbers f)));
+        memory = sym
+            (ap (λ (y : Answer check.Check). lent-after (words-in f) (λ (b : check.Check). b .simulation .trace) y before)
+            (law acc (entries entry-words before)) ∙ kept (subst (Refuses Refusal) acc (refusal-numbers f)));
       }
     where
       law : accepted f ≡ refused n → (areas : Areas) → check.check areas f ≡ refused n
       law z areas = unfold check.check _>>=_ in rw z
 
       kept : Refusal n → lent-after (words-in f) (λ (b : check.Check). b .simulation .trace) (refused n) before ≡ before
-      kept (inl h) = refusals (words-in f) (λ (b : check.Check). b .simulation .trace) before .between n (omega arith) (omega arith)
+      kept (inl h) = refusals (words-in f) (λ (b : check.Check). b .simulation .trace) before .between n (omega arith)
+          (omega arith)
       kept (inr (inl h)) = refusals (words-in f) (λ (b : check.Check). b .simulation .trace) before .below n (omega arith)
       kept (inr (inr h)) = refusals (words-in f) (λ (b : check.Check). b .simulation .trace) before .above n (omega arith)

@@ -30,7 +30,13 @@ use Rattle.engine_refinement.proofs.Words.{text-place}
 use Rattle.checker_spec.specs.Check.{Violation, violation-of}
 use Rattle.checker_spec.specs.Judge.{Reading, read-all, unknown-reasons, incomplete-reasons}
 use Rattle.checker_response.specs.declared.Failure.{Failure}
-use Rattle.checker_response.specs.declared.Failure.the-variants.{NoFailure, ProhibitedState, GuardViolated, ForbiddenTransition, DeadlineMissed}
+use Rattle.checker_response.specs.declared.Failure.the-variants.{
+  NoFailure,
+  ProhibitedState,
+  GuardViolated,
+  ForbiddenTransition,
+  DeadlineMissed,
+}
 use Rattle.checker_response.specs.Response.{failedM}
 use Rattle.checker_judge.specs.Judging.{judgeM}
 use Rattle.checker_reasons.specs.Reasons.{renderings, unknownM, incompleteM}
@@ -104,7 +110,8 @@ module _ (f x : List ℕ) (ts : List Text) (m : Model) (tb : Tabled f x ts m) wh
           ≡ place-of (id-of i) ts ∷ r .second ∷ r .index ∷ n ∷ d ∷ source-words (where-of (r .source))
       one n d =
           ap (λ (y : List ℕ). id ∷ r .second ∷ r .index ∷ n ∷ d ∷ y) (source-as (r .source))
-          ∙ ap (λ (k : ℕ). k ∷ r .second ∷ r .index ∷ n ∷ d ∷ source-words (where-of (r .source))) (sym (text-place f x ts m tb id h) ∙ ap (λ (t : Text). place-of t ts) (sym e))
+          ∙ ap (λ (k : ℕ). k ∷ r .second ∷ r .index ∷ n ∷ d ∷ source-words (where-of (r .source)))
+          (sym (text-place f x ts m tb id h) ∙ ap (λ (t : Text). place-of t ts) (sym e))
 
       by : (y : Failure) → r .failure ≡ y →
           words brokenM (violatedM id r) ≡ words (violation-words ts) (violation-of i (reading-of r .failing))
@@ -128,61 +135,76 @@ module _ (f x : List ℕ) (ts : List Text) (m : Model) (tb : Tabled f x ts m) wh
 
   -- ---- all invariants, over the records l
 
-  module _ (is : List Invariant) (starts : List ℕ) (stand : (d : Invariant) (k : ℕ) → k < length is → Reads (invariant ts) f (getD starts k 0) (getD is k d)) (calm : all windowless-invariant is ≡ true) (c : Cells) (ns : List ℕ) (ok : Valued f x ts m tb (c .values)) (long : length ns ≡ 32) (l : List Record) (traced : Traced ts l) where
-    abbrev reading-for : Invariant → Reading
-    reading-for i = read-all i (cells-of x ts (c .values) ns) (each (record-of x ts) l)
+  module _ (is : List Invariant) (starts : List ℕ) (stand : (d : Invariant) (k : ℕ) → k < length is →
+      Reads (invariant ts) f (getD starts k 0) (getD is k d)) (calm : all windowless-invariant is ≡ true) (c : Cells)
+      (ns : List ℕ) (ok : Valued f x ts m tb (c .values)) (long : length ns ≡ 32) (l : List Record) (traced : Traced ts l)
+    where
+      abbrev reading-for : Invariant → Reading
+      reading-for i = read-all i (cells-of x ts (c .values) ns) (each (record-of x ts) l)
 
-    abbrev violated : Invariant → List Violation
-    violated i = violation-of i (reading-for i .failing)
+      abbrev violated : Invariant → List Violation
+      violated i = violation-of i (reading-for i .failing)
 
-    abbrev unknown : Invariant → List Text
-    unknown i = unknown-reasons i (reading-for i .memory)
+      abbrev unknown : Invariant → List Text
+      unknown i = unknown-reasons i (reading-for i .memory)
 
-    abbrev incomplete : Invariant → List Text
-    incomplete i = incomplete-reasons i (reading-for i .memory)
+      abbrev incomplete : Invariant → List Text
+      incomplete i = incomplete-reasons i (reading-for i .memory)
 
-    -- what is gathered from the first k, before them the reasons us and ws
-    pub record Agreed (us ws : List Text) (k : ℕ) (g : Gathered) : Type 0 where
-      pub violations : words brokenM (g .violations) ≡ words (violation-words ts) (flat violated (take k is))
-      pub many : length (g .violations) ≡ length (flat violated (take k is))
-      pub unknowns : g .unknown ≡ sortedT (us ++ flat unknown (take k is))
-      pub incompletes : g .incomplete ≡ sortedT (ws ++ flat incomplete (take k is))
+      -- what is gathered from the first k, before them the reasons us and ws
+      pub record Agreed (us ws : List Text) (k : ℕ) (g : Gathered) : Type 0 where
+        pub violations : words brokenM (g .violations) ≡ words (violation-words ts) (flat violated (take k is))
+        pub many : length (g .violations) ≡ length (flat violated (take k is))
+        pub unknowns : g .unknown ≡ sortedT (us ++ flat unknown (take k is))
+        pub incompletes : g .incomplete ≡ sortedT (ws ++ flat incomplete (take k is))
 
-    agreed-next : (us ws : List Text) (k : ℕ) (d : Invariant) → k < length is → (g : Gathered) → Agreed us ws k g →
-        Agreed us ws (suc k) (oneM f x (getD starts k 0) c l g)
-    unfolding oneM reading-of
-    agreed-next us ws k d h g a =
-        let at = getD starts k 0 in
-        let i = getD is k d in
-        let r = judgeM f x at c l in
-        let n = named at i (stand d k h) in
-        let e : reading-of r ≡ reading-for i = judge-is f x ts m tb at i (stand d k h) (all-at windowless-invariant is d k calm h) c ns ok long l traced in
-        let em : memory-of (r .memory) ≡ reading-for i .memory = ap (λ (y : Reading). y .memory) e in
-        let ev : words brokenM (violatedM (two f (cap at + 1)) r) ≡ words (violation-words ts) (violated i) = violation-as (two f (cap at + 1)) i r (n .place-in) (n .is) ∙ ap (λ (y : Reading). words (violation-words ts) (violation-of i (y .failing))) e in
-        let eu : renderings f (unknownM f (cap at) (r .memory)) ≡ unknown i = unknown-is f x ts m tb at (r .memory) i (stand d k h) ∙ ap (unknown-reasons i) em in
-        let ew : renderings f (incompleteM f (cap at) (r .memory)) ≡ incomplete i = incomplete-is f x ts m tb at (r .memory) i (stand d k h) ∙ ap (incomplete-reasons i) em in
-        record {
-          violations =
-              areas.words-append brokenM (g .violations) (violatedM (two f (cap at + 1)) r)
-              ∙ ap (λ (y : List ℕ). y ++ words brokenM (violatedM (two f (cap at + 1)) r)) (a .violations)
-              ∙ ap (λ (y : List ℕ). words (violation-words ts) (flat violated (take k is)) ++ y) ev
-              ∙ sym (areas.words-append (violation-words ts) (flat violated (take k is)) (violated i))
-              ∙ ap (words (violation-words ts)) (sym (flat-next violated is k d h));
-          many = omega (arith, length-append (g .violations) (violatedM (two f (cap at + 1)) r), length-append (flat violated (take k is)) (violated i), ap length (flat-next violated is k d h), a .many, violation-count (two f (cap at + 1)) i r ∙ ap (λ (y : Reading). length (violation-of i (y .failing))) e);
-          unknowns =
-              ap (λ (y : List Text). insertAll y (g .unknown)) eu
-              ∙ ap (insertAll (unknown i)) (a .unknowns)
-              ∙ sorted-more us (flat unknown (take k is)) (unknown i)
-              ∙ ap (λ (y : List Text). sortedT (us ++ y)) (sym (flat-next unknown is k d h));
-          incompletes =
-              ap (λ (y : List Text). insertAll y (g .incomplete)) ew
-              ∙ ap (insertAll (incomplete i)) (a .incompletes)
-              ∙ sorted-more ws (flat incomplete (take k is)) (incomplete i)
-              ∙ ap (λ (y : List Text). sortedT (ws ++ y)) (sym (flat-next incomplete is k d h));
-        }
+      agreed-next : (us ws : List Text) (k : ℕ) (d : Invariant) → k < length is → (g : Gathered) → Agreed us ws k g →
+          Agreed us ws (suc k) (oneM f x (getD starts k 0) c l g)
+      unfolding oneM reading-of
+      agreed-next us ws k d h g a =
+          let at = getD starts k 0 in
+          let i = getD is k d in
+          let r = judgeM f x at c l in
+          let n = named at i (stand d k h) in
+          let e : reading-of r ≡ reading-for i = judge-is f x ts m tb at i (stand d k h)
+          (all-at windowless-invariant is d k calm h) c ns ok long l traced in
+          let em : memory-of (r .memory) ≡ reading-for i .memory = ap (λ (y : Reading). y .memory) e in
+          let ev : words brokenM (violatedM (two f (cap at + 1)) r) ≡ words (violation-words ts) (violated i) =
+          violation-as (two f (cap at + 1)) i r (n .place-in) (n .is)
+          ∙ ap (λ (y : Reading). words (violation-words ts) (violation-of i (y .failing))) e in
+          let eu : renderings f (unknownM f (cap at) (r .memory)) ≡ unknown i =
+          unknown-is f x ts m tb at (r .memory) i (stand d k h) ∙ ap (unknown-reasons i) em in
+          let ew : renderings f (incompleteM f (cap at) (r .memory)) ≡ incomplete i =
+          incomplete-is f x ts m tb at (r .memory) i (stand d k h) ∙ ap (incomplete-reasons i) em in
+          record {
+            violations =
+                areas.words-append brokenM (g .violations) (violatedM (two f (cap at + 1)) r)
+                ∙ ap (λ (y : List ℕ). y ++ words brokenM (violatedM (two f (cap at + 1)) r)) (a .violations)
+                ∙ ap (λ (y : List ℕ). words (violation-words ts) (flat violated (take k is)) ++ y) ev
+                ∙ sym (areas.words-append (violation-words ts) (flat violated (take k is)) (violated i))
+                ∙ ap (words (violation-words ts)) (sym (flat-next violated is k d h));
+            many = omega (
+              arith,
+              length-append (g .violations) (violatedM (two f (cap at + 1)) r),
+              length-append (flat violated (take k is)) (violated i),
+              ap length (flat-next violated is k d h),
+              a .many,
+              violation-count (two f (cap at + 1)) i r ∙ ap (λ (y : Reading). length (violation-of i (y .failing))) e,
+            );
+            unknowns =
+                ap (λ (y : List Text). insertAll y (g .unknown)) eu
+                ∙ ap (insertAll (unknown i)) (a .unknowns)
+                ∙ sorted-more us (flat unknown (take k is)) (unknown i)
+                ∙ ap (λ (y : List Text). sortedT (us ++ y)) (sym (flat-next unknown is k d h));
+            incompletes =
+                ap (λ (y : List Text). insertAll y (g .incomplete)) ew
+                ∙ ap (insertAll (incomplete i)) (a .incompletes)
+                ∙ sorted-more ws (flat incomplete (take k is)) (incomplete i)
+                ∙ ap (λ (y : List Text). sortedT (ws ++ y)) (sym (flat-next incomplete is k d h));
+          }
 
-    pub agreed : (us ws : List Text) (g : Gathered) → Agreed us ws 0 g → (d : Invariant) (k : ℕ) → k ≤ length is →
-        Agreed us ws k (firstM f x starts c l k g)
-    unfolding firstM
-    agreed us ws g a d zero h = a
-    agreed us ws g a d (suc k) h = agreed-next us ws k d h (firstM f x starts c l k g) (agreed us ws g a d k (omega arith))
+      pub agreed : (us ws : List Text) (g : Gathered) → Agreed us ws 0 g → (d : Invariant) (k : ℕ) → k ≤ length is →
+          Agreed us ws k (firstM f x starts c l k g)
+      unfolding firstM
+      agreed us ws g a d zero h = a
+      agreed us ws g a d (suc k) h = agreed-next us ws k d h (firstM f x starts c l k g) (agreed us ws g a d k (omega arith))

@@ -19,10 +19,18 @@ use Rattle.checker_entry.specs.Contracts.{Checked, Whole}
 
 -- ---- a check with given events
 
-module _ {f x starts w : List ℕ} {h : Shared} {events : List ℕ} {n : ℕ} {s : Summary} {told v us ws : List ℕ} {q q' a a' u u' : List ℕ}
+module _ {f x starts w : List ℕ} {h : Shared} {events : List ℕ} {n : ℕ} {s : Summary} {told v us ws : List ℕ}
+    {q q' a a' u u' : List ℕ}
     (ran : Ran f (ground x (h .cells) (h .notes) w) events n (simulation-of s told) q q' a a' u u') where
   pub checked-full : (s .refused ≡ 0 → ⊥) →
-      Checked f starts (h .invariants) (ground x (h .cells) (h .notes) w) events n (result-of (record { status = status.Refused (s .refused); violations = 0; unknown = 0; incomplete = 0; simulation = s }) v us ws told) q q' a a' u u'
+      Checked f starts (h .invariants) (ground x (h .cells) (h .notes) w) events n
+      (result-of (record {
+        status = status.Refused (s .refused);
+        violations = 0;
+        unknown = 0;
+        incomplete = 0;
+        simulation = s;
+      }) v us ws told) q q' a a' u u'
   checked-full z = record {
     sized = record { few-unknown = omega arith; few-incomplete = omega arith };
     ran = ran;
@@ -36,17 +44,20 @@ module _ {f x starts w : List ℕ} {h : Shared} {events : List ℕ} {n : ℕ} {s
       let y = j .verdict in
       record {
         sized = record { few-unknown = y .few-unknown; few-incomplete = y .few-incomplete };
-        ran = subst (λ (k : Summary). Ran f (ground x (h .cells) (h .notes) w) events n (simulation-of k told) q q' a a' u u') (sym (j .simulation)) ran;
+        ran = subst (λ (k : Summary). Ran f (ground x (h .cells) (h .notes) w) events n (simulation-of k told)
+            q q' a a' u u') (sym (j .simulation)) ran;
         done = λ k. y;
         full = λ k. absurd (k (ap (λ (i : Summary). i .refused) (j .simulation) ∙ z));
       }
 
 -- ---- the answer as one value
 
-pub whole-as : {f starts : List ℕ} {many : ℕ} {g : Ground} {events : List ℕ} {n : ℕ} {r s : CheckResult} {q q' a a' u u' : List ℕ} → r ≡ s →
+pub whole-as : {f starts : List ℕ} {many : ℕ} {g : Ground} {events : List ℕ} {n : ℕ} {r s : CheckResult}
+    {q q' a a' u u' : List ℕ} → r ≡ s →
     Whole f starts many g events n s q q' a a' u u' → Whole f starts many g events n r q q' a a' u u'
 whole-as {f} {starts} {many} {g} {events} {n} {r} {s} {q} {q'} {a} {a'} {u} {u'} e h =
     subst (λ (y : CheckResult). Whole f starts many g events n y q q' a a' u u') (sym e) h
 
-pub checks-as : {f : List ℕ} {r s : CheckResult} {before after : Lent} → r ≡ s → Checks f s before after → Checks f r before after
+pub checks-as : {f : List ℕ} {r s : CheckResult} {before after : Lent} → r ≡ s → Checks f s before after →
+    Checks f r before after
 checks-as {f} {r} {s} {before} {after} e h = subst (λ (y : CheckResult). Checks f y before after) (sym e) h

@@ -175,14 +175,25 @@ module _ (m : Model) (cells : List Cell) (sim : engine.Simulation) where
 
 -- ---- of an accepted file
 
-module _ (f : List ℕ) (i : Index) (m : Model) (acc : accepted f ≡ answer m) (o : Indexed f i m) (bytes : (k : ℕ) → getD f k 0 < 256) (g : Ground) (gr : Grounds f i g) where
+module _ (f : List ℕ) (i : Index) (m : Model) (acc : accepted f ≡ answer m) (o : Indexed f i m)
+    (bytes : (k : ℕ) → getD f k 0 < 256) (g : Ground) (gr : Grounds f i g) where
   pub few-in-pool : length (check-pool m) ≤ 399
   unfolding check-pool
   few-in-pool =
-      let all = length-append (pool-of m) (space-spent ∷ steps-spent ∷ runs-left ∷ flat invariant-pool (m .scenario .invariants)) in
-      omega (arith, all, tb f i m acc o bytes g gr .few-reasons, three-each (m .scenario .invariants), promised.few-invariants f i m acc o bytes g gr)
+      let all = length-append (pool-of m) (space-spent ∷ steps-spent ∷ runs-left ∷ flat invariant-pool
+      (m .scenario .invariants)) in
+      omega (
+        arith,
+        all,
+        tb f i m acc o bytes g gr .few-reasons,
+        three-each (m .scenario .invariants),
+        promised.few-invariants f i m acc o bytes g gr,
+      )
 
-  module _ (v : List ℕ) (d : Event) (vs : List Event) (evs : (j : ℕ) → j < length vs → EventAt f (g .table) (o .ts) m (tb f i m acc o bytes g gr) v j (getD vs j d)) {n : ℕ} (many : n ≡ length vs) {r : CheckResult} {q q' a a' u u' : List ℕ} (ch : Checked f (i .invariants .starts) (i .invariants .count) g v n r q q' a a' u u') where
+  module _ (v : List ℕ) (d : Event) (vs : List Event)
+      (evs : (j : ℕ) → j < length vs → EventAt f (g .table) (o .ts) m (tb f i m acc o bytes g gr) v j (getD vs j d)) {n : ℕ}
+      (many : n ≡ length vs) {r : CheckResult} {q q' a a' u u' : List ℕ}
+      (ch : Checked f (i .invariants .starts) (i .invariants .count) g v n r q q' a a' u u') where
     -- whatever the events: the reasons of the check are among the list
     pub record InPool (c : check.Check) : Type 0 where
       pub unknown : Among (check-pool m) (c .unknown)
@@ -203,7 +214,8 @@ module _ (f : List ℕ) (i : Index) (m : Model) (acc : accepted f ≡ answer m) 
               unknown = judged-unknown m cells sim (k .among);
               incomplete = judged-incomplete m cells sim (subst (Among _) (k .shows .incomplete) (stopped-among _ _));
             })
-        by (simulator.refuses k lo hi h is z) = absurd (no (sym e ∙ promised.refuse-law f i m acc o bytes g gr v d vs evs many ch k h))
+        by (simulator.refuses k lo hi h is z) = absurd
+            (no (sym e ∙ promised.refuse-law f i m acc o bytes g gr v d vs evs many ch k h))
           where
             no : answer c ≡ refused k → ⊥
             no y = let b : _≡_ {A = ℕ} 0 1 = cc in absurd (omega arith)

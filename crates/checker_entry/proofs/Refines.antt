@@ -1,4 +1,5 @@
--- What `check_events` answers and leaves in the areas, by the definition's check of the model. Search and reduction go on from it.
+-- What `check_events` answers and leaves in the areas, by the definition's check of the model. Search and reduction go on
+-- from it.
 use Prim.Native.Nat.{ℕ, suc, _-_, _*_, _/_, _≤_, _<_}
 use mathlib.Core.Path.{_≡_, refl, sym, ap, subst, _∙_}
 use mathlib.Core.Bool.{Bool, true, false}
@@ -73,7 +74,8 @@ module _ (f x : List ℕ) (ts : List Text) (m : Model) (tb : Tabled f x ts m) wh
   alone-is k t n e = rw (n, no-text f x ts m tb, e) (append-nil t)
 
   -- why a simulation is incomplete
-  stopped-is : (w : ℕ) → map (render f) (stoppedM w) ≡ (if eqb w 0 then [] else if eqb w 1 then space-spent ∷ [] else steps-spent ∷ [])
+  stopped-is : (w : ℕ) → map (render f) (stoppedM w)
+      ≡ (if eqb w 0 then [] else if eqb w 1 then space-spent ∷ [] else steps-spent ∷ [])
   unfolding stoppedM words space-spent steps-spent
   stopped-is w = by (eqb w 0) (eqb w 1)
     where
@@ -89,7 +91,8 @@ module _ (f x : List ℕ) (ts : List Text) (m : Model) (tb : Tabled f x ts m) wh
   left-is true = ap (λ (t : Text). t ∷ []) (alone-is kinds.runs-left runs-left refl refl)
   left-is false = refl
 
-  own-reasons : (w : ℕ) (b : Bool) → insertAll (map (render f) (leftM b)) (insertAll (map (render f) (stoppedM w)) []) ≡ sortedT (incomplete-of w b)
+  own-reasons : (w : ℕ) (b : Bool) → insertAll (map (render f) (leftM b)) (insertAll (map (render f) (stoppedM w)) [])
+      ≡ sortedT (incomplete-of w b)
   unfolding incomplete-of
   own-reasons w b =
       ap (insertAll (map (render f) (leftM b))) (one-by-one (map (render f) (stoppedM w)))
@@ -105,7 +108,9 @@ unfolding statusM status-of is-empty
 status-same vs us ws t a b c = rw (a, b, c) (by us vs ws)
   where
     by : (us : List Text) (vs : List Violation) (ws : List Text) →
-        (if eqb (length us) 0 then (if eqb (length vs) 0 then (if eqb (length ws) 0 then status.NoViolationInTrace else status.Incomplete) else status.Violation) else status.Unknown)
+        (if eqb (length us) 0 then (if eqb (length vs) 0
+        then (if eqb (length ws) 0 then status.NoViolationInTrace else status.Incomplete) else status.Violation)
+        else status.Unknown)
         ≡ status-as (status-of vs us ws)
     by (u ∷ us) vs ws = rw (ne-eqb (suc (length us)) 0 (λ z. absurd (omega arith)))
     by [] (v ∷ vs) ws = rw (ne-eqb (suc (length vs)) 0 (λ z. absurd (omega arith)))
@@ -114,7 +119,8 @@ status-same vs us ws t a b c = rw (a, b, c) (by us vs ws)
 
 -- ---- of an accepted file
 
-module _ (f : List ℕ) (i : Index) (m : Model) (acc : accepted f ≡ answer m) (o : Indexed f i m) (bytes : (k : ℕ) → getD f k 0 < 256) (g : Ground) (gr : Grounds f i g) where
+module _ (f : List ℕ) (i : Index) (m : Model) (acc : accepted f ≡ answer m) (o : Indexed f i m)
+    (bytes : (k : ℕ) → getD f k 0 < 256) (g : Ground) (gr : Grounds f i g) where
   abbrev x : List ℕ
   x = g .table
 
@@ -137,7 +143,8 @@ module _ (f : List ℕ) (i : Index) (m : Model) (acc : accepted f ≡ answer m) 
   stand d k h = o .invariants .stand d k (omega (arith, h, few-invariants)) h
 
   all-invariants : atMost (i .invariants .count) 32 ≡ length is
-  all-invariants = most-is (i .invariants .count) 32 (omega (arith, few-invariants, o .invariants .counts)) ∙ o .invariants .counts
+  all-invariants = most-is (i .invariants .count) 32 (omega (arith, few-invariants, o .invariants .counts))
+      ∙ o .invariants .counts
 
   valued : Valued f x (o .ts) m t (g .cells .values)
   valued = start-valued f x i m acc o t (g .cells) (gr .cells)
@@ -150,20 +157,24 @@ module _ (f : List ℕ) (i : Index) (m : Model) (acc : accepted f ≡ answer m) 
 
   -- ---- the verdict on a simulation
 
-  module _ (s : Simulation) (sim : engine.Simulation) (shows : Shows f s sim) (l : List Record) (trace : sim .trace ≡ each (record-of x (o .ts)) l) (words-so : Each (Worded x (o .ts) m) l) where
+  module _ (s : Simulation) (sim : engine.Simulation) (shows : Shows f s sim) (l : List Record)
+      (trace : sim .trace ≡ each (record-of x (o .ts)) l) (words-so : Each (Worded x (o .ts) m) l) where
     traced : Traced (o .ts) l
     traced = each-imp (Worded x (o .ts) m) _ (λ r w. w .placed) l words-so
 
     abbrev AgreedAt : ℕ → Gathered → Type 0
-    AgreedAt k y = Agreed f x (o .ts) m t is starts stand (t .stated) (g .cells) (g .cells .versions) valued versions-long l traced (sim .unknown) (sim .incomplete) k y
+    AgreedAt k y = Agreed f x (o .ts) m t is starts stand (t .stated) (g .cells) (g .cells .versions)
+        valued versions-long l traced (sim .unknown) (sim .incomplete) k y
 
     at-start : AgreedAt 0 (startM f s)
     unfolding startM areas.words flat
     at-start = record {
       violations = refl;
       many = refl;
-      unknowns = ap (λ (y : List Text). insertAll y []) (shows .unknown .texts) ∙ one-by-one (sim .unknown) ∙ ap sortedT (sym (append-nil (sim .unknown)));
-      incompletes = own-reasons f x (o .ts) m t (s .«stop_reason») (s .«runs_left») ∙ ap sortedT (shows .incomplete ∙ sym (append-nil (sim .incomplete)));
+      unknowns = ap (λ (y : List Text). insertAll y []) (shows .unknown .texts) ∙ one-by-one (sim .unknown)
+          ∙ ap sortedT (sym (append-nil (sim .unknown)));
+      incompletes = own-reasons f x (o .ts) m t (s .«stop_reason») (s .«runs_left»)
+          ∙ ap sortedT (shows .incomplete ∙ sym (append-nil (sim .incomplete)));
     }
 
     abbrev all : Gathered
@@ -174,21 +185,29 @@ module _ (f : List ℕ) (i : Index) (m : Model) (acc : accepted f ≡ answer m) 
 
     at-end : AgreedAt (length is) all
     at-end = subst (λ (k : ℕ). AgreedAt (length is) (firstM f x starts (g .cells) l k (startM f s))) (sym all-invariants)
-        (agreed f x (o .ts) m t is starts stand (t .stated) (g .cells) (g .cells .versions) valued versions-long l traced (sim .unknown) (sim .incomplete) (startM f s) at-start none-such (length is) (omega arith))
+        (agreed f x (o .ts) m t is starts stand (t .stated) (g .cells) (g .cells .versions) valued versions-long l traced
+        (sim .unknown) (sim .incomplete) (startM f s) at-start none-such (length is) (omega arith))
 
     abbrev verdict : check.Check
     verdict = judged is cells sim
 
     -- the definition reads the same cells and records
-    violations-are : flat (λ (y : Invariant). violation-of y (read-all y (cells-of x (o .ts) (g .cells .values) (g .cells .versions)) (each (record-of x (o .ts)) l) .failing)) (take (length is) is) ≡ verdict .violations
+    violations-are : flat (λ (y : Invariant). violation-of y
+        (read-all y (cells-of x (o .ts) (g .cells .values) (g .cells .versions)) (each (record-of x (o .ts)) l) .failing))
+        (take (length is) is) ≡ verdict .violations
     unfolding judged
     violations-are = rw (take-all (length is) is (omega arith), ← cells-are, ← trace)
 
-    unknowns-are : sortedT (sim .unknown ++ flat (λ (y : Invariant). unknown-reasons y (read-all y (cells-of x (o .ts) (g .cells .values) (g .cells .versions)) (each (record-of x (o .ts)) l) .memory)) (take (length is) is)) ≡ verdict .unknown
+    unknowns-are : sortedT
+        (sim .unknown ++ flat (λ (y : Invariant). unknown-reasons y
+        (read-all y (cells-of x (o .ts) (g .cells .values) (g .cells .versions)) (each (record-of x (o .ts)) l) .memory))
+        (take (length is) is)) ≡ verdict .unknown
     unfolding judged
     unknowns-are = rw (take-all (length is) is (omega arith), ← cells-are, ← trace)
 
-    incompletes-are : sortedT (sim .incomplete ++ flat (λ (y : Invariant). incomplete-reasons y (read-all y (cells-of x (o .ts) (g .cells .values) (g .cells .versions)) (each (record-of x (o .ts)) l) .memory)) (take (length is) is)) ≡ verdict .incomplete
+    incompletes-are : sortedT (sim .incomplete ++ flat
+        (λ (y : Invariant). incomplete-reasons y (read-all y (cells-of x (o .ts) (g .cells .values) (g .cells .versions))
+        (each (record-of x (o .ts)) l) .memory)) (take (length is) is)) ≡ verdict .incomplete
     unfolding judged
     incompletes-are = rw (take-all (length is) is (omega arith), ← cells-are, ← trace)
 
@@ -198,16 +217,24 @@ module _ (f : List ℕ) (i : Index) (m : Model) (acc : accepted f ≡ answer m) 
     verdict-shows r se re long keeps =
         let e = at-end in
         let nv : r .violations ≡ length (verdict .violations) = keeps .many ∙ e .many ∙ ap length violations-are in
-        let hu : Holds f (verdict .unknown) (r .unknown) (r .unknowns) = subst (λ (y : List Text). Holds f y (r .unknown) (r .unknowns)) (e .unknowns ∙ unknowns-are) (keeps .unknown) in
-        let hw : Holds f (verdict .incomplete) (r .incomplete) (r .incompletes) = subst (λ (y : List Text). Holds f y (r .incomplete) (r .incompletes)) (e .incompletes ∙ incompletes-are) (keeps .incomplete) in
+        let hu : Holds f (verdict .unknown) (r .unknown) (r .unknowns) =
+        subst (λ (y : List Text). Holds f y (r .unknown) (r .unknowns)) (e .unknowns ∙ unknowns-are) (keeps .unknown) in
+        let hw : Holds f (verdict .incomplete) (r .incomplete) (r .incompletes) =
+        subst (λ (y : List Text). Holds f y (r .incomplete) (r .incompletes)) (e .incompletes ∙ incompletes-are)
+        (keeps .incomplete) in
         record {
-          status-is = se ∙ status-same (verdict .violations) (verdict .unknown) (verdict .incomplete) (counts r) nv (hu .many) (hw .many);
+          status-is = se ∙ status-same (verdict .violations) (verdict .unknown) (verdict .incomplete) (counts r) nv
+              (hu .many) (hw .many);
           violations = nv;
           violated =
               keeps .violations
-              ∙ ap (λ (n : ℕ). areas.words brokenM (all .violations) ++ replicate (n - length (areas.words brokenM (all .violations))) 0) long
-              ∙ ap (λ (y : List ℕ). y ++ replicate (256 - length y) 0) (e .violations ∙ ap (areas.words (violation-words (o .ts))) violations-are)
-              ∙ ap (λ (ts : List Text). areas.words (violation-words ts) (verdict .violations) ++ replicate (256 - length (areas.words (violation-words ts) (verdict .violations))) 0) (sym (texts-here f i m acc o bytes g gr));
+              ∙ ap (λ (n : ℕ). areas.words brokenM (all .violations) ++ replicate
+              (n - length (areas.words brokenM (all .violations))) 0) long
+              ∙ ap (λ (y : List ℕ). y ++ replicate (256 - length y) 0)
+              (e .violations ∙ ap (areas.words (violation-words (o .ts))) violations-are)
+              ∙ ap (λ (ts : List Text). areas.words (violation-words ts) (verdict .violations) ++ replicate
+              (256 - length (areas.words (violation-words ts) (verdict .violations))) 0)
+              (sym (texts-here f i m acc o bytes g gr));
           unknown = reported (has-text f x (o .ts) m t) hu;
           incomplete = reported (has-text f x (o .ts) m t) hw;
           simulation = subst (λ (y : Simulation). Shows f y sim) (sym re) shows;
@@ -215,7 +242,10 @@ module _ (f : List ℕ) (i : Index) (m : Model) (acc : accepted f ≡ answer m) 
 
   -- ---- a check with the events vs, given as words
 
-  module _ (v : List ℕ) (d : Event) (vs : List Event) (evs : (j : ℕ) → j < length vs → EventAt f x (o .ts) m t v j (getD vs j d)) {n : ℕ} (many : n ≡ length vs) {r : CheckResult} {q q' a a' u u' : List ℕ} (ch : Checked f (i .invariants .starts) (i .invariants .count) g v n r q q' a a' u u') where
+  module _ (v : List ℕ) (d : Event) (vs : List Event)
+      (evs : (j : ℕ) → j < length vs → EventAt f x (o .ts) m t v j (getD vs j d)) {n : ℕ} (many : n ≡ length vs)
+      {r : CheckResult} {q q' a a' u u' : List ℕ} (ch : Checked f (i .invariants .starts) (i .invariants .count)
+      g v n r q q' a a' u u') where
     abbrev sizes : Areas
     sizes = record { queue = length q / 5; records = length a / 13; runs = length u / 28 }
 
@@ -224,10 +254,12 @@ module _ (f : List ℕ) (i : Index) (m : Model) (acc : accepted f ≡ answer m) 
 
     -- the answer says what the definition's check says, and the record area holds its records
     pub data Promise : Type 0 where
-      answers : (c : check.Check) → plain ≡ answer c → said.Shows f r c → a' ≡ area (words-in f) (length a) (c .simulation .trace) → Promise
+      answers : (c : check.Check) → plain ≡ answer c → said.Shows f r c →
+          a' ≡ area (words-in f) (length a) (c .simulation .trace) → Promise
       refuses : (n : ℕ) → 41 ≤ n → n ≤ 43 → plain ≡ refused n → RefusedAs n r → a' ≡ replicate (length a) 0 → Promise
 
-    pub answer-law : (sim : engine.Simulation) → simulated sizes m cells vs ≡ answer sim → plain ≡ answer (judged is cells sim)
+    pub answer-law : (sim : engine.Simulation) → simulated sizes m cells vs ≡ answer sim →
+        plain ≡ answer (judged is cells sim)
     unfolding checked _>>=_
     answer-law sim e = rw e
 
@@ -244,17 +276,21 @@ module _ (f : List ℕ) (i : Index) (m : Model) (acc : accepted f ≡ answer m) 
     same-length : (l : List Record) → a' ≡ area recordWords (length a) l → length l * 13 ≤ length a → length a' ≡ length a
     same-length l e h = ap length e ∙ area-length recordWords 13 sized (length a) l h
 
-    answered : (sim : engine.Simulation) → simulator.Told f i m acc o bytes g gr v d vs evs many (ch .ran) sim → simulated sizes m cells vs ≡ answer sim → Promise
+    answered : (sim : engine.Simulation) → simulator.Told f i m acc o bytes g gr v d vs evs many (ch .ran) sim →
+        simulated sizes m cells vs ≡ answer sim → Promise
     unfolding judged
     answered sim k e =
         let s = r .simulation in
         let w = ch .done (k .shows .accepted) in
-        let room : length (k .records) * 13 ≤ length a = omega (arith, k .count, k .shows .records, records-fit sizes m cells vs sim e) in
+        let room : length (k .records) * 13 ≤ length a =
+        omega (arith, k .count, k .shows .records, records-fit sizes m cells vs sim e) in
         let long = same-length (k .records) (k .area-is) room in
-        let rep : a' ≡ recorded (length a') (k .records) = k .area-is ∙ ap (λ (y : ℕ). area recordWords y (k .records)) (sym long) in
+        let rep : a' ≡ recorded (length a') (k .records) =
+        k .area-is ∙ ap (λ (y : ℕ). area recordWords y (k .records)) (sym long) in
         answers (judged is cells sim) (answer-law sim e)
         (verdict-shows s sim (k .shows) (k .records) (k .trace) (k .words) r (w .status-is) refl (w .long)
-        (w .holds (omega (arith, k .shows .unknown .many, k .few)) (λ h. k .shows .unknown .clean) (k .records) (sym (k .count)) (omega (arith, k .count, room, long)) rep))
+        (w .holds (omega (arith, k .shows .unknown .many, k .few)) (λ h. k .shows .unknown .clean) (k .records)
+        (sym (k .count)) (omega (arith, k .count, room, long)) rep))
         (k .area-is ∙ records-here f i m acc o bytes g gr (length a) (k .records) (sim .trace) (k .words) (k .trace))
 
     pub promise : Promise
@@ -266,7 +302,8 @@ module _ (f : List ℕ) (i : Index) (m : Model) (acc : accepted f ≡ answer m) 
 
 -- ---- the check as one answer
 
-module _ {f starts : List ℕ} {many : ℕ} {g : Ground} {v : List ℕ} {n : ℕ} {r : CheckResult} {q q' a a' u u' : List ℕ} (wh : Whole f starts many g v n r q q' a a' u u') where
+module _ {f starts : List ℕ} {many : ℕ} {g : Ground} {v : List ℕ} {n : ℕ} {r : CheckResult} {q q' a a' u u' : List ℕ}
+    (wh : Whole f starts many g v n r q q' a a' u u') where
   pub whole-shows : (c : check.Check) → said.Shows f (wh .result) c → said.Shows f r c
   whole-shows c k = subst (λ (y : CheckResult). said.Shows f y c) (sym (wh .answered .done (k .simulation .accepted))) k
 
@@ -287,14 +324,18 @@ module _ {f starts : List ℕ} {many : ℕ} {g : Ground} {v : List ℕ} {n : ℕ
           (sym (wh .answered .done (eqb-true (wh .result .simulation .refused) 0 e))) (wh .checked)
       by (is-false e) =
           let k = eqb-false (wh .result .simulation .refused) 0 e in
-          absurd (k (sym (ap (λ (y : CheckResult). y .simulation .refused) (wh .answered .full k) ∙ no-check-number (wh .result .simulation .refused)) ∙ z))
+          absurd (k (sym (ap (λ (y : CheckResult). y .simulation .refused) (wh .answered .full k)
+          ∙ no-check-number (wh .result .simulation .refused)) ∙ z))
 
   -- a refusal has the same number
   pub whole-full : (r .simulation .refused ≡ 0 → ⊥) → wh .result .simulation .refused ≡ r .simulation .refused
   whole-full z = by (case (eqb (wh .result .simulation .refused) 0))
     where
       by : Case (eqb (wh .result .simulation .refused) 0) → wh .result .simulation .refused ≡ r .simulation .refused
-      by (is-true e) = sym (ap (λ (y : CheckResult). y .simulation .refused) (wh .answered .done (eqb-true (wh .result .simulation .refused) 0 e)))
+      by (is-true e) =
+          sym (ap (λ (y : CheckResult). y .simulation .refused)
+          (wh .answered .done (eqb-true (wh .result .simulation .refused) 0 e)))
       by (is-false e) =
           let k = eqb-false (wh .result .simulation .refused) 0 e in
-          sym (ap (λ (y : CheckResult). y .simulation .refused) (wh .answered .full k) ∙ no-check-number (wh .result .simulation .refused))
+          sym (ap (λ (y : CheckResult). y .simulation .refused) (wh .answered .full k)
+          ∙ no-check-number (wh .result .simulation .refused))

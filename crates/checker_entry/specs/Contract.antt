@@ -1,4 +1,5 @@
--- What `check` answers, by the definitions of crate `checker_spec`: each number of the answer, and each word of the lent areas.
+-- What `check` answers, by the definitions of crate `checker_spec`: each number of the answer, and each word of the lent
+-- areas.
 use Prim.Native.Nat.{ℕ}
 use mathlib.Core.Path.{_≡_}
 use mathlib.Core.List.{List, [], _∷_, _++_}
@@ -32,8 +33,8 @@ failure-words judge.guard-violated = 2 ∷ 0 ∷ []
 failure-words judge.forbidden-transition = 3 ∷ 0 ∷ []
 failure-words (judge.deadline-missed d) = 4 ∷ d ∷ []
 
--- eight numbers: the identifier's place among the texts, the second, the record's index, the failure and its deadline; 1 with
--- the source's line and column, or zeros
+-- eight numbers: the identifier's place among the texts, the second, the record's index, the failure and its deadline; 1
+-- with the source's line and column, or zeros
 unfoldable pub violation-words : (texts : List Text) → check.Violation → List ℕ
 violation-words ts v =
     (place-of (v .invariant) ts ∷ v .at ∷ v .index ∷ []) ++ (failure-words (v .failure) ++ source-words (v .source))
@@ -54,7 +55,8 @@ Says f r (refused n) = r ≡ no-check n
 
 -- the lent areas after `check`
 unfoldable pub check-memory : (file : List ℕ) → Lent → Lent
-check-memory f l = lent-after (words-in f) (λ (c : check.Check). c .simulation .trace) (check.check (entries entry-words l) f) l
+check-memory f l = lent-after (words-in f) (λ (c : check.Check). c .simulation .trace)
+    (check.check (entries entry-words l) f) l
 
 -- the entry `check`: its answer, and each word of the areas afterwards
 pub record Checks (f : List ℕ) (r : CheckResult) (before after : Lent) : Type 0 where

@@ -21,13 +21,15 @@ pub record Sized (r : CheckResult) : Type 0 where
   pub few-incomplete : r .incomplete ≤ 40
 
 -- a simulation, and the verdict on it unless an area was full
-pub record Checked (f starts : List ℕ) (many : ℕ) (g : Ground) (events : List ℕ) (n : ℕ) (r : CheckResult) (q q' a a' u u' : List ℕ) : Type 0 where
+pub record Checked (f starts : List ℕ) (many : ℕ) (g : Ground) (events : List ℕ) (n : ℕ) (r : CheckResult)
+    (q q' a a' u u' : List ℕ) : Type 0 where
   pub sized : Sized r
   pub ran : Ran f g events n (r .simulation) q q' a a' u u'
   pub done : r .simulation .refused ≡ 0 → Verdict f (g .table) starts many (g .cells) a' r
   pub full : (r .simulation .refused ≡ 0 → ⊥) → r .status ≡ status.Refused (r .simulation .refused)
 
-pub record Whole (f starts : List ℕ) (many : ℕ) (g : Ground) (events : List ℕ) (n : ℕ) (r : CheckResult) (q q' a a' u u' : List ℕ) : Type 0 where
+pub record Whole (f starts : List ℕ) (many : ℕ) (g : Ground) (events : List ℕ) (n : ℕ) (r : CheckResult)
+    (q q' a a' u u' : List ℕ) : Type 0 where
   pub result : CheckResult
   pub checked : Checked f starts many g events n result q q' a a' u u'
   pub answered : Answered result r

@@ -14,8 +14,8 @@ ghost use Rattle.engine_entry.specs.Contract.{ground, lent};
 
 // ---- a check, its lists in lent arrays
 
-// The check of a model from its own values, with the first n of the events that stand in four words each. `reasons` holds the
-// reasons of the notes, and then those of the simulation.
+// The check of a model from its own values, with the first n of the events that stand in four words each. `reasons` holds
+// the reasons of the notes, and then those of the simulation.
 pub fn check_events(
     file: &[u8],
     table: &[u32; 436],
@@ -32,7 +32,10 @@ pub fn check_events(
     incompletes: &mut [u32; 200],
 ) -> Judgement
     requires { ⌜ n * 4 ≤ length (now events) ⌝ }
-    ensures { λ r. ⌜ Checked (was file) (was starts) (shared .invariants) (ground (was table) (shared .cells) (shared .notes) (was reasons)) (was events) n (result-of r (is violated) (is unknowns) (is incompletes) (is reasons)) (was queue) (is queue) (was records) (is records) (was runs) (is runs) ⌝ }
+    ensures { λ r. ⌜ Checked (was file) (was starts) (shared .invariants)
+        (ground (was table) (shared .cells) (shared .notes) (was reasons)) (was events) n
+        (result-of r (is violated) (is unknowns) (is incompletes) (is reasons)) (was queue) (is queue) (was records)
+        (is records) (was runs) (is runs) ⌝ }
 {
     let cells = shared.cells;
     let notes = shared.notes;
@@ -90,7 +93,10 @@ pub fn check_settled(
     incompletes: &mut [u32; 200],
 ) -> Judgement
     requires { ⌜ n * 4 ≤ length (now events) ⌝ }
-    ensures { λ r. ⌜ Whole (was file) (was starts) (shared .invariants) (ground (was table) (shared .cells) (shared .notes) (was reasons)) (was events) n (result-of r (is violated) (is unknowns) (is incompletes) (is reasons)) (was queue) (is queue) (was records) (is records) (was runs) (is runs) ⌝ }
+    ensures { λ r. ⌜ Whole (was file) (was starts) (shared .invariants)
+        (ground (was table) (shared .cells) (shared .notes) (was reasons)) (was events) n
+        (result-of r (is violated) (is unknowns) (is incompletes) (is reasons)) (was queue) (is queue) (was records)
+        (is records) (was runs) (is runs) ⌝ }
 {
     let j = check_events(
         file,
@@ -122,7 +128,8 @@ fn run(
     unknowns: &mut [u32; 2000],
     incompletes: &mut [u32; 200],
 ) -> Judgement
-    ensures { λ r. ⌜ RunsAs (was file) index (result-of r (is violated) (is unknowns) (is incompletes) (is reasons)) (lent (was queue) (was records) (was runs)) (lent (is queue) (is records) (is runs)) ⌝ }
+    ensures { λ r. ⌜ RunsAs (was file) index (result-of r (is violated) (is unknowns) (is incompletes) (is reasons))
+        (lent (was queue) (was records) (was runs)) (lent (is queue) (is records) (is runs)) ⌝ }
 {
     let b = engine_entry::prepared(file, index, reasons);
     let table = b.table;
@@ -165,7 +172,8 @@ pub fn check_lent(
     unknowns: &mut [u32; 2000],
     incompletes: &mut [u32; 200],
 ) -> Judgement
-    ensures { λ r. ⌜ Checks (was file) (result-of r (is violated) (is unknowns) (is incompletes) (is reasons)) (lent (was queue) (was records) (was runs)) (lent (is queue) (is records) (is runs)) ⌝ }
+    ensures { λ r. ⌜ Checks (was file) (result-of r (is violated) (is unknowns) (is incompletes) (is reasons))
+        (lent (was queue) (was records) (was runs)) (lent (is queue) (is records) (is runs)) ⌝ }
 {
     let x = model_validate::accept(file);
     let status = x.status;
@@ -203,7 +211,9 @@ pub fn check_whole(
     reasons: &mut [u32; 1500],
 ) -> CheckResult
     requires { ⌜ n * 4 ≤ length (now events) ⌝ }
-    ensures { λ r. ⌜ Whole (was file) (was starts) (shared .invariants) (ground (was table) (shared .cells) (shared .notes) (was reasons)) (was events) n r (was queue) (is queue) (was records) (is records) (was runs) (is runs) ⌝ }
+    ensures { λ r. ⌜ Whole (was file) (was starts) (shared .invariants)
+        (ground (was table) (shared .cells) (shared .notes) (was reasons)) (was events) n r (was queue) (is queue)
+        (was records) (is records) (was runs) (is runs) ⌝ }
 {
     let mut violated = [0u64; 256];
     let mut unknowns = [0u32; 2000];
@@ -228,7 +238,8 @@ pub fn check_whole(
 
 // The check of a model file, with lent areas of any size.
 pub fn check(file: &[u8], queue: &mut [u32], records: &mut [u32], runs: &mut [u32]) -> CheckResult
-    ensures { λ r. ⌜ Checks (was file) r (lent (was queue) (was records) (was runs)) (lent (is queue) (is records) (is runs)) ⌝ }
+    ensures { λ r. ⌜ Checks (was file) r (lent (was queue) (was records) (was runs))
+        (lent (is queue) (is records) (is runs)) ⌝ }
 {
     let mut reasons = [0u32; 1500];
     let mut violated = [0u64; 256];

@@ -130,7 +130,8 @@ module _ (f : List ℕ) where
       unfolding namesM listM
       guard-has h =
           rw (not-never, h)
-          (each-keeps (two f (later at 7)) (later (later at 7) 2) (withM (two f (at + 3)) (replicate 64 false)) (two f (at + 3))
+          (each-keeps (two f (later at 7)) (later (later at 7) 2) (withM (two f (at + 3)) (replicate 64 false))
+          (two f (at + 3))
           (with-has (replicate 64 false) (two f (at + 3)) none-yet))
 
       module _ (not-guard : eqb (getD f at 0) 1 ≡ false) where
@@ -203,12 +204,14 @@ module _ (x : List ℕ) (l : List Bool) where
   agree-over c vs NoChange h g = g
   agree-over c vs (Write e b v) h g = by (case (ltb (entityOf x e) 32))
     where
-      by : Case (ltb (entityOf x e) 32) → Agree x l ((if ltb (entityOf x e) 32 then storedM c (entityOf x e) v else c) .values) vs
+      by : Case (ltb (entityOf x e) 32) →
+          Agree x l ((if ltb (entityOf x e) 32 then storedM c (entityOf x e) v else c) .values) vs
       by (is-false z) = rw z g
       by (is-true z) = rw z (record {
         long = length-set (c .values) (entityOf x e) v ∙ g .long;
         same = λ id k.
-            getD-set-other (c .values) (entityOf x e) (entityOf x id) v 0 (elsewhere e id h k (ltb-true _ _ z)) ∙ g .same id k;
+            getD-set-other (c .values) (entityOf x e) (entityOf x id) v 0 (elsewhere e id h k (ltb-true _ _ z))
+            ∙ g .same id k;
       })
 
   set-alike : (vs ws : List ℕ) (i j v : ℕ) → length vs ≡ length ws → getD vs j 0 ≡ getD ws j 0

@@ -41,7 +41,18 @@ use Rattle.checker_response.specs.Response.{
   memoryM,
   respondedM,
 }
-use Rattle.checker_judge.specs.Judging.{unsureM, neverM, writesM, aboutM, guardM, passesM, transitionM, goal-at, seenM, readM}
+use Rattle.checker_judge.specs.Judging.{
+  unsureM,
+  neverM,
+  writesM,
+  aboutM,
+  guardM,
+  passesM,
+  transitionM,
+  goal-at,
+  seenM,
+  readM,
+}
 use Rattle.checker_judge.specs.Names.{hasM, named-in, touchesM, pendingM}
 use Rattle.checker_judge.specs.Turns.{Agree, nothing-new, Fresh}
 use Rattle.checker_judge.proofs.Named.{
@@ -89,7 +100,8 @@ module _ (s : Seen) (now : ℕ) (end : Bool) (m : Memory) (idle : m .wait ≡ No
   unfolding waitsM begunM keptM overdueM startedM
   none-begun = rw (idle, held) (by (yesM (s .goal)) (yesM (s .cause)))
     where
-      by : (goal cause : Bool) → (if goal then NoWait else if cause then NoWait else if cause then Until (now + s .within) else NoWait)
+      by : (goal cause : Bool) → (if goal then NoWait else if cause then NoWait else if cause then Until (now + s .within)
+          else NoWait)
           ≡ NoWait
       by true cause = refl
       by false true = refl
@@ -99,7 +111,8 @@ module _ (s : Seen) (now : ℕ) (end : Bool) (m : Memory) (idle : m .wait ≡ No
   unfolding failureM or-elseM at-endM missedM failedM
   none-failed = rw idle (by end)
     where
-      by : (b : Bool) → (if failedM (if b then NoFailure else NoFailure) then (if b then NoFailure else NoFailure) else NoFailure)
+      by : (b : Bool) → (if failedM (if b then NoFailure else NoFailure) then (if b then NoFailure else NoFailure)
+          else NoFailure)
           ≡ NoFailure
       by true = refl
       by false = refl
@@ -179,7 +192,13 @@ module _ (f x : List ℕ) (at : ℕ) where
       by (guard a b) =
           rw (a, b, not-written (guard-has f at a b) (r .change) h, not-written (guard-has f at a b) NoChange refl)
       by (transition a b c) =
-          rw (a, b, c, not-passed (transition-has f at a b c) (r .change) h, not-passed (transition-has f at a b c) NoChange refl)
+          rw (
+            a,
+            b,
+            c,
+            not-passed (transition-has f at a b c) (r .change) h,
+            not-passed (transition-has f at a b c) NoChange refl,
+          )
       by (response a b c) = rw (a, b, c)
 
   -- a never that didn't fail, read once more
@@ -189,7 +208,11 @@ module _ (f x : List ℕ) (at : ℕ) where
   never-again ps m = by (allM f x ps 0 (later at 3) .truth)
     where
       by : (t : Truth) → failedM (failsM (yesM t) ProhibitedState) ≡ false
-          → _≡_ {A = Shown} (record { failure = failsM (yesM t) ProhibitedState; memory = unsureM (unknownM t) (unsureM (unknownM t) m) })
+          → _≡_ {A = Shown} (record {
+            failure = failsM (yesM t) ProhibitedState;
+            memory =
+                unsureM (unknownM t) (unsureM (unknownM t) m);
+          })
           (nothing-new (unsureM (unknownM t) m))
       by Yes h = absurd (false≢true (sym h))
       by No h = rw (or-again (m .unknown) false)
@@ -228,4 +251,5 @@ module _ (f x : List ℕ) (at : ℕ) where
       by (guard a b) idle q same = rw (a, b) (unfold guardM aboutM writesM in (rw (same, and-none (eqb (q .kind) 2))))
       by (transition a b c) idle q same = rw (a, b, c) (unfold transitionM passesM failsM in (rw same))
       by (response a b c) idle q same =
-          rw (a, b, c) (response-again bs ps (r .second) (q .second) (eqb (r .kind) 9) (eqb (q .kind) 9) m (rw (a, b, c) at idle))
+          rw (a, b, c) (response-again bs ps (r .second) (q .second) (eqb (r .kind) 9) (eqb (q .kind) 9) m
+          (rw (a, b, c) at idle))

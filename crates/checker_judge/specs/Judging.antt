@@ -17,7 +17,12 @@ use Rattle.engine_state.specs.Machine.{later, storedM}
 use Rattle.engine_state.specs.declared.Cells.{Cells}
 use Rattle.engine_evaluate.specs.Evaluate.{evaluateM, sizeM, allM}
 use Rattle.engine_evaluate.specs.declared.Truth.{Truth}
-use Rattle.checker_response.specs.declared.Failure.the-variants.{NoFailure, ProhibitedState, GuardViolated, ForbiddenTransition}
+use Rattle.checker_response.specs.declared.Failure.the-variants.{
+  NoFailure,
+  ProhibitedState,
+  GuardViolated,
+  ForbiddenTransition,
+}
 use Rattle.checker_response.specs.declared.Wait.the-variants.{NoWait}
 use Rattle.checker_response.specs.declared.Memory.{Memory}
 use Rattle.checker_response.specs.declared.Shown.{Shown}

@@ -31,7 +31,24 @@ ghost use Prim.Native.Nat.{_*_, _+_, _≤_};
 ghost use lib.ListN.{length};
 ghost use Rattle.engine_evaluate.specs.Evaluate.{sizeM};
 ghost use Rattle.engine_state.specs.Machine.{later};
-ghost use Rattle.checker_judge.specs.Judging.{nothingM, unsureM, entityM, valueM, setM, neverM, writesM, aboutM, guardedM, guardM, passesM, transitionM, seenM, readM, unfailedM, Judges};
+ghost use Rattle.checker_judge.specs.Judging.{
+  nothingM,
+  unsureM,
+  entityM,
+  valueM,
+  setM,
+  neverM,
+  writesM,
+  aboutM,
+  guardedM,
+  guardM,
+  passesM,
+  transitionM,
+  seenM,
+  readM,
+  unfailedM,
+  Judges,
+};
 ghost use Rattle.checker_judge.specs.Names.{withM, predicateM, listM, namesM, touchesM, pendingM, Quiet, Skips};
 ghost use Rattle.checker_judge.specs.Turns.{Turned};
 

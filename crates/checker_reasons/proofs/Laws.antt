@@ -59,7 +59,8 @@ module _ (f : List ℕ) (t : Told) where
         let g : length (insertT (render f s) (insertT (render f r) l)) * 5 ≤ w = rw (two-is l) at h in
         omega (arith, length-insert (render f s) (insertT (render f r) l))
 
-    module _ (n : ℕ) (a : List ℕ) {k : ℕ} {b : List ℕ} (first : Grows f (Readable f r) (insertT (render f r) (listed f n a)) n a k b) where
+    module _ (n : ℕ) (a : List ℕ) {k : ℕ} {b : List ℕ}
+        (first : Grows f (Readable f r) (insertT (render f r) (listed f n a)) n a k b) where
       pub two-then : (w : ℕ) → length (insertAll (renderings f t) (listed f n a)) * 5 ≤ w → length b ≡ w →
           length (insertT (render f s) (listed f k b)) * 5 ≤ length b
       two-then w h g = rw (first .texts, ← two-is (listed f n a), g) h
@@ -69,7 +70,8 @@ module _ (f : List ℕ) (t : Told) where
       two-told h = record {
         many = rw (two-is (listed f n a), ← first .texts) (h .many);
         texts = rw (two-is (listed f n a), ← first .texts) (h .texts);
-        clean = λ y c. let z = subst (λ (z : Told). AllReadable f (list-of z)) e y in h .clean (z .1 .0) (first .clean (z .0) c);
+        clean = λ y c. let z = subst (λ (z : Told). AllReadable f (list-of z)) e y in
+            h .clean (z .1 .0) (first .clean (z .0) c);
       }
 
 -- ---- each reason about an invariant can be read
@@ -106,7 +108,8 @@ module _ (f : List ℕ) (h : HasText f) (at : ℕ) where
       by false true c = if-readable (m .unknown) _ (about-readable (record { known = omega arith; is = refl }))
       by false false true = tt
       by false false false =
-          temporal-readable m _ _ (about-readable (record { known = omega arith; is = refl })) (about-readable (record { known = omega arith; is = refl }))
+          temporal-readable m _ _ (about-readable (record { known = omega arith; is = refl }))
+          (about-readable (record { known = omega arith; is = refl }))
 
   pub incomplete-readable : (m : Memory) → AllReadable f (list-of (incompleteM f at m))
   unfolding incompleteM

@@ -30,7 +30,8 @@ unfoldable pub ifM : Bool → Reason → Told
 ifM b r = if b then One r else Nothing
 
 unfoldable pub temporalM : Memory → (late predicate : Reason) → Told
-temporalM m late predicate = if m .unclear then (if m .unknown then Two late predicate else One late) else ifM (m .unknown) predicate
+temporalM m late predicate = if m .unclear then (if m .unknown then Two late predicate else One late)
+    else ifM (m .unknown) predicate
 
 -- state predicate, action guard; response at deadline and temporal predicate
 unfoldable pub unknownM : List ℕ → (at : ℕ) → Memory → Told

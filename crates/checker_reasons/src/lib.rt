@@ -85,7 +85,8 @@ pub fn incomplete_reasons(f: &[u8], at: usize, m: Memory) -> Told
 // The reasons among the first n of an area, which ascend as rendered; the answer is how many there are then.
 pub fn insert_told(f: &[u8], a: &mut [u32], n: usize, t: Told) -> usize
     requires { ⌜ length (insertAll (renderings (now f) t) (listed (now f) n (now a))) * 5 ≤ length (now a) ⌝ }
-    ensures { λ k. ⌜ Grows (was f) (AllReadable (was f) (list-of t)) (insertAll (renderings (was f) t) (listed (was f) n (was a))) n (was a) k (is a) ⌝ }
+    ensures { λ k. ⌜ Grows (was f) (AllReadable (was f) (list-of t))
+        (insertAll (renderings (was f) t) (listed (was f) n (was a))) n (was a) k (is a) ⌝ }
 {
     match t {
         Told::Nothing => n,

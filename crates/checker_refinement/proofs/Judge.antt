@@ -31,7 +31,13 @@ use Rattle.checker_spec.specs.Judge as judge
 use Rattle.checker_response.specs.Response.{failedM}
 use Rattle.checker_judge.specs.Judging.{nothingM, putM, afterM, readM, turnedM, turnM, readingM, judgeM}
 use Rattle.checker_response.specs.declared.Failure.{Failure}
-use Rattle.checker_response.specs.declared.Failure.the-variants.{NoFailure, ProhibitedState, GuardViolated, ForbiddenTransition, DeadlineMissed}
+use Rattle.checker_response.specs.declared.Failure.the-variants.{
+  NoFailure,
+  ProhibitedState,
+  GuardViolated,
+  ForbiddenTransition,
+  DeadlineMissed,
+}
 use Rattle.checker_response.specs.declared.Memory.{Memory}
 use Rattle.checker_response.specs.declared.Shown.{Shown}
 use Rattle.checker_judge.specs.declared.Reading.{Reading}
@@ -70,10 +76,15 @@ module _ (f x : List ℕ) (ts : List Text) (mo : Model) (tb : Tabled f x ts mo) 
   unfolding putM
   put-after c ns cs g e v h i = cases (cell-is f x ts mo tb (c .values) ns e h)
     where
-      cases : Sought f x ts mo tb e (c .values) ns (entityOf x e) (cells-of x ts (c .values) ns) → After (putM x c e v) (put (T e) (T v) 0 cs)
+      cases : Sought f x ts mo tb e (c .values) ns (entityOf x e) (cells-of x ts (c .values) ns) →
+          After (putM x c e v) (put (T e) (T v) 0 cs)
       cases (here j k o n d) =
           rw (o, lt-ltb j 32 (omega (arith, tb .few-entities)), ← n)
-          (record { versions = set ns j (getD ns j 0 + 0); are = stored-is f x ts mo tb (c .values) ns cs g j v 0 (getD ns j 0 + 0) k i refl })
+          (record {
+            versions = set ns j (getD ns j 0 + 0);
+            are =
+                stored-is f x ts mo tb (c .values) ns cs g j v 0 (getD ns j 0 + 0) k i refl;
+          })
       cases (nowhere o d) =
           rw (o, put-nowhere (T e) (T v) 0 cs (ap (cell-of (T e)) (g .is) ∙ d)) (record { versions = ns; are = g })
 
@@ -82,7 +93,8 @@ module _ (f x : List ℕ) (ts : List Text) (mo : Model) (tb : Tabled f x ts mo) 
   unfolding after record-of afterM
   after-is c ns cs g r p = cases (r .change) p
     where
-      cases : (d : Change) → Placed ts d → After (afterM x d c) (elim (change-of x ts d) [ none ↦ cs | some w ↦ put (w .entity) (w .after) 0 cs ])
+      cases : (d : Change) → Placed ts d → After (afterM x d c)
+          (elim (change-of x ts d) [ none ↦ cs | some w ↦ put (w .entity) (w .after) 0 cs ])
       cases NoChange p = record { versions = ns; are = g }
       cases (Write e b v) p = put-after c ns cs g e v (p .0) (p .1 .1)
 
@@ -102,13 +114,26 @@ module _ (f x : List ℕ) (ts : List Text) (mo : Model) (tb : Tabled f x ts mo) 
     step : (s : Shown) →
         reading-of (readingM f x at c (s .memory) (k + 1) l)
         ≡ reading i (k + 1) cs (memory-of (s .memory)) (each (record-of x ts) l) →
-        reading-of (elim (failedM (s .failure)) [ true ↦ turnedM k r c s .reading | false ↦ readingM f x at c (s .memory) (k + 1) l ])
+        reading-of (elim (failedM (s .failure)) [
+          | true ↦ turnedM k r c s .reading
+          | false ↦
+              readingM f x at c (s .memory) (k + 1) l
+        ])
         ≡ told (shown-of s)
     unfolding reading-of failing-of failedM shown-of
     step s ih = cases (s .failure)
       where
         cases : (y : Failure) →
-            reading-of (elim (failedM y) [ true ↦ record { failure = y; index = k; second = r .second; source = r .source; memory = s .memory } | false ↦ readingM f x at c (s .memory) (k + 1) l ])
+            reading-of (elim (failedM y) [
+              | true ↦ record {
+                failure = y;
+                index = k;
+                second = r .second;
+                source = r .source;
+                memory = s .memory;
+              }
+              | false ↦ readingM f x at c (s .memory) (k + 1) l
+            ])
             ≡ told (record { failure = failure-of y; memory = memory-of (s .memory) })
         cases NoFailure = ih
         cases ProhibitedState = refl
@@ -126,13 +151,18 @@ module _ (f x : List ℕ) (ts : List Text) (mo : Model) (tb : Tabled f x ts mo) 
         let d = afterM x (r .change) c in
         let a = after-is c ns cs g r (h .0) in
         let s = readM f x at (c .values) (d .values) r m in
-        let e : shown-of s ≡ read i cs (after (record-of x ts r) cs) (record-of x ts r) (memory-of m) = read-is f x ts mo tb at (c .values) ns (d .values) (a .versions) (g .valued) (a .are .valued) r (h .0) m i q stands w ∙ ap (λ (z : List Cell). read i z (cells-of x ts (d .values) (a .versions)) (record-of x ts r) (memory-of m)) (sym (g .is)) ∙ ap (λ (z : List Cell). read i cs z (record-of x ts r) (memory-of m)) (sym (a .are .is)) in
+        let e : shown-of s ≡ read i cs (after (record-of x ts r) cs) (record-of x ts r) (memory-of m) =
+        read-is f x ts mo tb at (c .values) ns (d .values) (a .versions) (g .valued) (a .are .valued) r (h .0)
+        m i q stands w
+        ∙ ap (λ (z : List Cell). read i z (cells-of x ts (d .values) (a .versions)) (record-of x ts r) (memory-of m))
+        (sym (g .is)) ∙ ap (λ (z : List Cell). read i cs z (record-of x ts r) (memory-of m)) (sym (a .are .is)) in
         step at k r d i (after (record-of x ts r) cs) l s
         (reading-is l (h .1) (k + 1) d (s .memory) (a .versions) (after (record-of x ts r) cs) (a .are))
         ∙ ap (told at k r d i (after (record-of x ts r) cs) l) e
 
   -- the invariant at a position, over records whose places are those of texts, from values that are places of texts
-  pub judge-is : (at : ℕ) (i : Invariant) → Reads (invariant ts) f at i → windowless-invariant i ≡ true → (c : Cells) (ns : List ℕ) →
+  pub judge-is : (at : ℕ) (i : Invariant) → Reads (invariant ts) f at i → windowless-invariant i ≡ true →
+      (c : Cells) (ns : List ℕ) →
       Valued f x ts mo tb (c .values) → length ns ≡ 32 → (l : List Record) → Traced ts l →
       reading-of (judgeM f x at c l) ≡ read-all i (cells-of x ts (c .values) ns) (each (record-of x ts) l)
   unfolding judgeM read-all memory-of invariant kinds
@@ -140,4 +170,5 @@ module _ (f x : List ℕ) (ts : List Text) (mo : Model) (tb : Tabled f x ts mo) 
       let b = bound u8 _ e in
       let v = u8-wide f at (b .first) in
       rw (cap-is at (omega (arith, tb .size)))
-      (reading-is at i q e w l h 0 c nothingM ns (cells-of x ts (c .values) ns) (record { is = refl; valued = ok; long = long }))
+      (reading-is at i q e w l h 0 c nothingM ns (cells-of x ts (c .values) ns)
+      (record { is = refl; valued = ok; long = long }))

@@ -64,15 +64,18 @@ module _ (f x : List ℕ) (ts : List Text) (mo : Model) (tb : Tabled f x ts mo) 
     unfolding words
     guard-reason = about-is at kinds.action-guard (text ": unknown action guard") h refl refl
 
-    late-reason : render f (aboutM f at kinds.response-at-deadline) ≡ T (two f (at + 1)) ++ text ": unknown response at deadline"
+    late-reason : render f (aboutM f at kinds.response-at-deadline)
+        ≡ T (two f (at + 1)) ++ text ": unknown response at deadline"
     unfolding words
     late-reason = about-is at kinds.response-at-deadline (text ": unknown response at deadline") h refl refl
 
-    temporal-reason : render f (aboutM f at kinds.temporal-predicate) ≡ T (two f (at + 1)) ++ text ": unknown temporal predicate"
+    temporal-reason : render f (aboutM f at kinds.temporal-predicate)
+        ≡ T (two f (at + 1)) ++ text ": unknown temporal predicate"
     unfolding words
     temporal-reason = about-is at kinds.temporal-predicate (text ": unknown temporal predicate") h refl refl
 
-    horizon-reason : render f (aboutM f at kinds.beyond-horizon) ≡ T (two f (at + 1)) ++ text ": response deadline beyond horizon"
+    horizon-reason : render f (aboutM f at kinds.beyond-horizon)
+        ≡ T (two f (at + 1)) ++ text ": response deadline beyond horizon"
     unfolding words
     horizon-reason = about-is at kinds.beyond-horizon (text ": response deadline beyond horizon") h refl refl
 

@@ -13,7 +13,19 @@ use Rattle.model_spec.specs.Model.{Moment, Predicate, Invariant, never, guard, 
 use Rattle.model_spec.specs.Windows.{no-window, windowless-invariant}
 use Rattle.model_spec.specs.File.{_>>=_ as _>>=ᵣ_}
 use Rattle.model_spec.specs.File.{got, Reader, give, refuse, u32, counted, place, predicate, invariant}
-use Rattle.model_walk.proofs.Found.{Case, is-true, is-false, case, bound, given, u8-wide, u16-wide, Kind as KindAt, kind-found, place-found}
+use Rattle.model_walk.proofs.Found.{
+  Case,
+  is-true,
+  is-false,
+  case,
+  bound,
+  given,
+  u8-wide,
+  u16-wide,
+  Kind as KindAt,
+  kind-found,
+  place-found,
+}
 use Rattle.model_walk.proofs.Found as found
 use Rattle.records.specs.declared.Change.{Change}
 use Rattle.records.specs.declared.Change.the-variants.{NoChange, Write}
@@ -31,11 +43,39 @@ use Rattle.engine_evaluate.specs.declared.Truth.{Truth}
 use Rattle.engine_refinement.specs.Meaning.{Placed, truth-of, cells-of, kind-of, change-of, record-of, Tabled}
 use Rattle.engine_refinement.proofs.Numbers.{byte-is, two-is, four-is, later-is}
 use Rattle.engine_refinement.proofs.Evaluate.{Valued, evaluate-is, all-is}
-use Rattle.checker_spec.specs.Judge.{stated, stated-all, is-action, is-horizon, writes, passes, fails-if, read-response, read}
+use Rattle.checker_spec.specs.Judge.{
+  stated,
+  stated-all,
+  is-action,
+  is-horizon,
+  writes,
+  passes,
+  fails-if,
+  read-response,
+  read,
+}
 use Rattle.checker_spec.specs.Judge as judge
 use Rattle.checker_response.specs.Response.{yesM, noM, unknownM, failsM, respondedM}
-use Rattle.checker_judge.specs.Judging.{unsureM, neverM, writesM, aboutM, guardedM, guardM, passesM, transitionM, goal-at, within-at, seenM, readM}
-use Rattle.checker_response.specs.declared.Failure.the-variants.{NoFailure, ProhibitedState, GuardViolated, ForbiddenTransition}
+use Rattle.checker_judge.specs.Judging.{
+  unsureM,
+  neverM,
+  writesM,
+  aboutM,
+  guardedM,
+  guardM,
+  passesM,
+  transitionM,
+  goal-at,
+  within-at,
+  seenM,
+  readM,
+}
+use Rattle.checker_response.specs.declared.Failure.the-variants.{
+  NoFailure,
+  ProhibitedState,
+  GuardViolated,
+  ForbiddenTransition,
+}
 use Rattle.checker_response.specs.declared.Memory.{Memory}
 use Rattle.checker_refinement.specs.Meaning.{memory-of, shown-of}
 use Rattle.checker_refinement.proofs.Response.{yes-is, no-is, unknown-is, fails-is, told, responded-is}
@@ -59,7 +99,11 @@ or-false false = refl
 
 guard-is : (about : Bool) (t : Truth) (v : kleene.Truth) (m : Memory) → truth-of t ≡ v →
     shown-of (if about then guardedM t m else record { failure = NoFailure; memory = m })
-    ≡ record { failure = fails-if (about && is-no v) judge.guard-violated; memory = judge.unsure (about && is-unknown v) (memory-of m) }
+    ≡ record {
+      failure = fails-if (about && is-no v) judge.guard-violated;
+      memory =
+          judge.unsure (about && is-unknown v) (memory-of m);
+    }
 unfolding shown-of memory-of unsureM guardedM fails-if
 guard-is true t v m e =
     rw (← e, ← no-is t, ← unknown-is t, fails-is (noM t) GuardViolated judge.guard-violated refl)
@@ -94,10 +138,17 @@ module _ (x : List ℕ) (ts : List Text) where
   named : (k d : ℕ) → Named (kind-of x ts k d) k
   unfolding kind-of all-records all-texts
   named k d =
-      pick k 0 _ _ (record { action = refl; horizon = refl }) λ _. pick k 1 _ _ (record { action = refl; horizon = refl }) λ _. pick k 2 _ _ (record { action = refl; horizon = refl }) λ two. pick k 3 _ _ (record { action = refl; horizon = refl }) λ _. pick k 4 _ _ (record { action = refl; horizon = refl }) λ _.
-      pick k 5 _ _ (record { action = refl; horizon = refl }) λ _. pick k 6 _ _ (record { action = refl; horizon = refl }) λ _. pick k 7 _ _ (record { action = refl; horizon = refl }) λ _. pick k 8 _ _ (record { action = refl; horizon = refl }) λ _. pick k 9 _ _ (record { action = refl; horizon = refl }) λ nine.
-      pick k 10 _ _ (record { action = refl; horizon = refl }) λ _. pick k 11 _ _ (record { action = refl; horizon = refl }) λ _. pick k 12 _ _ (record { action = refl; horizon = refl }) λ _. pick k 13 _ _ (record { action = refl; horizon = refl }) λ _. pick k 14 _ _ (record { action = refl; horizon = refl }) λ _.
-      pick k 15 _ _ (record { action = refl; horizon = refl }) λ _. pick k 16 _ _ (record { action = refl; horizon = refl }) λ _. pick k 17 _ _ (record { action = refl; horizon = refl }) λ _. record { action = sym two; horizon = sym nine }
+      pick k 0 _ _ (record { action = refl; horizon = refl }) λ _. pick k 1 _ _ (record { action = refl; horizon = refl })
+      λ _. pick k 2 _ _ (record { action = refl; horizon = refl }) λ two. pick k 3 _ _
+      (record { action = refl; horizon = refl }) λ _. pick k 4 _ _ (record { action = refl; horizon = refl }) λ _.
+      pick k 5 _ _ (record { action = refl; horizon = refl }) λ _. pick k 6 _ _ (record { action = refl; horizon = refl })
+      λ _. pick k 7 _ _ (record { action = refl; horizon = refl }) λ _. pick k 8 _ _
+      (record { action = refl; horizon = refl }) λ _. pick k 9 _ _ (record { action = refl; horizon = refl }) λ nine.
+      pick k 10 _ _ (record { action = refl; horizon = refl }) λ _. pick k 11 _ _ (record { action = refl; horizon = refl })
+      λ _. pick k 12 _ _ (record { action = refl; horizon = refl }) λ _. pick k 13 _ _
+      (record { action = refl; horizon = refl }) λ _. pick k 14 _ _ (record { action = refl; horizon = refl }) λ _.
+      pick k 15 _ _ (record { action = refl; horizon = refl }) λ _. pick k 16 _ _ (record { action = refl; horizon = refl })
+      λ _. pick k 17 _ _ (record { action = refl; horizon = refl }) λ _. record { action = sym two; horizon = sym nine }
 
   action-is : (r : Record) → is-action (record-of x ts r) ≡ eqb (r .kind) 2
   unfolding is-action record-of
@@ -146,7 +197,8 @@ module _ (f x : List ℕ) (ts : List Text) (mo : Model) (tb : Tabled f x ts mo) 
       rs : List (Reader Invariant)
       rs =
           (place ts >>=ᵣ λ id. counted (predicate ts) >>=ᵣ λ ps. give (never id ps))
-          ∷ (place ts >>=ᵣ λ id. place ts >>=ᵣ λ e. place ts >>=ᵣ λ v. counted (predicate ts) >>=ᵣ λ ps. give (guard id e v ps))
+          ∷ (place ts >>=ᵣ λ id. place ts >>=ᵣ λ e. place ts >>=ᵣ λ v. counted (predicate ts) >>=ᵣ λ ps. give
+          (guard id e v ps))
           ∷ (place ts >>=ᵣ λ id. place ts >>=ᵣ λ e. place ts >>=ᵣ λ v. place ts >>=ᵣ λ w. give (transition id e v w))
           ∷ (place ts >>=ᵣ λ id. predicate ts >>=ᵣ λ p. predicate ts >>=ᵣ λ q. u32 >>=ᵣ λ n. give (response id p q n))
           ∷ []
@@ -168,7 +220,8 @@ module _ (f x : List ℕ) (ts : List Text) (mo : Model) (tb : Tabled f x ts mo) 
           let t = text-at (at + 1) start (d .first) in
           let y : d .next ≡ at + 3 = omega arith in
           subst (Parts at) (ap (λ (u : Text). never u (ps .value)) (sym (t .is)) ∙ g .0)
-          (of-never (ps .value) (ps .next) (kind 0 z) (t .place-in) (omega arith) (ap (counted (predicate ts) f) (sym y) ∙ ps .first))
+          (of-never (ps .value) (ps .next) (kind 0 z) (t .place-in) (omega arith)
+          (ap (counted (predicate ts) f) (sym y) ∙ ps .first))
       cases (suc zero) z h =
           let d = bound (place ts) _ h in
           let e = bound (place ts) _ (d .rest) in
@@ -180,7 +233,8 @@ module _ (f x : List ℕ) (ts : List Text) (mo : Model) (tb : Tabled f x ts mo) 
           let t₂ = text-at (at + 5) (omega arith) (v .first) in
           let y : v .next ≡ at + 7 = omega arith in
           subst (Parts at) (sym (same-guard (ps .value) (t .is) (t₁ .is) (t₂ .is)) ∙ g .0)
-          (of-guard (ps .value) (ps .next) (kind 1 z) (t .place-in) (omega arith) (t₁ .place-in) (t₂ .place-in) (ap (counted (predicate ts) f) (sym y) ∙ ps .first))
+          (of-guard (ps .value) (ps .next) (kind 1 z) (t .place-in) (omega arith) (t₁ .place-in) (t₂ .place-in)
+          (ap (counted (predicate ts) f) (sym y) ∙ ps .first))
       cases (suc (suc zero)) z h =
           let d = bound (place ts) _ h in
           let e = bound (place ts) _ (d .rest) in
@@ -220,19 +274,24 @@ module _ (f x : List ℕ) (ts : List Text) (mo : Model) (tb : Tabled f x ts mo) 
   unfolding passesM present-and passes
   passes-is at NoChange h i j k = refl
   passes-is at (Write y u z) h i j k =
-      rw
-      (tb .same y (two f (at + 3)) (h .0) i, tb .same u (two f (at + 5)) (h .1 .0) j, tb .same z (two f (at + 7)) (h .1 .1) k)
+      rw (
+        tb .same y (two f (at + 3)) (h .0) i,
+        tb .same u (two f (at + 5)) (h .1 .0) j,
+        tb .same z (two f (at + 7)) (h .1 .1) k,
+      )
 
   about-is : (at : ℕ) (r : Record) → Placed ts (r .change) → two f (at + 3) < length ts → two f (at + 5) < length ts →
       aboutM f at r
-      ≡ (is-action (record-of x ts r) && present-and (writes (T (two f (at + 3))) (T (two f (at + 5)))) (record-of x ts r .change))
+      ≡ (is-action (record-of x ts r) && present-and (writes (T (two f (at + 3))) (T (two f (at + 5))))
+      (record-of x ts r .change))
   unfolding aboutM record-of
   about-is at r h i j =
       ap (λ (z : Bool). z && writesM f at (r .change)) (sym (action-is x ts r))
       ∙ ap (λ (z : Bool). is-action (record-of x ts r) && z) (writes-is at (r .change) h i j)
 
   -- ---- the record: values before it and after it
-  module _ (at : ℕ) (vs ns ws os : List ℕ) (ok : Valued f x ts mo tb vs) (good : Valued f x ts mo tb ws) (r : Record) (placed : Placed ts (r .change)) (m : Memory) where
+  module _ (at : ℕ) (vs ns ws os : List ℕ) (ok : Valued f x ts mo tb vs) (good : Valued f x ts mo tb ws) (r : Record)
+      (placed : Placed ts (r .change)) (m : Memory) where
     abbrev before : List Cell
     before = cells-of x ts vs ns
 
@@ -247,7 +306,8 @@ module _ (f x : List ℕ) (ts : List Text) (mo : Model) (tb : Tabled f x ts mo) 
     Is i = shown-of (readM f x at vs ws r m) ≡ read i before present (record-of x ts r) (memory-of m)
 
     -- where a response's parts stand, and what its predicates say
-    module _ (p q : Predicate) (n b c : ℕ) (inside : at + 3 ≤ length f) (is-p : predicate ts f (at + 3) ≡ got p b) (is-q : predicate ts f b ≡ got q c) (is-n : four f c ≡ n) (w : (no-window p ≡ true) × (no-window q ≡ true)) where
+    module _ (p q : Predicate) (n b c : ℕ) (inside : at + 3 ≤ length f) (is-p : predicate ts f (at + 3) ≡ got p b)
+        (is-q : predicate ts f b ≡ got q c) (is-n : four f c ≡ n) (w : (no-window p ≡ true) × (no-window q ≡ true)) where
       three : later at 3 ≡ at + 3
       three = later-is at 3 (omega (arith, tb .size))
 
@@ -265,7 +325,8 @@ module _ (f x : List ℕ) (ts : List Text) (mo : Model) (tb : Tabled f x ts mo) 
 
       cause : truth-of (seenM f x at vs ws .cause) ≡ stated p present
       unfolding seenM
-      cause = ap (λ (y : ℕ). truth-of (evaluateM f x ws 0 y)) three ∙ evaluate-is f x ts mo tb ws os good 0 (at + 3) p b is-p .is
+      cause = ap (λ (y : ℕ). truth-of (evaluateM f x ws 0 y)) three
+          ∙ evaluate-is f x ts mo tb ws os good 0 (at + 3) p b is-p .is
           ∙ same-truth at-first midnight present p (w .0)
 
       goal : truth-of (seenM f x at vs ws .goal) ≡ stated q present
@@ -282,26 +343,34 @@ module _ (f x : List ℕ) (ts : List Text) (mo : Model) (tb : Tabled f x ts mo) 
       unfolding seenM
       within = ap (four f) within-is ∙ is-n
 
-      response-is : (id : Text) → shown-of (respondedM (seenM f x at vs ws) (r .second) (eqb (r .kind) 9) m) ≡ read (response id p q n) before present (record-of x ts r) (memory-of m)
+      response-is : (id : Text) → shown-of (respondedM (seenM f x at vs ws) (r .second) (eqb (r .kind) 9) m)
+          ≡ read (response id p q n) before present (record-of x ts r) (memory-of m)
       unfolding read read-response record-of
       response-is id =
           responded-is (seenM f x at vs ws) (r .second) (eqb (r .kind) 9) m
-          ∙ ap (λ (y : kleene.Truth). told y (truth-of (seenM f x at vs ws .goal)) (truth-of (seenM f x at vs ws .earlier)) (seenM f x at vs ws .within) (r .second) (eqb (r .kind) 9) (memory-of m)) cause
-          ∙ ap (λ (y : kleene.Truth). told (stated p present) y (truth-of (seenM f x at vs ws .earlier)) (seenM f x at vs ws .within) (r .second) (eqb (r .kind) 9) (memory-of m)) goal
-          ∙ ap (λ (y : kleene.Truth). told (stated p present) (stated q present) y (seenM f x at vs ws .within) (r .second) (eqb (r .kind) 9) (memory-of m)) earlier
-          ∙ ap (λ (y : ℕ). told (stated p present) (stated q present) (stated q before) y (r .second) (eqb (r .kind) 9) (memory-of m)) within
-          ∙ ap (λ (y : Bool). told (stated p present) (stated q present) (stated q before) n (r .second) y (memory-of m)) (sym (horizon-is x ts r))
+          ∙ ap (λ (y : kleene.Truth). told y (truth-of (seenM f x at vs ws .goal)) (truth-of (seenM f x at vs ws .earlier))
+          (seenM f x at vs ws .within) (r .second) (eqb (r .kind) 9) (memory-of m)) cause
+          ∙ ap (λ (y : kleene.Truth). told (stated p present) y (truth-of (seenM f x at vs ws .earlier))
+          (seenM f x at vs ws .within) (r .second) (eqb (r .kind) 9) (memory-of m)) goal
+          ∙ ap (λ (y : kleene.Truth). told (stated p present) (stated q present) y (seenM f x at vs ws .within) (r .second)
+          (eqb (r .kind) 9) (memory-of m)) earlier
+          ∙ ap (λ (y : ℕ). told (stated p present) (stated q present) (stated q before) y (r .second) (eqb (r .kind) 9)
+          (memory-of m)) within
+          ∙ ap (λ (y : Bool). told (stated p present) (stated q present) (stated q before) n (r .second) y (memory-of m))
+          (sym (horizon-is x ts r))
 
     by-parts : (i : Invariant) → windowless-invariant i ≡ true → Parts at i → Is i
     unfolding windowless-invariant readM read neverM guardM transitionM record-of
     by-parts i w (of-never ps q k d inside e) =
         let t = later-is at 3 (omega (arith, tb .size)) in
         rw (k, t)
-        (never-is (allM f x ws 0 (at + 3) .truth) (stated-all ps present) m (all-is f x ts mo tb ws os good 0 (at + 3) ps q e .is ∙ same-truths at-first midnight present ps w))
+        (never-is (allM f x ws 0 (at + 3) .truth) (stated-all ps present) m
+        (all-is f x ts mo tb ws os good 0 (at + 3) ps q e .is ∙ same-truths at-first midnight present ps w))
     by-parts i w (of-guard ps q k d inside h j e) =
         let t = later-is at 7 (omega (arith, tb .size)) in
         rw (k, t, ← about-is at r placed h j)
-        (guard-is (aboutM f at r) (allM f x vs 0 (at + 7) .truth) (stated-all ps before) m (all-is f x ts mo tb vs ns ok 0 (at + 7) ps q e .is ∙ same-truths at-first midnight before ps w))
+        (guard-is (aboutM f at r) (allM f x vs 0 (at + 7) .truth) (stated-all ps before) m
+        (all-is f x ts mo tb vs ns ok 0 (at + 7) ps q e .is ∙ same-truths at-first midnight before ps w))
     by-parts i w (of-transition k d inside h j o) =
         rw (k, ← passes-is at (r .change) placed h j o) (transition-is (passesM f at (r .change)) m)
     by-parts i w (of-response p q n b c k d inside e g h) =

@@ -13,9 +13,33 @@ use Rattle.engine_evaluate.specs.declared.Truth.the-variants.{Yes, No, Unknown}
 use Rattle.engine_refinement.specs.Meaning.{truth-of}
 use Rattle.checker_spec.specs.Judge.{fails-if, overdue, missed, waits-after, missed-at-end, beyond, or-else}
 use Rattle.checker_spec.specs.Judge as judge
-use Rattle.checker_response.specs.Response.{yesM, noM, unknownM, failsM, failedM, or-elseM, overdueM, missedM, keptM, startedM, begunM, waitsM, at-endM, beyondM, failureM, memoryM, respondedM}
+use Rattle.checker_response.specs.Response.{
+  yesM,
+  noM,
+  unknownM,
+  failsM,
+  failedM,
+  or-elseM,
+  overdueM,
+  missedM,
+  keptM,
+  startedM,
+  begunM,
+  waitsM,
+  at-endM,
+  beyondM,
+  failureM,
+  memoryM,
+  respondedM,
+}
 use Rattle.checker_response.specs.declared.Failure.{Failure}
-use Rattle.checker_response.specs.declared.Failure.the-variants.{NoFailure, ProhibitedState, GuardViolated, ForbiddenTransition, DeadlineMissed}
+use Rattle.checker_response.specs.declared.Failure.the-variants.{
+  NoFailure,
+  ProhibitedState,
+  GuardViolated,
+  ForbiddenTransition,
+  DeadlineMissed,
+}
 use Rattle.checker_response.specs.declared.Wait.{Wait}
 use Rattle.checker_response.specs.declared.Wait.the-variants.{NoWait, Until}
 use Rattle.checker_response.specs.declared.Memory.{Memory}
@@ -95,7 +119,8 @@ module _ (now within : ℕ) where
   abbrev begun : kleene.Truth → Bool → Option ℕ → Option ℕ
   begun t held k = if is-yes t && not held && absent k then some (now + within) else k
 
-  begun-is : (t : Truth) (held : Bool) (w : Wait) → wait-of (begunM now within t held w) ≡ begun (truth-of t) held (wait-of w)
+  begun-is : (t : Truth) (held : Bool) (w : Wait) →
+      wait-of (begunM now within t held w) ≡ begun (truth-of t) held (wait-of w)
   unfolding begunM yesM startedM is-yes absent
   begun-is Yes true w = refl
   begun-is Yes false NoWait = refl
@@ -110,13 +135,15 @@ waits-is : (now : ℕ) (s : Seen) (held : Bool) (w : Wait) →
 unfolding waitsM waits-after
 waits-is now s held w = cases (case (yesM (s .goal)))
   where
-    goes : wait-of (begunM now (s .within) (s .cause) held (keptM now w)) ≡ begun now (s .within) (truth-of (s .cause)) held (if overdue now (wait-of w) then none else wait-of w)
+    goes : wait-of (begunM now (s .within) (s .cause) held (keptM now w))
+        ≡ begun now (s .within) (truth-of (s .cause)) held (if overdue now (wait-of w) then none else wait-of w)
     goes =
         begun-is now (s .within) (s .cause) held (keptM now w)
         ∙ ap (begun now (s .within) (truth-of (s .cause)) held) (kept-is now w)
 
     cases : Case (yesM (s .goal)) →
-        wait-of (waitsM now s held w) ≡ waits-after now (s .within) (truth-of (s .cause)) (truth-of (s .goal)) held (wait-of w)
+        wait-of (waitsM now s held w) ≡ waits-after now (s .within) (truth-of (s .cause)) (truth-of (s .goal)) held
+        (wait-of w)
     cases (is-true b) = rw (← yes-is (s .goal), b)
     cases (is-false b) = rw (← yes-is (s .goal), b) goes
 
@@ -141,18 +168,30 @@ module _ (s : Seen) (now : ℕ) (end : Bool) (m : Memory) where
   new : Wait
   new = waitsM now s (m .held) (m .wait)
 
-  end-is : (b : Bool) → failure-of (if b then at-endM now (s .goal) new else NoFailure) ≡ (if b then missed-at-end now (truth-of (s .goal)) (wait-of new) else none)
+  end-is : (b : Bool) → failure-of (if b then at-endM now (s .goal) new else NoFailure)
+      ≡ (if b then missed-at-end now (truth-of (s .goal)) (wait-of new) else none)
   end-is true = at-end-is now (s .goal) new
   end-is false = refl
 
-  failure-is : failure-of (failureM s now end (m .wait) new) ≡ or-else (if end then missed-at-end now (truth-of (s .goal)) (wait-of new) else none) (missed now (truth-of (s .earlier)) (wait-of (m .wait)))
+  failure-is : failure-of (failureM s now end (m .wait) new)
+      ≡ or-else (if end then missed-at-end now (truth-of (s .goal)) (wait-of new) else none)
+      (missed now (truth-of (s .earlier)) (wait-of (m .wait)))
   unfolding failureM
   failure-is =
       or-else-is (if end then at-endM now (s .goal) new else NoFailure) (missedM now (s .earlier) (m .wait))
       ∙ rw (end-is end, missed-is now (s .earlier) (m .wait))
 
-  pub responded-is : shown-of (respondedM s now end m) ≡ told (truth-of (s .cause)) (truth-of (s .goal)) (truth-of (s .earlier)) (s .within) now end (memory-of m)
+  pub responded-is : shown-of (respondedM s now end m)
+      ≡ told (truth-of (s .cause)) (truth-of (s .goal)) (truth-of (s .earlier)) (s .within) now end (memory-of m)
   unfolding shown-of respondedM memoryM memory-of new
   responded-is =
-      rw
-      (← waits-is now s (m .held) (m .wait), ← failure-is, ← yes-is (s .cause), ← unknown-is (s .cause), ← unknown-is (s .goal), ← overdue-is now (m .wait), ← unknown-is (s .earlier), ← beyond-is now new)
+      rw (
+        ← waits-is now s (m .held) (m .wait),
+        ← failure-is,
+        ← yes-is (s .cause),
+        ← unknown-is (s .cause),
+        ← unknown-is (s .goal),
+        ← overdue-is now (m .wait),
+        ← unknown-is (s .earlier),
+        ← beyond-is now new,
+      )

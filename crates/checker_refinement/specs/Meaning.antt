@@ -3,7 +3,13 @@ use Prim.Native.Nat.{ℕ}
 use mathlib.Core.Option.{Option, none, some}
 use Rattle.checker_spec.specs.Judge as judge
 use Rattle.checker_response.specs.declared.Failure.{Failure}
-use Rattle.checker_response.specs.declared.Failure.the-variants.{NoFailure, ProhibitedState, GuardViolated, ForbiddenTransition, DeadlineMissed}
+use Rattle.checker_response.specs.declared.Failure.the-variants.{
+  NoFailure,
+  ProhibitedState,
+  GuardViolated,
+  ForbiddenTransition,
+  DeadlineMissed,
+}
 use Rattle.checker_response.specs.declared.Wait.{Wait}
 use Rattle.checker_response.specs.declared.Wait.the-variants.{NoWait, Until}
 use Rattle.checker_response.specs.declared.Memory.{Memory}

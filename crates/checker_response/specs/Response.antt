@@ -7,7 +7,13 @@ use Rattle.texts.specs.Lists.{if_then_else_}
 use Rattle.engine_evaluate.specs.declared.Truth.{Truth}
 use Rattle.engine_evaluate.specs.declared.Truth.the-variants.{Yes, No, Unknown}
 use Rattle.checker_response.specs.declared.Failure.{Failure}
-use Rattle.checker_response.specs.declared.Failure.the-variants.{NoFailure, ProhibitedState, GuardViolated, ForbiddenTransition, DeadlineMissed}
+use Rattle.checker_response.specs.declared.Failure.the-variants.{
+  NoFailure,
+  ProhibitedState,
+  GuardViolated,
+  ForbiddenTransition,
+  DeadlineMissed,
+}
 use Rattle.checker_response.specs.declared.Wait.{Wait}
 use Rattle.checker_response.specs.declared.Wait.the-variants.{NoWait, Until}
 use Rattle.checker_response.specs.declared.Memory.{Memory}

@@ -2,7 +2,25 @@
 use engine_evaluate::Truth;
 ghost use mathlib.Core.Path.{_≡_};
 ghost use mathlib.Core.Bool.{_&&_, _||_};
-ghost use Rattle.checker_response.specs.Response.{yesM, noM, unknownM, failsM, failedM, or-elseM, overdueM, missedM, keptM, startedM, begunM, waitsM, at-endM, beyondM, failureM, memoryM, respondedM};
+ghost use Rattle.checker_response.specs.Response.{
+  yesM,
+  noM,
+  unknownM,
+  failsM,
+  failedM,
+  or-elseM,
+  overdueM,
+  missedM,
+  keptM,
+  startedM,
+  begunM,
+  waitsM,
+  at-endM,
+  beyondM,
+  failureM,
+  memoryM,
+  respondedM,
+};
 
 // Why a record fails an invariant, if it does.
 pub enum Failure {

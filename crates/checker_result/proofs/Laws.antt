@@ -54,14 +54,24 @@ module _ (t : Counts) where
   status-none a b c = rw (eq-eqb (t .unknown) 0 a, eq-eqb (t .violations) 0 b, eq-eqb (t .incomplete) 0 c)
 
 pub refused-is : (n : ℕ) {s : Simulation} → s ≡ no-simulation n →
-    record { status = status.Refused n; violations = 0; violated = replicate 256 0; unknown = 0; unknowns = replicate 2000 0; incomplete = 0; incompletes = replicate 200 0; simulation = s } ≡ no-check n
+    record {
+      status = status.Refused n;
+      violations = 0;
+      violated = replicate 256 0;
+      unknown = 0;
+      unknowns = replicate 2000 0;
+      incomplete = 0;
+      incompletes = replicate 200 0;
+      simulation = s;
+    } ≡ no-check n
 unfolding no-check
 refused-is n e = rw e
 
 -- ---- the simulation's own reasons
 
 -- room for one more
-pub insert-room : (f a : List ℕ) (n : ℕ) (r : Reason) → n * 5 + 5 ≤ length a → length (insertT (render f r) (listed f n a)) * 5 ≤ length a
+pub insert-room : (f a : List ℕ) (n : ℕ) (r : Reason) → n * 5 + 5 ≤ length a →
+    length (insertT (render f r) (listed f n a)) * 5 ≤ length a
 insert-room f a n r h = omega (arith, h, listing.one-more (render f r) (listed f n a), listing.length-listed f n a)
 
 module _ (f : List ℕ) (why : ℕ) where
@@ -99,7 +109,13 @@ module _ (f : List ℕ) (n : ℕ) (w : List ℕ) where
   unfolding leftM insertAll
   ends-one e {r} a {w'} {k} h = record {
     most = omega (arith, h .many, listing.one-more (render f r) (listed f n w), listing.length-listed f n w);
-    grows = rw e (rw (← a) (record { many = h .many; texts = h .texts; clean = λ u c. h .clean (alone-readable a (record { known = omega arith; is = refl })) c }));
+    grows = rw e
+        (rw (← a) (record {
+          many = h .many;
+          texts = h .texts;
+          clean =
+              λ u c. h .clean (alone-readable a (record { known = omega arith; is = refl })) c;
+        }));
   }
 
 -- ---- the verdict
@@ -113,16 +129,27 @@ module _ (f : List ℕ) (m : ℕ) (b a : List ℕ) where
       (m * 5 ≤ length b) × (length (insertAll (listed f m b) (listed f 0 a)) * 5 ≤ length a)
   merge-room h lb la = (omega (arith, h, lb), omega (arith, h, la, merged-few))
 
-  pub merged-most : m ≤ 300 → {k : ℕ} {R : Type 0} {a' : List ℕ} → Grows f R (insertAll (listed f m b) (listed f 0 a)) 0 a k a' → k ≤ 300
+  pub merged-most : m ≤ 300 → {k : ℕ} {R : Type 0} {a' : List ℕ} →
+      Grows f R (insertAll (listed f m b) (listed f 0 a)) 0 a k a' → k ≤ 300
   merged-most h e = omega (arith, h, e .many, merged-few)
 
 module _ {f x starts : List ℕ} {h : Shared} {a : List ℕ} (s : Summary) {told : List ℕ} where
   pub judged-is : {many : ℕ} → Few (s .unknown) many → {u₁ : List ℕ} {k : ℕ} →
-      Grows f (Clean f many told) (insertAll (listed f many told) (listed f 0 (replicate 2000 0))) 0 (replicate 2000 0) k u₁ →
-      {w₁ w₂ : List ℕ} {j i : ℕ} → Starts f (s .«stop_reason») (replicate 200 0) j w₁ → Ends f (s .«runs_left») j w₁ i w₂ → {n : ℕ} → Fits (s .records) (length a) n →
-      {t : Counts} {v' u₂ w₃ : List ℕ} → GathersAll f x starts (h .invariants) (h .cells) a n (record { violations = 0; unknown = k; incomplete = i }) t (replicate 256 0) v' u₁ u₂ w₂ w₃ →
+      Grows f (Clean f many told) (insertAll (listed f many told) (listed f 0 (replicate 2000 0))) 0 (replicate 2000 0)
+      k u₁ →
+      {w₁ w₂ : List ℕ} {j i : ℕ} → Starts f (s .«stop_reason») (replicate 200 0) j w₁ → Ends f (s .«runs_left») j w₁ i w₂ →
+      {n : ℕ} → Fits (s .records) (length a) n →
+      {t : Counts} {v' u₂ w₃ : List ℕ} → GathersAll f x starts (h .invariants) (h .cells) a n
+      (record { violations = 0; unknown = k; incomplete = i }) t (replicate 256 0) v' u₁ u₂ w₂ w₃ →
       {y : Status} → y ≡ statusM t →
-      Judged f x starts h a s (record { status = y; violations = t .violations; unknown = t .unknown; incomplete = t .incomplete; simulation = s }) told v' u₂ w₃
+      Judged f x starts h a s (record {
+        status = y;
+        violations = t .violations;
+        unknown = t .unknown;
+        incomplete =
+            t .incomplete;
+        simulation = s;
+      }) told v' u₂ w₃
   unfolding startM reasons
   judged-is {many} few {u₁} {k} merged {w₁} {w₂} {j} {i} st en {n} fi {t} {v'} {u₂} {w₃} all {y} e = record {
     simulation = refl;
@@ -131,20 +158,25 @@ module _ {f x starts : List ℕ} {h : Shared} {a : List ℕ} (s : Summary) {told
       long = all .long-v ∙ length-replicate {A = ℕ} 256 0;
       few-unknown = omega (arith, all .most-unknown, merged-most f many told (replicate 2000 0) (few .most) merged);
       few-incomplete = omega (arith, all .most-incomplete, st .most, en .most);
-      holds = λ ok clean l long roomy rep. all .does l (long ∙ sym (fi .same roomy)) rep (startM f (simulation-of s told)) (record {
-        violations = sym (areas.area-none brokenM 256) ∙ ap (λ (q : ℕ). Rattle.areas.specs.Areas.area brokenM q []) (sym (length-replicate {A = ℕ} 256 0));
-        many = refl;
-        unknown = subst (λ (q : ℕ). Holds f (insertAll (listed f q told) []) k u₁) (few .same ok)
-            (grown f (insertAll (listed f many told)) merged (λ h. subst (λ (q : ℕ). Clean f q told) (sym (few .same ok)) (clean h)) (holds-zeros f (zeros 2000)));
-        incomplete = grown f (insertAll (map (render f) (leftM (s .«runs_left»)))) (en .grows) (λ h. tt)
-            (grown f (insertAll (map (render f) (stoppedM (s .«stop_reason»)))) (st .grows) (λ h. tt) (holds-zeros f (zeros 200)));
-      });
+      holds = λ ok clean l long roomy rep. all .does l (long ∙ sym (fi .same roomy)) rep (startM f (simulation-of s told))
+          (record {
+            violations = sym (areas.area-none brokenM 256)
+                ∙ ap (λ (q : ℕ). Rattle.areas.specs.Areas.area brokenM q []) (sym (length-replicate {A = ℕ} 256 0));
+            many = refl;
+            unknown = subst (λ (q : ℕ). Holds f (insertAll (listed f q told) []) k u₁) (few .same ok)
+                (grown f (insertAll (listed f many told)) merged
+                (λ h. subst (λ (q : ℕ). Clean f q told) (sym (few .same ok)) (clean h)) (holds-zeros f (zeros 2000)));
+            incomplete = grown f (insertAll (map (render f) (leftM (s .«runs_left»)))) (en .grows) (λ h. tt)
+                (grown f (insertAll (map (render f) (stoppedM (s .«stop_reason»)))) (st .grows) (λ h. tt)
+                (holds-zeros f (zeros 200)));
+          });
     };
   }
 
 -- ---- a check with given events
 
-pub settled-full : {c r : CheckResult} → (c .simulation .refused ≡ 0 → ⊥) → r ≡ no-check (c .simulation .refused) → Answered c r
+pub settled-full : {c r : CheckResult} → (c .simulation .refused ≡ 0 → ⊥) → r ≡ no-check (c .simulation .refused) →
+    Answered c r
 settled-full z e = record { done = λ y. absurd (z y); full = λ y. e }
 
 pub settled-done : {c : CheckResult} → c .simulation .refused ≡ 0 → Answered c c
@@ -153,6 +185,25 @@ settled-done z = record { done = λ y. refl; full = λ y. absurd (y z) }
 -- ---- the answer as one value
 
 pub with-lists-is : (j : Judgement) {v us ws w : List ℕ} {s : Simulation} → s ≡ simulation-of (j .simulation) w →
-    record { status = j .status; violations = j .violations; violated = v; unknown = j .unknown; unknowns = us; incomplete = j .incomplete; incompletes = ws; simulation = s } ≡ result-of j v us ws w
+    record {
+      status = j .status;
+      violations = j .violations;
+      violated = v;
+      unknown = j .unknown;
+      unknowns = us;
+      incomplete =
+          j .incomplete;
+      incompletes = ws;
+      simulation = s;
+    } ≡ result-of j v us ws w
 with-lists-is j {v} {us} {ws} e =
-    ap (λ (s : Simulation). record { status = j .status; violations = j .violations; violated = v; unknown = j .unknown; unknowns = us; incomplete = j .incomplete; incompletes = ws; simulation = s }) e
+    ap (λ (s : Simulation). record {
+      status = j .status;
+      violations = j .violations;
+      violated = v;
+      unknown = j .unknown;
+      unknowns = us;
+      incomplete = j .incomplete;
+      incompletes = ws;
+      simulation = s;
+    }) e

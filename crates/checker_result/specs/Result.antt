@@ -8,8 +8,28 @@ use Rattle.checker_result.specs.declared.CheckResult.{CheckResult}
 use Rattle.checker_result.specs.declared.Judgement.{Judgement}
 
 unfoldable pub no-check : (number : ℕ) → CheckResult
-no-check n = record { status = status.Refused n; violations = 0; violated = replicate 256 0; unknown = 0; unknowns = replicate 2000 0; incomplete = 0; incompletes = replicate 200 0; simulation = no-simulation n }
+no-check n = record {
+  status = status.Refused n;
+  violations = 0;
+  violated = replicate 256 0;
+  unknown = 0;
+  unknowns =
+      replicate 2000 0;
+  incomplete = 0;
+  incompletes = replicate 200 0;
+  simulation = no-simulation n;
+}
 
 -- a judgement, its lists and its reasons' words
 abbrev pub result-of : Judgement → (violated unknowns incompletes reasons : List ℕ) → CheckResult
-result-of j v u w s = record { status = j .status; violations = j .violations; violated = v; unknown = j .unknown; unknowns = u; incomplete = j .incomplete; incompletes = w; simulation = simulation-of (j .simulation) s }
+result-of j v u w s = record {
+  status = j .status;
+  violations = j .violations;
+  violated = v;
+  unknown = j .unknown;
+  unknowns =
+      u;
+  incomplete = j .incomplete;
+  incompletes = w;
+  simulation = simulation-of (j .simulation) s;
+}

@@ -34,7 +34,8 @@ pub record Fits (n len r : ℕ) : Type 0 where
 unfoldable pub statusM : Counts → Status
 statusM t =
     if eqb (t .unknown) 0 then
-    (if eqb (t .violations) 0 then (if eqb (t .incomplete) 0 then status.NoViolationInTrace else status.Incomplete) else status.Violation)
+    (if eqb (t .violations) 0 then (if eqb (t .incomplete) 0 then status.NoViolationInTrace else status.Incomplete)
+    else status.Violation)
     else status.Unknown
 
 -- why a simulation is incomplete, as reasons
@@ -57,7 +58,8 @@ unfoldable pub startM : List ℕ → Simulation → Gathered
 startM f s = record {
   violations = [];
   unknown = insertAll (listed f (s .unknown) (s .reasons)) [];
-  incomplete = insertAll (map (render f) (leftM (s .«runs_left»))) (insertAll (map (render f) (stoppedM (s .«stop_reason»))) []);
+  incomplete = insertAll (map (render f) (leftM (s .«runs_left»)))
+      (insertAll (map (render f) (stoppedM (s .«stop_reason»))) []);
 }
 
 abbrev pub counts : CheckResult → Counts
@@ -70,11 +72,14 @@ pub record Verdict (f x starts : List ℕ) (many : ℕ) (c : Cells) (a : List �
   pub few-unknown : r .unknown ≤ 400
   pub few-incomplete : r .incomplete ≤ 40
   pub holds : r .simulation .unknown ≤ 300 → (HasText f → Clean f (r .simulation .unknown) (r .simulation .reasons)) →
-      (l : List Record) → length l ≡ r .simulation .records → r .simulation .records * 13 ≤ length a → a ≡ recorded (length a) l →
-      Keeps f (r .violated) (r .unknowns) (r .incompletes) (counts r) (firstM f x starts c l (atMost many 32) (startM f (r .simulation)))
+      (l : List Record) → length l ≡ r .simulation .records → r .simulation .records * 13 ≤ length a →
+      a ≡ recorded (length a) l →
+      Keeps f (r .violated) (r .unknowns) (r .incompletes) (counts r)
+      (firstM f x starts c l (atMost many 32) (startM f (r .simulation)))
 
 -- the judgement of a simulation whose reasons' words are u
-pub record Judged (f x starts : List ℕ) (h : Shared) (a : List ℕ) (s : Summary) (r : Judgement) (u v us ws : List ℕ) : Type 0 where
+pub record Judged (f x starts : List ℕ) (h : Shared) (a : List ℕ) (s : Summary) (r : Judgement)
+    (u v us ws : List ℕ) : Type 0 where
   pub simulation : r .simulation ≡ s
   pub verdict : Verdict f x starts (h .invariants) (h .cells) a (result-of r v us ws u)
 

@@ -135,7 +135,8 @@ pub fn verdict(
     unknowns: &mut [u32; 2000],
     incompletes: &mut [u32; 200],
 ) -> Judgement
-    ensures { λ r. ⌜ Judged (was f) (was x) (was starts) shared (was a) s r (was told) (is violated) (is unknowns) (is incompletes) ⌝ }
+    ensures { λ r. ⌜ Judged (was f) (was x) (was starts) shared (was a) s r (was told) (is violated) (is unknowns)
+        (is incompletes) ⌝ }
 {
     let none = [0u64; 256];
     *violated = none;
@@ -208,7 +209,8 @@ pub fn settled(
     unknowns: &mut [u32; 2000],
     incompletes: &mut [u32; 200],
 ) -> Judgement
-    ensures { λ r. ⌜ Answered (result-of j (was violated) (was unknowns) (was incompletes) (was reasons)) (result-of r (is violated) (is unknowns) (is incompletes) (is reasons)) ⌝ }
+    ensures { λ r. ⌜ Answered (result-of j (was violated) (was unknowns) (was incompletes) (was reasons))
+        (result-of r (is violated) (is unknowns) (is incompletes) (is reasons)) ⌝ }
 {
     let s = j.simulation;
     if s.refused != 0 {

@@ -61,14 +61,16 @@ module _ {f : List ℕ} {i : Index} {g : Ground} {v : List ℕ} {n : ℕ} {r : C
           let p = in-pool f i m acc o bytes g gr v d vs evs many ch c e in answers c e k (p .unknown) (p .incomplete)
       by (promised.refuses j lo hi e k z) = refuses j lo hi e k
 
-  in-part : refusedM (r .status) ≡ false → (q₁ a₁ u₁ : ℕ) → Larger (sizes (length q) (length a) (length u)) (sizes q₁ a₁ u₁) →
+  in-part : refusedM (r .status) ≡ false → (q₁ a₁ u₁ : ℕ) →
+      Larger (sizes (length q) (length a) (length u)) (sizes q₁ a₁ u₁) →
       Tells f m r (checked (sizes q₁ a₁ u₁) m cells vs)
   in-part ok q₁ a₁ u₁ l = by (promised.promise f i m acc o bytes g gr v d vs evs many ch)
     where
       by : Promised → Tells f m r (checked (sizes q₁ a₁ u₁) m cells vs)
       by (promised.answers c e k z) =
           let p = in-pool f i m acc o bytes g gr v d vs evs many ch c e in
-          answers c (checked-larger (sizes (length q) (length a) (length u)) (sizes q₁ a₁ u₁) l m cells vs c e) k (p .unknown) (p .incomplete)
+          answers c (checked-larger (sizes (length q) (length a) (length u)) (sizes q₁ a₁ u₁) l m cells vs c e) k
+          (p .unknown) (p .incomplete)
       by (promised.refuses j lo hi e k z) =
           let t : refusedM (r .status) ≡ true = ap refusedM (k .status-is) in
           let w : true ≡ false = sym t ∙ ok in

@@ -35,16 +35,20 @@ pub record Part (n most r : ℕ) : Type 0 where
 -- the check's answer x, told by the result r
 module _ (f : List ℕ) (m : Model) (r : CheckResult) (x : Answer Check) where
   pub data Tells : Type 0 where
-    answers : (c : Check) → x ≡ answer c → Shows f r c → Among (check-pool m) (c .unknown) → Among (check-pool m) (c .incomplete) → Tells
+    answers : (c : Check) → x ≡ answer c → Shows f r c → Among (check-pool m) (c .unknown) →
+        Among (check-pool m) (c .incomplete) → Tells
     refuses : (n : ℕ) → 41 ≤ n → n ≤ 43 → x ≡ refused n → RefusedAs n r → Tells
 
 -- with areas of q, a and u words
-pub record Cased (f starts : List ℕ) (many : ℕ) (g : Ground) (v : List ℕ) (n : ℕ) (r : CheckResult) (q a u : ℕ) : Type 0 where
+pub record Cased (f starts : List ℕ) (many : ℕ) (g : Ground) (v : List ℕ) (n : ℕ) (r : CheckResult)
+    (q a u : ℕ) : Type 0 where
   pub sized : Sized r
   pub does : (i : Index) → starts ≡ i .invariants .starts → many ≡ i .invariants .count
-      → (m : Model) (acc : accepted f ≡ answer m) (o : Indexed f i m) (bytes : (k : ℕ) → getD f k 0 < 256) (gr : Grounds f i g)
+      → (m : Model) (acc : accepted f ≡ answer m) (o : Indexed f i m) (bytes : (k : ℕ) → getD f k 0 < 256)
+      (gr : Grounds f i g)
       (d : Event) (vs : List Event)
-      → ((j : ℕ) → j < length vs → EventAt f (g .table) (o .ts) m (tb f i m acc o bytes g gr) v j (getD vs j d)) → n ≡ length vs
+      → ((j : ℕ) → j < length vs → EventAt f (g .table) (o .ts) m (tb f i m acc o bytes g gr) v j (getD vs j d)) →
+      n ≡ length vs
       → Tells f m r (checked (sizes q a u) m (initial-cells (m .scenario .entities)) vs)
 
 -- in a part of these areas, which may be too small

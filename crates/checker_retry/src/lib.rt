@@ -1,5 +1,5 @@
-// The check of a case among many: first in a small part of the lent areas, which is quick to clear, and in all of them only if
-// that part is too small. What isn't refused in the part is the same in all of them.
+// The check of a case among many: first in a small part of the lent areas, which is quick to clear, and in all of them only
+// if that part is too small. What isn't refused in the part is the same in all of them.
 use checker_result::Judgement;
 use checker_result::Shared;
 use checker_result::Status;
@@ -51,7 +51,10 @@ fn check_part(
     incompletes: &mut [u32; 200],
 ) -> Judgement
     requires { ⌜ n * 4 ≤ length (now events) ⌝ }
-    ensures { λ r. ⌜ Parted (was file) (was starts) (shared .invariants) (ground (was table) (shared .cells) (shared .notes) (was notes)) (was events) n (result-of r (is violated) (is unknowns) (is incompletes) (is reasons)) (length (was queue)) (length (was records)) (length (was runs)) ⌝ }
+    ensures { λ r. ⌜ Parted (was file) (was starts) (shared .invariants)
+        (ground (was table) (shared .cells) (shared .notes) (was notes)) (was events) n
+        (result-of r (is violated) (is unknowns) (is incompletes) (is reasons)) (length (was queue)) (length (was records))
+        (length (was runs)) ⌝ }
 {
     let items = part(queue.len(), 640);
     let lines = part(records.len(), 3328);
@@ -91,7 +94,10 @@ pub fn check_case(
     incompletes: &mut [u32; 200],
 ) -> Judgement
     requires { ⌜ n * 4 ≤ length (now events) ⌝ }
-    ensures { λ r. ⌜ Cased (was file) (was starts) (shared .invariants) (ground (was table) (shared .cells) (shared .notes) (was notes)) (was events) n (result-of r (is violated) (is unknowns) (is incompletes) (is reasons)) (length (was queue)) (length (was records)) (length (was runs)) ⌝ }
+    ensures { λ r. ⌜ Cased (was file) (was starts) (shared .invariants)
+        (ground (was table) (shared .cells) (shared .notes) (was notes)) (was events) n
+        (result-of r (is violated) (is unknowns) (is incompletes) (is reasons)) (length (was queue)) (length (was records))
+        (length (was runs)) ⌝ }
 {
     let c = check_part(
         file,

@@ -11,7 +11,15 @@ use Rattle.model_spec.specs.Validate.{accepted, all-checks}
 use Rattle.engine_spec.specs.Cells.{Cell, initial-cells, all-cells}
 use Rattle.engine_spec.specs.Records.{Areas}
 use Rattle.engine_spec.specs.Simulate.{Simulation, simulated, all-simulate}
-use Rattle.checker_spec.specs.Judge.{Failure, Failing, Reading, read-all, unknown-reasons, incomplete-reasons, all-judge}
+use Rattle.checker_spec.specs.Judge.{
+  Failure,
+  Failing,
+  Reading,
+  read-all,
+  unknown-reasons,
+  incomplete-reasons,
+  all-judge,
+}
 
 -- Rust's `message` is the failure, written out
 pub record Violation : Type 0 where
@@ -91,5 +99,6 @@ check areas file = do
 
 -- opens the file, for proofs by computation
 unfoldable pub all-check : Unit {0}
-unfolding all-lists all-texts all-answers all-checks all-cells all-simulate all-judge all-model status-name is-violation status-of violation-of judged checked check
+unfolding all-lists all-texts all-answers all-checks all-cells all-simulate all-judge all-model status-name is-violation
+    status-of violation-of judged checked check
 all-check = tt

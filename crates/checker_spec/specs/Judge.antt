@@ -7,7 +7,18 @@ use mathlib.Core.Option.{Option, none, some}
 use lib.Dec.{ltb, leb}
 use Rattle.texts.specs.Lists.{if_then_else_, absent, present-and, all-lists}
 use Rattle.texts.specs.Texts.{Text, text, eqT, decimal, all-texts}
-use Rattle.model_spec.specs.Model.{Source, Predicate, Invariant, never, guard, transition, response, id-of, midnight, all-model}
+use Rattle.model_spec.specs.Model.{
+  Source,
+  Predicate,
+  Invariant,
+  never,
+  guard,
+  transition,
+  response,
+  id-of,
+  midnight,
+  all-model,
+}
 use Rattle.engine_spec.specs.Cells.{Cell, put, all-cells}
 use Rattle.engine_spec.specs.Kleene.{Truth, is-yes, is-no, is-unknown}
 use Rattle.engine_spec.specs.Truth.{evaluate, evaluate-all, all-truth}
@@ -110,7 +121,8 @@ unfoldable pub or-else : Option Failure → Option Failure → Option Failure
 or-else (some f) g = some f
 or-else none g = g
 
-unfoldable pub read-response : (cause goal : Predicate) → (within : ℕ) → (before present : List Cell) → Trace → Memory → Shown
+unfoldable pub read-response : (cause goal : Predicate) → (within : ℕ) → (before present : List Cell) → Trace → Memory →
+    Shown
 read-response p q within before present t m =
     let w = stated p present in
     let g = stated q present in
@@ -200,5 +212,7 @@ incomplete-reasons i m = reason-if (m .beyond-horizon) (id-of i ++ text ": respo
 
 -- opens the file, for proofs by computation
 unfoldable pub all-judge : Unit {0}
-unfolding all-lists all-texts all-cells all-truth all-records all-model after is-action is-horizon writes passes fails-if overdue missed waits-after missed-at-end beyond or-else read-response read reading read-all message reason-if unknown-reasons incomplete-reasons
+unfolding all-lists all-texts all-cells all-truth all-records all-model after is-action is-horizon writes passes fails-if
+    overdue missed waits-after missed-at-end beyond or-else read-response read reading read-all message reason-if
+    unknown-reasons incomplete-reasons
 all-judge = tt

@@ -187,5 +187,7 @@ witness-file file v = elim (v .witness) [ none ↦ none | some w ↦ some (rewri
 
 -- opens the file, for proofs by computation
 unfoldable pub all-verify : Unit {0}
-unfolding all-lists all-texts all-answers all-checks all-cells all-unsupported all-rewrite all-check found-name last-at after-case out-of-budget unless-stopped try-case each-input each-gap visit deepen searched found-of verification-of verified short-of-room verify witness-file
+unfolding all-lists all-texts all-answers all-checks all-cells all-unsupported all-rewrite all-check found-name last-at
+    after-case out-of-budget unless-stopped try-case each-input each-gap visit deepen searched found-of verification-of
+    verified short-of-room verify witness-file
 all-verify = tt

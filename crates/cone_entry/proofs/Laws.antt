@@ -43,11 +43,13 @@ module _ (s : List ℕ) (e : Section) (p : ℕ) {w : Walk} {x : ℕ} (d : w ≡ 
   pub write-is : x ≡ writesM s (sectionBy (e .starts) (e .count)) (walkBy (w .list) (w .count)) → x ≡ writesM s e (walkM s p)
   write-is f = writes-by s e w f ∙ ap (writesM s e) d
 
-  pub need-is : x ≡ needsM s (sectionBy (e .starts) (e .count)) p (walkBy (w .list) (w .count)) → x ≡ needsM s e p (walkM s p)
+  pub need-is : x ≡ needsM s (sectionBy (e .starts) (e .count)) p (walkBy (w .list) (w .count)) →
+      x ≡ needsM s e p (walkM s p)
   need-is f = needs-by s e p w f ∙ ap (needsM s e p) d
 
 pub told-is : (s : List ℕ) (i : Index) {t : Touched} {x : ℕ} {c : ConeSets} {u : Undeclared} {n : ConeNames}
-    → x ≡ namedM s (sectionBy (i .entities .starts) (i .entities .count)) (i .invariants) → Touches s (i .entities) (i .rules) t
+    → x ≡ namedM s (sectionBy (i .entities .starts) (i .entities .count)) (i .invariants) →
+    Touches s (i .entities) (i .rules) t
     → c ≡ closedM (t .writes) (t .needs) (i .rules .count) x
     → u ≡ undeclaredM s (i .entities) (i .rules) (i .texts .count)
     → n ≡ namesM u (c .automations) (i .texts .count)

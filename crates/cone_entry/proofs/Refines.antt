@@ -81,7 +81,8 @@ module _ (s : List ℕ) (i : Index) (m : Model) (acc : accepted s ≡ answer m) 
       subst (λ (n : ℕ). Kept st (closed .entities) (closed .automations)
       (closedM (writes-eachM s (i .entities) (i .rules)) (needs-eachM s (i .entities) (i .rules)) n
       (namedM s (i .entities) (i .invariants)))) (sym (o .rules .counts))
-      (kept st (accepted-invariants s m acc) (writes-eachM s (i .entities) (i .rules)) (needs-eachM s (i .entities) (i .rules))
+      (kept st (accepted-invariants s m acc) (writes-eachM s (i .entities) (i .rules))
+      (needs-eachM s (i .entities) (i .rules))
       (λ k b. filled-at _ (i .rules .count) (bounds s m acc i o .rules) k (omega (arith, o .rules .counts)))
       (λ k b. filled-at _ (i .rules .count) (bounds s m acc i o .rules) k (omega (arith, o .rules .counts))))
 
@@ -92,8 +93,10 @@ module _ (s : List ℕ) (i : Index) (m : Model) (acc : accepted s ≡ answer m) 
   strays : model-namesM s i ≡ packedN (stray-places s (definition.cone-of m))
   unfolding model-namesM stray-places definition.cone-of shut namesOf
   strays =
-      ap (λ (k : ℕ). namesM (undeclaredM s (i .entities) (i .rules) k) (model-setsM s i .automations) k) (o .each-text .counts)
-      ∙ strays-are st (ascends s i m o) (texts-once s i m o) (accepted-few s m acc .1) (closed .entities) (closed .automations) (model-setsM s i) held
+      ap (λ (k : ℕ). namesM (undeclaredM s (i .entities) (i .rules) k) (model-setsM s i .automations) k)
+      (o .each-text .counts)
+      ∙ strays-are st (ascends s i m o) (texts-once s i m o) (accepted-few s m acc .1) (closed .entities)
+      (closed .automations) (model-setsM s i) held
       ∙ ap (λ (t : List Text). packedN
       (each (λ x. place-of x t) (undeclared (names st) (sortedT (closed .entities))))) (sym (texts-are s i m o))
       ∙ ap (λ (t : List Text). packedN
@@ -106,7 +109,8 @@ module _ (s : List ℕ) (i : Index) (m : Model) (acc : accepted s ≡ answer m) 
     entities = t .entities ∙ sym (entities-are st (closed .entities) (closed .automations) (model-setsM s i) held)
         ∙ ap (λ (n : List Text). declared-set n (sortedT (closed .entities))) (sym (names-are s m acc));
     automations = t .automations ∙ sym (automations-are st (closed .entities) (closed .automations) (model-setsM s i) held)
-        ∙ ap (λ (n : List Text). ids-set n (ids st) (keep (λ id. memT id (closed .automations)) (ids st))) (sym (names-are s m acc))
+        ∙ ap (λ (n : List Text). ids-set n (ids st) (keep (λ id. memT id (closed .automations)) (ids st)))
+        (sym (names-are s m acc))
         ∙ ap (λ (n : List Text). ids-set (names-in s) n (keep (λ id. memT id (closed .automations)) (ids st)))
         (sym (ids-are s m acc));
     undeclared = t .undeclared ∙ ap (λ (n : ConeNames). n .count) strays;

@@ -39,7 +39,8 @@ model-setsM s i =
     (namedM s (i .entities) (i .invariants))
 
 unfoldable pub model-namesM : List ℕ → Index → ConeNames
-model-namesM s i = namesM (undeclaredM s (i .entities) (i .rules) (i .texts .count)) (model-setsM s i .automations) (i .texts .count)
+model-namesM s i = namesM (undeclaredM s (i .entities) (i .rules) (i .texts .count)) (model-setsM s i .automations)
+    (i .texts .count)
 
 pub record Tells (s : List ℕ) (i : Index) (r : ConeResult) : Type 0 where
   pub accepted : r .refused ≡ 0

@@ -20,7 +20,19 @@ use Rattle.engine_spec.proofs.Distinct.{answer-eq, refused-answer, bind-inv}
 use Rattle.checker_spec.specs.Judge.{Failing, Reading, read-all, unknown-reasons}
 use Rattle.checker_spec.specs.Check.{Check, violation-of, judged, checked}
 use Rattle.cone_spec.specs.Cone.{names}
-use Rattle.cone_judge.specs.Reading.{Told, failed, missed, told, About, holds, fails, late, about-failing, about, violation-told}
+use Rattle.cone_judge.specs.Reading.{
+  Told,
+  failed,
+  missed,
+  told,
+  About,
+  holds,
+  fails,
+  late,
+  about-failing,
+  about,
+  violation-told,
+}
 use Rattle.cone_engine.proofs.Base.{keep-append, keep-flat, each-flat, Every, every-end, le-leb}
 use Rattle.cone_engine.proofs.Queue
 use Rattle.cone_engine.proofs.View

@@ -154,7 +154,8 @@ module _ (s : List ℕ) (e : Section) (ts : List Text) (es : List Entity) (g : G
           let a₂ = predicate-found ts s (u .first) in
           let w₃ : Wide 3 s p (i .next) = wide-sum (u8-wide s p d) (u16-wide s o (place-found ts (i .first) .is-place)) in
           says _ (given _ _ _ (t .rest) .0)
-          (puts-same s e ts es g (λ set. add-predicateM s e (y .next) (add-predicateM s e (i .next) set)) (add-namedM s e p) _
+          (puts-same s e ts es g (λ set. add-predicateM s e (y .next) (add-predicateM s e (i .next) set)) (add-namedM s e p)
+          _
           (λ set. laws.named-else s e p set (sym (byte-got s p d)) (sym (past-is s w₃)) (λ z. omega arith)
           (λ z. omega arith)
           (λ z. omega arith) refl (sym (predicate-ends ts s a₁)))
@@ -213,7 +214,8 @@ module _ (s : List ℕ) (e : Section) (ts : List Text) (es : List Entity) (g : G
       cases : (x : Effect) → EffectAt ts s (f .left) p (f .end) x → P (add-toggleM s e p) (toggles x)
       cases (Effect.set x v) (set-at x′ v′ k i j m n o) = toggle-none p 0 k (λ z. omega arith)
       cases (toggle x) (toggle-at x′ k i m o) =
-          puts-same s e ts es g (add-entityM s e x′) (add-toggleM s e p) _ (λ set. laws.toggle-yes s e p set (sym k) refl refl (sym i))
+          puts-same s e ts es g (add-entityM s e x′) (add-toggleM s e p) _
+          (λ set. laws.toggle-yes s e p set (sym k) refl refl (sym i))
           (puts-entity s e ts es g x′ m)
       cases (delay x) (delay-at x′ k o) = toggle-none p 2 k (λ z. omega arith)
       cases (condition x) (condition-at x′ k i o) = toggle-none p 3 k (λ z. omega arith)

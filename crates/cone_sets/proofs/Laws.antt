@@ -7,7 +7,18 @@ use Rattle.model_parts.specs.declared.Section.{Section}
 use Rattle.lint_walk.specs.declared.Walk.{Walk}
 use Rattle.lint_walk.specs.Raw.{byteM, placeM, past, predicateEnd, kindM}
 use Rattle.lint_walk.specs.Walks.{walkBy}
-use Rattle.lint_access.specs.Sets.{sectionBy, over, add-entityM, add-predicateM, add-predicatesM, add-triggersM, add-branchesM, add-readsM, add-triggerM, readsM}
+use Rattle.lint_access.specs.Sets.{
+  sectionBy,
+  over,
+  add-entityM,
+  add-predicateM,
+  add-predicatesM,
+  add-triggersM,
+  add-branchesM,
+  add-readsM,
+  add-triggerM,
+  readsM,
+}
 use Rattle.cone_sets.specs.Sets.{add-namedM, namedM, add-toggleM, needsM}
 
 module _ (s : List ℕ) (e : Section) (p set : ℕ) where
@@ -25,12 +36,14 @@ module _ (s : List ℕ) (e : Section) (p set : ℕ) where
     unfolding add-namedM
     named-2 a b h j = rw (← d, ← i) (rw (ne-eqb k 0 a, ne-eqb k 1 b, eq-eqb k 2 h) (rw j))
 
-    pub named-else : {y r : ℕ} → (k ≡ 0 → ⊥) → (k ≡ 1 → ⊥) → (k ≡ 2 → ⊥) → y ≡ add-predicateM s e q set → r ≡ predicateEnd s q
+    pub named-else : {y r : ℕ} → (k ≡ 0 → ⊥) → (k ≡ 1 → ⊥) → (k ≡ 2 → ⊥) → y ≡ add-predicateM s e q set →
+        r ≡ predicateEnd s q
         → add-predicateM s e r y ≡ add-namedM s e p set
     unfolding add-namedM
     named-else a b h m n = rw (← d, ← i) (rw (ne-eqb k 0 a, ne-eqb k 1 b, ne-eqb k 2 h) (rw (n, m)))
 
-  pub toggle-yes : {k q x : ℕ} → k ≡ kindM s p → k ≡ 1 → q ≡ past s p 9 → x ≡ placeM s q → add-entityM s e x set ≡ add-toggleM s e p set
+  pub toggle-yes : {k q x : ℕ} → k ≡ kindM s p → k ≡ 1 → q ≡ past s p 9 → x ≡ placeM s q →
+      add-entityM s e x set ≡ add-toggleM s e p set
   unfolding add-toggleM
   toggle-yes {k} d h i j = rw (← d) (rw (eq-eqb k 1 h) (rw (j, i)))
 
@@ -52,6 +65,8 @@ module _ (s : List ℕ) (e : Section) where
   unfolding namedM add-namedM add-predicatesM add-predicateM add-entityM
   named-by is h = h
 
-  pub needs-by : (p : ℕ) (w : Walk) {r : ℕ} → r ≡ needsM s (sectionBy (e .starts) (e .count)) p (walkBy (w .list) (w .count)) → r ≡ needsM s e p w
-  unfolding needsM add-toggleM readsM add-predicatesM add-triggersM add-branchesM add-readsM add-triggerM add-predicateM add-entityM
+  pub needs-by : (p : ℕ) (w : Walk) {r : ℕ} → r ≡ needsM s (sectionBy (e .starts) (e .count)) p
+      (walkBy (w .list) (w .count)) → r ≡ needsM s e p w
+  unfolding needsM add-toggleM readsM add-predicatesM add-triggersM add-branchesM add-readsM add-triggerM add-predicateM
+      add-entityM
   needs-by p w h = h

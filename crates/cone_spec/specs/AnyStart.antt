@@ -1,5 +1,5 @@
--- Lint and the cone don't read the start, with windows or without: two accepted files whose models differ in nothing else are
--- answered the same.
+-- Lint and the cone don't read the start, with windows or without: two accepted files whose models differ in nothing else
+-- are answered the same.
 use Prim.Native.Nat.{ℕ}
 use mathlib.Core.Path.{_≡_}
 use mathlib.Core.List.{List}

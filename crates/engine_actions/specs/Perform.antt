@@ -49,7 +49,8 @@ unfoldable pub doubtM : (f x : List ℕ) → Run → (kind : ℕ) → Machine �
 doubtM f x r kind m = uncertainM f (aboutRule f x (atMost (r .automation) 31) kind) m
 
 unfoldable pub flip-fromM : (f x : List ℕ) → Run → Source → (entity old : ℕ) → Machine → Machine
-flip-fromM f x r s e old m = if undecidedM x old then nowM r (doubtM f x r kinds.toggle m) else setM x r s e (toggledM x old) m
+flip-fromM f x r s e old m = if undecidedM x old then nowM r (doubtM f x r kinds.toggle m)
+    else setM x r s e (toggledM x old) m
 
 unfoldable pub flip-atM : (f x : List ℕ) → Run → Source → (entity place : ℕ) → Machine → Machine
 flip-atM f x r s e i m = if ltb 31 i then m else flip-fromM f x r s e (getD (m .values) i 0) m
@@ -94,13 +95,15 @@ abbrev pub wait : (trigger deadline : ℕ) → Bool → Source → Wait
 wait t d b s = record { trigger = t; deadline = d; «continue_on_timeout» = b; source = s }
 
 unfoldable pub waitingM : (k : ℕ) → Run → Source → (seconds deadline : ℕ) → Wait → Machine → Machine
-waitingM k r s n d w m = log-actionM 16 n s r (addM d (Timeout (r .automation) (r .sequence)) (put-runM k (phaseM (Waiting w) r) m))
+waitingM k r s n d w m =
+    log-actionM 16 n s r (addM d (Timeout (r .automation) (r .sequence)) (put-runM k (phaseM (Waiting w) r) m))
 
 -- a trigger with a note isn't waited for
 unfoldable pub begin-waitM : (f : List ℕ) → (k : ℕ) → Run → Source → (at : ℕ) → Machine → Machine
 begin-waitM f k r s at m =
     if eqb (two f (at + 14)) 65535 then
-    waitingM k r s (four f (at + 16)) (later (m .now) (four f (at + 16))) (wait at (later (m .now) (four f (at + 16))) (eqb (getD f (at + 20) 0) 1) s) m
+    waitingM k r s (four f (at + 16)) (later (m .now) (four f (at + 16)))
+    (wait at (later (m .now) (four f (at + 16))) (eqb (getD f (at + 20) 0) 1) s) m
     else finishM k (uncertainM f (alone kinds.wait) m)
 
 unfoldable pub give-upM : (f : List ℕ) → (k : ℕ) → Run → Source → (reason : ℕ) → Machine → Machine

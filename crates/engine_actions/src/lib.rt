@@ -28,7 +28,20 @@ ghost use mathlib.Core.Path.{_≡_};
 ghost use Prim.Native.Nat.{_<_};
 ghost use Rattle.reasons.specs.Kinds.{OneText};
 ghost use Rattle.engine_state.specs.Steps.{Moves, Does, goes, kept, told, still, Fits-qa, Fits-qar, Fits-qau, Fits, by};
-ghost use Rattle.engine_actions.specs.Perform.{writtenM, setM, toggledM, flipM, delayM, unclearM, testedM, conditionM, take-listM, chooseM, begin-waitM, give-upM};
+ghost use Rattle.engine_actions.specs.Perform.{
+  writtenM,
+  setM,
+  toggledM,
+  flipM,
+  delayM,
+  unclearM,
+  testedM,
+  conditionM,
+  take-listM,
+  chooseM,
+  begin-waitM,
+  give-upM,
+};
 
 fn write(
     x: &[u32; 436],
@@ -43,7 +56,8 @@ fn write(
     value: u32,
 ) -> State
     requires { ⌜ Fits-qa st (now q) (now a) ⌝ }
-    ensures { λ t. ⌜ Moves (writtenM (was x) run s entity value) st t (by q) (by a) kept still (by values) (by versions) kept ⌝ }
+    ensures { λ t. ⌜ Moves (writtenM (was x) run s entity value) st t (by q) (by a) kept still (by values) (by versions)
+        kept ⌝ }
 {
     let rule = Rule::Of(run.automation);
     let source = Where::From {
@@ -102,7 +116,8 @@ pub fn flip(
     entity: u32,
 ) -> State
     requires { ⌜ Fits-qau st (now q) (now a) (now u) ⌝ }
-    ensures { λ t. ⌜ Moves (flipM (was f) (was x) run s entity) st t (by q) (by a) kept (told (was f) (was u) (is u)) (by values) (by versions) kept ⌝ }
+    ensures { λ t. ⌜ Moves (flipM (was f) (was x) run s entity) st t (by q) (by a) kept (told (was f) (was u) (is u))
+        (by values) (by versions) kept ⌝ }
 {
     let e = entity_of(x, entity);
     if 31 < e {
@@ -187,7 +202,8 @@ pub fn condition(
     at: u32,
 ) -> State
     requires { ⌜ (k < st .«live_runs») × Fits st (now q) (now a) (now r) (now u) ⌝ }
-    ensures { λ t. ⌜ Moves (conditionM (was f) (was x) k run s at) st t (by q) (by a) (by r) (told (was f) (was u) (is u)) (goes (was values) (was values)) kept kept ⌝ }
+    ensures { λ t. ⌜ Moves (conditionM (was f) (was x) k run s at) st t (by q) (by a) (by r) (told (was f) (was u) (is u))
+        (goes (was values) (was values)) kept kept ⌝ }
 {
     let t = engine_evaluate::evaluate(f, x, values, st.now, at);
     let detail = engine_evaluate::number_of(t);
@@ -230,7 +246,8 @@ pub fn choose(
     at: u32,
 ) -> State
     requires { ⌜ (k < st .«live_runs») × Fits st (now q) (now a) (now r) (now u) ⌝ }
-    ensures { λ t. ⌜ Moves (chooseM (was f) (was x) k run s at) st t (by q) (by a) (by r) (told (was f) (was u) (is u)) (goes (was values) (was values)) kept kept ⌝ }
+    ensures { λ t. ⌜ Moves (chooseM (was f) (was x) k run s at) st t (by q) (by a) (by r) (told (was f) (was u) (is u))
+        (goes (was values) (was values)) kept kept ⌝ }
 {
     let b = engine_evaluate::select(f, x, values, st.now, at);
     match b {

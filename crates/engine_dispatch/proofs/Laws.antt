@@ -18,17 +18,21 @@ use Rattle.engine_trigger.specs.Runs.{put-runM, finishM}
 use Rattle.engine_actions.specs.Perform.{performM, actM, act-nextM, go-on-runM, go-onM, going-phase, goingM, resume-runM}
 use Rattle.engine_dispatch.specs.Dispatch.{processM}
 
-pub perform-is : (f x : List ℕ) (k : ℕ) (r : Run) (s : Source) (e g : Effect) (m : Machine) → e ≡ g → performM f x k r s g m ≡ performM f x k r s e m
+pub perform-is : (f x : List ℕ) (k : ℕ) (r : Run) (s : Source) (e g : Effect) (m : Machine) → e ≡ g →
+    performM f x k r s g m ≡ performM f x k r s e m
 perform-is f x k r s e g m h = ap (λ z. performM f x k r s z m) (sym h)
 
 pub on-end : (f x : List ℕ) (k : ℕ) (r : Run) (m : Machine) → r .depth ≡ 0 → finishM k m ≡ go-on-runM f x k r m
 unfolding go-on-runM
 on-end f x k r m e = rw (eq-eqb (r .depth) 0 e)
 
-pub on-act : (f x : List ℕ) (k : ℕ) (r n : Run) (p : Place) (a : Action) (m : Machine) → (r .depth ≡ 0 → ⊥) → p ≡ topM r → a ≡ actionM f x (p .position) → n ≡ steppedM r (a .next) →
+pub on-act : (f x : List ℕ) (k : ℕ) (r n : Run) (p : Place) (a : Action) (m : Machine) → (r .depth ≡ 0 → ⊥) → p ≡ topM r →
+    a ≡ actionM f x (p .position) → n ≡ steppedM r (a .next) →
     performM f x k n (a .source) (a .effect) (put-runM k n m) ≡ go-on-runM f x k r m
 unfolding go-on-runM act-nextM actM
-on-act f x k r n p a m h ep ea en = rw (ne-eqb (r .depth) 0 h) (ap (λ z. actM f x k z (a .source) (a .effect) m) en ∙ ap (λ z. act-nextM f x k r z m) (ea ∙ ap (λ z. actionM f x (z .position)) ep))
+on-act f x k r n p a m h ep ea en = rw (ne-eqb (r .depth) 0 h)
+    (ap (λ z. actM f x k z (a .source) (a .effect) m) en
+    ∙ ap (λ z. act-nextM f x k r z m) (ea ∙ ap (λ z. actionM f x (z .position)) ep))
 
 pub going-queued : (r : Run) → r .queued ≡ true → false ≡ goingM r
 unfolding goingM

@@ -42,7 +42,8 @@ fn perform(
     e: Effect,
 ) -> State
     requires { ⌜ (k < st .«live_runs») × Fits st (now q) (now a) (now r) (now u) ⌝ }
-    ensures { λ t. ⌜ Moves (performM (was f) (was x) k run s e) st t (by q) (by a) (by r) (told (was f) (was u) (is u)) (by values) (by versions) kept ⌝ }
+    ensures { λ t. ⌜ Moves (performM (was f) (was x) k run s e) st t (by q) (by a) (by r) (told (was f) (was u) (is u))
+        (by values) (by versions) kept ⌝ }
 {
     match e {
         Effect::Set { entity, value } => {
@@ -71,7 +72,8 @@ fn go_on(
     k: usize,
 ) -> State
     requires { ⌜ (k < st .«live_runs») × Fits st (now q) (now a) (now r) (now u) ⌝ }
-    ensures { λ t. ⌜ Moves (go-onM (was f) (was x) k) st t (by q) (by a) (by r) (told (was f) (was u) (is u)) (by values) (by versions) kept ⌝ }
+    ensures { λ t. ⌜ Moves (go-onM (was f) (was x) k) st t (by q) (by a) (by r) (told (was f) (was u) (is u)) (by values)
+        (by versions) kept ⌝ }
 {
     let run = runs::run_at(r, k);
     if run.depth == 0 {
@@ -128,7 +130,8 @@ fn resume(
     sequence: u32,
 ) -> State
     requires { ⌜ Fits st (now q) (now a) (now r) (now u) ⌝ }
-    ensures { λ t. ⌜ Moves (resumeM (was f) (was x) automation sequence) st t (by q) (by a) (by r) (told (was f) (was u) (is u)) (by values) (by versions) kept ⌝ }
+    ensures { λ t. ⌜ Moves (resumeM (was f) (was x) automation sequence) st t (by q) (by a) (by r)
+        (told (was f) (was u) (is u)) (by values) (by versions) kept ⌝ }
 {
     let found = runs::find_run(r, st.live_runs, automation, sequence);
     let Found::At(k) = found else {
@@ -156,7 +159,8 @@ pub fn process(
     work: Work,
 ) -> State
     requires { ⌜ Fits st (now q) (now a) (now r) (now u) ⌝ }
-    ensures { λ t. ⌜ Moves (processM (was f) (was x) work) st t (by q) (by a) (by r) (told (was f) (was u) (is u)) (by values) (by versions) (by sequences) ⌝ }
+    ensures { λ t. ⌜ Moves (processM (was f) (was x) work) st t (by q) (by a) (by r) (told (was f) (was u) (is u))
+        (by values) (by versions) (by sequences) ⌝ }
 {
     match work {
         Work::Set { entity, value } => external(x, q, a, values, versions, st, entity, value),

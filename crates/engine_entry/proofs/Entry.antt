@@ -66,7 +66,8 @@ module _ (f : List ℕ) (x : File) (says : indexed.Says f x (accepted f)) where
 
 -- ---- a model's simulation
 
-module _ (f : List ℕ) (i : Index) (m : Model) (acc : accepted f ≡ answer m) (o : Indexed f i m) (bytes : (k : ℕ) → getD f k 0 < 256) (g : Ground) (gr : Grounds f i g) where
+module _ (f : List ℕ) (i : Index) (m : Model) (acc : accepted f ≡ answer m) (o : Indexed f i m)
+    (bytes : (k : ℕ) → getD f k 0 < 256) (g : Ground) (gr : Grounds f i g) where
   abbrev x : List ℕ
   x = g .table
 
@@ -82,7 +83,9 @@ module _ (f : List ℕ) (i : Index) (m : Model) (acc : accepted f ≡ answer m) 
 
   pub events-count : atMost (getD x 8 0) 100 ≡ length events
   events-count =
-      let e : getD x 8 0 ≡ length events = gr .table .words 8 (omega arith) ∙ table.table-head f i 8 (omega arith) ∙ table.head-high f i 8 (omega arith) (λ z. absurd (omega arith)) (λ z. absurd (omega arith)) (omega arith) (λ z. absurd (omega arith)) (λ z. absurd (omega arith)) ∙ table.count-8 i 8 refl ∙ o .events .counts in
+      let e : getD x 8 0 ≡ length events = gr .table .words 8 (omega arith) ∙ table.table-head f i 8 (omega arith)
+      ∙ table.head-high f i 8 (omega arith) (λ z. absurd (omega arith)) (λ z. absurd (omega arith)) (omega arith)
+      (λ z. absurd (omega arith)) (λ z. absurd (omega arith)) ∙ table.count-8 i 8 refl ∙ o .events .counts in
       most-is (getD x 8 0) 100 (omega (arith, e, accepted-lawful f m acc .few-events)) ∙ e
 
   -- ---- the answer
@@ -90,7 +93,8 @@ module _ (f : List ℕ) (i : Index) (m : Model) (acc : accepted f ≡ answer m) 
   abbrev none-such : Event
   none-such = record { at = 0; input = Input.restart }
 
-  module _ {v : List ℕ} (ev : EventsOf f i v) {n : ℕ} (many : n ≡ atMost (getD x 8 0) 100) {fin ans : Simulation} {q q' a a' r r' : List ℕ} (ran : Ran f g v n fin q q' a a' r r') (told : Answered fin ans) where
+  module _ {v : List ℕ} (ev : EventsOf f i v) {n : ℕ} (many : n ≡ atMost (getD x 8 0) 100)
+      {fin ans : Simulation} {q q' a a' r r' : List ℕ} (ran : Ran f g v n fin q q' a a' r r') (told : Answered fin ans) where
     abbrev sizes : Areas
     sizes = record { queue = length q / 5; records = length a / 13; runs = length r / 28 }
 
@@ -104,20 +108,33 @@ module _ (f : List ℕ) (i : Index) (m : Model) (acc : accepted f ≡ answer m) 
     unfolding simulate-memory simulate-lent entries all-zeros zeros lent-after
     runs-as = by (promise f i m acc o bytes g gr v none-such events evs (many ∙ events-count) ran)
       where
-        by : Promise f i m acc o bytes g gr v none-such events evs (many ∙ events-count) ran → Simulates f ans (lent q a r) (lent q' a' r')
+        by : Promise f i m acc o bytes g gr v none-such events evs (many ∙ events-count) ran →
+            Simulates f ans (lent q a r) (lent q' a' r')
         by (answers sim e k) = record {
-          says = subst (Says f ans) (sym (simulate-law sizes ∙ e)) (subst (λ (y : Simulation). Shows f y sim) (sym (told .done (k .shows .accepted))) (k .shows));
-          memory = rw (queue-clear f i m acc o bytes g gr ran, runs-clear f i m acc o bytes g gr ran, k .area-is, records-here f i m acc o bytes g gr (length a) (k .records) (sim .trace) (k .words) (k .trace)) (sym (ap after (simulate-law sizes ∙ e)));
+          says = subst (Says f ans) (sym (simulate-law sizes ∙ e))
+              (subst (λ (y : Simulation). Shows f y sim) (sym (told .done (k .shows .accepted))) (k .shows));
+          memory = rw (
+            queue-clear f i m acc o bytes g gr ran,
+            runs-clear f i m acc o bytes g gr ran,
+            k .area-is,
+            records-here f i m acc o bytes g gr (length a) (k .records) (sim .trace) (k .words) (k .trace),
+          )
+              (sym (ap after (simulate-law sizes ∙ e)));
         }
         by (refuses n lo hi e is z) = record {
-          says = subst (Says f ans) (sym (simulate-law sizes ∙ e)) (told .full (λ y. absurd (omega (arith, is, lo, y))) ∙ ap no-simulation is);
-          memory = rw (queue-clear f i m acc o bytes g gr ran, runs-clear f i m acc o bytes g gr ran, z) (sym (ap after (simulate-law sizes ∙ e) ∙ refusals (words-in f) (λ (b : engine.Simulation). b .trace) (lent q a r) .areas n lo hi));
+          says = subst (Says f ans) (sym (simulate-law sizes ∙ e))
+              (told .full (λ y. absurd (omega (arith, is, lo, y))) ∙ ap no-simulation is);
+          memory = rw (queue-clear f i m acc o bytes g gr ran, runs-clear f i m acc o bytes g gr ran, z)
+              (sym (ap after (simulate-law sizes ∙ e) ∙ refusals (words-in f) (λ (b : engine.Simulation). b .trace)
+              (lent q a r) .areas n lo hi));
         }
 
 -- ---- the entry
 
-pub run-is : (f : List ℕ) (i : Index) → ((k : ℕ) → getD f k 0 < 256) → (g : Ground) → Grounds f i g → {v : List ℕ} → EventsOf f i v →
-    {n : ℕ} → n ≡ atMost (getD (g .table) 8 0) 100 → {s ans : Simulation} {q q' a a' r r' : List ℕ} → Ran f g v n s q q' a a' r r' → Answered s ans →
+pub run-is : (f : List ℕ) (i : Index) → ((k : ℕ) → getD f k 0 < 256) → (g : Ground) → Grounds f i g → {v : List ℕ} →
+    EventsOf f i v →
+    {n : ℕ} → n ≡ atMost (getD (g .table) 8 0) 100 → {s ans : Simulation} {q q' a a' r r' : List ℕ} →
+    Ran f g v n s q q' a a' r r' → Answered s ans →
     RunsAs f i ans (lent q a r) (lent q' a' r')
 run-is f i bytes g gr ev many ran told m acc o = runs-as f i m acc o bytes g gr ev many ran told
 
@@ -134,13 +151,16 @@ module _ (f : List ℕ) (x : File) (says : indexed.Says f x (accepted f)) where
       let acc = accept-refused f x says e in
       record {
         says = subst (Says f s) (sym (law acc (entries entry-words before))) is;
-        memory = sym (ap (λ (y : Answer engine.Simulation). lent-after (words-in f) (λ (b : engine.Simulation). b .trace) y before) (law acc (entries entry-words before)) ∙ kept (subst (Refuses Refusal) acc (refusal-numbers f)));
+        memory = sym
+            (ap (λ (y : Answer engine.Simulation). lent-after (words-in f) (λ (b : engine.Simulation). b .trace) y before)
+            (law acc (entries entry-words before)) ∙ kept (subst (Refuses Refusal) acc (refusal-numbers f)));
       }
     where
       law : accepted f ≡ refused n → (areas : Areas) → simulate areas f ≡ refused n
       law z areas = unfold simulate _>>=_ in rw z
 
       kept : Refusal n → lent-after (words-in f) (λ (b : engine.Simulation). b .trace) (refused n) before ≡ before
-      kept (inl h) = refusals (words-in f) (λ (b : engine.Simulation). b .trace) before .between n (omega arith) (omega arith)
+      kept (inl h) = refusals (words-in f) (λ (b : engine.Simulation). b .trace) before .between n (omega arith)
+          (omega arith)
       kept (inr (inl h)) = refusals (words-in f) (λ (b : engine.Simulation). b .trace) before .below n (omega arith)
       kept (inr (inr h)) = refusals (words-in f) (λ (b : engine.Simulation). b .trace) before .above n (omega arith)

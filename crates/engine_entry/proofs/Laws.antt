@@ -14,13 +14,16 @@ use Rattle.engine_entry.specs.Contracts.{Ran}
 
 -- ---- the answer
 
-pub simulates-as : {f : List ℕ} {r s : Simulation} {before after : Lent} → r ≡ s → Simulates f s before after → Simulates f r before after
+pub simulates-as : {f : List ℕ} {r s : Simulation} {before after : Lent} → r ≡ s → Simulates f s before after →
+    Simulates f r before after
 simulates-as {f} {r} {s} {before} {after} e h = subst (λ (y : Simulation). Simulates f y before after) (sym e) h
 
 -- ---- a run
 
-pub ran-so : {f : List ℕ} {g : Ground} {events : List ℕ} {n count : ℕ} {s : Run} {q q' a a' r r' u : List ℕ} → Few (g .count) count →
-    run.Simulates f (g .table) events n (g .cells) count s q q' a a' r r' (g .reasons) u → length u ≡ length (g .reasons) → {k : ℕ} → k ≡ atMost (getD (g .table) 0 0) 32 →
+pub ran-so : {f : List ℕ} {g : Ground} {events : List ℕ} {n count : ℕ} {s : Run} {q q' a a' r r' u : List ℕ} →
+    Few (g .count) count →
+    run.Simulates f (g .table) events n (g .cells) count s q q' a a' r r' (g .reasons) u → length u ≡ length (g .reasons) →
+    {k : ℕ} → k ≡ atMost (getD (g .table) 0 0) 32 →
     {ans : Simulation} → ShownAs s k (getD (g .table) 2 0) u ans → Ran f g events n ans q q' a a' r r'
 ran-so {f} {g} {events} {n} {count} {s} {q} {q'} {a} {a'} {r} {r'} {u} few does long e {ans} shown = record {
   told = s;

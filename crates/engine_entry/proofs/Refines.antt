@@ -50,7 +50,8 @@ use Rattle.engine_summary.specs.Summaries.{Few}
 use Rattle.engine_summary.proofs.Laws.{zeros}
 use Rattle.engine_entry.proofs.Numbers.{area-numbers}
 
-module _ (f : List ℕ) (i : Index) (m : Model) (acc : accepted f ≡ answer m) (o : Indexed f i m) (bytes : (k : ℕ) → getD f k 0 < 256) (g : Ground) (gr : Grounds f i g) where
+module _ (f : List ℕ) (i : Index) (m : Model) (acc : accepted f ≡ answer m) (o : Indexed f i m)
+    (bytes : (k : ℕ) → getD f k 0 < 256) (g : Ground) (gr : Grounds f i g) where
   abbrev x : List ℕ
   x = g .table
 
@@ -78,7 +79,14 @@ module _ (f : List ℕ) (i : Index) (m : Model) (acc : accepted f ≡ answer m) 
     few-automations = tb .few-automations;
     rows = λ d k h.
         let r = tb .rows d k h in
-        record { id-in = r .id-in; id = r .id; triggers = r .triggers; conditions = r .conditions; actions = r .actions; notes = r .notes };
+        record {
+          id-in = r .id-in;
+          id = r .id;
+          triggers = r .triggers;
+          conditions = r .conditions;
+          actions = r .actions;
+          notes = r .notes;
+        };
   }
 
   pub notes-held : Holds f notes (g .count) (g .reasons)
@@ -88,7 +96,12 @@ module _ (f : List ℕ) (i : Index) (m : Model) (acc : accepted f ≡ answer m) 
 
   few-notes : g .count ≤ 300
   unfolding pool-of
-  few-notes = omega (arith, notes-held .many, tb .few-reasons, length-append notes (unsupported-wait ∷ flat rule-pool (m .rules)))
+  few-notes = omega (
+    arith,
+    notes-held .many,
+    tb .few-reasons,
+    length-append notes (unsupported-wait ∷ flat rule-pool (m .rules)),
+  )
 
   pub held-as : {count : ℕ} → Few (g .count) count → Holds f notes count (g .reasons)
   held-as few = subst (λ (j : ℕ). Holds f notes j (g .reasons)) (sym (few .same few-notes)) notes-held
@@ -126,7 +139,8 @@ module _ (f : List ℕ) (i : Index) (m : Model) (acc : accepted f ≡ answer m) 
 
   -- ---- a run with the events vs, given as words
 
-  module _ (l : List ℕ) (d : Event) (vs : List Event) (evs : (k : ℕ) → k < length vs → EventAt f x ts m tb l k (getD vs k d)) (s : Run) (q q' a a' r r' u' : List ℕ) where
+  module _ (l : List ℕ) (d : Event) (vs : List Event) (evs : (k : ℕ) → k < length vs → EventAt f x ts m tb l k (getD vs k d))
+      (s : Run) (q q' a a' r r' u' : List ℕ) where
     abbrev sizes : Areas
     sizes = record { queue = length q / 5; records = length a / 13; runs = length r / 28 }
 
@@ -162,7 +176,16 @@ module _ (f : List ℕ) (i : Index) (m : Model) (acc : accepted f ≡ answer m) 
     halted = simulated-is f x ts m tb _ sizes cells (begins sizes) l d vs evs
 
     answer-done : (total : ℕ) (p : Halt) → p .last .«overflow» ≡ 0 →
-        answerM total p ≡ record { refused = 0; steps = total - p .left; records = length (p .last .records); reasons = length (p .last .reasons); «stop_reason» = p .«stop_reason»; «runs_left» = not (eqb (length (p .last .runs)) 0); values = p .last .values }
+        answerM total p ≡ record {
+          refused = 0;
+          steps = total - p .left;
+          records = length (p .last .records);
+          reasons =
+              length (p .last .reasons);
+          «stop_reason» = p .«stop_reason»;
+          «runs_left» = not (eqb (length (p .last .runs)) 0);
+          values = p .last .values;
+        }
     unfolding answerM
     answer-done total p z = rw (eq-eqb (p .last .«overflow») 0 z)
 
@@ -192,13 +215,16 @@ module _ (f : List ℕ) (i : Index) (m : Model) (acc : accepted f ≡ answer m) 
           trace = refl;
           area-is = told .records ∙ rw (eq-eqb (p .last .«overflow») 0 z);
           words = k .words;
-          final = ap (λ (v : List ℕ). each (λ (c : Cell). (c .name, c .value)) (cells-of x ts v (p .last .versions))) (sym (ap (λ (y : Run). y .values) e));
+          final = ap (λ (v : List ℕ). each (λ (c : Cell). (c .name, c .value)) (cells-of x ts v (p .last .versions)))
+              (sym (ap (λ (y : Run). y .values) e));
           valued = subst (Valued f x ts m tb) (sym (ap (λ (y : Run). y .values) e)) (k .valued);
-          unknown = subst (λ (n : ℕ). Holds f (p .last .reasons) n u') (sym (ap (λ (y : Run). y .reasons) e)) (told .reasons);
+          unknown = subst (λ (n : ℕ). Holds f (p .last .reasons) n u') (sym (ap (λ (y : Run). y .reasons) e))
+              (told .reasons);
           few = k .few;
           among = k .among;
           «stop_reason» = omega (arith, w, ap (λ (y : Run). y .«stop_reason») e);
-          incomplete = ap (λ (y : Run). incomplete-of (y .«stop_reason») (y .«runs_left»)) e ∙ ap (λ (t : List Text). reasons-of (p .«stop_reason») ++ t) (left-as (length (p .last .runs)));
+          incomplete = ap (λ (y : Run). incomplete-of (y .«stop_reason») (y .«runs_left»)) e
+              ∙ ap (λ (t : List Text). reasons-of (p .«stop_reason») ++ t) (left-as (length (p .last .runs)));
         }
 
     pub ran : {n count : ℕ} → n ≡ length vs → Few (g .count) count →
@@ -206,7 +232,8 @@ module _ (f : List ℕ) (i : Index) (m : Model) (acc : accepted f ≡ answer m) 
     ran {n} {count} many few does = by halted
       where
         told : Answers f x s a a' u' halt
-        told = (subst (λ (j : ℕ). run.Simulates f x l j (g .cells) count s q q' a a' r r' (g .reasons) u') many does) .does notes (held-as few)
+        told = (subst (λ (j : ℕ). run.Simulates f x l j (g .cells) count s q q' a a' r r' (g .reasons) u') many does) .does
+            notes (held-as few)
 
         by : Answered f x ts m tb halt (simulated sizes m cells vs) → Outcome
         by (shows z e w k) = done _ e (shown-done halt told z w k)

@@ -41,7 +41,8 @@ use Rattle.engine_entry.specs.Contracts.{Ran}
 use Rattle.engine_entry.proofs.Refines.{tb, Done, Outcome, done, full, ran}
 use Rattle.engine_entry.proofs.Final.{values-are}
 
-module _ (f : List ℕ) (i : Index) (m : Model) (acc : accepted f ≡ answer m) (o : Indexed f i m) (bytes : (k : ℕ) → getD f k 0 < 256) (g : Ground) (gr : Grounds f i g) where
+module _ (f : List ℕ) (i : Index) (m : Model) (acc : accepted f ≡ answer m) (o : Indexed f i m)
+    (bytes : (k : ℕ) → getD f k 0 < 256) (g : Ground) (gr : Grounds f i g) where
   abbrev x : List ℕ
   x = g .table
 
@@ -64,7 +65,8 @@ module _ (f : List ℕ) (i : Index) (m : Model) (acc : accepted f ≡ answer m) 
       at : (w : Trace) → words-in f w ≡ trace-words (o .ts) ids w
       at w = rw (acc, words-in) (ap (λ (ts : List Text). trace-words ts ids w) texts-here)
 
-  pub records-here : (n : ℕ) (l : List Record) (tr : List Trace) → Each (Worded x (o .ts) m) l → tr ≡ each (record-of x (o .ts)) l →
+  pub records-here : (n : ℕ) (l : List Record) (tr : List Trace) → Each (Worded x (o .ts) m) l →
+      tr ≡ each (record-of x (o .ts)) l →
       area recordWords n l ≡ area (words-in f) n tr
   records-here n l tr w e =
       record-area x (o .ts) m n l w
@@ -74,7 +76,9 @@ module _ (f : List ℕ) (i : Index) (m : Model) (acc : accepted f ≡ answer m) 
   -- ---- a run
 
   -- with the events vs, given as words
-  module _ (v : List ℕ) (d : Event) (vs : List Event) (evs : (j : ℕ) → j < length vs → EventAt f x (o .ts) m t v j (getD vs j d)) {n : ℕ} (many : n ≡ length vs) {ans : Simulation} {q q' a a' r r' : List ℕ} (ran-so : Ran f g v n ans q q' a a' r r') where
+  module _ (v : List ℕ) (d : Event) (vs : List Event)
+      (evs : (j : ℕ) → j < length vs → EventAt f x (o .ts) m t v j (getD vs j d)) {n : ℕ} (many : n ≡ length vs)
+      {ans : Simulation} {q q' a a' r r' : List ℕ} (ran-so : Ran f g v n ans q q' a a' r r') where
     abbrev sizes : Areas
     sizes = record { queue = length q / 5; records = length a / 13; runs = length r / 28 }
 
@@ -112,15 +116,18 @@ module _ (f : List ℕ) (i : Index) (m : Model) (acc : accepted f ≡ answer m) 
           records = y .records ∙ e .count ∙ sym (ap length (e .trace) ∙ each-length (record-of x (o .ts)) (e .records));
           horizon = y .horizon ∙ t .horizon ∙ sym (e .horizon);
           values =
-              values-are f x (o .ts) m t (s .values) (e .versions) (e .valued) (ans .values) (subst (λ (j : ℕ). Firsts (s .values) j (ans .values)) many-entities (y .values))
-              ∙ ap (λ (ts : List Text). values-of ts (each (λ (c : Cell). (c .name, c .value)) (cells-of x (o .ts) (s .values) (e .versions)))) (sym texts-here)
+              values-are f x (o .ts) m t (s .values) (e .versions) (e .valued) (ans .values)
+              (subst (λ (j : ℕ). Firsts (s .values) j (ans .values)) many-entities (y .values))
+              ∙ ap (λ (ts : List Text). values-of ts (each (λ (c : Cell). (c .name, c .value))
+              (cells-of x (o .ts) (s .values) (e .versions)))) (sym texts-here)
               ∙ ap (values-of (texts-in f)) (sym (e .final));
           unknown =
               reported (has-text f x (o .ts) m t)
               (subst (λ (u : List ℕ). Holds f (sim .unknown) (ans .unknown) u) (sym (y .reasons))
               (subst (λ (j : ℕ). Holds f (sim .unknown) j (ran-so .words)) (sym (y .unknown)) (e .unknown)));
           «stop_reason» = omega (arith, y .«stop_reason», e .«stop_reason»);
-          incomplete = ap (λ (w : ℕ). incomplete-of w (ans .«runs_left»)) (y .«stop_reason») ∙ ap (incomplete-of (s .«stop_reason»)) (y .«runs_left») ∙ e .incomplete;
+          incomplete = ap (λ (w : ℕ). incomplete-of w (ans .«runs_left»)) (y .«stop_reason»)
+              ∙ ap (incomplete-of (s .«stop_reason»)) (y .«runs_left») ∙ e .incomplete;
         }
 
     refused-as : (n : ℕ) → 41 ≤ n → ran-so .told ≡ refusalM n → ans .refused ≡ n
@@ -129,9 +136,21 @@ module _ (f : List ℕ) (i : Index) (m : Model) (acc : accepted f ≡ answer m) 
         ran-so .shown .full (λ y. absurd (omega (arith, no, y))) ∙ no
 
     pub promise : Promise
-    promise = by (ran f i m acc o bytes g gr v d vs evs (ran-so .told) q q' a a' r r' (ran-so .words) many (ran-so .few) (ran-so .does))
+    promise = by (ran f i m acc o bytes g gr v d vs evs (ran-so .told) q q' a a' r r' (ran-so .words) many (ran-so .few)
+        (ran-so .does))
       where
         by : Outcome f i m acc o bytes g gr v d vs evs (ran-so .told) q q' a a' r r' (ran-so .words) → Promise
         by (done sim e y) =
-            answers sim e (record { shows = shows-here sim y; records = y .records; count = ran-so .shown .done (y .accepted) .records ∙ y .count; trace = y .trace; area-is = y .area-is; words = y .words; few = y .few; among = y .among })
+            answers sim e (record {
+              shows = shows-here sim y;
+              records = y .records;
+              count =
+                  ran-so .shown .done (y .accepted) .records ∙ y .count;
+              trace = y .trace;
+              area-is = y .area-is;
+              words =
+                  y .words;
+              few = y .few;
+              among = y .among;
+            })
         by (full n lo hi e is z) = refuses n lo hi e (refused-as n lo is) z

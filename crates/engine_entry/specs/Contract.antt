@@ -1,4 +1,5 @@
--- What the entries answer, by the definitions of crate `engine_spec`: each number of the answer, and each word of the lent areas.
+-- What the entries answer, by the definitions of crate `engine_spec`: each number of the answer, and each word of the lent
+-- areas.
 use Prim.Native.Nat.{ℕ, _-_, _≤_}
 use mathlib.Core.Path.{_≡_}
 use mathlib.Core.Bool.{Bool}
@@ -28,8 +29,8 @@ use Rattle.engine_summary.specs.Summary.{no-simulation}
 unfoldable pub no-notes : (number : ℕ) → Notes
 no-notes n = record { refused = n; count = 0; reasons = replicate 1500 0 }
 
--- The reasons' renderings are the definition's list, each can be read, and zeros stand behind them. Which of two reasons with
--- the same rendering stands there is left free.
+-- The reasons' renderings are the definition's list, each can be read, and zeros stand behind them. Which of two reasons
+-- with the same rendering stands there is left free.
 abbrev pub NotesSay : (file : List ℕ) → Notes → Answer (List Text) → Type 0
 NotesSay f r (answer l) = (r .refused ≡ 0) × Reported f l (r .count) (r .reasons)
 NotesSay f r (refused n) = r ≡ no-notes n

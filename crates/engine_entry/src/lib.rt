@@ -94,7 +94,8 @@ pub fn run_events(
     reasons: &mut [u32; 1500],
 ) -> Summary
     requires { ⌜ n * 4 ≤ length (now events) ⌝ }
-    ensures { λ s. ⌜ Ran (was file) (ground (was table) cells notes (was reasons)) (was events) n (simulation-of s (is reasons)) (was queue) (is queue) (was records) (is records) (was runs) (is runs) ⌝ }
+    ensures { λ s. ⌜ Ran (was file) (ground (was table) cells notes (was reasons)) (was events) n
+        (simulation-of s (is reasons)) (was queue) (is queue) (was records) (is records) (was runs) (is runs) ⌝ }
 {
     let count = engine_summary::few(notes);
     let s = engine_run::simulated(
@@ -122,7 +123,8 @@ fn run(
     runs: &mut [u32],
     reasons: &mut [u32; 1500],
 ) -> Summary
-    ensures { λ s. ⌜ RunsAs (was file) index (simulation-of s (is reasons)) (lent (was queue) (was records) (was runs)) (lent (is queue) (is records) (is runs)) ⌝ }
+    ensures { λ s. ⌜ RunsAs (was file) index (simulation-of s (is reasons)) (lent (was queue) (was records) (was runs))
+        (lent (is queue) (is records) (is runs)) ⌝ }
 {
     let b = prepared(file, index, reasons);
     let table = b.table;
@@ -153,7 +155,8 @@ pub fn simulate_lent(
     runs: &mut [u32],
     reasons: &mut [u32; 1500],
 ) -> Summary
-    ensures { λ s. ⌜ Simulates (was file) (simulation-of s (is reasons)) (lent (was queue) (was records) (was runs)) (lent (is queue) (is records) (is runs)) ⌝ }
+    ensures { λ s. ⌜ Simulates (was file) (simulation-of s (is reasons)) (lent (was queue) (was records) (was runs))
+        (lent (is queue) (is records) (is runs)) ⌝ }
 {
     let x = model_validate::accept(file);
     let status = x.status;
@@ -165,7 +168,8 @@ pub fn simulate_lent(
 
 // The simulation of a model file, with lent areas of any size.
 pub fn simulate(file: &[u8], queue: &mut [u32], records: &mut [u32], runs: &mut [u32]) -> Simulation
-    ensures { λ s. ⌜ Simulates (was file) s (lent (was queue) (was records) (was runs)) (lent (is queue) (is records) (is runs)) ⌝ }
+    ensures { λ s. ⌜ Simulates (was file) s (lent (was queue) (was records) (was runs))
+        (lent (is queue) (is records) (is runs)) ⌝ }
 {
     let mut reasons = [0u32; 1500];
     let s = simulate_lent(file, queue, records, runs, &mut reasons);

@@ -16,7 +16,23 @@ use Rattle.texts.specs.Lists.{if_then_else_}
 use Rattle.engine_window.specs.Window.{openM}
 use Rattle.engine_state.specs.Machine.{later}
 use Rattle.engine_state.specs.declared.Move.{Move}
-use Rattle.engine_evaluate.specs.Evaluate.{bothM, againstM, valueM, evaluateM, sizeM, allFrom, allM, matchesM, anyFrom, anyM, endM, judgedM, branchM, selectFrom, selectM}
+use Rattle.engine_evaluate.specs.Evaluate.{
+  bothM,
+  againstM,
+  valueM,
+  evaluateM,
+  sizeM,
+  allFrom,
+  allM,
+  matchesM,
+  anyFrom,
+  anyM,
+  endM,
+  judgedM,
+  branchM,
+  selectFrom,
+  selectM,
+}
 use Rattle.engine_evaluate.specs.declared.Truth.{Truth}
 use Rattle.engine_evaluate.specs.declared.Truth.the-variants.{Yes, No, Unknown}
 use Rattle.engine_evaluate.specs.declared.Judged.{Judged}
@@ -40,22 +56,24 @@ unfolding evaluateM
 note-is f x vs second at b eb h = rw (← eb, h)
 
 -- a window is Yes while it is open, else No
-module _ (f x vs : List ℕ) (second at b : ℕ) (o : Bool) (eb : b ≡ getD f at 0) (w : b ≡ 2) (is : o ≡ openM f x second at) where
-  is-window : evaluateM f x vs second at ≡ (if o then Yes else No)
-  unfolding evaluateM
-  is-window = rw (← eb, w, is)
+module _ (f x vs : List ℕ) (second at b : ℕ) (o : Bool) (eb : b ≡ getD f at 0) (w : b ≡ 2) (is : o ≡ openM f x second at)
+  where
+    is-window : evaluateM f x vs second at ≡ (if o then Yes else No)
+    unfolding evaluateM
+    is-window = rw (← eb, w, is)
 
-  pub window-yes : o ≡ true → Yes ≡ evaluateM f x vs second at
-  window-yes h = sym (is-window ∙ rw h)
+    pub window-yes : o ≡ true → Yes ≡ evaluateM f x vs second at
+    window-yes h = sym (is-window ∙ rw h)
 
-  pub window-no : o ≡ false → No ≡ evaluateM f x vs second at
-  window-no h = sym (is-window ∙ rw h)
+    pub window-no : o ≡ false → No ≡ evaluateM f x vs second at
+    window-no h = sym (is-window ∙ rw h)
 
 module _ (f x vs : List ℕ) (second at i e v : ℕ) (r : Truth) (hi : i ≡ two f (at + 1)) (he : e ≡ entityOf x i) where
   where-is : e ≡ entityOf x (two f (at + 1))
   where-is = he ∙ ap (entityOf x) hi
 
-  pub evaluate-known : (b : ℕ) → b ≡ getD f at 0 → (b ≡ 1 → ⊥) → (b ≡ 2 → ⊥) → e < 32 → v ≡ two f (at + 3) → r ≡ againstM x (getD vs e 0) v → r ≡ evaluateM f x vs second at
+  pub evaluate-known : (b : ℕ) → b ≡ getD f at 0 → (b ≡ 1 → ⊥) → (b ≡ 2 → ⊥) → e < 32 → v ≡ two f (at + 3) →
+      r ≡ againstM x (getD vs e 0) v → r ≡ evaluateM f x vs second at
   unfolding evaluateM valueM
   evaluate-known b eb nb nw h ev er = rw (← eb, ne-eqb b 1 nb, ne-eqb b 2 nw, ← where-is, ← ev, lt-ltb e 32 h) er
 
@@ -63,15 +81,19 @@ module _ (f x vs : List ℕ) (second at i e v : ℕ) (r : Truth) (hi : i ≡ two
   unfolding evaluateM valueM
   evaluate-none b eb nb nw h = rw (← eb, ne-eqb b 1 nb, ne-eqb b 2 nw, ← where-is, le-ltb e 32 h)
 
-pub all-start : (f x vs : List ℕ) (second at n p : ℕ) → n ≡ two f at → p ≡ later at 2 → allM f x vs second at ≡ allFrom f x vs second n p Yes
+pub all-start : (f x vs : List ℕ) (second at n p : ℕ) → n ≡ two f at → p ≡ later at 2 →
+    allM f x vs second at ≡ allFrom f x vs second n p Yes
 unfolding allM
 all-start f x vs second at n p e g = rw (e, g)
 
-pub all-more : (f x vs : List ℕ) (second n p s q : ℕ) (t u w : Truth) → 0 < n → u ≡ evaluateM f x vs second p → w ≡ bothM t u → s ≡ sizeM f p → q ≡ later p s → allFrom f x vs second n p t ≡ allFrom f x vs second (n - 1) q w
+pub all-more : (f x vs : List ℕ) (second n p s q : ℕ) (t u w : Truth) → 0 < n → u ≡ evaluateM f x vs second p →
+    w ≡ bothM t u → s ≡ sizeM f p → q ≡ later p s → allFrom f x vs second n p t ≡ allFrom f x vs second (n - 1) q w
 unfolding allFrom
-all-more f x vs second n p s q t u w h eu ew es eq = ap (λ i. allFrom f x vs second i p t) (one-less n h) ∙ rw (eq, es, ew, eu)
+all-more f x vs second n p s q t u w h eu ew es eq =
+    ap (λ i. allFrom f x vs second i p t) (one-less n h) ∙ rw (eq, es, ew, eu)
 
-pub all-end : (f x vs : List ℕ) (second n p : ℕ) (t : Truth) → n ≤ 0 → allFrom f x vs second n p t ≡ record { truth = t; next = p }
+pub all-end : (f x vs : List ℕ) (second n p : ℕ) (t : Truth) → n ≤ 0 →
+    allFrom f x vs second n p t ≡ record { truth = t; next = p }
 unfolding allFrom
 all-end f x vs second n p t h = rw (none-left n h)
 
@@ -117,11 +139,13 @@ module _ (f x vs : List ℕ) (second at : ℕ) (j : Judged) (is : j ≡ allM f x
   unfolding judgedM
   branch-unknown e = sym (judged-is ∙ rw (e, judgedM))
 
-  pub branch-no : (w : Walked) (q : ℕ) → j .truth ≡ No → w ≡ actionsM (getD x 9 0) 17 f (j .next) 0 → q ≡ endM w (j .next) → Skip q ≡ branchM f x vs second at
+  pub branch-no : (w : Walked) (q : ℕ) → j .truth ≡ No → w ≡ actionsM (getD x 9 0) 17 f (j .next) 0 → q ≡ endM w (j .next) →
+      Skip q ≡ branchM f x vs second at
   unfolding judgedM
   branch-no w q e g h = ap Skip (h ∙ ap (λ v. endM v (j .next)) g) ∙ sym (judged-is ∙ rw (e, judgedM))
 
-pub select-start : (f x vs : List ℕ) (second at n p : ℕ) → n ≡ two f at → p ≡ later at 2 → selectM f x vs second at ≡ selectFrom f x vs second n p
+pub select-start : (f x vs : List ℕ) (second at n p : ℕ) → n ≡ two f at → p ≡ later at 2 →
+    selectM f x vs second at ≡ selectFrom f x vs second n p
 unfolding selectM
 select-start f x vs second at n p e g = rw (e, g)
 

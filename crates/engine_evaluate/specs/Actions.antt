@@ -43,7 +43,15 @@ actionM f x at = record {
 -- ---- a run's places
 
 abbrev pub put-places : (depth : ℕ) (places : List ℕ) → Run → Run
-put-places d l r = record { automation = r .automation; sequence = r .sequence; number = r .number; queued = r .queued; phase = r .phase; depth = d; places = l }
+put-places d l r = record {
+  automation = r .automation;
+  sequence = r .sequence;
+  number = r .number;
+  queued = r .queued;
+  phase = r .phase;
+  depth = d;
+  places = l;
+}
 
 -- the list at a position comes first; a run has at most 17 lists
 unfoldable pub listM : List ℕ → Run → (at : ℕ) → Run

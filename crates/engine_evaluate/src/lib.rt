@@ -14,7 +14,21 @@ ghost use mathlib.Core.Path.{_≡_};
 ghost use Prim.Native.Nat.{_+_, _*_, _≤_, _<_};
 ghost use lib.ListN.{getD};
 ghost use Rattle.engine_fields.specs.Fields.{two, four};
-ghost use Rattle.engine_evaluate.specs.Evaluate.{numberM, bothM, undecidedM, againstM, evaluateM, sizeM, allM, admitsM, matchesM, anyM, endM, branchM, selectM};
+ghost use Rattle.engine_evaluate.specs.Evaluate.{
+  numberM,
+  bothM,
+  undecidedM,
+  againstM,
+  evaluateM,
+  sizeM,
+  allM,
+  admitsM,
+  matchesM,
+  anyM,
+  endM,
+  branchM,
+  selectM,
+};
 ghost use Rattle.engine_evaluate.specs.Actions.{effectM, afterM, actionM, listM, wordM, topM, steppedM};
 
 pub enum Truth {

@@ -7,7 +7,22 @@ use borrow.Author.Tests.{eq-eqb, ne-eqb, lt-ltb, le-ltb, le-leb, lt-leb}
 use native.Mathlib.Omega.{arith}
 use Rattle.texts.specs.Places.{startFrom}
 use Rattle.runs.specs.Runs.{placeWord}
-use Rattle.engine_fields.specs.Fields.{two, four, cap, atMost, name, word, entities, entityFrom, entityOf, textPosition, aboutRule, alone, noteReason, listWord}
+use Rattle.engine_fields.specs.Fields.{
+  two,
+  four,
+  cap,
+  atMost,
+  name,
+  word,
+  entities,
+  entityFrom,
+  entityOf,
+  textPosition,
+  aboutRule,
+  alone,
+  noteReason,
+  listWord,
+}
 use Rattle.reasons.specs.Kinds as kinds
 use Rattle.reasons.specs.Readable.{text-count}
 
@@ -90,7 +105,8 @@ module _ (f : List ℕ) (p : ℕ) {n : ℕ} (c : n ≡ two f 4) where
   unfolding textPosition text-count two
   position-near h e g = rw (lt-ltb p (two f 4) (omega (arith, h, c))) (e ∙ ap cap g)
 
-pub about-is : (f x : List ℕ) (i k v w : ℕ) → v ≡ word x i 0 → w ≡ textPosition f v → record { kind = k; first = w; second = 4294967295; line = 0; column = 0 } ≡ aboutRule f x i k
+pub about-is : (f x : List ℕ) (i k v w : ℕ) → v ≡ word x i 0 → w ≡ textPosition f v →
+    record { kind = k; first = w; second = 4294967295; line = 0; column = 0 } ≡ aboutRule f x i k
 unfolding aboutRule
 about-is f x i k v w e g = rw (g, e)
 
@@ -98,6 +114,7 @@ pub alone-is : (k : ℕ) → record { kind = k; first = 4294967295; second = 429
 unfolding alone
 alone-is k = refl
 
-pub note-is : (f : List ℕ) (p w : ℕ) → w ≡ textPosition f p → record { kind = kinds.note; first = w; second = 4294967295; line = 0; column = 0 } ≡ noteReason f p
+pub note-is : (f : List ℕ) (p w : ℕ) → w ≡ textPosition f p →
+    record { kind = kinds.note; first = w; second = 4294967295; line = 0; column = 0 } ≡ noteReason f p
 unfolding noteReason
 note-is f p w e = rw e

@@ -27,7 +27,11 @@ module _ (f : List ℕ) (h : HasText f) where
   pub position-stands : (p : ℕ) → TextAt f (textPosition f p)
   unfolding textPosition cap startFrom
   position-stands p = elim (decLt p (text-count f)) [
-    | yes g ↦ rw (lt-ltb p (text-count f) g, le-ltb 4294967295 (startFrom f 6 p) (omega (arith, start-low f (h .bytes) p 6 6 (omega arith), few))) (record { place = p; among = g; is = refl })
+    | yes g ↦ rw (
+      lt-ltb p (text-count f) g,
+      le-ltb 4294967295 (startFrom f 6 p)
+          (omega (arith, start-low f (h .bytes) p 6 6 (omega arith), few)),
+    ) (record { place = p; among = g; is = refl })
     | no g ↦ rw (le-ltb p (text-count f) (omega arith)) (record { place = 0; among = h .some; is = refl })
   ]
 

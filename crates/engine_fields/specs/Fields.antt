@@ -24,7 +24,8 @@ cap p = if ltb 4294967295 p then 4294967295 else p
 
 -- a place in an action list, in a word: positions stay below 32768
 unfoldable pub listWord : (position left : ℕ) → ℕ
-listWord p n = if ltb 32767 p then placeWord (record { position = 32767; left = n }) else placeWord (record { position = p; left = n })
+listWord p n = if ltb 32767 p then placeWord (record { position = 32767; left = n })
+    else placeWord (record { position = p; left = n })
 
 unfoldable pub atMost : ℕ → (most : ℕ) → ℕ
 atMost n most = if leb n most then n else most

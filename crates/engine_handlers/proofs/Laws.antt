@@ -19,7 +19,18 @@ use Rattle.engine_state.specs.Machine.{Machine, entire, machine, with-active, s
 use Rattle.engine_state.specs.Steps.{kept, goes, still, Steps}
 use Rattle.engine_state.proofs.Laws as states
 use Rattle.engine_update.specs.Update.{cells}
-use Rattle.engine_handlers.specs.Handlers.{over-onM, over-endM, wait-overM, time-phaseM, time-runM, expire-toM, expireM, stale-atM, go-staleM, no-runsM}
+use Rattle.engine_handlers.specs.Handlers.{
+  over-onM,
+  over-endM,
+  wait-overM,
+  time-phaseM,
+  time-runM,
+  expire-toM,
+  expireM,
+  stale-atM,
+  go-staleM,
+  no-runsM,
+}
 
 module _ (k : ℕ) (r : Run) (w : Wait) (m : Machine) where
   pub over-early : (w .deadline ≡ m .now → ⊥) → m ≡ wait-overM k r w m
@@ -42,7 +53,8 @@ pub time-going : (k : ℕ) (r : Run) (m : Machine) → r .phase ≡ Going → m 
 unfolding time-runM time-phaseM
 time-going k r m e = sym (ap (λ p. time-phaseM k r p m) e)
 
-pub expire-is : (x : List ℕ) (e n : ℕ) (m : Machine) → n ≡ name x e → expire-toM n (getD (m .values) e 0) (getD x 6 0) (storedM (cells m) e (getD x 6 0)) m ≡ expireM x e m
+pub expire-is : (x : List ℕ) (e n : ℕ) (m : Machine) → n ≡ name x e →
+    expire-toM n (getD (m .values) e 0) (getD x 6 0) (storedM (cells m) e (getD x 6 0)) m ≡ expireM x e m
 unfolding expireM
 expire-is x e n m en = ap (λ z. expire-toM z (getD (m .values) e 0) (getD x 6 0) (storedM (cells m) e (getD x 6 0)) m) en
 
@@ -58,11 +70,21 @@ module _ (x : List ℕ) (e v i : ℕ) (m : Machine) (is : i ≡ entityOf x e) wh
 
     pub stale-known : getD (m .versions) i 0 ≡ v → getD (m .values) i 0 ≡ getD x 6 0 → m ≡ go-staleM x e v m
     unfolding go-staleM stale-atM
-    stale-known g u = rw (← is, le-ltb 31 i h, eq-eqb (getD (m .versions) i 0) v g, eq-eqb (getD (m .values) i 0) (getD x 6 0) u)
+    stale-known g u = rw (
+      ← is,
+      le-ltb 31 i h,
+      eq-eqb (getD (m .versions) i 0) v g,
+      eq-eqb (getD (m .values) i 0) (getD x 6 0) u,
+    )
 
     pub stale-goes : getD (m .versions) i 0 ≡ v → (getD (m .values) i 0 ≡ getD x 6 0 → ⊥) → expireM x i m ≡ go-staleM x e v m
     unfolding go-staleM stale-atM
-    stale-goes g u = rw (← is, le-ltb 31 i h, eq-eqb (getD (m .versions) i 0) v g, ne-eqb (getD (m .values) i 0) (getD x 6 0) u)
+    stale-goes g u = rw (
+      ← is,
+      le-ltb 31 i h,
+      eq-eqb (getD (m .versions) i 0) v g,
+      ne-eqb (getD (m .values) i 0) (getD x 6 0) u,
+    )
 
 -- an area from which all its runs were cleared is zeros
 pub none-of-runs : (a b : List ℕ) (n : ℕ) (l : List Run) → length l ≡ n → a ≡ area runWords (length a) l → n * 28 ≤ length a
@@ -77,7 +99,8 @@ pub no-runs : (st s : State) (r b : List ℕ) → st .«live_runs» * 28 ≤ len
     → s ≡ with-active 0 st → length b ≡ length r → {v n c : List ℕ} →
     Steps (λ k. no-runsM (machine (entire st v n c) k)) (entire st v n c) (entire s v n c) kept kept (goes r b) still
 no-runs st s r b h e g same {v} {n} {c = l} =
-    subst (λ z. Steps (λ c. no-runsM (machine (entire st v n l) c)) (entire st v n l) (entire z v n l) kept kept (goes r b) still)
+    subst (λ z. Steps (λ c. no-runsM (machine (entire st v n l) c)) (entire st v n l) (entire z v n l) kept kept (goes r b)
+    still)
     (sym g) (record {
       queue = refl;
       records = refl;

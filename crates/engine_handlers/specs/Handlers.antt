@@ -30,7 +30,8 @@ unfoldable pub over-endM : (k : ℕ) → Run → Wait → Machine → Machine
 over-endM k r w m = finishM k (log-actionM 17 0 (w .source) r m)
 
 unfoldable pub wait-overM : (k : ℕ) → Run → Wait → Machine → Machine
-wait-overM k r w m = if eqb (w .deadline) (m .now) then (if w .«continue_on_timeout» then over-onM k r w m else over-endM k r w m) else m
+wait-overM k r w m = if eqb (w .deadline) (m .now)
+    then (if w .«continue_on_timeout» then over-onM k r w m else over-endM k r w m) else m
 
 unfoldable pub time-phaseM : (k : ℕ) → Run → Phase → Machine → Machine
 time-phaseM k r Going m = m

@@ -106,7 +106,8 @@ pub fn go_stale(
     version: u32,
 ) -> State
     requires { ⌜ Fits-qa st (now q) (now a) ⌝ }
-    ensures { λ t. ⌜ Moves (go-staleM (was x) entity version) st t (by q) (by a) kept still (by values) (goes (was versions) (was versions)) kept ⌝ }
+    ensures { λ t. ⌜ Moves (go-staleM (was x) entity version) st t (by q) (by a) kept still (by values)
+        (goes (was versions) (was versions)) kept ⌝ }
 {
     let e = entity_of(x, entity);
     if 31 < e {

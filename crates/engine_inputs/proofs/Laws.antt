@@ -45,7 +45,8 @@ zeros zero e = refl
 zeros (suc n) zero = refl
 zeros (suc n) (suc e) = zeros n e
 
-pub word-is : (s l : List ℕ) (k : ℕ) {p r : ℕ} → p ≡ cap (getD l (k / 4) 0) → r ≡ event-part s p (k % 4) → r ≡ event-from s l k
+pub word-is : (s l : List ℕ) (k : ℕ) {p r : ℕ} → p ≡ cap (getD l (k / 4) 0) → r ≡ event-part s p (k % 4) →
+    r ≡ event-from s l k
 unfolding event-from
 word-is s l k e f = f ∙ ap (λ (p : ℕ). event-part s p (k % 4)) e
 

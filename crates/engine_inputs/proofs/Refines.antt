@@ -55,10 +55,12 @@ module _ (f : List ℕ) (ts : List Text) where
       let c = g .domain in
       let a = u16-wide f p (g .name .is-place) in
       let b = u16-wide f (g .at-domain) (c .is-count) in
-      let v = times-wide (place ts) 2 f (λ p a q y. u16-wide f p (place-found ts y .is-place)) (c .count) (c .start) (e .domain) (g .at-initial) (omega (arith, b .ends, b .inside)) (c .are-values) in
+      let v = times-wide (place ts) 2 f (λ p a q y. u16-wide f p (place-found ts y .is-place)) (c .count) (c .start)
+      (e .domain) (g .at-initial) (omega (arith, b .ends, b .inside)) (c .are-values) in
       let y : two f (p + 2) ≡ c .count = ap (two f) (sym (a .ends)) ∙ two-is f (g .at-domain) (c .is-count) in
       let o : p + 4 + 2 * two f (p + 2) ≡ g .at-initial = omega (arith, y, a .ends, b .ends, v .ends) in
-      let w : two f (p + 4 + 2 * two f (p + 2)) ≡ g .initial .at = ap (two f) o ∙ two-is f (g .at-initial) (g .initial .is-place) in
+      let w : two f (p + 4 + 2 * two f (p + 2)) ≡ g .initial .at =
+      ap (two f) o ∙ two-is f (g .at-initial) (g .initial .is-place) in
       record {
         place-in = subst (λ (k : ℕ). k < length ts) (sym w) (g .initial .is-in);
         value-is = g .initial .is-text ∙ ap (λ (k : ℕ). getD ts k []) (sym w);
@@ -91,8 +93,13 @@ module _ (f : List ℕ) (ts : List Text) where
           let eu : two f (p + 1) ≡ u .at = ap (two f) (sym (z .ends)) ∙ two-is f (k .next) (u .is-place) in
           let at : p + 3 ≡ a .next = omega (arith, z .ends, o .ends) in
           let ew : two f (p + 3) ≡ w .at = ap (two f) at ∙ two-is f (a .next) (w .is-place) in
-          subst (InputWords ts (getD f p 0) (two f (p + 1)) (two f (p + 3))) (g .0)
-          (e, ((subst (λ (n : ℕ). n < length ts) (sym eu) (u .is-in), u .is-text ∙ ap (λ (n : ℕ). getD ts n []) (sym eu)), (subst (λ (n : ℕ). n < length ts) (sym ew) (w .is-in), w .is-text ∙ ap (λ (n : ℕ). getD ts n []) (sym ew))))
+          subst (InputWords ts (getD f p 0) (two f (p + 1)) (two f (p + 3))) (g .0) (
+            e,
+            (
+              (subst (λ (n : ℕ). n < length ts) (sym eu) (u .is-in), u .is-text ∙ ap (λ (n : ℕ). getD ts n []) (sym eu)),
+              (subst (λ (n : ℕ). n < length ts) (sym ew) (w .is-in), w .is-text ∙ ap (λ (n : ℕ). getD ts n []) (sym ew)),
+            ),
+          )
       cases (suc zero) e y =
           subst (InputWords ts (getD f p 0) (two f (p + 1)) (two f (p + 3))) (given _ _ _ y .0) e
       cases (suc (suc zero)) e y =
@@ -184,7 +191,8 @@ each-under g P (a ∷ l) h = (h .0, each-under g P l (h .1))
 pub events-accepted : (f : List ℕ) (m : Model) → accepted f ≡ answer m →
     Each (λ (v : Event). check-input (m .scenario .entities) (v .input) ≡ accept) (m .scenario .events)
 events-accepted f m acc =
-    each-under (λ (v : Event). v .input) (λ (v : Input). check-input (m .scenario .entities) v ≡ accept) (m .scenario .events)
+    each-under (λ (v : Event). v .input) (λ (v : Input). check-input (m .scenario .entities) v ≡ accept)
+    (m .scenario .events)
     (each-split (λ (v : Input). check-input (m .scenario .entities) v ≡ accept)
     (each (λ (v : Event). v .input) (m .scenario .events)) (m .scenario .alphabet) (accepted-lawful f m acc .inputs) .0)
 
@@ -224,108 +232,118 @@ module _ (f : List ℕ) (i : Index) (m : Model) (acc : accepted f ≡ answer m) 
       go [] g = tt
       go (v ∷ l) g = (g v 0 (omega arith), go l (λ d k h. g d (suc k) (omega arith)))
 
-module _ (f x : List ℕ) (i : Index) (m : Model) (acc : accepted f ≡ answer m) (o : Indexed f i m) (tb : Tabled f x (o .ts) m) where
-  abbrev ts : List Text
-  ts = o .ts
+module _ (f x : List ℕ) (i : Index) (m : Model) (acc : accepted f ≡ answer m) (o : Indexed f i m) (tb : Tabled f x (o .ts) m)
+  where
+    abbrev ts : List Text
+    ts = o .ts
 
-  abbrev es : List Entity
-  es = m .scenario .entities
+    abbrev es : List Entity
+    es = m .scenario .entities
 
-  abbrev events : List Event
-  events = m .scenario .events
+    abbrev events : List Event
+    events = m .scenario .events
 
-  near : (p : ℕ) → p ≤ length f → cap p ≡ p
-  near p h = cap-is p (omega (arith, h, tb .size))
+    near : (p : ℕ) → p ≤ length f → cap p ≡ p
+    near p h = cap-is p (omega (arith, h, tb .size))
 
-  -- ---- the values
+    -- ---- the values
 
-  module _ (c : Cells) (s : CellsOf f i c) where
-    value-at : (d : Entity) (e : ℕ) → e < length es →
-        (getD (c .values) e 0 < length ts) × (getD es e d .initial ≡ getD ts (getD (c .values) e 0) [])
-    unfolding value-from
-    value-at d e h =
-        let p = getD (i .entities .starts) e 0 in
-        let r = o .entities .stand d e (omega (arith, tb .few-entities)) h in
-        let g = initial-read f ts p (getD es e d) (r .0) (r .1) in
-        let k : getD (c .values) e 0 ≡ initial-at f p = s .values e (omega (arith, tb .few-entities)) ∙ rw (lt-ltb e (i .entities .count) (omega (arith, h, o .entities .counts)), near p (g .inside)) in
-        (subst (λ (n : ℕ). n < length ts) (sym k) (g .place-in), g .value-is ∙ ap (λ (n : ℕ). getD ts n []) (sym k))
+    module _ (c : Cells) (s : CellsOf f i c) where
+      value-at : (d : Entity) (e : ℕ) → e < length es →
+          (getD (c .values) e 0 < length ts) × (getD es e d .initial ≡ getD ts (getD (c .values) e 0) [])
+      unfolding value-from
+      value-at d e h =
+          let p = getD (i .entities .starts) e 0 in
+          let r = o .entities .stand d e (omega (arith, tb .few-entities)) h in
+          let g = initial-read f ts p (getD es e d) (r .0) (r .1) in
+          let k : getD (c .values) e 0 ≡ initial-at f p =
+          s .values e (omega (arith, tb .few-entities))
+          ∙ rw (lt-ltb e (i .entities .count) (omega (arith, h, o .entities .counts)), near p (g .inside)) in
+          (subst (λ (n : ℕ). n < length ts) (sym k) (g .place-in), g .value-is ∙ ap (λ (n : ℕ). getD ts n []) (sym k))
 
-    pub start-valued : Valued f x ts m tb (c .values)
-    start-valued = record { long = s .values-long; in-texts = λ e h. value-at none-such e h .0 }
-      where
-        none-such : Entity
-        none-such = getD es 0 (record { name = []; domain = []; initial = []; tier = Rattle.model_spec.specs.Model.observational; stale-after = mathlib.Core.Option.none })
+      pub start-valued : Valued f x ts m tb (c .values)
+      start-valued = record { long = s .values-long; in-texts = λ e h. value-at none-such e h .0 }
+        where
+          none-such : Entity
+          none-such = getD es 0 (record {
+            name = [];
+            domain = [];
+            initial = [];
+            tier =
+                Rattle.model_spec.specs.Model.observational;
+            stale-after = mathlib.Core.Option.none;
+          })
 
-    pub start-cells-are : initial-cells es ≡ cells-of x ts (c .values) (c .versions)
-    start-cells-are =
-        start-cells f x ts m tb (c .values) (c .versions) (λ d e h. value-at d e h .1)
-        (λ e. ap (λ (l : List ℕ). getD l e 0) (s .versions) ∙ laws.zeros 32 e)
+      pub start-cells-are : initial-cells es ≡ cells-of x ts (c .values) (c .versions)
+      start-cells-are =
+          start-cells f x ts m tb (c .values) (c .versions) (λ d e h. value-at d e h .1)
+          (λ e. ap (λ (l : List ℕ). getD l e 0) (s .versions) ∙ laws.zeros 32 e)
 
-  -- ---- the events
+    -- ---- the events
 
-  abbrev places : (k : ℕ) → k < length ts → place-of (getD ts k []) ts ≡ k
-  places k h = text-place f x ts m tb k h
+    abbrev places : (k : ℕ) → k < length ts → place-of (getD ts k []) ts ≡ k
+    places k h = text-place f x ts m tb k h
 
-  few : length events ≤ 100
-  few = accepted-lawful f m acc .few-events
+    few : length events ≤ 100
+    few = accepted-lawful f m acc .few-events
 
-  read : (d : Event) (k : ℕ) → k < length events →
-      EventRead f i m acc o places (getD (i .events .starts) k 0) (getD events k d)
-  read = event-stands f i m acc o places
+    read : (d : Event) (k : ℕ) → k < length events →
+        EventRead f i m acc o places (getD (i .events .starts) k 0) (getD events k d)
+    read = event-stands f i m acc o places
 
-  module _ (l : List ℕ) (s : EventsOf f i l) where
-    many : atMost (i .events .count) 100 ≡ length events
-    many = sym (most-yes (i .events .count) 100 (omega (arith, few, o .events .counts))) ∙ o .events .counts
+    module _ (l : List ℕ) (s : EventsOf f i l) where
+      many : atMost (i .events .count) 100 ≡ length events
+      many = sym (most-yes (i .events .count) 100 (omega (arith, few, o .events .counts))) ∙ o .events .counts
 
-    word-at : (d : Event) (k j : ℕ) → k < length events → j < 4 →
-        getD l (k * 4 + j) 0 ≡ event-part f (getD (i .events .starts) k 0) j
-    unfolding event-from
-    word-at d k j h g =
-        let a : (k * 4 + j) / 4 ≡ k = omega arith in
-        let b : (k * 4 + j) % 4 ≡ j = omega arith in
-        s .words (k * 4 + j) (omega (arith, h, many)) ∙ rw (a, b, near (getD (i .events .starts) k 0) (read d k h .inside))
+      word-at : (d : Event) (k j : ℕ) → k < length events → j < 4 →
+          getD l (k * 4 + j) 0 ≡ event-part f (getD (i .events .starts) k 0) j
+      unfolding event-from
+      word-at d k j h g =
+          let a : (k * 4 + j) / 4 ≡ k = omega arith in
+          let b : (k * 4 + j) % 4 ≡ j = omega arith in
+          s .words (k * 4 + j) (omega (arith, h, many)) ∙ rw (a, b, near (getD (i .events .starts) k 0) (read d k h .inside))
 
-    part-here : (d : Event) (k j : ℕ) → k < length events → j < 4 →
-        event-part f (getD (i .events .starts) k 0) j ≡ getD (event-words ts (getD events k d)) j 0
-    unfolding event-part event-words
-    part-here d k zero h g = read d k h .second
-    part-here d k (suc zero) h g = read d k h .words .kind
-    part-here d k (suc (suc zero)) h g = read d k h .words .entity
-    part-here d k (suc (suc (suc zero))) h g = read d k h .words .value
-    part-here d k (suc (suc (suc (suc j)))) h g = absurd (omega arith)
+      part-here : (d : Event) (k j : ℕ) → k < length events → j < 4 →
+          event-part f (getD (i .events .starts) k 0) j ≡ getD (event-words ts (getD events k d)) j 0
+      unfolding event-part event-words
+      part-here d k zero h g = read d k h .second
+      part-here d k (suc zero) h g = read d k h .words .kind
+      part-here d k (suc (suc zero)) h g = read d k h .words .entity
+      part-here d k (suc (suc (suc zero))) h g = read d k h .words .value
+      part-here d k (suc (suc (suc (suc j)))) h g = absurd (omega arith)
 
-    -- the model's events, and zeros behind them
-    pub events-are : l ≡ area (event-words ts) 400 events
-    events-are =
-        ext-getD 0 l (area (event-words ts) 400 events)
-        (s .long ∙ sym (areas.area-length (event-words ts) 4 (event-size ts) 400 events (omega (arith, few)))) λ k h.
-        elim (decLt (k / 4) (length events)) [
-          | yes y ↦
-              let e : k / 4 * 4 + k % 4 ≡ k = omega arith in
-              ap (λ (n : ℕ). getD l n 0) (sym e)
-              ∙ word-at none-such (k / 4) (k % 4) y (omega arith)
-              ∙ part-here none-such (k / 4) (k % 4) y (omega arith)
-              ∙ sym (areas.word-is (event-words ts) 4 (event-size ts) 400 events (k / 4) (k % 4) none-such y (omega arith))
-              ∙ ap (λ (n : ℕ). getD (area (event-words ts) 400 events) n 0) e
-          | no y ↦
-              s .behind k (omega (arith, y, many))
-              ∙ sym (word-behind (event-words ts) 4 (event-size ts) 400 events k (omega (arith, y)))
-        ]
-      where
-        none-such : Event
-        none-such = record { at = 0; input = Input.restart }
+      -- the model's events, and zeros behind them
+      pub events-are : l ≡ area (event-words ts) 400 events
+      events-are =
+          ext-getD 0 l (area (event-words ts) 400 events)
+          (s .long ∙ sym (areas.area-length (event-words ts) 4 (event-size ts) 400 events (omega (arith, few)))) λ k h.
+          elim (decLt (k / 4) (length events)) [
+            | yes y ↦
+                let e : k / 4 * 4 + k % 4 ≡ k = omega arith in
+                ap (λ (n : ℕ). getD l n 0) (sym e)
+                ∙ word-at none-such (k / 4) (k % 4) y (omega arith)
+                ∙ part-here none-such (k / 4) (k % 4) y (omega arith)
+                ∙ sym (areas.word-is (event-words ts) 4 (event-size ts) 400 events (k / 4) (k % 4) none-such y (omega arith))
+                ∙ ap (λ (n : ℕ). getD (area (event-words ts) 400 events) n 0) e
+            | no y ↦
+                s .behind k (omega (arith, y, many))
+                ∙ sym (word-behind (event-words ts) 4 (event-size ts) 400 events k (omega (arith, y)))
+          ]
+        where
+          none-such : Event
+          none-such = record { at = 0; input = Input.restart }
 
-    module _ (d : Event) (k : ℕ) (h : k < length events) where
-      abbrev v : Event
-      v = getD events k d
+      module _ (d : Event) (k : ℕ) (h : k < length events) where
+        abbrev v : Event
+        v = getD events k d
 
-      -- the event's second and its input, as words
-      words-here : EventWords ts l k v
-      words-here = event-words-here ts l d events 400 events-are k h
-          (lists.each-getD (λ (v : Event). Fine ts (v .input)) events k d h (events-fine f i m acc o places))
+        -- the event's second and its input, as words
+        words-here : EventWords ts l k v
+        words-here = event-words-here ts l d events 400 events-are k h
+            (lists.each-getD (λ (v : Event). Fine ts (v .input)) events k d h (events-fine f i m acc o places))
 
-      pub event-here : EventAt f x ts m tb l k v
-      event-here =
-          event-at f x ts m tb l k v
-          (lists.each-getD (λ (v : Event). check-input es (v .input) ≡ accept) events k d h (events-accepted f m acc))
-          (words-here .second) (words-here .input)
+        pub event-here : EventAt f x ts m tb l k v
+        event-here =
+            event-at f x ts m tb l k v
+            (lists.each-getD (λ (v : Event). check-input es (v .input) ≡ accept) events k d h (events-accepted f m acc))
+            (words-here .second) (words-here .input)

@@ -4,7 +4,15 @@ use model_index::Index;
 ghost use Rattle.notation.specs.Reference.{was};
 ghost use mathlib.Core.Path.{_≡_};
 ghost use Prim.Native.Nat.{_≤_, _<_};
-ghost use Rattle.engine_inputs.specs.Inputs.{input-part, event-part, event-from, EventsOf, initial-at, value-from, CellsOf};
+ghost use Rattle.engine_inputs.specs.Inputs.{
+  input-part,
+  event-part,
+  event-from,
+  EventsOf,
+  initial-at,
+  value-from,
+  CellsOf,
+};
 
 // Events of four words: a second, a kind, an entity and a value.
 pub struct Events {

@@ -61,7 +61,8 @@ pub record Ends (f x : List ℕ) (st : State) (e : Ended) (q q' a a' r r' u u' v
   pub records : Side 13 (goes a a') (st .records) (e .state .records)
   pub runs : Side 28 (goes r r') (st .«live_runs») (e .state .«live_runs»)
   pub reasons : Side-told (told f u u') (st .reasons) (e .state .reasons)
-  pub does : (k : Content) → Held f q a r u (entire st v n c) k → Halts f q' a' r' u' v' n' c' (getD x 3 0) e (loopM f x (getD x 3 0) (machine (entire st v n c) k))
+  pub does : (k : Content) → Held f q a r u (entire st v n c) k →
+      Halts f q' a' r' u' v' n' c' (getD x 3 0) e (loopM f x (getD x 3 0) (machine (entire st v n c) k))
 
 -- ---- after it
 
@@ -70,10 +71,12 @@ horizonM x m = log-plainM 9 (put-now (getD x 2 0) m)
 
 -- a simulation that reached the horizon with no run left says so
 unfoldable pub closedM : List ℕ → Halt → Halt
-closedM x p = if eqb (p .«stop_reason») 0 then (if eqb (length (p .last .runs)) 0 then halt (horizonM x (p .last)) (p .left) 0 else p) else p
+closedM x p = if eqb (p .«stop_reason») 0 then (if eqb (length (p .last .runs)) 0
+    then halt (horizonM x (p .last)) (p .left) 0 else p) else p
 
 pub record Closes (x : List ℕ) (d e : Ended) (a a' : List ℕ) : Type 0 where
   pub queue : e .state .«queue_start» + e .state .items ≡ d .state .«queue_start» + d .state .items
   pub records : Side 13 (goes a a') (d .state .records) (e .state .records)
   pub runs : e .state .«live_runs» ≡ d .state .«live_runs»
-  pub does : (f q r u v n c : List ℕ) (total : ℕ) (p : Halt) → Halts f q a r u v n c total d p → Halts f q a' r u v n c total e (closedM x p)
+  pub does : (f q r u v n c : List ℕ) (total : ℕ) (p : Halt) → Halts f q a r u v n c total d p →
+      Halts f q a' r u v n c total e (closedM x p)

@@ -25,7 +25,8 @@ fn turn(
     st: State,
 ) -> State
     requires { ⌜ Fits st (now q) (now a) (now r) (now u) ⌝ }
-    ensures { λ s. ⌜ Moves (turnM (was f) (was x)) st s (by q) (by a) (by r) (told (was f) (was u) (is u)) (by values) (by versions) (by sequences) ⌝ }
+    ensures { λ s. ⌜ Moves (turnM (was f) (was x)) st s (by q) (by a) (by r) (told (was f) (was u) (is u)) (by values)
+        (by versions) (by sequences) ⌝ }
 {
     if st.items == 0 {
         return st;
@@ -59,7 +60,8 @@ pub fn run_loop(
     st: State,
 ) -> Ended
     requires { ⌜ Fits st (now q) (now a) (now r) (now u) ⌝ }
-    ensures { λ e. ⌜ Ends (was f) (was x) st e (was q) (is q) (was a) (is a) (was r) (is r) (was u) (is u) (was values) (is values) (was versions) (is versions) (was sequences) (is sequences) ⌝ }
+    ensures { λ e. ⌜ Ends (was f) (was x) st e (was q) (is q) (was a) (is a) (was r) (is r) (was u) (is u) (was values)
+        (is values) (was versions) (is versions) (was sequences) (is sequences) ⌝ }
 {
     let mut s = st;
     let mut left = x[3];

@@ -14,7 +14,13 @@ use Rattle.engine_evaluate.specs.Actions.{listM}
 use Rattle.engine_state.specs.Machine.{Machine, more, put-runs}
 use Rattle.engine_state.specs.Changes.{log-ruleM, add-runM, next-stepM}
 use Rattle.engine_modes.specs.declared.Decision.{Decision}
-use Rattle.engine_modes.specs.declared.Decision.the-variants.{AlreadyRunning, MaxReached, Start, StopAndStart, WaitInLine}
+use Rattle.engine_modes.specs.declared.Decision.the-variants.{
+  AlreadyRunning,
+  MaxReached,
+  Start,
+  StopAndStart,
+  WaitInLine,
+}
 
 -- the run goes on at once
 abbrev pub nowM : Run → Machine → Machine
@@ -24,7 +30,15 @@ nowM r m = next-stepM r (m .now) m
 
 unfoldable pub newRun : (f x : List ℕ) → (i : ℕ) → Bool → (made : ℕ) → (sequences : List ℕ) → Run
 newRun f x i later made sequences =
-    listM f (record { automation = i; sequence = getD sequences i 0; number = more made; queued = later; phase = Going; depth = 0; places = replicate 17 0 }) (word x i 5)
+    listM f (record {
+      automation = i;
+      sequence = getD sequences i 0;
+      number = more made;
+      queued = later;
+      phase = Going;
+      depth = 0;
+      places = replicate 17 0;
+    }) (word x i 5)
 
 unfoldable pub begin-runM : (i : ℕ) → Run → Machine → Machine
 begin-runM i r m = nowM r (log-ruleM 12 (r .number) (r .automation) (add-runM i r m))

@@ -1,5 +1,5 @@
--- A simulation that isn't refused is the same in larger areas. Each change of the engine does the same in both, unless an area
--- overflows; and a note of an overflow stays.
+-- A simulation that isn't refused is the same in larger areas. Each change of the engine does the same in both, unless an
+-- area overflows; and a note of an overflow stays.
 use Prim.Native.Nat.{ℕ, zero, suc, _+_, _≤_}
 use mathlib.Core.Path.{_≡_, refl, ap, _∙_}
 use mathlib.Core.Bool.{Bool, true, false, not, _&&_, _||_}
@@ -12,7 +12,24 @@ use Rattle.texts.specs.Lists.{if_then_else_, _▸_, absent, any, keep, find, ta
 use Rattle.texts.specs.Texts.{Text, text, eqT}
 use Rattle.model_spec.specs.Answer.{answer}
 use Rattle.model_spec.specs.Validate.{undecided}
-use Rattle.model_spec.specs.Model.{Source, Trigger, Effect, toggle, delay, condition, choose, wait, Actions, done, act, Automation, Input, reload, Event, Model}
+use Rattle.model_spec.specs.Model.{
+  Source,
+  Trigger,
+  Effect,
+  toggle,
+  delay,
+  condition,
+  choose,
+  wait,
+  Actions,
+  done,
+  act,
+  Automation,
+  Input,
+  reload,
+  Event,
+  Model,
+}
 use Rattle.engine_spec.specs.Cells.{Cell, cell-of, value-of, put}
 use Rattle.engine_spec.specs.Kleene.{Truth, Yes, No, Unknown}
 use Rattle.engine_spec.specs.Truth.{evaluate, evaluate-all, matches}
@@ -20,8 +37,81 @@ use Rattle.engine_spec.specs.Unsupported.{unsupported}
 use Rattle.engine_spec.specs.Reasons.{toggle-of-unknown, space-spent, steps-spent}
 use Rattle.engine_spec.specs.Modes.{Decision, already-running, max-reached, start, stop-and-start, wait-in-line, decide}
 use Rattle.engine_spec.specs.Records.{Key, Waiting, Run, Work, Item, Kind, Change, Trace, Areas, Engine}
-use Rattle.engine_spec.specs.Changes.{if-some, noted, with-cells, add, append, with-runs, add-run, uncertain, adds, with-queue}
-use Rattle.engine_spec.specs.Engine.{is-run, of-rule, other-run, of-other-rule, in-line, in-place, store, left, new-run, awaits, woken, toggled, select, moment, next-step, log, log-rule, log-action, expiry, expiry-of, change-of, update, let-go, release, finish, wake, begin, carry-out, admit, offer, trigger, go-on-after, write, flip, tested, chosen, begin-wait, perform, go-on, step, resume, wait-over, end-wait, time-out, expire, go-stale, drop-runs, process, pop, Next, stop, exhausted, take, next-of, Ended, loop, event-item, begun, left-over, last-record, closed}
+use Rattle.engine_spec.specs.Changes.{
+  if-some,
+  noted,
+  with-cells,
+  add,
+  append,
+  with-runs,
+  add-run,
+  uncertain,
+  adds,
+  with-queue,
+}
+use Rattle.engine_spec.specs.Engine.{
+  is-run,
+  of-rule,
+  other-run,
+  of-other-rule,
+  in-line,
+  in-place,
+  store,
+  left,
+  new-run,
+  awaits,
+  woken,
+  toggled,
+  select,
+  moment,
+  next-step,
+  log,
+  log-rule,
+  log-action,
+  expiry,
+  expiry-of,
+  change-of,
+  update,
+  let-go,
+  release,
+  finish,
+  wake,
+  begin,
+  carry-out,
+  admit,
+  offer,
+  trigger,
+  go-on-after,
+  write,
+  flip,
+  tested,
+  chosen,
+  begin-wait,
+  perform,
+  go-on,
+  step,
+  resume,
+  wait-over,
+  end-wait,
+  time-out,
+  expire,
+  go-stale,
+  drop-runs,
+  process,
+  pop,
+  Next,
+  stop,
+  exhausted,
+  take,
+  next-of,
+  Ended,
+  loop,
+  event-item,
+  begun,
+  left-over,
+  last-record,
+  closed,
+}
 use Rattle.engine_spec.specs.Simulate.{ended, outcome, unless-full, simulated}
 use Rattle.engine_spec.proofs.Lists.{lt-leb}
 use Rattle.engine_spec.proofs.Closed.{sticky, had-room}
@@ -112,7 +202,19 @@ module _ (A B : Areas) (larger : Larger A B) where
     same = λ e a o.
         let room = had-room 41 (length (e .queue)) (e .areas .queue) (e .overflow) o in
         let more : length (e .queue) + 1 ≤ B .queue = omega (arith, room, larger .queue, ap (λ (x : Areas). x .queue) a) in
-        ap (λ (x : Option ℕ). record { cells = e .cells; queue = e .queue ++ i ∷ []; runs = e .runs; made = e .made; trace = e .trace; unknown = e .unknown; overflow = x; areas = B; start = e .start }) (fresh 41 (length (e .queue)) (B .queue) more);
+        ap (λ (x : Option ℕ). record {
+          cells = e .cells;
+          queue = e .queue ++ i ∷ [];
+          runs = e .runs;
+          made = e .made;
+          trace =
+              e .trace;
+          unknown = e .unknown;
+          overflow = x;
+          areas = B;
+          start = e .start;
+        })
+        (fresh 41 (length (e .queue)) (B .queue) more);
   }
 
   s-append : (t : Trace) → Same (append t)
@@ -122,8 +224,21 @@ module _ (A B : Areas) (larger : Larger A B) where
     stays = λ e o. sticky 42 (length (e .trace)) (e .areas .records) (e .overflow) o;
     same = λ e a o.
         let room = had-room 42 (length (e .trace)) (e .areas .records) (e .overflow) o in
-        let more : length (e .trace) + 1 ≤ B .records = omega (arith, room, larger .records, ap (λ (x : Areas). x .records) a) in
-        ap (λ (x : Option ℕ). record { cells = e .cells; queue = e .queue; runs = e .runs; made = e .made; trace = e .trace ++ t ∷ []; unknown = e .unknown; overflow = x; areas = B; start = e .start }) (fresh 42 (length (e .trace)) (B .records) more);
+        let more : length (e .trace) + 1 ≤ B .records =
+        omega (arith, room, larger .records, ap (λ (x : Areas). x .records) a) in
+        ap (λ (x : Option ℕ). record {
+          cells = e .cells;
+          queue = e .queue;
+          runs = e .runs;
+          made = e .made;
+          trace =
+              e .trace ++ t ∷ [];
+          unknown = e .unknown;
+          overflow = x;
+          areas = B;
+          start = e .start;
+        })
+        (fresh 42 (length (e .trace)) (B .records) more);
   }
 
   s-run : (r : Run) → Same (add-run r)
@@ -134,7 +249,19 @@ module _ (A B : Areas) (larger : Larger A B) where
     same = λ e a o.
         let room = had-room 43 (length (e .runs)) (e .areas .runs) (e .overflow) o in
         let more : length (e .runs) + 1 ≤ B .runs = omega (arith, room, larger .runs, ap (λ (x : Areas). x .runs) a) in
-        ap (λ (x : Option ℕ). record { cells = e .cells; queue = e .queue; runs = e .runs ++ r ∷ []; made = e .made ++ r .key .rule ∷ []; trace = e .trace; unknown = e .unknown; overflow = x; areas = B; start = e .start }) (fresh 43 (length (e .runs)) (B .runs) more);
+        ap (λ (x : Option ℕ). record {
+          cells = e .cells;
+          queue = e .queue;
+          runs = e .runs ++ r ∷ [];
+          made =
+              e .made ++ r .key .rule ∷ [];
+          trace = e .trace;
+          unknown = e .unknown;
+          overflow = x;
+          areas = B;
+          start =
+              e .start;
+        }) (fresh 43 (length (e .runs)) (B .runs) more);
   }
 
   -- ---- the engine's steps
@@ -184,7 +311,8 @@ module _ (A B : Areas) (larger : Larger A B) where
     unfolding wake
     s-wake x from to =
         with (λ e. e .runs) (λ e. refl)
-        (λ (l : List Run) e. e ▸ with-runs (each (woken x from to) l) ▸ adds (each (next-step now) (keep (awaits x from to) l)))
+        (λ (l : List Run) e. e ▸ with-runs (each (woken x from to) l)
+        ▸ adds (each (next-step now) (keep (awaits x from to) l)))
         (λ l. s-runs _ then s-adds _)
 
     s-begin : (r : Automation) (later : Bool) → Same (begin now r later)
@@ -204,7 +332,8 @@ module _ (A B : Areas) (larger : Larger A B) where
     s-carry max-reached r = s-log _ _ _ _
     s-carry start r = s-begin r false
     s-carry stop-and-start r =
-        with (λ e. keep (of-other-rule (r .id)) (e .runs)) (λ e. refl) with-runs s-runs then s-log _ _ _ _ then s-begin r false
+        with (λ e. keep (of-other-rule (r .id)) (e .runs)) (λ e. refl) with-runs s-runs then s-log _ _ _ _
+        then s-begin r false
     s-carry wait-in-line r = s-begin r true
 
     s-admit : (v : Truth) (r : Automation) → Same (admit now v r)
@@ -215,7 +344,8 @@ module _ (A B : Areas) (larger : Larger A B) where
           | [] ↦ carry-out now (decide (r .mode) (r .max) (tally (of-rule (r .id)) (e .runs))) r e
           | n ∷ k ↦ e
         ])
-        go [] = with (λ e. decide (r .mode) (r .max) (tally (of-rule (r .id)) (e .runs))) (λ e. refl) (λ d. carry-out now d r) (λ d. s-carry d r)
+        go [] = with (λ e. decide (r .mode) (r .max) (tally (of-rule (r .id)) (e .runs))) (λ e. refl)
+            (λ d. carry-out now d r) (λ d. s-carry d r)
         go (n ∷ k) = idle
     s-admit No r = idle
     s-admit Unknown r = s-uncertain _
@@ -224,7 +354,8 @@ module _ (A B : Areas) (larger : Larger A B) where
     unfolding offer
     s-offer x from to r =
         with (λ e. evaluate-all (moment now e) (r .conditions) (e .cells)) (λ e. refl)
-        (λ (v : Truth) e. if any (matches x from to) (r .triggers) then (e ▸ log now (Kind.trigger v) (some (r .id)) (some (r .source)) none ▸ admit now v r) else e)
+        (λ (v : Truth) e. if any (matches x from to) (r .triggers)
+        then (e ▸ log now (Kind.trigger v) (some (r .id)) (some (r .source)) none ▸ admit now v r) else e)
         (λ v. either (any (matches x from to) (r .triggers)) (s-log _ _ _ _ then s-admit v r) idle)
 
     s-offers : (x from to : Text) (l : List Automation) → Same (through (offer now x from to) l)
@@ -254,7 +385,8 @@ module _ (A B : Areas) (larger : Larger A B) where
 
     s-begin-wait : (t : Trigger) (n : ℕ) (c : Bool) (src : Source) (r : Run) → Same (begin-wait now t n c src r)
     unfolding begin-wait log-action
-    s-begin-wait t n c src r = either (absent (t .note)) (s-store _ then s-add _ then s-log _ _ _ _) (s-uncertain _ then s-finish r)
+    s-begin-wait t n c src r = either (absent (t .note)) (s-store _ then s-add _ then s-log _ _ _ _)
+        (s-uncertain _ then s-finish r)
 
     s-perform : (g : Effect) (src : Source) (r : Run) → Same (perform now g src r)
     unfolding perform write log-action go-on-after
@@ -266,7 +398,8 @@ module _ (A B : Areas) (larger : Larger A B) where
         (λ (v : Truth) e. e ▸ log now (Kind.condition v) (some (r .key .rule)) (some src) none ▸ tested now v r)
         (λ v. s-log _ _ _ _ then s-tested v r)
     s-perform (choose bs d) src r =
-        with (λ e. select (moment now e) bs d (e .cells)) (λ e. refl) (λ (o : Option Actions). chosen now o src r) (λ o. s-chosen o src r)
+        with (λ e. select (moment now e) bs d (e .cells)) (λ e. refl) (λ (o : Option Actions). chosen now o src r)
+        (λ o. s-chosen o src r)
     s-perform (wait t n c) src r = s-begin-wait t n c src r
     s-perform (Effect.unknown reason) src r = s-uncertain reason then s-log _ _ _ _ then s-finish r
 
@@ -296,13 +429,15 @@ module _ (A B : Areas) (larger : Larger A B) where
 
     s-time-out : (k : Key) → Same (time-out now k)
     unfolding time-out
-    s-time-out k = with (λ e. find (is-run k) (e .runs)) (λ e. refl) (if-some (end-wait now)) (maybe (end-wait now) s-end-wait)
+    s-time-out k = with (λ e. find (is-run k) (e .runs)) (λ e. refl) (if-some (end-wait now))
+        (maybe (end-wait now) s-end-wait)
 
     s-expire : (n : ℕ) (c : Cell) → Same (expire now n c)
     unfolding expire
     s-expire n c =
         either (eqb (c .version) n && not (eqT (c .value) (text "unknown")))
-        (with (λ e. put (c .name) (text "unknown") 0 (e .cells)) (λ e. refl) with-cells s-cells then s-log _ _ _ _ then s-add _)
+        (with (λ e. put (c .name) (text "unknown") 0 (e .cells)) (λ e. refl) with-cells s-cells then s-log _ _ _ _
+        then s-add _)
         idle
 
     s-stale : (x : Text) (n : ℕ) → Same (go-stale now x n)
@@ -361,7 +496,8 @@ module _ (A B : Areas) (larger : Larger A B) where
         by-stays e exhausted o = o
         by-stays e (take i l) o = o
 
-        by-same : (e : Engine) (x : Next) {y : Next} → y ≡ x → last e x .engine .overflow ≡ none → last (wide e) y ≡ wide-end (last e x)
+        by-same : (e : Engine) (x : Next) {y : Next} → y ≡ x → last e x .engine .overflow ≡ none →
+            last (wide e) y ≡ wide-end (last e x)
         by-same e stop z o = ap (last (wide e)) z
         by-same e exhausted z o = ap (last (wide e)) z
         by-same e (take i l) z o = ap (last (wide e)) z
@@ -374,12 +510,14 @@ module _ (A B : Areas) (larger : Larger A B) where
           | take i l ↦ loop rules h left (n + 1) (e ▸ with-queue l ▸ process (i .at) rules (i .work))
         ]
 
-        by-stays : SameEnd (loop rules h left (n + 1)) → (e : Engine) (x : Next) → next e x .engine .overflow ≡ none → e .overflow ≡ none
+        by-stays : SameEnd (loop rules h left (n + 1)) → (e : Engine) (x : Next) → next e x .engine .overflow ≡ none →
+            e .overflow ≡ none
         by-stays s e stop o = o
         by-stays s e exhausted o = o
         by-stays s e (take i l) o = turn i l .stays e (s .stays (process (i .at) rules (i .work) (with-queue l e)) o)
 
-        by-same : SameEnd (loop rules h left (n + 1)) → (e : Engine) → e .areas ≡ A → (x : Next) → next e x .engine .overflow ≡ none →
+        by-same : SameEnd (loop rules h left (n + 1)) → (e : Engine) → e .areas ≡ A → (x : Next) →
+            next e x .engine .overflow ≡ none →
             next (wide e) x ≡ wide-end (next e x)
         by-same s e a stop o = refl
         by-same s e a exhausted o = refl
@@ -400,14 +538,16 @@ module _ (A B : Areas) (larger : Larger A B) where
     s-last [] = s-log h _ _ _ _
     s-last (t ∷ l) = idle
 
-  at-end : (h : ℕ) (d : Ended) → d .engine .areas ≡ A → closed h d .engine .overflow ≡ none → closed h (wide-end d) ≡ wide-end (closed h d)
+  at-end : (h : ℕ) (d : Ended) → d .engine .areas ≡ A → closed h d .engine .overflow ≡ none →
+      closed h (wide-end d) ≡ wide-end (closed h d)
   unfolding closed
   at-end h d a o =
       let l = d .incomplete ++ left-over (d .engine .runs) in
       ap (λ (x : Engine). record { engine = x; steps = d .steps; incomplete = l }) (s-last [] h l .same (d .engine) a o)
 
   -- what the loop keeps of the areas' sizes
-  loop-keeps : (rules : List Automation) (h left n : ℕ) (e : Engine) → e .areas ≡ A → loop rules h left n e .engine .areas ≡ A
+  loop-keeps : (rules : List Automation) (h left n : ℕ) (e : Engine) → e .areas ≡ A →
+      loop rules h left n e .engine .areas ≡ A
   unfolding loop
   loop-keeps rules h zero n e a = by (next-of h e (pop (e .queue)))
     where
@@ -421,11 +561,12 @@ module _ (A B : Areas) (larger : Larger A B) where
       by (take i l) = a
   loop-keeps rules h (suc left) n e a = by (next-of h e (pop (e .queue))) (loop-keeps rules h left (n + 1))
     where
-      by : (x : Next) → ((f : Engine) → f .areas ≡ A → loop rules h left (n + 1) f .engine .areas ≡ A) → _▸_ {A = Ended} (elim x [
-        | stop ↦ record { engine = e; steps = n; incomplete = [] }
-        | exhausted ↦ record { engine = e; steps = n; incomplete = space-spent ∷ [] }
-        | take i l ↦ loop rules h left (n + 1) (e ▸ with-queue l ▸ process (i .at) rules (i .work))
-      ]) (λ (d : Ended). d .engine) .areas ≡ A
+      by : (x : Next) → ((f : Engine) → f .areas ≡ A → loop rules h left (n + 1) f .engine .areas ≡ A) →
+          _▸_ {A = Ended} (elim x [
+            | stop ↦ record { engine = e; steps = n; incomplete = [] }
+            | exhausted ↦ record { engine = e; steps = n; incomplete = space-spent ∷ [] }
+            | take i l ↦ loop rules h left (n + 1) (e ▸ with-queue l ▸ process (i .at) rules (i .work))
+          ]) (λ (d : Ended). d .engine) .areas ≡ A
       by stop k = a
       by exhausted k = a
       by (take i l) k = k _ (turn rules h i l .keeps e a)
@@ -450,7 +591,8 @@ module _ (A B : Areas) (larger : Larger A B) where
       start = m .start;
     }
 
-    s-begun : Same (λ e. e ▸ log 0 Kind.initial none none none ▸ adds (each event-item events) ▸ adds (flat (expiry 0) cells))
+    s-begun : Same (λ e. e ▸ log 0 Kind.initial none none none ▸ adds (each event-item events)
+        ▸ adds (flat (expiry 0) cells))
     s-begun = s-log 0 _ _ _ _ then s-adds _ then s-adds _
 
     abbrev first : Engine
@@ -475,7 +617,8 @@ module _ (A B : Areas) (larger : Larger A B) where
     unfolding closed
     closed-stays o = s-last rules horizon _ .stays (looped .engine) o
 
-    pub ended-wide : ended A m cells events .engine .overflow ≡ none → ended B m cells events ≡ wide-end (ended A m cells events)
+    pub ended-wide : ended A m cells events .engine .overflow ≡ none →
+        ended B m cells events ≡ wide-end (ended A m cells events)
     unfolding ended
     ended-wide o =
         let s = s-loop rules horizon (m .scenario .limits .max-steps) 0 in
@@ -498,4 +641,5 @@ same-in-larger a b larger m cells events s e =
     let d = ended a m cells events in
     let x = full-or-not (d .engine .overflow) (outcome m d) s e in
     let w = ended-wide a b larger m cells events (x .0) in
-    ap (λ (y : Ended). unless-full (y .engine .overflow) (outcome m y)) w ∙ unfold unless-full outcome in ap answer (unfold outcome in (x .1))
+    ap (λ (y : Ended). unless-full (y .engine .overflow) (outcome m y)) w ∙ unfold unless-full outcome in
+    ap answer (unfold outcome in (x .1))

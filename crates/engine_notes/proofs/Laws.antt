@@ -27,7 +27,30 @@ use Rattle.engine_fields.proofs.Readable as reads
 use Rattle.engine_notes.specs.declared.Noted.{Noted}
 use Rattle.engine_notes.specs.declared.Part.{Part}
 use Rattle.engine_notes.specs.declared.Part.the-variants as part
-use Rattle.engine_notes.specs.Listing.{After, after, told, Listing, _⨾_, read, by, stay, skipped, skipM, timesM, idNote, noteOf, insertM, Makes, add-noteM, addM, noteM, triggerM, predicateM, partM, partsM}
+use Rattle.engine_notes.specs.Listing.{
+  After,
+  after,
+  told,
+  Listing,
+  _⨾_,
+  read,
+  by,
+  stay,
+  skipped,
+  skipM,
+  timesM,
+  idNote,
+  noteOf,
+  insertM,
+  Makes,
+  add-noteM,
+  addM,
+  noteM,
+  triggerM,
+  predicateM,
+  partM,
+  partsM,
+}
 
 -- ---- one listing after the other
 
@@ -96,7 +119,14 @@ unfolding noteOf
 note-readable {f} {r} i m e h = by (eqb i 65535) e
   where
     id-readable : Readable f (idNote f i m)
-    id-readable = unfold idNote in record { known = omega arith; first = position-stands f h i; second = position-stands f h m; line = refl; column = refl }
+    id-readable = unfold idNote in record {
+      known = omega arith;
+      first = position-stands f h i;
+      second =
+          position-stands f h m;
+      line = refl;
+      column = refl;
+    }
 
     by : (b : Bool) → r ≡ (if b then noteReason f m else idNote f i m) → Readable f r
     by true g = reads.note-readable m g h

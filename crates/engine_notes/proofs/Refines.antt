@@ -17,7 +17,24 @@ use Rattle.model_spec.specs.File.{got, Reader, give, refuse, u8, u16, u32, time
 use Rattle.model_spec.specs.Notes.{of-predicate, of-trigger}
 use Rattle.model_walk.specs.Walk.{found, predicate-size}
 use Rattle.model_walk.specs.declared.Num.the-variants as num
-use Rattle.model_walk.proofs.Found.{bound, given, Wide, wide-sum, u8-wide, u16-wide, u8-value, source-wide, counted-found, Kind, kind-found, place-found, predicate-wide, Value?, Place?, trigger-found}
+use Rattle.model_walk.proofs.Found.{
+  bound,
+  given,
+  Wide,
+  wide-sum,
+  u8-wide,
+  u16-wide,
+  u8-value,
+  source-wide,
+  counted-found,
+  Kind,
+  kind-found,
+  place-found,
+  predicate-wide,
+  Value?,
+  Place?,
+  trigger-found,
+}
 use Rattle.model_walk.proofs.Found as found
 use Rattle.model_walk.proofs.Laws.{size-some}
 use Rattle.reasons.specs.Kinds as kinds
@@ -25,7 +42,25 @@ use Rattle.reasons.specs.Reasons.{words, body, render}
 use Rattle.reasons.specs.Readable.{text-count}
 use Rattle.engine_fields.specs.Fields.{cap, textPosition, noteReason}
 use Rattle.engine_notes.specs.declared.Part.the-variants as part
-use Rattle.engine_notes.specs.Listing.{After, after, Listing, _⨾_, by, stay, skipM, timesM, idNote, noteOf, add-noteM, addM, noteM, triggerM, predicateM, partM, partsM}
+use Rattle.engine_notes.specs.Listing.{
+  After,
+  after,
+  Listing,
+  _⨾_,
+  by,
+  stay,
+  skipM,
+  timesM,
+  idNote,
+  noteOf,
+  add-noteM,
+  addM,
+  noteM,
+  triggerM,
+  predicateM,
+  partM,
+  partsM,
+}
 use Rattle.engine_notes.proofs.Laws as laws
 use Rattle.engine_notes.proofs.Adding.{addAll, add-both, flat-one, flat-each}
 
@@ -76,7 +111,8 @@ abbrev pub Renders : (f : List ℕ) → (ts : List Text) → ℕ → (Text → T
 Renders f ts i g = (m : ℕ) → m < length ts → render f (noteOf f i m) ≡ g (getD ts m [])
 
 -- the file f, with the texts ts
-module _ (f : List ℕ) (ts : List Text) (size : length f ≤ 32768) (few : length ts ≤ 65535) (counted-as : text-count f ≡ length ts)
+module _ (f : List ℕ) (ts : List Text) (size : length f ≤ 32768) (few : length ts ≤ 65535)
+    (counted-as : text-count f ≡ length ts)
     (text-at : (k : ℕ) → k < length ts → textAt f (startFrom f 6 k) ≡ getD ts k []) where
   abbrev T : ℕ → Text
   T k = getD ts k []
@@ -125,7 +161,8 @@ module _ (f : List ℕ) (ts : List Text) (size : length f ≤ 32768) (few : leng
         by-got f p l u16 (addM i) (a .is-place)
         ∙ after-same q (added (a .at) l (a .is-in) ∙ ap (λ (y : Text). addAll (g y ∷ []) l) (sym (a .is-text)))
 
-    value-agrees : (m : ℕ) (o : Option Text) (l : List Text) → Value? ts m o → add-noteM f i m l ≡ addAll (each g (listed o)) l
+    value-agrees : (m : ℕ) (o : Option Text) (l : List Text) → Value? ts m o →
+        add-noteM f i m l ≡ addAll (each g (listed o)) l
     unfolding each listed addAll
     value-agrees m none l (found.absent h) = sym (laws.add-none f i m l h)
     value-agrees m (some t) l (found.present h k) = added m l k

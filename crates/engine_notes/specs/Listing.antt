@@ -35,7 +35,8 @@ Listing = List ℕ → ℕ → List Text → After
 abbrev pub told : List ℕ → Noted → List ℕ → After
 told f r a = after (r .next) (listed f (r .count) a)
 
--- the code's answer r and the area b after it are those of a listing over the first n reasons of the area a; clean stays clean
+-- the code's answer r and the area b after it are those of a listing over the first n reasons of the area a; clean stays
+-- clean
 pub record Lists (k : Listing) (f : List ℕ) (at n : ℕ) (a : List ℕ) (r : Noted) (b : List ℕ) : Type 0 where
   pub is : told f r b ≡ k f at (listed f n a)
   pub clean : HasText f → Clean f n a → Clean f (r .count) b

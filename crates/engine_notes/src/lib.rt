@@ -8,7 +8,20 @@ ghost use Prim.Native.Nat.{_≤_};
 ghost use lib.ListN.{length};
 ghost use Rattle.reasons.specs.Reasons.{render};
 ghost use Rattle.reasons.specs.Readable.{Readable, HasText};
-ghost use Rattle.engine_notes.specs.Listing.{idNote, noteOf, insertM, add-noteM, skipped, Lists, Makes, noteM, triggerM, predicateM, partM, partsM};
+ghost use Rattle.engine_notes.specs.Listing.{
+  idNote,
+  noteOf,
+  insertM,
+  add-noteM,
+  skipped,
+  Lists,
+  Makes,
+  noteM,
+  triggerM,
+  predicateM,
+  partM,
+  partsM,
+};
 
 // How many reasons there are, and the position after what was read.
 pub struct Noted {

@@ -1,5 +1,5 @@
--- What an accepted file gives for `Tabled`: few parts, short times, checked actions, identifiers that differ, room for reasons.
--- These are the facts about the model alone; the others are about the table's words.
+-- What an accepted file gives for `Tabled`: few parts, short times, checked actions, identifiers that differ, room for
+-- reasons. These are the facts about the model alone; the others are about the table's words.
 use mathlib.Core.Path.{_≡_, refl, _∙_}
 use mathlib.Core.List.{List, [], _∷_, _++_}
 use mathlib.Core.Bool.{Bool, false, _||_}
@@ -12,9 +12,46 @@ use Rattle.engine_spec.proofs.Bounds.{length-each}
 use Rattle.texts.specs.Lists.{each, flat}
 use Rattle.texts.specs.Texts.{Text, text, sortedT}
 use Rattle.model_spec.specs.Answer.{answer, Verdict, accept, each-accepted}
-use Rattle.model_spec.specs.Model.{Source, Effect, toggle, delay, condition, choose, wait, Actions, done, act, Branches, no-branch, branch, Automation, Entity, Event, Input, Model}
-use Rattle.model_spec.specs.Notes.{of-predicate, of-trigger, of-effect, of-actions, of-branches, of-invariant, of-rule, notes-of}
-use Rattle.model_spec.specs.Validate.{day, bad-limits, check-entity, check-input, check-actions, check-rule, check-rules, accepted}
+use Rattle.model_spec.specs.Model.{
+  Source,
+  Effect,
+  toggle,
+  delay,
+  condition,
+  choose,
+  wait,
+  Actions,
+  done,
+  act,
+  Branches,
+  no-branch,
+  branch,
+  Automation,
+  Entity,
+  Event,
+  Input,
+  Model,
+}
+use Rattle.model_spec.specs.Notes.{
+  of-predicate,
+  of-trigger,
+  of-effect,
+  of-actions,
+  of-branches,
+  of-invariant,
+  of-rule,
+  notes-of,
+}
+use Rattle.model_spec.specs.Validate.{
+  day,
+  bad-limits,
+  check-entity,
+  check-input,
+  check-actions,
+  check-rule,
+  check-rules,
+  accepted,
+}
 use Rattle.engine_spec.specs.Reasons.{unsupported-wait}
 use Rattle.engine_spec.specs.Unsupported.{effect-reasons, action-reasons, branch-reasons, rule-reasons, unsupported}
 use Rattle.engine_spec.proofs.Lists.{Each, or-no, sorted-many}
@@ -48,16 +85,26 @@ mutual
   branch-many no-branch = refl
   branch-many (branch ps l bs) =
       length-append (flat of-predicate ps ++ action-reasons l) (branch-reasons bs)
-      ∙ omega
-      (arith, length-append (flat of-predicate ps) (action-reasons l), action-many l, branch-many bs, length-append (flat of-predicate ps ++ of-actions l) (of-branches bs), length-append (flat of-predicate ps) (of-actions l))
+      ∙ omega (
+        arith,
+        length-append (flat of-predicate ps) (action-reasons l),
+        action-many l,
+        branch-many bs,
+        length-append (flat of-predicate ps ++ of-actions l) (of-branches bs),
+        length-append (flat of-predicate ps) (of-actions l),
+      )
 
 rule-many : (r : Automation) → length (rule-reasons r) ≡ length (of-rule r)
 unfolding rule-reasons of-rule
 rule-many r =
     let a = r .notes ++ flat of-trigger (r .triggers) ++ flat of-predicate (r .conditions) in
     length-append (each (λ t. r .id ++ text ": " ++ t) a) (action-reasons (r .actions))
-    ∙ omega
-    (arith, length-each (λ t. r .id ++ text ": " ++ t) a, action-many (r .actions), length-append a (of-actions (r .actions)))
+    ∙ omega (
+      arith,
+      length-each (λ t. r .id ++ text ": " ++ t) a,
+      action-many (r .actions),
+      length-append a (of-actions (r .actions)),
+    )
 
 rules-many : (l : List Automation) → length (flat rule-reasons l) ≡ length (flat of-rule l)
 unfolding flat
@@ -69,15 +116,23 @@ rules-many (r ∷ l) =
 pool-rule : (r : Automation) → length (rule-pool r) ≤ 4 + length (of-rule r)
 unfolding rule-pool of-rule
 pool-rule r =
-    omega
-    (arith, length-append (r .notes ++ flat of-trigger (r .triggers) ++ flat of-predicate (r .conditions)) (of-actions (r .actions)))
+    omega (
+      arith,
+      length-append (r .notes ++ flat of-trigger (r .triggers) ++ flat of-predicate (r .conditions))
+          (of-actions (r .actions)),
+    )
 
 pool-rules : (l : List Automation) → length (flat rule-pool l) ≤ 4 * length l + length (flat of-rule l)
 unfolding flat
 pool-rules [] = omega arith
 pool-rules (r ∷ l) =
-    omega
-    (arith, length-append (rule-pool r) (flat rule-pool l), pool-rule r, pool-rules l, length-append (of-rule r) (flat of-rule l))
+    omega (
+      arith,
+      length-append (rule-pool r) (flat rule-pool l),
+      pool-rule r,
+      pool-rules l,
+      length-append (of-rule r) (flat of-rule l),
+    )
 
 -- at most 64 notes and 32 automations: 257 reasons
 pub few-reasons : (m : Model) → length (notes-of m) ≤ 64 → length (m .rules) ≤ 32 → length (pool-of m) ≤ 257
@@ -107,8 +162,10 @@ rules-checked : (es : List Entity) (ids : List Text) (rs : List Automation) (n k
 unfolding check-rules check-rule
 rules-checked es ids [] n k e = tt
 rules-checked es ids (r ∷ rs) n k e =
-    let b = bind-inv (check-rule es ids r n) (check-rules es (r .id ∷ ids) rs) k e in
-    (record { before = n; after = b .0; is = and-inv _ _ _ (and-inv _ _ _ (and-inv _ _ _ (and-inv _ _ _ (b .1 .0)))) }, rules-checked es (r .id ∷ ids) rs (b .0) k (b .1 .1))
+    let b = bind-inv (check-rule es ids r n) (check-rules es (r .id ∷ ids) rs) k e in (
+      record { before = n; after = b .0; is = and-inv _ _ _ (and-inv _ _ _ (and-inv _ _ _ (and-inv _ _ _ (b .1 .0)))) },
+      rules-checked es (r .id ∷ ids) rs (b .0) k (b .1 .1),
+    )
 
 pub record Lawful (m : Model) : Type 0 where
   pub few-entities : length (m .scenario .entities) ≤ 32
@@ -118,7 +175,8 @@ pub record Lawful (m : Model) : Type 0 where
   pub day-long : m .scenario .limits .horizon ≤ 86400
   pub few-steps : m .scenario .limits .max-steps ≤ 10000
   pub entities : Each (λ (e : Entity). check-entity (m .scenario .entities) e ≡ accept) (m .scenario .entities)
-  pub inputs : Each (λ (i : Input). check-input (m .scenario .entities) i ≡ accept) (each (λ (e : Event). e .input) (m .scenario .events) ++ m .scenario .alphabet)
+  pub inputs : Each (λ (i : Input). check-input (m .scenario .entities) i ≡ accept)
+      (each (λ (e : Event). e .input) (m .scenario .events) ++ m .scenario .alphabet)
   pub checked : Each (λ (r : Automation). CheckedAt (m .scenario .entities) (r .actions)) (m .rules)
 
 first-third : (a b c d e g : Bool) → (a || b || c || d || e || g) ≡ false → (a ≡ false) × (c ≡ false)
@@ -153,5 +211,7 @@ accepted-notes file m e = accepted-few file m e .1
 
 pub accepted-small : (file : List ℕ) (m : Model) → accepted file ≡ answer m →
     (length file ≤ 32768) × (length (pool-of m) ≤ 300)
-accepted-small file m e =
-    (accepted-few file m e .0, omega (arith, few-reasons m (accepted-notes file m e) (accepted-lawful file m e .few-automations)))
+accepted-small file m e = (
+  accepted-few file m e .0,
+  omega (arith, few-reasons m (accepted-notes file m e) (accepted-lawful file m e .few-automations)),
+)

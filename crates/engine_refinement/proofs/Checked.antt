@@ -11,7 +11,23 @@ use Rattle.texts.specs.Lists.{find, flat}
 use Rattle.texts.specs.Texts.{Text, text, memT}
 use Rattle.model_spec.specs.Notes.{of-predicate, of-effect, of-actions, of-branches}
 use Rattle.model_spec.specs.Answer.{answer, accept}
-use Rattle.model_spec.specs.Model.{Source, Entity, Trigger, Effect, toggle, delay, choose, wait, Actions, done, act, Branches, no-branch, branch, named}
+use Rattle.model_spec.specs.Model.{
+  Source,
+  Entity,
+  Trigger,
+  Effect,
+  toggle,
+  delay,
+  choose,
+  wait,
+  Actions,
+  done,
+  act,
+  Branches,
+  no-branch,
+  branch,
+  named,
+}
 use Rattle.model_spec.specs.Validate.{counting, check-value, check-effect, check-actions, check-branches}
 use Rattle.engine_spec.proofs.Lists.{Each, each-split}
 use Rattle.engine_spec.proofs.Validated.{and-first, bind-inv, and-inv, when-inv, refused-answer}
@@ -43,8 +59,10 @@ module _ (es : List Entity) (pool : List Text) where
   pass-act d s f r p =
       let b = bind-inv (counting (p .before + 1)) _ _ (and-inv _ _ _ (p .is)) in
       let c = bind-inv (check-effect es f d (b .0)) _ _ (b .1 .1) in
-      let t = each-split In (of-effect f) (of-actions r) (p .told) in
-      (record { before = b .0; after = c .0; is = c .1 .0; told = t .0 }, record { before = c .0; after = p .after; is = c .1 .1; told = t .1 })
+      let t = each-split In (of-effect f) (of-actions r) (p .told) in (
+        record { before = b .0; after = c .0; is = c .1 .0; told = t .0 },
+        record { before = c .0; after = p .after; is = c .1 .1; told = t .1 },
+      )
 
   abbrev pub PassB : (d : ℕ) → Branches → Type 0
   PassB d no-branch = Unit {0}
@@ -56,15 +74,25 @@ module _ (es : List Entity) (pool : List Text) where
   pass-branches d n m no-branch e h = tt
   pass-branches d n m (branch ps l bs) e h =
       let b = bind-inv (check-actions es l (d + 1) n) _ _ (and-inv _ _ _ e) in
-      let t = each-split In (flat of-predicate ps ++ of-actions l) (of-branches bs) h in
-      (record { before = n; after = b .0; is = b .1 .0; told = each-split In (flat of-predicate ps) (of-actions l) (t .0) .1 }, pass-branches d (b .0) m bs (b .1 .1) (t .1))
+      let t = each-split In (flat of-predicate ps ++ of-actions l) (of-branches bs) h in (
+        record {
+          before = n;
+          after = b .0;
+          is = b .1 .0;
+          told =
+              each-split In (flat of-predicate ps) (of-actions l) (t .0) .1;
+        },
+        pass-branches d (b .0) m bs (b .1 .1) (t .1),
+      )
 
   pub pass-choose : (d : ℕ) (bs : Branches) (l : Actions) → PassE d (choose bs l) → PassB (d + 1) bs × Pass (d + 1) l
   unfolding check-effect of-effect
   pass-choose d bs l p =
       let b = bind-inv (check-branches es bs d (p .before)) _ _ (p .is) in
-      let t = each-split In (of-branches bs) (of-actions l) (p .told) in
-      (pass-branches d (p .before) (b .0) bs (b .1 .0) (t .0), record { before = b .0; after = p .after; is = b .1 .1; told = t .1 })
+      let t = each-split In (of-branches bs) (of-actions l) (p .told) in (
+        pass-branches d (p .before) (b .0) bs (b .1 .0) (t .0),
+        record { before = b .0; after = p .after; is = b .1 .1; told = t .1 },
+      )
 
   pub pass-unknown : (d : ℕ) (r : Text) → PassE d (Effect.unknown r) → In r
   unfolding of-effect

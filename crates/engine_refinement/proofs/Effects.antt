@@ -9,8 +9,42 @@ use lib.ListN.{length, getD}
 use lib.Dec.{eqb}
 use Rattle.texts.specs.Lists.{if_then_else_}
 use Rattle.texts.specs.Texts.{Text}
-use Rattle.model_spec.specs.Model.{Source, Predicate, Trigger, Effect, toggle, delay, condition, choose, wait, Actions, act, Branches, Model}
-use Rattle.model_spec.specs.File.{got, Reader, give, refuse, u8, u16, u32, kinds, counted, flag, source, place, predicate, trigger, branches, effect, actions-of, actions, effect-kinds}
+use Rattle.model_spec.specs.Model.{
+  Source,
+  Predicate,
+  Trigger,
+  Effect,
+  toggle,
+  delay,
+  condition,
+  choose,
+  wait,
+  Actions,
+  act,
+  Branches,
+  Model,
+}
+use Rattle.model_spec.specs.File.{
+  got,
+  Reader,
+  give,
+  refuse,
+  u8,
+  u16,
+  u32,
+  kinds,
+  counted,
+  flag,
+  source,
+  place,
+  predicate,
+  trigger,
+  branches,
+  effect,
+  actions-of,
+  actions,
+  effect-kinds,
+}
 use Rattle.model_spec.specs.Notes.{of-effect}
 use Rattle.model_walk.specs.Walk.{seen, capped, by, actionsM, choiceM, simpleM}
 use Rattle.model_walk.specs.declared.Walked.{Walked}
@@ -118,7 +152,8 @@ module _ (f x : List ℕ) (ts : List Text) (mo : Model) (tb : Tabled f x ts mo) 
 
   flag-is : (p : ℕ) (b : Bool) (q : ℕ) → flag f p ≡ got b q → eqb (getD f p 0) 1 ≡ b
   unfolding flag give
-  flag-is p b q e = let k = kind-found (give false ∷ give true ∷ []) e in cases (k .kind) (byte-is f p (k .is-kind)) (k .next) (k .holds)
+  flag-is p b q e = let k = kind-found (give false ∷ give true ∷ []) e in
+      cases (k .kind) (byte-is f p (k .is-kind)) (k .next) (k .holds)
     where
       cases : (i : ℕ) → getD f p 0 ≡ i → (n : ℕ) → getD (give false ∷ give true ∷ []) i refuse f n ≡ got b q →
           eqb (getD f p 0) 1 ≡ b
@@ -157,7 +192,10 @@ module _ (f x : List ℕ) (ts : List Text) (mo : Model) (tb : Tabled f x ts mo) 
       let w₂ = u16-wide f (a .next) (a₂ .is-place) in
       let y : a .next ≡ o + 2 = w₁ .ends in
       record {
-        acts = sets (a₁ .at) (a₂ .at) (a₁ .is-in) (a₂ .is-in) (rw (two-is f o (a₁ .is-place), ap (two f) (sym y) ∙ two-is f (a .next) (a₂ .is-place))) (sym (z .0) ∙ ap (λ (t : Text). Effect.set t (v .value)) (a₁ .is-text) ∙ ap (Effect.set (T (a₁ .at))) (a₂ .is-text));
+        acts = sets (a₁ .at) (a₂ .at) (a₁ .is-in) (a₂ .is-in)
+            (rw (two-is f o (a₁ .is-place), ap (two f) (sym y) ∙ two-is f (a .next) (a₂ .is-place)))
+            (sym (z .0) ∙ ap (λ (t : Text). Effect.set t (v .value)) (a₁ .is-text)
+            ∙ ap (Effect.set (T (a₁ .at))) (a₂ .is-text));
         ends = λ i. later-is o 4 (omega (arith, tb .size)) ∙ omega (arith, z .1);
       }
   effected p o (suc zero) g q k e h =
@@ -191,7 +229,8 @@ module _ (f x : List ℕ) (ts : List Text) (mo : Model) (tb : Tabled f x ts mo) 
       let a = bound inner _ (b .rest) in
       let z = given _ _ _ (a .rest) in
       record {
-        acts = chooses o (c .value) (c .next) (b .value) (b .next) (a .value) (a .next) (c .first) (b .first) (a .first) refl (sym (z .0));
+        acts = chooses o (c .value) (c .next) (b .value) (b .next) (a .value) (a .next) (c .first) (b .first) (a .first) refl
+            (sym (z .0));
         ends = choice-end p o g q k e;
       }
   effected p o (suc (suc (suc (suc (suc zero))))) g q k e h =
@@ -205,7 +244,10 @@ module _ (f x : List ℕ) (ts : List Text) (mo : Model) (tb : Tabled f x ts mo) 
       let y₁ : t .next ≡ o + 16 = j .ends in
       let y₂ : m .next ≡ o + 20 = omega (arith, j .ends) in
       record {
-        acts = waits o (t .value) (t .next) (m .value) (c .value) (t .first) (ap (four f) (sym y₁) ∙ four-is f (t .next) (m .first)) (ap (λ (i : ℕ). eqb (getD f i 0) 1) (sym y₂) ∙ flag-is (m .next) (c .value) (c .next) (c .first)) refl (sym (z .0));
+        acts = waits o (t .value) (t .next) (m .value) (c .value) (t .first)
+            (ap (four f) (sym y₁) ∙ four-is f (t .next) (m .first))
+            (ap (λ (i : ℕ). eqb (getD f i 0) 1) (sym y₂) ∙ flag-is (m .next) (c .value) (c .next) (c .first)) refl
+            (sym (z .0));
         ends = λ i. later-is o 21 (omega (arith, tb .size, z .1, j .ends)) ∙ omega (arith, z .1, j .ends);
       }
   effected p o (suc (suc (suc (suc (suc (suc zero)))))) g q k e h =

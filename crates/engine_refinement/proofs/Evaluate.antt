@@ -12,15 +12,60 @@ use lib.Dec.{eqb}
 use borrow.Author.Tests.{lt-ltb, eq-eqb, ne-eqb, eqb-true, eqb-false}
 use Rattle.texts.specs.Lists.{if_then_else_, absent, absent-or, any, find, each}
 use Rattle.texts.specs.Texts.{Text, text, eqT}
-use Rattle.model_spec.specs.Model.{observational, Moment, Predicate, state, window, Trigger, Actions, Branches, no-branch, branch, Model}
+use Rattle.model_spec.specs.Model.{
+  observational,
+  Moment,
+  Predicate,
+  state,
+  window,
+  Trigger,
+  Actions,
+  Branches,
+  no-branch,
+  branch,
+  Model,
+}
 use Rattle.model_spec.specs.File.{_>>=_ as _>>=ᵣ_}
-use Rattle.model_spec.specs.File.{got, Reader, give, refuse, u8, u16, u32, times, counted, place, predicate, trigger, branches, actions}
+use Rattle.model_spec.specs.File.{
+  got,
+  Reader,
+  give,
+  refuse,
+  u8,
+  u16,
+  u32,
+  times,
+  counted,
+  place,
+  predicate,
+  trigger,
+  branches,
+  actions,
+}
 use Rattle.model_spec.specs.Validate.{undecided}
 use Rattle.model_spec.specs.Notes.{of-actions}
 use Rattle.model_walk.specs.Walk.{seen, capped, actionsM}
 use Rattle.model_walk.specs.declared.Walked.{Walked}
 use Rattle.model_walk.proofs.Refines.{marks, sees-actions}
-use Rattle.model_walk.proofs.Found.{Case, is-true, is-false, case, bound, given, u8-wide, u16-wide, u32-wide, source-wide, counted-found, Kind, kind-found, place-found, predicate-wide, Value?, trigger-found}
+use Rattle.model_walk.proofs.Found.{
+  Case,
+  is-true,
+  is-false,
+  case,
+  bound,
+  given,
+  u8-wide,
+  u16-wide,
+  u32-wide,
+  source-wide,
+  counted-found,
+  Kind,
+  kind-found,
+  place-found,
+  predicate-wide,
+  Value?,
+  trigger-found,
+}
 use Rattle.model_walk.proofs.Found as found
 use Rattle.model_parts.proofs.Stands.{more}
 use Rattle.model_order.specs.Order.{Fixed}
@@ -33,7 +78,25 @@ use Rattle.engine_window.specs.Window.{openM}
 use Rattle.engine_fields.specs.Fields.{two, four, name, entities, entityFrom, entityOf}
 use Rattle.engine_state.specs.Machine.{later}
 use Rattle.engine_state.specs.declared.Move.{Move}
-use Rattle.engine_evaluate.specs.Evaluate.{bothM, undecidedM, againstM, valueM, evaluateM, sizeM, allFrom, allM, admitsM, matchesM, anyFrom, anyM, endM, judgedM, branchM, selectFrom, selectM}
+use Rattle.engine_evaluate.specs.Evaluate.{
+  bothM,
+  undecidedM,
+  againstM,
+  valueM,
+  evaluateM,
+  sizeM,
+  allFrom,
+  allM,
+  admitsM,
+  matchesM,
+  anyFrom,
+  anyM,
+  endM,
+  judgedM,
+  branchM,
+  selectFrom,
+  selectM,
+}
 use Rattle.engine_evaluate.specs.declared.Truth.{Truth}
 use Rattle.engine_evaluate.specs.declared.Truth.the-variants.{Yes, No, Unknown}
 use Rattle.engine_evaluate.specs.declared.Judged.{Judged}
@@ -96,7 +159,8 @@ module _ (f x : List ℕ) (ts : List Text) (mo : Model) (tb : Tabled f x ts mo) 
       (sym (fixed-is v (getD x 7 0) (text "unavailable") h (tb .unavailable)))
 
   choice-is : (a b : Bool) →
-      truth-of (if a then Yes else if b then Unknown else No) ≡ (if a then kleene.Yes else if b then kleene.Unknown else kleene.No)
+      truth-of (if a then Yes else if b then Unknown else No)
+      ≡ (if a then kleene.Yes else if b then kleene.Unknown else kleene.No)
   choice-is true b = refl
   choice-is false true = refl
   choice-is false false = refl
@@ -171,12 +235,19 @@ module _ (f x : List ℕ) (ts : List Text) (mo : Model) (tb : Tabled f x ts mo) 
             overwrite (T (name x j)) (T v) k (cell-at x ts vs ns e) ≡ cell-at x ts vs′ ns′ e
         cases (is-true b) =
             let z : e ≡ j = tb .names-differ e j h j-in (eqb-true _ _ b) in
-            rw
-            (cell-named vs ns (name x j) e (name-in j j-in) h ∙ b, z, getD-set-same vs j v 0 v-long, getD-set-same ns j (getD ns j 0 + k) 0 n-long)
+            rw (
+              cell-named vs ns (name x j) e (name-in j j-in) h ∙ b,
+              z,
+              getD-set-same vs j v 0 v-long,
+              getD-set-same ns j (getD ns j 0 + k) 0 n-long,
+            )
         cases (is-false b) =
             let z : e ≡ j → ⊥ = λ q. eqb-false _ _ b (ap (λ (i : ℕ). name x i) q) in
-            rw
-            (cell-named vs ns (name x j) e (name-in j j-in) h ∙ b, getD-set-other vs j e v 0 (λ q. z q), getD-set-other ns j e (getD ns j 0 + k) 0 (λ q. z q))
+            rw (
+              cell-named vs ns (name x j) e (name-in j j-in) h ∙ b,
+              getD-set-other vs j e v 0 (λ q. z q),
+              getD-set-other ns j e (getD ns j 0 + k) 0 (λ q. z q),
+            )
 
     written : (left e : ℕ) → e + left ≤ many →
         put (T (name x j)) (T v) k (cells-from x ts vs ns left e) ≡ cells-from x ts vs′ ns′ left e
@@ -312,11 +383,16 @@ module _ (f x : List ℕ) (ts : List Text) (mo : Model) (tb : Tabled f x ts mo) 
     all-from zero p t l q e =
         let z : l ≡ [] = cc in
         let y : p ≡ q = cc in
-        record { is = sym (and-yes (truth-of t)) ∙ ap (λ (y : List Predicate). truth-of t and₃ evaluate-all at-now y cs) (sym z); ends = y }
+        record {
+          is = sym (and-yes (truth-of t)) ∙ ap (λ (y : List Predicate). truth-of t and₃ evaluate-all at-now y cs)
+              (sym z);
+          ends = y;
+        }
     all-from (suc n) p t l q e =
         let m = more (predicate ts) f n p e in
         let j = evaluate-is p (m .first) (m .after) (m .is-first) in
-        let z : later p (sizeM f p) ≡ m .after = later-is p (sizeM f p) (omega (arith, j .ends, j .inside, tb .size)) ∙ sym (j .ends) in
+        let z : later p (sizeM f p) ≡ m .after = later-is p (sizeM f p) (omega (arith, j .ends, j .inside, tb .size))
+        ∙ sym (j .ends) in
         let r = all-from n (m .after) (bothM t (evaluateM f x vs now p)) (m .others) q (m .are-others) in
         record {
           is = ap (λ (i : ℕ). truth-of (allFrom f x vs now n i (bothM t (evaluateM f x vs now p)) .truth)) z
@@ -390,19 +466,23 @@ module _ (f x : List ℕ) (ts : List Text) (mo : Model) (tb : Tabled f x ts mo) 
           let ps′ : P (a .value) × Lists (r .value) = subst Lists (sym (z .0)) ps in
           let j = all-is p (c .value) (c .next) (c .first) in
           subst (λ (y : Branches). Taken (selectFrom f x vs now (suc n) p) (select at-now y d cs)) (z .0)
-          (cases n p q d o (c .value) (a .value) (r .value) (c .next) (a .next) j (a .first) (ps′ .0) (branches-start n (a .next) (r .value) q d o e₃ g)
+          (cases n p q d o (c .value) (a .value) (r .value) (c .next) (a .next) j (a .first) (ps′ .0)
+          (branches-start n (a .next) (r .value) q d o e₃ g)
           (select-from n (a .next) (r .value) q d o e₃ g (ps′ .1) pd) (allM f x vs now p .truth) refl)
         where
           cases : (n p q : ℕ) (d : Actions) (o : ℕ) (ps : List Predicate) (l : Actions) (bs : Branches) (at end : ℕ) →
               JudgesAll (allM f x vs now p) (evaluate-all at-now ps cs) at → actions ts 17 f at ≡ got l end → P l →
               end ≤ length f →
-              Taken (selectFrom f x vs now n end) (select at-now bs d cs) → (t : Truth) → allM f x vs now p .truth ≡ t → Taken (selectFrom f x vs now (suc n) p) (select at-now (branch ps l bs) d cs)
+              Taken (selectFrom f x vs now n end) (select at-now bs d cs) → (t : Truth) → allM f x vs now p .truth ≡ t →
+              Taken (selectFrom f x vs now (suc n) p) (select at-now (branch ps l bs) d cs)
           cases n p q d o ps l bs at end j h pl inside ih Yes t =
               let v : evaluate-all at-now ps cs ≡ kleene.Yes = sym (j .is) ∙ ap truth-of t in
               takes at l end (rw (t, judgedM, selectFrom) (ap Take (j .ends))) h pl (rw (v, select))
           cases n p q d o ps l bs at end j h pl inside ih No t =
               let v : evaluate-all at-now ps cs ≡ kleene.No = sym (j .is) ∙ ap truth-of t in
-              let w : endM (actionsM (getD x 9 0) 17 f (allM f x vs now p .next) 0) (allM f x vs now p .next) ≡ end = ap (λ (i : ℕ). endM (actionsM (getD x 9 0) 17 f i 0) i) (j .ends) ∙ list-end at l end h (omega (arith, tb .size)) in
+              let w : endM (actionsM (getD x 9 0) 17 f (allM f x vs now p .next) 0) (allM f x vs now p .next) ≡ end =
+              ap (λ (i : ℕ). endM (actionsM (getD x 9 0) 17 f i 0) i) (j .ends)
+              ∙ list-end at l end h (omega (arith, tb .size)) in
               rw (t, judgedM, selectFrom, v, select, w) ih
           cases n p q d o ps l bs at end j h pl inside ih Unknown t =
               let v : evaluate-all at-now ps cs ≡ kleene.Unknown = sym (j .is) ∙ ap truth-of t in
@@ -431,7 +511,8 @@ module _ (f x : List ℕ) (ts : List Text) (mo : Model) (tb : Tabled f x ts mo) 
   admits-is p v (some t) h (found.present e k) = rw (ne-eqb p 65535 e) (sym (tb .same p v k h))
 
   tests-are : (a b c d e : Bool) →
-      (if a then (if b then (if c then false else (if d then e else false)) else false) else false) ≡ (a && b && not c && d && e)
+      (if a then (if b then (if c then false else (if d then e else false)) else false) else false)
+      ≡ (a && b && not c && d && e)
   tests-are true true true d e = refl
   tests-are true true false true e = refl
   tests-are true true false false e = refl

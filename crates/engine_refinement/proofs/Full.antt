@@ -27,10 +27,40 @@ use Rattle.engine_state.specs.declared.Move.{Move}
 use Rattle.engine_state.specs.declared.Told.{Told}
 use Rattle.engine_state.specs.declared.Setting.{Setting}
 use Rattle.engine_state.specs.Machine.{Machine}
-use Rattle.engine_state.specs.Changes.{addM, logM, add-runM, uncertainM, log-ruleM, log-actionM, log-plainM, log-writeM, next-stepM}
+use Rattle.engine_state.specs.Changes.{
+  addM,
+  logM,
+  add-runM,
+  uncertainM,
+  log-ruleM,
+  log-actionM,
+  log-plainM,
+  log-writeM,
+  next-stepM,
+}
 use Rattle.engine_update.specs.Update.{expiryM, changedM}
-use Rattle.engine_modes.specs.Modes.{begin-runM, begin-nowM, begin-queuedM, begin-laterM, dropM, stop-startM, decidedM, carry-withM, carry-outM}
-use Rattle.engine_trigger.specs.Runs.{release-runM, release-atM, releaseM, outM, finish-runM, finishM, wake-phaseM, wake-runM, wake-oneM}
+use Rattle.engine_modes.specs.Modes.{
+  begin-runM,
+  begin-nowM,
+  begin-queuedM,
+  begin-laterM,
+  dropM,
+  stop-startM,
+  decidedM,
+  carry-withM,
+  carry-outM,
+}
+use Rattle.engine_trigger.specs.Runs.{
+  release-runM,
+  release-atM,
+  releaseM,
+  outM,
+  finish-runM,
+  finishM,
+  wake-phaseM,
+  wake-runM,
+  wake-oneM,
+}
 use Rattle.engine_trigger.specs.Triggers.{admitM, log-triggerM, offer-asM, offerM}
 use Rattle.engine_modes.specs.declared.Decision.{Decision}
 use Rattle.engine_modes.specs.declared.Decision.the-variants.{AlreadyRunning, MaxReached, Start, StopAndStart, WaitInLine}

@@ -28,7 +28,28 @@ use Rattle.engine_spec.specs.Cells.{cell-of, put}
 use Rattle.engine_spec.specs.Records.{Run, Work, Kind, Waiting, Engine}
 use Rattle.engine_spec.specs.Words.{kind-number, detail-number}
 use Rattle.engine_spec.specs.Changes.{if-some, with-cells, add, adds}
-use Rattle.engine_spec.specs.Engine.{is-run, store, left, waits, next-step, at-once, log, log-action, finish, change-of, go-on, step, resume, wait-over, end-wait, time-out, expire, go-stale, drop-runs, process}
+use Rattle.engine_spec.specs.Engine.{
+  is-run,
+  store,
+  left,
+  waits,
+  next-step,
+  at-once,
+  log,
+  log-action,
+  finish,
+  change-of,
+  go-on,
+  step,
+  resume,
+  wait-over,
+  end-wait,
+  time-out,
+  expire,
+  go-stale,
+  drop-runs,
+  process,
+}
 use Rattle.engine_spec.proofs.Closed.{c-finish, c-store, c-adds}
 use Rattle.model_walk.proofs.Found.{Case, is-true, is-false, case}
 use Rattle.engine_fields.specs.Fields.{name, entityOf}
@@ -39,18 +60,74 @@ use Rattle.engine_state.specs.Changes.{logM, log-actionM}
 use Rattle.engine_update.specs.Update.{cells, move, changedM, setting}
 use Rattle.engine_modes.specs.Modes.{nowM}
 use Rattle.engine_trigger.specs.Runs.{no-run, put-runM, phaseM, finishM}
-use Rattle.engine_actions.specs.Perform.{actM, act-nextM, go-on-runM, go-onM, going-phase, goingM, resume-runM, resume-atM, resumeM}
-use Rattle.engine_handlers.specs.Handlers.{over-onM, over-endM, wait-overM, time-phaseM, time-runM, time-atM, time-outM, expire-toM, expireM, stale-atM, go-staleM, drop-allM, externalM}
+use Rattle.engine_actions.specs.Perform.{
+  actM,
+  act-nextM,
+  go-on-runM,
+  go-onM,
+  going-phase,
+  goingM,
+  resume-runM,
+  resume-atM,
+  resumeM,
+}
+use Rattle.engine_handlers.specs.Handlers.{
+  over-onM,
+  over-endM,
+  wait-overM,
+  time-phaseM,
+  time-runM,
+  time-atM,
+  time-outM,
+  expire-toM,
+  expireM,
+  stale-atM,
+  go-staleM,
+  drop-allM,
+  externalM,
+}
 use Rattle.engine_dispatch.specs.Dispatch.{processM}
-use Rattle.engine_refinement.specs.Meaning.{key-of, kind-of, work-of, run-of, wait-of, waiting-of, source-of, actions-at, cell-at, cells-of, Tabled}
+use Rattle.engine_refinement.specs.Meaning.{
+  key-of,
+  kind-of,
+  work-of,
+  run-of,
+  wait-of,
+  waiting-of,
+  source-of,
+  actions-at,
+  cell-at,
+  cells-of,
+  Tabled,
+}
 use Rattle.engine_refinement.specs.Events.{GoodWork}
 use Rattle.engine_refinement.proofs.Evaluate.{Sought, here, nowhere, cell-is, name-in, fixed-is, Moved}
 use Rattle.engine_refinement.proofs.Stack.{Stepped, stepped}
 use Rattle.engine_refinement.proofs.Full.{s-next, s-finish, s-changed}
 use Rattle.engine_refinement.proofs.Overflow.{overflow-stays}
-use Rattle.engine_refinement.proofs.Relation.{GoodRun, Celled, Live, Sim, live, follow, weaker, runs-are, cells-are, run-test}
+use Rattle.engine_refinement.proofs.Relation.{
+  GoodRun,
+  Celled,
+  Live,
+  Sim,
+  live,
+  follow,
+  weaker,
+  runs-are,
+  cells-are,
+  run-test,
+}
 use Rattle.engine_refinement.proofs.Words.{Tells}
-use Rattle.engine_refinement.proofs.Update.{Over, log-plain-is, log-action-is, log-write-is, now-is, changed-is, stored-is, update-is}
+use Rattle.engine_refinement.proofs.Update.{
+  Over,
+  log-plain-is,
+  log-action-is,
+  log-write-is,
+  now-is,
+  changed-is,
+  stored-is,
+  update-is,
+}
 use Rattle.engine_refinement.proofs.Runs.{run-good, run-is, store-is, finish-is}
 use Rattle.engine_refinement.proofs.Triggers.{trigger-is}
 use Rattle.engine_refinement.proofs.Perform.{still-here, put-here, keyed, action-runs, perform-is}
@@ -126,9 +203,11 @@ module _ (f x : List ℕ) (ts : List Text) (mo : Model) (tb : Tabled f x ts mo) 
         let q = put-places (p .depth) (p .places) r in
         let gq : G (m .sequences) q = record { rule = g .rule; old = g .old; places = p .good; phase = g .phase } in
         let s = actionM f x (topM r .position) .source in
-        let src : source-of s ≡ p .src = ap (λ (y : ℕ). record { line = y; column = s .column }) (p .line) ∙ ap (λ (y : ℕ). record { line = p .src .line; column = y }) (p .column) in
+        let src : source-of s ≡ p .src = ap (λ (y : ℕ). record { line = y; column = s .column }) (p .line)
+        ∙ ap (λ (y : ℕ). record { line = p .src .line; column = y }) (p .column) in
         rw (p .after, run-actions r _ (p .is), ← stepped-run r p, ← src)
-        (perform-is f x ts mo tb now k q s (g .rule) (store-is f x ts mo tb l k h q gq refl refl) (put-here k q m h) gq (actionM f x (topM r .position) .effect) (p .eff) (p .deep) (p .acts) (p .pass) (p .low))
+        (perform-is f x ts mo tb now k q s (g .rule) (store-is f x ts mo tb l k h q gq refl refl) (put-here k q m h) gq
+        (actionM f x (topM r .position) .effect) (p .eff) (p .deep) (p .acts) (p .pass) (p .low))
 
     go-on-is : S now room (go-onM f x k m) (go-on now ((R r) .actions) (R r) e)
     unfolding go-onM go-on-runM go-on
@@ -139,7 +218,9 @@ module _ (f x : List ℕ) (ts : List Text) (mo : Model) (tb : Tabled f x ts mo) 
             (go-on now ((R r) .actions) (R r) e)
         by zero z =
             rw (eq-eqb (r .depth) 0 z)
-            (subst (λ (a : Actions). S now room (finishM k m) (go-on now a (R r) e)) (sym (run-actions r done (none-left r z))) (finish-is f x ts mo tb less k r (record { inside = h; automation = refl; sequence = refl; number = refl })))
+            (subst (λ (a : Actions). S now room (finishM k m) (go-on now a (R r) e))
+            (sym (run-actions r done (none-left r z))) (finish-is f x ts mo tb less k r
+            (record { inside = h; automation = refl; sequence = refl; number = refl })))
         by (suc n) z = rw (ne-eqb (r .depth) 0 (λ o. absurd (omega arith))) (act-is n z)
 
     resting : (b : Bool) (p : Phase) {B : Type 0} (u v : B) →
@@ -183,12 +264,16 @@ module _ (f x : List ℕ) (ts : List Text) (mo : Model) (tb : Tabled f x ts mo) 
     let-on n d q p y =
         let o = still-here {m = m} {n = n} (record { inside = h; is = refl }) q in
         now-is f x ts mo tb
-        (subst (λ (u : Run). L now room (put-runM k (phaseM phase.Going r) n) (store u d)) calm (store-is f x ts mo tb y k (o .inside) (phaseM phase.Going r) (rw p (record { rule = g .rule; old = g .old; places = g .places; phase = tt })) (ap (λ (u : ARun). u .automation) (o .is)) (ap (λ (u : ARun). u .sequence) (o .is)))) r
+        (subst (λ (u : Run). L now room (put-runM k (phaseM phase.Going r) n) (store u d)) calm
+        (store-is f x ts mo tb y k (o .inside) (phaseM phase.Going r)
+        (rw p (record { rule = g .rule; old = g .old; places = g .places; phase = tt }))
+        (ap (λ (u : ARun). u .automation) (o .is)) (ap (λ (u : ARun). u .sequence) (o .is)))) r
         (g .rule)
 
     over-on-is : (w : Wait) →
         S now room (over-onM k r w m)
-        (add (next-step now (R r)) (store (waits none (R r)) (log-action now (Kind.timeout true) (source-of (w .source)) (R r) e)))
+        (add (next-step now (R r)) (store (waits none (R r))
+        (log-action now (Kind.timeout true) (source-of (w .source)) (R r) e)))
     unfolding over-onM
     over-on-is w =
         follow f x ts mo tb (λ (n : Machine). nowM r (put-runM k (phaseM phase.Going r) n))
@@ -198,11 +283,13 @@ module _ (f x : List ℕ) (ts : List Text) (mo : Model) (tb : Tabled f x ts mo) 
         (λ n o. overflow-stays n .on-add _ _ (c-store (Over n) (overflow-stays n) (waits none (R r)) _ o))
 
     over-end-is : (w : Wait) →
-        S now room (over-endM k r w m) (finish now (R r) (log-action now (Kind.timeout false) (source-of (w .source)) (R r) e))
+        S now room (over-endM k r w m) (finish now (R r)
+        (log-action now (Kind.timeout false) (source-of (w .source)) (R r) e))
     unfolding over-endM
     over-end-is w =
         follow f x ts mo tb (finishM k) (finish now (R r)) (told-time w false)
-        (λ y. finish-is f x ts mo tb y k r (keyed f x ts mo tb (still-here {m = m} (record { inside = h; is = refl }) (action-runs 17 0 (w .source) r m))))
+        (λ y. finish-is f x ts mo tb y k r (keyed f x ts mo tb
+        (still-here {m = m} (record { inside = h; is = refl }) (action-runs 17 0 (w .source) r m))))
         (λ n z p. s-finish n z k _ p)
         (λ n o. c-finish (Over n) (overflow-stays n) now (R r) _ o)
 
@@ -210,11 +297,15 @@ module _ (f x : List ℕ) (ts : List Text) (mo : Model) (tb : Tabled f x ts mo) 
     unfolding wait-overM wait-over wait-of
     over-is w =
         subst
-        (λ (t : ℕ). S now room (if eqb (w .deadline) t then (if w .«continue_on_timeout» then over-onM k r w m else over-endM k r w m) else m) (wait-over now (wait-of x ts f w) (R r) e))
+        (λ (t : ℕ). S now room (if eqb (w .deadline) t
+        then (if w .«continue_on_timeout» then over-onM k r w m else over-endM k r w m) else m)
+        (wait-over now (wait-of x ts f w) (R r) e))
         (sym (l .time)) (by (eqb (w .deadline) now) (w .«continue_on_timeout»))
       where
         by : (a b : Bool) → S now room (if a then (if b then over-onM k r w m else over-endM k r w m) else m)
-            (if a then (if b then add (next-step now (R r)) (store (waits none (R r)) (log-action now (Kind.timeout b) (source-of (w .source)) (R r) e)) else finish now (R r) (log-action now (Kind.timeout b) (source-of (w .source)) (R r) e)) else e)
+            (if a then (if b then add (next-step now (R r))
+            (store (waits none (R r)) (log-action now (Kind.timeout b) (source-of (w .source)) (R r) e))
+            else finish now (R r) (log-action now (Kind.timeout b) (source-of (w .source)) (R r) e)) else e)
         by true true = over-on-is w
         by true false = over-end-is w
         by false b = live less
@@ -244,10 +335,12 @@ module _ (f x : List ℕ) (ts : List Text) (mo : Model) (tb : Tabled f x ts mo) 
             (if-some (step now) (find (is-run (key-of x ts a n)) (e .runs)) e)
         by (lists.here k p o q t) =
             let z : 0 + k ≡ k = omega arith in
-            let y : find (is-run (key-of x ts a n)) (e .runs) ≡ some (R (getD (m .runs) k no-run)) = ap (find (is-run (key-of x ts a n))) (l .runs .is) ∙ q in
+            let y : find (is-run (key-of x ts a n)) (e .runs) ≡ some (R (getD (m .runs) k no-run)) =
+            ap (find (is-run (key-of x ts a n))) (l .runs .is) ∙ q in
             rw (p ∙ ap At z, y, run-is f x ts mo tb l k o) (step-is l k o)
         by (lists.nowhere p q) =
-            let y : find (is-run (key-of x ts a n)) (e .runs) ≡ none = ap (find (is-run (key-of x ts a n))) (l .runs .is) ∙ q in
+            let y : find (is-run (key-of x ts a n)) (e .runs) ≡ none =
+            ap (find (is-run (key-of x ts a n))) (l .runs .is) ∙ q in
             rw (p, y) (live (weaker f x ts mo tb (omega arith) l))
 
     time-out-is : S now room (time-outM a n m) (time-out now (key-of x ts a n) e)
@@ -259,10 +352,12 @@ module _ (f x : List ℕ) (ts : List Text) (mo : Model) (tb : Tabled f x ts mo) 
             (if-some (end-wait now) (find (is-run (key-of x ts a n)) (e .runs)) e)
         by (lists.here k p o q t) =
             let z : 0 + k ≡ k = omega arith in
-            let y : find (is-run (key-of x ts a n)) (e .runs) ≡ some (R (getD (m .runs) k no-run)) = ap (find (is-run (key-of x ts a n))) (l .runs .is) ∙ q in
+            let y : find (is-run (key-of x ts a n)) (e .runs) ≡ some (R (getD (m .runs) k no-run)) =
+            ap (find (is-run (key-of x ts a n))) (l .runs .is) ∙ q in
             rw (p ∙ ap At z, y, run-is f x ts mo tb l k o) (time-is l k o)
         by (lists.nowhere p q) =
-            let y : find (is-run (key-of x ts a n)) (e .runs) ≡ none = ap (find (is-run (key-of x ts a n))) (l .runs .is) ∙ q in
+            let y : find (is-run (key-of x ts a n)) (e .runs) ≡ none =
+            ap (find (is-run (key-of x ts a n))) (l .runs .is) ∙ q in
             rw (p, y) (live (weaker f x ts mo tb (omega arith) l))
 
   -- ---- a value expires
@@ -279,63 +374,80 @@ module _ (f x : List ℕ) (ts : List Text) (mo : Model) (tb : Tabled f x ts mo) 
   unfolding kind-of kind-number detail-number
   outside = record { is = refl; number = refl; detail = refl }
 
-  module _ {now room : ℕ} {m : Machine} {e : Engine} (l : L now room m e) (j : ℕ) (h : j < length (mo .scenario .entities)) where
-    abbrev old : ℕ
-    old = getD (m .values) j 0
+  module _ {now room : ℕ} {m : Machine} {e : Engine} (l : L now room m e) (j : ℕ) (h : j < length (mo .scenario .entities))
+    where
+      abbrev old : ℕ
+      old = getD (m .values) j 0
 
-    abbrev gone : ℕ
-    gone = getD x 6 0
+      abbrev gone : ℕ
+      gone = getD x 6 0
 
-    abbrev X : Text
-    X = T (name x j)
+      abbrev X : Text
+      X = T (name x j)
 
-    celled : Celled f x ts mo tb (set (m .values) j gone) (m .versions) (put X (T gone) 0 (e .cells))
-    celled =
-        subst (λ (ns : List ℕ). Celled f x ts mo tb (set (m .values) j gone) ns (put X (T gone) 0 (e .cells)))
-        (set-own (m .versions) j 0 (omega (arith, l .cells .long, tb .few-entities)))
-        (stored-is f x ts mo tb (m .values) (m .versions) (e .cells) (l .cells) j gone 0 (getD (m .versions) j 0) h (tb .unknown .is-in) (omega arith))
+      celled : Celled f x ts mo tb (set (m .values) j gone) (m .versions) (put X (T gone) 0 (e .cells))
+      celled =
+          subst (λ (ns : List ℕ). Celled f x ts mo tb (set (m .values) j gone) ns (put X (T gone) 0 (e .cells)))
+          (set-own (m .versions) j 0 (omega (arith, l .cells .long, tb .few-entities)))
+          (stored-is f x ts mo tb (m .values) (m .versions) (e .cells) (l .cells) j gone 0 (getD (m .versions) j 0) h
+          (tb .unknown .is-in) (omega arith))
 
-    abbrev mv : Move
-    mv = move (name x j) old gone
+      abbrev mv : Move
+      mv = move (name x j) old gone
 
-    moved : Moved f x ts mo tb mv
-    moved = record { entity-in = name-in f x ts mo tb j h; from-in = l .cells .valued .in-texts j h; to-in = tb .unknown .is-in }
+      moved : Moved f x ts mo tb mv
+      moved = record {
+        entity-in = name-in f x ts mo tb j h;
+        from-in = l .cells .valued .in-texts j h;
+        to-in =
+            tb .unknown .is-in;
+      }
 
-    expire-is : S now room (expireM x j m) (adds (change-of now X (T old) (T gone)) (log now Kind.stale none none (some (record { entity = X; before = T old; after = T gone })) (with-cells (put X (T gone) 0 (e .cells)) e)))
-    unfolding expireM expire-toM
-    expire-is =
-        follow f x ts mo tb (changedM mv) (adds (change-of now X (T old) (T gone)))
-        (log-write-is f x ts mo tb (cells-are f x ts mo tb l (storedM (cells m) j gone) (put X (T gone) 0 (e .cells)) celled (l .low)) (setting (name x j) gone 3 NoRule Nowhere) mv Kind.stale staling tt moved)
-        (λ y. changed-is f x ts mo tb y mv moved)
-        (λ n z p. s-changed n z mv _ p)
-        (λ n o. c-adds (Over n) (overflow-stays n) (change-of now X (T old) (T gone)) _ o)
+      expire-is : S now room (expireM x j m) (adds (change-of now X (T old) (T gone))
+          (log now Kind.stale none none (some (record { entity = X; before = T old; after = T gone }))
+          (with-cells (put X (T gone) 0 (e .cells)) e)))
+      unfolding expireM expire-toM
+      expire-is =
+          follow f x ts mo tb (changedM mv) (adds (change-of now X (T old) (T gone)))
+          (log-write-is f x ts mo tb (cells-are f x ts mo tb l (storedM (cells m) j gone) (put X (T gone) 0 (e .cells)) celled
+          (l .low)) (setting (name x j) gone 3 NoRule Nowhere) mv Kind.stale staling tt moved)
+          (λ y. changed-is f x ts mo tb y mv moved)
+          (λ n z p. s-changed n z mv _ p)
+          (λ n o. c-adds (Over n) (overflow-stays n) (change-of now X (T old) (T gone)) _ o)
 
-    same-value : eqT (T old) (text "unknown") ≡ eqb old gone
-    same-value = fixed-is f x ts mo tb old gone (text "unknown") (l .cells .valued .in-texts j h) (tb .unknown)
+      same-value : eqT (T old) (text "unknown") ≡ eqb old gone
+      same-value = fixed-is f x ts mo tb old gone (text "unknown") (l .cells .valued .in-texts j h) (tb .unknown)
 
-    one-change : eqb old gone ≡ false →
-        adds (change-of now X (T old) (text "unknown")) ≡ add (at-once now (Work.changed X (T old) (text "unknown")))
-    unfolding change-of adds through
-    one-change b = rw (same-value ∙ b)
+      one-change : eqb old gone ≡ false →
+          adds (change-of now X (T old) (text "unknown")) ≡ add (at-once now (Work.changed X (T old) (text "unknown")))
+      unfolding change-of adds through
+      one-change b = rw (same-value ∙ b)
 
-    stale-is : (n : ℕ) → S now room (stale-atM x j n m) (expire now n (cell-at x ts (m .values) (m .versions) j) e)
-    unfolding stale-atM expire cell-at
-    stale-is n =
-        rw (le-ltb 31 j (omega (arith, tb .few-entities)), same-value)
-        (by (eqb (getD (m .versions) j 0) n) (case (eqb old gone)))
-      where
-        expired : eqb old gone ≡ false →
-            S now room (expireM x j m)
-            (add (at-once now (Work.changed X (T old) (text "unknown"))) (log now Kind.stale none none (some (record { entity = X; before = T old; after = text "unknown" })) (with-cells (put X (text "unknown") 0 (e .cells)) e)))
-        expired b =
-            rw (← one-change b)
-            (subst (λ (t : Text). S now room (expireM x j m) (adds (change-of now X (T old) t) (log now Kind.stale none none (some (record { entity = X; before = T old; after = t })) (with-cells (put X t 0 (e .cells)) e)))) (tb .unknown .is-text) expire-is)
+      stale-is : (n : ℕ) → S now room (stale-atM x j n m) (expire now n (cell-at x ts (m .values) (m .versions) j) e)
+      unfolding stale-atM expire cell-at
+      stale-is n =
+          rw (le-ltb 31 j (omega (arith, tb .few-entities)), same-value)
+          (by (eqb (getD (m .versions) j 0) n) (case (eqb old gone)))
+        where
+          expired : eqb old gone ≡ false →
+              S now room (expireM x j m)
+              (add (at-once now (Work.changed X (T old) (text "unknown")))
+              (log now Kind.stale none none (some (record { entity = X; before = T old; after = text "unknown" }))
+              (with-cells (put X (text "unknown") 0 (e .cells)) e)))
+          expired b =
+              rw (← one-change b)
+              (subst (λ (t : Text). S now room (expireM x j m)
+              (adds (change-of now X (T old) t) (log now Kind.stale none none
+              (some (record { entity = X; before = T old; after = t })) (with-cells (put X t 0 (e .cells)) e))))
+              (tb .unknown .is-text) expire-is)
 
-        by : (a : Bool) → Case (eqb old gone) → S now room (if a then (if eqb old gone then m else expireM x j m) else m)
-            (if a && not (eqb old gone) then add (at-once now (Work.changed X (T old) (text "unknown"))) (log now Kind.stale none none (some (record { entity = X; before = T old; after = text "unknown" })) (with-cells (put X (text "unknown") 0 (e .cells)) e)) else e)
-        by true (is-true b) = rw b (live l)
-        by true (is-false b) = rw b (expired b)
-        by false c = live l
+          by : (a : Bool) → Case (eqb old gone) → S now room (if a then (if eqb old gone then m else expireM x j m) else m)
+              (if a && not (eqb old gone) then add (at-once now (Work.changed X (T old) (text "unknown")))
+              (log now Kind.stale none none (some (record { entity = X; before = T old; after = text "unknown" }))
+              (with-cells (put X (text "unknown") 0 (e .cells)) e)) else e)
+          by true (is-true b) = rw b (live l)
+          by true (is-false b) = rw b (expired b)
+          by false c = live l
 
   none-stale : (n : ℕ) (m : Machine) → stale-atM x 32 n m ≡ m
   unfolding stale-atM
@@ -349,7 +461,8 @@ module _ (f x : List ℕ) (ts : List Text) (mo : Model) (tb : Tabled f x ts mo) 
       by : Sought f x ts mo tb a (m .values) (m .versions) (entityOf x a) (cells-of x ts (m .values) (m .versions)) →
           S now room (stale-atM x (entityOf x a) n m) (if-some (expire now n) (cell-of (T a) (e .cells)) e)
       by (here j g o p q) =
-          let y : cell-of (T a) (e .cells) ≡ some (cell-at x ts (m .values) (m .versions) j) = ap (cell-of (T a)) (l .cells .is) ∙ q in
+          let y : cell-of (T a) (e .cells) ≡ some (cell-at x ts (m .values) (m .versions) j) =
+          ap (cell-of (T a)) (l .cells .is) ∙ q in
           rw (o, y) (stale-is l j g n)
       by (nowhere o q) =
           let y : cell-of (T a) (e .cells) ≡ none = ap (cell-of (T a)) (l .cells .is) ∙ q in

@@ -132,7 +132,8 @@ module _ (f x : List ℕ) (ts : List Text) (mo : Model) (tb : Tabled f x ts mo) 
       by none p g = stops refl refl
       by (some (i, k)) p g =
           rw (tb .horizon, long-trace, long-queue)
-          (cases i k p (g .0) (g .1) (leb 10000 (length (m .records))) (ltb 20000 (length (m .queue))) (case (ltb horizon (i .second))))
+          (cases i k p (g .0) (g .1) (leb 10000 (length (m .records))) (ltb 20000 (length (m .queue)))
+          (case (ltb horizon (i .second))))
 
   -- ---- a turn
 
@@ -147,7 +148,23 @@ module _ (f x : List ℕ) (ts : List Text) (mo : Model) (tb : Tabled f x ts mo) 
   took-is : {now room : ℕ} {m : Machine} {e : Engine} → L now room m e → (i : QItem) (k : List QItem) → Each Good k →
       i .second ≤ horizon → L (i .second) room (put-now (i .second) (put-queue k m)) (with-queue (each I k) e)
   unfolding with-queue
-  took-is l i k q h = record { time = refl; soon = omega (arith, tb .day); free = l .free; calm = l .calm; queue = record { is = refl; good = q }; records = l .records; runs = l .runs; cells = l .cells; reasons = l .reasons; made = l .made; low = l .low; sizes = l .sizes; start = l .start }
+  took-is l i k q h = record {
+    time = refl;
+    soon = omega (arith, tb .day);
+    free = l .free;
+    calm = l .calm;
+    queue =
+        record { is = refl; good = q };
+    records = l .records;
+    runs = l .runs;
+    cells = l .cells;
+    reasons = l .reasons;
+    made =
+        l .made;
+    low = l .low;
+    sizes = l .sizes;
+    start = l .start;
+  }
 
   turn-is : {now room : ℕ} {m : Machine} {e : Engine} → L now (room + 32) m e → (i : QItem) (k : List QItem) →
       order.pop secondOf (m .queue) ≡ some (i, k) → Good i → Each Good k → i .second ≤ horizon →
@@ -210,7 +227,8 @@ module _ (f x : List ℕ) (ts : List Text) (mo : Model) (tb : Tabled f x ts mo) 
     steps-at i l p = rw (p, loop)
 
     take-at : (left : ℕ) (i : Item) (l : List Item) → next-of horizon e (pop (e .queue)) ≡ take i l →
-        loop (mo .rules) horizon (suc left) n e ≡ loop (mo .rules) horizon left (n + 1) (process (i .at) (mo .rules) (i .work) (with-queue l e))
+        loop (mo .rules) horizon (suc left) n e ≡ loop (mo .rules) horizon left (n + 1)
+        (process (i .at) (mo .rules) (i .work) (with-queue l e))
     unfolding loop
     take-at left i l p = rw (p, loop)
 
@@ -241,17 +259,24 @@ module _ (f x : List ℕ) (ts : List Text) (mo : Model) (tb : Tabled f x ts mo) 
       by (next-is l) (λ t n d y. loop-is left (steps + 1) (omega arith) y)
     where
       by : NextIs m (nextM x m) (next-of horizon e (pop (e .queue))) →
-          ((t : ℕ) (n : Machine) (d : Engine) → S t (left * 32) n d → Ends (loopM f x left n) (loop (mo .rules) horizon left (steps + 1) d) (steps + 1 + left)) →
+          ((t : ℕ) (n : Machine) (d : Engine) → S t (left * 32) n d →
+          Ends (loopM f x left n) (loop (mo .rules) horizon left (steps + 1) d) (steps + 1 + left)) →
           Ends (loopM f x (suc left) m) (loop (mo .rules) horizon (suc left) steps e) (steps + suc left)
       by (stops a b) ih =
-          rw
-          (loop-stop left m 0 (free-why (suc left) m (l .free) ∙ ap (why-nextM (suc left)) a) refl, stop-at steps e (suc left) b)
+          rw (
+            loop-stop left m 0 (free-why (suc left) m (l .free) ∙ ap (why-nextM (suc left)) a) refl,
+            stop-at steps e (suc left) b,
+          )
           (lives now (weaker f x ts mo tb (omega arith) l) refl (omega arith) refl)
       by (spends a b) ih =
-          rw
-          (loop-stop left m 1 (free-why (suc left) m (l .free) ∙ ap (why-nextM (suc left)) a) refl, space-at steps e (suc left) b)
+          rw (
+            loop-stop left m 1 (free-why (suc left) m (l .free) ∙ ap (why-nextM (suc left)) a) refl,
+            space-at steps e (suc left) b,
+          )
           (lives now (weaker f x ts mo tb (omega arith) l) refl (omega arith) refl)
       by (goes i k p g q h a b) ih =
-          let w : whyM x (suc left) m ≡ 4 = free-why (suc left) m (l .free) ∙ ap (why-nextM (suc left)) a ∙ rw (ne-eqb (suc left) 0 (λ o. absurd (omega arith))) in
+          let w : whyM x (suc left) m ≡ 4 = free-why (suc left) m (l .free) ∙ ap (why-nextM (suc left)) a
+          ∙ rw (ne-eqb (suc left) 0 (λ o. absurd (omega arith))) in
           let z : steps + suc left ≡ steps + 1 + left = omega arith in
-          rw (loop-go left m w, take-at steps e left (I i) (each I k) b, z) (ih (i .second) _ _ (turn-is (weaker f x ts mo tb (omega arith) l) i k p g q h))
+          rw (loop-go left m w, take-at steps e left (I i) (each I k) b, z)
+          (ih (i .second) _ _ (turn-is (weaker f x ts mo tb (omega arith) l) i k p g q h))

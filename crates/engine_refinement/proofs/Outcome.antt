@@ -24,7 +24,17 @@ use Rattle.engine_fields.specs.Fields.{name, entities}
 use Rattle.engine_state.specs.Machine.{Machine}
 use Rattle.engine_schedule.specs.Events.{eventM, begunM}
 use Rattle.engine_loop.specs.Loop.{Halt, loopM, closedM}
-use Rattle.engine_refinement.specs.Meaning.{work-of, record-of, cell-at, cells-from, cells-of, run-of, pool-of, Column, Tabled}
+use Rattle.engine_refinement.specs.Meaning.{
+  work-of,
+  record-of,
+  cell-at,
+  cells-from,
+  cells-of,
+  run-of,
+  pool-of,
+  Column,
+  Tabled,
+}
 use Rattle.engine_refinement.specs.Events.{Among, GoodWork, EventAt}
 use Rattle.engine_refinement.proofs.Evaluate.{Valued, entities-are}
 use Rattle.engine_refinement.proofs.Checked.{known-value}
@@ -71,7 +81,8 @@ module _ (f x : List ℕ) (ts : List Text) (mo : Model) (tb : Tabled f x ts mo) 
       d .incomplete ≡ reasons-of (p .«stop_reason») ++ left-over (d .engine .runs) → outcome mo d ≡ shown p
   unfolding outcome shown
   shown-is p d now l s i =
-      let r = left-is (length (p .last .runs)) (d .engine .runs) (ap length (l .runs .is) ∙ lists.each-length (run-of x ts f) (p .last .runs)) in
+      let r = left-is (length (p .last .runs)) (d .engine .runs)
+      (ap length (l .runs .is) ∙ lists.each-length (run-of x ts f) (p .last .runs)) in
       let k : d .steps ≡ mo .scenario .limits .max-steps - p .left = omega arith in
       rw (l .records .is, l .cells .is, ← l .reasons .is, i, r, k)
 
@@ -81,12 +92,18 @@ module _ (f x : List ℕ) (ts : List Text) (mo : Model) (tb : Tabled f x ts mo) 
   unfolding simulated unless-full
   result-is areas cells vs p (ends now l s w i) =
       shows (l .free)
-      (ap (λ (y : Option ℕ). unless-full y (outcome mo (ended areas mo cells vs))) (l .calm) ∙ ap answer (shown-is p (ended areas mo cells vs) now l s i))
+      (ap (λ (y : Option ℕ). unless-full y (outcome mo (ended areas mo cells vs))) (l .calm)
+      ∙ ap answer (shown-is p (ended areas mo cells vs) now l s i))
       w
       (record {
         words = l .records .words;
         valued = l .cells .valued;
-        few = omega (arith, ap length (l .reasons .is), at-most (ended areas mo cells vs .engine .unknown) (pool-of mo) (l .reasons .differ) (l .reasons .among), tb .few-reasons);
+        few = omega (
+          arith,
+          ap length (l .reasons .is),
+          at-most (ended areas mo cells vs .engine .unknown) (pool-of mo) (l .reasons .differ) (l .reasons .among),
+          tb .few-reasons,
+        );
         among = subst (Among (pool-of mo)) (sym (l .reasons .is)) (l .reasons .among);
       })
   result-is areas cells vs p (full n z h o) =
@@ -111,19 +128,24 @@ module _ (f x : List ℕ) (ts : List Text) (mo : Model) (tb : Tabled f x ts mo) 
       let z : o + 0 ≡ o = omega arith in
       let k : Column x ts o y = subst (λ (i : ℕ). Column x ts i y) z (c y 0 (omega arith)) in
       let i : y .initial ≡ getD ts (getD vs o 0) [] = v y 0 (omega arith) ∙ ap (λ (j : ℕ). getD ts (getD vs j 0) []) z in
-      let cell : record { name = y .name; stale-after = y .stale-after; value = y .initial; version = 0 } ≡ cell-at x ts vs ns o = rw (k .name-is, k .stale-is, i, n o) in
+      let cell : record { name = y .name; stale-after = y .stale-after; value = y .initial; version = 0 }
+      ≡ cell-at x ts vs ns o = rw (k .name-is, k .stale-is, i, n o) in
       ap (λ (a : Cell). a ∷ initial-cells es) cell
       ∙ ap (λ (l : List Cell). cell-at x ts vs ns o ∷ l) (start-from vs ns es (o + 1)
-      (λ d e h. let q : o + suc e ≡ o + 1 + e = omega arith in subst (λ (j : ℕ). Column x ts j (getD es e d)) q (c d (suc e) (omega arith)))
-      (λ d e h. let q : o + suc e ≡ o + 1 + e = omega arith in v d (suc e) (omega arith) ∙ ap (λ (j : ℕ). getD ts (getD vs j 0) []) q) n)
+      (λ d e h. let q : o + suc e ≡ o + 1 + e = omega arith in
+      subst (λ (j : ℕ). Column x ts j (getD es e d)) q (c d (suc e) (omega arith)))
+      (λ d e h. let q : o + suc e ≡ o + 1 + e = omega arith in
+      v d (suc e) (omega arith) ∙ ap (λ (j : ℕ). getD ts (getD vs j 0) []) q) n)
 
   pub start-cells : (vs ns : List ℕ) →
-      ((d : Entity) (e : ℕ) → e < length (mo .scenario .entities) → getD (mo .scenario .entities) e d .initial ≡ getD ts (getD vs e 0) []) →
+      ((d : Entity) (e : ℕ) → e < length (mo .scenario .entities) →
+      getD (mo .scenario .entities) e d .initial ≡ getD ts (getD vs e 0) []) →
       ((e : ℕ) → getD ns e 0 ≡ 0) → initial-cells (mo .scenario .entities) ≡ cells-of x ts vs ns
   unfolding cells-of
   start-cells vs ns v n =
       start-from vs ns (mo .scenario .entities) 0
-      (λ d e h. let q : e ≡ 0 + e = omega arith in subst (λ (j : ℕ). Column x ts j (getD (mo .scenario .entities) e d)) q (tb .columns d e h))
+      (λ d e h. let q : e ≡ 0 + e = omega arith in subst (λ (j : ℕ). Column x ts j (getD (mo .scenario .entities) e d)) q
+      (tb .columns d e h))
       (λ d e h. let q : e ≡ 0 + e = omega arith in v d e h ∙ ap (λ (j : ℕ). getD ts (getD vs j 0) []) q) n
       ∙ ap (λ (j : ℕ). cells-from x ts vs ns j 0) (sym (entities-are f x ts mo tb))
 
@@ -132,9 +154,13 @@ module _ (f x : List ℕ) (ts : List Text) (mo : Model) (tb : Tabled f x ts mo) 
   unfolding eventM work-of check-input
   event-good k e v (Input.set a b) c w =
       let z = w .0 in
-      let known = known-value (mo .scenario .entities) (pool-of mo) (getD ts e []) b (subst (λ (t : Text). check-value (mo .scenario .entities) t b ≡ accept) (w .1 .0 .1) c) in
-      rw z
-      (ap (λ (t : Text). Work.external (Input.set t (getD ts v []))) (sym (w .1 .0 .1)) ∙ ap (λ (t : Text). Work.external (Input.set a t)) (sym (w .1 .1 .1)), (declared f x ts mo tb e (w .1 .0 .0) known, (w .1 .0 .0, w .1 .1 .0)))
+      let known = known-value (mo .scenario .entities) (pool-of mo) (getD ts e []) b
+      (subst (λ (t : Text). check-value (mo .scenario .entities) t b ≡ accept) (w .1 .0 .1) c) in
+      rw z (
+        ap (λ (t : Text). Work.external (Input.set t (getD ts v []))) (sym (w .1 .0 .1))
+            ∙ ap (λ (t : Text). Work.external (Input.set a t)) (sym (w .1 .1 .1)),
+        (declared f x ts mo tb e (w .1 .0 .0) known, (w .1 .0 .0, w .1 .1 .0)),
+      )
   event-good k e v Input.restart c w = rw w (refl, tt)
   event-good k e v reload c w = rw w (refl, tt)
 
@@ -142,4 +168,5 @@ module _ (f x : List ℕ) (ts : List Text) (mo : Model) (tb : Tabled f x ts mo) 
       getD l (i * 4) 0 ≡ v .at →
       InputWords ts (getD l (i * 4 + 1) 0) (getD l (i * 4 + 2) 0) (getD l (i * 4 + 3) 0) (v .input) →
       EventAt f x ts mo tb l i v
-  event-at l i v c s w = let g = event-good (getD l (i * 4 + 1) 0) (getD l (i * 4 + 2) 0) (getD l (i * 4 + 3) 0) (v .input) c w in record { second = s; work = g .0; good = g .1 }
+  event-at l i v c s w = let g = event-good (getD l (i * 4 + 1) 0) (getD l (i * 4 + 2) 0) (getD l (i * 4 + 3) 0) (v .input)
+      c w in record { second = s; work = g .0; good = g .1 }

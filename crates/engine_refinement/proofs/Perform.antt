@@ -12,7 +12,24 @@ use lib.Dec.{ltb, eqb}
 use borrow.Author.Tests.{le-ltb, eqb-true}
 use Rattle.texts.specs.Lists.{if_then_else_, absent, find}
 use Rattle.texts.specs.Texts.{Text, text, eqT, memT}
-use Rattle.model_spec.specs.Model.{Source, Entity, Trigger, Predicate, Effect, toggle, delay, condition, choose, wait, Actions, Branches, no-branch, branch, named, Model}
+use Rattle.model_spec.specs.Model.{
+  Source,
+  Entity,
+  Trigger,
+  Predicate,
+  Effect,
+  toggle,
+  delay,
+  condition,
+  choose,
+  wait,
+  Actions,
+  Branches,
+  no-branch,
+  branch,
+  named,
+  Model,
+}
 use Rattle.model_spec.specs.File.{got, u16, predicate, trigger, branches, actions}
 use Rattle.model_spec.specs.Validate.{undecided}
 use Rattle.queue.specs.declared.Work.{Work as QWork}
@@ -33,8 +50,31 @@ use Rattle.engine_spec.specs.Cells.{value-of}
 use Rattle.engine_spec.specs.Records.{Run, Work, Kind, Waiting, Engine}
 use Rattle.engine_spec.specs.Words.{truth-number, kind-number, detail-number}
 use Rattle.engine_spec.specs.Changes.{add, uncertain}
-use Rattle.engine_spec.specs.Reasons.{toggle-of-unknown, unknown-action-condition, unknown-choose-condition, unsupported-wait}
-use Rattle.engine_spec.specs.Engine.{moment, store, left, waits, toggled, _then_, next-step, log-action, go-on-after, write, flip, tested, chosen, begin-wait, perform, finish, select}
+use Rattle.engine_spec.specs.Reasons.{
+  toggle-of-unknown,
+  unknown-action-condition,
+  unknown-choose-condition,
+  unsupported-wait,
+}
+use Rattle.engine_spec.specs.Engine.{
+  moment,
+  store,
+  left,
+  waits,
+  toggled,
+  _then_,
+  next-step,
+  log-action,
+  go-on-after,
+  write,
+  flip,
+  tested,
+  chosen,
+  begin-wait,
+  perform,
+  finish,
+  select,
+}
 use Rattle.engine_spec.proofs.Closed.{c-log, c-finish, c-tested}
 use Rattle.model_walk.proofs.Found.{Case, is-true, is-false, case}
 use Rattle.engine_fields.specs.Fields.{two, four, name, entityOf, aboutRule, alone, noteReason}
@@ -50,19 +90,95 @@ use Rattle.engine_modes.specs.Modes.{nowM}
 use Rattle.engine_trigger.specs.Runs.{no-run, put-runM, phaseM, finishM}
 use Rattle.engine_actions.specs.Perform as acts
 use Rattle.engine_update.specs.Update.{setting}
-use Rattle.engine_actions.specs.Perform.{writtenM, setM, toggledM, doubtM, flip-fromM, flip-atM, flipM, delayM, unclearM, testedM, condition-asM, conditionM, take-listM, chosenM, chooseM, waitingM, begin-waitM, give-upM, performM}
-use Rattle.engine_refinement.specs.Meaning.{truth-of, verdict-of, found-trigger, id-at, key-of, kind-of, work-of, item-of, run-of, wait-of, source-of, cells-of, pool-of, Column, Tabled}
+use Rattle.engine_actions.specs.Perform.{
+  writtenM,
+  setM,
+  toggledM,
+  doubtM,
+  flip-fromM,
+  flip-atM,
+  flipM,
+  delayM,
+  unclearM,
+  testedM,
+  condition-asM,
+  conditionM,
+  take-listM,
+  chosenM,
+  chooseM,
+  waitingM,
+  begin-waitM,
+  give-upM,
+  performM,
+}
+use Rattle.engine_refinement.specs.Meaning.{
+  truth-of,
+  verdict-of,
+  found-trigger,
+  id-at,
+  key-of,
+  kind-of,
+  work-of,
+  item-of,
+  run-of,
+  wait-of,
+  source-of,
+  cells-of,
+  pool-of,
+  Column,
+  Tabled,
+}
 use Rattle.engine_refinement.specs.Events.{Declared}
 use Rattle.engine_refinement.proofs.Numbers.{later-is, most-is}
-use Rattle.engine_refinement.proofs.Evaluate.{Valued, undecided-is, fixed-is, evaluate-is, matches-is, Lists, Taken, takes, unclear, select-is}
-use Rattle.engine_refinement.proofs.Checked.{Pass, PassE, PassB, Known, pass-choose, pass-delay, pass-wait, pass-set, pass-toggle, pass-unknown}
-use Rattle.engine_refinement.proofs.Effects.{Acts, sets, toggles, delays, conditions, chooses, waits as waits-at, unknowns, deeper}
+use Rattle.engine_refinement.proofs.Evaluate.{
+  Valued,
+  undecided-is,
+  fixed-is,
+  evaluate-is,
+  matches-is,
+  Lists,
+  Taken,
+  takes,
+  unclear,
+  select-is,
+}
+use Rattle.engine_refinement.proofs.Checked.{
+  Pass,
+  PassE,
+  PassB,
+  Known,
+  pass-choose,
+  pass-delay,
+  pass-wait,
+  pass-set,
+  pass-toggle,
+  pass-unknown,
+}
+use Rattle.engine_refinement.proofs.Effects.{
+  Acts,
+  sets,
+  toggles,
+  delays,
+  conditions,
+  chooses,
+  waits as waits-at,
+  unknowns,
+  deeper,
+}
 use Rattle.engine_refinement.proofs.Stack.{Pushed, pushed}
 use Rattle.engine_refinement.proofs.Full.{s-next, s-log-action, s-finish, s-tested}
 use Rattle.engine_refinement.proofs.Overflow.{overflow-stays}
 use Rattle.engine_refinement.proofs.Relation.{GoodRun, Live, Sim, live, follow, weaker, add-is, uncertain-is}
 use Rattle.engine_refinement.proofs.Words.{text-place, Tells}
-use Rattle.engine_refinement.proofs.Pool.{pool-is, wait-in, note-is, wait-reason, toggle-reason, choose-reason, action-reason}
+use Rattle.engine_refinement.proofs.Pool.{
+  pool-is,
+  wait-in,
+  note-is,
+  wait-reason,
+  toggle-reason,
+  choose-reason,
+  action-reason,
+}
 use Rattle.engine_refinement.proofs.Update.{Over, log-action-is, next-is, now-is, entity-found, value-is, update-is}
 use Rattle.engine_refinement.proofs.Runs.{Keyed, store-is, finish-is}
 
@@ -127,7 +243,13 @@ module _ (f x : List ℕ) (ts : List Text) (mo : Model) (tb : Tabled f x ts mo) 
   R = run-of x ts f
 
   pub keyed : {k : ℕ} {r : ARun} {m : Machine} → Here k r m → Keyed f x ts mo tb k r m
-  keyed h = record { inside = h .inside; automation = ap (λ (y : ARun). y .automation) (h .is); sequence = ap (λ (y : ARun). y .sequence) (h .is); number = ap (λ (y : ARun). y .number) (h .is) }
+  keyed h = record {
+    inside = h .inside;
+    automation = ap (λ (y : ARun). y .automation) (h .is);
+    sequence =
+        ap (λ (y : ARun). y .sequence) (h .is);
+    number = ap (λ (y : ARun). y .number) (h .is);
+  }
 
   -- ---- declared entities
 
@@ -138,15 +260,22 @@ module _ (f x : List ℕ) (ts : List Text) (mo : Model) (tb : Tabled f x ts mo) 
   declared-from id h [] o g b d e = let z : _≡_ {A = ℕ} 0 1 = cc in absurd (omega arith)
   declared-from id h (y ∷ l) o g b d e =
       cases (case (eqT (y .name) (T id)))
-      (λ p. declared-from id h l (o + 1) (λ d k i. let z : o + suc k ≡ o + 1 + k = omega arith in subst (λ (n : ℕ). Column x ts n (getD l k d)) z (g d (suc k) (omega arith))) (omega arith) d p)
+      (λ p. declared-from id h l (o + 1) (λ d k i. let z : o + suc k ≡ o + 1 + k = omega arith in
+      subst (λ (n : ℕ). Column x ts n (getD l k d)) z (g d (suc k) (omega arith))) (omega arith) d p)
     where
       first : Column x ts o y
       first = let z : o + 0 ≡ o = omega arith in subst (λ (n : ℕ). Column x ts n y) z (g y 0 (omega arith))
 
       cases : Case (eqT (y .name) (T id)) → (find (named (T id)) l ≡ some d → Declared f x ts mo tb id) →
           Declared f x ts mo tb id
-      cases (is-true c) ih =
-          (o, (omega arith, eqb-true _ _ (sym (tb .same _ _ (first .name-in) h) ∙ ap (λ (t : Text). eqT t (T id)) (sym (first .name-is)) ∙ c)))
+      cases (is-true c) ih = (
+        o,
+        (
+          omega arith,
+          eqb-true _ _ (sym (tb .same _ _ (first .name-in) h)
+              ∙ ap (λ (t : Text). eqT t (T id)) (sym (first .name-is)) ∙ c),
+        ),
+      )
       cases (is-false c) ih = ih (rw c at e)
 
   pub declared : (id : ℕ) → id < length ts → Known es pl (T id) → Declared f x ts mo tb id
@@ -242,7 +371,8 @@ module _ (f x : List ℕ) (ts : List Text) (mo : Model) (tb : Tabled f x ts mo) 
       unfolding setM
       set-is {room} {m} {e} l a v d h =
           subst
-          (λ (n : ℕ). S now room (nowM r (writtenM x r s n v m)) (add (next-step now (R r)) (write now (T n) (T v) src (R r) e)))
+          (λ (n : ℕ). S now room (nowM r (writtenM x r s n v m))
+          (add (next-step now (R r)) (write now (T n) (T v) src (R r) e)))
           (d .1 .1) (going-on low (writing l low (d .0) v (d .1 .0) h))
 
       -- on and off
@@ -262,7 +392,8 @@ module _ (f x : List ℕ) (ts : List Text) (mo : Model) (tb : Tabled f x ts mo) 
           same = fixed-is f x ts mo tb v (getD x 4 0) (text "on") h (tb .on)
 
           by : Case (eqb v (getD x 4 0)) →
-              T (if eqb v (getD x 4 0) then getD x 5 0 else getD x 4 0) ≡ (if eqT (T v) (text "on") then text "off" else text "on")
+              T (if eqb v (getD x 4 0) then getD x 5 0 else getD x 4 0)
+              ≡ (if eqT (T v) (text "on") then text "off" else text "on")
           by (is-true b) = rw (same ∙ b, b) (tb .off .is-text)
           by (is-false b) = rw (same ∙ b, b) (tb .on .is-text)
 
@@ -287,10 +418,19 @@ module _ (f x : List ℕ) (ts : List Text) (mo : Model) (tb : Tabled f x ts mo) 
               S now room (flipM f x r s (name x j) m) (add (next-step now (R r)) (flip now (T (name x j)) src (R r) e))
           by (is-true b) =
               rw (z, le-ltb 31 j (omega (arith, tb .few-entities)), v, b, sym u ∙ b)
-              (going-on low (live (doubt-is (weaker f x ts mo tb (omega arith) l) low kinds.toggle (toggle-of-unknown (id-at x ts (r .automation))) (toggle-reason f x ts mo tb (r .automation) low) (pool-is f x ts mo tb (r .automation) low .toggle))))
+              (going-on low
+              (live (doubt-is (weaker f x ts mo tb (omega arith) l) low kinds.toggle
+              (toggle-of-unknown (id-at x ts (r .automation))) (toggle-reason f x ts mo tb (r .automation) low)
+              (pool-is f x ts mo tb (r .automation) low .toggle))))
           by (is-false b) =
-              rw
-              (z, le-ltb 31 j (omega (arith, tb .few-entities)), v, b, sym u ∙ b, ← turned old (l .cells .valued .in-texts j h))
+              rw (
+                z,
+                le-ltb 31 j (omega (arith, tb .few-entities)),
+                v,
+                b,
+                sym u ∙ b,
+                ← turned old (l .cells .valued .in-texts j h),
+              )
               (going-on low (writing l low j (toggledM x old) h (turned-in old)))
 
       delay-is : {room : ℕ} {m : Machine} {e : Engine} → L now room m e → (d : ℕ) → d ≤ 86400 →
@@ -300,7 +440,11 @@ module _ (f x : List ℕ) (ts : List Text) (mo : Model) (tb : Tabled f x ts mo) 
           follow f x ts mo tb (λ (n : Machine). next-stepM r (later (n .now) d) n)
           (add (record { at = now + d; work = Work.resume (key-of x ts (r .automation) (r .sequence)) }))
           (told-action l 15 d (Kind.delay d) (delaying d) low)
-          (λ y. subst (λ (t : ℕ). S now room (next-stepM r t (log-actionM 15 d s r m)) (add (record { at = now + d; work = Work.resume (key-of x ts (r .automation) (r .sequence)) }) (log-action now (Kind.delay d) src (R r) e))) (sym (ap (λ (t : ℕ). later t d) (y .time) ∙ later-is now d (omega (arith, l .soon)))) (next-is f x ts mo tb y r (now + d) low))
+          (λ y. subst (λ (t : ℕ). S now room (next-stepM r t (log-actionM 15 d s r m))
+          (add (record { at = now + d; work = Work.resume (key-of x ts (r .automation) (r .sequence)) })
+          (log-action now (Kind.delay d) src (R r) e)))
+          (sym (ap (λ (t : ℕ). later t d) (y .time) ∙ later-is now d (omega (arith, l .soon))))
+          (next-is f x ts mo tb y r (now + d) low))
           (λ n z p. s-next n z r _ _ p)
           (λ n o. overflow-stays n .on-add _ _ o)
 
@@ -325,7 +469,8 @@ module _ (f x : List ℕ) (ts : List Text) (mo : Model) (tb : Tabled f x ts mo) 
           ∙ (λ j. evaluate (moment-after (sym (l .start) j) (l .time j)) p (sym (l .cells .is) j)) in
           let t = evaluateM f x (m .values) (m .now) at in
           rw (← v)
-          (follow f x ts mo tb (testedM f x k r t) (tested now (truth-of t) (R r)) (told-action l 11 (numberM t) (Kind.condition (truth-of t)) (testing t) low)
+          (follow f x ts mo tb (testedM f x k r t) (tested now (truth-of t) (R r))
+          (told-action l 11 (numberM t) (Kind.condition (truth-of t)) (testing t) low)
           (λ y. tested-is y (still-here w (action-runs 11 (numberM t) s r m)) t)
           (λ n z o. s-tested n z f x k r t _ o)
           (λ n o. c-tested (Over n) (overflow-stays n) now (truth-of t) (R r) _ o))
@@ -338,8 +483,13 @@ module _ (f x : List ℕ) (ts : List Text) (mo : Model) (tb : Tabled f x ts mo) 
       take-is {room} {m} {e} l w g at a q d h t o =
           let p = pushed f x ts mo tb r at a q d (g .places) (deeper ts f 17 at a q h) t o in
           rw (p .is)
-          (going-on low (told-action (subst (λ (y : Run). L now room (put-runM k (put-places (p .depth) (p .places) r) m) (store y e)) (same p)
-          (store-is f x ts mo tb l k (w .inside) (put-places (p .depth) (p .places) r) (record { rule = g .rule; old = g .old; places = p .good; phase = g .phase }) (ap (λ (y : ARun). y .automation) (w .is)) (ap (λ (y : ARun). y .sequence) (w .is)))) 8 0 Kind.choose choosing low))
+          (going-on low
+          (told-action (subst (λ (y : Run). L now room (put-runM k (put-places (p .depth) (p .places) r) m) (store y e))
+          (same p)
+          (store-is f x ts mo tb l k (w .inside) (put-places (p .depth) (p .places) r)
+          (record { rule = g .rule; old = g .old; places = p .good; phase = g .phase })
+          (ap (λ (y : ARun). y .automation) (w .is)) (ap (λ (y : ARun). y .sequence) (w .is))))
+          8 0 Kind.choose choosing low))
         where
           same : (p : Pushed f x ts mo tb r at a) →
               R (put-places (p .depth) (p .places) r) ≡ left (a then (R r) .actions) (R r)
@@ -361,7 +511,8 @@ module _ (f x : List ℕ) (ts : List Text) (mo : Model) (tb : Tabled f x ts mo) 
           GoodRun f x ts mo tb (m .sequences) r →
           (at n p : ℕ) (bs : Branches) (q : ℕ) (d : Actions) (o deep : ℕ) → u16 f at ≡ got n p →
           branches ts (actions ts 17) n f p ≡ got bs q → actions ts 17 f q ≡ got d o → PassE es pl deep (choose bs d) →
-          r .depth ≤ deep + 1 → S now room (chooseM f x k r s at m) (chosen now (select (moment now e) bs d (e .cells)) src (R r) e)
+          r .depth ≤ deep + 1 → S now room (chooseM f x k r s at m)
+          (chosen now (select (moment now e) bs d (e .cells)) src (R r) e)
       unfolding chooseM chosenM
       choose-is {room} {m} {e} l w g at n p bs q d o deep a b c t h =
           let ps = pass-choose es pl deep bs d t in
@@ -369,17 +520,23 @@ module _ (f x : List ℕ) (ts : List Text) (mo : Model) (tb : Tabled f x ts mo) 
           (λ (o : Option Actions). S now room (chosenM f x k r s (selectM f x (m .values) (m .now) at) m)
           (chosen now o src (R r) e))
           (λ j. select (moment-after (sym (l .start) j) (l .time j)) bs d (sym (l .cells .is) j))
-          (by (select-is f x ts mo tb (m .values) (m .versions) (l .cells .valued) (m .now) (Pass es pl (deep + 1)) at n p bs q d o a b c (passed (deep + 1) (m .values) (m .versions) (l .cells .valued) (m .now) bs (ps .0)) (ps .1)))
+          (by (select-is f x ts mo tb (m .values) (m .versions) (l .cells .valued) (m .now) (Pass es pl (deep + 1))
+          at n p bs q d o a b c (passed (deep + 1) (m .values) (m .versions) (l .cells .valued) (m .now) bs (ps .0))
+          (ps .1)))
         where
-          by : Taken f x ts mo tb (m .values) (m .versions) (l .cells .valued) (m .now) (Pass es pl (deep + 1)) (selectM f x (m .values) (m .now) at) (select (moment-after (mo .start) (m .now)) bs d (cells-of x ts (m .values) (m .versions))) →
+          by : Taken f x ts mo tb (m .values) (m .versions) (l .cells .valued) (m .now) (Pass es pl (deep + 1))
+              (selectM f x (m .values) (m .now) at) (select (moment-after (mo .start) (m .now)) bs d
+              (cells-of x ts (m .values) (m .versions))) →
               S now room (chosenM f x k r s (selectM f x (m .values) (m .now) at) m)
-              (chosen now (select (moment-after (mo .start) (m .now)) bs d (cells-of x ts (m .values) (m .versions))) src (R r) e)
+              (chosen now (select (moment-after (mo .start) (m .now)) bs d (cells-of x ts (m .values) (m .versions))) src
+              (R r) e)
           by (takes i y z u v t o) = rw (u, o) (take-is l w g i y z (deep + 1) v t h)
           by (unclear u o) = rw (u, o) (none-is l w)
 
       -- the run waits
       wait-run : (at : ℕ) (t : Trigger) (q d : ℕ) (c : Bool) → trigger ts f at ≡ got t q →
-          R (phaseM (phase.Waiting (acts.wait at d c s)) r) ≡ waits (some (record { trigger = t; deadline = d; continue = c; source = src })) (R r)
+          R (phaseM (phase.Waiting (acts.wait at d c s)) r)
+          ≡ waits (some (record { trigger = t; deadline = d; continue = c; source = src })) (R r)
       unfolding run-of wait-of found-trigger
       wait-run at t q d c h = rw (h, found-trigger)
 
@@ -387,12 +544,19 @@ module _ (f x : List ℕ) (ts : List Text) (mo : Model) (tb : Tabled f x ts mo) 
           GoodRun f x ts mo tb (m .sequences) r →
           (at : ℕ) (t : Trigger) (q n : ℕ) (c : Bool) → trigger ts f at ≡ got t q →
           S now room (waitingM k r s n (now + n) (acts.wait at (now + n) c s) m)
-          (log-action now (Kind.wait n) src (R r) (add (record { at = now + n; work = Work.timeout (key-of x ts (r .automation) (r .sequence)) }) (store (waits (some (record { trigger = t; deadline = now + n; continue = c; source = src })) (R r)) e)))
+          (log-action now (Kind.wait n) src (R r)
+          (add (record { at = now + n; work = Work.timeout (key-of x ts (r .automation) (r .sequence)) })
+          (store (waits (some (record { trigger = t; deadline = now + n; continue = c; source = src })) (R r)) e)))
       unfolding waitingM item-of work-of
       waiting-is {room} {m} {e} l w g at t q n c h =
           follow f x ts mo tb (log-actionM 16 n s r) (log-action now (Kind.wait n) src (R r))
-          (add-is f x ts mo tb (subst (λ (y : Run). L now room (put-runM k (phaseM (phase.Waiting (acts.wait at (now + n) c s)) r) m) (store y e)) (wait-run at t q (now + n) c h)
-          (store-is f x ts mo tb l k (w .inside) (phaseM (phase.Waiting (acts.wait at (now + n) c s)) r) (record { rule = g .rule; old = g .old; places = g .places; phase = (t, (q, h)) }) (ap (λ (y : ARun). y .automation) (w .is)) (ap (λ (y : ARun). y .sequence) (w .is)))) (now + n) (queue.Timeout (r .automation) (r .sequence)) low)
+          (add-is f x ts mo tb
+          (subst (λ (y : Run). L now room (put-runM k (phaseM (phase.Waiting (acts.wait at (now + n) c s)) r) m)
+          (store y e)) (wait-run at t q (now + n) c h)
+          (store-is f x ts mo tb l k (w .inside) (phaseM (phase.Waiting (acts.wait at (now + n) c s)) r)
+          (record { rule = g .rule; old = g .old; places = g .places; phase = (t, (q, h)) })
+          (ap (λ (y : ARun). y .automation) (w .is)) (ap (λ (y : ARun). y .sequence) (w .is)))) (now + n)
+          (queue.Timeout (r .automation) (r .sequence)) low)
           (λ y. told-action y 16 n (Kind.wait n) (waiting n) low)
           (λ i z p. s-log-action i z 16 n s r _ p)
           (λ i o. over-action i now (Kind.wait n) src (R r) _ o)
@@ -415,7 +579,9 @@ module _ (f x : List ℕ) (ts : List Text) (mo : Model) (tb : Tabled f x ts mo) 
           by (is-true b) = rw (note ∙ b, b, i, j, late) (waiting-is l w g at t q n c h)
           by (is-false b) =
               rw (note ∙ b, b)
-              (finish-is f x ts mo tb (uncertain-is f x ts mo tb l (alone kinds.wait) unsupported-wait (wait-reason f x ts mo tb) (wait-in mo)) k r (keyed (still-here w (uncertain-runs f (alone kinds.wait) m))))
+              (finish-is f x ts mo tb (uncertain-is f x ts mo tb l (alone kinds.wait) unsupported-wait
+              (wait-reason f x ts mo tb) (wait-in mo)) k r
+              (keyed (still-here w (uncertain-runs f (alone kinds.wait) m))))
 
       give-up-is : {room : ℕ} {m : Machine} {e : Engine} → L now room m e → Here k r m → (n : ℕ) → n < length ts →
           memT (T n) pl ≡ true →
@@ -424,8 +590,11 @@ module _ (f x : List ℕ) (ts : List Text) (mo : Model) (tb : Tabled f x ts mo) 
       unfolding give-upM
       give-up-is {room} {m} {e} l w n h p =
           follow f x ts mo tb (finishM k) (finish now (R r))
-          (told-action (uncertain-is f x ts mo tb l (noteReason f n) (T n) (note-is f x ts mo tb n h) p) 18 n (Kind.unknown (T n)) (unknowing n h) low)
-          (λ y. finish-is f x ts mo tb y k r (keyed (still-here w (action-runs 18 n s r (uncertainM f (noteReason f n) m) ∙ uncertain-runs f (noteReason f n) m))))
+          (told-action (uncertain-is f x ts mo tb l (noteReason f n) (T n) (note-is f x ts mo tb n h) p) 18 n
+          (Kind.unknown (T n)) (unknowing n h) low)
+          (λ y. finish-is f x ts mo tb y k r
+          (keyed (still-here w (action-runs 18 n s r (uncertainM f (noteReason f n) m)
+          ∙ uncertain-runs f (noteReason f n) m))))
           (λ i z o. s-finish i z k _ o)
           (λ i o. c-finish (Over i) (overflow-stays i) now (R r) _ o)
 
@@ -442,7 +611,8 @@ module _ (f x : List ℕ) (ts : List Text) (mo : Model) (tb : Tabled f x ts mo) 
       perform-is {room} {m} {e} l w g a b deep (toggles i h p q) t o =
           let d = declared i h (pass-toggle es pl deep (T i) (subst (PassE es pl deep) q t)) in
           rw (p, q)
-          (subst (λ (n : ℕ). S now room (flipM f x r s n m) (add (next-step now (R r)) (flip now (T n) src (R r) e))) (d .1 .1) (flip-is l (d .0) (d .1 .0)))
+          (subst (λ (n : ℕ). S now room (flipM f x r s n m) (add (next-step now (R r)) (flip now (T n) src (R r) e)))
+          (d .1 .1) (flip-is l (d .0) (d .1 .0)))
       perform-is l w g a b deep (delays n p q) t o =
           rw (p, q) (delay-is (less l) n (pass-delay es pl deep n (subst (PassE es pl deep) q t)))
       perform-is l w g a b deep (conditions at i j h p q) t o = rw (p, q) (condition-is (less l) w at i j h)

@@ -96,5 +96,7 @@ not-back t w h = cases (case (eqT w t))
 pub differ-end : (t : Text) (l : List Text) → Differ l → memT t l ≡ false → Differ (l ++ t ∷ [])
 unfolding memT any
 differ-end t [] d h = (refl, tt)
-differ-end t (y ∷ l) d h =
-    (member-end y t l (d .0) (not-back t y (or-no (eqT t y) (any (eqT t) l) h)), differ-end t l (d .1) (or-no′ (eqT t y) (any (eqT t) l) h))
+differ-end t (y ∷ l) d h = (
+  member-end y t l (d .0) (not-back t y (or-no (eqT t y) (any (eqT t) l) h)),
+  differ-end t l (d .1) (or-no′ (eqT t y) (any (eqT t) l) h),
+)

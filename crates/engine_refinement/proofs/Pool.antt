@@ -16,7 +16,13 @@ use Rattle.model_spec.specs.Notes.{of-actions}
 use Rattle.reasons.specs.Kinds as kinds
 use Rattle.reasons.specs.Reasons.{render, body, words}
 use Rattle.reasons.specs.Readable.{text-count, HasText}
-use Rattle.engine_spec.specs.Reasons.{unknown-trigger-condition, toggle-of-unknown, unknown-action-condition, unknown-choose-condition, unsupported-wait}
+use Rattle.engine_spec.specs.Reasons.{
+  unknown-trigger-condition,
+  toggle-of-unknown,
+  unknown-action-condition,
+  unknown-choose-condition,
+  unsupported-wait,
+}
 use Rattle.engine_spec.specs.Unsupported.{unsupported}
 use Rattle.engine_spec.proofs.Lists.{eqT-same}
 use Rattle.engine_fields.specs.Fields.{textPosition, word, aboutRule, alone, noteReason}
@@ -78,7 +84,8 @@ unfolding pool-of memT any
 rule-in mo i h =
     among-to (rule-pool (getD (mo .rules) i no-rule)) (flat rule-pool (mo .rules))
     (unsupported (mo .rules) ++ unsupported-wait ∷ flat rule-pool (mo .rules))
-    (λ t g. mem-right t (unsupported (mo .rules)) (unsupported-wait ∷ flat rule-pool (mo .rules)) (or-true (eqT t unsupported-wait) _ g))
+    (λ t g. mem-right t (unsupported (mo .rules)) (unsupported-wait ∷ flat rule-pool (mo .rules))
+    (or-true (eqT t unsupported-wait) _ g))
     (in-flat no-rule (mo .rules) i h)
 
 -- the reasons of the automation with the identifier t
@@ -122,8 +129,10 @@ module _ (f x : List ℕ) (ts : List Text) (mo : Model) (tb : Tabled f x ts mo) 
   pub position-is : (k : ℕ) → k < length ts → textAt f (textPosition f k) ≡ getD ts k []
   unfolding textPosition
   position-is k h =
-      rw
-      (lt-ltb k (text-count f) (omega (arith, tb .counted)), cap-is (startFrom f 6 k) (omega (arith, start-low f (tb .bytes) k 6 6 (omega arith), tb .few-texts)))
+      rw (
+        lt-ltb k (text-count f) (omega (arith, tb .counted)),
+        cap-is (startFrom f 6 k) (omega (arith, start-low f (tb .bytes) k 6 6 (omega arith), tb .few-texts)),
+      )
       (tb .text-at k h)
 
   pub note-is : (k : ℕ) → k < length ts → render f (noteReason f k) ≡ getD ts k []

@@ -41,10 +41,30 @@ use Rattle.model_walk.proofs.Found.{Case, is-true, is-false, case}
 use Rattle.engine_fields.specs.Fields.{word}
 use Rattle.engine_state.specs.declared.Cells.{Cells}
 use Rattle.engine_state.specs.declared.Told.{Told}
-use Rattle.engine_state.specs.Machine.{Machine, more, put-full, put-counts, put-cells, put-queue, put-records, put-runs, put-reasons}
+use Rattle.engine_state.specs.Machine.{
+  Machine,
+  more,
+  put-full,
+  put-counts,
+  put-cells,
+  put-queue,
+  put-records,
+  put-runs,
+  put-reasons,
+}
 use Rattle.engine_state.specs.Changes.{item, entry, addM, logM, add-runM, uncertainM}
 use Rattle.engine_trigger.specs.Runs.{no-run}
-use Rattle.engine_refinement.specs.Meaning.{id-at, key-of, cells-of, item-of, Placed, record-of, run-of, pool-of, Tabled}
+use Rattle.engine_refinement.specs.Meaning.{
+  id-at,
+  key-of,
+  cells-of,
+  item-of,
+  Placed,
+  record-of,
+  run-of,
+  pool-of,
+  Tabled,
+}
 use Rattle.engine_refinement.specs.Events.{Among, GoodWork}
 use Rattle.engine_refinement.proofs.Numbers.{more-is}
 use Rattle.engine_refinement.proofs.Evaluate.{Valued}
@@ -75,7 +95,8 @@ module _ (m : Machine) (z : m .«overflow» ≡ 0) where
   log-full t u w c e = rw (eq-eqb (m .«overflow») 0 z, e)
 
   run-goes : (i : ℕ) (r : ARun) → ltb (length (m .runs)) (m .runSize) ≡ true →
-      add-runM i r m ≡ put-counts (more (m .«runs_created»)) (set (m .sequences) i (more (getD (m .sequences) i 0))) (put-runs (m .runs ++ r ∷ []) m)
+      add-runM i r m ≡ put-counts (more (m .«runs_created»)) (set (m .sequences) i (more (getD (m .sequences) i 0)))
+      (put-runs (m .runs ++ r ∷ []) m)
   unfolding add-runM
   run-goes i r e = rw (eq-eqb (m .«overflow») 0 z, e)
 
@@ -93,7 +114,17 @@ unfolding noted
 noted-full n used size o e h = rw (e, noted) (rw (le-leb size used h))
 
 unfoldable pub no-rule : Automation
-no-rule = record { id = []; mode = single; max = 0; triggers = []; conditions = []; actions = done; source = record { line = 0; column = 0 }; notes = [] }
+no-rule = record {
+  id = [];
+  mode = single;
+  max = 0;
+  triggers = [];
+  conditions = [];
+  actions = done;
+  source =
+      record { line = 0; column = 0 };
+  notes = [];
+}
 
 -- the record's words are those of the record that it stands for, and its change names texts
 module _ (x : List ℕ) (ts : List Text) (mo : Model) where
@@ -190,7 +221,24 @@ module _ (f x : List ℕ) (ts : List Text) (mo : Model) (tb : Tabled f x ts mo) 
   follow F G (dead n z p o) g a b = dead n z (a n z p) (b n o)
 
   pub weaker : {now s t : ℕ} {m : Machine} {e : Engine} → t ≤ s → Live now s m e → Live now t m e
-  weaker h l = record { time = l .time; soon = l .soon; free = l .free; calm = l .calm; queue = l .queue; records = l .records; runs = l .runs; cells = l .cells; reasons = l .reasons; made = l .made; low = record { made-low = omega (arith, l .low .made-low); version-low = λ e. omega (arith, l .low .version-low e) }; sizes = l .sizes; start = l .start }
+  weaker h l = record {
+    time = l .time;
+    soon = l .soon;
+    free = l .free;
+    calm = l .calm;
+    queue = l .queue;
+    records =
+        l .records;
+    runs = l .runs;
+    cells = l .cells;
+    reasons = l .reasons;
+    made = l .made;
+    low =
+        record { made-low = omega (arith, l .low .made-low); version-low = λ e. omega (arith, l .low .version-low e) };
+    sizes =
+        l .sizes;
+    start = l .start;
+  }
 
   -- ---- an item more
 
@@ -209,8 +257,14 @@ module _ (f x : List ℕ) (ts : List Text) (mo : Model) (tb : Tabled f x ts mo) 
             time = l .time;
             soon = l .soon;
             free = l .free;
-            calm = noted-room 41 (length (e .queue)) (e .areas .queue) (e .overflow) (l .calm) (omega (arith, ltb-true (length (m .queue)) (m .queueSize) b, used, l .sizes .queue));
-            queue = record { is = ap (λ (q : List Item). q ++ item-of x ts (item t w) ∷ []) (l .queue .is) ∙ sym (lists.each-one (item-of x ts) (m .queue) (item t w)); good = lists.each-more (λ (i : QItem). GoodWork f x ts mo tb (i .work)) (m .queue) (item t w) (l .queue .good) g };
+            calm = noted-room 41 (length (e .queue)) (e .areas .queue) (e .overflow) (l .calm)
+                (omega (arith, ltb-true (length (m .queue)) (m .queueSize) b, used, l .sizes .queue));
+            queue = record {
+              is = ap (λ (q : List Item). q ++ item-of x ts (item t w) ∷ []) (l .queue .is)
+                  ∙ sym (lists.each-one (item-of x ts) (m .queue) (item t w));
+              good =
+                  lists.each-more (λ (i : QItem). GoodWork f x ts mo tb (i .work)) (m .queue) (item t w) (l .queue .good) g;
+            };
             records = l .records;
             runs = l .runs;
             cells = l .cells;
@@ -248,10 +302,14 @@ module _ (f x : List ℕ) (ts : List Text) (mo : Model) (tb : Tabled f x ts mo) 
             time = l .time;
             soon = l .soon;
             free = l .free;
-            calm = noted-room 42 (length (e .trace)) (e .areas .records) (e .overflow) (l .calm) (omega (arith, ltb-true (length (m .records)) (m .recordSize) b, used, l .sizes .records-are));
+            calm = noted-room 42 (length (e .trace)) (e .areas .records) (e .overflow) (l .calm)
+                (omega (arith, ltb-true (length (m .records)) (m .recordSize) b, used, l .sizes .records-are));
             queue = l .queue;
             records = record {
-              is = ap (λ (k : List Trace). k ++ r ∷ []) (l .records .is) ∙ ap (λ (y : Trace). each (record-of x ts) (m .records) ++ y ∷ []) (sym q ∙ ap (λ (n : ℕ). record-of x ts (entry n t u w c)) (sym (l .time))) ∙ sym (lists.each-one (record-of x ts) (m .records) (entry (m .now) t u w c));
+              is = ap (λ (k : List Trace). k ++ r ∷ []) (l .records .is)
+                  ∙ ap (λ (y : Trace). each (record-of x ts) (m .records) ++ y ∷ [])
+                  (sym q ∙ ap (λ (n : ℕ). record-of x ts (entry n t u w c)) (sym (l .time)))
+                  ∙ sym (lists.each-one (record-of x ts) (m .records) (entry (m .now) t u w c));
               words = lists.each-more (Worded x ts mo) (m .records) (entry (m .now) t u w c) (l .records .words) new-words;
             };
             runs = l .runs;
@@ -276,12 +334,44 @@ module _ (f x : List ℕ) (ts : List Text) (mo : Model) (tb : Tabled f x ts mo) 
       Celled (c .values) (c .versions) cs → Low t (m .«runs_created») (c .versions) →
       Live now t (put-cells c m) (with-cells cs e)
   unfolding with-cells
-  cells-are l c cs g h = record { time = l .time; soon = l .soon; free = l .free; calm = l .calm; queue = l .queue; records = l .records; runs = l .runs; cells = g; reasons = l .reasons; made = l .made; low = h; sizes = l .sizes; start = l .start }
+  cells-are l c cs g h = record {
+    time = l .time;
+    soon = l .soon;
+    free = l .free;
+    calm = l .calm;
+    queue = l .queue;
+    records =
+        l .records;
+    runs = l .runs;
+    cells = g;
+    reasons = l .reasons;
+    made = l .made;
+    low = h;
+    sizes = l .sizes;
+    start =
+        l .start;
+  }
 
   pub runs-are : {now s : ℕ} {m : Machine} {e : Engine} → Live now s m e → (k : List ARun) (rs : List Run) →
       Running (m .sequences) k rs → Live now s (put-runs k m) (with-runs rs e)
   unfolding with-runs
-  runs-are l k rs g = record { time = l .time; soon = l .soon; free = l .free; calm = l .calm; queue = l .queue; records = l .records; runs = g; cells = l .cells; reasons = l .reasons; made = l .made; low = l .low; sizes = l .sizes; start = l .start }
+  runs-are l k rs g = record {
+    time = l .time;
+    soon = l .soon;
+    free = l .free;
+    calm = l .calm;
+    queue = l .queue;
+    records =
+        l .records;
+    runs = g;
+    cells = l .cells;
+    reasons = l .reasons;
+    made = l .made;
+    low = l .low;
+    sizes = l .sizes;
+    start =
+        l .start;
+  }
 
   -- ---- automations by number and by identifier
 
@@ -330,47 +420,53 @@ module _ (f x : List ℕ) (ts : List Text) (mo : Model) (tb : Tabled f x ts mo) 
       old-good : GoodRun sequences old
       old-good = lists.each-getD (GoodRun sequences) l k no-run h (g .good)
 
-      module _ (r : ARun) (ok : GoodRun sequences r) (a : old .automation ≡ r .automation) (n : old .sequence ≡ r .sequence) where
-        abbrev key : Key
-        key = key-of x ts (r .automation) (r .sequence)
+      module _ (r : ARun) (ok : GoodRun sequences r) (a : old .automation ≡ r .automation) (n : old .sequence ≡ r .sequence)
+        where
+          abbrev key : Key
+          key = key-of x ts (r .automation) (r .sequence)
 
-        hit : is-run key (getD rs k (run-of x ts f no-run)) ≡ true
-        hit =
-            ap (λ (y : List Run). is-run key (getD y k (run-of x ts f no-run))) (g .is)
-            ∙ ap (is-run key) (lists.each-at (run-of x ts f) l k no-run)
-            ∙ own-test (r .automation) (r .sequence) (ok .rule) old old-good a n
+          hit : is-run key (getD rs k (run-of x ts f no-run)) ≡ true
+          hit =
+              ap (λ (y : List Run). is-run key (getD y k (run-of x ts f no-run))) (g .is)
+              ∙ ap (is-run key) (lists.each-at (run-of x ts f) l k no-run)
+              ∙ own-test (r .automation) (r .sequence) (ok .rule) old old-good a n
 
-        long : k < length rs
-        long = omega (arith, h, ap length (g .is) ∙ lists.each-length (run-of x ts f) l)
+          long : k < length rs
+          long = omega (arith, h, ap length (g .is) ∙ lists.each-length (run-of x ts f) l)
 
-        pub stored : Running sequences (set l k r) (each (in-place (run-of x ts f r)) rs)
-        unfolding in-place run-of
-        stored = record {
-          is = lists.set-one (is-run key) (run-of x ts f r) rs k (run-of x ts f no-run) long hit (once key rs (g .order)) ∙ ap (λ (y : List Run). set y k (run-of x ts f r)) (g .is) ∙ sym (lists.each-set (run-of x ts f) l k r);
-          good = lists.each-put (GoodRun sequences) l k r (g .good) ok;
-          order = order-each (in-place (run-of x ts f r)) (kept-key (run-of x ts f r)) rs (g .order);
-        }
+          pub stored : Running sequences (set l k r) (each (in-place (run-of x ts f r)) rs)
+          unfolding in-place run-of
+          stored = record {
+            is = lists.set-one (is-run key) (run-of x ts f r) rs k (run-of x ts f no-run) long hit (once key rs (g .order))
+                ∙ ap (λ (y : List Run). set y k (run-of x ts f r)) (g .is) ∙ sym (lists.each-set (run-of x ts f) l k r);
+            good = lists.each-put (GoodRun sequences) l k r (g .good) ok;
+            order = order-each (in-place (run-of x ts f r)) (kept-key (run-of x ts f r)) rs (g .order);
+          }
 
-        -- the same, by place
-        pub placed : Running sequences (set l k r) (set rs k (run-of x ts f r))
-        unfolding in-place run-of
-        placed =
-            subst (Running sequences (set l k r))
-            (lists.set-one (is-run key) (run-of x ts f r) rs k (run-of x ts f no-run) long hit (once key rs (g .order))) stored
+          -- the same, by place
+          pub placed : Running sequences (set l k r) (set rs k (run-of x ts f r))
+          unfolding in-place run-of
+          placed =
+              subst (Running sequences (set l k r))
+              (lists.set-one (is-run key) (run-of x ts f r) rs k (run-of x ts f no-run) long hit (once key rs (g .order)))
+              stored
 
-        pub removed : Running sequences (take k l ++ drop (k + 1) l) (keep (other-run key) rs)
-        unfolding other-run
-        removed = rw add-one (record {
-          is = lists.out-one (is-run key) rs k (run-of x ts f no-run) long hit (once key rs (g .order)) ∙ ap (λ (y : List Run). take k y ++ drop (suc k) y) (g .is) ∙ sym (lists.each-out (run-of x ts f) l k);
-          good = lists.each-less (GoodRun sequences) l k (g .good);
-          order = order-keep (other-run key) rs (g .order);
-        })
+          pub removed : Running sequences (take k l ++ drop (k + 1) l) (keep (other-run key) rs)
+          unfolding other-run
+          removed = rw add-one (record {
+            is = lists.out-one (is-run key) rs k (run-of x ts f no-run) long hit (once key rs (g .order))
+                ∙ ap (λ (y : List Run). take k y ++ drop (suc k) y) (g .is) ∙ sym (lists.each-out (run-of x ts f) l k);
+            good = lists.each-less (GoodRun sequences) l k (g .good);
+            order = order-keep (other-run key) rs (g .order);
+          })
 
     -- the automation's runs out
     pub dropped : (l : List ARun) (rs : List Run) → Running sequences l rs → (a : ℕ) → a < rules →
         Running sequences (places.keep (other a) l) (keep (of-other-rule (id-at x ts a)) rs)
     dropped l rs g a h = record {
-      is = ap (keep (of-other-rule (id-at x ts a))) (g .is) ∙ lists.kept (run-of x ts f) (other a) (of-other-rule (id-at x ts a)) l (lists.each-imp (GoodRun sequences) _ (other-test a h) l (g .good));
+      is = ap (keep (of-other-rule (id-at x ts a))) (g .is)
+          ∙ lists.kept (run-of x ts f) (other a) (of-other-rule (id-at x ts a)) l
+          (lists.each-imp (GoodRun sequences) _ (other-test a h) l (g .good));
       good = lists.each-kept (GoodRun sequences) (other a) l (g .good);
       order = order-keep (of-other-rule (id-at x ts a)) rs (g .order);
     }
@@ -410,7 +506,8 @@ module _ (f x : List ℕ) (ts : List Text) (mo : Model) (tb : Tabled f x ts mo) 
     pub places : Places f x ts mo tb (r .depth) (r .places)
     pub phase : r .phase ≡ phase.Going
 
-  module _ (sequences : List ℕ) (i n : ℕ) (h : i < rules) (made : List Text) (g : Made n sequences made) (low : getD sequences i 0 < 4294967295) where
+  module _ (sequences : List ℕ) (i n : ℕ) (h : i < rules) (made : List Text) (g : Made n sequences made)
+      (low : getD sequences i 0 < 4294967295) where
     abbrev after : List ℕ
     after = set sequences i (more (getD sequences i 0))
 
@@ -430,21 +527,37 @@ module _ (f x : List ℕ) (ts : List Text) (mo : Model) (tb : Tabled f x ts mo) 
         cases (is-false b) = rw (at-other j (eqb-false j i b)) (omega arith)
 
     still-good : (r : ARun) → GoodRun sequences r → GoodRun after r
-    still-good r o = record { rule = o .rule; old = omega (arith, o .old, grown (r .automation)); places = o .places; phase = o .phase }
+    still-good r o = record {
+      rule = o .rule;
+      old = omega (arith, o .old, grown (r .automation));
+      places = o .places;
+      phase =
+          o .phase;
+    }
 
     going : (p : Phase) → p ≡ phase.Going → GoodPhase p
     going p e = rw e tt
 
     new-good : (r : ARun) → NewRun sequences i r → GoodRun after r
-    new-good r o = record { rule = rw (o .automation) h; old = rw (o .automation, o .sequence, at-i) (omega arith); places = o .places; phase = going (r .phase) (o .phase) }
+    new-good r o = record {
+      rule = rw (o .automation) h;
+      old = rw (o .automation, o .sequence, at-i) (omega arith);
+      places =
+          o .places;
+      phase = going (r .phase) (o .phase);
+    }
 
     pub more-running : (l : List ARun) (rs : List Run) → Running sequences l rs → (r : ARun) → NewRun sequences i r →
         Running after (l ++ r ∷ []) (rs ++ run-of x ts f r ∷ [])
     unfolding run-of key-of
     more-running l rs o r w = record {
       is = ap (λ (y : List Run). y ++ run-of x ts f r ∷ []) (o .is) ∙ sym (lists.each-one (run-of x ts f) l r);
-      good = lists.each-more (GoodRun after) l r (lists.each-imp (GoodRun sequences) (GoodRun after) still-good l (o .good)) (new-good r w);
-      order = order-end rs (run-of x ts f r) (o .order) (subst (Each (λ (y : Run). Later y (run-of x ts f r))) (sym (o .is)) (each-over (run-of x ts f) (λ (y : Run). Later y (run-of x ts f r)) l (lists.each-imp (GoodRun sequences) _ earlier l (o .good))));
+      good = lists.each-more (GoodRun after) l r (lists.each-imp (GoodRun sequences) (GoodRun after) still-good l (o .good))
+          (new-good r w);
+      order = order-end rs (run-of x ts f r) (o .order)
+          (subst (Each (λ (y : Run). Later y (run-of x ts f r))) (sym (o .is))
+          (each-over (run-of x ts f) (λ (y : Run). Later y (run-of x ts f r)) l
+          (lists.each-imp (GoodRun sequences) _ earlier l (o .good))));
     }
       where
         earlier : (y : ARun) → GoodRun sequences y → Later (run-of x ts f y) (run-of x ts f r)
@@ -462,7 +575,9 @@ module _ (f x : List ℕ) (ts : List Text) (mo : Model) (tb : Tabled f x ts mo) 
       where
         counted : (j : ℕ) → j < rules → Case (eqb j i) →
             getD after j 0 ≡ tally (eqT (id-at x ts j)) made + (if eqT (id-at x ts j) (id-at x ts i) then 1 else 0)
-        counted j k (is-true b) = let e : j ≡ i = eqb-true j i b in rw (same-rule j i k h ∙ b) (ap (λ (y : ℕ). getD after y 0) e ∙ at-i ∙ ap (λ (y : ℕ). y + 1) (ap (λ (y : ℕ). getD sequences y 0) (sym e) ∙ g .each-rule j k))
+        counted j k (is-true b) = let e : j ≡ i = eqb-true j i b in
+            rw (same-rule j i k h ∙ b) (ap (λ (y : ℕ). getD after y 0) e ∙ at-i
+            ∙ ap (λ (y : ℕ). y + 1) (ap (λ (y : ℕ). getD sequences y 0) (sym e) ∙ g .each-rule j k))
         counted j k (is-false b) =
             rw (same-rule j i k h ∙ b) (at-other j (eqb-false j i b) ∙ g .each-rule j k ∙ (omega arith))
 
@@ -487,14 +602,23 @@ module _ (f x : List ℕ) (ts : List Text) (mo : Model) (tb : Tabled f x ts mo) 
             time = l .time;
             soon = l .soon;
             free = l .free;
-            calm = noted-room 43 (length (e .runs)) (e .areas .runs) (e .overflow) (l .calm) (omega (arith, ltb-true (length (m .runs)) (m .runSize) b, used, l .sizes .runs));
+            calm = noted-room 43 (length (e .runs)) (e .areas .runs) (e .overflow) (l .calm)
+                (omega (arith, ltb-true (length (m .runs)) (m .runSize) b, used, l .sizes .runs));
             queue = l .queue;
             records = l .records;
-            runs = more-running (m .sequences) i (m .«runs_created») h (e .made) (l .made) seq-low (m .runs) (e .runs) (l .runs) r w;
+            runs = more-running (m .sequences) i (m .«runs_created») h (e .made) (l .made) seq-low (m .runs) (e .runs)
+                (l .runs) r w;
             cells = l .cells;
             reasons = l .reasons;
-            made = subst (λ (t : Text). Made (more (m .«runs_created»)) (set (m .sequences) i (more (getD (m .sequences) i 0))) (e .made ++ t ∷ [])) (ap (id-at x ts) (sym (w .automation))) (more-made (m .sequences) i (m .«runs_created») h (e .made) (l .made) seq-low made-low);
-            low = record { made-low = omega (arith, l .low .made-low, more-is (m .«runs_created») made-low); version-low = λ e. omega (arith, l .low .version-low e) };
+            made = subst (λ (t : Text). Made (more (m .«runs_created»))
+                (set (m .sequences) i (more (getD (m .sequences) i 0))) (e .made ++ t ∷ []))
+                (ap (id-at x ts) (sym (w .automation))) (more-made (m .sequences) i (m .«runs_created») h (e .made) (l .made)
+                seq-low made-low);
+            low = record {
+              made-low = omega (arith, l .low .made-low, more-is (m .«runs_created») made-low);
+              version-low =
+                  λ e. omega (arith, l .low .version-low e);
+            };
             sizes = l .sizes;
             start = l .start;
           }))
@@ -528,8 +652,33 @@ module _ (f x : List ℕ) (ts : List Text) (mo : Model) (tb : Tabled f x ts mo) 
     where
       with-reasons : (k us : List Text) → Reasoned k us →
           Live now s (put-reasons k m)
-          (record { cells = e .cells; queue = e .queue; runs = e .runs; made = e .made; trace = e .trace; unknown = us; overflow = e .overflow; areas = e .areas; start = e .start })
-      with-reasons k us g = record { time = l .time; soon = l .soon; free = l .free; calm = l .calm; queue = l .queue; records = l .records; runs = l .runs; cells = l .cells; reasons = g; made = l .made; low = l .low; sizes = l .sizes; start = l .start }
+          (record {
+            cells = e .cells;
+            queue = e .queue;
+            runs = e .runs;
+            made = e .made;
+            trace = e .trace;
+            unknown = us;
+            overflow = e .overflow;
+            areas = e .areas;
+            start = e .start;
+          })
+      with-reasons k us g = record {
+        time = l .time;
+        soon = l .soon;
+        free = l .free;
+        calm = l .calm;
+        queue = l .queue;
+        records = l .records;
+        runs = l .runs;
+        cells = l .cells;
+        reasons = g;
+        made = l .made;
+        low = l .low;
+        sizes =
+            l .sizes;
+        start = l .start;
+      }
 
       same : memT (render f r) (m .reasons) ≡ memT t (e .unknown)
       same = ap (λ (y : Text). memT y (m .reasons)) q ∙ ap (memT t) (l .reasons .is)

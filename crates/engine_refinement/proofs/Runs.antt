@@ -24,22 +24,86 @@ use Rattle.engine_spec.specs.Words.{kind-number, detail-number}
 use Rattle.engine_spec.specs.Changes.{if-some, add, add-run, adds}
 use Rattle.engine_spec.specs.Modes.{decide}
 use Rattle.engine_spec.specs.Modes as modes
-use Rattle.engine_spec.specs.Engine.{in-line, of-rule, store, new-run, _then_, next-step, log-rule, let-go, release, finish, begin, carry-out}
+use Rattle.engine_spec.specs.Engine.{
+  in-line,
+  of-rule,
+  store,
+  new-run,
+  _then_,
+  next-step,
+  log-rule,
+  let-go,
+  release,
+  finish,
+  begin,
+  carry-out,
+}
 use Rattle.engine_spec.proofs.Closed.{c-log, c-release, c-begin}
 use Rattle.engine_fields.specs.Fields.{word}
 use Rattle.engine_state.specs.Machine.{Machine, more}
 use Rattle.engine_state.specs.Changes.{log-ruleM}
-use Rattle.engine_modes.specs.Modes.{nowM, newRun, begin-runM, begin-nowM, begin-queuedM, begin-laterM, dropM, stop-startM, decideM, decidedM, carry-withM, carry-outM}
-use Rattle.engine_trigger.specs.Runs.{no-run, runM, put-runM, releasedM, release-runM, release-atM, releaseM, outM, finish-runM, finishM}
+use Rattle.engine_modes.specs.Modes.{
+  nowM,
+  newRun,
+  begin-runM,
+  begin-nowM,
+  begin-queuedM,
+  begin-laterM,
+  dropM,
+  stop-startM,
+  decideM,
+  decidedM,
+  carry-withM,
+  carry-outM,
+}
+use Rattle.engine_trigger.specs.Runs.{
+  no-run,
+  runM,
+  put-runM,
+  releasedM,
+  release-runM,
+  release-atM,
+  releaseM,
+  outM,
+  finish-runM,
+  finishM,
+}
 use Rattle.engine_modes.specs.declared.Decision.{Decision}
 use Rattle.engine_modes.specs.declared.Decision.the-variants.{AlreadyRunning, MaxReached, Start, StopAndStart, WaitInLine}
-use Rattle.engine_refinement.specs.Meaning.{id-at, key-of, kind-of, run-of, actions-at, pool-of, mode-number, Row, Tabled}
+use Rattle.engine_refinement.specs.Meaning.{
+  id-at,
+  key-of,
+  kind-of,
+  run-of,
+  actions-at,
+  pool-of,
+  mode-number,
+  Row,
+  Tabled,
+}
 use Rattle.engine_refinement.proofs.Numbers.{more-is}
 use Rattle.engine_refinement.proofs.Checked.{Pass}
 use Rattle.engine_refinement.proofs.Stack.{Places, pushed}
 use Rattle.engine_refinement.proofs.Full.{s-log-rule, s-release, s-next, s-begin-now}
 use Rattle.engine_refinement.proofs.Overflow.{overflow-stays}
-use Rattle.engine_refinement.proofs.Relation.{GoodRun, Made, NewRun, Live, Sim, live, follow, weaker, runs-are, add-run-is, stored, removed, dropped, count-is, line-test, no-rule}
+use Rattle.engine_refinement.proofs.Relation.{
+  GoodRun,
+  Made,
+  NewRun,
+  Live,
+  Sim,
+  live,
+  follow,
+  weaker,
+  runs-are,
+  add-run-is,
+  stored,
+  removed,
+  dropped,
+  count-is,
+  line-test,
+  no-rule,
+}
 use Rattle.engine_refinement.proofs.Words.{Tells}
 use Rattle.engine_refinement.proofs.Pool.{pool-is}
 use Rattle.engine_refinement.proofs.Update.{Over, log-rule-is, now-is}
@@ -107,7 +171,8 @@ module _ (f x : List ℕ) (ts : List Text) (mo : Model) (tb : Tabled f x ts mo) 
       let r = getD (m .runs) k no-run in
       let g = run-good l k o in
       now-is f x ts mo tb
-      (store-is l k o (releasedM r) (record { rule = g .rule; old = g .old; places = g .places; phase = g .phase }) refl refl) r
+      (store-is l k o (releasedM r) (record { rule = g .rule; old = g .old; places = g .places; phase = g .phase })
+      refl refl) r
       (g .rule)
 
   pub release-is : {now s : ℕ} {m : Machine} {e : Engine} → L now s m e → (a : ℕ) → a < rules →
@@ -115,14 +180,16 @@ module _ (f x : List ℕ) (ts : List Text) (mo : Model) (tb : Tabled f x ts mo) 
   unfolding releaseM release release-atM if-some
   release-is {now} {s} {m} {e} l a h =
       cases
-      (lists.sought R (inLine a) (in-line (id-at x ts a)) no-run (m .runs) 0 (lists.each-imp (G (m .sequences)) _ (line-test f x ts mo tb (m .sequences) a h) (m .runs) (l .runs .good)))
+      (lists.sought R (inLine a) (in-line (id-at x ts a)) no-run (m .runs) 0
+      (lists.each-imp (G (m .sequences)) _ (line-test f x ts mo tb (m .sequences) a h) (m .runs) (l .runs .good)))
     where
       cases : lists.Sought R (inLine a) (in-line (id-at x ts a)) no-run (m .runs) (placeFrom (inLine a) 0 (m .runs)) 0 →
           S now s (release-atM (placeFrom (inLine a) 0 (m .runs)) m)
           (if-some (let-go now) (find (in-line (id-at x ts a)) (e .runs)) e)
       cases (lists.here k p o q t) =
           let z : 0 + k ≡ k = omega arith in
-          let y : find (in-line (id-at x ts a)) (e .runs) ≡ some (R (getD (m .runs) k no-run)) = ap (find (in-line (id-at x ts a))) (l .runs .is) ∙ q in
+          let y : find (in-line (id-at x ts a)) (e .runs) ≡ some (R (getD (m .runs) k no-run)) =
+          ap (find (in-line (id-at x ts a))) (l .runs .is) ∙ q in
           rw (p ∙ ap At z, y, run-is l k o) (let-go-is l k o)
       cases (lists.nowhere p q) =
           let y : find (in-line (id-at x ts a)) (e .runs) ≡ none = ap (find (in-line (id-at x ts a))) (l .runs .is) ∙ q in
@@ -139,9 +206,11 @@ module _ (f x : List ℕ) (ts : List Text) (mo : Model) (tb : Tabled f x ts mo) 
   finish-old {now} {s} {m} {e} l k h =
       let r = getD (m .runs) k no-run in
       let g = run-good l k h in
-      let l₁ = runs-are f x ts mo tb l (take k (m .runs) ++ drop (k + 1) (m .runs)) _ (removed f x ts mo tb (m .sequences) (m .runs) (e .runs) (l .runs) k h r g refl refl) in
+      let l₁ = runs-are f x ts mo tb l (take k (m .runs) ++ drop (k + 1) (m .runs)) _
+      (removed f x ts mo tb (m .sequences) (m .runs) (e .runs) (l .runs) k h r g refl refl) in
       follow f x ts mo tb (releaseM (r .automation)) (release now (id-at x ts (r .automation)))
-      (log-rule-is f x ts mo tb l₁ 14 (r .number) (r .automation) (Kind.complete (r .number)) (complete (r .number)) (g .rule))
+      (log-rule-is f x ts mo tb l₁ 14 (r .number) (r .automation) (Kind.complete (r .number)) (complete (r .number))
+      (g .rule))
       (λ i. release-is i (r .automation) (g .rule))
       (λ n z p. s-release n z (r .automation) _ p)
       (λ n o. c-release (Over n) (overflow-stays n) now (id-at x ts (r .automation)) _ o)
@@ -156,7 +225,9 @@ module _ (f x : List ℕ) (ts : List Text) (mo : Model) (tb : Tabled f x ts mo) 
   unfolding finishM
   finish-is {now} {s} {m} {e} l k r w =
       rw (run-is l k (w .inside))
-      (subst (S now s (finish-runM k (getD (m .runs) k no-run) m)) (same-finish now (getD (m .runs) k no-run) r e (w .automation) (w .sequence) (w .number)) (finish-old l k (w .inside)))
+      (subst (S now s (finish-runM k (getD (m .runs) k no-run) m))
+      (same-finish now (getD (m .runs) k no-run) r e (w .automation) (w .sequence) (w .number))
+      (finish-old l k (w .inside)))
 
   -- ---- beginnings
 
@@ -184,11 +255,26 @@ module _ (f x : List ℕ) (ts : List Text) (mo : Model) (tb : Tabled f x ts mo) 
   unfolding newRun run-of key-of new-run actions-at id-at
   begins i h later n sequences made g o t =
       let w = row i h in
-      let r₀ : ARun = record { automation = i; sequence = getD sequences i 0; number = more n; queued = later; phase = phase.Going; depth = 0; places = replicate 17 0 } in
-      let p = pushed f x ts mo tb r₀ (word x i 5) (getD (mo .rules) i no-rule .actions) (w .actions .0) 0 no-places (w .actions .1) t (omega arith) in
+      let r₀ : ARun = record {
+        automation = i;
+        sequence = getD sequences i 0;
+        number = more n;
+        queued = later;
+        phase =
+            phase.Going;
+        depth = 0;
+        places = replicate 17 0;
+      } in
+      let p = pushed f x ts mo tb r₀ (word x i 5) (getD (mo .rules) i no-rule .actions) (w .actions .0) 0 no-places
+      (w .actions .1) t (omega arith) in
       rw (p .is) (record {
         new = record { automation = refl; sequence = refl; places = p .good; phase = refl };
-        is = rw (p .all ∙ then-done (getD (mo .rules) i no-rule .actions), more-is n o ∙ ap (λ (y : ℕ). y + 1) (g .count), g .each-rule i h, ← w .id);
+        is = rw (
+          p .all ∙ then-done (getD (mo .rules) i no-rule .actions),
+          more-is n o ∙ ap (λ (y : ℕ). y + 1) (g .count),
+          g .each-rule i h,
+          ← w .id,
+        );
         number = more-is n o ∙ ap (λ (y : ℕ). y + 1) (g .count);
       })
 
@@ -209,16 +295,24 @@ module _ (f x : List ℕ) (ts : List Text) (mo : Model) (tb : Tabled f x ts mo) 
   id-is i h = row i h .id
 
   pub pass-is : (i : ℕ) → i < rules → Pass (mo .scenario .entities) (pool-of mo) 0 (A i .actions)
-  pass-is i h = record { before = row i h .before; after = row i h .after; is = row i h .checked; told = pool-is f x ts mo tb i h .told }
+  pass-is i h = record {
+    before = row i h .before;
+    after = row i h .after;
+    is = row i h .checked;
+    told =
+        pool-is f x ts mo tb i h .told;
+  }
 
   module _ {now s : ℕ} {m : Machine} {e : Engine} (l : L now (suc s) m e) (i : ℕ) (h : i < rules) where
-    begins-here : (later : Bool) → Begins (m .sequences) i later (e .made) (newRun f x i later (m .«runs_created») (m .sequences))
+    begins-here : (later : Bool) → Begins (m .sequences) i later (e .made)
+        (newRun f x i later (m .«runs_created») (m .sequences))
     begins-here later =
         begins i h later (m .«runs_created») (m .sequences) (e .made) (l .made)
         (omega (arith, l .low .made-low)) (pass-is i h)
 
     module _ (r : ARun) (b : Begins (m .sequences) i false (e .made) r) where
-      begin-eq : begin now (A i) false e ≡ adds (next-step now (R r) ∷ []) (log-rule now (Kind.start (r .number)) (id-at x ts (r .automation)) (add-run (R r) e))
+      begin-eq : begin now (A i) false e ≡ adds (next-step now (R r) ∷ [])
+          (log-rule now (Kind.start (r .number)) (id-at x ts (r .automation)) (add-run (R r) e))
       unfolding begin run-of
       begin-eq =
           ap (λ (y : Run). adds (next-step now y ∷ []) (log-rule now (Kind.start (y .number)) (A i .id) (add-run y e)))
@@ -234,9 +328,11 @@ module _ (f x : List ℕ) (ts : List Text) (mo : Model) (tb : Tabled f x ts mo) 
       unfolding begin-runM adds through
       begin-run-is = rw begin-eq (
           follow f x ts mo tb (λ (k : Machine). nowM r k) (add (next-step now (R r)))
-          (follow f x ts mo tb (log-ruleM 12 (r .number) (r .automation)) (log-rule now (Kind.start (r .number)) (id-at x ts (r .automation)))
+          (follow f x ts mo tb (log-ruleM 12 (r .number) (r .automation))
+          (log-rule now (Kind.start (r .number)) (id-at x ts (r .automation)))
           (add-run-is f x ts mo tb l i h r (b .new))
-          (λ k. log-rule-is f x ts mo tb k 12 (r .number) (r .automation) (Kind.start (r .number)) (starting (r .number)) rule-low)
+          (λ k. log-rule-is f x ts mo tb k 12 (r .number) (r .automation) (Kind.start (r .number)) (starting (r .number))
+          rule-low)
           (λ n z p. s-log-rule n z 12 (r .number) (r .automation) _ p)
           (λ n o. over-rule n now (Kind.start (r .number)) (id-at x ts (r .automation)) _ o))
           (λ k. now-is f x ts mo tb k r rule-low)
@@ -244,7 +340,8 @@ module _ (f x : List ℕ) (ts : List Text) (mo : Model) (tb : Tabled f x ts mo) 
           (λ n o. overflow-stays n .on-add _ _ o))
 
     module _ (r : ARun) (b : Begins (m .sequences) i true (e .made) r) where
-      later-eq : begin now (A i) true e ≡ log-rule now (Kind.queued (r .number)) (id-at x ts (r .automation)) (add-run (R r) e)
+      later-eq : begin now (A i) true e ≡ log-rule now (Kind.queued (r .number)) (id-at x ts (r .automation))
+          (add-run (R r) e)
       unfolding begin run-of adds through
       later-eq =
           ap (λ (y : Run). log-rule now (Kind.queued (y .number)) (A i .id) (add-run y e)) (sym (b .is))
@@ -257,7 +354,8 @@ module _ (f x : List ℕ) (ts : List Text) (mo : Model) (tb : Tabled f x ts mo) 
           follow f x ts mo tb (log-ruleM 13 (r .number) (r .automation))
           (log-rule now (Kind.queued (r .number)) (id-at x ts (r .automation)))
           (add-run-is f x ts mo tb l i h r (b .new))
-          (λ k. log-rule-is f x ts mo tb k 13 (r .number) (r .automation) (Kind.queued (r .number)) (queueing (r .number)) (rw (b .new .automation) h))
+          (λ k. log-rule-is f x ts mo tb k 13 (r .number) (r .automation) (Kind.queued (r .number)) (queueing (r .number))
+          (rw (b .new .automation) h))
           (λ n z p. s-log-rule n z 13 (r .number) (r .automation) _ p)
           (λ n o. over-rule n now (Kind.queued (r .number)) (id-at x ts (r .automation)) _ o))
 
@@ -331,10 +429,13 @@ module _ (f x : List ℕ) (ts : List Text) (mo : Model) (tb : Tabled f x ts mo) 
         (λ n o. c-begin (Over n) (overflow-stays n) now (A i) false _ o)
     decided-is WaitInLine = begin-later-is l i h
 
-    pub carry-is : S now s (carry-outM f x i m) (carry-out now (decide (A i .mode) (A i .max) (tally (of-rule (A i .id)) (e .runs))) (A i) e)
+    pub carry-is : S now s (carry-outM f x i m) (carry-out now
+        (decide (A i .mode) (A i .max) (tally (of-rule (A i .id)) (e .runs))) (A i) e)
     unfolding carry-outM carry-withM
     carry-is =
         let w = row i h in
-        let c : tally (of-rule (A i .id)) (e .runs) ≡ places.tally (runOf i) (m .runs) = ap (λ (t : Text). tally (of-rule t) (e .runs)) (id-is i h) ∙ count-is f x ts mo tb (m .sequences) (m .runs) (e .runs) (l .runs) i h in
+        let c : tally (of-rule (A i .id)) (e .runs) ≡ places.tally (runOf i) (m .runs) =
+        ap (λ (t : Text). tally (of-rule t) (e .runs)) (id-is i h)
+        ∙ count-is f x ts mo tb (m .sequences) (m .runs) (e .runs) (l .runs) i h in
         rw (w .mode, w .max, c, ← decide-is (A i .mode) (A i .max) (places.tally (runOf i) (m .runs)))
         (decided-is (decideM (mode-number (A i .mode)) (A i .max) (places.tally (runOf i) (m .runs))))

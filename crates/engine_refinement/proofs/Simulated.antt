@@ -1,5 +1,5 @@
--- A whole simulation: from the beginning machine through the loop to its end, the machine stands for the definition's engine.
--- `ended-is` is the statement that the code's contracts and the definition `ended` meet in.
+-- A whole simulation: from the beginning machine through the loop to its end, the machine stands for the definition's
+-- engine. `ended-is` is the statement that the code's contracts and the definition `ended` meet in.
 use mathlib.Core.Path.{_≡_, refl, sym, ap, _∙_, subst}
 use mathlib.Core.List.{List, [], _∷_, _++_, append-nil, append-assoc}
 use mathlib.Core.Bool.{Bool, true, false}
@@ -135,7 +135,18 @@ module _ (f x : List ℕ) (ts : List Text) (mo : Model) (tb : Tabled f x ts mo) 
     pub run-size : m .runSize ≡ areas .runs
 
   abbrev empty : Areas → List Cell → Engine
-  empty areas cells = record { cells = cells; queue = []; runs = []; made = []; trace = []; unknown = unsupported (mo .rules); overflow = none; areas = areas; start = mo .start }
+  empty areas cells = record {
+    cells = cells;
+    queue = [];
+    runs = [];
+    made = [];
+    trace = [];
+    unknown =
+        unsupported (mo .rules);
+    overflow = none;
+    areas = areas;
+    start = mo .start;
+  }
 
   start-is : (m : Machine) (areas : Areas) (cells : List Cell) → Beginning m areas cells → L 0 most m (empty areas cells)
   unfolding each tally
@@ -181,13 +192,15 @@ module _ (f x : List ℕ) (ts : List Text) (mo : Model) (tb : Tabled f x ts mo) 
   unfolding add-eventM
   add-event-stuck l i n m z p = s-add n z _ _ m p
 
-  events-are : (l : List ℕ) (d : Event) (vs : List Event) → ((i : ℕ) → i < length vs → EventAt f x ts mo tb l i (getD vs i d)) →
+  events-are : (l : List ℕ) (d : Event) (vs : List Event) →
+      ((i : ℕ) → i < length vs → EventAt f x ts mo tb l i (getD vs i d)) →
       (n : ℕ) → n ≤ length vs → {m : Machine} {e : Engine} → S 0 most m e →
       S 0 most (add-eventsM l n m) (adds (each event-item (take n vs)) e)
   unfolding add-eventsM each adds through
   events-are l d vs h zero o s = s
   events-are l d vs h (suc n) o {m} {e} s =
-      let y : each event-item (take (suc n) vs) ≡ each event-item (take n vs) ++ event-item (getD vs n d) ∷ [] = ap (each event-item) (take-suc vs n d o) ∙ lists.each-one event-item (take n vs) (getD vs n d) in
+      let y : each event-item (take (suc n) vs) ≡ each event-item (take n vs) ++ event-item (getD vs n d) ∷ [] =
+      ap (each event-item) (take-suc vs n d o) ∙ lists.each-one event-item (take n vs) (getD vs n d) in
       subst (S 0 most (add-eventM l n (add-eventsM l n m)))
       (sym (ap (λ (k : List Item). adds k e) y ∙ adds-end (each event-item (take n vs)) (event-item (getD vs n d)) e))
       (follow f x ts mo tb (add-eventM l n) (add (event-item (getD vs n d))) (events-are l d vs h n (omega arith) s)
@@ -232,7 +245,9 @@ module _ (f x : List ℕ) (ts : List Text) (mo : Model) (tb : Tabled f x ts mo) 
       cells-from x ts vs ns (suc n) e ≡ cells-from x ts vs ns n e ++ cell-at x ts vs ns (e + n) ∷ []
   unfolding cells-from
   cells-more vs ns zero e = let z : e + 0 ≡ e = omega arith in ap (λ (i : ℕ). cell-at x ts vs ns i ∷ []) (sym z)
-  cells-more vs ns (suc n) e = let z : e + 1 + n ≡ e + suc n = omega arith in ap (λ (l : List Cell). cell-at x ts vs ns e ∷ l) (cells-more vs ns n (e + 1) ∙ ap (λ (i : ℕ). cells-from x ts vs ns n (e + 1) ++ cell-at x ts vs ns i ∷ []) z)
+  cells-more vs ns (suc n) e = let z : e + 1 + n ≡ e + suc n = omega arith in
+      ap (λ (l : List Cell). cell-at x ts vs ns e ∷ l)
+      (cells-more vs ns n (e + 1) ∙ ap (λ (i : ℕ). cells-from x ts vs ns n (e + 1) ++ cell-at x ts vs ns i ∷ []) z)
 
   flat-end : (l : List Cell) (c : Cell) → flat (expiry 0) (l ++ c ∷ []) ≡ flat (expiry 0) l ++ expiry 0 c
   unfolding flat
@@ -248,7 +263,12 @@ module _ (f x : List ℕ) (ts : List Text) (mo : Model) (tb : Tabled f x ts mo) 
   expiries-are vs ns zero o a b s = s
   expiries-are vs ns (suc n) o {m} {e} a b s =
       let z : 0 + n ≡ n = omega arith in
-      let y : adds (flat (expiry 0) (cells-from x ts vs ns (suc n) 0)) e ≡ adds (expiry 0 (cell-at x ts vs ns n)) (adds (flat (expiry 0) (cells-from x ts vs ns n 0)) e) = ap (λ (l : List Cell). adds (flat (expiry 0) l) e) (cells-more vs ns n 0 ∙ ap (λ (i : ℕ). cells-from x ts vs ns n 0 ++ cell-at x ts vs ns i ∷ []) z) ∙ ap (λ (l : List Item). adds l e) (flat-end (cells-from x ts vs ns n 0) (cell-at x ts vs ns n)) ∙ adds-both (flat (expiry 0) (cells-from x ts vs ns n 0)) (expiry 0 (cell-at x ts vs ns n)) e in
+      let y : adds (flat (expiry 0) (cells-from x ts vs ns (suc n) 0)) e
+      ≡ adds (expiry 0 (cell-at x ts vs ns n)) (adds (flat (expiry 0) (cells-from x ts vs ns n 0)) e) =
+      ap (λ (l : List Cell). adds (flat (expiry 0) l) e)
+      (cells-more vs ns n 0 ∙ ap (λ (i : ℕ). cells-from x ts vs ns n 0 ++ cell-at x ts vs ns i ∷ []) z)
+      ∙ ap (λ (l : List Item). adds l e) (flat-end (cells-from x ts vs ns n 0) (cell-at x ts vs ns n))
+      ∙ adds-both (flat (expiry 0) (cells-from x ts vs ns n 0)) (expiry 0 (cell-at x ts vs ns n)) e in
       let w = expiries-same n m in
       subst (S 0 most (expiryM x n (expiriesM x n m))) (sym y)
       (follow f x ts mo tb (expiryM x n) (adds (expiry 0 (cell-at x ts vs ns n))) (expiries-are vs ns n (omega arith) a b s)
@@ -281,18 +301,22 @@ module _ (f x : List ℕ) (ts : List Text) (mo : Model) (tb : Tabled f x ts mo) 
   events-same l zero m = record { values = refl; versions = refl }
   events-same l (suc n) m =
       let a = events-same l n m in
-      let b = add-same (getD l (n * 4) 0) (eventM (getD l (n * 4 + 1) 0) (getD l (n * 4 + 2) 0) (getD l (n * 4 + 3) 0)) (add-eventsM l n m) in
+      let b = add-same (getD l (n * 4) 0) (eventM (getD l (n * 4 + 1) 0) (getD l (n * 4 + 2) 0) (getD l (n * 4 + 3) 0))
+      (add-eventsM l n m) in
       record { values = b .values ∙ a .values; versions = b .versions ∙ a .versions }
 
-  module _ (m : Machine) (areas : Areas) (cells : List Cell) (b : Beginning m areas cells) (l : List ℕ) (d : Event) (vs : List Event) (evs : (i : ℕ) → i < length vs → EventAt f x ts mo tb l i (getD vs i d)) where
+  module _ (m : Machine) (areas : Areas) (cells : List Cell) (b : Beginning m areas cells) (l : List ℕ) (d : Event)
+      (vs : List Event) (evs : (i : ℕ) → i < length vs → EventAt f x ts mo tb l i (getD vs i d)) where
     first-record : S 0 most (log-plainM 0 m) (log 0 Kind.initial none none none (empty areas cells))
     first-record =
         log-plain-is f x ts mo tb (start-is m areas cells b) 0 Kind.initial initial
 
-    all-events : S 0 most (add-eventsM l (length vs) (log-plainM 0 m)) (adds (each event-item vs) (log 0 Kind.initial none none none (empty areas cells)))
+    all-events : S 0 most (add-eventsM l (length vs) (log-plainM 0 m))
+        (adds (each event-item vs) (log 0 Kind.initial none none none (empty areas cells)))
     all-events =
         subst
-        (λ (k : List Event). S 0 most (add-eventsM l (length vs) (log-plainM 0 m)) (adds (each event-item k) (log 0 Kind.initial none none none (empty areas cells))))
+        (λ (k : List Event). S 0 most (add-eventsM l (length vs) (log-plainM 0 m))
+        (adds (each event-item k) (log 0 Kind.initial none none none (empty areas cells))))
         (take-all (length vs) vs (omega arith)) (events-are l d vs evs (length vs) (omega arith) first-record)
 
     begun-is : S 0 most (begunM x l (length vs) m) (begun areas (mo .start) cells (unsupported (mo .rules)) vs)
@@ -301,9 +325,11 @@ module _ (f x : List ℕ) (ts : List Text) (mo : Model) (tb : Tabled f x ts mo) 
         let u = log-same 0 m in
         let w = events-same l (length vs) (log-plainM 0 m) in
         subst
-        (λ (k : List Cell). S 0 most (expiriesM x (entities x) (add-eventsM l (length vs) (log-plainM 0 m))) (adds (flat (expiry 0) k) (adds (each event-item vs) (log 0 Kind.initial none none none (empty areas cells)))))
+        (λ (k : List Cell). S 0 most (expiriesM x (entities x) (add-eventsM l (length vs) (log-plainM 0 m)))
+        (adds (flat (expiry 0) k) (adds (each event-item vs) (log 0 Kind.initial none none none (empty areas cells)))))
         (sym (b .cells-are))
-        (expiries-are (m .values) (m .versions) (entities x) (omega (arith, entities-are f x ts mo tb)) (w .values ∙ u .values) (w .versions ∙ u .versions) all-events)
+        (expiries-are (m .values) (m .versions) (entities x) (omega (arith, entities-are f x ts mo tb))
+        (w .values ∙ u .values) (w .versions ∙ u .versions) all-events)
 
   -- ---- the end
 
@@ -336,14 +362,28 @@ module _ (f x : List ℕ) (ts : List Text) (mo : Model) (tb : Tabled f x ts mo) 
 
   -- something is left undone: nothing is added
   kept : (d : Ended) (t : Text) (l : List Text) → d .incomplete ++ left-over (d .engine .runs) ≡ t ∷ l →
-      closed horizon d ≡ record { engine = d .engine; steps = d .steps; incomplete = d .incomplete ++ left-over (d .engine .runs) }
+      closed horizon d ≡ record {
+        engine = d .engine;
+        steps = d .steps;
+        incomplete =
+            d .incomplete ++ left-over (d .engine .runs);
+      }
   unfolding closed last-record
   kept d t l e =
       ap
-      (λ (k : List Text). record { engine = last-record horizon k (d .engine); steps = d .steps; incomplete = d .incomplete ++ left-over (d .engine .runs) }) e
+      (λ (k : List Text). record {
+        engine = last-record horizon k (d .engine);
+        steps = d .steps;
+        incomplete =
+            d .incomplete ++ left-over (d .engine .runs);
+      }) e
 
   all-done : (d : Ended) → d .incomplete ++ left-over (d .engine .runs) ≡ [] →
-      closed horizon d ≡ record { engine = log horizon Kind.horizon none none none (d .engine); steps = d .steps; incomplete = [] }
+      closed horizon d ≡ record {
+        engine = log horizon Kind.horizon none none none (d .engine);
+        steps = d .steps;
+        incomplete = [];
+      }
   unfolding closed last-record
   all-done d e =
       ap (λ (k : List Text). record { engine = last-record horizon k (d .engine); steps = d .steps; incomplete = k }) e
@@ -352,12 +392,28 @@ module _ (f x : List ℕ) (ts : List Text) (mo : Model) (tb : Tabled f x ts mo) 
   unfolding log append
   log-runs-same h e = refl
 
-  module _ (p : Halt) (d : Ended) (total now : ℕ) (l : L now 0 (p .last) (d .engine)) (steps : d .steps + p .left ≡ total) (low : p .«stop_reason» ≤ 2) (told : d .incomplete ≡ reasons-of (p .«stop_reason»)) where
+  module _ (p : Halt) (d : Ended) (total now : ℕ) (l : L now 0 (p .last) (d .engine)) (steps : d .steps + p .left ≡ total)
+      (low : p .«stop_reason» ≤ 2) (told : d .incomplete ≡ reasons-of (p .«stop_reason»)) where
     long : length (d .engine .runs) ≡ length (p .last .runs)
     long = ap length (l .runs .is) ∙ lists.each-length (run-of x ts f) (p .last .runs)
 
     at-horizon : L horizon 0 (put-now (getD x 2 0) (p .last)) (d .engine)
-    at-horizon = record { time = tb .horizon; soon = tb .day; free = l .free; calm = l .calm; queue = l .queue; records = l .records; runs = l .runs; cells = l .cells; reasons = l .reasons; made = l .made; low = l .low; sizes = l .sizes; start = l .start }
+    at-horizon = record {
+      time = tb .horizon;
+      soon = tb .day;
+      free = l .free;
+      calm = l .calm;
+      queue = l .queue;
+      records =
+          l .records;
+      runs = l .runs;
+      cells = l .cells;
+      reasons = l .reasons;
+      made = l .made;
+      low = l .low;
+      sizes = l .sizes;
+      start = l .start;
+    }
 
     -- the machine stays, the definition too
     unchanged : closedM x p ≡ p → (t : Text) (k : List Text) → d .incomplete ++ left-over (d .engine .runs) ≡ t ∷ k →
@@ -394,33 +450,40 @@ module _ (f x : List ℕ) (ts : List Text) (mo : Model) (tb : Tabled f x ts mo) 
             or (is-true c) = (space-spent, (k, rw (b, c)))
             or (is-false c) = (steps-spent, (k, rw (b, c)))
 
-        by : Case (eqb (p .«stop_reason») 0) → Case (eqb (length (p .last .runs)) 0) → Result (closedM x p) (closed horizon d) total
+        by : Case (eqb (p .«stop_reason») 0) → Case (eqb (length (p .last .runs)) 0) →
+            Result (closedM x p) (closed horizon d) total
         by (is-true a) (is-true b) =
             let n : left-over (d .engine .runs) ≡ [] = runs-none (d .engine .runs) (long ∙ eqb-true _ _ b) in
             let i : d .incomplete ≡ [] = told ∙ rw a in
-            let o : d .incomplete ++ left-over (d .engine .runs) ≡ [] = ap (λ (y : List Text). y ++ left-over (d .engine .runs)) i ∙ n in
+            let o : d .incomplete ++ left-over (d .engine .runs) ≡ [] =
+            ap (λ (y : List Text). y ++ left-over (d .engine .runs)) i ∙ n in
             rw (finished a b, all-done d o)
             (at-end n (log-plain-is f x ts mo tb at-horizon 9 Kind.horizon last))
           where
             at-end : left-over (d .engine .runs) ≡ [] →
-                S horizon 0 (log-plainM 9 (put-now (getD x 2 0) (p .last))) (log horizon Kind.horizon none none none (d .engine)) →
+                S horizon 0 (log-plainM 9 (put-now (getD x 2 0) (p .last)))
+                (log horizon Kind.horizon none none none (d .engine)) →
                 Result (halt (log-plainM 9 (put-now (getD x 2 0) (p .last))) (p .left) 0)
-                (record { engine = log horizon Kind.horizon none none none (d .engine); steps = d .steps; incomplete = [] }) total
+                (record { engine = log horizon Kind.horizon none none none (d .engine); steps = d .steps; incomplete = [] })
+                total
             at-end n (live y) =
                 ends horizon y steps (omega arith) (sym (ap left-over (log-runs-same horizon (d .engine)) ∙ n))
             at-end n (dead k z h o) = full k z h o
         by (is-true a) (is-false b) =
-            let n : left-over (d .engine .runs) ≡ runs-left ∷ [] = runs-some (d .engine .runs) (λ e. eqb-false _ _ b (sym long ∙ e)) in
+            let n : left-over (d .engine .runs) ≡ runs-left ∷ [] =
+            runs-some (d .engine .runs) (λ e. eqb-false _ _ b (sym long ∙ e)) in
             let i : d .incomplete ≡ [] = told ∙ rw a in
             unchanged (other-runs b) runs-left [] (ap (λ (y : List Text). y ++ left-over (d .engine .runs)) i ∙ n)
         by (is-false a) c =
             let o = spent (p .«stop_reason») a (left-over (d .engine .runs)) in
-            unchanged (other-why a) (o .0) (o .1 .0) (ap (λ (y : List Text). y ++ left-over (d .engine .runs)) told ∙ o .1 .1)
+            unchanged (other-why a) (o .0) (o .1 .0) (ap (λ (y : List Text). y ++ left-over (d .engine .runs)) told
+            ∙ o .1 .1)
 
   pub closed-is : (p : Halt) (d : Ended) (total : ℕ) → Ends f x ts mo tb p d total →
       Result (closedM x p) (closed horizon d) total
   closed-is p d total (lives now l s w t) = closed-live p d total now l s w t
-  closed-is p d total (stuck n z h o w) = full n z (closed-stuck n p z h) (end-closed (Over n) (overflow-stays n) horizon d o)
+  closed-is p d total (stuck n z h o w) = full n z (closed-stuck n p z h)
+      (end-closed (Over n) (overflow-stays n) horizon d o)
 
   -- ---- a whole simulation: from its beginning, with the events vs given as words
   pub ended-is : (m : Machine) (areas : Areas) (cells : List Cell) → Beginning m areas cells →
@@ -431,4 +494,6 @@ module _ (f x : List ℕ) (ts : List Text) (mo : Model) (tb : Tabled f x ts mo) 
   ended-is m areas cells b l d vs evs =
       let z : 0 + mo .scenario .limits .max-steps ≡ mo .scenario .limits .max-steps = omega arith in
       rw (tb .steps)
-      (closed-is _ _ _ (subst (Ends f x ts mo tb _ _) z (loop-is f x ts mo tb (mo .scenario .limits .max-steps) 0 (omega (arith, tb .few-steps)) (begun-is m areas cells b l d vs evs))))
+      (closed-is _ _ _ (subst (Ends f x ts mo tb _ _) z
+      (loop-is f x ts mo tb (mo .scenario .limits .max-steps) 0 (omega (arith, tb .few-steps))
+      (begun-is m areas cells b l d vs evs))))

@@ -171,7 +171,8 @@ module _ (f x : List ℕ) (ts : List Text) (mo : Model) (tb : Tabled f x ts mo) 
     unfolding actions-of
     no-more p a q e = sym (given _ _ _ e .0)
 
-    module _ (p : PlaceAt k w) (n : ℕ) (e : placeIn w .left ≡ suc n) (h : First f x ts mo tb n (placeIn w .position) (p .list) (p .end)) where
+    module _ (p : PlaceAt k w) (n : ℕ) (e : placeIn w .left ≡ suc n)
+        (h : First f x ts mo tb n (placeIn w .position) (p .list) (p .end)) where
       abbrev low-rest : Actions
       low-rest = actions-at x ts f k (r .places)
 
@@ -210,16 +211,22 @@ module _ (f x : List ℕ) (ts : List Text) (mo : Model) (tb : Tabled f x ts mo) 
       step-case : (m : ℕ) → n ≡ m → Stepped r
       step-case zero y =
           step-to k (set (r .places) k 0) (last-off _ (e ∙ ap suc y)) (omega arith) (take-off k (r .places) 0 g′)
-          (set-below k (r .places) 0 ∙ sym (done-then (h .rest) low-rest (no-more (h .after) (h .rest) (p .end) (rw y at (h .others)))))
+          (set-below k (r .places) 0
+          ∙ sym (done-then (h .rest) low-rest (no-more (h .after) (h .rest) (p .end) (rw y at (h .others)))))
       step-case (suc m) y =
           let o : actions-of ts inner (suc m) f (h .after) ≡ got (h .rest) (p .end) = rw y at (h .others) in
           let i = first-is f x ts mo tb m (h .after) (h .rest) (p .end) o .inside in
           let c : suc m < 65536 = omega (arith, y, e, small) in
           step-to (suc k) (set (r .places) k (listWord (h .after) (suc m)))
-          (one-off _ m (e ∙ ap suc y) ∙ ap (λ (j : ℕ). put-places (suc k) (set (r .places) k (listWord j (suc m))) r) (h .next (omega arith)))
+          (one-off _ m (e ∙ ap suc y) ∙ ap (λ (j : ℕ). put-places (suc k) (set (r .places) k (listWord j (suc m))) r)
+          (h .next (omega arith)))
           (omega arith)
-          (put-on k (r .places) (listWord (h .after) (suc m)) below-top (omega (arith, pass-depth es pl (p .deep) (p .list) (p .pass), p .below)) (place-at k (h .after) (suc m) (h .rest) (p .end) (p .deep) (omega (arith, i, tb .size)) c (omega arith) o (p .below) (passes .1)))
-          (at-word k (r .places) (h .after) (suc m) (h .rest) (p .end) (omega (arith, g .long, g .low)) (omega (arith, i, tb .size)) c o)
+          (put-on k (r .places) (listWord (h .after) (suc m)) below-top
+          (omega (arith, pass-depth es pl (p .deep) (p .list) (p .pass), p .below))
+          (place-at k (h .after) (suc m) (h .rest) (p .end) (p .deep) (omega (arith, i, tb .size)) c (omega arith) o
+          (p .below) (passes .1)))
+          (at-word k (r .places) (h .after) (suc m) (h .rest) (p .end) (omega (arith, g .long, g .low))
+          (omega (arith, i, tb .size)) c o)
         where
           small : placeIn w .left < 65536
           small = left-small w
@@ -282,6 +289,8 @@ module _ (f x : List ℕ) (ts : List Text) (mo : Model) (tb : Tabled f x ts mo) 
             depth = suc (r .depth);
             places = set (r .places) (r .depth) (listWord p (suc n));
             is = list-some r at n p (two-is f at c) (later-is at 2 (omega (arith, tb .size)) ∙ sym (w .ends)) low;
-            good = put-on (r .depth) (r .places) (listWord p (suc n)) g low (place-at (r .depth) p (suc n) a q d (omega (arith, i, tb .size)) m (omega arith) o h t);
-            all = at-word (r .depth) (r .places) p (suc n) a q (omega (arith, g .long, low)) (omega (arith, i, tb .size)) m o;
+            good = put-on (r .depth) (r .places) (listWord p (suc n)) g low
+                (place-at (r .depth) p (suc n) a q d (omega (arith, i, tb .size)) m (omega arith) o h t);
+            all = at-word (r .depth) (r .places) p (suc n) a q (omega (arith, g .long, low)) (omega (arith, i, tb .size))
+                m o;
           }

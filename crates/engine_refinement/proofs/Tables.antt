@@ -16,7 +16,38 @@ use Rattle.texts.proofs.Ordering.{eq-no}
 use Rattle.model_spec.specs.Answer.{answer, accept}
 use Rattle.model_spec.specs.Model.{observational, Entity, Automation, Model, midnight}
 use Rattle.model_spec.specs.Notes.{notes-of}
-use Rattle.model_spec.specs.File.{Head, invariant, input, automation, limits, or-zeros, start, Got, got, broken, Reader, give, u32, times, counted, one-text, ascending, texts, source, place, predicate, trigger, entity, entities, actions, head, events, model, decoded, decode}
+use Rattle.model_spec.specs.File.{
+  Head,
+  invariant,
+  input,
+  automation,
+  limits,
+  or-zeros,
+  start,
+  Got,
+  got,
+  broken,
+  Reader,
+  give,
+  u32,
+  times,
+  counted,
+  one-text,
+  ascending,
+  texts,
+  source,
+  place,
+  predicate,
+  trigger,
+  entity,
+  entities,
+  actions,
+  head,
+  events,
+  model,
+  decoded,
+  decode,
+}
 use Rattle.model_spec.specs.Validate.{day, check-entity, accepted}
 use Rattle.model_walk.proofs.Found.{bound, given, required, counted-found}
 use Rattle.model_parts.specs.Stand.{Reads}
@@ -75,7 +106,8 @@ pub record Words (f x : List ℕ) (ts : List Text) (m : Model) : Type 0 where
 times-long : {A : Type 0} (r : Reader A) (s : List ℕ) (n p : ℕ) (l : List A) (q : ℕ) → times n r s p ≡ got l q → length l ≡ n
 unfolding times give
 times-long {A} r s zero p l q e = let z : l ≡ [] = cc in ap length z
-times-long r s (suc n) p l q e = let m = more r s n p e in ap length (m .both) ∙ ap suc (times-long r s n (m .after) (m .others) q (m .are-others))
+times-long r s (suc n) p l q e = let m = more r s n p e in
+    ap length (m .both) ∙ ap suc (times-long r s n (m .after) (m .others) q (m .are-others))
 
 counted-as : (f : List ℕ) (ts : List Text) → Reads texts f 4 ts → text-count f ≡ length ts
 unfolding texts text-count two
@@ -83,7 +115,12 @@ counted-as f ts r =
     let c = bound (counted one-text) _ (r .1) in
     let q = required _ _ _ _ (c .rest) in
     let k = counted-found one-text (c .first) in
-    omega (arith, ap length (q .1 .0), times-long one-text f (k .count) (k .start) (c .value) (c .next) (k .are-values), two-is f 4 (k .is-count))
+    omega (
+      arith,
+      ap length (q .1 .0),
+      times-long one-text f (k .count) (k .start) (c .value) (c .next) (k .are-values),
+      two-is f 4 (k .is-count),
+    )
 
 few-texts : (f : List ℕ) → ((i : ℕ) → getD f i 0 < 256) → (ts : List Text) → Reads texts f 4 ts → length ts ≤ 65535
 unfolding text-count
@@ -157,7 +194,8 @@ decoded-model s m e = by (case (ltb 32768 (length s)))
         notes : Case (ltb 64 (length (notes-of n))) → Case (ltb next (length s)) → (q : ℕ) × (model s 0 ≡ got m q)
         notes (is-true b) c = absurd (refused-answer (rw b at e))
         notes (is-false b) (is-true c) = absurd (refused-answer (rw (b, c) at e))
-        notes (is-false b) (is-false c) = let z : answer n ≡ answer m = rw (b, c) at e in (next, p ∙ ap (λ (y : Model). got y next) (answer-eq z))
+        notes (is-false b) (is-false c) = let z : answer n ≡ answer m = rw (b, c) at e in
+            (next, p ∙ ap (λ (y : Model). got y next) (answer-eq z))
     found broken p e = absurd (refused-answer e)
 
     by : Case (ltb 32768 (length s)) → (q : ℕ) × (model s 0 ≡ got m q)
@@ -168,9 +206,12 @@ decoded-model s m e = by (case (ltb 32768 (length s)))
 same-entity : (es : List Entity) → ascending (names-of es) ≡ true → (d : Entity) (i j : ℕ) → i < length es →
     j < length es → getD es i d .name ≡ getD es j d .name → i ≡ j
 same-entity es h d i j a b e = elim (decLt i j) [
-  | yes k ↦ absurd (apart i j k b (each-in (λ (y : Entity). y .name) es i d a ∙ e ∙ sym (each-in (λ (y : Entity). y .name) es j d b)))
+  | yes k ↦ absurd
+      (apart i j k b (each-in (λ (y : Entity). y .name) es i d a ∙ e ∙ sym (each-in (λ (y : Entity). y .name) es j d b)))
   | no k ↦ elim (decLt j i) [
-    | yes o ↦ absurd (apart j i o a (each-in (λ (y : Entity). y .name) es j d b ∙ sym e ∙ sym (each-in (λ (y : Entity). y .name) es i d a)))
+    | yes o ↦ absurd
+        (apart j i o a (each-in (λ (y : Entity). y .name) es j d b ∙ sym e
+        ∙ sym (each-in (λ (y : Entity). y .name) es i d a)))
     | no o ↦ omega arith
   ]
 ]
@@ -178,7 +219,8 @@ same-entity es h d i j a b e = elim (decLt i j) [
     apart : (i j : ℕ) → i < j → j < length es → getD (names-of es) i [] ≡ getD (names-of es) j [] → ⊥
     apart i j k b e =
         let p = in-order (names-of es) h i j k (omega (arith, lists.each-length (λ (y : Entity). y .name) es)) in
-        let q : eqT (getD (names-of es) i []) (getD (names-of es) i []) ≡ false = ap (eqT (getD (names-of es) i [])) e ∙ eq-no p in
+        let q : eqT (getD (names-of es) i []) (getD (names-of es) i []) ≡ false =
+        ap (eqT (getD (names-of es) i [])) e ∙ eq-no p in
         let z : true ≡ false = sym (eqT-same (getD (names-of es) i [])) ∙ q in
         let y : _≡_ {A = ℕ} 0 1 = cc in
         omega arith
@@ -188,7 +230,8 @@ same-entity es h d i j a b e = elim (decLt i j) [
 not-in : (ids : List Text) (l : List Automation) (d : Automation) (j : ℕ) → Fresh ids l → j < length l → (t : Text) →
     memT t ids ≡ true → getD l j d .id ≡ t → ⊥
 not-in ids [] d j h k t m e = omega arith
-not-in ids (r ∷ l) d zero h k t m e = let z : true ≡ false = sym m ∙ ap (λ (y : Text). memT y ids) (sym e) ∙ h .0 in let y : _≡_ {A = ℕ} 0 1 = cc in omega arith
+not-in ids (r ∷ l) d zero h k t m e = let z : true ≡ false = sym m ∙ ap (λ (y : Text). memT y ids) (sym e) ∙ h .0 in
+    let y : _≡_ {A = ℕ} 0 1 = cc in omega arith
 not-in ids (r ∷ l) d (suc j) h k t m e = not-in (r .id ∷ ids) l d j (h .1) (omega arith) t (in-tail t (r .id) ids m) e
 
 same-id : (ids : List Text) (l : List Automation) (d : Automation) → Fresh ids l → (i j : ℕ) → i < length l →
@@ -238,8 +281,10 @@ tabled f x ts m acc w = record {
   start = w .start;
   columns = λ d e h. column d e h;
   rows = λ d i h. row d i h;
-  names-differ = λ i j h k e. same-entity (m .scenario .entities) ascends no-entity i j h k (w .names no-entity i h .name-is ∙ ap (λ (y : ℕ). getD ts y []) e ∙ sym (w .names no-entity j k .name-is));
-  ids-differ = λ i j h k e. same-id [] (m .rules) no-rule (accepted-fresh f m acc) i j h k (w .rules no-rule i h .id ∙ ap (λ (y : ℕ). getD ts y []) e ∙ sym (w .rules no-rule j k .id));
+  names-differ = λ i j h k e. same-entity (m .scenario .entities) ascends no-entity i j h k
+      (w .names no-entity i h .name-is ∙ ap (λ (y : ℕ). getD ts y []) e ∙ sym (w .names no-entity j k .name-is));
+  ids-differ = λ i j h k e. same-id [] (m .rules) no-rule (accepted-fresh f m acc) i j h k
+      (w .rules no-rule i h .id ∙ ap (λ (y : ℕ). getD ts y []) e ∙ sym (w .rules no-rule j k .id));
   few-reasons = small .1;
   stated = accepted-stated f m acc;
 }
@@ -263,13 +308,16 @@ tabled f x ts m acc w = record {
           name-in = c .name-in;
           name-is = c .name-is;
           stale-is = c .stale-is;
-          soon = soon-is (m .scenario .entities) (getD (m .scenario .entities) e d) (stale x e) (lists.each-getD (λ (y : Entity). check-entity (m .scenario .entities) y ≡ accept) (m .scenario .entities) e d h (law .entities)) (c .stale-is);
+          soon = soon-is (m .scenario .entities) (getD (m .scenario .entities) e d) (stale x e)
+              (lists.each-getD (λ (y : Entity). check-entity (m .scenario .entities) y ≡ accept) (m .scenario .entities)
+              e d h (law .entities)) (c .stale-is);
         }
 
     row : (d : Automation) (i : ℕ) → i < length (m .rules) → Row f x ts (m .scenario .entities) i (getD (m .rules) i d)
     row d i h =
         let c = w .rules d i h in
-        let k = lists.each-getD (λ (r : Automation). CheckedAt (m .scenario .entities) (r .actions)) (m .rules) i d h (law .checked) in
+        let k = lists.each-getD (λ (r : Automation). CheckedAt (m .scenario .entities) (r .actions)) (m .rules) i d h
+        (law .checked) in
         record {
           id-in = c .id-in;
           id = c .id;

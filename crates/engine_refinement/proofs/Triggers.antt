@@ -41,12 +41,36 @@ use Rattle.engine_state.specs.Changes.{addM, next-stepM}
 use Rattle.engine_modes.specs.Modes.{nowM}
 use Rattle.engine_trigger.specs.Runs.{no-run, runM, put-runM, phaseM, wake-phaseM, wake-runM, wake-oneM, wake-firstM, wakeM}
 use Rattle.engine_trigger.specs.Triggers.{admitM, log-triggerM, offer-asM, offerM, offer-firstM, triggerM}
-use Rattle.engine_refinement.specs.Meaning.{truth-of, verdict-of, found-trigger, id-at, kind-of, run-of, wait-of, Row, Tabled}
+use Rattle.engine_refinement.specs.Meaning.{
+  truth-of,
+  verdict-of,
+  found-trigger,
+  id-at,
+  kind-of,
+  run-of,
+  wait-of,
+  Row,
+  Tabled,
+}
 use Rattle.engine_refinement.proofs.Numbers.{two-is, most-is, source-is}
 use Rattle.engine_refinement.proofs.Evaluate.{Moved, matches-is, any-is, all-is}
 use Rattle.engine_refinement.proofs.Full.{s-admit, s-offer, s-wake-one}
 use Rattle.engine_refinement.proofs.Overflow.{overflow-stays}
-use Rattle.engine_refinement.proofs.Relation.{GoodRun, GoodPhase, Running, Live, Sim, live, dead, follow, weaker, runs-are, placed, uncertain-is, no-rule}
+use Rattle.engine_refinement.proofs.Relation.{
+  GoodRun,
+  GoodPhase,
+  Running,
+  Live,
+  Sim,
+  live,
+  dead,
+  follow,
+  weaker,
+  runs-are,
+  placed,
+  uncertain-is,
+  no-rule,
+}
 use Rattle.engine_refinement.proofs.Words.{Tells}
 use Rattle.engine_refinement.proofs.Pool.{pool-is, trigger-reason}
 use Rattle.engine_refinement.proofs.Update.{Over, log-at-is, now-is}
@@ -149,7 +173,8 @@ module _ (now : ℕ) (X Y Z : Text) (e : Engine) (d : Run) where
         let w : wk Q ≡ Q = rw b in
         ap (λ (l : List Item). adds l (with-runs (each wk (take (suc n) rs) ++ drop (suc n) rs) e)) (items-stay b)
         ∙ ap (λ (l : List Run). adds (items (take n rs)) (with-runs l e))
-        (runs-next ∙ ap (λ (y : Run). each wk (take n rs) ++ y ∷ drop (suc n) rs) w ∙ ap (λ (l : List Run). each wk (take n rs) ++ l) (sym (drop-cons rs n d h)))
+        (runs-next ∙ ap (λ (y : Run). each wk (take n rs) ++ y ∷ drop (suc n) rs) w
+        ∙ ap (λ (l : List Run). each wk (take n rs) ++ l) (sym (drop-cons rs n d h)))
 
     to-wake : awaits X Y Z Q ≡ true →
         wake-to (suc n) ≡ add (next-step now Q) (with-runs (set (wake-to n .runs) n (waits none Q)) (wake-to n))
@@ -157,7 +182,11 @@ module _ (now : ℕ) (X Y Z : Text) (e : Engine) (d : Run) where
     to-wake b =
         let w : wk Q ≡ waits none Q = rw b in
         let long : length (each wk (take n rs)) ≡ n = lists.each-length wk (take n rs) ∙ length-take-le n rs (omega arith) in
-        let z : each wk (take (suc n) rs) ++ drop (suc n) rs ≡ set (wake-to n .runs) n (waits none Q) = runs-next ∙ ap (λ (y : Run). each wk (take n rs) ++ y ∷ drop (suc n) rs) w ∙ sym (set-mid (each wk (take n rs)) Q (waits none Q) (drop (suc n) rs) n long) ∙ ap (λ (l : List Run). set l n (waits none Q)) (ap (λ (l : List Run). each wk (take n rs) ++ l) (sym (drop-cons rs n d h)) ∙ sym (to-runs n)) in
+        let z : each wk (take (suc n) rs) ++ drop (suc n) rs ≡ set (wake-to n .runs) n (waits none Q) =
+        runs-next ∙ ap (λ (y : Run). each wk (take n rs) ++ y ∷ drop (suc n) rs) w
+        ∙ sym (set-mid (each wk (take n rs)) Q (waits none Q) (drop (suc n) rs) n long)
+        ∙ ap (λ (l : List Run). set l n (waits none Q))
+        (ap (λ (l : List Run). each wk (take n rs) ++ l) (sym (drop-cons rs n d h)) ∙ sym (to-runs n)) in
         ap (λ (l : List Item). adds l (with-runs (each wk (take (suc n) rs) ++ drop (suc n) rs) e)) (items-more b)
         ∙ adds-end (items (take n rs)) (next-step now Q) (with-runs (each wk (take (suc n) rs) ++ drop (suc n) rs) e)
         ∙ ap (λ (l : List Run). add (next-step now Q) (adds (items (take n rs)) (with-runs l e))) z
@@ -187,7 +216,8 @@ module _ (f : List ℕ) (v : Move) where
   put-untouched : (k : ℕ) (r y : ARun) (m : Machine) → Untouched (suc k) m (nowM r (put-runM k y m))
   put-untouched k r y m = record {
     long = ap length (next-runs r (m .now) (put-runM k y m)) ∙ length-set (m .runs) k y;
-    same = λ j h. ap (λ (l : List ARun). getD l j no-run) (next-runs r (m .now) (put-runM k y m)) ∙ getD-set-other (m .runs) k j y no-run (λ e. absurd (omega arith));
+    same = λ j h. ap (λ (l : List ARun). getD l j no-run) (next-runs r (m .now) (put-runM k y m))
+        ∙ getD-set-other (m .runs) k j y no-run (λ e. absurd (omega arith));
   }
 
   phase-untouched : (k : ℕ) (r : ARun) (p : Phase) (m : Machine) → Untouched (suc k) m (wake-phaseM f v k r p m)
@@ -238,7 +268,8 @@ module _ (f x : List ℕ) (ts : List Text) (mo : Model) (tb : Tabled f x ts mo) 
     where
       by : (n s : ℕ) → u16 f p ≡ got n s → times n (place ts) f s ≡ got l q → Noted p l
       by zero s c e = let z : l ≡ [] = cc in clear (eq-eqb (two f p) 0 (two-is f p c)) z
-      by (suc n) s c e = let o = more (place ts) f n s e in noted (ne-eqb (two f p) 0 (λ y. absurd (omega (arith, two-is f p c)))) (o .first) (o .others) (o .both)
+      by (suc n) s c e = let o = more (place ts) f n s e in
+          noted (ne-eqb (two f p) 0 (λ y. absurd (omega (arith, two-is f p c)))) (o .first) (o .others) (o .both)
 
   module _ (now i : ℕ) (h : i < rules) where
     admit-is : {room : ℕ} {m : Machine} {e : Engine} → L now (suc room) m e → (t : Truth) →
@@ -253,7 +284,9 @@ module _ (f x : List ℕ) (ts : List Text) (mo : Model) (tb : Tabled f x ts mo) 
     admit-is l No = live (weaker f x ts mo tb (omega arith) l)
     admit-is {room} {m} {e} l Unknown =
         rw (id-is f x ts mo tb i h)
-        (live (uncertain-is f x ts mo tb (weaker f x ts mo tb (omega arith) l) (aboutRule f x i kinds.trigger-condition) (unknown-trigger-condition (id-at x ts i)) (trigger-reason f x ts mo tb i h) (pool-is f x ts mo tb i h .trigger)))
+        (live (uncertain-is f x ts mo tb (weaker f x ts mo tb (omega arith) l) (aboutRule f x i kinds.trigger-condition)
+        (unknown-trigger-condition (id-at x ts i)) (trigger-reason f x ts mo tb i h)
+        (pool-is f x ts mo tb i h .trigger)))
 
     triggering : (t : Truth) → Tells f x ts mo tb 10 (numberM t) (Kind.trigger (truth-of t))
     unfolding kind-of verdict-of kind-number detail-number truth-number
@@ -268,7 +301,9 @@ module _ (f x : List ℕ) (ts : List Text) (mo : Model) (tb : Tabled f x ts mo) 
     offer-as-is {room} {m} {e} l t =
         let s = source-is f (word x i 6) (row f x ts mo tb i h .source .1) in
         follow f x ts mo tb (admitM f x i t) (admit now (truth-of t) (A i))
-        (rw (id-is f x ts mo tb i h, s .line, s .column) (log-at-is f x ts mo tb l 10 (numberM t) i (A i .source .line) (A i .source .column) (Kind.trigger (truth-of t)) (triggering t) h))
+        (rw (id-is f x ts mo tb i h, s .line, s .column)
+        (log-at-is f x ts mo tb l 10 (numberM t) i (A i .source .line) (A i .source .column) (Kind.trigger (truth-of t))
+        (triggering t) h))
         (λ k. admit-is k t)
         (λ n z p. s-admit n z f x i t _ p)
         (λ n o. c-admit (Over n) (overflow-stays n) now (truth-of t) (A i) _ o)
@@ -309,15 +344,20 @@ module _ (f x : List ℕ) (ts : List Text) (mo : Model) (tb : Tabled f x ts mo) 
   -- each of the n automations may begin a run
   offers-is : (now : ℕ) (v : Move) → Moved f x ts mo tb v → (n room all : ℕ) → n ≤ rules → all ≡ n + room →
       {m : Machine} {e : Engine} → S now all m e →
-      S now room (offer-firstM f x v n m) (through (offer now (T (v .entity)) (T (v .from)) (T (v .to))) (take n (mo .rules)) e)
+      S now room (offer-firstM f x v n m) (through (offer now (T (v .entity)) (T (v .from)) (T (v .to))) (take n (mo .rules))
+      e)
   unfolding offer-firstM through
   offers-is now v w zero room all h q {m} {e} s =
       let z : all ≡ room = omega arith in
       subst (λ (i : ℕ). S now i m e) z s
   offers-is now v w (suc n) room all h q {m} {e} s =
-      rw
-      (take-suc (mo .rules) n no-rule (omega arith), through-end (offer now (T (v .entity)) (T (v .from)) (T (v .to))) (take n (mo .rules)) (A n) e)
-      (follow f x ts mo tb (offerM f x v n) (offer now (T (v .entity)) (T (v .from)) (T (v .to)) (A n)) (offers-is now v w n (suc room) all (omega arith) (omega arith) s)
+      rw (
+        take-suc (mo .rules) n no-rule (omega arith),
+        through-end (offer now (T (v .entity)) (T (v .from)) (T (v .to)))
+            (take n (mo .rules)) (A n) e,
+      )
+      (follow f x ts mo tb (offerM f x v n) (offer now (T (v .entity)) (T (v .from)) (T (v .to)) (A n))
+      (offers-is now v w n (suc room) all (omega arith) (omega arith) s)
       (λ k. offer-is now n (omega arith) v w k)
       (λ i z p. s-offer i z f x v n _ p)
       (λ i o. over-offer i now _ _ _ (A n) _ o))
@@ -393,10 +433,14 @@ module _ (f x : List ℕ) (ts : List Text) (mo : Model) (tb : Tabled f x ts mo) 
         unfolding run-of
         going = refl
 
-        woken-live : L now room (put-runM n (phaseM phase.Going r) k) (with-runs (set (to e n .runs) n (waits none (R r))) (to e n))
+        woken-live : L now room (put-runM n (phaseM phase.Going r) k)
+            (with-runs (set (to e n .runs) n (waits none (R r))) (to e n))
         woken-live =
             runs-are f x ts mo tb y (set (k .runs) n (phaseM phase.Going r)) _
-            (subst (λ (q : Run). Running f x ts mo tb (k .sequences) (set (k .runs) n (phaseM phase.Going r)) (set (to e n .runs) n q)) going (placed f x ts mo tb (k .sequences) (k .runs) (to e n .runs) (y .runs) n long-k (phaseM phase.Going r) calm-good (ap (λ (q : ARun). q .automation) same) (ap (λ (q : ARun). q .sequence) same)))
+            (subst (λ (q : Run). Running f x ts mo tb (k .sequences) (set (k .runs) n (phaseM phase.Going r))
+            (set (to e n .runs) n q)) going (placed f x ts mo tb (k .sequences) (k .runs) (to e n .runs) (y .runs)
+            n long-k (phaseM phase.Going r) calm-good (ap (λ (q : ARun). q .automation) same)
+            (ap (λ (q : ARun). q .sequence) same)))
 
         one-is : wake-oneM f v n k ≡ wake-runM f v n r k
         unfolding wake-oneM
@@ -439,4 +483,6 @@ module _ (f x : List ℕ) (ts : List Text) (mo : Model) (tb : Tabled f x ts mo) 
         let few : L now (rules + room) m e = weaker f x ts mo tb (omega (arith, tb .few-automations)) l in
         let a = offers-is now v w rules room (rules + room) (omega arith) refl (wake-is few) in
         rw rules-are
-        (subst (λ (k : List Automation). S now room (offer-firstM f x v rules (wakeM f v m)) (through (offer now (T (v .entity)) (T (v .from)) (T (v .to))) k (wake now (T (v .entity)) (T (v .from)) (T (v .to)) e))) (take-all rules (mo .rules) (omega arith)) a)
+        (subst (λ (k : List Automation). S now room (offer-firstM f x v rules (wakeM f v m))
+        (through (offer now (T (v .entity)) (T (v .from)) (T (v .to))) k
+        (wake now (T (v .entity)) (T (v .from)) (T (v .to)) e))) (take-all rules (mo .rules) (omega arith)) a)

@@ -32,9 +32,34 @@ use Rattle.engine_state.specs.declared.Setting.{Setting}
 use Rattle.engine_state.specs.Machine.{Machine, later, more, put-cells, raisedM, storedM}
 use Rattle.engine_state.specs.Changes.{saying, addM, logM, log-ruleM, log-actionM, log-plainM, log-writeM, next-stepM}
 use Rattle.engine_update.specs.Update.{cells, move, expiryM, changedM, writeM, update-atM, updateM}
-use Rattle.engine_refinement.specs.Meaning.{id-at, key-of, work-of, item-of, record-of, rule-of, where-of, source-of, stale-of, cell-at, cells-from, cells-of, run-of, Tabled}
+use Rattle.engine_refinement.specs.Meaning.{
+  id-at,
+  key-of,
+  work-of,
+  item-of,
+  record-of,
+  rule-of,
+  where-of,
+  source-of,
+  stale-of,
+  cell-at,
+  cells-from,
+  cells-of,
+  run-of,
+  Tabled,
+}
 use Rattle.engine_refinement.proofs.Numbers.{later-is, more-is}
-use Rattle.engine_refinement.proofs.Evaluate.{Sought, here, nowhere, cell-is, cell-named, name-in, put-is, entities-are, Moved}
+use Rattle.engine_refinement.proofs.Evaluate.{
+  Sought,
+  here,
+  nowhere,
+  cell-is,
+  cell-named,
+  name-in,
+  put-is,
+  entities-are,
+  Moved,
+}
 use Rattle.engine_refinement.proofs.Full.{s-changed, s-log-write}
 use Rattle.engine_refinement.proofs.Overflow.{overflow-stays}
 use Rattle.engine_refinement.proofs.Relation.{Celled, Low, Live, Sim, live, follow, add-is, log-is, cells-are}
@@ -71,7 +96,8 @@ module _ (f x : List ℕ) (ts : List Text) (mo : Model) (tb : Tabled f x ts mo) 
     unfolding log-ruleM log-rule log record-of
     log-rule-is k d a K h g =
         log-is f x ts mo tb l (saying k d) (Of a) Nowhere NoChange _
-        (ap (λ (y : Kind). record { at = now; kind = y; automation = some (id-at x ts a); source = none; change = none }) (h .is))
+        (ap (λ (y : Kind). record { at = now; kind = y; automation = some (id-at x ts a); source = none; change = none })
+        (h .is))
         (worded f x ts mo tb now k d (Of a) Nowhere NoChange K h g tt)
 
     pub log-plain-is : (k : ℕ) (K : Kind) → Says k 0 K → S now s (log-plainM k m) (log now K none none none e)
@@ -87,7 +113,14 @@ module _ (f x : List ℕ) (ts : List Text) (mo : Model) (tb : Tabled f x ts mo) 
     unfolding log-actionM log-action log record-of run-of key-of
     log-action-is k d src r K h g =
         log-is f x ts mo tb l (saying k d) (Of (r .automation)) (From (src .line) (src .column)) NoChange _
-        (ap (λ (y : Kind). record { at = now; kind = y; automation = some (id-at x ts (r .automation)); source = some (source-of src); change = none }) (h .is))
+        (ap (λ (y : Kind). record {
+          at = now;
+          kind = y;
+          automation = some (id-at x ts (r .automation));
+          source =
+              some (source-of src);
+          change = none;
+        }) (h .is))
         (worded f x ts mo tb now k d (Of (r .automation)) (From (src .line) (src .column)) NoChange K h g tt)
 
     pub log-at-is : (k d a line column : ℕ) (K : Kind) → Says k d K → a < length (mo .rules) →
@@ -96,17 +129,31 @@ module _ (f x : List ℕ) (ts : List Text) (mo : Model) (tb : Tabled f x ts mo) 
     unfolding log record-of
     log-at-is k d a line column K h g =
         log-is f x ts mo tb l (saying k d) (Of a) (From line column) NoChange _
-        (ap (λ (y : Kind). record { at = now; kind = y; automation = some (id-at x ts a); source = some (record { line = line; column = column }); change = none }) (h .is))
+        (ap (λ (y : Kind). record {
+          at = now;
+          kind = y;
+          automation = some (id-at x ts a);
+          source =
+              some (record { line = line; column = column });
+          change = none;
+        }) (h .is))
         (worded f x ts mo tb now k d (Of a) (From line column) NoChange K h g tt)
 
     pub log-write-is : (w : Setting) (v : Move) (K : Kind) → Says (w .kind) 0 K → GoodRule f x ts mo tb (w .rule) →
         Moved f x ts mo tb v →
         S now s (log-writeM w v m)
-        (log now K (rule-of x ts (w .rule)) (where-of (w .source)) (some (record { entity = T (v .entity); before = T (v .from); after = T (v .to) })) e)
+        (log now K (rule-of x ts (w .rule)) (where-of (w .source))
+        (some (record { entity = T (v .entity); before = T (v .from); after = T (v .to) })) e)
     unfolding log-writeM log record-of
     log-write-is w v K h g i =
         log-is f x ts mo tb l (saying (w .kind) 0) (w .rule) (w .source) (Write (v .entity) (v .from) (v .to)) _
-        (ap (λ (y : Kind). record { at = now; kind = y; automation = rule-of x ts (w .rule); source = where-of (w .source); change = some (record { entity = T (v .entity); before = T (v .from); after = T (v .to) }) }) (h .is))
+        (ap (λ (y : Kind). record {
+          at = now;
+          kind = y;
+          automation = rule-of x ts (w .rule);
+          source = where-of (w .source);
+          change = some (record { entity = T (v .entity); before = T (v .from); after = T (v .to) });
+        }) (h .is))
         (worded f x ts mo tb now (w .kind) 0 (w .rule) (w .source) (Write (v .entity) (v .from) (v .to)) K h g
         (i .entity-in, (i .from-in, i .to-in)))
 
@@ -115,7 +162,8 @@ module _ (f x : List ℕ) (ts : List Text) (mo : Model) (tb : Tabled f x ts mo) 
   module _ {now s : ℕ} {m : Machine} {e : Engine} (l : L now s m e) where
     -- the run goes on at a second
     pub next-is : (r : ARun) (t : ℕ) → r .automation < length (mo .rules) →
-        S now s (next-stepM r t m) (add (record { at = t; work = Work.resume (key-of x ts (r .automation) (r .sequence)) }) e)
+        S now s (next-stepM r t m) (add (record { at = t; work = Work.resume (key-of x ts (r .automation) (r .sequence)) })
+        e)
     unfolding next-stepM item-of work-of
     next-is r t h = add-is f x ts mo tb l t (queue.Resume (r .automation) (r .sequence)) h
 
@@ -134,10 +182,12 @@ module _ (f x : List ℕ) (ts : List Text) (mo : Model) (tb : Tabled f x ts mo) 
         same : eqT (T (v .from)) (T (v .to)) ≡ eqb (v .from) (v .to)
         same = tb .same (v .from) (v .to) (h .from-in) (h .to-in)
 
-        added : S now s (addM (m .now) (queue.Changed (v .entity) (v .from) (v .to)) m) (add (at-once now (Work.changed (T (v .entity)) (T (v .from)) (T (v .to)))) e)
+        added : S now s (addM (m .now) (queue.Changed (v .entity) (v .from) (v .to)) m)
+            (add (at-once now (Work.changed (T (v .entity)) (T (v .from)) (T (v .to)))) e)
         added =
             subst
-            (λ (t : ℕ). S now s (addM t (queue.Changed (v .entity) (v .from) (v .to)) m) (add (at-once now (Work.changed (T (v .entity)) (T (v .from)) (T (v .to)))) e))
+            (λ (t : ℕ). S now s (addM t (queue.Changed (v .entity) (v .from) (v .to)) m)
+            (add (at-once now (Work.changed (T (v .entity)) (T (v .from)) (T (v .to)))) e))
             (sym (l .time))
             (add-is f x ts mo tb l now (queue.Changed (v .entity) (v .from) (v .to)) (h .entity-in, (h .from-in, h .to-in)))
 
@@ -157,11 +207,16 @@ module _ (f x : List ℕ) (ts : List Text) (mo : Model) (tb : Tabled f x ts mo) 
             (add (record { at = now + stale x j + 1; work = Work.stale (T (name x j)) (getD (m .versions) j 0) }) e)
         added d =
             let c = tb .columns no-entity j h .soon d in
-            let y : later (later (m .now) (stale x j)) 1 ≡ now + stale x j + 1 = ap (λ (t : ℕ). later (later t (stale x j)) 1) (l .time) ∙ ap (λ (t : ℕ). later t 1) (later-is now (stale x j) (omega (arith, l .soon))) ∙ later-is (now + stale x j) 1 (omega (arith, l .soon)) in
+            let y : later (later (m .now) (stale x j)) 1 ≡ now + stale x j + 1 =
+            ap (λ (t : ℕ). later (later t (stale x j)) 1) (l .time)
+            ∙ ap (λ (t : ℕ). later t 1) (later-is now (stale x j) (omega (arith, l .soon)))
+            ∙ later-is (now + stale x j) 1 (omega (arith, l .soon)) in
             subst
-            (λ (t : ℕ). S now s (addM t (queue.Stale (name x j) (getD (m .versions) j 0)) m) (add (record { at = now + stale x j + 1; work = Work.stale (T (name x j)) (getD (m .versions) j 0) }) e))
+            (λ (t : ℕ). S now s (addM t (queue.Stale (name x j) (getD (m .versions) j 0)) m)
+            (add (record { at = now + stale x j + 1; work = Work.stale (T (name x j)) (getD (m .versions) j 0) }) e))
             (sym y)
-            (add-is f x ts mo tb l (now + stale x j + 1) (queue.Stale (name x j) (getD (m .versions) j 0)) (name-in f x ts mo tb j h))
+            (add-is f x ts mo tb l (now + stale x j + 1) (queue.Stale (name x j) (getD (m .versions) j 0))
+            (name-in f x ts mo tb j h))
 
         cases : Case (eqb (stale x j) 4294967295) →
             S now s (expiryM x j m) (adds (expiry now (cell-at x ts (m .values) (m .versions) j)) e)
@@ -199,10 +254,12 @@ module _ (f x : List ℕ) (ts : List Text) (mo : Model) (tb : Tabled f x ts mo) 
   entity-found vs ns j h = cases (cell-is f x ts mo tb vs ns (name x j) (name-in f x ts mo tb j h))
     where
       cases : Sought f x ts mo tb (name x j) vs ns (entityOf x (name x j)) (cells-of x ts vs ns) → Found vs ns j
-      cases (here i g o n c) = let z : i ≡ j = tb .names-differ i j g h n in record { number = o ∙ z; cell = c ∙ ap (λ (y : ℕ). some (cell-at x ts vs ns y)) z }
+      cases (here i g o n c) = let z : i ≡ j = tb .names-differ i j g h n in
+          record { number = o ∙ z; cell = c ∙ ap (λ (y : ℕ). some (cell-at x ts vs ns y)) z }
       cases (nowhere o c) =
           absurd
-          (missing vs ns j h (entities x) 0 (omega arith) (omega (arith, entities-are f x ts mo tb)) (omega (arith, entities-are f x ts mo tb)) c)
+          (missing vs ns j h (entities x) 0 (omega arith) (omega (arith, entities-are f x ts mo tb))
+          (omega (arith, entities-are f x ts mo tb)) c)
 
   pub value-is : (vs ns : List ℕ) (cs : List Cell) → Celled f x ts mo tb vs ns cs → (j : ℕ) → j < many →
       value-of (T (name x j)) cs ≡ T (getD vs j 0)
@@ -214,13 +271,16 @@ module _ (f x : List ℕ) (ts : List Text) (mo : Model) (tb : Tabled f x ts mo) 
       v < length ts → n ≡ getD ns j 0 + k →
       Celled f x ts mo tb (set vs j v) (set ns j n) (put (T (name x j)) (T v) k cs)
   stored-is vs ns cs g j v k n h i e = record {
-    is = ap (put (T (name x j)) (T v) k) (g .is) ∙ put-is f x ts mo tb vs ns j v k h (omega (arith, g .valued .long, tb .few-entities)) (omega (arith, g .long, tb .few-entities)) ∙ ap (λ (y : ℕ). cells-of x ts (set vs j v) (set ns j y)) (sym e);
+    is = ap (put (T (name x j)) (T v) k) (g .is) ∙ put-is f x ts mo tb vs ns j v k h
+        (omega (arith, g .valued .long, tb .few-entities)) (omega (arith, g .long, tb .few-entities))
+        ∙ ap (λ (y : ℕ). cells-of x ts (set vs j v) (set ns j y)) (sym e);
     valued = record { long = length-set vs j v ∙ g .valued .long; in-texts = λ o p. set-in o p (case (eqb o j)) };
     long = length-set ns j n ∙ g .long;
   }
     where
       set-in : (o : ℕ) → o < many → Case (eqb o j) → getD (set vs j v) o 0 < length ts
-      set-in o p (is-true b) = let q : o ≡ j = eqb-true o j b in rw (q, getD-set-same vs j v 0 (omega (arith, g .valued .long, tb .few-entities))) i
+      set-in o p (is-true b) = let q : o ≡ j = eqb-true o j b in
+          rw (q, getD-set-same vs j v 0 (omega (arith, g .valued .long, tb .few-entities))) i
       set-in o p (is-false b) = rw (getD-set-other vs j o v 0 (λ y. eqb-false o j b y)) (g .valued .in-texts o p)
 
   -- ---- a write
@@ -234,11 +294,15 @@ module _ (f x : List ℕ) (ts : List Text) (mo : Model) (tb : Tabled f x ts mo) 
   }
     where
       low : (e : ℕ) → Case (eqb e j) → getD (set ns j (more (getD ns j 0))) e 0 + s ≤ 4294967295
-      low e (is-true b) = let q : e ≡ j = eqb-true e j b in rw (q, getD-set-same ns j (more (getD ns j 0)) 0 h, more-is (getD ns j 0) (omega (arith, g .version-low j))) (omega (arith, g .version-low j))
+      low e (is-true b) = let q : e ≡ j = eqb-true e j b in
+          rw (q, getD-set-same ns j (more (getD ns j 0)) 0 h, more-is (getD ns j 0) (omega (arith, g .version-low j)))
+          (omega (arith, g .version-low j))
       low e (is-false b) =
           rw (getD-set-other ns j e (more (getD ns j 0)) 0 (λ y. eqb-false e j b y)) (omega (arith, g .version-low e))
 
-  module _ {now s : ℕ} {m : Machine} {e : Engine} (l : L now (suc s) m e) (w : Setting) (j : ℕ) (h : j < many) (q : name x j ≡ w .entity) (i : w .value < length ts) (K : Kind) (kind : Says (w .kind) 0 K) (rule : GoodRule f x ts mo tb (w .rule)) where
+  module _ {now s : ℕ} {m : Machine} {e : Engine} (l : L now (suc s) m e) (w : Setting) (j : ℕ) (h : j < many)
+      (q : name x j ≡ w .entity) (i : w .value < length ts) (K : Kind) (kind : Says (w .kind) 0 K)
+      (rule : GoodRule f x ts mo tb (w .rule)) where
     abbrev old : ℕ
     old = getD (m .values) j 0
 
@@ -263,25 +327,30 @@ module _ (f x : List ℕ) (ts : List Text) (mo : Model) (tb : Tabled f x ts mo) 
     celled : Celled f x ts mo tb (set (m .values) j (w .value)) (set (m .versions) j (more (getD (m .versions) j 0))) cs
     celled =
         subst
-        (λ (n : ℕ). Celled f x ts mo tb (set (m .values) j (w .value)) (set (m .versions) j (more (getD (m .versions) j 0))) (put (T n) (T (w .value)) 1 (e .cells))) q
-        (stored-is (m .values) (m .versions) (e .cells) (l .cells) j (w .value) 1 (more (getD (m .versions) j 0)) h i version)
+        (λ (n : ℕ). Celled f x ts mo tb (set (m .values) j (w .value)) (set (m .versions) j (more (getD (m .versions) j 0)))
+        (put (T n) (T (w .value)) 1 (e .cells))) q
+        (stored-is (m .values) (m .versions) (e .cells) (l .cells) j (w .value) 1 (more (getD (m .versions) j 0))
+        h i version)
 
     written : L now s (put-cells (raisedM (storedM (cells m) j (w .value)) j) m) (with-cells cs e)
     written =
         cells-are f x ts mo tb l (raisedM (storedM (cells m) j (w .value)) j) cs celled
         (raised-low j (omega (arith, l .cells .long, tb .few-entities)) (l .low))
 
-    cell : cell-of X cs ≡ some (cell-at x ts (set (m .values) j (w .value)) (set (m .versions) j (more (getD (m .versions) j 0))) j)
+    cell : cell-of X cs ≡ some (cell-at x ts (set (m .values) j (w .value))
+        (set (m .versions) j (more (getD (m .versions) j 0))) j)
     cell =
         ap (λ (n : ℕ). cell-of (T n) cs) (sym q)
         ∙ ap (cell-of (T (name x j))) (celled .is)
         ∙ entity-found (set (m .values) j (w .value)) (set (m .versions) j (more (getD (m .versions) j 0))) j h .cell
 
-    expiring : S now s (expiryM x j (put-cells (raisedM (storedM (cells m) j (w .value)) j) m)) (adds (expiry-of now (cell-of X cs)) (with-cells cs e))
+    expiring : S now s (expiryM x j (put-cells (raisedM (storedM (cells m) j (w .value)) j) m))
+        (adds (expiry-of now (cell-of X cs)) (with-cells cs e))
     unfolding expiry-of
     expiring =
         subst
-        (λ (o : Option Cell). S now s (expiryM x j (put-cells (raisedM (storedM (cells m) j (w .value)) j) m)) (adds (expiry-of now o) (with-cells cs e)))
+        (λ (o : Option Cell). S now s (expiryM x j (put-cells (raisedM (storedM (cells m) j (w .value)) j) m))
+        (adds (expiry-of now o) (with-cells cs e)))
         (sym cell) (expiry-is written j h)
 
     abbrev change : Text → Option Change
@@ -293,18 +362,25 @@ module _ (f x : List ℕ) (ts : List Text) (mo : Model) (tb : Tabled f x ts mo) 
     abbrev src : Option Source
     src = where-of (w .source)
 
-    recorded : S now s (log-writeM w mv (expiryM x j (put-cells (raisedM (storedM (cells m) j (w .value)) j) m))) (log now K id src (change (T old)) (adds (expiry-of now (cell-of X cs)) (with-cells cs e)))
-    recorded = follow f x ts mo tb (log-writeM w mv) (log now K id src (change (T old))) expiring (λ k. log-write-is k w mv K kind rule moved) (λ n z p. s-log-write n z w mv _ p) (λ n o. c-log (Over n) (overflow-stays n) now K id src (change (T old)) _ o)
+    recorded : S now s (log-writeM w mv (expiryM x j (put-cells (raisedM (storedM (cells m) j (w .value)) j) m)))
+        (log now K id src (change (T old)) (adds (expiry-of now (cell-of X cs)) (with-cells cs e)))
+    recorded = follow f x ts mo tb (log-writeM w mv) (log now K id src (change (T old))) expiring
+        (λ k. log-write-is k w mv K kind rule moved) (λ n z p. s-log-write n z w mv _ p)
+        (λ n o. c-log (Over n) (overflow-stays n) now K id src (change (T old)) _ o)
 
-    done : S now s (changedM mv (log-writeM w mv (expiryM x j (put-cells (raisedM (storedM (cells m) j (w .value)) j) m)))) (adds (change-of now X (T old) (T (w .value))) (log now K id src (change (T old)) (adds (expiry-of now (cell-of X cs)) (with-cells cs e))))
+    done : S now s (changedM mv (log-writeM w mv (expiryM x j (put-cells (raisedM (storedM (cells m) j (w .value)) j) m))))
+        (adds (change-of now X (T old) (T (w .value)))
+        (log now K id src (change (T old)) (adds (expiry-of now (cell-of X cs)) (with-cells cs e))))
     done =
         follow f x ts mo tb (changedM mv) (adds (change-of now X (T old) (T (w .value)))) recorded
         (λ k. changed-is k mv moved) (λ n z p. s-changed n z mv _ p)
         (λ n o. c-adds (Over n) (overflow-stays n) (change-of now X (T old) (T (w .value))) _ o)
 
-    pub update-is : S now s (updateM x w m) (update now (T (w .entity)) (T (w .value)) (rule-of x ts (w .rule)) (where-of (w .source)) K e)
+    pub update-is : S now s (updateM x w m) (update now (T (w .entity)) (T (w .value)) (rule-of x ts (w .rule))
+        (where-of (w .source)) K e)
     unfolding updateM update-atM writeM update
     update-is =
         let z : entityOf x (w .entity) ≡ j = ap (entityOf x) (sym q) ∙ entity-found (m .values) (m .versions) j h .number in
-        let v : value-of X (e .cells) ≡ T old = ap (λ (n : ℕ). value-of (T n) (e .cells)) (sym q) ∙ value-is (m .values) (m .versions) (e .cells) (l .cells) j h in
+        let v : value-of X (e .cells) ≡ T old = ap (λ (n : ℕ). value-of (T n) (e .cells)) (sym q)
+        ∙ value-is (m .values) (m .versions) (e .cells) (l .cells) j h in
         rw (z, le-ltb 31 j (omega (arith, tb .few-entities)), v) done

@@ -11,7 +11,21 @@ use Rattle.texts.specs.Lists.{if_then_else_, flat, all}
 use Rattle.texts.specs.Texts.{Text, text, eqT}
 use Rattle.texts.specs.Places.{textAt, startFrom}
 use Rattle.model_spec.specs.Answer.{answer}
-use Rattle.model_spec.specs.Model.{Source, Trigger, Mode, single, queued, parallel, Entity, Actions, done, Automation, Input, reload, Model}
+use Rattle.model_spec.specs.Model.{
+  Source,
+  Trigger,
+  Mode,
+  single,
+  queued,
+  parallel,
+  Entity,
+  Actions,
+  done,
+  Automation,
+  Input,
+  reload,
+  Model,
+}
 use Rattle.model_spec.specs.Windows.{windowless-invariant}
 use Rattle.model_spec.specs.File.{Got, got, broken, counted, source, place, predicate, trigger, actions-of, actions}
 use Rattle.model_spec.specs.Notes.{of-actions}
@@ -38,7 +52,13 @@ use Rattle.runs.specs.declared.Phase.the-variants as phase
 use Rattle.engine_spec.specs.Cells.{Cell}
 use Rattle.engine_spec.specs.Kleene as kleene
 use Rattle.engine_spec.specs.Records.{Key, Waiting, Run, Work, Item, Kind, Change, Trace}
-use Rattle.engine_spec.specs.Reasons.{unknown-trigger-condition, toggle-of-unknown, unknown-action-condition, unknown-choose-condition, unsupported-wait}
+use Rattle.engine_spec.specs.Reasons.{
+  unknown-trigger-condition,
+  toggle-of-unknown,
+  unknown-action-condition,
+  unknown-choose-condition,
+  unsupported-wait,
+}
 use Rattle.engine_spec.specs.Unsupported.{unsupported}
 use Rattle.engine_spec.specs.Engine.{_then_}
 use Rattle.reasons.specs.Readable.{text-count}
@@ -92,7 +112,13 @@ module _ (x : List ℕ) (ts : List Text) where
   -- ---- cells, by entity, from the values and versions
 
   unfoldable pub cell-at : (values versions : List ℕ) → ℕ → Cell
-  cell-at vs ns e = record { name = getD ts (name x e) []; stale-after = stale-of (stale x e); value = getD ts (getD vs e 0) []; version = getD ns e 0 }
+  cell-at vs ns e = record {
+    name = getD ts (name x e) [];
+    stale-after = stale-of (stale x e);
+    value =
+        getD ts (getD vs e 0) [];
+    version = getD ns e 0;
+  }
 
   unfoldable pub cells-from : (values versions : List ℕ) → (left e : ℕ) → List Cell
   cells-from vs ns zero e = []
@@ -168,7 +194,13 @@ module _ (x : List ℕ) (ts : List Text) where
     actions-at (suc d) l = list-of (placeIn (getD l d 0)) then actions-at d l
 
     unfoldable pub wait-of : Wait → Waiting
-    wait-of w = record { trigger = found-trigger (trigger ts f (w .trigger)); deadline = w .deadline; continue = w .«continue_on_timeout»; source = source-of (w .source) }
+    wait-of w = record {
+      trigger = found-trigger (trigger ts f (w .trigger));
+      deadline = w .deadline;
+      continue =
+          w .«continue_on_timeout»;
+      source = source-of (w .source);
+    }
 
     abbrev pub waiting-of : Phase → Option Waiting
     waiting-of phase.Going = none

@@ -25,7 +25,8 @@ fn run_all(
     st: State,
 ) -> Ended
     requires { ⌜ (count * 4 ≤ length (now events)) × Fits st (now q) (now a) (now r) (now u) ⌝ }
-    ensures { λ e. ⌜ Wholly (was f) (was x) (was events) count st e (was q) (is q) (was a) (is a) (was r) (is r) (was u) (is u) (was values) (is values) (was versions) (is versions) (was sequences) (is sequences) ⌝ }
+    ensures { λ e. ⌜ Wholly (was f) (was x) (was events) count st e (was q) (is q) (was a) (is a) (was r) (is r) (was u)
+        (is u) (was values) (is values) (was versions) (is versions) (was sequences) (is sequences) ⌝ }
 {
     let s = engine_schedule::begun(x, events, count, q, a, versions, st);
     let d = engine_loop::run_loop(f, x, q, a, r, u, values, versions, sequences, s);
@@ -120,7 +121,8 @@ pub fn simulated(
     u: &mut [u32],
 ) -> Simulation
     requires { ⌜ (count * 4 ≤ length (now events)) × ((reasons * 5 ≤ length (now u)) × (1500 ≤ length (now u))) ⌝ }
-    ensures { λ s. ⌜ Simulates (was f) (was x) (was events) count cells reasons s (was q) (is q) (was a) (is a) (was r) (is r) (was u) (is u) ⌝ }
+    ensures { λ s. ⌜ Simulates (was f) (was x) (was events) count cells reasons s (was q) (is q) (was a) (is a) (was r)
+        (is r) (was u) (is u) ⌝ }
 {
     areas::clear_all(q);
     areas::clear_all(a);

@@ -45,4 +45,13 @@ pub record Why (x : List ℕ) (left : ℕ) (q : List ℕ) (st : State) (r : ℕ)
 -- ---- a turn
 
 abbrev pub with-turn : (second : ℕ) → State → State
-with-turn n st = record { now = n; items = st .items - 1; «queue_start» = st .«queue_start» + 1; records = st .records; «live_runs» = st .«live_runs»; reasons = st .reasons; «runs_created» = st .«runs_created»; «overflow» = st .«overflow» }
+with-turn n st = record {
+  now = n;
+  items = st .items - 1;
+  «queue_start» = st .«queue_start» + 1;
+  records = st .records;
+  «live_runs» = st .«live_runs»;
+  reasons = st .reasons;
+  «runs_created» = st .«runs_created»;
+  «overflow» = st .«overflow»;
+}

@@ -42,7 +42,8 @@ fn next_of(x: &[u32; 436], q: &[u32], st: State) -> Next
     Next::Take
 }
 
-// 4 where the loop takes the next item, or why it ends: 0 nothing left before the horizon, 1 space, 2 steps, 3 an area is full.
+// 4 where the loop takes the next item, or why it ends: 0 nothing left before the horizon, 1 space, 2 steps, 3 an area is
+// full.
 pub fn why_stop(x: &[u32; 436], q: &[u32], st: State, left: u32) -> u32
     requires { ⌜ Fits-q st (now q) ⌝ }
     ensures { λ r. ⌜ Why (was x) left (was q) st r ⌝ }
@@ -114,7 +115,8 @@ fn add_events(events: &[u32], count: usize, q: &mut [u32], st: State) -> State
 
 fn add_expiries(x: &[u32; 436], q: &mut [u32], versions: &[u32; 32], st: State) -> State
     requires { ⌜ Fits-q st (now q) ⌝ }
-    ensures { λ r. ⌜ Moves (add-expiriesM (was x)) st r (by q) kept kept still kept (goes (was versions) (was versions)) kept ⌝ }
+    ensures { λ r. ⌜ Moves (add-expiriesM (was x)) st r (by q) kept kept still kept (goes (was versions) (was versions))
+        kept ⌝ }
 {
     let n = at_most(x[0], 32);
     let mut s = st;
@@ -136,7 +138,8 @@ pub fn begun(
     st: State,
 ) -> State
     requires { ⌜ (count * 4 ≤ length (now events)) × Fits-qa st (now q) (now a) ⌝ }
-    ensures { λ r. ⌜ Moves (begunM (was x) (was events) count) st r (by q) (by a) kept still kept (goes (was versions) (was versions)) kept ⌝ }
+    ensures { λ r. ⌜ Moves (begunM (was x) (was events) count) st r (by q) (by a) kept still kept
+        (goes (was versions) (was versions)) kept ⌝ }
 {
     let s1 = log_plain(a, st, 0);
     let s2 = add_events(events, count, q, s1);

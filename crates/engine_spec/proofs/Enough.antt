@@ -11,7 +11,20 @@ use lib.ListN.{length, length-append}
 use Rattle.texts.specs.Lists.{_▸_, any, tally, each, flat, through}
 use Rattle.texts.specs.Texts.{Text, eqT}
 use Rattle.model_spec.specs.Answer.{answer, _>>=_}
-use Rattle.model_spec.specs.Model.{Moment, Mode, single, queued, parallel, Entity, done, Automation, Input, reload, Event, Model}
+use Rattle.model_spec.specs.Model.{
+  Moment,
+  Mode,
+  single,
+  queued,
+  parallel,
+  Entity,
+  done,
+  Automation,
+  Input,
+  reload,
+  Event,
+  Model,
+}
 use Rattle.model_spec.specs.Validate.{bad-bounds, check-rule, check-rules, accepted}
 use Rattle.engine_spec.specs.Bounds.{Enough}
 use Rattle.engine_spec.specs.Cells.{Cell, initial-cells}

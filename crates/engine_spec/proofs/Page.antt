@@ -46,7 +46,17 @@ use Rattle.engine_spec.specs.Modes.{
 use Rattle.engine_spec.specs.Reasons.{space-spent, steps-spent}
 use Rattle.engine_spec.specs.Unsupported.{unsupported}
 use Rattle.engine_spec.specs.Records.{Key, Waiting, Run, Work, Kind, Trace, Areas, Engine}
-use Rattle.engine_spec.specs.Changes.{if-some, with-cells, add, append, with-runs, add-run, uncertain, with-queue, adds}
+use Rattle.engine_spec.specs.Changes.{
+  if-some,
+  with-cells,
+  add,
+  append,
+  with-runs,
+  add-run,
+  uncertain,
+  with-queue,
+  adds,
+}
 use Rattle.engine_spec.specs.Engine.{
   moment,
   is-run,

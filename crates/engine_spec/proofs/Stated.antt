@@ -23,7 +23,14 @@ use Rattle.model_spec.specs.Model.{
   is-window,
 }
 use Rattle.model_spec.specs.Windows.{no-window, windowless-invariant}
-use Rattle.model_spec.specs.Validate.{bad-length, check-stated, check-conditions, check-invariant, check-invariants, accepted}
+use Rattle.model_spec.specs.Validate.{
+  bad-length,
+  check-stated,
+  check-conditions,
+  check-invariant,
+  check-invariants,
+  accepted,
+}
 use Rattle.engine_spec.proofs.Validated.{refused-answer, and-first, and-inv, accepted-passed}
 
 both : (a b : Bool) → a ≡ true → b ≡ true → a && b ≡ true

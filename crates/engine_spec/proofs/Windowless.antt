@@ -48,7 +48,15 @@ use Rattle.engine_spec.specs.Kleene.{Truth, Yes, No, Unknown, _and₃_}
 use Rattle.engine_spec.specs.Truth.{evaluate, evaluate-all, matches}
 use Rattle.engine_spec.specs.Unsupported.{unsupported}
 use Rattle.engine_spec.specs.Reasons.{toggle-of-unknown, space-spent, steps-spent}
-use Rattle.engine_spec.specs.Modes.{Decision, already-running, max-reached, start, stop-and-start, wait-in-line, decide}
+use Rattle.engine_spec.specs.Modes.{
+  Decision,
+  already-running,
+  max-reached,
+  start,
+  stop-and-start,
+  wait-in-line,
+  decide,
+}
 use Rattle.engine_spec.specs.Records.{Key, Waiting, Run, Work, Item, Kind, Change, Trace, Areas, Engine}
 use Rattle.engine_spec.specs.Changes.{
   if-some,

@@ -1,6 +1,6 @@
--- What a window means. Seconds are counted from a midnight at which a weekday 0 began, a week or more before; so day k begins
--- at second 86,400 · k and has the weekday k mod 7. A window is open at a second exactly if on some marked day it started by
--- then and hasn't ended: on that day, or on the next if its end isn't after its start.
+-- What a window means. Seconds are counted from a midnight at which a weekday 0 began, a week or more before; so day k
+-- begins at second 86,400 · k and has the weekday k mod 7. A window is open at a second exactly if on some marked day it
+-- started by then and hasn't ended: on that day, or on the next if its end isn't after its start.
 use Prim.Native.Nat.{ℕ, _+_, _*_, _/_, _%_, _≤_, _<_}
 use mathlib.Core.Path.{_≡_, refl, sym, ap, _∙_, subst}
 use mathlib.Core.Bool.{Bool, true, false, _&&_, _||_, false≢true}

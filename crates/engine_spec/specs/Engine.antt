@@ -6,7 +6,20 @@ use mathlib.Core.List.{List, [], _∷_, _++_}
 use mathlib.Core.Option.{Option, none, some}
 use lib.Dec.{ltb, leb, eqb}
 use lib.ListN.{length}
-use Rattle.texts.specs.Lists.{if_then_else_, _▸_, absent, present-and, any, keep, find, tally, each, flat, through, all-lists}
+use Rattle.texts.specs.Lists.{
+  if_then_else_,
+  _▸_,
+  absent,
+  present-and,
+  any,
+  keep,
+  find,
+  tally,
+  each,
+  flat,
+  through,
+  all-lists,
+}
 use Rattle.texts.specs.Texts.{Text, text, eqT, all-texts}
 use Rattle.model_spec.specs.Validate.{undecided}
 use Rattle.model_spec.specs.Model.{
@@ -33,7 +46,15 @@ use Rattle.model_spec.specs.Model.{
 use Rattle.engine_spec.specs.Cells.{Cell, cell-of, value-of, put, all-cells}
 use Rattle.engine_spec.specs.Kleene.{Truth, Yes, No, Unknown}
 use Rattle.engine_spec.specs.Truth.{moment-after, evaluate, evaluate-all, matches, all-truth}
-use Rattle.engine_spec.specs.Modes.{Decision, already-running, max-reached, start, stop-and-start, wait-in-line, decide}
+use Rattle.engine_spec.specs.Modes.{
+  Decision,
+  already-running,
+  max-reached,
+  start,
+  stop-and-start,
+  wait-in-line,
+  decide,
+}
 use Rattle.engine_spec.specs.Reasons.{
   unknown-trigger-condition,
   toggle-of-unknown,
@@ -45,7 +66,18 @@ use Rattle.engine_spec.specs.Reasons.{
   runs-left,
   all-reasons,
 }
-use Rattle.engine_spec.specs.Changes.{if-some, with-cells, add, append, with-runs, add-run, uncertain, with-queue, adds, all-changes}
+use Rattle.engine_spec.specs.Changes.{
+  if-some,
+  with-cells,
+  add,
+  append,
+  with-runs,
+  add-run,
+  uncertain,
+  with-queue,
+  adds,
+  all-changes,
+}
 use Rattle.engine_spec.specs.Records.{
   Key,
   Waiting,
@@ -421,5 +453,9 @@ closed h d =
 
 -- opens the file, for proofs by computation
 unfoldable pub all-engine : Unit {0}
-unfolding all-lists all-texts all-cells all-truth all-reasons all-changes undecided decide is-run of-rule other-run of-other-rule in-line executing in-place store new-run awaits woken toggled _then_ select at-once next-step log log-rule log-action expiry expiry-of change-of update let-go release finish wake begin carry-out admit offer trigger go-on-after write flip tested chosen begin-wait perform go-on step resume wait-over end-wait time-out expire go-stale drop-runs process sooner pop next-of loop event-item begun left-over last-record closed
+unfolding all-lists all-texts all-cells all-truth all-reasons all-changes undecided decide is-run of-rule other-run
+    of-other-rule in-line executing in-place store new-run awaits woken toggled _then_ select at-once next-step log log-rule
+    log-action expiry expiry-of change-of update let-go release finish wake begin carry-out admit offer trigger go-on-after
+    write flip tested chosen begin-wait perform go-on step resume wait-over end-wait time-out expire go-stale drop-runs
+    process sooner pop next-of loop event-item begun left-over last-record closed
 all-engine = tt

@@ -35,7 +35,23 @@ use Rattle.engine_spec.specs.Reasons.{unknown-trigger-condition}
 use Rattle.engine_spec.specs.Unsupported.{unsupported}
 use Rattle.engine_spec.specs.Records.{Key, Waiting, Run, Work, Item, Kind, Trace, Areas, Engine}
 use Rattle.engine_spec.specs.Changes.{add, append, with-runs, add-run, uncertain, with-queue}
-use Rattle.engine_spec.specs.Engine.{moment, left, store, finish, wake, offer, perform, process, pop, stop, exhausted, take, next-of, loop, begun}
+use Rattle.engine_spec.specs.Engine.{
+  moment,
+  left,
+  store,
+  finish,
+  wake,
+  offer,
+  perform,
+  process,
+  pop,
+  stop,
+  exhausted,
+  take,
+  next-of,
+  loop,
+  begun,
+}
 use Rattle.engine_spec.specs.Simulate.{ended}
 
 -- ---- the moments of a simulation
@@ -51,7 +67,8 @@ next-moment m e = elim (next-of (m .scenario .limits .horizon) e (pop (e .queue)
 -- the engine after n items of work, or as the loop ended before
 abbrev pub after-items : Areas → Model → List Cell → List Event → ℕ → Engine
 after-items areas m cells events n =
-    (loop (m .rules) (m .scenario .limits .horizon) n 0 (begun areas (m .start) cells (unsupported (m .rules)) events)) .engine
+    (loop (m .rules) (m .scenario .limits .horizon) n 0
+    (begun areas (m .start) cells (unsupported (m .rules)) events)) .engine
 
 -- ---- words
 
@@ -280,8 +297,8 @@ pub data Worked (k : Key) (before after : List Run) : Type 0 where
   goes-on : keep (is-another k) after ≡ keep (is-another k) before → Worked k before after
   ends : after ≡ next-in-line (k .rule) (keep (is-another k) before) → Worked k before after
 
--- the step of a run: if it executes and doesn't wait, it carries out its next action and has those behind it left, or it ends
--- if there is none; otherwise nothing happens
+-- the step of a run: if it executes and doesn't wait, it carries out its next action and has those behind it left, or it
+-- ends if there is none; otherwise nothing happens
 pub record Stepped (now : ℕ) (r : Run) (e after : Engine) : Type 0 where
   pub acts : acting r ≡ true → (source : Source) (effect : Effect) (rest : Actions) → r .actions ≡ act source effect rest
       → after ≡ (e ▸ store (left rest r) ▸ perform now effect source (left rest r))

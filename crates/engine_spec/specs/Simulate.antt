@@ -64,5 +64,6 @@ unsupported-of file = do
 
 -- opens the file, for proofs by computation
 unfoldable pub all-simulate : Unit {0}
-unfolding all-lists all-answers all-checks all-cells all-unsupported all-engine ended outcome unless-full simulated simulate unsupported-of
+unfolding all-lists all-answers all-checks all-cells all-unsupported all-engine ended outcome unless-full simulated simulate
+    unsupported-of
 all-simulate = tt

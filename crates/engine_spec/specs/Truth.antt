@@ -63,5 +63,6 @@ matches x from to t =
 
 -- opens the file, for proofs by computation
 unfoldable pub all-truth : Unit {0}
-unfolding all-cells all-kleene undecided against moment-after marked day-before is-open evaluate evaluate-all truth-name matches
+unfolding all-cells all-kleene undecided against moment-after marked day-before is-open evaluate evaluate-all truth-name
+    matches
 all-truth = tt

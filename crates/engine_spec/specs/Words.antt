@@ -1,4 +1,5 @@
--- What stands in the record area, word for word (docs/FORMAT.md): texts as places among the file's texts, automations as numbers.
+-- What stands in the record area, word for word (docs/FORMAT.md): texts as places among the file's texts, automations as
+-- numbers.
 use Prim.Native.Nat.{ℕ, _/_}
 use mathlib.Core.List.{List, [], _∷_, _++_}
 use mathlib.Core.Option.{Option, none, some}
@@ -86,7 +87,10 @@ texts-in file = elim (texts file 4) [ got ts q ↦ ts | broken ↦ [] ]
 
 -- a record's words, by the file whose simulation it is of
 unfoldable pub words-in : (file : List ℕ) → Trace → List ℕ
-words-in file t = elim (accepted file) [ answer m ↦ trace-words (texts-in file) (each (λ r. r .id) (m .rules)) t | refused n ↦ [] ]
+words-in file t = elim (accepted file) [
+  | answer m ↦ trace-words (texts-in file) (each (λ r. r .id) (m .rules)) t
+  | refused n ↦ []
+]
 
 -- how many words an entry of each area has
 abbrev pub entry-words : Areas

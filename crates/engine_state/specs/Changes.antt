@@ -23,7 +23,17 @@ use Rattle.engine_state.specs.declared.Cells.{Cells}
 use Rattle.engine_state.specs.declared.Told.{Told}
 use Rattle.engine_state.specs.declared.Move.{Move}
 use Rattle.engine_state.specs.declared.Setting.{Setting}
-use Rattle.engine_state.specs.Machine.{Machine, more, put-full, put-counts, put-cells, put-queue, put-records, put-runs, put-reasons}
+use Rattle.engine_state.specs.Machine.{
+  Machine,
+  more,
+  put-full,
+  put-counts,
+  put-cells,
+  put-queue,
+  put-records,
+  put-runs,
+  put-reasons,
+}
 
 abbrev pub item : (second : ℕ) → Work → Item
 item s w = record { second = s; work = w }
@@ -48,14 +58,16 @@ addM s w m =
 unfoldable pub logM : Told → Rule → Where → Change → Machine → Machine
 logM t u w c m =
     if eqb (m .«overflow») 0 then
-    (if ltb (length (m .records)) (m .recordSize) then put-records (m .records ++ entry (m .now) t u w c ∷ []) m else put-full 42 m)
+    (if ltb (length (m .records)) (m .recordSize) then put-records (m .records ++ entry (m .now) t u w c ∷ []) m
+    else put-full 42 m)
     else m
 
 -- a run more, which its automation counts; 43: no room for runs
 unfoldable pub add-runM : (i : ℕ) → Run → Machine → Machine
 add-runM i r m =
     if eqb (m .«overflow») 0 then
-    (if ltb (length (m .runs)) (m .runSize) then put-counts (more (m .«runs_created»)) (set (m .sequences) i (more (getD (m .sequences) i 0))) (put-runs (m .runs ++ r ∷ []) m) else put-full 43 m)
+    (if ltb (length (m .runs)) (m .runSize) then put-counts (more (m .«runs_created»))
+    (set (m .sequences) i (more (getD (m .sequences) i 0))) (put-runs (m .runs ++ r ∷ []) m) else put-full 43 m)
     else m
 
 -- a reason more over the file f, unless there are 300

@@ -18,8 +18,8 @@ more x = if ltb x 4294967295 then x + 1 else x
 unfoldable pub later : ℕ → ℕ → ℕ
 later a b = if leb b (4294967295 - a) then a + b else 4294967295
 
--- `full` is 0 or the number of the first area that overflowed. The sizes are the numbers of entries that the areas have room for.
--- `queue` is in order of insertion, `reasons` are rendered; values are text places, by entity.
+-- `full` is 0 or the number of the first area that overflowed. The sizes are the numbers of entries that the areas have room
+-- for. `queue` is in order of insertion, `reasons` are rendered; values are text places, by entity.
 pub record Machine : Type 0 where
   pub now : ℕ
   pub «overflow» : ℕ
@@ -59,60 +59,293 @@ pub record Entire : Type 0 where
   pub cells : Cells
 
 abbrev pub entire : State → (values versions sequences : List ℕ) → Entire
-entire st v n s = record { now = st .now; items = st .items; «queue_start» = st .«queue_start»; records = st .records; «live_runs» = st .«live_runs»; reasons = st .reasons; «runs_created» = st .«runs_created»; «overflow» = st .«overflow»; sequences = s; cells = record { values = v; versions = n } }
+entire st v n s = record {
+  now = st .now;
+  items = st .items;
+  «queue_start» = st .«queue_start»;
+  records = st .records;
+  «live_runs» = st .«live_runs»;
+  reasons = st .reasons;
+  «runs_created» = st .«runs_created»;
+  «overflow» = st .«overflow»;
+  sequences = s;
+  cells = record { values = v; versions = n };
+}
 
 -- the machine of a state whose areas hold this
 abbrev pub machine : Entire → Content → Machine
-machine st k = record { now = st .now; «overflow» = st .«overflow»; «runs_created» = st .«runs_created»; sequences = st .sequences; values = st .cells .values; versions = st .cells .versions; queueSize = k .queueSize; recordSize = k .recordSize; runSize = k .runSize; queue = k .queue; records = k .records; runs = k .runs; reasons = k .reasons }
+machine st k = record {
+  now = st .now;
+  «overflow» = st .«overflow»;
+  «runs_created» = st .«runs_created»;
+  sequences =
+      st .sequences;
+  values = st .cells .values;
+  versions = st .cells .versions;
+  queueSize = k .queueSize;
+  recordSize =
+      k .recordSize;
+  runSize = k .runSize;
+  queue = k .queue;
+  records = k .records;
+  runs = k .runs;
+  reasons = k .reasons;
+}
 
 -- ---- a field changed
 
 abbrev pub put-now : ℕ → Machine → Machine
-put-now n m = record { now = n; «overflow» = m .«overflow»; «runs_created» = m .«runs_created»; sequences = m .sequences; values = m .values; versions = m .versions; queueSize = m .queueSize; recordSize = m .recordSize; runSize = m .runSize; queue = m .queue; records = m .records; runs = m .runs; reasons = m .reasons }
+put-now n m = record {
+  now = n;
+  «overflow» = m .«overflow»;
+  «runs_created» = m .«runs_created»;
+  sequences = m .sequences;
+  values = m .values;
+  versions = m .versions;
+  queueSize = m .queueSize;
+  recordSize = m .recordSize;
+  runSize = m .runSize;
+  queue = m .queue;
+  records = m .records;
+  runs = m .runs;
+  reasons = m .reasons;
+}
 
 abbrev pub put-full : ℕ → Machine → Machine
-put-full n m = record { now = m .now; «overflow» = n; «runs_created» = m .«runs_created»; sequences = m .sequences; values = m .values; versions = m .versions; queueSize = m .queueSize; recordSize = m .recordSize; runSize = m .runSize; queue = m .queue; records = m .records; runs = m .runs; reasons = m .reasons }
+put-full n m = record {
+  now = m .now;
+  «overflow» = n;
+  «runs_created» = m .«runs_created»;
+  sequences = m .sequences;
+  values =
+      m .values;
+  versions = m .versions;
+  queueSize = m .queueSize;
+  recordSize = m .recordSize;
+  runSize = m .runSize;
+  queue =
+      m .queue;
+  records = m .records;
+  runs = m .runs;
+  reasons = m .reasons;
+}
 
 abbrev pub put-counts : (made : ℕ) (sequences : List ℕ) → Machine → Machine
-put-counts n l m = record { now = m .now; «overflow» = m .«overflow»; «runs_created» = n; sequences = l; values = m .values; versions = m .versions; queueSize = m .queueSize; recordSize = m .recordSize; runSize = m .runSize; queue = m .queue; records = m .records; runs = m .runs; reasons = m .reasons }
+put-counts n l m = record {
+  now = m .now;
+  «overflow» = m .«overflow»;
+  «runs_created» = n;
+  sequences = l;
+  values = m .values;
+  versions = m .versions;
+  queueSize = m .queueSize;
+  recordSize = m .recordSize;
+  runSize = m .runSize;
+  queue = m .queue;
+  records = m .records;
+  runs = m .runs;
+  reasons = m .reasons;
+}
 
 abbrev pub put-cells : Cells → Machine → Machine
-put-cells c m = record { now = m .now; «overflow» = m .«overflow»; «runs_created» = m .«runs_created»; sequences = m .sequences; values = c .values; versions = c .versions; queueSize = m .queueSize; recordSize = m .recordSize; runSize = m .runSize; queue = m .queue; records = m .records; runs = m .runs; reasons = m .reasons }
+put-cells c m = record {
+  now = m .now;
+  «overflow» = m .«overflow»;
+  «runs_created» = m .«runs_created»;
+  sequences =
+      m .sequences;
+  values = c .values;
+  versions = c .versions;
+  queueSize = m .queueSize;
+  recordSize = m .recordSize;
+  runSize =
+      m .runSize;
+  queue = m .queue;
+  records = m .records;
+  runs = m .runs;
+  reasons = m .reasons;
+}
 
 abbrev pub put-queue : List Item → Machine → Machine
-put-queue l m = record { now = m .now; «overflow» = m .«overflow»; «runs_created» = m .«runs_created»; sequences = m .sequences; values = m .values; versions = m .versions; queueSize = m .queueSize; recordSize = m .recordSize; runSize = m .runSize; queue = l; records = m .records; runs = m .runs; reasons = m .reasons }
+put-queue l m = record {
+  now = m .now;
+  «overflow» = m .«overflow»;
+  «runs_created» = m .«runs_created»;
+  sequences =
+      m .sequences;
+  values = m .values;
+  versions = m .versions;
+  queueSize = m .queueSize;
+  recordSize = m .recordSize;
+  runSize =
+      m .runSize;
+  queue = l;
+  records = m .records;
+  runs = m .runs;
+  reasons = m .reasons;
+}
 
 abbrev pub put-records : List Record → Machine → Machine
-put-records l m = record { now = m .now; «overflow» = m .«overflow»; «runs_created» = m .«runs_created»; sequences = m .sequences; values = m .values; versions = m .versions; queueSize = m .queueSize; recordSize = m .recordSize; runSize = m .runSize; queue = m .queue; records = l; runs = m .runs; reasons = m .reasons }
+put-records l m = record {
+  now = m .now;
+  «overflow» = m .«overflow»;
+  «runs_created» = m .«runs_created»;
+  sequences =
+      m .sequences;
+  values = m .values;
+  versions = m .versions;
+  queueSize = m .queueSize;
+  recordSize = m .recordSize;
+  runSize =
+      m .runSize;
+  queue = m .queue;
+  records = l;
+  runs = m .runs;
+  reasons = m .reasons;
+}
 
 abbrev pub put-runs : List Run → Machine → Machine
-put-runs l m = record { now = m .now; «overflow» = m .«overflow»; «runs_created» = m .«runs_created»; sequences = m .sequences; values = m .values; versions = m .versions; queueSize = m .queueSize; recordSize = m .recordSize; runSize = m .runSize; queue = m .queue; records = m .records; runs = l; reasons = m .reasons }
+put-runs l m = record {
+  now = m .now;
+  «overflow» = m .«overflow»;
+  «runs_created» = m .«runs_created»;
+  sequences =
+      m .sequences;
+  values = m .values;
+  versions = m .versions;
+  queueSize = m .queueSize;
+  recordSize = m .recordSize;
+  runSize =
+      m .runSize;
+  queue = m .queue;
+  records = m .records;
+  runs = l;
+  reasons = m .reasons;
+}
 
 abbrev pub put-reasons : List Text → Machine → Machine
-put-reasons l m = record { now = m .now; «overflow» = m .«overflow»; «runs_created» = m .«runs_created»; sequences = m .sequences; values = m .values; versions = m .versions; queueSize = m .queueSize; recordSize = m .recordSize; runSize = m .runSize; queue = m .queue; records = m .records; runs = m .runs; reasons = l }
+put-reasons l m = record {
+  now = m .now;
+  «overflow» = m .«overflow»;
+  «runs_created» = m .«runs_created»;
+  sequences =
+      m .sequences;
+  values = m .values;
+  versions = m .versions;
+  queueSize = m .queueSize;
+  recordSize = m .recordSize;
+  runSize =
+      m .runSize;
+  queue = m .queue;
+  records = m .records;
+  runs = m .runs;
+  reasons = l;
+}
 
 -- ---- the state's fields changed
 
 abbrev pub with-active : ℕ → State → State
-with-active n st = record { now = st .now; items = st .items; «queue_start» = st .«queue_start»; records = st .records; «live_runs» = n; reasons = st .reasons; «runs_created» = st .«runs_created»; «overflow» = st .«overflow» }
+with-active n st = record {
+  now = st .now;
+  items = st .items;
+  «queue_start» = st .«queue_start»;
+  records = st .records;
+  «live_runs» = n;
+  reasons = st .reasons;
+  «runs_created» = st .«runs_created»;
+  «overflow» = st .«overflow»;
+}
 
 abbrev pub with-queue : (first items : ℕ) → Entire → Entire
-with-queue i n st = record { now = st .now; items = n; «queue_start» = i; records = st .records; «live_runs» = st .«live_runs»; reasons = st .reasons; «runs_created» = st .«runs_created»; «overflow» = st .«overflow»; sequences = st .sequences; cells = st .cells }
+with-queue i n st = record {
+  now = st .now;
+  items = n;
+  «queue_start» = i;
+  records = st .records;
+  «live_runs» =
+      st .«live_runs»;
+  reasons = st .reasons;
+  «runs_created» = st .«runs_created»;
+  «overflow» = st .«overflow»;
+  sequences =
+      st .sequences;
+  cells = st .cells;
+}
 
 abbrev pub with-records : ℕ → Entire → Entire
-with-records n st = record { now = st .now; items = st .items; «queue_start» = st .«queue_start»; records = n; «live_runs» = st .«live_runs»; reasons = st .reasons; «runs_created» = st .«runs_created»; «overflow» = st .«overflow»; sequences = st .sequences; cells = st .cells }
+with-records n st = record {
+  now = st .now;
+  items = st .items;
+  «queue_start» = st .«queue_start»;
+  records = n;
+  «live_runs» =
+      st .«live_runs»;
+  reasons = st .reasons;
+  «runs_created» = st .«runs_created»;
+  «overflow» = st .«overflow»;
+  sequences =
+      st .sequences;
+  cells = st .cells;
+}
 
 abbrev pub with-reasons : ℕ → Entire → Entire
-with-reasons n st = record { now = st .now; items = st .items; «queue_start» = st .«queue_start»; records = st .records; «live_runs» = st .«live_runs»; reasons = n; «runs_created» = st .«runs_created»; «overflow» = st .«overflow»; sequences = st .sequences; cells = st .cells }
+with-reasons n st = record {
+  now = st .now;
+  items = st .items;
+  «queue_start» = st .«queue_start»;
+  records = st .records;
+  «live_runs» = st .«live_runs»;
+  reasons = n;
+  «runs_created» = st .«runs_created»;
+  «overflow» = st .«overflow»;
+  sequences =
+      st .sequences;
+  cells = st .cells;
+}
 
 abbrev pub with-full : ℕ → Entire → Entire
-with-full n st = record { now = st .now; items = st .items; «queue_start» = st .«queue_start»; records = st .records; «live_runs» = st .«live_runs»; reasons = st .reasons; «runs_created» = st .«runs_created»; «overflow» = n; sequences = st .sequences; cells = st .cells }
+with-full n st = record {
+  now = st .now;
+  items = st .items;
+  «queue_start» = st .«queue_start»;
+  records = st .records;
+  «live_runs» = st .«live_runs»;
+  reasons = st .reasons;
+  «runs_created» = st .«runs_created»;
+  «overflow» = n;
+  sequences =
+      st .sequences;
+  cells = st .cells;
+}
 
 abbrev pub with-cells : Cells → Entire → Entire
-with-cells c st = record { now = st .now; items = st .items; «queue_start» = st .«queue_start»; records = st .records; «live_runs» = st .«live_runs»; reasons = st .reasons; «runs_created» = st .«runs_created»; «overflow» = st .«overflow»; sequences = st .sequences; cells = c }
+with-cells c st = record {
+  now = st .now;
+  items = st .items;
+  «queue_start» = st .«queue_start»;
+  records = st .records;
+  «live_runs» = st .«live_runs»;
+  reasons = st .reasons;
+  «runs_created» = st .«runs_created»;
+  «overflow» = st .«overflow»;
+  sequences = st .sequences;
+  cells = c;
+}
 
 abbrev pub with-run : (active made : ℕ) (sequences : List ℕ) → Entire → Entire
-with-run n i l st = record { now = st .now; items = st .items; «queue_start» = st .«queue_start»; records = st .records; «live_runs» = n; reasons = st .reasons; «runs_created» = i; «overflow» = st .«overflow»; sequences = l; cells = st .cells }
+with-run n i l st = record {
+  now = st .now;
+  items = st .items;
+  «queue_start» = st .«queue_start»;
+  records = st .records;
+  «live_runs» = n;
+  reasons = st .reasons;
+  «runs_created» = i;
+  «overflow» = st .«overflow»;
+  sequences = l;
+  cells =
+      st .cells;
+}
 
 abbrev pub storedM : Cells → (e value : ℕ) → Cells
 storedM c e v = record { values = set (c .values) e v; versions = c .versions }

@@ -89,7 +89,8 @@ abbrev pub last-told : Listing → List ℕ → List ℕ
 last-told still x = x
 last-told (told f b c) x = c
 
--- from the state st to s, with the areas of queue, records, runs and reasons: if the areas hold k before, they stand for F k after
+-- from the state st to s, with the areas of queue, records, runs and reasons: if the areas hold k before, they stand for F k
+-- after
 pub record Steps (F : Content → Machine) (st s : Entire) (Q A R : Lent) (U : Listing) : Type 0 where
   pub queue : Side 5 Q (st .«queue_start» + st .items) (s .«queue_start» + s .items)
   pub records : Side 13 A (st .records) (s .records)
@@ -108,7 +109,8 @@ pub record Moves (F : Machine → Machine) (st s : State) (Q A R : Lent) (U : Li
   pub records : Side 13 A (st .records) (s .records)
   pub runs : Side 28 R (st .«live_runs») (s .«live_runs»)
   pub reasons : Side-told U (st .reasons) (s .reasons)
-  pub does : (v n c : List ℕ) → Turns F (entire st (first L v) (first N n) (first C c)) (entire s (last L v) (last N n) (last C c)) Q A R U
+  pub does : (v n c : List ℕ) → Turns F (entire st (first L v) (first N n) (first C c))
+      (entire s (last L v) (last N n) (last C c)) Q A R U
 
 -- what a function does that is lent none of the three
 abbrev pub Does : (Machine → Machine) → (st s : State) → (Q A R : Lent) → Listing → Type 0
@@ -129,10 +131,14 @@ abbrev pub Fits-ar : State → (a r : List ℕ) → Type 0
 Fits-ar st a r = (st .records * 13 ≤ length a) × (st .«live_runs» * 28 ≤ length r)
 
 abbrev pub Fits-qar : State → (q a r : List ℕ) → Type 0
-Fits-qar st q a r = ((st .«queue_start» + st .items) * 5 ≤ length q) × ((st .records * 13 ≤ length a) × (st .«live_runs» * 28 ≤ length r))
+Fits-qar st q a r = ((st .«queue_start» + st .items) * 5 ≤ length q)
+    × ((st .records * 13 ≤ length a) × (st .«live_runs» * 28 ≤ length r))
 
 abbrev pub Fits-qau : State → (q a u : List ℕ) → Type 0
-Fits-qau st q a u = ((st .«queue_start» + st .items) * 5 ≤ length q) × ((st .records * 13 ≤ length a) × ((st .reasons * 5 ≤ length u) × (1500 ≤ length u)))
+Fits-qau st q a u = ((st .«queue_start» + st .items) * 5 ≤ length q)
+    × ((st .records * 13 ≤ length a) × ((st .reasons * 5 ≤ length u) × (1500 ≤ length u)))
 
 abbrev pub Fits : State → (q a r u : List ℕ) → Type 0
-Fits st q a r u = ((st .«queue_start» + st .items) * 5 ≤ length q) × ((st .records * 13 ≤ length a) × ((st .«live_runs» * 28 ≤ length r) × ((st .reasons * 5 ≤ length u) × (1500 ≤ length u))))
+Fits st q a r u = ((st .«queue_start» + st .items) * 5 ≤ length q)
+    × ((st .records * 13 ≤ length a) × ((st .«live_runs» * 28 ≤ length r)
+    × ((st .reasons * 5 ≤ length u) × (1500 ≤ length u))))

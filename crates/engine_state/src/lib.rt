@@ -1,6 +1,6 @@
 // The state of a simulation, and the primitive changes of the state and of its areas.
-// Three arrays belong to the state and are lent to the functions that need them: by entity the values, as text places, and the
-// versions, which count the writes; by automation the sequences, which count the runs that it has made.
+// Three arrays belong to the state and are lent to the functions that need them: by entity the values, as text places, and
+// the versions, which count the writes; by automation the sequences, which count the runs that it has made.
 use queue::Item;
 use queue::Work;
 use reasons::Reason;
@@ -16,7 +16,17 @@ ghost use Prim.Native.Nat.{_+_, _*_, _≤_, _<_};
 ghost use lib.ListN.{length};
 ghost use Rattle.reasons.specs.Readable.{Readable, HasText};
 ghost use Rattle.engine_state.specs.Machine.{more, later, with-active};
-ghost use Rattle.engine_state.specs.Changes.{addM, logM, add-runM, uncertainM, log-ruleM, log-actionM, log-plainM, log-writeM, next-stepM};
+ghost use Rattle.engine_state.specs.Changes.{
+  addM,
+  logM,
+  add-runM,
+  uncertainM,
+  log-ruleM,
+  log-actionM,
+  log-plainM,
+  log-writeM,
+  next-stepM,
+};
 ghost use Rattle.engine_state.specs.Steps.{Moves, Does, kept, told, still, by};
 
 // What the entities have at the start: values and versions.
@@ -163,7 +173,8 @@ pub fn add_run(r: &mut [u32], sequences: &mut [u32; 32], st: State, i: usize, ru
 
 // A reason more, unless it is there already or there are 300.
 pub fn uncertain(f: &[u8], u: &mut [u32], st: State, reason: Reason) -> State
-    requires { ⌜ (st .reasons * 5 ≤ length (now u)) × ((1500 ≤ length (now u)) × (HasText (now f) → Readable (now f) reason)) ⌝ }
+    requires { ⌜ (st .reasons * 5 ≤ length (now u)) × ((1500 ≤ length (now u))
+        × (HasText (now f) → Readable (now f) reason)) ⌝ }
     ensures { λ r. ⌜ Does (uncertainM (was f) reason) st r kept kept kept (told (was f) (was u) (is u)) ⌝ }
 {
     let mut s = st;

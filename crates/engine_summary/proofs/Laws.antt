@@ -21,7 +21,12 @@ zeros (suc n) (suc e) = zeros n e
 
 module _ (vs : List ℕ) where
   pub firsts-none : Firsts vs 0 (replicate 32 0)
-  firsts-none = record { long = length-replicate {A = ℕ} 32 0; first = λ e h. absurd (omega arith); rest = λ e h k. zeros 32 e }
+  firsts-none = record {
+    long = length-replicate {A = ℕ} 32 0;
+    first = λ e h. absurd (omega arith);
+    rest =
+        λ e h k. zeros 32 e;
+  }
 
   pub firsts-more : (a : List ℕ) (n v : ℕ) → Firsts vs n a → n < 32 → v ≡ getD vs n 0 → Firsts vs (n + 1) (set a n v)
   firsts-more a n v f h is = record {
@@ -33,14 +38,36 @@ module _ (vs : List ℕ) where
 -- ---- the answer
 
 pub summed-so : (s : Run) (n h : ℕ) (vs : List ℕ) → Firsts (s .values) n vs →
-    Summed s n h (record { refused = s .refused; steps = s .steps; records = s .records; horizon = h; values = vs; unknown = s .reasons; «stop_reason» = s .«stop_reason»; «runs_left» = s .«runs_left» })
+    Summed s n h (record {
+      refused = s .refused;
+      steps = s .steps;
+      records = s .records;
+      horizon = h;
+      values = vs;
+      unknown =
+          s .reasons;
+      «stop_reason» = s .«stop_reason»;
+      «runs_left» = s .«runs_left»;
+    })
 summed-so s n h vs f u = record {
-  done = λ y. record { accepted = y; steps = refl; records = refl; horizon = refl; values = f; unknown = refl; reasons = refl; «stop_reason» = refl; «runs_left» = refl };
+  done = λ y. record {
+    accepted = y;
+    steps = refl;
+    records = refl;
+    horizon = refl;
+    values = f;
+    unknown = refl;
+    reasons =
+        refl;
+    «stop_reason» = refl;
+    «runs_left» = refl;
+  };
   full = λ y. refl;
 }
 
 module _ (s : Summary) (u : List ℕ) where
-  pub settled-full : (s .refused ≡ 0 → ⊥) → (r : Simulation) → r ≡ no-simulation (s .refused) → Answered (simulation-of s u) r
+  pub settled-full : (s .refused ≡ 0 → ⊥) → (r : Simulation) → r ≡ no-simulation (s .refused) →
+      Answered (simulation-of s u) r
   settled-full z r e = record { done = λ y. absurd (z y); full = λ y. e }
 
   pub settled-done : s .refused ≡ 0 → Answered (simulation-of s u) (simulation-of s u)

@@ -10,8 +10,30 @@ use Rattle.engine_summary.specs.declared.Summary.{Summary}
 -- ---- simulate
 
 unfoldable pub no-simulation : (number : ℕ) → Simulation
-no-simulation n = record { refused = n; steps = 0; records = 0; horizon = 0; values = replicate 32 0; unknown = 0; reasons = replicate 1500 0; «stop_reason» = 0; «runs_left» = false }
+no-simulation n = record {
+  refused = n;
+  steps = 0;
+  records = 0;
+  horizon = 0;
+  values = replicate 32 0;
+  unknown = 0;
+  reasons =
+      replicate 1500 0;
+  «stop_reason» = 0;
+  «runs_left» = false;
+}
 
 -- a summary and its reasons' words
 abbrev pub simulation-of : Summary → (reasons : List ℕ) → Simulation
-simulation-of s w = record { refused = s .refused; steps = s .steps; records = s .records; horizon = s .horizon; values = s .values; unknown = s .unknown; reasons = w; «stop_reason» = s .«stop_reason»; «runs_left» = s .«runs_left» }
+simulation-of s w = record {
+  refused = s .refused;
+  steps = s .steps;
+  records = s .records;
+  horizon = s .horizon;
+  values =
+      s .values;
+  unknown = s .unknown;
+  reasons = w;
+  «stop_reason» = s .«stop_reason»;
+  «runs_left» = s .«runs_left»;
+}

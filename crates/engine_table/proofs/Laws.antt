@@ -17,7 +17,21 @@ use Rattle.model_walk.specs.Walk.{piecesM, actionsM}
 use Rattle.model_order.specs.Order.{place-from}
 use Rattle.model_index.specs.declared.Index.{Index}
 use Rattle.engine_fields.specs.Fields.{two, four, cap}
-use Rattle.engine_table.specs.Table.{end-of, stale-at, conditions-at, actions-at, source-at, rule-word, count-word, fixed-word, start-word, head-word, part-word, table-word, Headed}
+use Rattle.engine_table.specs.Table.{
+  end-of,
+  stale-at,
+  conditions-at,
+  actions-at,
+  source-at,
+  rule-word,
+  count-word,
+  fixed-word,
+  start-word,
+  head-word,
+  part-word,
+  table-word,
+  Headed,
+}
 
 pub end-to : {w : Walked} (at : ℕ) {p n : ℕ} → w ≡ walked.To p n → p ≡ end-of w at
 unfolding end-of
@@ -36,11 +50,14 @@ module _ (s : List ℕ) (p : ℕ) where
   unfolding conditions-at
   conditions-are e = ap (λ (n : ℕ). p + 9 + 16 * n) e
 
-  pub actions-are : (ts : ℕ) {c r : ℕ} {w : Walked} → c ≡ conditions-at s p → w ≡ piecesM ts piece.Predicate s c 0 → r ≡ end-of w c → r ≡ actions-at ts s p
+  pub actions-are : (ts : ℕ) {c r : ℕ} {w : Walked} → c ≡ conditions-at s p → w ≡ piecesM ts piece.Predicate s c 0 →
+      r ≡ end-of w c → r ≡ actions-at ts s p
   unfolding actions-at
-  actions-are ts {c} {r} {w} e f g = g ∙ ap (λ (y : Walked). end-of y c) f ∙ ap (λ (y : ℕ). end-of (piecesM ts piece.Predicate s y 0) y) e
+  actions-are ts {c} {r} {w} e f g = g ∙ ap (λ (y : Walked). end-of y c) f
+      ∙ ap (λ (y : ℕ). end-of (piecesM ts piece.Predicate s y 0) y) e
 
-  pub source-is : (ts : ℕ) {a r : ℕ} {w : Walked} → a ≡ actions-at ts s p → w ≡ actionsM ts 18 s a 0 → r ≡ end-of w a → r ≡ source-at ts s p
+  pub source-is : (ts : ℕ) {a r : ℕ} {w : Walked} → a ≡ actions-at ts s p → w ≡ actionsM ts 18 s a 0 → r ≡ end-of w a →
+      r ≡ source-at ts s p
   unfolding source-at
   source-is ts {a} {r} {w} e f g = g ∙ ap (λ (y : Walked). end-of y a) f ∙ ap (λ (y : ℕ). end-of (actionsM ts 18 s y 0) y) e
 
@@ -81,9 +98,18 @@ module _ (ts : ℕ) (s : List ℕ) (p : ℕ) (k : ℕ) where
   unfolding rule-word
   word-6 e = rw e
 
-  pub word-else : (k ≡ 0 → ⊥) → (k ≡ 1 → ⊥) → (k ≡ 2 → ⊥) → (k ≡ 3 → ⊥) → (k ≡ 4 → ⊥) → (k ≡ 5 → ⊥) → (k ≡ 6 → ⊥) → rule-word ts s p k ≡ cap (source-at ts s p + 8)
+  pub word-else : (k ≡ 0 → ⊥) → (k ≡ 1 → ⊥) → (k ≡ 2 → ⊥) → (k ≡ 3 → ⊥) → (k ≡ 4 → ⊥) → (k ≡ 5 → ⊥) → (k ≡ 6 → ⊥) →
+      rule-word ts s p k ≡ cap (source-at ts s p + 8)
   unfolding rule-word
-  word-else a b c d e f g = rw (ne-eqb _ _ a, ne-eqb _ _ b, ne-eqb _ _ c, ne-eqb _ _ d, ne-eqb _ _ e, ne-eqb _ _ f, ne-eqb _ _ g)
+  word-else a b c d e f g = rw (
+    ne-eqb _ _ a,
+    ne-eqb _ _ b,
+    ne-eqb _ _ c,
+    ne-eqb _ _ d,
+    ne-eqb _ _ e,
+    ne-eqb _ _ f,
+    ne-eqb _ _ g,
+  )
 
 module _ (i : Index) (k : ℕ) where
   pub count-0 : k ≡ 0 → count-word i k ≡ i .entities .count
@@ -119,7 +145,8 @@ module _ (s : List ℕ) (i : Index) (k : ℕ) where
   unfolding fixed-word
   fixed-6 e = rw e
 
-  pub fixed-else : (k ≡ 4 → ⊥) → (k ≡ 5 → ⊥) → (k ≡ 6 → ⊥) → fixed-word s i k ≡ place-from (i .texts .count) 0 (text "unavailable") s 6
+  pub fixed-else : (k ≡ 4 → ⊥) → (k ≡ 5 → ⊥) → (k ≡ 6 → ⊥) →
+      fixed-word s i k ≡ place-from (i .texts .count) 0 (text "unavailable") s 6
   unfolding fixed-word
   fixed-else a b c = rw (ne-eqb _ _ a, ne-eqb _ _ b, ne-eqb _ _ c)
 
@@ -168,7 +195,8 @@ module _ (ts : ℕ) (s names rules : List ℕ) (k : ℕ) where
   unfolding part-word
   part-stale b h e = rw (le-ltb k 48 b, lt-ltb k 80 h) (ap (stale-at s) (sym e))
 
-  pub part-rule : 48 ≤ k → 80 ≤ k → {p : ℕ} → p ≡ cap (getD rules ((k - 80) / 8) 0) → part-word ts s names rules k ≡ rule-word ts s p ((k - 80) % 8)
+  pub part-rule : 48 ≤ k → 80 ≤ k → {p : ℕ} → p ≡ cap (getD rules ((k - 80) / 8) 0) →
+      part-word ts s names rules k ≡ rule-word ts s p ((k - 80) % 8)
   unfolding part-word
   part-rule b c e = rw (le-ltb k 48 b, le-ltb k 80 c) (ap (λ (q : ℕ). rule-word ts s q ((k - 80) % 8)) (sym e))
 
@@ -186,14 +214,18 @@ module _ (ts : ℕ) (s names rules x : List ℕ) (j : ℕ) where
   unfolding so-far
   so-high h = sym (rw (le-ltb j 16 h))
 
-pub so-table : (s : List ℕ) (i : Index) (x : List ℕ) → Headed s i x → (k : ℕ) → so-far (i .texts .count) s (i .entities .starts) (i .rules .starts) x k ≡ table-word s i k
+pub so-table : (s : List ℕ) (i : Index) (x : List ℕ) → Headed s i x → (k : ℕ) →
+    so-far (i .texts .count) s (i .entities .starts) (i .rules .starts) x k ≡ table-word s i k
 so-table s i x h k = elim (decLt k 16) [
-  | yes g ↦ sym (so-low (i .texts .count) s (i .entities .starts) (i .rules .starts) x k g) ∙ h .words k g ∙ sym (table-head s i k g)
-  | no g ↦ sym (so-high (i .texts .count) s (i .entities .starts) (i .rules .starts) x k (omega arith)) ∙ sym (table-part s i k (omega arith))
+  | yes g ↦ sym (so-low (i .texts .count) s (i .entities .starts) (i .rules .starts) x k g) ∙ h .words k g
+      ∙ sym (table-head s i k g)
+  | no g ↦ sym (so-high (i .texts .count) s (i .entities .starts) (i .rules .starts) x k (omega arith))
+      ∙ sym (table-part s i k (omega arith))
 ]
 
 -- the words so far, and one more, as a function of the index says
-pub one-more : (f : ℕ → ℕ) (x : List ℕ) (k v : ℕ) → ((j : ℕ) → j < k → getD x j 0 ≡ f j) → k < length x → v ≡ f k → (j : ℕ) → j < k + 1 → getD (set x k v) j 0 ≡ f j
+pub one-more : (f : ℕ → ℕ) (x : List ℕ) (k v : ℕ) → ((j : ℕ) → j < k → getD x j 0 ≡ f j) → k < length x → v ≡ f k → (j : ℕ) →
+    j < k + 1 → getD (set x k v) j 0 ≡ f j
 one-more f x k v g h e j o = elim (decLt j k) [
   | yes l ↦ getD-set-other x k j v 0 (λ q. absurd (omega arith)) ∙ g j l
   | no l ↦ let z : j ≡ k = omega arith in ap (λ (y : ℕ). getD (set x k v) y 0) z ∙ getD-set-same x k v 0 h ∙ e ∙ ap f (sym z)
@@ -202,6 +234,7 @@ one-more f x k v g h e j o = elim (decLt j k) [
 pub number-is : (s : List ℕ) (at k : ℕ) {p r : ℕ} → p ≡ cap at → r ≡ four s (p + k) → r ≡ four s (cap at + k)
 number-is s at k e f = f ∙ ap (λ (p : ℕ). four s (p + k)) e
 
-pub start-is : (s : List ℕ) (i : Index) (k : ℕ) {p : ℕ} (r : ℕ) → r ≡ four s (cap p + k) → p ≡ end-of (i .rules .end) 0 → r ≡ start-word s i k
+pub start-is : (s : List ℕ) (i : Index) (k : ℕ) {p : ℕ} (r : ℕ) → r ≡ four s (cap p + k) → p ≡ end-of (i .rules .end) 0 →
+    r ≡ start-word s i k
 unfolding start-word
 start-is s i k r e f = e ∙ ap (λ (p : ℕ). four s (cap p + k)) f

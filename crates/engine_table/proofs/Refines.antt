@@ -13,11 +13,61 @@ use borrow.Author.Tests.{lt-ltb, le-ltb}
 use Rattle.texts.specs.Lists.{if_then_else_}
 use Rattle.texts.specs.Texts.{Text, text, memT}
 use Rattle.model_spec.specs.Answer.{answer, refused}
-use Rattle.model_spec.specs.Model.{Predicate, Actions, Entity, Mode, single, queued, parallel, Automation, Limits, Moment, Model, midnight}
-use Rattle.model_spec.specs.File.{got, Reader, _>>=_, give, or-zeros, start, u8, u16, u32, times, counted, number?, source, mode, limits, texts, place, predicate, trigger, entity, actions, automation}
+use Rattle.model_spec.specs.Model.{
+  Predicate,
+  Actions,
+  Entity,
+  Mode,
+  single,
+  queued,
+  parallel,
+  Automation,
+  Limits,
+  Moment,
+  Model,
+  midnight,
+}
+use Rattle.model_spec.specs.File.{
+  got,
+  Reader,
+  _>>=_,
+  give,
+  or-zeros,
+  start,
+  u8,
+  u16,
+  u32,
+  times,
+  counted,
+  number?,
+  source,
+  mode,
+  limits,
+  texts,
+  place,
+  predicate,
+  trigger,
+  entity,
+  actions,
+  automation,
+}
 use Rattle.model_spec.specs.Validate.{accepted}
 use Rattle.model_walk.proofs.Found as found
-use Rattle.model_walk.proofs.Found.{bound, given, Wide, u8-wide, u16-wide, u32-wide, kind-wide, source-wide, counted-found, place-found, kind-found, EntityParts, entity-found}
+use Rattle.model_walk.proofs.Found.{
+  bound,
+  given,
+  Wide,
+  u8-wide,
+  u16-wide,
+  u32-wide,
+  kind-wide,
+  source-wide,
+  counted-found,
+  place-found,
+  kind-found,
+  EntityParts,
+  entity-found,
+}
 use Rattle.model_walk.proofs.Laws.{u8-in, u16-in, u32-in}
 use Rattle.model_walk.proofs.Refines.{sees-conditions, sees-actions, sees-mode}
 use Rattle.model_walk.specs.Walk.{seen, capped, pieceM, piecesM, actionsM}
@@ -36,7 +86,19 @@ use Rattle.engine_refinement.specs.Meaning.{stale-of, mode-number, Tabled}
 use Rattle.engine_refinement.proofs.Accepted.{accepted-lawful, accepted-small}
 use Rattle.engine_refinement.proofs.Tables.{NameWord, RuleWords, Words, tabled}
 use Rattle.engine_refinement.proofs.Numbers.{cap-is}
-use Rattle.engine_table.specs.Table.{end-of, stale-at, conditions-at, actions-at, source-at, rule-word, count-word, fixed-word, start-word, head-word, TableOf}
+use Rattle.engine_table.specs.Table.{
+  end-of,
+  stale-at,
+  conditions-at,
+  actions-at,
+  source-at,
+  rule-word,
+  count-word,
+  fixed-word,
+  start-word,
+  head-word,
+  TableOf,
+}
 use Rattle.engine_table.proofs.Laws as laws
 
 -- ---- numbers in the file
@@ -120,37 +182,42 @@ none-read : {A : Type 0} (r : Reader A) (s : List ℕ) (p : ℕ) {l : List A} {q
 unfolding times give
 none-read r s p e = (cc)
 
-module _ {A : Type 0} (r : Reader A) (w : ℕ) (s : List ℕ) (h : (p : ℕ) (a : A) (q : ℕ) → r s p ≡ got a q → Wide w s p q) where
-  pub times-wide : (i p : ℕ) (l : List A) (q : ℕ) → p ≤ length s → times i r s p ≡ got l q → Wide (w * i) s p q
-  times-wide zero p l q o e = let z = none-read r s p e in record { ends = omega arith; inside = omega arith }
-  times-wide (suc i) p l q o e =
-      let m = more r s i p e in
-      let a = h p (m .first) (m .after) (m .is-first) in
-      let b = times-wide i (m .after) (m .others) q (omega (arith, a .ends, a .inside)) (m .are-others) in
-      let z = mul-suc w i in
-      record { ends = omega (arith, z, a .ends, b .ends); inside = omega (arith, z, a .ends, b .inside) }
+module _ {A : Type 0} (r : Reader A) (w : ℕ) (s : List ℕ) (h : (p : ℕ) (a : A) (q : ℕ) → r s p ≡ got a q → Wide w s p q)
+  where
+    pub times-wide : (i p : ℕ) (l : List A) (q : ℕ) → p ≤ length s → times i r s p ≡ got l q → Wide (w * i) s p q
+    times-wide zero p l q o e = let z = none-read r s p e in record { ends = omega arith; inside = omega arith }
+    times-wide (suc i) p l q o e =
+        let m = more r s i p e in
+        let a = h p (m .first) (m .after) (m .is-first) in
+        let b = times-wide i (m .after) (m .others) q (omega (arith, a .ends, a .inside)) (m .are-others) in
+        let z = mul-suc w i in
+        record { ends = omega (arith, z, a .ends, b .ends); inside = omega (arith, z, a .ends, b .inside) }
 
 -- ---- one number of a file that was read
 
 module _ (s : List ℕ) (size : length s ≤ 32768) where
   -- a place at p
   place-word : (ts : List Text) (p : ℕ) {t : Text} {q : ℕ} (f : found.Place ts s p t q) → two s (cap p) ≡ f .at
-  place-word ts p f = let w = u16-wide s p (f .is-place) in ap (two s) (cap-is p (near s p _ 2 size w)) ∙ two-read s p (f .is-place)
+  place-word ts p f = let w = u16-wide s p (f .is-place) in
+      ap (two s) (cap-is p (near s p _ 2 size w)) ∙ two-read s p (f .is-place)
 
   -- an entity's expiry
-  stale-read : (ts : List Text) (p : ℕ) (e : Entity) (q : ℕ) → entity ts s p ≡ got e q → e .stale-after ≡ stale-of (stale-at s p)
+  stale-read : (ts : List Text) (p : ℕ) (e : Entity) (q : ℕ) → entity ts s p ≡ got e q →
+      e .stale-after ≡ stale-of (stale-at s p)
   unfolding stale-at stale-of number?
   stale-read ts p e q h =
       let f = entity-found ts h in
       let c = f .domain in
       let a = u16-wide s p (f .name .is-place) in
       let b = u16-wide s (f .at-domain) (c .is-count) in
-      let v = times-wide (place ts) 2 s (λ p a q g. u16-wide s p (place-found ts g .is-place)) (c .count) (c .start) (e .domain) (f .at-initial) (omega (arith, b .ends, b .inside)) (c .are-values) in
+      let v = times-wide (place ts) 2 s (λ p a q g. u16-wide s p (place-found ts g .is-place)) (c .count) (c .start)
+      (e .domain) (f .at-initial) (omega (arith, b .ends, b .inside)) (c .are-values) in
       let i = u16-wide s (f .at-initial) (f .initial .is-place) in
       let n = bound u32 _ (f .stale) in
       let z = given _ _ _ (n .rest) in
       let y : two s (p + 2) ≡ c .count = ap (two s) (sym (a .ends)) ∙ two-read s (f .at-domain) (c .is-count) in
-      let o : p + 7 + 2 * two s (p + 2) ≡ f .at-stale = omega (arith, y, a .ends, b .ends, v .ends, i .ends, f .tier-wide .ends) in
+      let o : p + 7 + 2 * two s (p + 2) ≡ f .at-stale =
+      omega (arith, y, a .ends, b .ends, v .ends, i .ends, f .tier-wide .ends) in
       let w : four s (p + 7 + 2 * two s (p + 2)) ≡ n .value = ap (four s) o ∙ four-read s (f .at-stale) (n .first) in
       sym (z .0) ∙ ap (λ (k : ℕ). if eqb k 4294967295 then none else some k) (sym w)
 
@@ -173,7 +240,8 @@ module _ (s : List ℕ) (size : length s ≤ 32768) where
       cases (suc (suc (suc zero))) h = ap mode-number (given _ _ _ h .0)
       cases (suc (suc (suc (suc i)))) h = absurd (found.refused s (k .next) h)
 
-  trigger-wide : (ts : List Text) (p : ℕ) (a : Rattle.model_spec.specs.Model.Trigger) (q : ℕ) → trigger ts s p ≡ got a q → Wide 16 s p q
+  trigger-wide : (ts : List Text) (p : ℕ) (a : Rattle.model_spec.specs.Model.Trigger) (q : ℕ) → trigger ts s p ≡ got a q →
+      Wide 16 s p q
   trigger-wide ts p a q e =
       let f = found.trigger-found ts e in
       let a = u16-wide s p (f .entity-at .is-place) in
@@ -181,7 +249,11 @@ module _ (s : List ℕ) (size : length s ≤ 32768) where
       let c = u16-wide s (f .at-to) (f .to-at .is-place) in
       let h = source-wide s (f .at-source) (f .source-at) in
       let k = u16-wide s (f .at-note) (f .note-at .is-place) in
-      record { ends = omega (arith, a .ends, b .ends, c .ends, h .ends, k .ends); inside = omega (arith, a .ends, b .ends, c .ends, h .ends, k .inside) }
+      record {
+        ends = omega (arith, a .ends, b .ends, c .ends, h .ends, k .ends);
+        inside =
+            omega (arith, a .ends, b .ends, c .ends, h .ends, k .inside);
+      }
 
   record RowParts (ts : List Text) (p : ℕ) (a : Automation) : Type 0 where
     pub at-mode : ℕ
@@ -233,11 +305,13 @@ module _ (s : List ℕ) (size : length s ≤ 32768) where
       })
 
   -- where the walks over conditions and actions end
-  conditions-end : (ts : List Text) (p : ℕ) {l : List Predicate} {q : ℕ} → counted (predicate ts) s p ≡ got l q → q ≡ end-of (piecesM (length ts) piece.Predicate s p 0) p
+  conditions-end : (ts : List Text) (p : ℕ) {l : List Predicate} {q : ℕ} → counted (predicate ts) s p ≡ got l q →
+      q ≡ end-of (piecesM (length ts) piece.Predicate s p 0) p
   unfolding seen capped pieceM
   conditions-end ts p e = laws.end-to p (sees-conditions ts 0 s p ∙ ap (seen _ 0) e)
 
-  actions-end : (ts : List Text) (p : ℕ) {l : Actions} {q : ℕ} → actions ts 18 s p ≡ got l q → q ≡ end-of (actionsM (length ts) 18 s p 0) p
+  actions-end : (ts : List Text) (p : ℕ) {l : Actions} {q : ℕ} → actions ts 18 s p ≡ got l q →
+      q ≡ end-of (actionsM (length ts) 18 s p 0) p
   unfolding seen capped
   actions-end ts p e = laws.end-to p (sees-actions ts 18 0 s p ∙ ap (seen _ 0) e)
 
@@ -260,26 +334,31 @@ module _ (s : List ℕ) (size : length s ≤ 32768) where
       let x = u32-wide s (f .at-max) (f .max-at) in
       let c = counted-found (trigger ts) (f .triggers-at) in
       let w = u16-wide s (f .at-triggers) (c .is-count) in
-      let v = times-wide (trigger ts) 16 s (trigger-wide ts) (c .count) (c .start) (a .triggers) (f .at-conditions) (omega (arith, w .ends, w .inside)) (c .are-values) in
+      let v = times-wide (trigger ts) 16 s (trigger-wide ts) (c .count) (c .start) (a .triggers) (f .at-conditions)
+      (omega (arith, w .ends, w .inside)) (c .are-values) in
       let o = source-wide s (f .at-source) (f .source-read) in
       let t : f .at-triggers ≡ p + 7 = omega (arith, i .ends, m .ends, x .ends) in
       let n : two s (p + 7) ≡ c .count = ap (two s) (sym t) ∙ two-read s (f .at-triggers) (c .is-count) in
       let cs : f .at-conditions ≡ p + 9 + 16 * two s (p + 7) = omega (arith, n, t, w .ends, v .ends) in
-      let as′ : f .at-actions ≡ actions-at (length ts) s p = conditions-end ts (f .at-conditions) (f .conditions-read) ∙ ap (λ (k : ℕ). end-of (piecesM (length ts) piece.Predicate s k 0) k) cs in
+      let as′ : f .at-actions ≡ actions-at (length ts) s p =
+      conditions-end ts (f .at-conditions) (f .conditions-read)
+      ∙ ap (λ (k : ℕ). end-of (piecesM (length ts) piece.Predicate s k 0) k) cs in
       record {
         mode-is = i .ends;
         max-is = omega (arith, i .ends, m .ends);
         triggers-is = t;
         conditions-is = cs;
         actions-is = as′;
-        source-is = actions-end ts (f .at-actions) (f .actions-read) ∙ ap (λ (k : ℕ). end-of (actionsM (length ts) 18 s k 0) k) as′;
+        source-is = actions-end ts (f .at-actions) (f .actions-read)
+            ∙ ap (λ (k : ℕ). end-of (actionsM (length ts) 18 s k 0) k) as′;
         notes-is = o .ends;
         inside = omega (arith, o .ends, o .inside);
       }
 
 -- ---- the table
 
-module _ (s : List ℕ) (i : Index) (x : List ℕ) (m : Model) (t : TableOf s i x) (o : Indexed s i m) (bytes : (k : ℕ) → getD s k 0 < 256) (ok : accepted s ≡ answer m) where
+module _ (s : List ℕ) (i : Index) (x : List ℕ) (m : Model) (t : TableOf s i x) (o : Indexed s i m)
+    (bytes : (k : ℕ) → getD s k 0 < 256) (ok : accepted s ≡ answer m) where
   abbrev ts : List Text
   ts = o .ts
 
@@ -306,7 +385,9 @@ module _ (s : List ℕ) (i : Index) (x : List ℕ) (m : Model) (t : TableOf s i 
   fixed-here : (w : Text) → memT w ts ≡ true → Fixed ts (place-from (i .texts .count) 0 w s 6) w
   fixed-here w h = subst (λ (c : ℕ). Fixed ts (place-from c 0 w s 6) w) (sym texts-count) (fixed-at s (o .all-texts .1) w h)
 
-  limit-read : (q : ℕ) → limits s (i .limits) ≡ got (m .scenario .limits) q → (four s (cap (i .limits) + 0) ≡ m .scenario .limits .horizon) × (four s (cap (i .limits) + 4) ≡ m .scenario .limits .max-steps)
+  limit-read : (q : ℕ) → limits s (i .limits) ≡ got (m .scenario .limits) q →
+      (four s (cap (i .limits) + 0) ≡ m .scenario .limits .horizon)
+      × (four s (cap (i .limits) + 4) ≡ m .scenario .limits .max-steps)
   unfolding limits
   limit-read q e =
       let h = bound u32 _ e in
@@ -317,8 +398,11 @@ module _ (s : List ℕ) (i : Index) (x : List ℕ) (m : Model) (t : TableOf s i 
       let w = u32-wide s (i .limits) (h .first) in
       let p : cap (i .limits) ≡ i .limits = cap-is (i .limits) (omega (arith, size, w .inside)) in
       let a : cap (i .limits) + 0 ≡ i .limits = omega (arith, p) in
-      let b : cap (i .limits) + 4 ≡ h .next = omega (arith, p, w .ends) in
-      (ap (four s) a ∙ four-read s (i .limits) (h .first) ∙ ap (λ (l : Limits). l .horizon) (z .0), ap (four s) b ∙ four-read s (h .next) (n .first) ∙ ap (λ (l : Limits). l .max-steps) (z .0))
+      let b : cap (i .limits) + 4 ≡ h .next = omega (arith, p, w .ends) in (
+        ap (four s) a ∙ four-read s (i .limits) (h .first) ∙ ap (λ (l : Limits). l .horizon) (z .0),
+        ap (four s) b
+            ∙ four-read s (h .next) (n .first) ∙ ap (λ (l : Limits). l .max-steps) (z .0),
+      )
 
   -- the start: behind the automations, or zeros if the file ends there
   start-read : startM x ≡ m .start
@@ -328,7 +412,11 @@ module _ (s : List ℕ) (i : Index) (x : List ℕ) (m : Model) (t : TableOf s i 
       let e : end-of (i .rules .end) 0 ≡ p = ap (λ (w : Walked). end-of w 0) (o .rules-end) in
       let r = behind-read s p (o .start-at .0) (m .start) size (o .start-at .1) in
       let c : (k : ℕ) → start-word s i k ≡ four s (cap p + k) = λ k. ap (λ (n : ℕ). four s (cap n + k)) e in
-      (λ j. record { weekday = (head-is 10 (omega arith) ∙ c 0 ∙ r .0) j; second = (head-is 11 (omega arith) ∙ c 4 ∙ r .1) j })
+      (λ j. record {
+        weekday = (head-is 10 (omega arith) ∙ c 0 ∙ r .0) j;
+        second =
+            (head-is 11 (omega arith) ∙ c 4 ∙ r .1) j;
+      })
 
   -- ---- entities
 
@@ -352,7 +440,8 @@ module _ (s : List ℕ) (i : Index) (x : List ℕ) (m : Model) (t : TableOf s i 
         let z : 16 + e - 16 ≡ e = omega arith in
         t .words (16 + e) (omega (arith, few .0))
         ∙ laws.table-part s i (16 + e) (omega arith)
-        ∙ laws.part-name (i .texts .count) s (i .entities .starts) (i .rules .starts) (16 + e) (omega (arith, few .0)) {p = cap p} (ap (λ (k : ℕ). cap (getD (i .entities .starts) k 0)) (sym z))
+        ∙ laws.part-name (i .texts .count) s (i .entities .starts) (i .rules .starts) (16 + e) (omega (arith, few .0))
+        {p = cap p} (ap (λ (k : ℕ). cap (getD (i .entities .starts) k 0)) (sym z))
         ∙ place-word s size ts p (parts .name)
 
     stale-at-e : stale x e ≡ stale-at s p
@@ -361,7 +450,8 @@ module _ (s : List ℕ) (i : Index) (x : List ℕ) (m : Model) (t : TableOf s i 
         let z : 48 + e - 48 ≡ e = omega arith in
         t .words (48 + e) (omega (arith, few .0))
         ∙ laws.table-part s i (48 + e) (omega arith)
-        ∙ laws.part-stale (i .texts .count) s (i .entities .starts) (i .rules .starts) (48 + e) (omega arith) (omega (arith, few .0)) {p = cap p} (ap (λ (k : ℕ). cap (getD (i .entities .starts) k 0)) (sym z))
+        ∙ laws.part-stale (i .texts .count) s (i .entities .starts) (i .rules .starts) (48 + e) (omega arith)
+        (omega (arith, few .0)) {p = cap p} (ap (λ (k : ℕ). cap (getD (i .entities .starts) k 0)) (sym z))
         ∙ ap (stale-at s) (cap-is p (omega (arith, near-p)))
 
     stale-here : (getD es e d) .stale-after ≡ stale-of (stale x e)
@@ -403,7 +493,9 @@ module _ (s : List ℕ) (i : Index) (x : List ℕ) (m : Model) (t : TableOf s i 
         let b : (80 + k * 8 + n - 80) % 8 ≡ n = omega arith in
         t .words (80 + k * 8 + n) (omega (arith, h, g, rules-count))
         ∙ laws.table-part s i (80 + k * 8 + n) (omega arith)
-        ∙ laws.part-rule (i .texts .count) s (i .entities .starts) (i .rules .starts) (80 + k * 8 + n) (omega arith) (omega arith) {p = at} (sym (ap (λ (j : ℕ). cap (getD (i .rules .starts) j 0)) a ∙ cap-is at (omega (arith, near-at))))
+        ∙ laws.part-rule (i .texts .count) s (i .entities .starts) (i .rules .starts) (80 + k * 8 + n) (omega arith)
+        (omega arith) {p = at}
+        (sym (ap (λ (j : ℕ). cap (getD (i .rules .starts) j 0)) a ∙ cap-is at (omega (arith, near-at))))
         ∙ ap (λ (c : ℕ). rule-word c s at ((80 + k * 8 + n - 80) % 8)) texts-count
         ∙ ap (rule-word (length ts) s at) b
 
@@ -416,11 +508,13 @@ module _ (s : List ℕ) (i : Index) (x : List ℕ) (m : Model) (t : TableOf s i 
     actions-inside p e = let b = bound u16 _ e in omega (arith, u16-wide s p (b .first) .inside)
 
     -- where each part begins
-    ends-inside : (row .at-triggers ≤ length s) × ((row .at-conditions ≤ length s) × ((row .at-actions ≤ length s) × (row .at-source ≤ length s)))
+    ends-inside : (row .at-triggers ≤ length s) × ((row .at-conditions ≤ length s)
+        × ((row .at-actions ≤ length s) × (row .at-source ≤ length s)))
     ends-inside =
         let c = counted-found (trigger ts) (row .triggers-at) in
         let a = u16-wide s (row .at-triggers) (c .is-count) in
-        let v = times-wide (trigger ts) 16 s (trigger-wide s size ts) (c .count) (c .start) (r .triggers) (row .at-conditions) (omega (arith, a .ends, a .inside)) (c .are-values) in
+        let v = times-wide (trigger ts) 16 s (trigger-wide s size ts) (c .count) (c .start) (r .triggers)
+        (row .at-conditions) (omega (arith, a .ends, a .inside)) (c .are-values) in
         let b = counted-found (predicate ts) (row .conditions-read) in
         let w = u16-wide s (row .at-conditions) (b .is-count) in
         let o′ = source-wide s (row .at-source) (row .source-read) in
@@ -434,13 +528,45 @@ module _ (s : List ℕ) (i : Index) (x : List ℕ) (m : Model) (t : TableOf s i 
     row-here = record {
       id-in = subst (λ (n : ℕ). n < length ts) (sym id-here) (row .id .is-in);
       id = row .id .is-text ∙ ap (λ (n : ℕ). getD ts n []) (sym id-here);
-      mode = word-here 1 (omega arith) ∙ laws.word-1 (length ts) s at 1 refl ∙ ap (λ (n : ℕ). getD s n 0) (sym (stands .mode-is)) ∙ mode-read s size (row .at-mode) (r .mode) (row .at-max) (row .mode-at);
-      max = word-here 2 (omega arith) ∙ laws.word-2 (length ts) s at 2 refl ∙ ap (four s) (sym (stands .max-is)) ∙ four-read s (row .at-max) (row .max-at);
-      triggers = (row .at-conditions, ap (counted (trigger ts) s) (word-here 3 (omega arith) ∙ laws.word-3 (length ts) s at 3 refl ∙ capped-at (at + 7) (row .at-triggers) (stands .triggers-is) (ends-inside .0)) ∙ row .triggers-at);
-      conditions = (row .at-actions, ap (counted (predicate ts) s) (word-here 4 (omega arith) ∙ laws.word-4 (length ts) s at 4 refl ∙ capped-at (conditions-at s at) (row .at-conditions) (stands .conditions-is) (ends-inside .1 .0)) ∙ row .conditions-read);
-      actions = (row .at-source, ap (actions ts 18 s) (word-here 5 (omega arith) ∙ laws.word-5 (length ts) s at 5 refl ∙ capped-at (actions-at (length ts) s at) (row .at-actions) (stands .actions-is) (ends-inside .1 .1 .0)) ∙ row .actions-read);
-      source = (row .at-notes, ap (source s) (word-here 6 (omega arith) ∙ laws.word-6 (length ts) s at 6 refl ∙ capped-at (source-at (length ts) s at) (row .at-source) (stands .source-is) (ends-inside .1 .1 .1)) ∙ row .source-read);
-      notes = (row .end, ap (counted (place ts) s) (word-here 7 (omega arith) ∙ laws.word-else (length ts) s at 7 (λ y. absurd (omega arith)) (λ y. absurd (omega arith)) (λ y. absurd (omega arith)) (λ y. absurd (omega arith)) (λ y. absurd (omega arith)) (λ y. absurd (omega arith)) (λ y. absurd (omega arith)) ∙ capped-at (source-at (length ts) s at + 8) (row .at-notes) (stands .notes-is ∙ ap (λ (n : ℕ). n + 8) (stands .source-is)) (stands .inside)) ∙ row .notes-at);
+      mode = word-here 1 (omega arith) ∙ laws.word-1 (length ts) s at 1 refl
+          ∙ ap (λ (n : ℕ). getD s n 0) (sym (stands .mode-is))
+          ∙ mode-read s size (row .at-mode) (r .mode) (row .at-max) (row .mode-at);
+      max = word-here 2 (omega arith) ∙ laws.word-2 (length ts) s at 2 refl ∙ ap (four s) (sym (stands .max-is))
+          ∙ four-read s (row .at-max) (row .max-at);
+      triggers = (
+        row .at-conditions,
+        ap (counted (trigger ts) s)
+            (word-here 3 (omega arith) ∙ laws.word-3 (length ts) s at 3 refl
+            ∙ capped-at (at + 7) (row .at-triggers) (stands .triggers-is) (ends-inside .0)) ∙ row .triggers-at,
+      );
+      conditions = (
+        row .at-actions,
+        ap (counted (predicate ts) s)
+            (word-here 4 (omega arith) ∙ laws.word-4 (length ts) s at 4 refl
+            ∙ capped-at (conditions-at s at) (row .at-conditions) (stands .conditions-is) (ends-inside .1 .0))
+            ∙ row .conditions-read,
+      );
+      actions = (
+        row .at-source,
+        ap (actions ts 18 s)
+            (word-here 5 (omega arith) ∙ laws.word-5 (length ts) s at 5 refl
+            ∙ capped-at (actions-at (length ts) s at) (row .at-actions) (stands .actions-is) (ends-inside .1 .1 .0))
+            ∙ row .actions-read,
+      );
+      source = (
+        row .at-notes,
+        ap (source s) (word-here 6 (omega arith) ∙ laws.word-6 (length ts) s at 6 refl
+            ∙ capped-at (source-at (length ts) s at) (row .at-source) (stands .source-is) (ends-inside .1 .1 .1))
+            ∙ row .source-read,
+      );
+      notes = (
+        row .end,
+        ap (counted (place ts) s) (word-here 7 (omega arith)
+            ∙ laws.word-else (length ts) s at 7 (λ y. absurd (omega arith)) (λ y. absurd (omega arith))
+            (λ y. absurd (omega arith)) (λ y. absurd (omega arith)) (λ y. absurd (omega arith)) (λ y. absurd (omega arith))
+            (λ y. absurd (omega arith)) ∙ capped-at (source-at (length ts) s at + 8) (row .at-notes)
+            (stands .notes-is ∙ ap (λ (n : ℕ). n + 8) (stands .source-is)) (stands .inside)) ∙ row .notes-at,
+      );
     }
 
   -- ---- the whole table
@@ -458,8 +584,10 @@ module _ (s : List ℕ) (i : Index) (x : List ℕ) (m : Model) (t : TableOf s i 
         texts = head-is 9 (omega arith) ∙ texts-count;
         on = subst (λ (k : ℕ). Fixed ts k (text "on")) (sym (head-is 4 (omega arith))) (fixed-here (text "on") (f .on));
         off = subst (λ (k : ℕ). Fixed ts k (text "off")) (sym (head-is 5 (omega arith))) (fixed-here (text "off") (f .off));
-        unknown = subst (λ (k : ℕ). Fixed ts k (text "unknown")) (sym (head-is 6 (omega arith))) (fixed-here (text "unknown") (f .unknown));
-        unavailable = subst (λ (k : ℕ). Fixed ts k (text "unavailable")) (sym (head-is 7 (omega arith))) (fixed-here (text "unavailable") (f .unavailable));
+        unknown = subst (λ (k : ℕ). Fixed ts k (text "unknown")) (sym (head-is 6 (omega arith)))
+            (fixed-here (text "unknown") (f .unknown));
+        unavailable = subst (λ (k : ℕ). Fixed ts k (text "unavailable")) (sym (head-is 7 (omega arith)))
+            (fixed-here (text "unavailable") (f .unavailable));
         entities = head-is 0 (omega arith) ∙ o .entities .counts;
         automations = head-is 1 (omega arith) ∙ o .rules .counts;
         horizon = head-is 2 (omega arith) ∙ l .0;

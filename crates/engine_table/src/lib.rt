@@ -7,7 +7,21 @@ ghost use mathlib.Core.Path.{_≡_};
 ghost use Prim.Native.Nat.{_+_, _*_, _≤_, _<_};
 ghost use lib.ListN.{length, getD};
 ghost use Rattle.engine_fields.specs.Fields.{four, cap};
-ghost use Rattle.engine_table.specs.Table.{end-of, stale-at, conditions-at, actions-at, source-at, rule-word, count-word, fixed-word, start-word, head-word, part-word, Headed, TableOf};
+ghost use Rattle.engine_table.specs.Table.{
+  end-of,
+  stale-at,
+  conditions-at,
+  actions-at,
+  source-at,
+  rule-word,
+  count-word,
+  fixed-word,
+  start-word,
+  head-word,
+  part-word,
+  Headed,
+  TableOf,
+};
 
 pub struct Table {
     pub words: [u32; 436],

@@ -28,10 +28,27 @@ abbrev pub put-runM : (k : ℕ) → Run → Machine → Machine
 put-runM k r m = put-runs (set (m .runs) k r) m
 
 abbrev pub releasedM : Run → Run
-releasedM r = record { automation = r .automation; sequence = r .sequence; number = r .number; queued = false; phase = r .phase; depth = r .depth; places = r .places }
+releasedM r = record {
+  automation = r .automation;
+  sequence = r .sequence;
+  number = r .number;
+  queued = false;
+  phase =
+      r .phase;
+  depth = r .depth;
+  places = r .places;
+}
 
 abbrev pub phaseM : Phase → Run → Run
-phaseM p r = record { automation = r .automation; sequence = r .sequence; number = r .number; queued = r .queued; phase = p; depth = r .depth; places = r .places }
+phaseM p r = record {
+  automation = r .automation;
+  sequence = r .sequence;
+  number = r .number;
+  queued = r .queued;
+  phase = p;
+  depth = r .depth;
+  places = r .places;
+}
 
 -- ---- a queued run's turn
 

@@ -24,7 +24,8 @@ admitM f x i No m = m
 admitM f x i Unknown m = uncertainM f (aboutRule f x i kinds.trigger-condition) m
 
 unfoldable pub log-triggerM : (f x : List ℕ) → (i : ℕ) → Truth → Machine → Machine
-log-triggerM f x i t m = logM (saying 10 (numberM t)) (Of i) (From (four f (word x i 6)) (four f (word x i 6 + 4))) NoChange m
+log-triggerM f x i t m = logM (saying 10 (numberM t)) (Of i) (From (four f (word x i 6)) (four f (word x i 6 + 4)))
+    NoChange m
 
 unfoldable pub offer-asM : (f x : List ℕ) → (i : ℕ) → Truth → Machine → Machine
 offer-asM f x i t m = admitM f x i t (log-triggerM f x i t m)

@@ -123,7 +123,8 @@ fn admit(
     t: Truth,
 ) -> State
     requires { ⌜ (i < 32) × Fits st (now q) (now a) (now r) (now u) ⌝ }
-    ensures { λ s. ⌜ Moves (admitM (was f) (was x) i t) st s (by q) (by a) (by r) (told (was f) (was u) (is u)) kept kept (by sequences) ⌝ }
+    ensures { λ s. ⌜ Moves (admitM (was f) (was x) i t) st s (by q) (by a) (by r) (told (was f) (was u) (is u)) kept kept
+        (by sequences) ⌝ }
 {
     match t {
         Truth::Yes => {
@@ -174,7 +175,8 @@ fn offer(
     m: Move,
 ) -> State
     requires { ⌜ (i < 32) × Fits st (now q) (now a) (now r) (now u) ⌝ }
-    ensures { λ s. ⌜ Moves (offerM (was f) (was x) m i) st s (by q) (by a) (by r) (told (was f) (was u) (is u)) (goes (was values) (was values)) kept (by sequences) ⌝ }
+    ensures { λ s. ⌜ Moves (offerM (was f) (was x) m i) st s (by q) (by a) (by r) (told (was f) (was u) (is u))
+        (goes (was values) (was values)) kept (by sequences) ⌝ }
 {
     if engine_evaluate::any_matches(f, rule_word(x, i, 3), m) {
         let judged = engine_evaluate::evaluate_all(f, x, values, st.now, rule_word(x, i, 4));
@@ -199,7 +201,8 @@ pub fn trigger(
     m: Move,
 ) -> State
     requires { ⌜ Fits st (now q) (now a) (now r) (now u) ⌝ }
-    ensures { λ s. ⌜ Moves (triggerM (was f) (was x) m) st s (by q) (by a) (by r) (told (was f) (was u) (is u)) (goes (was values) (was values)) kept (by sequences) ⌝ }
+    ensures { λ s. ⌜ Moves (triggerM (was f) (was x) m) st s (by q) (by a) (by r) (told (was f) (was u) (is u))
+        (goes (was values) (was values)) kept (by sequences) ⌝ }
 {
     let n = engine_fields::at_most(x[1], 32);
     let mut s = wake(f, q, r, st, m);

@@ -8,7 +8,22 @@ use borrow.Author.Tests.{le-ltb}
 use Rattle.engine_spec.proofs.Bounds.{length-each}
 use Rattle.texts.specs.Lists.{each, flat}
 use Rattle.texts.specs.Texts.{Text, text, insertT, sortedT}
-use Rattle.model_spec.specs.Model.{Effect, toggle, delay, condition, choose, wait, Source, Actions, done, act, Branches, no-branch, branch, Automation}
+use Rattle.model_spec.specs.Model.{
+  Effect,
+  toggle,
+  delay,
+  condition,
+  choose,
+  wait,
+  Source,
+  Actions,
+  done,
+  act,
+  Branches,
+  no-branch,
+  branch,
+  Automation,
+}
 use Rattle.model_spec.specs.Notes.{of-predicate, of-trigger, of-effect, of-actions, of-branches, of-rule}
 use Rattle.engine_spec.specs.Unsupported.{effect-reasons, action-reasons, branch-reasons, rule-reasons}
 use Rattle.reasons.specs.Lists.{insertAll}
@@ -64,8 +79,10 @@ mutual
   many-branches : (b : Branches) → length (branch-reasons b) ≡ length (of-branches b)
   many-branches no-branch = refl
   many-branches (branch ps a bs) =
-      both (flat of-predicate ps ++ action-reasons a) (branch-reasons bs) (flat of-predicate ps ++ of-actions a) (of-branches bs)
-      (both (flat of-predicate ps) (action-reasons a) (flat of-predicate ps) (of-actions a) refl (many-actions a)) (many-branches bs)
+      both (flat of-predicate ps ++ action-reasons a) (branch-reasons bs) (flat of-predicate ps ++ of-actions a)
+      (of-branches bs)
+      (both (flat of-predicate ps) (action-reasons a) (flat of-predicate ps) (of-actions a) refl (many-actions a))
+      (many-branches bs)
 
 many-rule : (r : Automation) → length (rule-reasons r) ≡ length (of-rule r)
 unfolding rule-reasons of-rule

@@ -17,8 +17,38 @@ use Rattle.engine_fields.specs.Fields.{word, rules, atMost, textPosition}
 use Rattle.engine_fields.proofs.Readable.{position-stands}
 use Rattle.engine_unsupported.specs.declared.Head.{Head}
 use Rattle.engine_notes.specs.declared.Part.the-variants as part
-use Rattle.engine_notes.specs.Listing.{After, after, Listing, _⨾_, read, by, stay, skipM, timesM, insertM, triggerM, predicateM, partsM}
-use Rattle.engine_unsupported.specs.Listing.{sourceNote, no-head, headOf, sourceM, unknownM, waitM, simpleM, choiceM, effectM, actionM, actionsM, ownM, ruleM, rulesM, unsupportedM}
+use Rattle.engine_notes.specs.Listing.{
+  After,
+  after,
+  Listing,
+  _⨾_,
+  read,
+  by,
+  stay,
+  skipM,
+  timesM,
+  insertM,
+  triggerM,
+  predicateM,
+  partsM,
+}
+use Rattle.engine_unsupported.specs.Listing.{
+  sourceNote,
+  no-head,
+  headOf,
+  sourceM,
+  unknownM,
+  waitM,
+  simpleM,
+  choiceM,
+  effectM,
+  actionM,
+  actionsM,
+  ownM,
+  ruleM,
+  rulesM,
+  unsupportedM,
+}
 
 -- ---- one listing after the other
 
@@ -47,7 +77,8 @@ source-is f l c m a e = rw e
 
 pub source-readable : {f : List ℕ} {r : Reason} (l c m : ℕ) → r ≡ sourceNote f l c m → HasText f → Readable f r
 unfolding sourceNote
-source-readable {f} l c m e h = rw e (record { known = omega arith; first = refl; second = position-stands f h m; line = tt; column = tt })
+source-readable {f} l c m e h =
+    rw e (record { known = omega arith; first = refl; second = position-stands f h m; line = tt; column = tt })
 
 module _ (f : List ℕ) (p : ℕ) (l : List Text) where
   pub source-put : (a c m : ℕ) {r : Reason} {t : List Text} → r ≡ sourceNote f a c m → t ≡ insertM (render f r) l →
@@ -109,7 +140,8 @@ module _ (f : List ℕ) (p : ℕ) (l : List Text) where
   actions-more (suc left) h = rw (sub-one (suc left))
 
 pub head-is : (f : List ℕ) (p : ℕ) →
-    headOf f p ≡ read u32 (no-head p) (λ l q. read u32 (no-head p) (λ c t. read u8 (no-head p) (λ k o. record { line = l; column = c; kind = k; next = o }) f t) f q) f p
+    headOf f p ≡ read u32 (no-head p) (λ l q. read u32 (no-head p)
+    (λ c t. read u8 (no-head p) (λ k o. record { line = l; column = c; kind = k; next = o }) f t) f q) f p
 unfolding headOf
 head-is f p = refl
 

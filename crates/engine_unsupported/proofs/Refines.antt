@@ -8,7 +8,25 @@ use Rattle.texts.specs.Lists.{each, flat}
 use Rattle.texts.specs.Texts.{Text, text, decimal}
 use Rattle.texts.specs.Places.{textAt, startFrom}
 use Rattle.model_spec.specs.Model.{Source, Trigger, Effect, Actions, Branches, Automation, Model}
-use Rattle.model_spec.specs.File.{got, Reader, refuse, u8, u16, u32, counted, flag, source, place, predicate, trigger, branches, effect-kinds, effect, actions-of, actions}
+use Rattle.model_spec.specs.File.{
+  got,
+  Reader,
+  refuse,
+  u8,
+  u16,
+  u32,
+  counted,
+  flag,
+  source,
+  place,
+  predicate,
+  trigger,
+  branches,
+  effect-kinds,
+  effect,
+  actions-of,
+  actions,
+}
 use Rattle.model_spec.specs.Notes.{of-predicate, of-trigger, of-invariant, of-rule, notes-of}
 use Rattle.model_walk.specs.Walk.{found}
 use Rattle.model_walk.specs.declared.Num.the-variants as num
@@ -25,11 +43,55 @@ use Rattle.engine_fields.proofs.Laws.{most-yes}
 use Rattle.engine_unsupported.specs.Rows.{RuleAt, RulesAt}
 use Rattle.engine_unsupported.specs.declared.Head.{Head}
 use Rattle.engine_notes.specs.declared.Part.the-variants as part
-use Rattle.engine_notes.specs.Listing.{After, after, Listing, _⨾_, read, stay, skipM, timesM, insertM, triggerM, predicateM, partsM}
-use Rattle.engine_unsupported.specs.Listing.{sourceNote, headOf, sourceM, unknownM, waitM, branchM, effectM, actionM, actionsM, ownM, ruleM, rulesM, unsupportedM}
+use Rattle.engine_notes.specs.Listing.{
+  After,
+  after,
+  Listing,
+  _⨾_,
+  read,
+  stay,
+  skipM,
+  timesM,
+  insertM,
+  triggerM,
+  predicateM,
+  partsM,
+}
+use Rattle.engine_unsupported.specs.Listing.{
+  sourceNote,
+  headOf,
+  sourceM,
+  unknownM,
+  waitM,
+  branchM,
+  effectM,
+  actionM,
+  actionsM,
+  ownM,
+  ruleM,
+  rulesM,
+  unsupportedM,
+}
 use Rattle.engine_notes.proofs.Laws as notes
 use Rattle.engine_notes.proofs.Adding.{addAll, add-both, each-both}
-use Rattle.engine_notes.proofs.Refines.{by-got, next, skips, after-same, Adds, Renders, nothing, position-text, plain-note, id-note, place-wide, trigger-agrees, predicate-agrees, notes-agree, triggers-agree, predicates-agree}
+use Rattle.engine_notes.proofs.Refines.{
+  by-got,
+  next,
+  skips,
+  after-same,
+  Adds,
+  Renders,
+  nothing,
+  position-text,
+  plain-note,
+  id-note,
+  place-wide,
+  trigger-agrees,
+  predicate-agrees,
+  notes-agree,
+  triggers-agree,
+  predicates-agree,
+}
 use Rattle.engine_unsupported.proofs.Laws as laws
 use Rattle.engine_unsupported.proofs.Adding.{add-sorted, each-same, many-rules}
 
@@ -43,7 +105,8 @@ unfolding words
 source-words = refl
 
 -- the file f, with the texts ts
-module _ (f : List ℕ) (ts : List Text) (size : length f ≤ 32768) (few : length ts ≤ 65535) (counted-as : text-count f ≡ length ts)
+module _ (f : List ℕ) (ts : List Text) (size : length f ≤ 32768) (few : length ts ≤ 65535)
+    (counted-as : text-count f ≡ length ts)
     (text-at : (k : ℕ) → k < length ts → textAt f (startFrom f 6 k) ≡ getD ts k []) where
   placed-is : (s : Source) → reasons.placed (s .line) (s .column) ≡ placed s
   unfolding reasons.placed placed
@@ -52,7 +115,11 @@ module _ (f : List ℕ) (ts : List Text) (size : length f ≤ 32768) (few : leng
   source-text : (s : Source) (m : ℕ) → m < length ts →
       render f (sourceNote f (s .line) (s .column) m) ≡ reasons.placed (s .line) (s .column) ++ (text ": " ++ getD ts m [])
   unfolding sourceNote render body
-  source-text s m h = rw (nothing f ts size few counted-as text-at, source-words, position-text f ts size few counted-as text-at m h)
+  source-text s m h = rw (
+    nothing f ts size few counted-as text-at,
+    source-words,
+    position-text f ts size few counted-as text-at m h,
+  )
 
   source-note : (s : Source) (m : ℕ) → m < length ts →
       render f (sourceNote f (s .line) (s .column) m) ≡ placed s ++ text ": " ++ getD ts m []
@@ -85,7 +152,8 @@ module _ (f : List ℕ) (ts : List Text) (size : length f ≤ 32768) (few : leng
 
   predicate-plain : Adds f (predicate ts) of-predicate (predicateM 65535)
   predicate-plain p l a q e =
-      predicate-agrees f ts size few counted-as text-at 65535 same-text (plain-note f ts size few counted-as text-at) p l a q e
+      predicate-agrees f ts size few counted-as text-at 65535 same-text (plain-note f ts size few counted-as text-at)
+      p l a q e
       ∙ after-same q (ap (λ (y : List Text). addAll y l) (each-same (of-predicate a)))
 
   wait-agrees : (p : ℕ) (l : List Text) {t : Trigger} {o q : ℕ} → trigger ts f p ≡ got t o → Wide 5 f o q →
@@ -101,7 +169,9 @@ module _ (f : List ℕ) (ts : List Text) (size : length f ≤ 32768) (few : leng
   unknown-agrees s p l t q e =
       let a = place-found ts e in
       by-got f p l u16 (sourceM (s .line) (s .column)) (a .is-place)
-      ∙ after-same q (ap (λ (y : Text). insertM y l) (source-note s (a .at) (a .is-in) ∙ ap (λ (y : Text). placed s ++ text ": " ++ y) (sym (a .is-text))))
+      ∙ after-same q
+      (ap (λ (y : Text). insertM y l) (source-note s (a .at) (a .is-in)
+      ∙ ap (λ (y : Text). placed s ++ text ": " ++ y) (sym (a .is-text))))
 
   module _ (inner : Reader Actions) (lst : Listing) (ih : Adds f inner action-reasons lst) where
     branches-agree : (i : ℕ) → Adds f (branches ts inner i) branch-reasons (timesM i (branchM lst))
@@ -117,7 +187,8 @@ module _ (f : List ℕ) (ts : List Text) (size : length f ≤ 32768) (few : leng
         let ps = flat of-predicate (c .value) in
         let as′ = action-reasons (a .value) in
         next f p l (branchM lst) (timesM i (branchM lst)) {t = addAll (ps ++ as′) l}
-        (next f p l (partsM part.Predicate 65535) lst (predicates-agree f ts size few counted-as text-at 65535 same-text (plain-note f ts size few counted-as text-at) p l (c .value) (c .next) (c .first))
+        (next f p l (partsM part.Predicate 65535) lst (predicates-agree f ts size few counted-as text-at 65535 same-text
+        (plain-note f ts size few counted-as text-at) p l (c .value) (c .next) (c .first))
         ∙ ih (c .next) (addAll (each same-text ps) l) (a .value) (a .next) (a .first)
         ∙ after-same (a .next) (ap (λ (y : List Text). addAll as′ (addAll y l)) (each-same ps) ∙ add-both ps as′ l))
         ∙ branches-agree i (a .next) (addAll (ps ++ as′) l) (r .value) q (r .first ∙ ap (got (r .value)) (z .1))
@@ -154,7 +225,8 @@ module _ (f : List ℕ) (ts : List Text) (size : length f ≤ 32768) (few : leng
             let v = bound (place ts) _ (x .rest) in
             let z = given _ _ _ (v .rest) in
             four 0 (λ y. omega arith) (λ y. omega arith) (λ y. omega arith) (λ y. omega arith) (λ y. omega arith)
-            (wide-sum (place-wide f ts size few counted-as text-at w (x .first)) (place-wide f ts size few counted-as text-at (x .next) (v .first ∙ ap (got (v .value)) (z .1))))
+            (wide-sum (place-wide f ts size few counted-as text-at w (x .first))
+            (place-wide f ts size few counted-as text-at (x .next) (v .first ∙ ap (got (v .value)) (z .1))))
             ∙ same (z .0)
         cases (suc zero) g =
             let x = bound (place ts) _ g in
@@ -183,7 +255,8 @@ module _ (f : List ℕ) (ts : List Text) (size : length f ≤ 32768) (few : leng
             let z = given _ _ _ (a .rest) in
             laws.effect-choice f w l (h 4) lst refl
             ∙ by-got f w l u16 (λ c. timesM c (branchM lst) ⨾ lst) (c .first)
-            ∙ next f (c .next) l (timesM (c .value) (branchM lst)) lst (branches-agree (c .value) (c .next) l (b .value) (b .next) (b .first))
+            ∙ next f (c .next) l (timesM (c .value) (branchM lst)) lst
+            (branches-agree (c .value) (c .next) l (b .value) (b .next) (b .first))
             ∙ ih (b .next) (addAll (branch-reasons (b .value)) l) (a .value) q (a .first ∙ ap (got (a .value)) (z .1))
             ∙ after-same q (add-both (branch-reasons (b .value)) (action-reasons (a .value)) l)
             ∙ same (z .0)
@@ -194,7 +267,8 @@ module _ (f : List ℕ) (ts : List Text) (size : length f ≤ 32768) (few : leng
             let z = given _ _ _ (c .rest) in
             laws.effect-simple f w l (h 5) lst (λ y. omega arith)
             ∙ laws.simple-5 f w l (h 5) refl
-            ∙ wait-agrees w l (t .first) (wide-sum (u32-wide f (t .next) (m .first)) (kind-wide 2 flag sees-flag (c .first ∙ ap (got (c .value)) (z .1))))
+            ∙ wait-agrees w l (t .first) (wide-sum (u32-wide f (t .next) (m .first))
+            (kind-wide 2 flag sees-flag (c .first ∙ ap (got (c .value)) (z .1))))
             ∙ same (z .0)
         cases (suc (suc (suc (suc (suc (suc zero)))))) g =
             let x = bound (place ts) _ g in
@@ -216,7 +290,8 @@ module _ (f : List ℕ) (ts : List Text) (size : length f ≤ 32768) (few : leng
         let r = bound (actions-of ts inner i) _ (x .rest) in
         let z = given _ _ _ (r .rest) in
         next f p l (actionM lst) (timesM i (actionM lst)) (action-agrees p l (c .first) (x .first))
-        ∙ list-agrees i (x .next) (addAll (effect-reasons (x .value) (c .value)) l) (r .value) q (r .first ∙ ap (got (r .value)) (z .1))
+        ∙ list-agrees i (x .next) (addAll (effect-reasons (x .value) (c .value)) l) (r .value) q
+        (r .first ∙ ap (got (r .value)) (z .1))
         ∙ after-same q (add-both (effect-reasons (x .value) (c .value)) (action-reasons (r .value)) l)
         ∙ ap (λ (y : Actions). after q (addAll (action-reasons y) l)) (z .0)
 
@@ -230,7 +305,8 @@ module _ (f : List ℕ) (ts : List Text) (size : length f ≤ 32768) (few : leng
 
   -- ---- automations
   abbrev own-reasons : Automation → List Text
-  own-reasons r = each (λ t. r .id ++ text ": " ++ t) (r .notes ++ flat of-trigger (r .triggers) ++ flat of-predicate (r .conditions))
+  own-reasons r = each (λ t. r .id ++ text ": " ++ t)
+      (r .notes ++ flat of-trigger (r .triggers) ++ flat of-predicate (r .conditions))
 
   module _ (x : List ℕ) where
     own-agrees : (i : ℕ) (r : Automation) (l : List Text) → RuleAt f x ts i r →
@@ -239,15 +315,21 @@ module _ (f : List ℕ) (ts : List Text) (size : length f ≤ 32768) (few : leng
     own-agrees i r l a =
         let v = word x i 0 in
         let g : Text → Text = λ t. r .id ++ text ": " ++ t in
-        let is : Renders f ts v g = λ m h. id-note f ts size few counted-as text-at v m (a .id-in) h ∙ ap (λ (y : Text). y ++ text ": " ++ getD ts m []) (sym (a .id)) in
+        let is : Renders f ts v g = λ m h. id-note f ts size few counted-as text-at v m (a .id-in) h
+        ∙ ap (λ (y : Text). y ++ text ": " ++ getD ts m []) (sym (a .id)) in
         let n = r .notes in
         let t = flat of-trigger (r .triggers) in
         let c = flat of-predicate (r .conditions) in
         let l₁ = addAll (each g n) l in
         let l₂ = addAll (each g t) l₁ in
-        ap (λ (y : After). partsM part.Predicate v f (word x i 4) (partsM part.Trigger v f (word x i 3) (y .list) .list) .list) (notes-agree f ts size few counted-as text-at v g is (word x i 7) l n (a .notes .0) (a .notes .1))
-        ∙ ap (λ (y : After). partsM part.Predicate v f (word x i 4) (y .list) .list) (triggers-agree f ts size few counted-as text-at v g is (word x i 3) l₁ (r .triggers) (a .triggers .0) (a .triggers .1))
-        ∙ ap (λ (y : After). y .list) (predicates-agree f ts size few counted-as text-at v g is (word x i 4) l₂ (r .conditions) (a .conditions .0) (a .conditions .1))
+        ap (λ (y : After). partsM part.Predicate v f (word x i 4)
+        (partsM part.Trigger v f (word x i 3) (y .list) .list) .list)
+        (notes-agree f ts size few counted-as text-at v g is (word x i 7) l n (a .notes .0) (a .notes .1))
+        ∙ ap (λ (y : After). partsM part.Predicate v f (word x i 4) (y .list) .list)
+        (triggers-agree f ts size few counted-as text-at v g is (word x i 3) l₁ (r .triggers) (a .triggers .0)
+        (a .triggers .1))
+        ∙ ap (λ (y : After). y .list) (predicates-agree f ts size few counted-as text-at v g is (word x i 4) l₂
+        (r .conditions) (a .conditions .0) (a .conditions .1))
         ∙ ap (addAll (each g c)) (add-both (each g n) (each g t) l ∙ ap (λ (y : List Text). addAll y l) (each-both g n t))
         ∙ add-both (each g (n ++ t)) (each g c) l
         ∙ ap (λ (y : List Text). addAll y l) (each-both g (n ++ t) c)
@@ -256,7 +338,8 @@ module _ (f : List ℕ) (ts : List Text) (size : length f ≤ 32768) (few : leng
     unfolding ruleM rule-reasons
     rule-agrees i r l a =
         ap (λ (y : List Text). actionsM 18 f (word x i 5) y .list) (own-agrees i r l a)
-        ∙ ap (λ (y : After). y .list) (actions-agree 18 (word x i 5) (addAll (own-reasons r) l) (r .actions) (a .actions .0) (a .actions .1))
+        ∙ ap (λ (y : After). y .list) (actions-agree 18 (word x i 5) (addAll (own-reasons r) l) (r .actions) (a .actions .0)
+        (a .actions .1))
         ∙ add-both (own-reasons r) (action-reasons (r .actions)) l
 
     rules-agree : (rs : List Automation) (i : ℕ) (l : List Text) →
@@ -266,8 +349,11 @@ module _ (f : List ℕ) (ts : List Text) (size : length f ≤ 32768) (few : leng
     rules-agree [] i l a = refl
     rules-agree (r ∷ rs) i l a =
         let z : i + 0 ≡ i = omega arith in
-        ap (rulesM f x (length rs) (i + 1)) (rule-agrees i r l (subst (λ (k : ℕ). RuleAt f x ts k r) z (a r 0 (omega arith))))
-        ∙ rules-agree rs (i + 1) (addAll (rule-reasons r) l) (λ d j h. let s : i + suc j ≡ i + 1 + j = omega arith in subst (λ (k : ℕ). RuleAt f x ts k (getD rs j d)) s (a d (suc j) (omega arith)))
+        ap (rulesM f x (length rs) (i + 1)) (rule-agrees i r l
+        (subst (λ (k : ℕ). RuleAt f x ts k r) z (a r 0 (omega arith))))
+        ∙ rules-agree rs (i + 1) (addAll (rule-reasons r) l)
+        (λ d j h. let s : i + suc j ≡ i + 1 + j = omega arith in
+        subst (λ (k : ℕ). RuleAt f x ts k (getD rs j d)) s (a d (suc j) (omega arith)))
         ∙ add-both (rule-reasons r) (flat rule-reasons rs) l
 
 -- ---- the whole list
@@ -278,9 +364,12 @@ pub unsupported-agrees : {f x : List ℕ} {ts : List Text} (m : Model) → Rules
 unfolding unsupportedM rules unsupported notes-of
 unsupported-agrees {f} {x} {ts} m a h =
     let rs = m .rules in
-    ap (λ (n : ℕ). rulesM f x n 0 []) (ap (λ (n : ℕ). atMost n 32) (a .automations) ∙ sym (most-yes (length rs) 32 (a .few-automations)))
-    ∙ rules-agree f ts (a .size) (a .few-texts) (a .counted) (a .text-at) x rs 0 [] (λ d j k. let z : j ≡ 0 + j = omega arith in subst (λ (n : ℕ). RuleAt f x ts n (getD rs j d)) z (a .rows d j k))
-    ∙ add-sorted (flat rule-reasons rs) (omega (arith, many-rules rs, length-append (flat of-invariant (m .scenario .invariants)) (flat of-rule rs)))
+    ap (λ (n : ℕ). rulesM f x n 0 []) (ap (λ (n : ℕ). atMost n 32) (a .automations)
+    ∙ sym (most-yes (length rs) 32 (a .few-automations)))
+    ∙ rules-agree f ts (a .size) (a .few-texts) (a .counted) (a .text-at) x rs 0 []
+    (λ d j k. let z : j ≡ 0 + j = omega arith in subst (λ (n : ℕ). RuleAt f x ts n (getD rs j d)) z (a .rows d j k))
+    ∙ add-sorted (flat rule-reasons rs)
+    (omega (arith, many-rules rs, length-append (flat of-invariant (m .scenario .invariants)) (flat of-rule rs)))
 
 -- the notes of one automation
 pub alone-agrees : {f x : List ℕ} {ts : List Text} → length f ≤ 32768 → length ts ≤ 65535 → text-count f ≡ length ts →

@@ -13,7 +13,20 @@ use Rattle.reasons.specs.Reasons.{render}
 use Rattle.engine_fields.specs.Fields.{word, rules, textPosition}
 use Rattle.engine_unsupported.specs.declared.Head.{Head}
 use Rattle.engine_notes.specs.declared.Part.the-variants as part
-use Rattle.engine_notes.specs.Listing.{after, Listing, _⨾_, read, by, stay, skipM, timesM, insertM, triggerM, predicateM, partsM}
+use Rattle.engine_notes.specs.Listing.{
+  after,
+  Listing,
+  _⨾_,
+  read,
+  by,
+  stay,
+  skipM,
+  timesM,
+  insertM,
+  triggerM,
+  predicateM,
+  partsM,
+}
 
 -- ---- actions
 
@@ -23,7 +36,8 @@ no-head p = record { line = 0; column = 0; kind = 0; next = p }
 -- an action's source and its kind
 unfoldable pub headOf : List ℕ → ℕ → Head
 headOf f p =
-    read u32 (no-head p) (λ l q. read u32 (no-head p) (λ c t. read u8 (no-head p) (λ k o. record { line = l; column = c; kind = k; next = o }) f t) f q) f p
+    read u32 (no-head p) (λ l q. read u32 (no-head p)
+    (λ c t. read u8 (no-head p) (λ k o. record { line = l; column = c; kind = k; next = o }) f t) f q) f p
 
 unfoldable pub sourceNote : List ℕ → (line column note : ℕ) → Reason
 sourceNote f l c m = record { kind = kinds.source-note; first = 4294967295; second = textPosition f m; line = l; column = c }

@@ -1,5 +1,6 @@
 // The notes of the automations as reasons, sorted as they are rendered, each once. The file was read before, so that what
-// is looked for is there; a part that is not there is passed over. A file holds at most 64 notes: the area has place for 300.
+// is looked for is there; a part that is not there is passed over. A file holds at most 64 notes: the area has place for
+// 300.
 use engine_notes::Noted;
 use engine_notes::Part;
 use model_walk::Num;
@@ -10,7 +11,19 @@ ghost use Prim.Native.Nat.{ℕ, _≤_, _<_};
 ghost use lib.ListN.{length, getD};
 ghost use Rattle.reasons.specs.Lists.{Holds};
 ghost use Rattle.engine_notes.specs.Listing.{Lists, Makes};
-ghost use Rattle.engine_unsupported.specs.Listing.{sourceNote, headOf, unknownM, waitM, simpleM, actionM, choiceM, actionsM, ownM, ruleM, unsupportedM};
+ghost use Rattle.engine_unsupported.specs.Listing.{
+  sourceNote,
+  headOf,
+  unknownM,
+  waitM,
+  simpleM,
+  actionM,
+  choiceM,
+  actionsM,
+  ownM,
+  ruleM,
+  unsupportedM,
+};
 
 // What stands before an action's effect.
 pub struct Head {

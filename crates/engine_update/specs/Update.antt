@@ -16,7 +16,8 @@ use Rattle.engine_state.specs.declared.Setting.{Setting}
 
 -- the value is stale a second after its time, if it isn't written again
 unfoldable pub expiryM : List ℕ → (e : ℕ) → Machine → Machine
-expiryM x e m = if eqb (stale x e) 4294967295 then m else addM (later (later (m .now) (stale x e)) 1) (Stale (name x e) (getD (m .versions) e 0)) m
+expiryM x e m = if eqb (stale x e) 4294967295 then m
+    else addM (later (later (m .now) (stale x e)) 1) (Stale (name x e) (getD (m .versions) e 0)) m
 
 unfoldable pub changedM : Move → Machine → Machine
 changedM v m = if eqb (v .from) (v .to) then m else addM (m .now) (Changed (v .entity) (v .from) (v .to)) m
@@ -32,10 +33,12 @@ move e f t = record { entity = e; from = f; to = t }
 
 -- the write of the e-th entity, whose value was `old`
 unfoldable pub writeM : List ℕ → Setting → (e old : ℕ) → Cells → Machine → Machine
-writeM x w e old c m = changedM (move (w .entity) old (w .value)) (log-writeM w (move (w .entity) old (w .value)) (expiryM x e (put-cells c m)))
+writeM x w e old c m = changedM (move (w .entity) old (w .value))
+    (log-writeM w (move (w .entity) old (w .value)) (expiryM x e (put-cells c m)))
 
 unfoldable pub update-atM : List ℕ → Setting → (e : ℕ) → Machine → Machine
-update-atM x w e m = if ltb 31 e then m else writeM x w e (getD (m .values) e 0) (raisedM (storedM (cells m) e (w .value)) e) m
+update-atM x w e m = if ltb 31 e then m else writeM x w e (getD (m .values) e 0) (raisedM (storedM (cells m) e (w .value)) e)
+    m
 
 unfoldable pub updateM : List ℕ → Setting → Machine → Machine
 updateM x w m = update-atM x w (entityOf x (w .entity)) m

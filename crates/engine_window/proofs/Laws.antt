@@ -29,7 +29,8 @@ module _ (d e w s : ℕ) where
       → r ≡ (marked d (day-before w) && ltb s e)
   unfolding day-before
   tail-before n r h en er =
-      er ∙ ap (marked d) en ∙ sym (ap (λ (b : Bool). marked d (day-before w) && b) (lt-ltb s e h) ∙ and-true (marked d (day-before w)))
+      er ∙ ap (marked d) en ∙ sym (ap (λ (b : Bool). marked d (day-before w) && b) (lt-ltb s e h)
+      ∙ and-true (marked d (day-before w)))
 
   pub tail-over : e ≤ s → false ≡ (marked d (day-before w) && ltb s e)
   tail-over h = sym (ap (λ (b : Bool). marked d (day-before w) && b) (le-ltb s e h) ∙ and-false (marked d (day-before w)))
@@ -70,7 +71,8 @@ module _ (d b e w s : ℕ) where
     pub night-early : (r : Bool) → s < b → r ≡ (marked d (day-before w) && ltb s e) → r ≡ is-open d b e at
     unfolding is-open
     night-early r k er =
-        er ∙ sym (rw (le-ltb b e h, lt-leb b s k) (ap (λ (y : Bool). y || (marked d (day-before w) && ltb s e)) (and-false (marked d w))))
+        er ∙ sym (rw (le-ltb b e h, lt-leb b s k) (ap (λ (y : Bool). y || (marked d (day-before w) && ltb s e))
+        (and-false (marked d w))))
 
     pub night-open : (r : Bool) → b ≤ s → r ≡ marked d w → r ≡ true → true ≡ is-open d b e at
     unfolding is-open
@@ -90,7 +92,8 @@ module _ (w s n : ℕ) where
   unfolding moment-after
   second-is = refl
 
-pub open-is : (f x : List ℕ) (n at d b e w s : ℕ) (r : Bool) → d ≡ getD f (at + 1) 0 → b ≡ four f (at + 2) → e ≡ four f (at + 6)
+pub open-is : (f x : List ℕ) (n at d b e w s : ℕ) (r : Bool) → d ≡ getD f (at + 1) 0 → b ≡ four f (at + 2) →
+    e ≡ four f (at + 6)
     → w ≡ moment-after (startM x) n .weekday → s ≡ moment-after (startM x) n .second
     → r ≡ is-open d b e (record { weekday = w; second = s }) → r ≡ openM f x n at
 unfolding openM

@@ -5,7 +5,26 @@ use mathlib.Core.List.{List, [], _∷_}
 use mathlib.Core.Option.{Option, none, some}
 use Rattle.texts.specs.Texts.{Text, text}
 use Rattle.model_spec.specs.Answer.{Answer, answer, refused, Verdict, accept, _>>=_}
-use Rattle.model_spec.specs.Model.{Source, Entity, comfort, Predicate, state, single, toggle, done, act, Automation, Input, reload, Event, Invariant, never, response, Model, midnight}
+use Rattle.model_spec.specs.Model.{
+  Source,
+  Entity,
+  comfort,
+  Predicate,
+  state,
+  single,
+  toggle,
+  done,
+  act,
+  Automation,
+  Input,
+  reload,
+  Event,
+  Invariant,
+  never,
+  response,
+  Model,
+  midnight,
+}
 use Rattle.model_spec.specs.Validate.{accepted}
 use Rattle.engine_spec.specs.Cells.{Cell, initial-cells}
 use Rattle.engine_spec.specs.Kleene.{Yes, No, Unknown}
@@ -169,10 +188,12 @@ pub record Table : Type 0 where
       × (search (searched (Input.set (text "lamp") (text "on") ∷ reload ∷ []))
       ≡ answer (no-counterexample-within-bounds, (7, [])))
   -- a record area of no entries
-  pub no-records : simulated (record { queue = 100; records = 0; runs = 100 }) (fading 0) (cells-of (fading 0)) [] ≡ refused 42
+  pub no-records : simulated (record { queue = 100; records = 0; runs = 100 }) (fading 0) (cells-of (fading 0)) []
+      ≡ refused 42
 
 pub examples : Table
-unfolding all-verify files.all-files lamp-with model-with model turn lamp-is at room cells-of final records status violations search verdict fading told told-of lamp-from place dim-toggled dimmed searched
+unfolding all-verify files.all-files lamp-with model-with model turn lamp-is at room cells-of final records status violations
+    search verdict fading told told-of lamp-from place dim-toggled dimmed searched
 examples = record {
   p1 = λ l. refl;
   p2 = refl;

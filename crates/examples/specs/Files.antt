@@ -6,7 +6,8 @@ use Rattle.texts.specs.Texts.{text}
 -- version 1; the texts `lamp`, `off`, `on`, `unavailable`, `unknown`; the title `lamp`
 unfoldable pub head : List ℕ
 head =
-    1 ∷ 0 ∷ 0 ∷ 0 ∷ 5 ∷ 0 ∷ 4 ∷ text "lamp" ++ 3 ∷ text "off" ++ 2 ∷ text "on" ++ 11 ∷ text "unavailable" ++ 7 ∷ text "unknown" ++ 0 ∷ 0 ∷ []
+    1 ∷ 0 ∷ 0 ∷ 0 ∷ 5 ∷ 0 ∷ 4 ∷ text "lamp" ++ 3 ∷ text "off" ++ 2 ∷ text "on" ++ 11 ∷ text "unavailable" ++ 7 ∷ text
+    "unknown" ++ 0 ∷ 0 ∷ []
 
 -- one entity: lamp, with off and on, at first off, comfort, never stale
 unfoldable pub entities : List ℕ
@@ -38,7 +39,8 @@ nested (suc d) = 1 ∷ 0 ∷ source ++ 4 ∷ 0 ∷ 0 ∷ nested d
 -- one automation: lamp, single, max 1, triggered by any change of lamp, no condition, with these actions
 unfoldable pub rule-with : List ℕ → List ℕ
 rule-with actions =
-    1 ∷ 0 ∷ 0 ∷ 0 ∷ 0 ∷ 1 ∷ 0 ∷ 0 ∷ 0 ∷ 1 ∷ 0 ∷ 0 ∷ 0 ∷ 255 ∷ 255 ∷ 255 ∷ 255 ∷ source ++ 255 ∷ 255 ∷ 0 ∷ 0 ∷ actions ++ source ++ 0 ∷ 0 ∷ []
+    1 ∷ 0 ∷ 0 ∷ 0 ∷ 0 ∷ 1 ∷ 0 ∷ 0 ∷ 0 ∷ 1 ∷ 0 ∷ 0 ∷ 0 ∷ 255 ∷ 255 ∷ 255 ∷ 255 ∷ source ++ 255 ∷ 255 ∷ 0 ∷ 0 ∷ actions ++
+    source ++ 0 ∷ 0 ∷ []
 
 unfoldable pub file-with : (events rules : List ℕ) → List ℕ
 file-with events rules = head ++ entities ++ events ++ settings ++ rules

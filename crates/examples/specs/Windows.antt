@@ -314,7 +314,10 @@ pub record Table : Type 0 where
       (record { entity = text "lamp"; from = none; to = some (text "on"); source = examples.place 1; note = none }) ≡ false
 
 pub windows : Table
-unfolding all-verify files.all-files examples.lamp-with examples.model-with examples.model examples.turn lamp-is at examples.room examples.cells-of final verdict examples.place on-day night office truth-at off-if turn-off waiting at-night-off lamp ending zeros lampdoor one-condition ten-at-night six-in-the-morning a-day no-condition at-night evening room outcome unlocks reasons-if copies sized valid stating door-open empty contradictory clash mismatched
+unfolding all-verify files.all-files examples.lamp-with examples.model-with examples.model examples.turn lamp-is at
+    examples.room examples.cells-of final verdict examples.place on-day night office truth-at off-if turn-off waiting
+    at-night-off lamp ending zeros lampdoor one-condition ten-at-night six-in-the-morning a-day no-condition at-night evening
+    room outcome unlocks reasons-if copies sized valid stating door-open empty contradictory clash mismatched
 windows = record {
   day-start = (refl, refl);
   day-end = (refl, refl);

@@ -49,7 +49,8 @@ pub extern "C" fn fukhtsege_simulate(
     runs: &mut [u32],
     answer: &mut [u64],
 ) -> u32
-    ensures { λ n. ⌜ SimulatesC (was file) n (lent (was queue) (was records) (was runs)) (lent (is queue) (is records) (is runs)) (was answer) (is answer) ⌝ }
+    ensures { λ n. ⌜ SimulatesC (was file) n (lent (was queue) (was records) (was runs))
+        (lent (is queue) (is records) (is runs)) (was answer) (is answer) ⌝ }
 {
     if answer.len() < 1540 {
         return SHORT_ANSWER;
@@ -70,7 +71,8 @@ pub extern "C" fn fukhtsege_check(
     runs: &mut [u32],
     answer: &mut [u64],
 ) -> u32
-    ensures { λ n. ⌜ ChecksC (was file) n (lent (was queue) (was records) (was runs)) (lent (is queue) (is records) (is runs)) (was answer) (is answer) ⌝ }
+    ensures { λ n. ⌜ ChecksC (was file) n (lent (was queue) (was records) (was runs))
+        (lent (is queue) (is records) (is runs)) (was answer) (is answer) ⌝ }
 {
     if answer.len() < 4000 {
         return SHORT_ANSWER;
@@ -105,7 +107,8 @@ pub extern "C" fn fukhtsege_verify(
     output: &mut [u8],
     answer: &mut [u64],
 ) -> u32
-    ensures { λ n. ⌜ VerifiesC (was file) n (lent (was queue) (was records) (was runs)) (lent (is queue) (is records) (is runs)) (was output) (is output) (was answer) (is answer) ⌝ }
+    ensures { λ n. ⌜ VerifiesC (was file) n (lent (was queue) (was records) (was runs))
+        (lent (is queue) (is records) (is runs)) (was output) (is output) (was answer) (is answer) ⌝ }
 {
     if answer.len() < 6076 {
         return SHORT_ANSWER;
@@ -151,7 +154,8 @@ pub extern "C" fn fukhtsege_minimize(
     output: &mut [u8],
     answer: &mut [u64],
 ) -> u32
-    ensures { λ n. ⌜ MinimizesC (was file) n (lent (was queue) (was records) (was runs)) (lent (is queue) (is records) (is runs)) (was output) (is output) (was answer) (is answer) ⌝ }
+    ensures { λ n. ⌜ MinimizesC (was file) n (lent (was queue) (was records) (was runs))
+        (lent (is queue) (is records) (is runs)) (was output) (is output) (was answer) (is answer) ⌝ }
 {
     if answer.len() < 4408 {
         return SHORT_ANSWER;
@@ -170,7 +174,8 @@ pub extern "C" fn fukhtsege_lint(
     interactions: &mut [u32],
     answer: &mut [u64],
 ) -> u32
-    ensures { λ n. ⌜ LintsC (was file) n (lint.lent (was findings) (was interactions)) (lint.lent (is findings) (is interactions)) (was answer) (is answer) ⌝ }
+    ensures { λ n. ⌜ LintsC (was file) n (lint.lent (was findings) (was interactions))
+        (lint.lent (is findings) (is interactions)) (was answer) (is answer) ⌝ }
 {
     if answer.len() < 228 {
         return SHORT_ANSWER;

@@ -12,7 +12,22 @@ use Rattle.model_check.specs.Checks.{number-of}
 use Rattle.lint_walk.specs.declared.Walk.{Walk}
 use Rattle.lint_walk.specs.Raw.{byteM, placeM, past, predicateEnd, predicatesEnd, kindM, triggersM, conditionsM}
 use Rattle.lint_walk.specs.Walks.{walkBy, listEnd}
-use Rattle.lint_access.specs.Sets.{sectionBy, Adds, over, along, add-entityM, add-predicateM, add-predicatesM, add-triggerM, add-triggersM, add-branchesM, add-readsM, add-writeM, readsM, writesM}
+use Rattle.lint_access.specs.Sets.{
+  sectionBy,
+  Adds,
+  over,
+  along,
+  add-entityM,
+  add-predicateM,
+  add-predicatesM,
+  add-triggerM,
+  add-triggersM,
+  add-branchesM,
+  add-readsM,
+  add-writeM,
+  readsM,
+  writesM,
+}
 
 -- ---- loops
 
@@ -59,7 +74,8 @@ module _ (s : List ℕ) (e : Section) where
     entity-no h = rw (← g) (rw (le-ltb i (e .count) h))
 
   module _ (p set : ℕ) where
-    pub predicate-yes : {b q x : ℕ} → b ≡ byteM s p → b ≡ 0 → q ≡ past s p 1 → x ≡ placeM s q → add-entityM s e x set ≡ add-predicateM s e p set
+    pub predicate-yes : {b q x : ℕ} → b ≡ byteM s p → b ≡ 0 → q ≡ past s p 1 → x ≡ placeM s q →
+        add-entityM s e x set ≡ add-predicateM s e p set
     unfolding add-predicateM
     predicate-yes {b} d h i j = rw (← d) (rw (eq-eqb b 0 h) (rw (j, i)))
 
@@ -71,7 +87,8 @@ module _ (s : List ℕ) (e : Section) where
     unfolding add-predicatesM
     predicates-is = refl
 
-    pub trigger-yes : {q b x : ℕ} → q ≡ past s p 14 → b ≡ placeM s q → b ≡ 65535 → x ≡ placeM s p → add-entityM s e x set ≡ add-triggerM s e p set
+    pub trigger-yes : {q b x : ℕ} → q ≡ past s p 14 → b ≡ placeM s q → b ≡ 65535 → x ≡ placeM s p →
+        add-entityM s e x set ≡ add-triggerM s e p set
     unfolding add-triggerM
     trigger-yes {q} {b} i d h j = rw (← i) (rw (← d) (rw (eq-eqb b 65535 h) (rw j)))
 
@@ -83,7 +100,8 @@ module _ (s : List ℕ) (e : Section) where
     unfolding add-triggersM
     triggers-is = refl
 
-    pub branches-is : add-branchesM s e p set ≡ along (add-predicatesM s e) (λ q. listEnd s (predicatesEnd s q)) (placeM s p) (past s p 2) set
+    pub branches-is : add-branchesM s e p set ≡ along (add-predicatesM s e) (λ q. listEnd s (predicatesEnd s q)) (placeM s p)
+        (past s p 2) set
     unfolding add-branchesM
     branches-is = refl
 
@@ -96,7 +114,8 @@ module _ (s : List ℕ) (e : Section) where
       unfolding add-readsM
       reads-4 a h = rw (← d, ← i) (rw (ne-eqb k 3 a, eq-eqb k 4 h))
 
-      pub reads-5 : {x : ℕ} → (k ≡ 3 → ⊥) → (k ≡ 4 → ⊥) → k ≡ 5 → x ≡ placeM s q → add-entityM s e x set ≡ add-readsM s e p set
+      pub reads-5 : {x : ℕ} → (k ≡ 3 → ⊥) → (k ≡ 4 → ⊥) → k ≡ 5 → x ≡ placeM s q →
+          add-entityM s e x set ≡ add-readsM s e p set
       unfolding add-readsM
       reads-5 a b h j = rw (← d, ← i) (rw (ne-eqb k 3 a, ne-eqb k 4 b, eq-eqb k 5 h) (rw j))
 
@@ -104,7 +123,8 @@ module _ (s : List ℕ) (e : Section) where
       unfolding add-readsM
       reads-else a b h = rw (← d, ← i) (rw (ne-eqb k 3 a, ne-eqb k 4 b, ne-eqb k 5 h))
 
-    pub write-yes : {k q x : ℕ} → k ≡ kindM s p → k < 2 → q ≡ past s p 9 → x ≡ placeM s q → add-entityM s e x set ≡ add-writeM s e p set
+    pub write-yes : {k q x : ℕ} → k ≡ kindM s p → k < 2 → q ≡ past s p 9 → x ≡ placeM s q →
+        add-entityM s e x set ≡ add-writeM s e p set
     unfolding add-writeM
     write-yes {k} d h i j = rw (← d) (rw (lt-ltb k 2 h) (rw (j, i)))
 
@@ -116,15 +136,18 @@ module _ (s : List ℕ) (e : Section) where
   unfolding writesM
   writes-is w = refl
 
-  pub reads-is : (p : ℕ) (w : Walk) {q r x y : ℕ} → q ≡ triggersM s p → x ≡ add-triggersM s e q 0 → over (add-readsM s e) (w .list) (w .count) 0 x ≡ y → r ≡ conditionsM s p → add-predicatesM s e r y ≡ readsM s e p w
+  pub reads-is : (p : ℕ) (w : Walk) {q r x y : ℕ} → q ≡ triggersM s p → x ≡ add-triggersM s e q 0 →
+      over (add-readsM s e) (w .list) (w .count) 0 x ≡ y → r ≡ conditionsM s p → add-predicatesM s e r y ≡ readsM s e p w
   unfolding readsM
   reads-is p w a b c d = rw (d, ← c, b, a)
 
   -- positions and counts alone say what an automation reads and writes
-  pub reads-by : (p : ℕ) (w : Walk) {r : ℕ} → r ≡ readsM s (sectionBy (e .starts) (e .count)) p (walkBy (w .list) (w .count)) → r ≡ readsM s e p w
+  pub reads-by : (p : ℕ) (w : Walk) {r : ℕ} → r ≡ readsM s (sectionBy (e .starts) (e .count)) p
+      (walkBy (w .list) (w .count)) → r ≡ readsM s e p w
   unfolding readsM add-predicatesM add-triggersM add-branchesM add-readsM add-triggerM add-predicateM add-entityM
   reads-by p w h = h
 
-  pub writes-by : (w : Walk) {r : ℕ} → r ≡ writesM s (sectionBy (e .starts) (e .count)) (walkBy (w .list) (w .count)) → r ≡ writesM s e w
+  pub writes-by : (w : Walk) {r : ℕ} → r ≡ writesM s (sectionBy (e .starts) (e .count)) (walkBy (w .list) (w .count)) →
+      r ≡ writesM s e w
   unfolding writesM add-writeM add-entityM
   writes-by w h = h

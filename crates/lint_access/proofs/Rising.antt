@@ -7,7 +7,23 @@ use native.Mathlib.Omega.{arith}
 use lib.ListN.{length, getD}
 use Rattle.texts.specs.Lists.{any}
 use Rattle.texts.specs.Texts.{Text, eqT, ltT, memT, insertT, sortedT}
-use Rattle.texts.proofs.Ordering.{Before, Three, lt, eq, gt, three, trans, lt-yes, lt-no, eq-no, no-eq, eq-refl, not-both, eq-is, lt-is}
+use Rattle.texts.proofs.Ordering.{
+  Before,
+  Three,
+  lt,
+  eq,
+  gt,
+  three,
+  trans,
+  lt-yes,
+  lt-no,
+  eq-no,
+  no-eq,
+  eq-refl,
+  not-both,
+  eq-is,
+  lt-is,
+}
 use Rattle.model_spec.specs.File.{ascending}
 
 -- the text comes before each of the list
@@ -87,10 +103,12 @@ mem-insert t u (x ∷ l) = cases (three u x) (mem-insert t u l)
     twice true c = refl
     twice false c = refl
 
-    cases : Three u x → memT t (insertT u l) ≡ (eqT t u || memT t l) → memT t (insertT u (x ∷ l)) ≡ (eqT t u || memT t (x ∷ l))
+    cases : Three u x → memT t (insertT u l) ≡ (eqT t u || memT t l) →
+        memT t (insertT u (x ∷ l)) ≡ (eqT t u || memT t (x ∷ l))
     cases (lt r) ih = rw (eq-no r, lt-yes r) (mem-cons t u (x ∷ l))
     cases (eq r) ih = rw (r, eq-refl x) (rw (mem-cons t x l) (twice (eqT t x) (memT t l)))
-    cases (gt r) ih = rw (no-eq r, lt-no r) (mem-cons t x (insertT u l) ∙ ap (λ (b : Bool). eqT t x || b) ih ∙ swap (eqT t x) (eqT t u) (memT t l) ∙ ap (λ (b : Bool). eqT t u || b) (sym (mem-cons t x l)))
+    cases (gt r) ih = rw (no-eq r, lt-no r) (mem-cons t x (insertT u l) ∙ ap (λ (b : Bool). eqT t x || b) ih
+        ∙ swap (eqT t x) (eqT t u) (memT t l) ∙ ap (λ (b : Bool). eqT t u || b) (sym (mem-cons t x l)))
 
 pub mem-sorted : (t : Text) (l : List Text) → memT t (sortedT l) ≡ memT t l
 unfolding sortedT

@@ -1,9 +1,22 @@
-// What an automation reads and writes: sets of declared entities, by their number in the file. The positions of the model's `many` entities are lent.
+// What an automation reads and writes: sets of declared entities, by their number in the file. The positions of the model's
+// `many` entities are lent.
 ghost use Rattle.notation.specs.Reference.{was};
 ghost use mathlib.Core.Path.{_≡_};
 ghost use Prim.Native.Nat.{_≤_, _<_, _+_};
 ghost use Rattle.lint_walk.specs.Walks.{walkBy};
-ghost use Rattle.lint_access.specs.Sets.{sectionBy, add-entityM, add-predicateM, add-predicatesM, add-triggerM, add-triggersM, add-branchesM, add-readsM, add-writeM, readsM, writesM};
+ghost use Rattle.lint_access.specs.Sets.{
+  sectionBy,
+  add-entityM,
+  add-predicateM,
+  add-predicatesM,
+  add-triggerM,
+  add-triggersM,
+  add-branchesM,
+  add-readsM,
+  add-writeM,
+  readsM,
+  writesM,
+};
 
 // ---- one entity
 

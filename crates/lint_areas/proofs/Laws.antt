@@ -7,7 +7,19 @@ use lib.ListN.{length}
 use borrow.Author.Tests.{lt-ltb, le-ltb, eq-eqb, ne-eqb}
 use Rattle.areas.specs.Areas.{written}
 use Rattle.lint_areas.specs.declared.Out.{Out}
-use Rattle.lint_areas.specs.Areas.{Item, finding, interaction, Board, board, more-findings, more-interactions, refused, push, pushes, onlyIf}
+use Rattle.lint_areas.specs.Areas.{
+  Item,
+  finding,
+  interaction,
+  Board,
+  board,
+  more-findings,
+  more-interactions,
+  refused,
+  push,
+  pushes,
+  onlyIf,
+}
 
 pub pushes-append : (l m : List Item) (b : Board) → pushes (l ++ m) b ≡ pushes m (pushes l b)
 unfolding pushes
@@ -27,27 +39,36 @@ module _ (w : List ℕ) (f i : List ℕ) (o : Out) where
   unfolding pushes push
   finding-after h = rw (ne-eqb (o .refusal) 0 h)
 
-  pub finding-full : o .refusal ≡ 0 → length f / 14 ≤ o .findings → board f i (record { findings = o .findings; interactions = o .interactions; refusal = 45 }) ≡ pushes (finding w ∷ []) (board f i o)
+  pub finding-full : o .refusal ≡ 0 → length f / 14 ≤ o .findings →
+      board f i (record { findings = o .findings; interactions = o .interactions; refusal = 45 })
+      ≡ pushes (finding w ∷ []) (board f i o)
   unfolding pushes push refused
   finding-full h k = rw (eq-eqb (o .refusal) 0 h) (rw (le-ltb (o .findings) (length f / 14) k))
 
   pub finding-in : (a : List ℕ) → o .refusal ≡ 0 → o .findings < length f / 14 → a ≡ written f (o .findings * 14) w →
-      board a i (record { findings = o .findings + 1; interactions = o .interactions; refusal = 0 }) ≡ pushes (finding w ∷ []) (board f i o)
+      board a i (record { findings = o .findings + 1; interactions = o .interactions; refusal = 0 })
+      ≡ pushes (finding w ∷ []) (board f i o)
   unfolding pushes push more-findings
-  finding-in a h k e = rw (eq-eqb (o .refusal) 0 h) (rw (lt-ltb (o .findings) (length f / 14) k) (ap (λ (x : List ℕ). board x i (more-findings o)) e))
+  finding-in a h k e = rw (eq-eqb (o .refusal) 0 h)
+      (rw (lt-ltb (o .findings) (length f / 14) k) (ap (λ (x : List ℕ). board x i (more-findings o)) e))
 
   pub interaction-after : (o .refusal ≡ 0 → ⊥) → board f i o ≡ pushes (interaction w ∷ []) (board f i o)
   unfolding pushes push
   interaction-after h = rw (ne-eqb (o .refusal) 0 h)
 
-  pub interaction-full : o .refusal ≡ 0 → length i / 3 ≤ o .interactions → board f i (record { findings = o .findings; interactions = o .interactions; refusal = 46 }) ≡ pushes (interaction w ∷ []) (board f i o)
+  pub interaction-full : o .refusal ≡ 0 → length i / 3 ≤ o .interactions →
+      board f i (record { findings = o .findings; interactions = o .interactions; refusal = 46 })
+      ≡ pushes (interaction w ∷ []) (board f i o)
   unfolding pushes push refused
   interaction-full h k = rw (eq-eqb (o .refusal) 0 h) (rw (le-ltb (o .interactions) (length i / 3) k))
 
-  pub interaction-in : (a : List ℕ) → o .refusal ≡ 0 → o .interactions < length i / 3 → a ≡ written i (o .interactions * 3) w →
-      board f a (record { findings = o .findings; interactions = o .interactions + 1; refusal = 0 }) ≡ pushes (interaction w ∷ []) (board f i o)
+  pub interaction-in : (a : List ℕ) → o .refusal ≡ 0 → o .interactions < length i / 3 →
+      a ≡ written i (o .interactions * 3) w →
+      board f a (record { findings = o .findings; interactions = o .interactions + 1; refusal = 0 })
+      ≡ pushes (interaction w ∷ []) (board f i o)
   unfolding pushes push more-interactions
-  interaction-in a h k e = rw (eq-eqb (o .refusal) 0 h) (rw (lt-ltb (o .interactions) (length i / 3) k) (ap (λ (x : List ℕ). board f x (more-interactions o)) e))
+  interaction-in a h k e = rw (eq-eqb (o .refusal) 0 h)
+      (rw (lt-ltb (o .interactions) (length i / 3) k) (ap (λ (x : List ℕ). board f x (more-interactions o)) e))
 
 module _ {b : Bool} (x : Item) where
   pub only-yes : (a : Board) {c : Board} → b ≡ true → c ≡ pushes (x ∷ []) a → c ≡ pushes (onlyIf b x) a

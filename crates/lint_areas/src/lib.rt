@@ -40,7 +40,8 @@ pub fn push_finding(findings: &mut [u32], o: Out, words: [u32; 14]) -> Out
 
 // A finding more, if the test holds.
 pub fn push_if(findings: &mut [u32], o: Out, test: bool, words: [u32; 14]) -> Out
-    ensures { λ r. ⌜ ((i : List ℕ) → board (is findings) i r ≡ pushes (onlyIf test (finding words)) (board (was findings) i o)) ⌝ }
+    ensures { λ r.
+        ⌜ ((i : List ℕ) → board (is findings) i r ≡ pushes (onlyIf test (finding words)) (board (was findings) i o)) ⌝ }
 {
     if test {
         return push_finding(findings, o, words);
@@ -50,7 +51,8 @@ pub fn push_if(findings: &mut [u32], o: Out, test: bool, words: [u32; 14]) -> Ou
 
 // An interaction more.
 pub fn push_interaction(interactions: &mut [u32], o: Out, words: [u32; 3]) -> Out
-    ensures { λ r. ⌜ ((f : List ℕ) → board f (is interactions) r ≡ pushes (interaction words ∷ []) (board f (was interactions) o)) ⌝ }
+    ensures { λ r.
+        ⌜ ((f : List ℕ) → board f (is interactions) r ≡ pushes (interaction words ∷ []) (board f (was interactions) o)) ⌝ }
 {
     if 0 < o.refusal {
         return o;
@@ -73,7 +75,9 @@ pub fn push_interaction(interactions: &mut [u32], o: Out, words: [u32; 3]) -> Ou
 
 // An interaction more, if the test holds.
 pub fn interact_if(interactions: &mut [u32], o: Out, test: bool, words: [u32; 3]) -> Out
-    ensures { λ r. ⌜ ((f : List ℕ) → board f (is interactions) r ≡ pushes (onlyIf test (interaction words)) (board f (was interactions) o)) ⌝ }
+    ensures { λ r.
+        ⌜ ((f : List ℕ) → board f (is interactions) r ≡ pushes (onlyIf test (interaction words))
+        (board f (was interactions) o)) ⌝ }
 {
     if test {
         return push_interaction(interactions, o, words);
@@ -83,7 +87,8 @@ pub fn interact_if(interactions: &mut [u32], o: Out, test: bool, words: [u32; 3]
 
 // Both areas as zeros.
 pub fn clear(findings: &mut [u32], interactions: &mut [u32])
-    ensures { λ _. ⌜ (is findings ≡ replicate (length (was findings)) 0) × (is interactions ≡ replicate (length (was interactions)) 0) ⌝ }
+    ensures { λ _. ⌜ (is findings ≡ replicate (length (was findings)) 0)
+        × (is interactions ≡ replicate (length (was interactions)) 0) ⌝ }
 {
     areas::clear_all(findings);
     areas::clear_all(interactions);

@@ -45,7 +45,8 @@ never p q = let w : _≡_ {A = ℕ} 0 1 = cc in absurd (omega arith)
 blank-cell : (j : ℕ) → getD (replicate 32 false) j false ≡ false
 blank-cell j = elim (decLt j 32) [
   | yes h ↦ getD-replicate 32 j false false h
-  | no h ↦ let k : length (replicate 32 false) ≤ j = rw (length-replicate 32 false) (omega arith) in List·getD-eq-default (replicate 32 false) false k
+  | no h ↦ let k : length (replicate 32 false) ≤ j = rw (length-replicate 32 false) (omega arith) in
+      List·getD-eq-default (replicate 32 false) false k
 ]
 
 module _ (s : List ℕ) (star : ℕ) (rules : Section) (few : rules .count ≤ 32) where
@@ -54,23 +55,27 @@ module _ (s : List ℕ) (star : ℕ) (rules : Section) (few : rules .count ≤ 3
 
   row-length : (w : Walk) → length (rowM s star rules w) ≡ 32
   unfolding rowM
-  row-length w = fill-length (λ j. leadsToM s star w (getD (rules .starts) j 0)) false n 0 (replicate 32 false) ∙ length-replicate 32 false
+  row-length w = fill-length (λ j. leadsToM s star w (getD (rules .starts) j 0)) false n 0 (replicate 32 false)
+      ∙ length-replicate 32 false
 
   row-of : (i : ℕ) → i < n → getD (edgesM s star rules) i [] ≡ rowM s star rules (walkM s (getD (rules .starts) i 0))
   unfolding edgesM
   row-of i h =
-      fill-in (λ i. rowM s star rules (walkM s (getD (rules .starts) i 0))) [] (rules .count) 0 (replicate 32 (replicate 32 false)) i (omega arith) (omega arith)
+      fill-in (λ i. rowM s star rules (walkM s (getD (rules .starts) i 0))) [] (rules .count) 0
+      (replicate 32 (replicate 32 false)) i (omega arith) (omega arith)
       (rw (length-replicate 32 (replicate 32 false)) (omega arith))
 
   row-past : (i : ℕ) → n ≤ i → i < 32 → getD (edgesM s star rules) i [] ≡ replicate 32 false
   unfolding edgesM
   row-past i h k =
-      fill-out (λ i. rowM s star rules (walkM s (getD (rules .starts) i 0))) [] (rules .count) 0 (replicate 32 (replicate 32 false)) i (inr (omega arith))
+      fill-out (λ i. rowM s star rules (walkM s (getD (rules .starts) i 0))) [] (rules .count) 0
+      (replicate 32 (replicate 32 false)) i (inr (omega arith))
       ∙ getD-replicate 32 i (replicate 32 false) [] k
 
   edges-rows : length (edgesM s star rules) ≡ 32
   unfolding edgesM
-  edges-rows = fill-length (λ i. rowM s star rules (walkM s (getD (rules .starts) i 0))) [] (rules .count) 0 (replicate 32 (replicate 32 false)) ∙ length-replicate 32 (replicate 32 false)
+  edges-rows = fill-length (λ i. rowM s star rules (walkM s (getD (rules .starts) i 0))) [] (rules .count) 0
+      (replicate 32 (replicate 32 false)) ∙ length-replicate 32 (replicate 32 false)
 
   pub edges-full : Full (edgesM s star rules)
   edges-full = record {
@@ -81,11 +86,13 @@ module _ (s : List ℕ) (star : ℕ) (rules : Section) (few : rules .count ≤ 3
     ];
   }
 
-  pub edge-is : (i j : ℕ) → i < n → j < n → cell (edgesM s star rules) i j ≡ leadsToM s star (walkM s (getD (rules .starts) i 0)) (getD (rules .starts) j 0)
+  pub edge-is : (i j : ℕ) → i < n → j < n → cell (edgesM s star rules) i j
+      ≡ leadsToM s star (walkM s (getD (rules .starts) i 0)) (getD (rules .starts) j 0)
   unfolding rowM
   edge-is i j h k =
       ap (λ (l : List Bool). getD l j false) (row-of i h)
-      ∙ fill-in (λ j. leadsToM s star (walkM s (getD (rules .starts) i 0)) (getD (rules .starts) j 0)) false (rules .count) 0 (replicate 32 false) j (omega arith) (omega arith)
+      ∙ fill-in (λ j. leadsToM s star (walkM s (getD (rules .starts) i 0)) (getD (rules .starts) j 0)) false (rules .count) 0
+      (replicate 32 false) j (omega arith) (omega arith)
       (rw (length-replicate 32 false) (omega arith))
 
   -- where an edge says yes, both places are automations
@@ -94,7 +101,8 @@ module _ (s : List ℕ) (star : ℕ) (rules : Section) (few : rules .count ≤ 3
     | yes h ↦ h
     | no h ↦ elim (decLt i 32) [
       | yes k ↦ never e (ap (λ (l : List Bool). getD l j false) (row-past i (omega arith) k) ∙ blank-cell j)
-      | no k ↦ never e (ap (λ (l : List Bool). getD l j false) (List·getD-eq-default (edgesM s star rules) [] (omega (arith, edges-rows))))
+      | no k ↦ never e (ap (λ (l : List Bool). getD l j false)
+          (List·getD-eq-default (edgesM s star rules) [] (omega (arith, edges-rows))))
     ]
   ]
 
@@ -104,13 +112,15 @@ module _ (s : List ℕ) (star : ℕ) (rules : Section) (few : rules .count ≤ 3
     | yes h ↦ h
     | no h ↦
         never e (ap (λ (l : List Bool). getD l j false) (row-of i (in-rows i j e))
-        ∙ fill-out (λ j. leadsToM s star (walkM s (getD (rules .starts) i 0)) (getD (rules .starts) j 0)) false (rules .count) 0 (replicate 32 false) j (inr (omega arith))
+        ∙ fill-out (λ j. leadsToM s star (walkM s (getD (rules .starts) i 0)) (getD (rules .starts) j 0)) false
+        (rules .count) 0 (replicate 32 false) j (inr (omega arith))
         ∙ blank-cell j)
   ]
 
   -- any square with the same cells is copied
   pub edges-copy : (sq : Square) → length sq ≡ n → ((i : ℕ) → i < n → length (getD sq i []) ≡ n) →
-      ((i j : ℕ) → i < n → j < n → leadsToM s star (walkM s (getD (rules .starts) i 0)) (getD (rules .starts) j 0) ≡ cell sq i j) → Copies (edgesM s star rules) n sq
+      ((i j : ℕ) → i < n → j < n → leadsToM s star (walkM s (getD (rules .starts) i 0)) (getD (rules .starts) j 0)
+      ≡ cell sq i j) → Copies (edgesM s star rules) n sq
   edges-copy sq a b c = record {
     rows = a;
     columns = b;

@@ -30,14 +30,22 @@ fillM f (suc n) k l = fillM f n (k + 1) (set l k (f k))
 
 module _ (s : List ℕ) where
   unfoldable pub aboutAt : Section → (i source writes : ℕ) → About
-  aboutAt e i source writes = record { number = i; set = bitOr 0 (2 ^ i); tier = highestM s e writes; line = numberM s source; column = numberM s (past s source 4) }
+  aboutAt e i source writes = record {
+    number = i;
+    set = bitOr 0 (2 ^ i);
+    tier = highestM s e writes;
+    line =
+        numberM s source;
+    column = numberM s (past s source 4);
+  }
 
   -- the i-th automation
   unfoldable pub ruleAt : Names → (rules : Section) → (i : ℕ) → List Item
   ruleAt d rules i =
       let p = getD (rules .starts) i 0 in
       let w = walkM s p in
-      ruleItems s d rules (aboutAt (d .entities) i (w .next) (writesM s (d .entities) w)) p w (readsM s (d .entities) p w) (writesM s (d .entities) w)
+      ruleItems s d rules (aboutAt (d .entities) i (w .next) (writesM s (d .entities) w)) p w (readsM s (d .entities) p w)
+      (writesM s (d .entities) w)
 
   unfoldable pub rulesItems : Names → (rules : Section) → List Item
   rulesItems d rules = items-numbersM (ruleAt d rules) (rules .count) 0
@@ -48,7 +56,8 @@ module _ (s : List ℕ) where
 
   -- against each later one
   unfoldable pub laterItems : Names → (rules : Section) → (i : ℕ) → List Item
-  laterItems d rules i = items-numbersM (pairAt d rules i (walkM s (getD (rules .starts) i 0))) (rules .count - (i + 1)) (i + 1)
+  laterItems d rules i = items-numbersM (pairAt d rules i (walkM s (getD (rules .starts) i 0))) (rules .count - (i + 1))
+      (i + 1)
 
   unfoldable pub opposingItems : Names → (rules : Section) → List Item
   opposingItems d rules = items-numbersM (laterItems d rules) (rules .count) 0
@@ -66,14 +75,16 @@ module _ (s : List ℕ) where
 
   -- which automations lead to which
   unfoldable pub edgesM : (star : ℕ) → (rules : Section) → List (List Bool)
-  edgesM star rules = fillM (λ i. rowM star rules (walkM s (getD (rules .starts) i 0))) (rules .count) 0 (replicate 32 (replicate 32 false))
+  edgesM star rules = fillM (λ i. rowM star rules (walkM s (getD (rules .starts) i 0))) (rules .count) 0
+      (replicate 32 (replicate 32 false))
 
   -- ---- cycles
 
   -- what the automations of a set write, of n automations from the i-th on
   unfoldable pub cycleWritesFrom : Section → (rules : Section) → (set n i : ℕ) → ℕ → ℕ
   cycleWritesFrom e rules set zero i x = x
-  cycleWritesFrom e rules set (suc n) i x = cycleWritesFrom e rules set n (i + 1) (if holds set i then bitOr x (writesM s e (walkM s (getD (rules .starts) i 0))) else x)
+  cycleWritesFrom e rules set (suc n) i x = cycleWritesFrom e rules set n (i + 1)
+      (if holds set i then bitOr x (writesM s e (walkM s (getD (rules .starts) i 0))) else x)
 
   unfoldable pub cycleWritesM : Section → (rules : Section) → (set : ℕ) → ℕ
   cycleWritesM e rules set = cycleWritesFrom e rules set (rules .count) 0 0
@@ -87,4 +98,5 @@ module _ (s : List ℕ) where
 -- what the entries of all automations, pairs and cycles make of a board, and the components
 pub record Lints (s : List ℕ) (d : Names) (rules : Section) (b : Board) (r : Linted) (c : Board) : Type 0 where
   pub components : Cycles (edgesM s (d .star) rules) (rules .count) (r .found)
-  pub inserted : c ≡ pushes (rulesItems s d rules ++ opposingItems s d rules ++ cyclesItems s (d .entities) rules (r .found)) b
+  pub inserted : c ≡ pushes (rulesItems s d rules ++ opposingItems s d rules ++ cyclesItems s (d .entities) rules (r .found))
+      b

@@ -12,7 +12,22 @@ ghost use Rattle.lint_reach.specs.Cycles.{Cycles};
 ghost use Rattle.lint_areas.specs.Areas.{board, pushes};
 ghost use Rattle.lint_walk.specs.Walks.{walkBy};
 ghost use Rattle.lint_conditions.specs.Context.{sectionOf, namesBy};
-ghost use Rattle.lint_collect.specs.Collect.{Lints, aboutAt, ruleAt, rulesItems, pairAt, laterItems, opposingItems, actionLeadsM, leadsToM, rowM, edgesM, cycleWritesM, cycleM, cyclesItems};
+ghost use Rattle.lint_collect.specs.Collect.{
+  Lints,
+  aboutAt,
+  ruleAt,
+  rulesItems,
+  pairAt,
+  laterItems,
+  opposingItems,
+  actionLeadsM,
+  leadsToM,
+  rowM,
+  edgesM,
+  cycleWritesM,
+  cycleM,
+  cyclesItems,
+};
 
 // ---- each automation
 
@@ -52,7 +67,9 @@ fn rule_entries(
     o: Out,
 ) -> Out
     requires { ⌜ (given .entities .count ≤ 32) × (given .invariants .count ≤ 32) × (given .rules .count ≤ 32) × (i < 32) ⌝ }
-    ensures { λ r. ⌜ board (is findings) (is interactions) r ≡ pushes (ruleAt (was s) (namesBy (was entities) (was invariants) given) (sectionOf (was rules) (given .rules)) i) (board (was findings) (was interactions) o) ⌝ }
+    ensures { λ r. ⌜ board (is findings) (is interactions) r
+        ≡ pushes (ruleAt (was s) (namesBy (was entities) (was invariants) given) (sectionOf (was rules) (given .rules)) i)
+        (board (was findings) (was interactions) o) ⌝ }
 {
     let at = rules[i];
     let mut list = [0usize; 512];
@@ -93,7 +110,9 @@ pub fn rules_entries(
     o: Out,
 ) -> Out
     requires { ⌜ (given .entities .count ≤ 32) × (given .invariants .count ≤ 32) × (given .rules .count ≤ 32) ⌝ }
-    ensures { λ r. ⌜ board (is findings) (is interactions) r ≡ pushes (rulesItems (was s) (namesBy (was entities) (was invariants) given) (sectionOf (was rules) (given .rules))) (board (was findings) (was interactions) o) ⌝ }
+    ensures { λ r. ⌜ board (is findings) (is interactions) r
+        ≡ pushes (rulesItems (was s) (namesBy (was entities) (was invariants) given) (sectionOf (was rules) (given .rules)))
+        (board (was findings) (was interactions) o) ⌝ }
 {
     let extent = given.rules;
     let count = extent.count as usize;
@@ -133,7 +152,10 @@ fn pair_entries(
     o: Out,
 ) -> Out
     requires { ⌜ (given .entities .count ≤ 32) × (i < 32) × (j < 32) × (count ≤ 512) ⌝ }
-    ensures { λ r. ⌜ ((k : List ℕ) → board (is findings) k r ≡ pushes (pairAt (was s) (namesBy (was entities) (was invariants) given) (sectionOf (was rules) (given .rules)) i (walkBy (was list) count) j) (board (was findings) k o)) ⌝ }
+    ensures { λ r.
+        ⌜ ((k : List ℕ) → board (is findings) k r ≡ pushes
+        (pairAt (was s) (namesBy (was entities) (was invariants) given) (sectionOf (was rules) (given .rules)) i
+        (walkBy (was list) count) j) (board (was findings) k o)) ⌝ }
 {
     let mut others = [0usize; 512];
     let c = lint_walk::rule_walk(s, rules[j], &mut others);
@@ -165,7 +187,10 @@ fn later_entries(
     o: Out,
 ) -> Out
     requires { ⌜ (given .entities .count ≤ 32) × (given .rules .count ≤ 32) × (i < 32) ⌝ }
-    ensures { λ r. ⌜ ((k : List ℕ) → board (is findings) k r ≡ pushes (laterItems (was s) (namesBy (was entities) (was invariants) given) (sectionOf (was rules) (given .rules)) i) (board (was findings) k o)) ⌝ }
+    ensures { λ r.
+        ⌜ ((k : List ℕ) → board (is findings) k r ≡ pushes
+        (laterItems (was s) (namesBy (was entities) (was invariants) given) (sectionOf (was rules) (given .rules)) i)
+        (board (was findings) k o)) ⌝ }
 {
     let extent = given.rules;
     let count = extent.count as usize;
@@ -207,7 +232,10 @@ pub fn opposing_entries(
     o: Out,
 ) -> Out
     requires { ⌜ (given .entities .count ≤ 32) × (given .rules .count ≤ 32) ⌝ }
-    ensures { λ r. ⌜ ((k : List ℕ) → board (is findings) k r ≡ pushes (opposingItems (was s) (namesBy (was entities) (was invariants) given) (sectionOf (was rules) (given .rules))) (board (was findings) k o)) ⌝ }
+    ensures { λ r.
+        ⌜ ((k : List ℕ) → board (is findings) k r ≡ pushes
+        (opposingItems (was s) (namesBy (was entities) (was invariants) given) (sectionOf (was rules) (given .rules)))
+        (board (was findings) k o)) ⌝ }
 {
     let extent = given.rules;
     let count = extent.count as usize;
@@ -307,7 +335,8 @@ fn cycle_writes(
     set: u32,
 ) -> u32
     requires { ⌜ (given .entities .count ≤ 32) × (given .rules .count ≤ 32) ⌝ }
-    ensures { λ r. ⌜ r ≡ cycleWritesM (was s) (sectionOf (was entities) (given .entities)) (sectionOf (was rules) (given .rules)) set ⌝ }
+    ensures { λ r. ⌜ r ≡ cycleWritesM (was s) (sectionOf (was entities) (given .entities))
+        (sectionOf (was rules) (given .rules)) set ⌝ }
 {
     let extent = given.rules;
     let count = extent.count as usize;
@@ -338,7 +367,8 @@ fn cycle_words(
     set: u32,
 ) -> [u32; 14]
     requires { ⌜ (given .entities .count ≤ 32) × (given .rules .count ≤ 32) ⌝ }
-    ensures { λ w. ⌜ w ≡ cycleM (was s) (sectionOf (was entities) (given .entities)) (sectionOf (was rules) (given .rules)) set ⌝ }
+    ensures { λ w. ⌜ w ≡ cycleM (was s) (sectionOf (was entities) (given .entities)) (sectionOf (was rules) (given .rules))
+        set ⌝ }
 {
     let writes = cycle_writes(s, entities, rules, given, set);
     let tier = lint_conditions::highest(s, entities, given.entities, writes);
@@ -356,7 +386,10 @@ pub fn cycle_entries(
     o: Out,
 ) -> Out
     requires { ⌜ (given .entities .count ≤ 32) × (given .rules .count ≤ 32) × (found .count ≤ 32) ⌝ }
-    ensures { λ r. ⌜ ((k : List ℕ) → board (is findings) k r ≡ pushes (cyclesItems (was s) (sectionOf (was entities) (given .entities)) (sectionOf (was rules) (given .rules)) found) (board (was findings) k o)) ⌝ }
+    ensures { λ r.
+        ⌜ ((k : List ℕ) → board (is findings) k r ≡ pushes
+        (cyclesItems (was s) (sectionOf (was entities) (given .entities)) (sectionOf (was rules) (given .rules)) found)
+        (board (was findings) k o)) ⌝ }
 {
     let count = found.count;
     let mut out = o;
@@ -392,7 +425,8 @@ pub fn entries(
     o: Out,
 ) -> Linted
     requires { ⌜ (given .entities .count ≤ 32) × (given .invariants .count ≤ 32) × (given .rules .count ≤ 32) ⌝ }
-    ensures { λ r. ⌜ Lints (was s) (namesBy (was entities) (was invariants) given) (sectionOf (was rules) (given .rules)) (board (was findings) (was interactions) o) r (board (is findings) (is interactions) (r .out)) ⌝ }
+    ensures { λ r. ⌜ Lints (was s) (namesBy (was entities) (was invariants) given) (sectionOf (was rules) (given .rules))
+        (board (was findings) (was interactions) o) r (board (is findings) (is interactions) (r .out)) ⌝ }
 {
     let p = rules_entries(
         s,

@@ -14,7 +14,30 @@ use Rattle.lint_reach.specs.Sets.{holds}
 use Rattle.lint_walk.specs.declared.Walk.{Walk}
 use Rattle.lint_walk.specs.Raw.{byteM, placeM, numberM, past, predicateEnd, kindM, triggersM, conditionsM}
 use Rattle.lint_conditions.specs.declared.Names.{Names}
-use Rattle.lint_conditions.specs.Conditions.{anyM, allM, any-listM, clashM, clashesM, meetsM, contradictoryFrom, contradictoryM, mismatchM, mismatchedM, setsOffM, leadsM, delaysM, guardM, guardedM, unguardedM, tierM, staleM, opposedM, greaterM, highestFrom, highestM}
+use Rattle.lint_conditions.specs.Conditions.{
+  anyM,
+  allM,
+  any-listM,
+  clashM,
+  clashesM,
+  meetsM,
+  contradictoryFrom,
+  contradictoryM,
+  mismatchM,
+  mismatchedM,
+  setsOffM,
+  leadsM,
+  delaysM,
+  guardM,
+  guardedM,
+  unguardedM,
+  tierM,
+  staleM,
+  opposedM,
+  greaterM,
+  highestFrom,
+  highestM,
+}
 
 -- ---- loops
 
@@ -107,7 +130,8 @@ module _ (s : List ℕ) where
     unfolding meetsM
     meets-note h = rw (← d) (rw (ne-eqb b 0 h))
 
-    pub meets-is : {o x q v r : ℕ} → b ≡ 0 → o ≡ past s p 1 → x ≡ placeM s o → q ≡ past s p 3 → v ≡ placeM s q → r ≡ predicateEnd s p → clashesM s x v n r ≡ meetsM s n p
+    pub meets-is : {o x q v r : ℕ} → b ≡ 0 → o ≡ past s p 1 → x ≡ placeM s o → q ≡ past s p 3 → v ≡ placeM s q →
+        r ≡ predicateEnd s p → clashesM s x v n r ≡ meetsM s n p
     unfolding meetsM
     meets-is h i j k m t = rw (t, m, k, j, i) (rw (← d) (rw (eq-eqb b 0 h)))
 
@@ -120,7 +144,8 @@ module _ (s : List ℕ) where
   contra-here zero p h e = absurd (omega arith)
   contra-here (suc n) p h e = rw ((rw (sub-one (suc n)) at e), contradictoryFrom)
 
-  pub contra-later : (n p : ℕ) {q : ℕ} → 0 < n → meetsM s (n - 1) p ≡ false → q ≡ predicateEnd s p → contradictoryFrom s n p ≡ contradictoryFrom s (n - 1) q
+  pub contra-later : (n p : ℕ) {q : ℕ} → 0 < n → meetsM s (n - 1) p ≡ false → q ≡ predicateEnd s p →
+      contradictoryFrom s n p ≡ contradictoryFrom s (n - 1) q
   unfolding contradictoryFrom
   contra-later zero p h e g = absurd (omega arith)
   contra-later (suc n) p h e g = rw (sub-one (suc n), g) (rw ((rw (sub-one (suc n)) at e), contradictoryFrom))
@@ -140,11 +165,14 @@ module _ (s : List ℕ) where
       unfolding mismatchM
       mismatch-any z = rw (← i) (rw (← d) (rw (eq-eqb m 65535 h) (rw (← j) (rw (← k) (rw (eq-eqb t 65535 z))))))
 
-      pub mismatch-is : {x n r : ℕ} → (t ≡ 65535 → ⊥) → x ≡ placeM s p → n ≡ placeM s c → r ≡ past s c 2 → clashesM s x t n r ≡ mismatchM s c p
+      pub mismatch-is : {x n r : ℕ} → (t ≡ 65535 → ⊥) → x ≡ placeM s p → n ≡ placeM s c → r ≡ past s c 2 →
+          clashesM s x t n r ≡ mismatchM s c p
       unfolding mismatchM
-      mismatch-is z a b e = rw (e, b, a) (rw (← i) (rw (← d) (rw (eq-eqb m 65535 h) (rw (← j) (rw (← k) (rw (ne-eqb t 65535 z)))))))
+      mismatch-is z a b e =
+          rw (e, b, a) (rw (← i) (rw (← d) (rw (eq-eqb m 65535 h) (rw (← j) (rw (← k) (rw (ne-eqb t 65535 z)))))))
 
-  pub mismatched-is : (p : ℕ) {c t n q : ℕ} → c ≡ conditionsM s p → t ≡ triggersM s p → n ≡ placeM s t → q ≡ past s t 2 → mismatchedM s p ≡ allM (mismatchM s c) (λ o. past s o 16) n q
+  pub mismatched-is : (p : ℕ) {c t n q : ℕ} → c ≡ conditionsM s p → t ≡ triggersM s p → n ≡ placeM s t → q ≡ past s t 2 →
+      mismatchedM s p ≡ allM (mismatchM s c) (λ o. past s o 16) n q
   unfolding mismatchedM
   mismatched-is p a b d e = rw (e, d, b, a)
 
@@ -166,13 +194,19 @@ module _ (s : List ℕ) where
         module _ (a : v ≡ star → ⊥) {q t : ℕ} (b : q ≡ past s p 4) (e : t ≡ placeM s q) where
           pub sets-any : t ≡ 65535 → setsOffM s star x v p ≡ true
           unfolding setsOffM
-          sets-any z = rw (← i) (rw (← d) (rw (eq-eqb m 65535 h) (rw (← j) (rw (eq-eqb y x k) (rw (ne-eqb v star a) (rw (← b) (rw (← e) (rw (eq-eqb t 65535 z)))))))))
+          sets-any z =
+              rw (← i) (rw (← d)
+              (rw (eq-eqb m 65535 h)
+              (rw (← j) (rw (eq-eqb y x k) (rw (ne-eqb v star a) (rw (← b) (rw (← e) (rw (eq-eqb t 65535 z)))))))))
 
           pub sets-is : (t ≡ 65535 → ⊥) → eqb t v ≡ setsOffM s star x v p
           unfolding setsOffM
-          sets-is z = rw (← i) (rw (← d) (rw (eq-eqb m 65535 h) (rw (← j) (rw (eq-eqb y x k) (rw (ne-eqb v star a) (rw (← b) (rw (← e) (rw (ne-eqb t 65535 z)))))))))
+          sets-is z = rw (← i)
+              (rw (← d) (rw (eq-eqb m 65535 h)
+              (rw (← j) (rw (eq-eqb y x k) (rw (ne-eqb v star a) (rw (← b) (rw (← e) (rw (ne-eqb t 65535 z)))))))))
 
-  pub leads-is : (star x v p : ℕ) {t n q : ℕ} → t ≡ triggersM s p → n ≡ placeM s t → q ≡ past s t 2 → leadsM s star x v p ≡ anyM (setsOffM s star x v) (λ o. past s o 16) n q
+  pub leads-is : (star x v p : ℕ) {t n q : ℕ} → t ≡ triggersM s p → n ≡ placeM s t → q ≡ past s t 2 →
+      leadsM s star x v p ≡ anyM (setsOffM s star x v) (λ o. past s o 16) n q
   unfolding leadsM
   leads-is star x v p b d e = rw (e, d, b)
 
@@ -199,7 +233,8 @@ module _ (s : List ℕ) where
   guarded-is i x v = refl
 
   module _ (d : Names) (x v : ℕ) where
-    pub unguarded-on : {r : Bool} → v ≡ d .star → r ≡ guardedM s (d .invariants) x (d .on) → not r ≡ true → unguardedM s d x v ≡ true
+    pub unguarded-on : {r : Bool} → v ≡ d .star → r ≡ guardedM s (d .invariants) x (d .on) → not r ≡ true →
+        unguardedM s d x v ≡ true
     unfolding unguardedM
     unguarded-on {r} h e f = rw (eq-eqb v (d .star) h) (rw (← e) (pick r f))
       where
@@ -207,7 +242,8 @@ module _ (s : List ℕ) where
         pick true z = let y : _≡_ {A = ℕ} 0 1 = cc in absurd (omega arith)
         pick false z = refl
 
-    pub unguarded-off : {r q : Bool} → v ≡ d .star → r ≡ guardedM s (d .invariants) x (d .on) → not r ≡ false → q ≡ guardedM s (d .invariants) x (d .off) → not q ≡ unguardedM s d x v
+    pub unguarded-off : {r q : Bool} → v ≡ d .star → r ≡ guardedM s (d .invariants) x (d .on) → not r ≡ false →
+        q ≡ guardedM s (d .invariants) x (d .off) → not q ≡ unguardedM s d x v
     unfolding unguardedM
     unguarded-off {r} h e f g = rw (eq-eqb v (d .star) h) (rw (← e) (rw (← g) (pick r f)))
       where
@@ -219,18 +255,22 @@ module _ (s : List ℕ) where
     unfolding unguardedM
     unguarded-one h g = rw (ne-eqb v (d .star) h) (rw (← g))
 
-  pub tier-is : (p : ℕ) {o n q : ℕ} → o ≡ past s p 2 → n ≡ placeM s o → q ≡ past s o 2 → byteM s (past s q (2 * n + 2)) ≡ tierM s p
+  pub tier-is : (p : ℕ) {o n q : ℕ} → o ≡ past s p 2 → n ≡ placeM s o → q ≡ past s o 2 →
+      byteM s (past s q (2 * n + 2)) ≡ tierM s p
   unfolding tierM
   tier-is p a b d = rw (d, b, a)
 
-  stale-is : (p : ℕ) {o n q : ℕ} → o ≡ past s p 2 → n ≡ placeM s o → q ≡ past s o 2 → not (eqb (numberM s (past s q (2 * n + 3))) 4294967295) ≡ staleM s p
+  stale-is : (p : ℕ) {o n q : ℕ} → o ≡ past s p 2 → n ≡ placeM s o → q ≡ past s o 2 →
+      not (eqb (numberM s (past s q (2 * n + 3))) 4294967295) ≡ staleM s p
   unfolding staleM
   stale-is p a b d = rw (d, b, a)
 
-  pub tier-at : (p : ℕ) {o n q r b : ℕ} → o ≡ past s p 2 → n ≡ placeM s o → q ≡ past s o 2 → r ≡ past s q (2 * n + 2) → b ≡ byteM s r → b ≡ tierM s p
+  pub tier-at : (p : ℕ) {o n q r b : ℕ} → o ≡ past s p 2 → n ≡ placeM s o → q ≡ past s o 2 → r ≡ past s q (2 * n + 2) →
+      b ≡ byteM s r → b ≡ tierM s p
   tier-at p a b d e f = f ∙ ap (byteM s) e ∙ tier-is p a b d
 
-  pub stale-at : (p : ℕ) {o n q r b : ℕ} → o ≡ past s p 2 → n ≡ placeM s o → q ≡ past s o 2 → r ≡ past s q (2 * n + 3) → b ≡ numberM s r → not (eqb b 4294967295) ≡ staleM s p
+  pub stale-at : (p : ℕ) {o n q r b : ℕ} → o ≡ past s p 2 → n ≡ placeM s o → q ≡ past s o 2 → r ≡ past s q (2 * n + 3) →
+      b ≡ numberM s r → not (eqb b 4294967295) ≡ staleM s p
   stale-at p a b d e f = ap (λ (x : ℕ). not (eqb x 4294967295)) (f ∙ ap (numberM s) e) ∙ stale-is p a b d
 
 module _ (star x v y u : ℕ) where
@@ -262,7 +302,8 @@ module _ (s : List ℕ) (e : Section) (set : ℕ) where
       rw (m, h)
 
   module _ (n k best : ℕ) (h : k < n) {r : Bool} (f : r ≡ holds set k) where
-    pub highest-yes : {t b : ℕ} → r ≡ true → t ≡ tierM s (getD (e .starts) k 0) → b ≡ greaterM best t → highestFrom s e set (n - k) k best ≡ highestFrom s e set (n - (k + 1)) (k + 1) b
+    pub highest-yes : {t b : ℕ} → r ≡ true → t ≡ tierM s (getD (e .starts) k 0) → b ≡ greaterM best t →
+        highestFrom s e set (n - k) k best ≡ highestFrom s e set (n - (k + 1)) (k + 1) b
     unfolding highestFrom
     highest-yes i j g =
         let m : n - k ≡ suc (n - (k + 1)) = omega arith in

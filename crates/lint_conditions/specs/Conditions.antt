@@ -29,13 +29,15 @@ any-listM f l (suc n) k = elim (f (getD l k 0)) [ true ↦ true | false ↦ any-
 -- ---- predicates
 module _ (s : List ℕ) where
   unfoldable pub clashM : (x v p : ℕ) → Bool
-  clashM x v p = if eqb (byteM s p) 0 then (if eqb (placeM s (past s p 1)) x then not (eqb (placeM s (past s p 3)) v) else false) else false
+  clashM x v p = if eqb (byteM s p) 0 then (if eqb (placeM s (past s p 1)) x then not (eqb (placeM s (past s p 3)) v)
+      else false) else false
 
   unfoldable pub clashesM : (x v n p : ℕ) → Bool
   clashesM x v n p = anyM (clashM x v) (predicateEnd s) n p
 
   unfoldable pub meetsM : (behind p : ℕ) → Bool
-  meetsM n p = if eqb (byteM s p) 0 then clashesM (placeM s (past s p 1)) (placeM s (past s p 3)) n (predicateEnd s p) else false
+  meetsM n p = if eqb (byteM s p) 0 then clashesM (placeM s (past s p 1)) (placeM s (past s p 3)) n (predicateEnd s p)
+      else false
 
   -- of n predicates from p on
   unfoldable pub contradictoryFrom : (n p : ℕ) → Bool
@@ -50,7 +52,8 @@ module _ (s : List ℕ) where
   unfoldable pub mismatchM : (conditions p : ℕ) → Bool
   mismatchM c p =
       if eqb (placeM s (past s p 14)) 65535
-      then (if eqb (placeM s (past s p 4)) 65535 then false else clashesM (placeM s p) (placeM s (past s p 4)) (placeM s c) (past s c 2))
+      then (if eqb (placeM s (past s p 4)) 65535 then false
+      else clashesM (placeM s p) (placeM s (past s p 4)) (placeM s c) (past s c 2))
       else false
 
   unfoldable pub mismatchedM : (p : ℕ) → Bool
@@ -75,7 +78,8 @@ module _ (s : List ℕ) where
   -- ---- invariants
 
   unfoldable pub guardM : (x v p : ℕ) → Bool
-  guardM x v p = if eqb (byteM s p) 1 then (if eqb (placeM s (past s p 3)) x then eqb (placeM s (past s p 5)) v else false) else false
+  guardM x v p = if eqb (byteM s p) 1 then (if eqb (placeM s (past s p 3)) x then eqb (placeM s (past s p 5)) v else false)
+      else false
 
   unfoldable pub guardedM : Section → (x v : ℕ) → Bool
   guardedM i x v = any-listM (guardM x v) (i .starts) (i .count) 0
@@ -104,7 +108,8 @@ greaterM a b = if ltb a b then b else a
 -- of n entities from the k-th on
 unfoldable pub highestFrom : List ℕ → Section → (set : ℕ) → (n k : ℕ) → ℕ → ℕ
 highestFrom s e set zero k best = best
-highestFrom s e set (suc n) k best = highestFrom s e set n (k + 1) (if holds set k then greaterM best (tierM s (getD (e .starts) k 0)) else best)
+highestFrom s e set (suc n) k best = highestFrom s e set n (k + 1)
+    (if holds set k then greaterM best (tierM s (getD (e .starts) k 0)) else best)
 
 unfoldable pub highestM : List ℕ → Section → (set : ℕ) → ℕ
 highestM s e set = highestFrom s e set (e .count) 0 0

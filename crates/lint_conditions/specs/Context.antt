@@ -13,4 +13,11 @@ sectionOf l x = section x l
 
 -- with the positions of entities and of invariants
 abbrev pub namesBy : (entities invariants : List ℕ) → Given → Names
-namesBy e i g = record { entities = sectionOf e (g .entities); invariants = sectionOf i (g .invariants); on = g .on; off = g .off; star = g .star }
+namesBy e i g = record {
+  entities = sectionOf e (g .entities);
+  invariants = sectionOf i (g .invariants);
+  on = g .on;
+  off =
+      g .off;
+  star = g .star;
+}

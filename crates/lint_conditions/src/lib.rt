@@ -6,9 +6,28 @@ ghost use mathlib.Core.Path.{_≡_};
 ghost use Prim.Native.Nat.{_≤_, _<_, _+_, _-_};
 ghost use Rattle.lint_walk.specs.Walks.{walkBy};
 ghost use Rattle.lint_conditions.specs.Context.{sectionOf, namesBy};
-ghost use Rattle.lint_conditions.specs.Conditions.{clashM, clashesM, meetsM, contradictoryM, mismatchM, mismatchedM, delaysM, guardM, guardedM, unguardedM, setsOffM, leadsM, opposedM, tierM, staleM, highestM, greaterM};
+ghost use Rattle.lint_conditions.specs.Conditions.{
+  clashM,
+  clashesM,
+  meetsM,
+  contradictoryM,
+  mismatchM,
+  mismatchedM,
+  delaysM,
+  guardM,
+  guardedM,
+  unguardedM,
+  setsOffM,
+  leadsM,
+  opposedM,
+  tierM,
+  staleM,
+  highestM,
+  greaterM,
+};
 
-// What a test needs of a model: its declared entities, its invariants, and the places of `on`, `off` and `*`; the number of texts for no `*`.
+// What a test needs of a model: its declared entities, its invariants, and the places of `on`, `off` and `*`; the number of
+// texts for no `*`.
 pub struct Names {
     pub entities: Section,
     pub invariants: Section,

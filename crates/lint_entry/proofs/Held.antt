@@ -23,7 +23,18 @@ use Rattle.lint_spec.specs.Findings.{Interaction, Entry}
 use Rattle.lint_spec.specs.Lint.{overflow}
 use Rattle.lint_spec.specs.Words.{interaction-words}
 use Rattle.lint_spec.specs.Memory.{Both, neither, both}
-use Rattle.lint_areas.specs.Areas.{Item, finding, interaction, Board, board, more-findings, more-interactions, refused, push, pushes}
+use Rattle.lint_areas.specs.Areas.{
+  Item,
+  finding,
+  interaction,
+  Board,
+  board,
+  more-findings,
+  more-interactions,
+  refused,
+  push,
+  pushes,
+}
 use Rattle.lint_areas.specs.Filled.{exactly, findings-of}
 use Rattle.lint_areas.proofs.Holds.{Shaped, shaped-none, shaped-finding, shaped-interaction, exact}
 
@@ -33,7 +44,12 @@ written-long : (a : List ℕ) (at : ℕ) (w : List ℕ) → at + length w ≤ le
 unfolding written
 written-long a at w h =
     length-append (take at a) (w ++ drop (at + length w) a)
-    ∙ omega (arith, length-take-le at a (omega arith), length-append w (drop (at + length w) a), length-drop (at + length w) a)
+    ∙ omega (
+      arith,
+      length-take-le at a (omega arith),
+      length-append w (drop (at + length w) a),
+      length-drop (at + length w) a,
+    )
 
 pub record Long (b c : Board) : Type 0 where
   pub findings : length (c .findings) ≡ length (b .findings)
@@ -44,7 +60,9 @@ unfolding push
 finding-long w e b = cases (eqb (b .out .refusal) 0) (case (ltb (b .out .findings) (length (b .findings) / 14)))
   where
     cases : (x : Bool) → Case (ltb (b .out .findings) (length (b .findings) / 14)) →
-        Long b (if x then (if ltb (b .out .findings) (length (b .findings) / 14) then board (written (b .findings) (b .out .findings * 14) w) (b .interactions) (more-findings (b .out)) else board (b .findings) (b .interactions) (refused 45 (b .out))) else b)
+        Long b (if x then (if ltb (b .out .findings) (length (b .findings) / 14)
+        then board (written (b .findings) (b .out .findings * 14) w) (b .interactions) (more-findings (b .out))
+        else board (b .findings) (b .interactions) (refused 45 (b .out))) else b)
     cases false c = record { findings = refl; interactions = refl }
     cases true (is-true c) =
         let k = borrow.Author.Tests.ltb-true (b .out .findings) (length (b .findings) / 14) c in
@@ -56,11 +74,17 @@ unfolding push
 interaction-long w e b = cases (eqb (b .out .refusal) 0) (case (ltb (b .out .interactions) (length (b .interactions) / 3)))
   where
     cases : (x : Bool) → Case (ltb (b .out .interactions) (length (b .interactions) / 3)) →
-        Long b (if x then (if ltb (b .out .interactions) (length (b .interactions) / 3) then board (b .findings) (written (b .interactions) (b .out .interactions * 3) w) (more-interactions (b .out)) else board (b .findings) (b .interactions) (refused 46 (b .out))) else b)
+        Long b (if x then (if ltb (b .out .interactions) (length (b .interactions) / 3)
+        then board (b .findings) (written (b .interactions) (b .out .interactions * 3) w) (more-interactions (b .out))
+        else board (b .findings) (b .interactions) (refused 46 (b .out))) else b)
     cases false c = record { findings = refl; interactions = refl }
     cases true (is-true c) =
         let k = borrow.Author.Tests.ltb-true (b .out .interactions) (length (b .interactions) / 3) c in
-        rw c (record { findings = refl; interactions = written-long (b .interactions) (b .out .interactions * 3) w (omega arith) })
+        rw c (record {
+          findings = refl;
+          interactions =
+              written-long (b .interactions) (b .out .interactions * 3) w (omega arith);
+        })
     cases true (is-false c) = rw c (record { findings = refl; interactions = refl })
 
 pub pushes-long : {l : List Item} → Shaped l → (b : Board) → Long b (pushes l b)
@@ -80,22 +104,27 @@ pushes-long (shaped-interaction {w} {l} e s) b =
 found-words : {l : List Item} → Shaped l → words (exactly 14) (findings-of l) ≡ words (λ w. w) (findings-of l)
 unfolding words findings-of
 found-words shaped-none = refl
-found-words (shaped-finding {w} {l} e s) = ap (λ (x : List ℕ). x ++ words (exactly 14) (findings-of l)) (exact 14 w e) ∙ ap (λ (x : List ℕ). w ++ x) (found-words s)
+found-words (shaped-finding {w} {l} e s) = ap (λ (x : List ℕ). x ++ words (exactly 14) (findings-of l)) (exact 14 w e)
+    ∙ ap (λ (x : List ℕ). w ++ x) (found-words s)
 found-words (shaped-interaction e s) = found-words s
 
 pub found-area : {l : List Item} → Shaped l → (n : ℕ) → area (exactly 14) n (findings-of l) ≡ area (λ w. w) n (findings-of l)
 unfolding area
 found-area s n = rw (found-words s)
 
-between-words : (names ids : List Text) (l : List Interaction) → words (exactly 3) (each (interaction-words names ids) l) ≡ words (interaction-words names ids) l
+between-words : (names ids : List Text) (l : List Interaction) →
+    words (exactly 3) (each (interaction-words names ids) l) ≡ words (interaction-words names ids) l
 unfolding words each
 between-words names ids [] = refl
-between-words names ids (x ∷ l) = ap (λ (y : List ℕ). y ++ words (exactly 3) (each (interaction-words names ids) l)) (exact 3 (interaction-words names ids x) three) ∙ ap (λ (y : List ℕ). interaction-words names ids x ++ y) (between-words names ids l)
+between-words names ids (x ∷ l) = ap (λ (y : List ℕ). y ++ words (exactly 3) (each (interaction-words names ids) l))
+    (exact 3 (interaction-words names ids x) three) ∙ ap (λ (y : List ℕ). interaction-words names ids x ++ y)
+    (between-words names ids l)
   where
     three : length (interaction-words names ids x) ≡ 3
     three = unfold interaction-words in refl
 
-pub between-area : (names ids : List Text) (l : List Interaction) (n : ℕ) → area (exactly 3) n (each (interaction-words names ids) l) ≡ area (interaction-words names ids) n l
+pub between-area : (names ids : List Text) (l : List Interaction) (n : ℕ) →
+    area (exactly 3) n (each (interaction-words names ids) l) ≡ area (interaction-words names ids) n l
 unfolding area
 between-area names ids l n = rw (between-words names ids l)
 
@@ -115,7 +144,8 @@ overflow-numbers (Entry.interaction x ∷ l) f (suc i) n e = overflow-numbers l 
 
 -- ---- a file holds no more texts than bytes
 
-texts-room : (s : List ℕ) (n p : ℕ) (l : List Text) (q : ℕ) → times n one-text s p ≡ got l q → p ≤ length s → (p + n ≤ length s) × (length l ≡ n)
+texts-room : (s : List ℕ) (n p : ℕ) (l : List Text) (q : ℕ) → times n one-text s p ≡ got l q → p ≤ length s →
+    (p + n ≤ length s) × (length l ≡ n)
 unfolding times
 texts-room s zero p l q e h = (omega arith, ap length (sym (given _ _ _ e .0)))
 texts-room s (suc n) p l q e h =

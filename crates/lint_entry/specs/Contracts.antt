@@ -44,7 +44,8 @@ unfoldable pub firstM : List ℕ → (n : ℕ) → List ℕ
 firstM l n = fillM (λ i. getD l i 0) n 0 (replicate 32 0)
 
 unfoldable pub readSets : List ℕ → (entities rules : Section) → List ℕ
-readSets s e rules = fillM (λ i. readsM s e (getD (rules .starts) i 0) (walkM s (getD (rules .starts) i 0))) (rules .count) 0 (replicate 32 0)
+readSets s e rules = fillM (λ i. readsM s e (getD (rules .starts) i 0) (walkM s (getD (rules .starts) i 0))) (rules .count) 0
+    (replicate 32 0)
 
 unfoldable pub writeSets : List ℕ → (entities rules : Section) → List ℕ
 writeSets s e rules = fillM (λ i. writesM s e (walkM s (getD (rules .starts) i 0))) (rules .count) 0 (replicate 32 0)
@@ -53,7 +54,8 @@ writeSets s e rules = fillM (λ i. writesM s e (walkM s (getD (rules .starts) i 
 pub record Inserts (s : List ℕ) (i : Index) (F I : List ℕ) (r : Linted) (e : Board) : Type 0 where
   pub first : Linted
   pub between : Board
-  pub entries : Lints s (namesOf s i) (i .rules) (board (replicate (length F) 0) (replicate (length I) 0) (record { findings = 0; interactions = 0; refusal = 0 })) first between
+  pub entries : Lints s (namesOf s i) (i .rules) (board (replicate (length F) 0) (replicate (length I) 0)
+      (record { findings = 0; interactions = 0; refusal = 0 })) first between
   pub found : r .found ≡ first .found
   pub notes : AllNotes s (i .rules) (i .rules .count) 0 between e
 

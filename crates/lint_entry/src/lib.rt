@@ -85,7 +85,8 @@ fn rule_sets(
     extent: Extent,
 ) -> Touched
     requires { ⌜ (declared .count ≤ 32) × (extent .count ≤ 32) ⌝ }
-    ensures { λ r. ⌜ (r .reads ≡ readSets (was s) (sectionOf (was entities) declared) (sectionOf (was rules) extent)) × (r .writes ≡ writeSets (was s) (sectionOf (was entities) declared) (sectionOf (was rules) extent)) ⌝ }
+    ensures { λ r. ⌜ (r .reads ≡ readSets (was s) (sectionOf (was entities) declared) (sectionOf (was rules) extent))
+        × (r .writes ≡ writeSets (was s) (sectionOf (was entities) declared) (sectionOf (was rules) extent)) ⌝ }
 {
     let n = extent.count as usize;
     let many = declared.count;
@@ -170,7 +171,8 @@ fn told(s: &[u8], index: Index, out: Out, found: Components) -> Report
 // All entries of an accepted model into areas of zeros: their counts or the refusal, and the components.
 fn inserted(s: &[u8], index: Index, findings: &mut [u32], interactions: &mut [u32]) -> Linted
     requires { ⌜ Bounds index ⌝ }
-    ensures { λ r. ⌜ Inserts (was s) index (was findings) (was interactions) r (board (is findings) (is interactions) (r .out)) ⌝ }
+    ensures { λ r. ⌜ Inserts (was s) index (was findings) (was interactions) r
+        (board (is findings) (is interactions) (r .out)) ⌝ }
 {
     let entities = index.entities;
     let end = entities.end;
@@ -215,7 +217,8 @@ fn inserted(s: &[u8], index: Index, findings: &mut [u32], interactions: &mut [u3
 // The lint of an accepted model.
 fn linted(s: &[u8], index: Index, findings: &mut [u32], interactions: &mut [u32]) -> Report
     requires { ⌜ Bounds index ⌝ }
-    ensures { λ r. ⌜ AnswersAs (was s) index r (lent (was findings) (was interactions)) (lent (is findings) (is interactions)) ⌝ }
+    ensures { λ r. ⌜ AnswersAs (was s) index r (lent (was findings) (was interactions))
+        (lent (is findings) (is interactions)) ⌝ }
 {
     let l = inserted(s, index, findings, interactions);
     let out = l.out;

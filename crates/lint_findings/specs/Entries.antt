@@ -47,7 +47,8 @@ module _ (s : List ℕ) where
 
   -- unreachable_branch: of the choice at a position
   unfoldable pub branchItems : About → (p : ℕ) → List Item
-  branchItems a p = items-partsM (λ q. onlyIf (contradictoryM s q) (finding (actionM a 3 0 0 p))) (λ q. listEnd s (predicatesEnd s q)) (placeM s (past s p 9)) (past s (past s p 9) 2)
+  branchItems a p = items-partsM (λ q. onlyIf (contradictoryM s q) (finding (actionM a 3 0 0 p)))
+      (λ q. listEnd s (predicatesEnd s q)) (placeM s (past s p 9)) (past s (past s p 9) 2)
 
   -- of the k-th action
   unfoldable pub branchesAt : About → Walk → (k : ℕ) → List Item
@@ -65,7 +66,8 @@ module _ (s : List ℕ) where
   staleHereM e reads k = if holds reads k then staleM s (getD (e .starts) k 0) else false
 
   unfoldable pub freshItems : About → Section → (reads : ℕ) → List Item
-  freshItems a e reads = items-numbersM (λ k. onlyIf (staleHereM e reads k) (finding (aboutM a 6 1 k (a .line) (a .column)))) (e .count) 0
+  freshItems a e reads = items-numbersM (λ k. onlyIf (staleHereM e reads k) (finding (aboutM a 6 1 k (a .line) (a .column))))
+      (e .count) 0
 
   -- ---- writes
 
@@ -77,7 +79,8 @@ module _ (s : List ℕ) where
   riskyM d x v e = if ltb (tierM s (getD (d .entities .starts) e 0)) 2 then false else unguardedM s d x v
 
   unfoldable pub interactItems : (from : ℕ) → Section → (star x v e : ℕ) → List Item
-  interactItems from rules star x v e = items-numbersM (λ k. onlyIf (leadsM s star x v (getD (rules .starts) k 0)) (interaction (from ∷ k ∷ e ∷ []))) (rules .count) 0
+  interactItems from rules star x v e = items-numbersM
+      (λ k. onlyIf (leadsM s star x v (getD (rules .starts) k 0)) (interaction (from ∷ k ∷ e ∷ []))) (rules .count) 0
 
   -- missing_safety_guard, and the interactions, of the action at a position
   unfoldable pub writeItems : Names → (rules : Section) → About → (p : ℕ) → List Item
@@ -97,4 +100,5 @@ module _ (s : List ℕ) where
 
   -- all entries of the automation at a position
   unfoldable pub ruleItems : Names → (rules : Section) → About → (p : ℕ) → Walk → (reads writes : ℕ) → List Item
-  ruleItems d rules a p w reads writes = firstItems a p w writes ++ freshItems a (d .entities) reads ++ writesItems d rules a w
+  ruleItems d rules a p w reads writes = firstItems a p w writes ++ freshItems a (d .entities)
+      reads ++ writesItems d rules a w

@@ -9,7 +9,23 @@ ghost use Prim.Native.Nat.{ℕ, _≤_, _<_, _+_, _-_};
 ghost use Rattle.lint_walk.specs.Walks.{walkBy};
 ghost use Rattle.lint_areas.specs.Areas.{board, pushes};
 ghost use Rattle.lint_conditions.specs.Context.{sectionOf, namesBy};
-ghost use Rattle.lint_findings.specs.Entries.{aboutM, actionM, delayedM, ownItems, branchItems, branchesItems, staleHereM, freshItems, valueM, riskyM, interactItems, writeItems, writesItems, firstItems, ruleItems};
+ghost use Rattle.lint_findings.specs.Entries.{
+  aboutM,
+  actionM,
+  delayedM,
+  ownItems,
+  branchItems,
+  branchesItems,
+  staleHereM,
+  freshItems,
+  valueM,
+  riskyM,
+  interactItems,
+  writeItems,
+  writesItems,
+  firstItems,
+  ruleItems,
+};
 
 // An automation: its number, the set of it alone, the highest tier that it writes, its source.
 pub struct About {
@@ -76,7 +92,9 @@ fn own_findings(
     o: Out,
 ) -> Out
     requires { ⌜ count ≤ 512 ⌝ }
-    ensures { λ r. ⌜ ((i : List ℕ) → board (is findings) i r ≡ pushes (ownItems (was s) a at (walkBy (was list) count) writes) (board (was findings) i o)) ⌝ }
+    ensures { λ r.
+        ⌜ ((i : List ℕ) → board (is findings) i r ≡ pushes (ownItems (was s) a at (walkBy (was list) count) writes)
+        (board (was findings) i o)) ⌝ }
 {
     let line = a.line;
     let column = a.column;
@@ -92,7 +110,8 @@ fn own_findings(
 
 // The branches of the choice at a position that are never taken.
 fn choice_findings(s: &[u8], a: About, at: usize, findings: &mut [u32], o: Out) -> Out
-    ensures { λ r. ⌜ ((i : List ℕ) → board (is findings) i r ≡ pushes (branchItems (was s) a at) (board (was findings) i o)) ⌝ }
+    ensures { λ r.
+        ⌜ ((i : List ℕ) → board (is findings) i r ≡ pushes (branchItems (was s) a at) (board (was findings) i o)) ⌝ }
 {
     let words = at_action(s, a, 3, 0, 0, at);
     let start = lint_walk::past(s, at, 9);
@@ -116,7 +135,9 @@ fn branch_findings(
     o: Out,
 ) -> Out
     requires { ⌜ count ≤ 512 ⌝ }
-    ensures { λ r. ⌜ ((i : List ℕ) → board (is findings) i r ≡ pushes (branchesItems (was s) a (walkBy (was list) count)) (board (was findings) i o)) ⌝ }
+    ensures { λ r.
+        ⌜ ((i : List ℕ) → board (is findings) i r ≡ pushes (branchesItems (was s) a (walkBy (was list) count))
+        (board (was findings) i o)) ⌝ }
 {
     let mut out = o;
     let mut k: usize = 0;
@@ -154,7 +175,9 @@ fn fresh_findings(
     o: Out,
 ) -> Out
     requires { ⌜ extent .count ≤ 32 ⌝ }
-    ensures { λ r. ⌜ ((i : List ℕ) → board (is findings) i r ≡ pushes (freshItems (was s) a (sectionOf (was entities) extent) reads) (board (was findings) i o)) ⌝ }
+    ensures { λ r.
+        ⌜ ((i : List ℕ) → board (is findings) i r ≡ pushes (freshItems (was s) a (sectionOf (was entities) extent) reads)
+        (board (was findings) i o)) ⌝ }
 {
     let count = extent.count as usize;
     let line = a.line;
@@ -219,7 +242,9 @@ fn interactions_of(
     o: Out,
 ) -> Out
     requires { ⌜ extent .count ≤ 32 ⌝ }
-    ensures { λ r. ⌜ ((f : List ℕ) → board f (is interactions) r ≡ pushes (interactItems (was s) from (sectionOf (was rules) extent) star x v e) (board f (was interactions) o)) ⌝ }
+    ensures { λ r.
+        ⌜ ((f : List ℕ) → board f (is interactions) r ≡ pushes
+        (interactItems (was s) from (sectionOf (was rules) extent) star x v e) (board f (was interactions) o)) ⌝ }
 {
     let count = extent.count as usize;
     let mut out = o;
@@ -246,7 +271,9 @@ fn write_findings(
     o: Out,
 ) -> Out
     requires { ⌜ (given .entities .count ≤ 32) × (given .invariants .count ≤ 32) × (given .rules .count ≤ 32) ⌝ }
-    ensures { λ r. ⌜ board (is findings) (is interactions) r ≡ pushes (writeItems (was s) (namesBy (was entities) (was invariants) given) (sectionOf (was rules) (given .rules)) a at) (board (was findings) (was interactions) o) ⌝ }
+    ensures { λ r. ⌜ board (is findings) (is interactions) r
+        ≡ pushes (writeItems (was s) (namesBy (was entities) (was invariants) given) (sectionOf (was rules) (given .rules))
+        a at) (board (was findings) (was interactions) o) ⌝ }
 {
     if 1 < lint_walk::kind_at(s, at) {
         return o;
@@ -289,8 +316,11 @@ fn writes_findings(
     interactions: &mut [u32],
     o: Out,
 ) -> Out
-    requires { ⌜ (given .entities .count ≤ 32) × (given .invariants .count ≤ 32) × (given .rules .count ≤ 32) × (count ≤ 512) ⌝ }
-    ensures { λ r. ⌜ board (is findings) (is interactions) r ≡ pushes (writesItems (was s) (namesBy (was entities) (was invariants) given) (sectionOf (was rules) (given .rules)) a (walkBy (was list) count)) (board (was findings) (was interactions) o) ⌝ }
+    requires { ⌜ (given .entities .count ≤ 32) × (given .invariants .count ≤ 32) × (given .rules .count ≤ 32)
+        × (count ≤ 512) ⌝ }
+    ensures { λ r. ⌜ board (is findings) (is interactions) r
+        ≡ pushes (writesItems (was s) (namesBy (was entities) (was invariants) given) (sectionOf (was rules) (given .rules))
+        a (walkBy (was list) count)) (board (was findings) (was interactions) o) ⌝ }
 {
     let mut out = o;
     let mut k: usize = 0;
@@ -326,7 +356,9 @@ fn first_findings(
     o: Out,
 ) -> Out
     requires { ⌜ count ≤ 512 ⌝ }
-    ensures { λ r. ⌜ ((i : List ℕ) → board (is findings) i r ≡ pushes (firstItems (was s) a at (walkBy (was list) count) writes) (board (was findings) i o)) ⌝ }
+    ensures { λ r.
+        ⌜ ((i : List ℕ) → board (is findings) i r ≡ pushes (firstItems (was s) a at (walkBy (was list) count) writes)
+        (board (was findings) i o)) ⌝ }
 {
     let p = own_findings(s, a, at, list, count, writes, findings, o);
     let q = branch_findings(s, a, list, count, findings, p);
@@ -340,7 +372,8 @@ fn first_findings(
     )
 }
 
-// The entries of the automation at a position, with its actions, the first `count` of `list`, and the sets of what it reads and writes.
+// The entries of the automation at a position, with its actions, the first `count` of `list`, and the sets of what it reads
+// and writes.
 pub fn rule_findings(
     s: &[u8],
     entities: &[usize; 100],
@@ -357,8 +390,11 @@ pub fn rule_findings(
     interactions: &mut [u32],
     o: Out,
 ) -> Out
-    requires { ⌜ (given .entities .count ≤ 32) × (given .invariants .count ≤ 32) × (given .rules .count ≤ 32) × (count ≤ 512) ⌝ }
-    ensures { λ r. ⌜ board (is findings) (is interactions) r ≡ pushes (ruleItems (was s) (namesBy (was entities) (was invariants) given) (sectionOf (was rules) (given .rules)) a at (walkBy (was list) count) reads writes) (board (was findings) (was interactions) o) ⌝ }
+    requires { ⌜ (given .entities .count ≤ 32) × (given .invariants .count ≤ 32) × (given .rules .count ≤ 32)
+        × (count ≤ 512) ⌝ }
+    ensures { λ r. ⌜ board (is findings) (is interactions) r
+        ≡ pushes (ruleItems (was s) (namesBy (was entities) (was invariants) given) (sectionOf (was rules) (given .rules))
+        a at (walkBy (was list) count) reads writes) (board (was findings) (was interactions) o) ⌝ }
 {
     let p = first_findings(s, a, at, list, count, writes, findings, o);
     let q = fresh_findings(s, a, entities, given.entities, reads, findings, p);

@@ -21,11 +21,14 @@ a-finding = record {
   tier = text "access_safety";
 }
 
-finding : finding-line (text "potential") a-finding ≡ text "finding freshness_assumption potential access_safety \"do\\\"or has modeled freshness expiry\" automations 1 \"lock\" sources 1 7:3\n"
+finding : finding-line (text "potential") a-finding
+    ≡ text
+    "finding freshness_assumption potential access_safety \"do\\\"or has modeled freshness expiry\" automations 1 \"lock\" sources 1 7:3\n"
 unfolding a-finding all-lines words.all-lines all-lists all-texts show.all-lines code-name message placed
 finding = refl
 
-interaction : interaction-line (record { from = text "a"; to = text "b"; entity = text "x" }) ≡ text "interaction \"a\" \"b\" \"x\"\n"
+interaction : interaction-line (record { from = text "a"; to = text "b"; entity = text "x" })
+    ≡ text "interaction \"a\" \"b\" \"x\"\n"
 unfolding all-lines all-lists show.all-lines
 interaction = refl
 

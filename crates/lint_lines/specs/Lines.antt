@@ -1,4 +1,5 @@
--- The lines of `lint` on findings, interactions and components, with their newlines: what a reader of the program's output sees.
+-- The lines of `lint` on findings, interactions and components, with their newlines: what a reader of the program's output
+-- sees.
 use Prim.Native.Nat.{ℕ}
 use mathlib.Core.List.{List, [], _∷_, _++_}
 use Rattle.texts.specs.Lists.{each}

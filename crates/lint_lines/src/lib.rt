@@ -1,5 +1,5 @@
-// The lines of the findings, interactions and components of `lint`'s answer, and of their counts. The writers put texts behind
-// the first n bytes of a lent area, as those of `show` do. f is the model file.
+// The lines of the findings, interactions and components of `lint`'s answer, and of their counts. The writers put texts
+// behind the first n bytes of a lent area, as those of `show` do. f is the model file.
 use lint_entry::Report;
 use lint_words::long;
 use lint_words::put_certainty;
@@ -25,9 +25,25 @@ ghost use Rattle.reasons.specs.Reasons.{placed};
 ghost use Rattle.lint_spec.specs.Findings.{code-name};
 ghost use Rattle.lint_reach.specs.Sets.{holds, members};
 ghost use Rattle.show.specs.Writing.{Written};
-ghost use Rattle.lint_lines.specs.Lines.{source-list, kind-part, places-part, counts-line, interaction-line, component-line};
+ghost use Rattle.lint_lines.specs.Lines.{
+  source-list,
+  kind-part,
+  places-part,
+  counts-line,
+  interaction-line,
+  component-line,
+};
 ghost use Rattle.lint_words.specs.Numbers.{names-of, problem-of, certainty-of, tier-of};
-ghost use Rattle.lint_lines.specs.Numbers.{rule-source, note-of, sources-of, finding-text, finding-at, interaction-of, interaction-at, component-at};
+ghost use Rattle.lint_lines.specs.Numbers.{
+  rule-source,
+  note-of,
+  sources-of,
+  finding-text,
+  finding-at,
+  interaction-of,
+  interaction-at,
+  component-at,
+};
 
 // ---- sources
 
@@ -42,7 +58,9 @@ fn put_place(out: &mut [u8], n: usize, line: u32, column: u32) -> usize
 // The source of the i-th automation, if it is in the set.
 fn put_rule_source(out: &mut [u8], n: usize, f: &[u8], rules: Section, set: u32, i: usize) -> usize
     requires { ⌜ i < 32 ⌝ }
-    ensures { λ m. ⌜ Written (if holds set i then 32 ∷ placed (rule-source (was f) rules i .line) (rule-source (was f) rules i .column) else []) (was out) n (is out) m ⌝ }
+    ensures { λ m.
+        ⌜ Written (if holds set i then 32 ∷ placed (rule-source (was f) rules i .line) (rule-source (was f) rules i .column)
+        else []) (was out) n (is out) m ⌝ }
 {
     if lint_reach::has(set, i) {
         let source = lint_walk::source_at(f, start_at(rules, i));
@@ -88,7 +106,9 @@ fn put_sources(out: &mut [u8], n: usize, f: &[u8], rules: Section, w: &[u32]) ->
 
 // `finding CODE CERTAINTY TIER `
 fn put_kind(out: &mut [u8], n: usize, code: u32, certainty: u32, tier: u32) -> usize
-    ensures { λ m. ⌜ ((x t : Text) → Written (kind-part (code-name (problem-of x t code)) (certainty-of certainty) (tier-of tier)) (was out) n (is out) m) ⌝ }
+    ensures { λ m.
+        ⌜ ((x t : Text) → Written (kind-part (code-name (problem-of x t code)) (certainty-of certainty) (tier-of tier))
+        (was out) n (is out) m) ⌝ }
 {
     let a = show::put(out, n, b"finding ");
     let b = put_code(out, a, code);
@@ -102,7 +122,8 @@ fn put_kind(out: &mut [u8], n: usize, code: u32, certainty: u32, tier: u32) -> u
 // ` automations N "ID".. sources N LINE:COLUMN..`
 fn put_places(out: &mut [u8], n: usize, f: &[u8], rules: Section, w: &[u32]) -> usize
     requires { ⌜ 14 ≤ length (now w) ⌝ }
-    ensures { λ m. ⌜ Written (places-part (names-of (was f) rules (getD (was w) 4 0)) (sources-of (was f) rules (was w))) (was out) n (is out) m ⌝ }
+    ensures { λ m. ⌜ Written (places-part (names-of (was f) rules (getD (was w) 4 0)) (sources-of (was f) rules (was w)))
+        (was out) n (is out) m ⌝ }
 {
     let a = show::put(out, n, b" automations ");
     let b = put_members(out, a, f, rules, w[4]);

@@ -17,7 +17,8 @@ use Rattle.lint_findings.specs.Entries.{items-numbersM}
 -- the words of the j-th reason's finding
 unfoldable pub noteM : (set line column : ℕ) → (reasons : List ℕ) → (j : ℕ) → List ℕ
 noteM set line column u j =
-    9 ∷ 2 ∷ 5 ∷ 0 ∷ set ∷ line ∷ column ∷ 0 ∷ 0 ∷ getD u (5 * j) 0 ∷ getD u (5 * j + 1) 0 ∷ getD u (5 * j + 2) 0 ∷ getD u (5 * j + 3) 0 ∷ getD u (5 * j + 4) 0 ∷ []
+    9 ∷ 2 ∷ 5 ∷ 0 ∷ set ∷ line ∷ column ∷ 0 ∷ 0 ∷ getD u (5 * j) 0 ∷ getD u (5 * j + 1) 0 ∷ getD u (5 * j + 2) 0 ∷ getD u
+    (5 * j + 3) 0 ∷ getD u (5 * j + 4) 0 ∷ []
 
 unfoldable pub noteItems : (set line column : ℕ) → (reasons : List ℕ) → (count : ℕ) → List Item
 noteItems set line column u n = items-numbersM (λ j. finding (noteM set line column u j) ∷ []) n 0
@@ -45,7 +46,8 @@ pub record RuleNotes (s : List ℕ) (rules : Section) (i : ℕ) (b c : Board) : 
   pub are-reasons : listed s many reasons ≡ ruleM s row 0 []
   pub clean : HasText s → Clean s many reasons
   pub counts : Few many count
-  pub inserted : c ≡ pushes (noteItems (bitOr 0 (2 ^ i)) (numberM s (walkM s (getD (rules .starts) i 0) .next)) (numberM s (past s (walkM s (getD (rules .starts) i 0) .next) 4)) reasons count) b
+  pub inserted : c ≡ pushes (noteItems (bitOr 0 (2 ^ i)) (numberM s (walkM s (getD (rules .starts) i 0) .next))
+      (numberM s (past s (walkM s (getD (rules .starts) i 0) .next) 4)) reasons count) b
 
 -- the i-th automation stands at p
 abbrev pub NotesAt : (s : List ℕ) → (p i : ℕ) → (b c : Board) → Type 0
@@ -54,4 +56,5 @@ NotesAt s p i b c = (rules : Section) → p ≡ getD (rules .starts) i 0 → Rul
 -- those of `left` automations from the i-th on
 pub data AllNotes (s : List ℕ) (rules : Section) : (left i : ℕ) → Board → Board → Type 0 where
   no-notes : {i : ℕ} {b : Board} → AllNotes s rules zero i b b
-  more-notes : {left i : ℕ} {b c e : Board} → RuleNotes s rules i b c → AllNotes s rules left (i + 1) c e → AllNotes s rules (suc left) i b e
+  more-notes : {left i : ℕ} {b c e : Board} → RuleNotes s rules i b c → AllNotes s rules left (i + 1) c e →
+      AllNotes s rules (suc left) i b e

@@ -70,7 +70,9 @@ fn note_findings(
     o: Out,
 ) -> Out
     requires { ⌜ count ≤ 300 ⌝ }
-    ensures { λ r. ⌜ ((k : List ℕ) → board (is findings) k r ≡ pushes (noteItems set line column (was reasons) count) (board (was findings) k o)) ⌝ }
+    ensures { λ r.
+        ⌜ ((k : List ℕ) → board (is findings) k r ≡ pushes (noteItems set line column (was reasons) count)
+        (board (was findings) k o)) ⌝ }
 {
     let mut out = o;
     let mut j: usize = 0;
@@ -113,7 +115,8 @@ fn rule_notes(
 // The notes of all automations.
 pub fn notes(s: &[u8], rules: Section, findings: &mut [u32], o: Out) -> Out
     requires { ⌜ rules .count ≤ 32 ⌝ }
-    ensures { λ r. ⌜ ((k : List ℕ) → AllNotes (was s) rules (rules .count) 0 (board (was findings) k o) (board (is findings) k r)) ⌝ }
+    ensures { λ r.
+        ⌜ ((k : List ℕ) → AllNotes (was s) rules (rules .count) 0 (board (was findings) k o) (board (is findings) k r)) ⌝ }
 {
     let count = rules.count as usize;
     let mut words = [0u32; 436];

@@ -21,7 +21,8 @@ spelledM t = if eqb t 3 then 4 else t
 module _ (s : List ℕ) where
   unfoldable pub pairM : Section → (set e p q : ℕ) → List ℕ
   pairM es set e p q =
-      8 ∷ 1 ∷ spelledM (tierM s (getD (es .starts) e 0)) ∷ e ∷ set ∷ numberM s p ∷ numberM s (past s p 4) ∷ numberM s q ∷ numberM s (past s q 4) ∷ 0 ∷ 0 ∷ 0 ∷ 0 ∷ 0 ∷ []
+      8 ∷ 1 ∷ spelledM (tierM s (getD (es .starts) e 0)) ∷ e ∷ set ∷ numberM s p ∷ numberM s
+      (past s p 4) ∷ numberM s q ∷ numberM s (past s q 4) ∷ 0 ∷ 0 ∷ 0 ∷ 0 ∷ 0 ∷ []
 
   unfoldable pub opposeItems : Names → (set p q : ℕ) → List Item
   opposeItems d set p q =
@@ -30,7 +31,8 @@ module _ (s : List ℕ) where
       if ltb 1 (kindM s p) then []
       else if ltb 1 (kindM s q) then []
       else if leb (d .entities .count) e then []
-      else onlyIf (opposedM (d .star) x (valueM s (d .star) p) (placeM s (past s q 9)) (valueM s (d .star) q)) (finding (pairM (d .entities) set e p q))
+      else onlyIf (opposedM (d .star) x (valueM s (d .star) p) (placeM s (past s q 9)) (valueM s (d .star) q))
+      (finding (pairM (d .entities) set e p q))
 
   -- whether the action at q writes against a write of v to x
   unfoldable pub opposingM : (star x v q : ℕ) → Bool

@@ -84,7 +84,9 @@ fn oppose(
     o: Out,
 ) -> Out
     requires { ⌜ extent .count ≤ 32 ⌝ }
-    ensures { λ r. ⌜ ((i : List ℕ) → board (is findings) i r ≡ pushes (foundItems (was s) (sectionOf (was entities) extent) set x at other) (board (was findings) i o)) ⌝ }
+    ensures { λ r.
+        ⌜ ((i : List ℕ) → board (is findings) i r ≡ pushes
+        (foundItems (was s) (sectionOf (was entities) extent) set x at other) (board (was findings) i o)) ⌝ }
 {
     let count = extent.count as usize;
     let e = model_check::first_of(s, entities, extent.count, x);
@@ -112,7 +114,10 @@ fn oppose_row(
     o: Out,
 ) -> Out
     requires { ⌜ (given .entities .count ≤ 32) × (count ≤ 512) ⌝ }
-    ensures { λ r. ⌜ ((i : List ℕ) → board (is findings) i r ≡ pushes (rowItems (was s) (namesBy (was entities) (was invariants) given) set (walkBy (was list) count) at) (board (was findings) i o)) ⌝ }
+    ensures { λ r.
+        ⌜ ((i : List ℕ) → board (is findings) i r ≡ pushes
+        (rowItems (was s) (namesBy (was entities) (was invariants) given) set (walkBy (was list) count) at)
+        (board (was findings) i o)) ⌝ }
 {
     if 1 < lint_walk::kind_at(s, at) {
         return o;
@@ -159,7 +164,10 @@ pub fn oppose_pair(
     o: Out,
 ) -> Out
     requires { ⌜ (given .entities .count ≤ 32) × (m ≤ 512) × (n ≤ 512) ⌝ }
-    ensures { λ r. ⌜ ((i : List ℕ) → board (is findings) i r ≡ pushes (pairItems (was s) (namesBy (was entities) (was invariants) given) set (walkBy (was list) m) (walkBy (was others) n)) (board (was findings) i o)) ⌝ }
+    ensures { λ r.
+        ⌜ ((i : List ℕ) → board (is findings) i r ≡ pushes
+        (pairItems (was s) (namesBy (was entities) (was invariants) given) set (walkBy (was list) m) (walkBy (was others) n))
+        (board (was findings) i o)) ⌝ }
 {
     let mut out = o;
     let mut k: usize = 0;

@@ -30,7 +30,8 @@ bit-or : (x y j : ℕ) → bit (bitOr x y) j ≡ max (bit x j) (bit y j)
 unfolding bit
 bit-or x y j =
     ap (λ (n : ℕ). n % 2) (or-shr x y j ∙ or-step (x / 2 ^ j) (y / 2 ^ j))
-    ∙ low (bitOr (x / 2 ^ j / 2) (y / 2 ^ j / 2)) (max (x / 2 ^ j % 2) (y / 2 ^ j % 2)) (max-lt (x / 2 ^ j % 2) (y / 2 ^ j % 2) (omega arith) (omega arith))
+    ∙ low (bitOr (x / 2 ^ j / 2) (y / 2 ^ j / 2)) (max (x / 2 ^ j % 2) (y / 2 ^ j % 2))
+    (max-lt (x / 2 ^ j % 2) (y / 2 ^ j % 2) (omega arith) (omega arith))
 
 pub shl1 : (i : ℕ) → i < 32 → 1 * 2 ^ i % 4294967296 ≡ 2 ^ i
 shl1 i h = rw one-mul (mod-eq-of-lt (pow-lt h))
@@ -63,7 +64,8 @@ holds-self i = rw (div-self (pow-pos i))
 holds-below : (j m : ℕ) → holds (2 ^ (j + suc m)) j ≡ false
 unfolding holds
 holds-below j m =
-    let e : 2 ^ (j + suc m) / 2 ^ j ≡ 2 ^ suc m = ap (λ (n : ℕ). n / 2 ^ j) (pow-add 2 j (suc m) ∙ mul-comm (2 ^ j) (2 ^ suc m)) ∙ shl-shr (2 ^ suc m) j in
+    let e : 2 ^ (j + suc m) / 2 ^ j ≡ 2 ^ suc m = ap (λ (n : ℕ). n / 2 ^ j)
+    (pow-add 2 j (suc m) ∙ mul-comm (2 ^ j) (2 ^ suc m)) ∙ shl-shr (2 ^ suc m) j in
     rw (e, even-pow m)
 
 holds-above : (i j : ℕ) → i < j → holds (2 ^ i) j ≡ false
@@ -164,7 +166,8 @@ module _ (f : ℕ → Bool) where
           and-false true = refl
           and-false false = refl
 
-      cases : Three i j → (i + 1 ≤ j → j < i + 1 + n → holds y j ≡ false → holds (collect f n (i + 1) y) j ≡ f j) → holds (collect f n (i + 1) y) j ≡ f j
+      cases : Three i j → (i + 1 ≤ j → j < i + 1 + n → holds y j ≡ false → holds (collect f n (i + 1) y) j ≡ f j) →
+          holds (collect f n (i + 1) y) j ≡ f j
       cases (less z) ih = ih (omega arith) (omega arith) (later z)
       cases (same z) ih = collect-outside n (i + 1) y j (inl (omega arith)) ∙ here z
       cases (more z) ih = absurd (omega arith)
@@ -172,16 +175,19 @@ module _ (f : ℕ → Bool) where
 -- ---- lists of places
 
 -- two tests that agree on the places keep the same
-pub keep-same : (f g : ℕ → Bool) (n i : ℕ) → ((j : ℕ) → i ≤ j → j < i + n → f j ≡ g j) → keep f (places n i) ≡ keep g (places n i)
+pub keep-same : (f g : ℕ → Bool) (n i : ℕ) → ((j : ℕ) → i ≤ j → j < i + n → f j ≡ g j) →
+    keep f (places n i) ≡ keep g (places n i)
 unfolding keep places
 keep-same f g zero i h = refl
 keep-same f g (suc n) i h =
-    rw (h i (omega arith) (omega arith)) (ap (λ (l : List ℕ). if g i then i ∷ l else l) (keep-same f g n (i + 1) (λ j a b. h j (omega arith) (omega arith))))
+    rw (h i (omega arith) (omega arith)) (ap (λ (l : List ℕ). if g i then i ∷ l else l)
+    (keep-same f g n (i + 1) (λ j a b. h j (omega arith) (omega arith))))
 
 pub keep-none : (f : ℕ → Bool) (n i : ℕ) → ((j : ℕ) → i ≤ j → j < i + n → f j ≡ false) → keep f (places n i) ≡ []
 unfolding keep places
 keep-none f zero i h = refl
-keep-none f (suc n) i h = rw (h i (omega arith) (omega arith)) (keep-none f n (i + 1) (λ j a b. h j (omega arith) (omega arith)))
+keep-none f (suc n) i h = rw (h i (omega arith) (omega arith))
+    (keep-none f n (i + 1) (λ j a b. h j (omega arith) (omega arith)))
 
 pub places-more : (a b i : ℕ) → places (a + b) i ≡ places a i ++ places b (i + a)
 unfolding places
@@ -199,7 +205,8 @@ unfolding keep
 keep-append f [] m = refl
 keep-append f (x ∷ l) m = cases (f x) (keep-append f l m)
   where
-    cases : (b : Bool) → keep f (l ++ m) ≡ keep f l ++ keep f m → (if b then x ∷ keep f (l ++ m) else keep f (l ++ m)) ≡ (if b then x ∷ keep f l else keep f l) ++ keep f m
+    cases : (b : Bool) → keep f (l ++ m) ≡ keep f l ++ keep f m →
+        (if b then x ∷ keep f (l ++ m) else keep f (l ++ m)) ≡ (if b then x ∷ keep f l else keep f l) ++ keep f m
     cases true ih = ap (λ (z : List ℕ). x ∷ z) ih
     cases false ih = ih
 
@@ -212,8 +219,10 @@ collect-members f n h =
     ap (λ (k : ℕ). keep (holds x) (places k 0)) e
     ∙ ap (keep (holds x)) (places-more n (32 - n) 0)
     ∙ keep-append (holds x) (places n 0) (places (32 - n) (0 + n))
-    ∙ ap (λ (l : List ℕ). l ++ keep (holds x) (places (32 - n) (0 + n))) (keep-same (holds x) f n 0 (λ j a b. collect-inside f n 0 0 j a b (holds-none j)))
-    ∙ ap (λ (l : List ℕ). keep f (places n 0) ++ l) (keep-none (holds x) (32 - n) (0 + n) (λ j a b. collect-outside f n 0 0 j (inr (omega arith)) ∙ holds-none j))
+    ∙ ap (λ (l : List ℕ). l ++ keep (holds x) (places (32 - n) (0 + n)))
+    (keep-same (holds x) f n 0 (λ j a b. collect-inside f n 0 0 j a b (holds-none j)))
+    ∙ ap (λ (l : List ℕ). keep f (places n 0) ++ l) (keep-none (holds x) (32 - n) (0 + n)
+    (λ j a b. collect-outside f n 0 0 j (inr (omega arith)) ∙ holds-none j))
     ∙ append-nil (keep f (places n 0))
 
 -- ---- how many
@@ -230,13 +239,15 @@ ones-from x zero i h =
 ones-from x (suc n) i h =
     ones-step (x / 2 ^ i)
     ∙ ap (λ (k : ℕ). x / 2 ^ i % 2 + ones k) (shr-shr x i 1)
-    ∙ ap (λ (k : ℕ). x / 2 ^ i % 2 + k) (ones-from x n (i + 1) (rw (shr-shr x i 1) at (shr-lt {n = x / 2 ^ i} n 1 (rw e at h))))
+    ∙ ap (λ (k : ℕ). x / 2 ^ i % 2 + k) (ones-from x n (i + 1)
+    (rw (shr-shr x i 1) at (shr-lt {n = x / 2 ^ i} n 1 (rw e at h))))
     ∙ cases (x / 2 ^ i % 2) (omega arith)
   where
     e : suc n ≡ n + 1
     e = omega arith
 
-    cases : (b : ℕ) → b < 2 → b + length (keep (holds x) (places n (i + 1))) ≡ length (if eqb b 1 then i ∷ keep (holds x) (places n (i + 1)) else keep (holds x) (places n (i + 1)))
+    cases : (b : ℕ) → b < 2 → b + length (keep (holds x) (places n (i + 1)))
+        ≡ length (if eqb b 1 then i ∷ keep (holds x) (places n (i + 1)) else keep (holds x) (places n (i + 1)))
     cases zero k = omega arith
     cases (suc zero) k = omega arith
     cases (suc (suc b)) k = absurd (omega arith)

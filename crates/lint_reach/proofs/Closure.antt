@@ -21,14 +21,16 @@ either false f g = g refl
 same? : {C : Type 0} (a b : ℕ) → (a ≡ b → C) → ((a ≡ b → ⊥) → C) → C
 same? a b f g = either (eqb a b) (λ e. f (eqb-true a b e)) (λ e. g (eqb-false a b e))
 
-n-step : (P : ℕ → Square → Type 0) (f : ℕ → Square → Square) → ((i : ℕ) (r : Square) → i < 32 → P i r → P (i + 1) (f i r)) → (n i : ℕ) (r : Square) → i + n ≤ 32 → P i r → P (i + n) (steps f n i r)
+n-step : (P : ℕ → Square → Type 0) (f : ℕ → Square → Square) → ((i : ℕ) (r : Square) → i < 32 → P i r → P (i + 1) (f i r)) →
+    (n i : ℕ) (r : Square) → i + n ≤ 32 → P i r → P (i + n) (steps f n i r)
 unfolding steps
 n-step P f h zero i r l p = rw add-zero p
 n-step P f h (suc n) i r l p =
     let e : i + 1 + n ≡ i + suc n = omega arith in
     rw e at (n-step P f h n (i + 1) (f i r) (omega arith) (h i r (omega arith) p))
 
-all-steps : (P : ℕ → Square → Type 0) (f : ℕ → Square → Square) → ((i : ℕ) (r : Square) → i < 32 → P i r → P (i + 1) (f i r)) → (r : Square) → P 0 r → P 32 (steps f 32 0 r)
+all-steps : (P : ℕ → Square → Type 0) (f : ℕ → Square → Square) →
+    ((i : ℕ) (r : Square) → i < 32 → P i r → P (i + 1) (f i r)) → (r : Square) → P 0 r → P 32 (steps f 32 0 r)
 all-steps P f h r p = n-step P f h 32 0 r (omega arith) p
 
 module _ (x : Square) (s : Full x) where
@@ -55,13 +57,15 @@ module _ (x : Square) (s : Full x) where
     row-other a n = getD-set-other x i a (set (getD x i []) j true) [] n
 
     pub put-here : cell (put x i j) i j ≡ true
-    put-here = ap (λ (l : List Bool). getD l j false) row-i ∙ getD-set-same (getD x i []) j true false (omega (arith, s .cells i hi))
+    put-here = ap (λ (l : List Bool). getD l j false) row-i
+        ∙ getD-set-same (getD x i []) j true false (omega (arith, s .cells i hi))
 
     pub put-only : (a b : ℕ) → cell (put x i j) a b ≡ true → (cell x a b ≡ true) ⊎ ((a ≡ i) × (b ≡ j))
     put-only a b e =
         same? a i
         (λ p. same? b j (λ q. inr (p, q))
-        (λ q. inl (ap (λ (r : ℕ). cell x r b) p ∙ sym (getD-set-other (getD x i []) j b true false q) ∙ ap (λ (l : List Bool). getD l b false) (sym row-i) ∙ ap (λ (r : ℕ). cell (put x i j) r b) (sym p) ∙ e)))
+        (λ q. inl (ap (λ (r : ℕ). cell x r b) p ∙ sym (getD-set-other (getD x i []) j b true false q)
+        ∙ ap (λ (l : List Bool). getD l b false) (sym row-i) ∙ ap (λ (r : ℕ). cell (put x i j) r b) (sym p) ∙ e)))
         (λ p. inl (ap (λ (l : List Bool). getD l b false) (sym (row-other a p)) ∙ e))
 
     pub put-keeps : (a b : ℕ) → cell x a b ≡ true → cell (put x i j) a b ≡ true
@@ -69,7 +73,8 @@ module _ (x : Square) (s : Full x) where
         same? a i
         (λ p. same? b j
         (λ q. rw (p, q) put-here)
-        (λ q. rw p (ap (λ (l : List Bool). getD l b false) row-i ∙ getD-set-other (getD x i []) j b true false q ∙ rw p at e)))
+        (λ q. rw p (ap (λ (l : List Bool). getD l b false) row-i ∙ getD-set-other (getD x i []) j b true false q
+        ∙ rw p at e)))
         (λ p. ap (λ (l : List Bool). getD l b false) (row-other a p) ∙ e)
 
     pub put-full : Full (put x i j)
@@ -116,7 +121,8 @@ module _ (x : Square) (s : Full x) (k : ℕ) (hk : k < 32) where
           at = record {
             full = put-full y f i j hi hj;
             keeps = λ a b u. put-keeps y f i j hi hj a b (p .at .keeps a b u);
-            only = λ a b u. ⊎-elim (λ v. p .at .only a b v) (λ v. inr (rw (v .0) e, rw (v .1) h)) (put-only y f i j hi hj a b u);
+            only = λ a b u. ⊎-elim (λ v. p .at .only a b v) (λ v. inr (rw (v .0) e, rw (v .1) h))
+                (put-only y f i j hi hj a b u);
           };
           done = λ a b l u v. put-keeps y f i j hi hj a b (p .done a b l u v);
           row = λ b l u. below b j l (λ m. put-keeps y f i j hi hj i b (p .row b m u)) (λ m. rw m (put-here y f i j hi hj));
@@ -139,7 +145,8 @@ module _ (x : Square) (s : Full x) (k : ℕ) (hk : k < 32) where
       either (cell y i k)
       (λ t.
       let h : cell x i k ≡ true = ⊎-elim (λ u. u) (λ u. u .0) (p .at .only i k t) in
-      let r = all-steps (Row i hi h) (step-cellM k i) (row-step i hi h) y (record { at = p .at; done = p .done; row = λ b l u. absurd (omega arith) }) in
+      let r = all-steps (Row i hi h) (step-cellM k i) (row-step i hi h) y
+      (record { at = p .at; done = p .done; row = λ b l u. absurd (omega arith) }) in
       rw (when-true (cell y i k) (steps (step-cellM k i) 32 0 y) y t)
       record {
         at = r .at;
@@ -154,7 +161,11 @@ module _ (x : Square) (s : Full x) (k : ℕ) (hk : k < 32) where
 
   stage : Done 32 (step-passM k x)
   unfolding Rows
-  stage = all-steps Done (step-rowM k) rows-step x (record { at = record { full = s; keeps = λ a b u. u; only = λ a b u. inl u }; done = λ a b l u v. absurd (omega arith) })
+  stage = all-steps Done (step-rowM k) rows-step x (record {
+    at =
+        record { full = s; keeps = λ a b u. u; only = λ a b u. inl u };
+    done = λ a b l u v. absurd (omega arith);
+  })
 
 -- the whole, before stage k
 record Closing (e : Square) (k : ℕ) (y : Square) : Type 0 where
@@ -168,16 +179,20 @@ unfolding Rows
 closing-step e k x hk p =
     let d = stage x (p .full) k hk in
     let t = d .at in
-    let via : (a b : ℕ) → cell x a k ≡ true → cell x k b ≡ true → cell (step-passM k x) a b ≡ true = λ a b u v. d .done a b (bound-row x (p .full) a k u) u v in
+    let via : (a b : ℕ) → cell x a k ≡ true → cell x k b ≡ true → cell (step-passM k x) a b ≡ true =
+    λ a b u v. d .done a b (bound-row x (p .full) a k u) u v in
     record {
       full = t .full;
       keeps = λ a b u. t .keeps a b (p .keeps a b u);
-      sound = λ a b u. ⊎-elim (λ v. p .sound a b v) (λ v. joined (p .sound a k (v .0)) (p .sound k b (v .1))) (t .only a b u);
+      sound = λ a b u. ⊎-elim (λ v. p .sound a b v) (λ v. joined (p .sound a k (v .0)) (p .sound k b (v .1)))
+          (t .only a b u);
       joins = λ m a b l u v.
           below m k l
           (λ h. ⊎-elim
-          (λ u₁. ⊎-elim (λ v₁. t .keeps a b (p .joins m a b h u₁ v₁)) (λ v₁. via a b (p .joins m a k h u₁ (v₁ .0)) (v₁ .1)) (t .only m b v))
-          (λ u₁. ⊎-elim (λ v₁. via a b (u₁ .0) (p .joins m k b h (u₁ .1) v₁)) (λ v₁. via a b (u₁ .0) (v₁ .1)) (t .only m b v))
+          (λ u₁. ⊎-elim (λ v₁. t .keeps a b (p .joins m a b h u₁ v₁)) (λ v₁. via a b (p .joins m a k h u₁ (v₁ .0)) (v₁ .1))
+          (t .only m b v))
+          (λ u₁. ⊎-elim (λ v₁. via a b (u₁ .0) (p .joins m k b h (u₁ .1) v₁)) (λ v₁. via a b (u₁ .0) (v₁ .1))
+          (t .only m b v))
           (t .only a m u))
           (λ h.
           let u₁ : cell x a k ≡ true = ⊎-elim (λ w. w) (λ w. w .0) (t .only a k (rw h at u)) in
@@ -188,7 +203,8 @@ closing-step e k x hk p =
 module _ (e : Square) (s : Full e) where
   whole : Closing e 32 (closed e)
   unfolding closed
-  whole = all-steps (Closing e) step-passM (closing-step e) e (record { full = s; keeps = λ a b u. u; sound = λ a b u. edge u; joins = λ m a b l u v. absurd (omega arith) })
+  whole = all-steps (Closing e) step-passM (closing-step e) e
+      (record { full = s; keeps = λ a b u. u; sound = λ a b u. edge u; joins = λ m a b l u v. absurd (omega arith) })
 
   pub closed-full : Full (closed e)
   closed-full = whole .full
@@ -199,4 +215,5 @@ module _ (e : Square) (s : Full e) where
 
   pub closed-complete : (a b : ℕ) → Reaches e a b → cell (closed e) a b ≡ true
   closed-complete a b (edge u) = whole .keeps a b u
-  closed-complete a b (joined {k = k} p q) = whole .joins k a b (bound-col (closed e) (whole .full) a k (closed-complete a k p)) (closed-complete a k p) (closed-complete k b q)
+  closed-complete a b (joined {k = k} p q) = whole .joins k a b
+      (bound-col (closed e) (whole .full) a k (closed-complete a k p)) (closed-complete a k p) (closed-complete k b q)

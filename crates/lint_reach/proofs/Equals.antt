@@ -21,7 +21,18 @@ use Rattle.lint_reach.specs.Paths.{Reaches, edge, joined, Closes}
 use Rattle.lint_reach.specs.Sets.{holds, members}
 use Rattle.lint_reach.specs.Cycles.{bothM, componentM, startsM, componentsFrom, componentsM, Copies}
 use Rattle.lint_reach.proofs.Closure.{below}
-use Rattle.lint_reach.proofs.Bits.{Three, less, same, more, three, holds-or, holds-none, keep-same, collect-inside, collect-members}
+use Rattle.lint_reach.proofs.Bits.{
+  Three,
+  less,
+  same,
+  more,
+  three,
+  holds-or,
+  holds-none,
+  keep-same,
+  collect-inside,
+  collect-members,
+}
 
 cell-is : (sq : Square) (i j : ℕ) → lint.cell sq i j ≡ cell sq i j
 unfolding lint.cell
@@ -48,7 +59,8 @@ module _ {A : Type 0} (f : ℕ → A) (d : A) where
 module _ (n : ℕ) (f : ℕ → ℕ → Bool) where
   square-row : (i : ℕ) → i < n → getD (square n f) i [] ≡ each (f i) (places n 0)
   unfolding square
-  square-row i h = each-place (λ i. each (f i) (places n 0)) [] n 0 i h ∙ ap (λ (k : ℕ). each (f k) (places n 0)) (zero-add i)
+  square-row i h = each-place (λ i. each (f i) (places n 0)) [] n 0 i h
+      ∙ ap (λ (k : ℕ). each (f k) (places n 0)) (zero-add i)
 
   square-rows : length (square n f) ≡ n
   unfolding square
@@ -58,7 +70,8 @@ module _ (n : ℕ) (f : ℕ → ℕ → Bool) where
   square-columns i h = ap length (square-row i h) ∙ each-length (f i) false n 0
 
   square-cell : (i j : ℕ) → i < n → j < n → cell (square n f) i j ≡ f i j
-  square-cell i j h k = ap (λ (l : List Bool). getD l j false) (square-row i h) ∙ each-place (f i) false n 0 j k ∙ ap (f i) (zero-add j)
+  square-cell i j h k = ap (λ (l : List Bool). getD l j false) (square-row i h) ∙ each-place (f i) false n 0 j k
+      ∙ ap (f i) (zero-add j)
 
 -- ---- tests over a list
 
@@ -73,7 +86,8 @@ unfolding any keep places
 any-below f zero i j h = refl
 any-below f (suc n) i j h = cases (f i) (any-below f n (i + 1) j (omega arith))
   where
-    cases : (b : Bool) → any (eqb j) (keep f (places n (i + 1))) ≡ false → any (eqb j) (if b then i ∷ keep f (places n (i + 1)) else keep f (places n (i + 1))) ≡ false
+    cases : (b : Bool) → any (eqb j) (keep f (places n (i + 1))) ≡ false →
+        any (eqb j) (if b then i ∷ keep f (places n (i + 1)) else keep f (places n (i + 1))) ≡ false
     cases true e = rw (ne-eqb j i (λ z. omega arith)) e
     cases false e = e
 
@@ -83,15 +97,18 @@ unfolding any keep places
 any-inside f zero i j h k = absurd (omega arith)
 any-inside f (suc n) i j h k = cases (three i j) (λ a b. any-inside f n (i + 1) j a b)
   where
-    later : i < j → (b : Bool) → any (eqb j) (if b then i ∷ keep f (places n (i + 1)) else keep f (places n (i + 1))) ≡ any (eqb j) (keep f (places n (i + 1)))
+    later : i < j → (b : Bool) → any (eqb j) (if b then i ∷ keep f (places n (i + 1)) else keep f (places n (i + 1)))
+        ≡ any (eqb j) (keep f (places n (i + 1)))
     later z true = rw (ne-eqb j i (λ w. omega arith))
     later z false = refl
 
-    here : (b : Bool) → f i ≡ b → i ≡ j → any (eqb j) (if f i then i ∷ keep f (places n (i + 1)) else keep f (places n (i + 1))) ≡ f j
+    here : (b : Bool) → f i ≡ b → i ≡ j → any (eqb j)
+        (if f i then i ∷ keep f (places n (i + 1)) else keep f (places n (i + 1))) ≡ f j
     here true e z = rw e (rw (eq-eqb j i (sym z)) (sym (ap f (sym z) ∙ e)))
     here false e z = rw e (any-below f n (i + 1) j (omega arith) ∙ sym (ap f (sym z) ∙ e))
 
-    cases : Three i j → (i + 1 ≤ j → j < i + 1 + n → any (eqb j) (keep f (places n (i + 1))) ≡ f j) → any (eqb j) (if f i then i ∷ keep f (places n (i + 1)) else keep f (places n (i + 1))) ≡ f j
+    cases : Three i j → (i + 1 ≤ j → j < i + 1 + n → any (eqb j) (keep f (places n (i + 1))) ≡ f j) →
+        any (eqb j) (if f i then i ∷ keep f (places n (i + 1)) else keep f (places n (i + 1))) ≡ f j
     cases (less z) ih = later z (f i) ∙ ih (omega arith) (omega arith)
     cases (same z) ih = here (f i) refl z
     cases (more z) ih = absurd (omega arith)
@@ -151,7 +168,8 @@ module _ (n k : ℕ) (sq : Square) (z : Sized n sq) where
   way-cell : (i j : ℕ) → i < n → j < n → cell (by-way-of k sq) i j ≡ via i j
   way-cell i j h g = ap (λ (x : Square). cell x i j) way-is ∙ square-cell n via i j h g
 
-  way-only : (i j : ℕ) → cell (by-way-of k sq) i j ≡ true → (cell sq i j ≡ true) ⊎ ((cell sq i k ≡ true) × (cell sq k j ≡ true))
+  way-only : (i j : ℕ) → cell (by-way-of k sq) i j ≡ true →
+      (cell sq i j ≡ true) ⊎ ((cell sq i k ≡ true) × (cell sq k j ≡ true))
   unfolding via
   way-only i j e =
       let h = in-row n (by-way-of k sq) way-sized i j e in
@@ -160,11 +178,13 @@ module _ (n k : ℕ) (sq : Square) (z : Sized n sq) where
 
   way-keeps : (i j : ℕ) → cell sq i j ≡ true → cell (by-way-of k sq) i j ≡ true
   unfolding via
-  way-keeps i j e = way-cell i j (in-row n sq z i j e) (in-column n sq z i j e) ∙ or-left (cell sq i j) (cell sq i k) (cell sq k j) e
+  way-keeps i j e = way-cell i j (in-row n sq z i j e) (in-column n sq z i j e)
+      ∙ or-left (cell sq i j) (cell sq i k) (cell sq k j) e
 
   way-via : (i j : ℕ) → cell sq i k ≡ true → cell sq k j ≡ true → cell (by-way-of k sq) i j ≡ true
   unfolding via
-  way-via i j e f = way-cell i j (in-row n sq z i k e) (in-column n sq z k j f) ∙ or-right (cell sq i j) (cell sq i k) (cell sq k j) e f
+  way-via i j e f = way-cell i j (in-row n sq z i k e) (in-column n sq z k j f)
+      ∙ or-right (cell sq i j) (cell sq i k) (cell sq k j) e f
 
 -- ---- the whole, before stage k
 
@@ -187,7 +207,8 @@ stage n e k x p =
       joins = λ m a b l u v.
           below m k l
           (λ h. ⊎-elim
-          (λ u₁. ⊎-elim (λ v₁. keep a b (p .joins m a b h u₁ v₁)) (λ v₁. via a b (p .joins m a k h u₁ (v₁ .0)) (v₁ .1)) (only m b v))
+          (λ u₁. ⊎-elim (λ v₁. keep a b (p .joins m a b h u₁ v₁)) (λ v₁. via a b (p .joins m a k h u₁ (v₁ .0)) (v₁ .1))
+          (only m b v))
           (λ u₁. ⊎-elim (λ v₁. via a b (u₁ .0) (p .joins m k b h (u₁ .1) v₁)) (λ v₁. via a b (u₁ .0) (v₁ .1)) (only m b v))
           (only a m u))
           (λ h.
@@ -196,7 +217,8 @@ stage n e k x p =
           via a b u₁ v₁);
     }
 
-stages : (n : ℕ) (e : Square) (left k : ℕ) (x : Square) → Closing n e k x → Closing n e (k + left) (through by-way-of (places left k) x)
+stages : (n : ℕ) (e : Square) (left k : ℕ) (x : Square) → Closing n e k x →
+    Closing n e (k + left) (through by-way-of (places left k) x)
 unfolding through places
 stages n e zero k x p =
     let z : k + 0 ≡ k = omega arith in
@@ -209,7 +231,13 @@ module _ (n : ℕ) (e : Square) (z : Sized n e) where
   whole : Closing n e n (closure e)
   unfolding closure
   whole =
-      let c = stages n e n 0 e (record { sized = z; keeps = λ a b u. u; sound = λ a b u. edge u; joins = λ m a b l u v. absurd (omega arith) }) in
+      let c = stages n e n 0 e (record {
+        sized = z;
+        keeps = λ a b u. u;
+        sound = λ a b u. edge u;
+        joins =
+            λ m a b l u v. absurd (omega arith);
+      }) in
       let o : 0 + n ≡ n = omega arith in
       rw (z .rows) (rw o at c)
 
@@ -220,7 +248,8 @@ module _ (n : ℕ) (e : Square) (z : Sized n e) where
   pub closure-complete : (a b : ℕ) → Reaches e a b → cell (closure e) a b ≡ true
   closure-complete a b (edge u) = whole .keeps a b u
   closure-complete a b (joined {k = k} p q) =
-      whole .joins k a b (in-column n (closure e) (whole .sized) a k (closure-complete a k p)) (closure-complete a k p) (closure-complete k b q)
+      whole .joins k a b (in-column n (closure e) (whole .sized) a k (closure-complete a k p)) (closure-complete a k p)
+      (closure-complete k b q)
 
 -- ---- the array and the square
 
@@ -259,7 +288,8 @@ module _ (start r : Square) (n : ℕ) (sq : Square) (c : Copies start n sq) (clo
 
   both-is : (i j : ℕ) → bothM r i j ≡ (lint.cell (closure sq) i j && lint.cell (closure sq) j i)
   unfolding bothM
-  both-is i j = rw (same-cell i j, same-cell j i, cell-is (closure sq) i j, cell-is (closure sq) j i) (if-and (cell (closure sq) i j) (cell (closure sq) j i))
+  both-is i j = rw (same-cell i j, same-cell j i, cell-is (closure sq) i j, cell-is (closure sq) j i)
+      (if-and (cell (closure sq) i j) (cell (closure sq) j i))
     where
       if-and : (a b : Bool) → (if a then b else false) ≡ (a && b)
       if-and true b = refl
@@ -276,7 +306,8 @@ module _ (start r : Square) (n : ℕ) (sq : Square) (c : Copies start n sq) (clo
   Assigned : ℕ → List ℕ → Type 0
   Assigned a l = (j : ℕ) → j < n → holds a j ≡ any (eqb j) l
 
-  assigned-more : (a i : ℕ) (l : List ℕ) → Assigned a l → Assigned (bitOr a (componentM r n i)) (l ++ component (closure sq) i)
+  assigned-more : (a i : ℕ) (l : List ℕ) → Assigned a l →
+      Assigned (bitOr a (componentM r n i)) (l ++ component (closure sq) i)
   unfolding Assigned componentM component
   assigned-more a i l f j h =
       holds-or a (componentM r n i) j
@@ -284,10 +315,12 @@ module _ (start r : Square) (n : ℕ) (sq : Square) (c : Copies start n sq) (clo
       collect-inside (bothM r i) n 0 0 j (omega arith) (omega arith) (holds-none j)
       ∙ both-is i j
       ∙ sym (any-inside (λ k. lint.cell (closure sq) i k && lint.cell (closure sq) k i) n 0 j (omega arith) (omega arith))
-      ∙ ap (λ (m : ℕ). any (eqb j) (keep (λ k. lint.cell (closure sq) i k && lint.cell (closure sq) k i) (places m 0))) (sym size)))
+      ∙ ap (λ (m : ℕ). any (eqb j) (keep (λ k. lint.cell (closure sq) i k && lint.cell (closure sq) k i) (places m 0)))
+      (sym size)))
       ∙ sym (any-append (eqb j) l (component (closure sq) i))
 
-  starts-is : (a i : ℕ) (l : List ℕ) → holds a i ≡ any (eqb i) l → startsM r a i ≡ not (any (eqb i) l || not (lint.cell (closure sq) i i))
+  starts-is : (a i : ℕ) (l : List ℕ) → holds a i ≡ any (eqb i) l →
+      startsM r a i ≡ not (any (eqb i) l || not (lint.cell (closure sq) i i))
   unfolding startsM
   starts-is a i l e = rw (e, same-cell i i, cell-is (closure sq) i i) (tests (any (eqb i) l) (cell (closure sq) i i))
     where
@@ -298,15 +331,18 @@ module _ (start r : Square) (n : ℕ) (sq : Square) (c : Copies start n sq) (clo
 
   -- one place more
   comps-step : (h : n ≤ 32) (left i a : ℕ) (l : List ℕ) → holds a i ≡ any (eqb i) l →
-      ((b : ℕ) (m : List ℕ) → Assigned b m → each members (componentsFrom r n left (i + 1) b) ≡ components-from (closure sq) m (places left (i + 1))) →
-      Assigned a l → each members (componentsFrom r n (suc left) i a) ≡ components-from (closure sq) l (i ∷ places left (i + 1))
+      ((b : ℕ) (m : List ℕ) → Assigned b m → each members (componentsFrom r n left (i + 1) b)
+      ≡ components-from (closure sq) m (places left (i + 1))) →
+      Assigned a l → each members (componentsFrom r n (suc left) i a)
+      ≡ components-from (closure sq) l (i ∷ places left (i + 1))
   unfolding each componentsFrom components-from
   comps-step h left i a l e ih f = cases (any (eqb i) l || not (lint.cell (closure sq) i i)) refl
     where
       x : ℕ
       x = componentM r n i
 
-      cases : (b : Bool) → (any (eqb i) l || not (lint.cell (closure sq) i i)) ≡ b → each members (componentsFrom r n (suc left) i a) ≡ components-from (closure sq) l (i ∷ places left (i + 1))
+      cases : (b : Bool) → (any (eqb i) l || not (lint.cell (closure sq) i i)) ≡ b →
+          each members (componentsFrom r n (suc left) i a) ≡ components-from (closure sq) l (i ∷ places left (i + 1))
       cases true d =
           let s : startsM r a i ≡ false = starts-is a i l e ∙ ap not d in
           rw (s, componentsFrom) (rw (d, components-from) (ih a l f))
@@ -314,16 +350,19 @@ module _ (start r : Square) (n : ℕ) (sq : Square) (c : Copies start n sq) (clo
           let s : startsM r a i ≡ true = starts-is a i l e ∙ ap not d in
           rw (s, componentsFrom) (rw (d, components-from) (
           ap (λ (y : List ℕ). y ∷ each members (componentsFrom r n left (i + 1) (bitOr a x))) (component-is h i)
-          ∙ ap (λ (ys : List (List ℕ)). component (closure sq) i ∷ ys) (ih (bitOr a x) (l ++ component (closure sq) i) (assigned-more a i l f))))
+          ∙ ap (λ (ys : List (List ℕ)). component (closure sq) i ∷ ys)
+          (ih (bitOr a x) (l ++ component (closure sq) i) (assigned-more a i l f))))
 
-  comps-are : n ≤ 32 → (left i a : ℕ) (l : List ℕ) → i + left ≤ n → Assigned a l → each members (componentsFrom r n left i a) ≡ components-from (closure sq) l (places left i)
+  comps-are : n ≤ 32 → (left i a : ℕ) (l : List ℕ) → i + left ≤ n → Assigned a l →
+      each members (componentsFrom r n left i a) ≡ components-from (closure sq) l (places left i)
   unfolding each componentsFrom components-from places Assigned
   comps-are h zero i a l g f = refl
   comps-are h (suc left) i a l g f =
       comps-step h left i a l (f i (omega arith)) (λ b m d. comps-are h left (i + 1) b m (omega arith) d) f
 
   -- the sets that the code gathers are the definition's components
-  pub cycles-are : (c : Components) → n ≤ 32 → take (c .count) (c .sets) ≡ componentsM r n → each members (take (c .count) (c .sets)) ≡ lint.components (closure sq)
+  pub cycles-are : (c : Components) → n ≤ 32 → take (c .count) (c .sets) ≡ componentsM r n →
+      each members (take (c .count) (c .sets)) ≡ lint.components (closure sq)
   unfolding componentsM lint.components Assigned any
   cycles-are c h e =
       ap (each members) e

@@ -11,7 +11,8 @@ use Rattle.texts.specs.Lists.{if_then_else_}
 use Rattle.lint_reach.specs.Steps.{Square, cell, when, leadsM, steps, step-cellM, step-rowM, step-passM}
 
 -- the next step, where i of n are done
-pub more : (f : ℕ → Square → Square) (n i : ℕ) (r : Square) → i < n → steps f (n - i) i r ≡ steps f (n - (i + 1)) (i + 1) (f i r)
+pub more : (f : ℕ → Square → Square) (n i : ℕ) (r : Square) → i < n →
+    steps f (n - i) i r ≡ steps f (n - (i + 1)) (i + 1) (f i r)
 unfolding steps
 more f n i r h =
     let e : n - i ≡ suc (n - (i + 1)) = omega arith in
@@ -49,7 +50,8 @@ module _ (r : Square) (k : ℕ) where
   below zero h j l = absurd (omega arith)
   below (suc n) h j l = cases (cell r k n) refl h (λ g m. below n g j m)
     where
-      cases : (b : Bool) → cell r k n ≡ b → (if b then true else leadsM (getD r k []) n) ≡ false → (leadsM (getD r k []) n ≡ false → j < n → cell r k j ≡ false) → cell r k j ≡ false
+      cases : (b : Bool) → cell r k n ≡ b → (if b then true else leadsM (getD r k []) n) ≡ false →
+          (leadsM (getD r k []) n ≡ false → j < n → cell r k j ≡ false) → cell r k j ≡ false
       cases true e g f = absurd (true≢false g)
       cases false e g f = elim (decLt j n) [ yes m ↦ f g m | no m ↦ let z : j ≡ n = omega arith in ap (cell r k) z ∙ e ]
 
@@ -66,7 +68,8 @@ module _ (r : Square) (k : ℕ) where
     square-stays : (n a : ℕ) → steps (step-rowM k) n a r ≡ r
     unfolding steps
     square-stays zero a = refl
-    square-stays (suc n) a = ap (steps (step-rowM k) n (a + 1)) (same-when (cell r a k) (row-stays a 32 0 (omega arith))) ∙ square-stays n (a + 1)
+    square-stays (suc n) a = ap (steps (step-rowM k) n (a + 1)) (same-when (cell r a k) (row-stays a 32 0 (omega arith)))
+        ∙ square-stays n (a + 1)
 
   -- it adds no way
   pub idle : leadsM (getD r k []) 32 ≡ false → step-passM k r ≡ r

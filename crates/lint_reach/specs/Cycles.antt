@@ -24,7 +24,12 @@ startsM r a i = if holds a i then false else cell r i i
 unfoldable pub nextM : Square → (n i : ℕ) → Components → Components
 nextM r n i c =
     if startsM r (c .assigned) i
-    then record { count = c .count + 1; assigned = bitOr (c .assigned) (componentM r n i); sets = set (c .sets) (c .count) (componentM r n i) }
+    then record {
+      count = c .count + 1;
+      assigned = bitOr (c .assigned) (componentM r n i);
+      sets =
+          set (c .sets) (c .count) (componentM r n i);
+    }
     else c
 
 -- of `left` places from i on

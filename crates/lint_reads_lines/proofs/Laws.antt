@@ -19,7 +19,22 @@ use Rattle.show.specs.Lines.{newline, quoted}
 use Rattle.lint_words.specs.Lines.{spaced, listed, quoted-list}
 use Rattle.lint_words.specs.Numbers.{text-at, name-place, name-of, names-of}
 use Rattle.lint_reads_lines.specs.Lines.{touched-line}
-use Rattle.lint_reads_lines.specs.Numbers.{set-at, behind, lesser, least-from, ascending, is-read, strange-places, read-places, reads-text, writes-text, better, rule-from, next-from, touched-text}
+use Rattle.lint_reads_lines.specs.Numbers.{
+  set-at,
+  behind,
+  lesser,
+  least-from,
+  ascending,
+  is-read,
+  strange-places,
+  read-places,
+  reads-text,
+  writes-text,
+  better,
+  rule-from,
+  next-from,
+  touched-text,
+}
 use Rattle.lint_words.proofs.Loops.{from-on}
 use Rattle.lint_words.proofs.Laws.{each-each, counted}
 use Rattle.lint_reads_lines.proofs.Loops.{through-append}
@@ -36,7 +51,8 @@ pub quoted-place : (f : List ℕ) (p at : ℕ) → at ≡ startFrom f 6 p → qu
 unfolding text-at
 quoted-place f p at h = rw h
 
-pub reads-listed : (f : List ℕ) (l : List ℕ) (k : ℕ) → k ≡ length l → decimal k ++ spaced (each (λ p. quoted (text-at f p)) l) ≡ quoted-list (each (text-at f) l)
+pub reads-listed : (f : List ℕ) (l : List ℕ) (k : ℕ) → k ≡ length l →
+    decimal k ++ spaced (each (λ p. quoted (text-at f p)) l) ≡ quoted-list (each (text-at f) l)
 unfolding quoted-list
 reads-listed f l k e = counted (λ p. quoted (text-at f p)) l k e ∙ ap listed (sym (each-each quoted (text-at f) l))
 
@@ -87,12 +103,15 @@ module _ (r : Report) (i k : ℕ) where
   not-read h = rw (le-ltb k (r .undeclared) h)
 
 pub reads-line-is : (f : List ℕ) (x : Index) (r : Report) (i : ℕ) →
-    text "reads " ++ (quoted (name-of f (x .rules) i) ++ (32 ∷ (quoted-list (each (text-at f) (ascending 97 0 (read-places f (x .entities) r i))) ++ newline))) ≡ reads-text f x r i
+    text "reads " ++ (quoted
+    (name-of f (x .rules) i) ++ (32 ∷ (quoted-list
+    (each (text-at f) (ascending 97 0 (read-places f (x .entities) r i))) ++ newline))) ≡ reads-text f x r i
 unfolding reads-text touched-line
 reads-line-is f x r i = refl
 
 pub writes-line-is : (f : List ℕ) (x : Index) (r : Report) (i y : ℕ) → y ≡ set-at (r .writes) i →
-    text "writes " ++ (quoted (name-of f (x .rules) i) ++ (32 ∷ (quoted-list (names-of f (x .entities) y) ++ newline))) ≡ writes-text f x r i
+    text "writes " ++ (quoted (name-of f (x .rules) i) ++ (32 ∷ (quoted-list (names-of f (x .entities) y) ++ newline)))
+    ≡ writes-text f x r i
 unfolding writes-text touched-line
 writes-line-is f x r i y e = rw e
 
@@ -111,11 +130,13 @@ module _ (f : List ℕ) (s : Section) (from i found p : ℕ) (e : p ≡ name-pla
   unfolding better
   better-less q g h d l = rw (← e, ← d, le-ltb p from g, ne-eqb found 32 h, lt-ltb p q l)
 
-  pub better-more : (q : ℕ) → from ≤ p → (found ≡ 32 → ⊥) → q ≡ name-place f s found → q ≤ p → found ≡ better f s from i found
+  pub better-more : (q : ℕ) → from ≤ p → (found ≡ 32 → ⊥) → q ≡ name-place f s found → q ≤ p →
+      found ≡ better f s from i found
   unfolding better
   better-more q g h d l = rw (← e, ← d, le-ltb p from g, ne-eqb found 32 h, le-ltb p q l)
 
-pub next-is : (f : List ℕ) (s : Section) (from i p q : ℕ) → i ≡ rule-from f s from → i < 32 → p ≡ name-place f s i → q ≡ behind p → q ≡ next-from f s from
+pub next-is : (f : List ℕ) (s : Section) (from i p q : ℕ) → i ≡ rule-from f s from → i < 32 → p ≡ name-place f s i →
+    q ≡ behind p → q ≡ next-from f s from
 unfolding next-from
 next-is f s from i p q e h g k = rw (← e, lt-ltb i 32 h, ← g) k
 
@@ -138,24 +159,30 @@ module _ (f : List ℕ) (x : Index) (r : Report) (from : ℕ) (w : Bool) (i : �
 
 -- ---- the loops
 
-pub rules-begin : (f : List ℕ) (s : Section) (from : ℕ) → rule-from f s from ≡ through (better f s from) (places (s .count - 0) 0) 32
+pub rules-begin : (f : List ℕ) (s : Section) (from : ℕ) →
+    rule-from f s from ≡ through (better f s from) (places (s .count - 0) 0) 32
 unfolding rule-from
 rules-begin f s from =
     let e : s .count ≡ s .count - 0 = omega arith in
     ap (λ (k : ℕ). through (better f s from) (places k 0) 32) e
 
-pub next-best : (from v : ℕ) (l : List ℕ) (x p q : ℕ) → p ≡ x → q ≡ lesser from p v → through (lesser from) l (lesser from x v) ≡ through (lesser from) l q
+pub next-best : (from v : ℕ) (l : List ℕ) (x p q : ℕ) → p ≡ x → q ≡ lesser from p v →
+    through (lesser from) l (lesser from x v) ≡ through (lesser from) l q
 next-best from v l x p q e h = ap (through (lesser from) l) (sym (h ∙ ap (λ (z : ℕ). lesser from z v) e))
 
-pub strangers-begin : (r : Report) (i from v : ℕ) → through (lesser from) (strange-places r i) v ≡ through (lesser from) (each (λ j. getD (r .names) j 0) (from-on 64 (is-read r i) 0)) v
+pub strangers-begin : (r : Report) (i from v : ℕ) →
+    through (lesser from) (strange-places r i) v ≡ through (lesser from)
+    (each (λ j. getD (r .names) j 0) (from-on 64 (is-read r i) 0)) v
 unfolding strange-places
 strangers-begin r i from v = refl
 
 -- the names that an automation reads: the declared ones first
-pub reads-are : (f : List ℕ) (s : Section) (r : Report) (i y from best q : ℕ) → y ≡ set-at (r .reads) i → best ≡ least-from from (each (name-place f s) (members y)) → q ≡ through (lesser from) (strange-places r i) best →
+pub reads-are : (f : List ℕ) (s : Section) (r : Report) (i y from best q : ℕ) → y ≡ set-at (r .reads) i →
+    best ≡ least-from from (each (name-place f s) (members y)) → q ≡ through (lesser from) (strange-places r i) best →
     q ≡ least-from from (read-places f s r i)
 unfolding least-from read-places
 reads-are f s r i y from best q e h g =
     g
-    ∙ ap (through (lesser from) (strange-places r i)) (h ∙ ap (λ (z : ℕ). through (lesser from) (each (name-place f s) (members z)) 65536) e)
+    ∙ ap (through (lesser from) (strange-places r i))
+    (h ∙ ap (λ (z : ℕ). through (lesser from) (each (name-place f s) (members z)) 65536) e)
     ∙ sym (through-append (lesser from) (each (name-place f s) (members (set-at (r .reads) i))) (strange-places r i) 65536)

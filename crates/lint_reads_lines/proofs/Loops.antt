@@ -20,18 +20,21 @@ use Rattle.lint_reads_lines.specs.Numbers.{behind, lesser, least-from, a
 -- ---- those of N places that pass a test, each taken into a value
 
 module _ (N : ℕ) (p : ℕ → Bool) (g : ℕ → ℕ → ℕ) (h : ℕ → ℕ) where
-  taken-more : (b : Bool) (i : ℕ) (l : List ℕ) (v : ℕ) → through g (each h (if b then i ∷ l else l)) v ≡ through g (each h l) (if b then g (h i) v else v)
+  taken-more : (b : Bool) (i : ℕ) (l : List ℕ) (v : ℕ) →
+      through g (each h (if b then i ∷ l else l)) v ≡ through g (each h l) (if b then g (h i) v else v)
   unfolding each through
   taken-more true i l v = refl
   taken-more false i l v = refl
 
-  pub yes : (i v : ℕ) → i < N → p i ≡ true → through g (each h (from-on N p i)) v ≡ through g (each h (from-on N p (i + 1))) (g (h i) v)
+  pub yes : (i v : ℕ) → i < N → p i ≡ true → through g (each h (from-on N p i)) v
+      ≡ through g (each h (from-on N p (i + 1))) (g (h i) v)
   yes i v l e =
       ap (λ (k : List ℕ). through g (each h k) v) (from-turn N p i l)
       ∙ taken-more (p i) i (from-on N p (i + 1)) v
       ∙ ap (λ (b : Bool). through g (each h (from-on N p (i + 1))) (if b then g (h i) v else v)) e
 
-  pub no : (i v : ℕ) → i < N → p i ≡ false → through g (each h (from-on N p i)) v ≡ through g (each h (from-on N p (i + 1))) v
+  pub no : (i v : ℕ) → i < N → p i ≡ false → through g (each h (from-on N p i)) v
+      ≡ through g (each h (from-on N p (i + 1))) v
   no i v l e =
       ap (λ (k : List ℕ). through g (each h k) v) (from-turn N p i l)
       ∙ taken-more (p i) i (from-on N p (i + 1)) v
@@ -44,7 +47,8 @@ module _ (N : ℕ) (p : ℕ → Bool) (g : ℕ → ℕ → ℕ) (h : ℕ → ℕ
   pub over : (i v : ℕ) → N ≤ i → through g (each h (from-on N p i)) v ≡ v
   over i v l = ap (λ (k : List ℕ). through g (each h k) v) (from-none N p i l) ∙ through-none v
 
-pub least-begun : (from : ℕ) (h : ℕ → ℕ) (x : ℕ) → least-from from (each h (members x)) ≡ through (lesser from) (each h (from-on 32 (holds x) 0)) 65536
+pub least-begun : (from : ℕ) (h : ℕ → ℕ) (x : ℕ) →
+    least-from from (each h (members x)) ≡ through (lesser from) (each h (from-on 32 (holds x) 0)) 65536
 unfolding least-from
 least-begun from h x = ap (λ (k : List ℕ). through (lesser from) (each h k) 65536) (members-are x)
 
@@ -85,7 +89,8 @@ unfolding through
 through-last [] = refl
 through-last (x ∷ l) = ap (through (lesser 65536) l) (lesser-none x) ∙ through-last l
 
-ascending-some : (n from : ℕ) (l : List ℕ) → least-from from l ≤ 65535 → ascending (suc n) from l ≡ least-from from l ∷ ascending n (behind (least-from from l)) l
+ascending-some : (n from : ℕ) (l : List ℕ) → least-from from l ≤ 65535 →
+    ascending (suc n) from l ≡ least-from from l ∷ ascending n (behind (least-from from l)) l
 unfolding ascending
 ascending-some n from l h = rw (le-ltb 65535 (least-from from l) h, ascending)
 
@@ -129,14 +134,16 @@ module _ (n from p q : ℕ) (l : List ℕ) (e : p ≡ least-from from l) (b : q 
     unfolding spaced each flat
     spaced-none = refl
 
-    pub read-turn : spaced (each h (ascending (suc n) from l)) ≡ (if ltb 65535 p then [] else 32 ∷ h p) ++ spaced (each h (ascending n q l))
+    pub read-turn : spaced (each h (ascending (suc n) from l))
+        ≡ (if ltb 65535 p then [] else 32 ∷ h p) ++ spaced (each h (ascending n q l))
     read-turn =
         ⊎-elim
         (λ k. rw (lt-ltb 65535 p k, none-left k, none-next k, spaced-none))
         (λ k. rw (le-ltb 65535 p k, some-left k) (spaced-some (ascending n q l)))
         (lt-or-ge 65535 p)
 
-  pub count-turn : (many : ℕ) → many + length (ascending (suc n) from l) ≡ (if ltb 65535 p then many else many + 1) + length (ascending n q l)
+  pub count-turn : (many : ℕ) → many + length (ascending (suc n) from l)
+      ≡ (if ltb 65535 p then many else many + 1) + length (ascending n q l)
   count-turn many =
       ⊎-elim
       (λ k. rw (lt-ltb 65535 p k, none-left k, none-next k))
@@ -159,18 +166,22 @@ counted-bound true many = omega arith
 counted-bound false many = omega arith
 
 -- a turn of the loop that counts
-pub count-next : (l : List ℕ) (total many from left p next q : ℕ) → (total ≡ many + length (ascending left from l)) × (many + left ≤ 97) → 0 < left → p ≡ least-from from l →
-    next ≡ (if ltb 65535 p then many else many + 1) → q ≡ behind p → (total ≡ next + length (ascending (left - 1) q l)) × (next + (left - 1) ≤ 97)
+pub count-next : (l : List ℕ) (total many from left p next q : ℕ) →
+    (total ≡ many + length (ascending left from l)) × (many + left ≤ 97) → 0 < left → p ≡ least-from from l →
+    next ≡ (if ltb 65535 p then many else many + 1) → q ≡ behind p →
+    (total ≡ next + length (ascending (left - 1) q l)) × (next + (left - 1) ≤ 97)
 count-next l total many from left p next q inv h e g b =
     let z : left ≡ suc (left - 1) = omega arith in
     let bound : many + left ≤ 97 = inv .1 in (
-      inv .0 ∙ ap (λ (k : ℕ). many + length (ascending k from l)) z ∙ count-turn (left - 1) from p q l e b many ∙ ap (λ (k : ℕ). k + length (ascending (left - 1) q l)) (sym g),
+      inv .0 ∙ ap (λ (k : ℕ). many + length (ascending k from l)) z ∙ count-turn (left - 1) from p q l e b many
+          ∙ ap (λ (k : ℕ). k + length (ascending (left - 1) q l)) (sym g),
       omega (arith, g, counted-bound (ltb 65535 p) many),
     )
 
 -- a turn of the loop that writes
 pub read-next : (h : ℕ → Text) (l : List ℕ) (from left p q : ℕ) → 0 < left → p ≡ least-from from l → q ≡ behind p →
-    spaced (each h (ascending left from l)) ≡ (if ltb 65535 p then [] else 32 ∷ h p) ++ spaced (each h (ascending (left - 1) q l))
+    spaced (each h (ascending left from l)) ≡ (if ltb 65535 p then [] else 32 ∷ h p) ++ spaced
+    (each h (ascending (left - 1) q l))
 read-next h l from left p q k e b =
     let z : left ≡ suc (left - 1) = omega arith in
     ap (λ (j : ℕ). spaced (each h (ascending j from l))) z ∙ read-turn (left - 1) from p q l e b h

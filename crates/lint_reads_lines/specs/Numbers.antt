@@ -1,5 +1,5 @@
--- What an answer says that automations read and write, whatever its words are. f is the model file; a section has the positions
--- of its parts in it.
+-- What an answer says that automations read and write, whatever its words are. f is the model file; a section has the
+-- positions of its parts in it.
 use Prim.Native.Nat.{ℕ, zero, suc, _+_}
 use mathlib.Core.Bool.{Bool, true, false, _&&_}
 use mathlib.Core.List.{List, [], _∷_, _++_}
@@ -36,7 +36,11 @@ least-from from l = through (lesser from) l 65536
 unfoldable pub ascending : (n from : ℕ) → List ℕ → List ℕ
 ascending zero from l = []
 ascending (suc n) from l =
-    elim (ltb 65535 (least-from from l)) [ true ↦ [] | false ↦ least-from from l ∷ ascending n (behind (least-from from l)) l ]
+    elim (ltb 65535 (least-from from l)) [
+      | true ↦ []
+      | false ↦
+          least-from from l ∷ ascending n (behind (least-from from l)) l
+    ]
 
 -- the i-th automation reads the k-th undeclared name
 unfoldable pub is-read : Report → (i k : ℕ) → Bool
@@ -51,7 +55,8 @@ read-places f s r i = each (name-place f s) (members (set-at (r .reads) i)) ++ s
 
 unfoldable pub reads-text : (f : List ℕ) → Index → Report → (i : ℕ) → Text
 reads-text f x r i =
-    touched-line (text "reads") (name-of f (x .rules) i) (each (text-at f) (ascending 97 0 (read-places f (x .entities) r i)))
+    touched-line (text "reads") (name-of f (x .rules) i)
+    (each (text-at f) (ascending 97 0 (read-places f (x .entities) r i)))
 
 unfoldable pub writes-text : (f : List ℕ) → Index → Report → (i : ℕ) → Text
 writes-text f x r i = touched-line (text "writes") (name-of f (x .rules) i) (names-of f (x .entities) (set-at (r .writes) i))

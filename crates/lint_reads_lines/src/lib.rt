@@ -1,5 +1,5 @@
-// The lines of what each automation reads and writes, in `lint`'s answer. The writers put texts behind the first n bytes of a
-// lent area, as those of `show` do. f is the model file.
+// The lines of what each automation reads and writes, in `lint`'s answer. The writers put texts behind the first n bytes of
+// a lent area, as those of `show` do. f is the model file.
 use lint_entry::Report;
 use lint_words::name_place;
 use lint_words::put_members;
@@ -19,7 +19,22 @@ ghost use Rattle.show.specs.Lines.{quoted};
 ghost use Rattle.show.specs.Writing.{Written};
 ghost use Rattle.lint_words.specs.Lines.{quoted-list};
 ghost use Rattle.lint_words.specs.Numbers.{text-at, name-place};
-ghost use Rattle.lint_reads_lines.specs.Numbers.{set-at, behind, lesser, least-from, ascending, is-read, strange-places, read-places, reads-text, writes-text, better, rule-from, next-from, touched-text};
+ghost use Rattle.lint_reads_lines.specs.Numbers.{
+  set-at,
+  behind,
+  lesser,
+  least-from,
+  ascending,
+  is-read,
+  strange-places,
+  read-places,
+  reads-text,
+  writes-text,
+  better,
+  rule-from,
+  next-from,
+  touched-text,
+};
 
 // The set of the i-th automation.
 fn set_at(sets: [u32; 32], i: usize) -> u32
@@ -148,7 +163,8 @@ fn put_text_at(out: &mut [u8], n: usize, f: &[u8], place: u32) -> usize
 
 // `N "ENTITY"..` for the names that the automation reads, ascending.
 fn put_reads(out: &mut [u8], n: usize, f: &[u8], entities: Section, r: Report, i: usize) -> usize
-    ensures { λ m. ⌜ Written (quoted-list (each (text-at (was f)) (ascending 97 0 (read-places (was f) entities r i)))) (was out) n (is out) m ⌝ }
+    ensures { λ m. ⌜ Written (quoted-list (each (text-at (was f)) (ascending 97 0 (read-places (was f) entities r i))))
+        (was out) n (is out) m ⌝ }
 {
     let mut m = show::put_number(out, n, reads_count(f, entities, r, i));
     let mut from: u32 = 0;

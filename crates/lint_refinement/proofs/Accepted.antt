@@ -11,10 +11,51 @@ use borrow.Author.Tests.{ltb-false}
 use Rattle.texts.specs.Lists.{if_then_else_, absent, find, listed}
 use Rattle.texts.specs.Texts.{Text, text}
 use Rattle.model_spec.specs.Answer.{answer, refused, Verdict, accept, _and_, _when_, each-accepted}
-use Rattle.model_spec.specs.Model.{Predicate, state, window, Trigger, Effect, toggle, delay, condition, choose, wait, Actions, done, act, Branches, no-branch, branch, Automation, Entity, Model, named}
-use Rattle.model_spec.specs.Validate.{counting, check-value, check-predicate, check-trigger, check-effect, check-actions, check-branches, check-rule, check-rules, accepted}
+use Rattle.model_spec.specs.Model.{
+  Predicate,
+  state,
+  window,
+  Trigger,
+  Effect,
+  toggle,
+  delay,
+  condition,
+  choose,
+  wait,
+  Actions,
+  done,
+  act,
+  Branches,
+  no-branch,
+  branch,
+  Automation,
+  Entity,
+  Model,
+  named,
+}
+use Rattle.model_spec.specs.Validate.{
+  counting,
+  check-value,
+  check-predicate,
+  check-trigger,
+  check-effect,
+  check-actions,
+  check-branches,
+  check-rule,
+  check-rules,
+  accepted,
+}
 use Rattle.engine_spec.proofs.Lists.{Each}
-use Rattle.engine_spec.proofs.Validated.{answer-eq, refused-answer, bind-inv, and-first, and-inv, when-inv, accepted-passed, few-parts}
+use Rattle.engine_spec.proofs.Validated.{
+  answer-eq,
+  refused-answer,
+  bind-inv,
+  and-first,
+  and-inv,
+  when-inv,
+  accepted-passed,
+  few-parts,
+}
 use Rattle.lint_spec.specs.Touches.{Action, within, walk, within-branches, conditions-of}
 use Rattle.lint_spec.specs.Touches as touches
 use Rattle.lint_access.specs.Names.{nameAt}
@@ -22,10 +63,14 @@ use Rattle.lint_refinement.proofs.Tiers.{Looked, looked-at, nowhere, lo
 
 -- ---- verdicts
 
-pub each-verdict : {A : Type 0} (g : A → Verdict) (P : A → Type 0) → ((a : A) → g a ≡ accept → P a) → (l : List A) → each-accepted g l ≡ accept → Each P l
+pub each-verdict : {A : Type 0} (g : A → Verdict) (P : A → Type 0) → ((a : A) → g a ≡ accept → P a) → (l : List A) →
+    each-accepted g l ≡ accept → Each P l
 unfolding each-accepted
 each-verdict g P h [] e = tt
-each-verdict g P h (a ∷ l) e = (h a (and-first (g a) (each-accepted g l) tt e), each-verdict g P h l (and-inv (g a) (each-accepted g l) tt e))
+each-verdict g P h (a ∷ l) e = (
+  h a (and-first (g a) (each-accepted g l) tt e),
+  each-verdict g P h l (and-inv (g a) (each-accepted g l) tt e),
+)
 
 pub each-join : {A : Type 0} (P : A → Type 0) (l m : List A) → Each P l → Each P m → Each P (l ++ m)
 each-join P [] m f g = g
@@ -75,7 +120,9 @@ module _ (es : List Entity) where
   unfolding check-trigger absent
   trigger-fine t e z = cases (look es (t .entity)) (rw (z, check-trigger) at e)
     where
-      cases : Looked es (t .entity) → (15 when absent (find (named (t .entity)) es) and each-accepted (check-value es (t .entity)) (listed (t .from) ++ listed (t .to))) ≡ accept → Declared es (t .entity)
+      cases : Looked es (t .entity) →
+          (15 when absent (find (named (t .entity)) es) and each-accepted (check-value es (t .entity))
+          (listed (t .from) ++ listed (t .to))) ≡ accept → Declared es (t .entity)
       cases (looked-at i b n f) h = (i, (b, n))
       cases (nowhere n f) h =
           let y : absent (find (named (t .entity)) es) ≡ true = ap absent f in
@@ -97,11 +144,40 @@ module _ (es : List Entity) where
   mutual
     unfolding check-effect within conditions-of
 
-    effect-fine : (g : Effect) (d n k : ℕ) → check-effect es g d n ≡ answer k → (Fine g × Each FineA (within g)) × Counts n k (length (within g))
-    effect-fine (Effect.set x v) d n k e = ((value-fine x v (and-first _ _ _ e), tt), record { many-is = let z = answer-eq (and-inv _ _ _ e) in omega arith; few = let z = answer-eq (and-inv _ _ _ e) in λ h. omega arith })
-    effect-fine (toggle x) d n k e = ((value-fine x (text "on") (and-first _ _ _ e), tt), record { many-is = let z = answer-eq (and-inv _ _ _ (and-inv _ _ _ e)) in omega arith; few = let z = answer-eq (and-inv _ _ _ (and-inv _ _ _ e)) in λ h. omega arith })
-    effect-fine (delay t) d n k e = ((tt, tt), record { many-is = let z = answer-eq (and-inv _ _ _ e) in omega arith; few = let z = answer-eq (and-inv _ _ _ e) in λ h. omega arith })
-    effect-fine (condition p) d n k e = ((predicate-fine p (and-first _ _ _ e), tt), record { many-is = let z = answer-eq (and-inv _ _ _ e) in omega arith; few = let z = answer-eq (and-inv _ _ _ e) in λ h. omega arith })
+    effect-fine : (g : Effect) (d n k : ℕ) → check-effect es g d n ≡ answer k →
+        (Fine g × Each FineA (within g)) × Counts n k (length (within g))
+    effect-fine (Effect.set x v) d n k e = (
+      (value-fine x v (and-first _ _ _ e), tt),
+      record {
+        many-is = let z = answer-eq (and-inv _ _ _ e) in omega arith;
+        few = let z = answer-eq (and-inv _ _ _ e) in
+            λ h. omega arith;
+      },
+    )
+    effect-fine (toggle x) d n k e = (
+      (value-fine x (text "on") (and-first _ _ _ e), tt),
+      record {
+        many-is = let z = answer-eq (and-inv _ _ _ (and-inv _ _ _ e)) in omega arith;
+        few = let z =
+            answer-eq (and-inv _ _ _ (and-inv _ _ _ e)) in λ h. omega arith;
+      },
+    )
+    effect-fine (delay t) d n k e = (
+      (tt, tt),
+      record {
+        many-is = let z = answer-eq (and-inv _ _ _ e) in omega arith;
+        few = let z =
+            answer-eq (and-inv _ _ _ e) in λ h. omega arith;
+      },
+    )
+    effect-fine (condition p) d n k e = (
+      (predicate-fine p (and-first _ _ _ e), tt),
+      record {
+        many-is = let z = answer-eq (and-inv _ _ _ e) in omega arith;
+        few = let z = answer-eq (and-inv _ _ _ e) in
+            λ h. omega arith;
+      },
+    )
     effect-fine (choose bs a) d n k e =
         let b = bind-inv (check-branches es bs d n) _ _ e in
         let f = branches-fine bs d n (b .0) (b .1 .0) in
@@ -110,11 +186,29 @@ module _ (es : List Entity) where
           (f .0 .0, each-join FineA (within-branches bs) (walk a) (f .0 .1) (g .0)),
           record { many-is = omega (arith, f .1 .many-is, g .1 .many-is, m); few = λ h. g .1 .few (f .1 .few h) },
         )
-    effect-fine (wait t i c) d n k e = ((trigger-fine t (and-first _ _ _ e), tt), record { many-is = let z = answer-eq (and-inv _ _ _ (and-inv _ _ _ e)) in omega arith; few = let z = answer-eq (and-inv _ _ _ (and-inv _ _ _ e)) in λ h. omega arith })
-    effect-fine (Effect.unknown r) d n k e = ((tt, tt), record { many-is = let z = answer-eq e in omega arith; few = let z = answer-eq e in λ h. omega arith })
+    effect-fine (wait t i c) d n k e = (
+      (trigger-fine t (and-first _ _ _ e), tt),
+      record {
+        many-is = let z = answer-eq (and-inv _ _ _ (and-inv _ _ _ e)) in omega arith;
+        few = let z =
+            answer-eq (and-inv _ _ _ (and-inv _ _ _ e)) in λ h. omega arith;
+      },
+    )
+    effect-fine (Effect.unknown r) d n k e = (
+      (tt, tt),
+      record { many-is = let z = answer-eq e in omega arith; few = let z = answer-eq e in λ h. omega arith },
+    )
 
-    actions-fine : (a : Actions) (d n k : ℕ) → check-actions es a d n ≡ answer k → Each FineA (walk a) × Counts n k (length (walk a))
-    actions-fine done d n k e = (tt, record { many-is = let z = answer-eq (and-inv _ _ _ e) in omega arith; few = let z = answer-eq (and-inv _ _ _ e) in λ h. omega arith })
+    actions-fine : (a : Actions) (d n k : ℕ) → check-actions es a d n ≡ answer k →
+        Each FineA (walk a) × Counts n k (length (walk a))
+    actions-fine done d n k e = (
+      tt,
+      record {
+        many-is = let z = answer-eq (and-inv _ _ _ e) in omega arith;
+        few = let z =
+            answer-eq (and-inv _ _ _ e) in λ h. omega arith;
+      },
+    )
     actions-fine (act s g r) d n k e =
         let c = bind-inv (counting (n + 1)) _ _ (and-inv _ _ _ e) in
         let o = counted-one (n + 1) (c .0) (c .1 .0) in
@@ -123,11 +217,17 @@ module _ (es : List Entity) where
         let h = actions-fine r d (b .0) k (b .1 .1) in
         let m = length-append (within g) (walk r) in (
           (f .0 .0, each-join FineA (within g) (walk r) (f .0 .1) (h .0)),
-          record { many-is = omega (arith, f .1 .many-is, h .1 .many-is, m, o .0); few = λ z. h .1 .few (f .1 .few (omega (arith, o .0, o .1))) },
+          record {
+            many-is = omega (arith, f .1 .many-is, h .1 .many-is, m, o .0);
+            few =
+                λ z. h .1 .few (f .1 .few (omega (arith, o .0, o .1)));
+          },
         )
 
-    branches-fine : (bs : Branches) (d n k : ℕ) → check-branches es bs d n ≡ answer k → (Each (Each FineP) (conditions-of bs) × Each FineA (within-branches bs)) × Counts n k (length (within-branches bs))
-    branches-fine no-branch d n k e = ((tt, tt), record { many-is = let z = answer-eq e in omega arith; few = let z = answer-eq e in λ h. omega arith })
+    branches-fine : (bs : Branches) (d n k : ℕ) → check-branches es bs d n ≡ answer k →
+        (Each (Each FineP) (conditions-of bs) × Each FineA (within-branches bs)) × Counts n k (length (within-branches bs))
+    branches-fine no-branch d n k e =
+        ((tt, tt), record { many-is = let z = answer-eq e in omega arith; few = let z = answer-eq e in λ h. omega arith })
     branches-fine (branch ps a bs) d n k e =
         let p = each-verdict (check-predicate es) FineP predicate-fine ps (and-first _ _ _ e) in
         let b = bind-inv (check-actions es a (d + 1) n) _ _ (and-inv _ _ _ e) in
@@ -146,7 +246,8 @@ module _ (es : List Entity) where
     pub actions : Each FineA (touches.actions-of r)
     pub few : length (touches.actions-of r) ≤ 512
 
-  rules-legal : (ids : List Text) (rs : List Automation) (n k : ℕ) → n ≤ 512 → check-rules es ids rs n ≡ answer k → Each Legal rs
+  rules-legal : (ids : List Text) (rs : List Automation) (n k : ℕ) → n ≤ 512 → check-rules es ids rs n ≡ answer k →
+      Each Legal rs
   unfolding check-rules check-rule touches.actions-of
   rules-legal ids [] n k h e = tt
   rules-legal ids (r ∷ rs) n k h e =

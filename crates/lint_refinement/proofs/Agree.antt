@@ -18,14 +18,16 @@ use Rattle.lint_areas.specs.Filled.{findings-of, interactions-of, over}
 use Rattle.lint_areas.proofs.Holds.{Shaped, shaped-none, shaped-finding, shaped-interaction}
 use Rattle.lint_findings.specs.Entries.{items-numbersM}
 
-pub both-append : {A B : Type 0} (P : A → B → Type 0) {a b : List A} {x y : List B} → Both P a x → Both P b y → Both P (a ++ b) (x ++ y)
+pub both-append : {A B : Type 0} (P : A → B → Type 0) {a b : List A} {x y : List B} → Both P a x → Both P b y →
+    Both P (a ++ b) (x ++ y)
 both-append P neither g = g
 both-append P (both h f) g = both h (both-append P f g)
 
 module _ (file : List ℕ) (names ids : List Text) where
   pub data Stands : Entry → Item → Type 0 where
     as-finding : {f : Finding} {w : List ℕ} → Worded file names ids f w → Stands (Entry.finding f) (Item.finding w)
-    as-interaction : {i : Interaction} {w : List ℕ} → w ≡ interaction-words names ids i → Stands (Entry.interaction i) (Item.interaction w)
+    as-interaction : {i : Interaction} {w : List ℕ} → w ≡ interaction-words names ids i →
+        Stands (Entry.interaction i) (Item.interaction w)
 
   abbrev pub Agree : List Entry → List Item → Type 0
   Agree es is = Both Stands es is
@@ -39,7 +41,8 @@ module _ (file : List ℕ) (names ids : List Text) where
   agree-if false c d h = rw d neither
 
   -- the items of numbers, from the k-th on, against a list
-  pub agree-numbers : {A : Type 0} (f : ℕ → List Item) (g : A → List Entry) (d : A) (l : List A) (k : ℕ) → ((j : ℕ) → j < length l → Agree (g (getD l j d)) (f (k + j))) → Agree (flat g l) (items-numbersM f (length l) k)
+  pub agree-numbers : {A : Type 0} (f : ℕ → List Item) (g : A → List Entry) (d : A) (l : List A) (k : ℕ) →
+      ((j : ℕ) → j < length l → Agree (g (getD l j d)) (f (k + j))) → Agree (flat g l) (items-numbersM f (length l) k)
   unfolding flat items-numbersM
   agree-numbers f g d [] k h = neither
   agree-numbers f g d (x ∷ l) k h =
@@ -84,15 +87,18 @@ module _ (file : List ℕ) (names ids : List Text) where
   agree-over (both (as-interaction h) r) f zero = refl
   agree-over (both (as-interaction h) r) f (suc i) = agree-over r f i
 
-  pub agree-findings : {es : List Entry} {is : List Item} → Agree es is → Both (Worded file names ids) (flat finding-in es) (findings-of is)
+  pub agree-findings : {es : List Entry} {is : List Item} → Agree es is →
+      Both (Worded file names ids) (flat finding-in es) (findings-of is)
   unfolding flat finding-in findings-of
   agree-findings neither = neither
   agree-findings (both (as-finding h) r) = both h (agree-findings r)
   agree-findings (both (as-interaction h) r) = agree-findings r
 
-  pub agree-interactions : {es : List Entry} {is : List Item} → Agree es is → interactions-of is ≡ each (interaction-words names ids) (flat interaction-in es)
+  pub agree-interactions : {es : List Entry} {is : List Item} → Agree es is →
+      interactions-of is ≡ each (interaction-words names ids) (flat interaction-in es)
   unfolding flat interaction-in interactions-of each
   agree-interactions neither = refl
   agree-interactions (both (as-finding h) r) = agree-interactions r
   agree-interactions (both {l = rest} (as-interaction {i} {w} h) r) =
-      ap (λ (l : List (List ℕ)). w ∷ l) (agree-interactions r) ∙ ap (λ (v : List ℕ). v ∷ each (interaction-words names ids) (flat interaction-in rest)) h
+      ap (λ (l : List (List ℕ)). w ∷ l) (agree-interactions r)
+      ∙ ap (λ (v : List ℕ). v ∷ each (interaction-words names ids) (flat interaction-in rest)) h

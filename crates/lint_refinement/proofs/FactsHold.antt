@@ -29,11 +29,13 @@ use Rattle.lint_refinement.proofs.FileFacts.{Stage}
 
 -- ---- the place of a text that isn't there
 
-none-from : (w : Text) (s : List ℕ) (n k p : ℕ) → ((j : ℕ) → j < n → eqT w (textAt s (startFrom s p j)) ≡ false) → place-from n k w s p ≡ k + n
+none-from : (w : Text) (s : List ℕ) (n k p : ℕ) → ((j : ℕ) → j < n → eqT w (textAt s (startFrom s p j)) ≡ false) →
+    place-from n k w s p ≡ k + n
 unfolding place-from startFrom
 none-from w s zero k p h = omega arith
 none-from w s (suc n) k p h =
-    let z : (fits s p && eqT w (textAt s p)) ≡ false = ap (λ (b : Bool). fits s p && b) (h 0 (omega arith)) ∙ no (fits s p) in
+    let z : (fits s p && eqT w (textAt s p)) ≡ false =
+    ap (λ (b : Bool). fits s p && b) (h 0 (omega arith)) ∙ no (fits s p) in
     let y : k + 1 + n ≡ k + suc n = omega arith in
     rw (z, place-from) (none-from w s n (k + 1) (p + 1 + getD s p 0) (λ j b. h (suc j) (omega arith)) ∙ y)
   where
@@ -43,12 +45,14 @@ none-from w s (suc n) k p h =
 
 -- ---- identifiers
 
-apart : (ids : List Text) (l : List Automation) → Fresh ids l → (t : Text) → memT t ids ≡ true → memT t (each (λ r. r .id) l) ≡ false
+apart : (ids : List Text) (l : List Automation) → Fresh ids l → (t : Text) → memT t ids ≡ true →
+    memT t (each (λ r. r .id) l) ≡ false
 unfolding each
 apart ids [] f t h = mem-none t
 apart ids (r ∷ l) f t h = cases (case (eqT t (r .id))) (λ k. apart (r .id ∷ ids) l (f .1) t k)
   where
-    cases : Case (eqT t (r .id)) → (memT t (r .id ∷ ids) ≡ true → memT t (each (λ r. r .id) l) ≡ false) → memT t (r .id ∷ each (λ r. r .id) l) ≡ false
+    cases : Case (eqT t (r .id)) → (memT t (r .id ∷ ids) ≡ true → memT t (each (λ r. r .id) l) ≡ false) →
+        memT t (r .id ∷ each (λ r. r .id) l) ≡ false
     cases (is-true e) ih = absurd (not-both (f .0) (ap (λ (x : Text). memT x ids) (sym (eq-is t (r .id) e)) ∙ h))
     cases (is-false e) ih =
         mem-cons t (r .id) (each (λ r. r .id) l) ∙ rw e (ih (mem-cons t (r .id) ids ∙ rw e h))
@@ -56,7 +60,8 @@ apart ids (r ∷ l) f t h = cases (case (eqT t (r .id))) (λ k. apart (r .id ∷
 once-cons : (t : Text) (l : List Text) → memT t l ≡ false → Once l → Once (t ∷ l)
 unfolding Once
 once-cons t l h o zero zero a b = eq-refl t ∙ sym (eq-eqb 0 0 refl)
-once-cons t l h o zero (suc j) a b = eq-sym t (getD l j []) ∙ not-at l t h j (omega arith) ∙ sym (ne-eqb 0 (suc j) (λ e. omega arith))
+once-cons t l h o zero (suc j) a b = eq-sym t (getD l j []) ∙ not-at l t h j (omega arith)
+    ∙ sym (ne-eqb 0 (suc j) (λ e. omega arith))
 once-cons t l h o (suc i) zero a b = not-at l t h i (omega arith) ∙ sym (ne-eqb (suc i) 0 (λ e. omega arith))
 once-cons t l h o (suc i) (suc j) a b = once-at l o i j (omega arith) (omega arith) ∙ sym (eqb-suc i j)
 
@@ -67,7 +72,8 @@ ids-once ids [] f = nothing
     nothing : Once []
     nothing = unfold Once in (λ i j a b. absurd (omega arith))
 ids-once ids (r ∷ l) f =
-    once-cons (r .id) (each (λ r. r .id) l) (apart (r .id ∷ ids) l (f .1) (r .id) (mem-cons (r .id) (r .id) ids ∙ rw (eq-refl (r .id)))) (ids-once (r .id ∷ ids) l (f .1))
+    once-cons (r .id) (each (λ r. r .id) l) (apart (r .id ∷ ids) l (f .1) (r .id)
+    (mem-cons (r .id) (r .id) ids ∙ rw (eq-refl (r .id)))) (ids-once (r .id ∷ ids) l (f .1))
 
 -- ---- the stage
 
@@ -88,11 +94,13 @@ module _ (s : List ℕ) (i : Index) (m : Model) (acc : accepted s ≡ answer m) 
       cases : Case (memT w ts) → eqb n (place-from (i .texts .count) 0 w s 6) ≡ eqT (getD ts n []) w
       cases (is-true b) =
           let f = fixed-here w b in
-          sym (same-place ts (texts-ascend s (o .all-texts .1)) n (place-from (i .texts .count) 0 w s 6) h (f .is-in)) ∙ ap (eqT (getD ts n [])) (f .is-text)
+          sym (same-place ts (texts-ascend s (o .all-texts .1)) n (place-from (i .texts .count) 0 w s 6) h (f .is-in))
+          ∙ ap (eqT (getD ts n [])) (f .is-text)
       cases (is-false b) =
           let z : place-from (i .texts .count) 0 w s 6 ≡ length ts =
           ap (λ (c : ℕ). place-from c 0 w s 6) texts-count
-          ∙ none-from w s (length ts) 0 6 (λ j k. eq-sym w (textAt s (startFrom s 6 j)) ∙ ap (λ (t : Text). eqT t w) (text-at s (o .all-texts .1) j k) ∙ not-at ts w b j k)
+          ∙ none-from w s (length ts) 0 6 (λ j k. eq-sym w (textAt s (startFrom s 6 j))
+          ∙ ap (λ (t : Text). eqT t w) (text-at s (o .all-texts .1) j k) ∙ not-at ts w b j k)
           ∙ (omega arith) in
           ap (eqb n) z ∙ ne-eqb n (length ts) (λ e. omega arith) ∙ sym (not-at ts w b n h)
 

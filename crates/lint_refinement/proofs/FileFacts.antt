@@ -31,7 +31,21 @@ use Rattle.lint_walk.specs.Raw.{byteM, placeM, past, kindM}
 use Rattle.lint_walk.specs.Walks.{walkM}
 use Rattle.lint_walk.proofs.Found.{ActionAt, RuleAt, rule-found}
 use Rattle.lint_walk.proofs.Refines.{ActionsAt, no-action, action, Walked, walked}
-use Rattle.lint_access.specs.Sets.{Adds, over, along, add-entityM, add-predicateM, add-predicatesM, add-triggerM, add-triggersM, add-branchesM, add-readsM, add-writeM, readsM, writesM}
+use Rattle.lint_access.specs.Sets.{
+  Adds,
+  over,
+  along,
+  add-entityM,
+  add-predicateM,
+  add-predicatesM,
+  add-triggerM,
+  add-triggersM,
+  add-branchesM,
+  add-readsM,
+  add-writeM,
+  readsM,
+  writesM,
+}
 use Rattle.lint_access.proofs.Refines.{Grounds}
 use Rattle.lint_conditions.specs.declared.Names.{Names}
 use Rattle.lint_areas.specs.Areas.{Item}
@@ -52,9 +66,20 @@ pub record Stage (s : List ℕ) (d : Names) (rs : Section) (ts : List Text) (m :
   pub lawful : Lawful m
 
 pub no-rule : Automation
-no-rule = record { id = []; mode = single; max = 0; triggers = []; conditions = []; actions = done; source = record { line = 0; column = 0 }; notes = [] }
+no-rule = record {
+  id = [];
+  mode = single;
+  max = 0;
+  triggers = [];
+  conditions = [];
+  actions = done;
+  source =
+      record { line = 0; column = 0 };
+  notes = [];
+}
 
-pub each-at : {A B : Type 0} (f : A → B) (b : B) (d : A) (l : List A) (j : ℕ) → j < length l → getD (each f l) j b ≡ f (getD l j d)
+pub each-at : {A B : Type 0} (f : A → B) (b : B) (d : A) (l : List A) (j : ℕ) → j < length l →
+    getD (each f l) j b ≡ f (getD l j d)
 unfolding each
 each-at f b d [] j h = absurd (omega arith)
 each-at f b d (x ∷ l) zero h = refl
@@ -79,8 +104,10 @@ module _ (s : List ℕ) (e : Section) (few : e .count ≤ 32) where
   unfolding Bounded add-entityM
   entity-bounded x set h = cases (case (ltb (number-of e x s) (e .count)))
     where
-      cases : Case (ltb (number-of e x s) (e .count)) → (if ltb (number-of e x s) (e .count) then bitOr set (2 ^ number-of e x s) else set) < 2 ^ 32
-      cases (is-true b) = let c = ltb-true (number-of e x s) (e .count) b in rw b (or-lt 32 set (2 ^ number-of e x s) h (pow-lt {j = 32} (omega arith)))
+      cases : Case (ltb (number-of e x s) (e .count)) →
+          (if ltb (number-of e x s) (e .count) then bitOr set (2 ^ number-of e x s) else set) < 2 ^ 32
+      cases (is-true b) = let c = ltb-true (number-of e x s) (e .count) b in
+          rw b (or-lt 32 set (2 ^ number-of e x s) h (pow-lt {j = 32} (omega arith)))
       cases (is-false b) = rw b h
 
   pub over-bounded : (f : ℕ → Adds) → ((p : ℕ) → Bounded (f p)) → (l : List ℕ) (n k : ℕ) → Bounded (over f l n k)
@@ -130,7 +157,9 @@ module _ (s : List ℕ) (e : Section) (few : e .count ≤ 32) where
 
   pub reads-small : (p : ℕ) (w : Walk) → readsM s e p w < 2 ^ 32
   unfolding Bounded readsM
-  reads-small p w = predicates-bounded _ _ (over-bounded (add-readsM s e) reads-bounded (w .list) (w .count) 0 _ (triggers-bounded _ 0 (pow-pos 32)))
+  reads-small p w =
+      predicates-bounded _ _ (over-bounded (add-readsM s e) reads-bounded (w .list) (w .count) 0 _
+      (triggers-bounded _ 0 (pow-pos 32)))
 
 -- ---- the automations
 
@@ -157,19 +186,25 @@ module _ {s : List ℕ} {d : Names} {rs : Section} {ts : List Text} {m : Model} 
 
 -- ---- the items of an automation's actions
 
-module _ (file : List ℕ) (names ids : List Text) (ts : List Text) (s : List ℕ) (es : List Entity) (f : ℕ → List Item) (g : Action → List Entry) (h : (p : ℕ) (a : Action) → ActionAt ts s p a → FineA es a → Agree file names ids (g a) (f p)) where
-  agree-over : (l : List ℕ) (k : ℕ) (ps : List ℕ) (acts : List Action) → ((i : ℕ) → i < length ps → getD l (k + i) 0 ≡ getD ps i 0) → ActionsAt ts s ps acts → Each (FineA es) acts →
-      Agree file names ids (flat g acts) (items-numbersM (λ k. f (getD l k 0)) (length ps) k)
-  unfolding flat items-numbersM
-  agree-over l k ps acts m no-action fine = neither
-  agree-over l k ps acts m (action {p} {a} {ps = qs} {l = rest} x y) fine =
-      let n : getD l k 0 ≡ p = ap (λ (i : ℕ). getD l i 0) (sym (add-zero k)) ∙ m 0 (omega arith) in
-      agree-append file names ids (subst (λ (q : ℕ). Agree file names ids (g a) (f q)) (sym n) (h p a x (fine .0)))
-      (agree-over l (k + 1) qs rest (λ i b. ap (λ (o : ℕ). getD l o 0) (omega arith) ∙ m (suc i) (omega arith)) y (fine .1))
+module _ (file : List ℕ) (names ids : List Text) (ts : List Text) (s : List ℕ) (es : List Entity) (f : ℕ → List Item)
+    (g : Action → List Entry) (h : (p : ℕ) (a : Action) → ActionAt ts s p a → FineA es a → Agree file names ids (g a) (f p))
+  where
+    agree-over : (l : List ℕ) (k : ℕ) (ps : List ℕ) (acts : List Action) →
+        ((i : ℕ) → i < length ps → getD l (k + i) 0 ≡ getD ps i 0) → ActionsAt ts s ps acts → Each (FineA es) acts →
+        Agree file names ids (flat g acts) (items-numbersM (λ k. f (getD l k 0)) (length ps) k)
+    unfolding flat items-numbersM
+    agree-over l k ps acts m no-action fine = neither
+    agree-over l k ps acts m (action {p} {a} {ps = qs} {l = rest} x y) fine =
+        let n : getD l k 0 ≡ p = ap (λ (i : ℕ). getD l i 0) (sym (add-zero k)) ∙ m 0 (omega arith) in
+        agree-append file names ids (subst (λ (q : ℕ). Agree file names ids (g a) (f q)) (sym n) (h p a x (fine .0)))
+        (agree-over l (k + 1) qs rest (λ i b. ap (λ (o : ℕ). getD l o 0) (omega arith) ∙ m (suc i) (omega arith)) y (fine .1))
 
-  pub agree-actions : (w : Walk) (r : Automation) → Walked ts s w r → Legal es r → Agree file names ids (flat g (touches.actions-of r)) (items-numbersM (λ k. f (getD (w .list) k 0)) (w .count) 0)
-  agree-actions w r k legal =
-      subst (λ (n : ℕ). Agree file names ids (flat g (touches.actions-of r)) (items-numbersM (λ k. f (getD (w .list) k 0)) n 0)) (sym (k .filled .many))
-      (agree-over (w .list) 0 (k .positions) (touches.actions-of r)
-      (λ i b. ap (λ (o : ℕ). getD (w .list) o 0) (zero-add i) ∙ sym (getD-take (length (k .positions)) (w .list) i 0 b) ∙ ap (λ (l : List ℕ). getD l i 0) (k .filled .front))
-      (k .are-actions) (legal .actions))
+    pub agree-actions : (w : Walk) (r : Automation) → Walked ts s w r → Legal es r →
+        Agree file names ids (flat g (touches.actions-of r)) (items-numbersM (λ k. f (getD (w .list) k 0)) (w .count) 0)
+    agree-actions w r k legal =
+        subst (λ (n : ℕ). Agree file names ids (flat g (touches.actions-of r))
+        (items-numbersM (λ k. f (getD (w .list) k 0)) n 0)) (sym (k .filled .many))
+        (agree-over (w .list) 0 (k .positions) (touches.actions-of r)
+        (λ i b. ap (λ (o : ℕ). getD (w .list) o 0) (zero-add i) ∙ sym (getD-take (length (k .positions)) (w .list) i 0 b)
+        ∙ ap (λ (l : List ℕ). getD l i 0) (k .filled .front))
+        (k .are-actions) (legal .actions))

@@ -27,7 +27,18 @@ use Rattle.engine_unsupported.specs.Rows.{RuleAt as Row}
 use Rattle.engine_unsupported.proofs.Adding.{many-rules}
 use Rattle.engine_unsupported.proofs.Refines.{alone-agrees}
 use Rattle.lint_spec.specs.Findings.{unsupported-note, Finding, unsupported-entry, unsupported-entries}
-use Rattle.lint_spec.specs.Words.{set-of, code-number, certainty-number, tier-number, source-words, sources-of, entity-number, ids-set, finding-words, noted}
+use Rattle.lint_spec.specs.Words.{
+  set-of,
+  code-number,
+  certainty-number,
+  tier-number,
+  source-words,
+  sources-of,
+  entity-number,
+  ids-set,
+  finding-words,
+  noted,
+}
 use Rattle.lint_spec.specs.Memory.{neither, both}
 use Rattle.lint_walk.specs.Raw.{numberM, past, triggersM, conditionsM, actionsM}
 use Rattle.lint_walk.specs.Walks.{walkM, listEnd}
@@ -56,15 +67,18 @@ unfolding reasons
 reasons-long zero u = refl
 reasons-long (suc n) u = ap suc (reasons-long n (drop 5 u))
 
-module _ {s : List ℕ} {d : Names} {rs : Section} {ts : List Text} {m : Model} (st : Stage s d rs ts m) (size : length s ≤ 32768) (few-texts : length ts ≤ 65535)
-    (counted-as : text-count s ≡ length ts) (text-at : (k : ℕ) → k < length ts → textAt s (startFrom s 6 k) ≡ getD ts k []) (few-notes : length (notes-of m) ≤ 64)
+module _ {s : List ℕ} {d : Names} {rs : Section} {ts : List Text} {m : Model} (st : Stage s d rs ts m)
+    (size : length s ≤ 32768) (few-texts : length ts ≤ 65535)
+    (counted-as : text-count s ≡ length ts) (text-at : (k : ℕ) → k < length ts → textAt s (startFrom s 6 k) ≡ getD ts k [])
+    (few-notes : length (notes-of m) ≤ 64)
     (has-text : HasText s) where
   -- ---- the row
 
   near : {p k q : ℕ} → u16 s p ≡ got k q → cap p ≡ p
   near {p} e = cap-is p (omega (arith, u16-wide s p e .inside))
 
-  triggers-read : (p : ℕ) (r : Automation) → RuleAt ts s p r → counted (trigger ts) s (triggersM s p) ≡ got (r .triggers) (conditionsM s p)
+  triggers-read : (p : ℕ) (r : Automation) → RuleAt ts s p r →
+      counted (trigger ts) s (triggersM s p) ≡ got (r .triggers) (conditionsM s p)
   unfolding counted
   triggers-read p r f = bind-got u16 _ (f .triggers) ∙ f .are-triggers
 
@@ -76,7 +90,8 @@ module _ {s : List ℕ} {d : Names} {rs : Section} {ts : List Text} {m : Model} 
   unfolding walkM listEnd
   source-is p r f = list-ends ts s 18 (actionsM s p) (r .actions) (f .at-source) (omega arith) (f .are-actions)
 
-  row-is : (i : ℕ) (h : i < length (m .rules)) (x : List ℕ) → RowOf s (rule-start st i) (walkM s (rule-start st i) .next) x → Row s x ts 0 (rule-of st i)
+  row-is : (i : ℕ) (h : i < length (m .rules)) (x : List ℕ) → RowOf s (rule-start st i) (walkM s (rule-start st i) .next) x →
+      Row s x ts 0 (rule-of st i)
   row-is i h x o =
       let p = rule-start st i in
       let r = rule-of st i in
@@ -85,9 +100,11 @@ module _ {s : List ℕ} {d : Names} {rs : Section} {ts : List Text} {m : Model} 
       let n = counted-found (place ts) (f .notes-at) in
       let z₀ : word x 0 0 ≡ a .at = o .id ∙ place-got s p (a .is-place) in
       let z₃ : word x 0 3 ≡ triggersM s p = o .triggers ∙ near (f .triggers) in
-      let z₄ : word x 0 4 ≡ conditionsM s p = o .conditions ∙ near (counted-found (predicate ts) (f .conditions) .is-count) in
+      let z₄ : word x 0 4 ≡ conditionsM s p = o .conditions
+      ∙ near (counted-found (predicate ts) (f .conditions) .is-count) in
       let z₅ : word x 0 5 ≡ actionsM s p = o .actions ∙ actions-near p r f in
-      let z₇ : word x 0 7 ≡ f .at-notes = o .notes ∙ ap (λ (q : ℕ). cap (past s q 8)) (source-is p r f) ∙ ap cap (past-is s (source-wide s (f .at-source) (f .source-at))) ∙ near (n .is-count) in
+      let z₇ : word x 0 7 ≡ f .at-notes = o .notes ∙ ap (λ (q : ℕ). cap (past s q 8)) (source-is p r f)
+      ∙ ap cap (past-is s (source-wide s (f .at-source) (f .source-at))) ∙ near (n .is-count) in
       record {
         id-in = rw z₀ (a .is-in);
         id = a .is-text ∙ ap (λ (k : ℕ). getD ts k []) (sym z₀);
@@ -108,11 +125,22 @@ module _ {s : List ℕ} {d : Names} {rs : Section} {ts : List Text} {m : Model} 
 
     few-own : length (of-rule r) ≤ 64
     unfolding notes-of
-    few-own = omega (arith, flat-longer of-rule no-rule (m .rules) i h, length-append (flat of-invariant (m .scenario .invariants)) (flat of-rule (m .rules)), few-notes)
+    few-own = omega (
+      arith,
+      flat-longer of-rule no-rule (m .rules) i h,
+      length-append (flat of-invariant (m .scenario .invariants)) (flat of-rule (m .rules)),
+      few-notes,
+    )
 
     few-reasons : length (unsupported (r ∷ [])) ≤ 64
     unfolding unsupported flat
-    few-reasons = omega (arith, sorted-many (rule-reasons r ++ []), many-rules (r ∷ []), length-append (of-rule r) [], few-own)
+    few-reasons = omega (
+      arith,
+      sorted-many (rule-reasons r ++ []),
+      many-rules (r ∷ []),
+      length-append (of-rule r) [],
+      few-own,
+    )
 
     abbrev own-set : ℕ
     own-set = bitOr 0 (2 ^ i)
@@ -128,20 +156,38 @@ module _ {s : List ℕ} {d : Names} {rs : Section} {ts : List Text} {m : Model} 
     column = numberM s (past s (walkM s (getD (rs .starts) i 0) .next) 4)
 
     abbrev note-found : Text → Finding
-    note-found t = record { problem = unsupported-note t; automations = r .id ∷ []; sources = r .source ∷ []; tier = text "unknown" }
+    note-found t = record {
+      problem = unsupported-note t;
+      automations = r .id ∷ [];
+      sources = r .source ∷ [];
+      tier =
+          text "unknown";
+    }
 
     tier-five : tier-number (text "unknown") ≡ 5
     unfolding tier-number place-of eqT
     tier-five = refl
 
-    note-words : (u : List ℕ) (k : ℕ) → noteM own-set line column u k ≡ finding-words (names st) (ids st) (note-found (render s (reason-of (drop (5 * k) u)))) ++ words-of (reason-of (drop (5 * k) u))
+    note-words : (u : List ℕ) (k : ℕ) → noteM own-set line column u k
+        ≡ finding-words (names st) (ids st) (note-found (render s (reason-of (drop (5 * k) u)))) ++ words-of
+        (reason-of (drop (5 * k) u))
     unfolding noteM finding-words code-number certainty-number entity-number sources-of source-words reason-of
     note-words u k =
         let z : 5 * k + 0 ≡ 5 * k = omega arith in
-        rw (tier-five, getD-drop (5 * k) u 0 0, getD-drop (5 * k) u 1 0, getD-drop (5 * k) u 2 0, getD-drop (5 * k) u 3 0, getD-drop (5 * k) u 4 0, z)
+        rw (
+          tier-five,
+          getD-drop (5 * k) u 0 0,
+          getD-drop (5 * k) u 1 0,
+          getD-drop (5 * k) u 2 0,
+          getD-drop (5 * k) u 3 0,
+          getD-drop (5 * k) u 4 0,
+          z,
+        )
         (rw (set-is, walked-at st i h .source-at .line, walked-at st i h .source-at .column))
 
-    notes-from : (u : List ℕ) (n k : ℕ) → AllReadable s (reasons n (drop (5 * k) u)) → Agrees st (each (unsupported-entry r) (map (render s) (reasons n (drop (5 * k) u)))) (items-numbersM (λ j. Item.finding (noteM own-set line column u j) ∷ []) n k)
+    notes-from : (u : List ℕ) (n k : ℕ) → AllReadable s (reasons n (drop (5 * k) u)) →
+        Agrees st (each (unsupported-entry r) (map (render s) (reasons n (drop (5 * k) u))))
+        (items-numbersM (λ j. Item.finding (noteM own-set line column u j) ∷ []) n k)
     unfolding reasons each items-numbersM unsupported-entry
     notes-from u zero k h = neither
     notes-from u (suc n) k h =
@@ -149,14 +195,18 @@ module _ {s : List ℕ} {d : Names} {rs : Section} {ts : List Text} {m : Model} 
         let y : drop 5 (drop (5 * k) u) ≡ drop (5 * (k + 1)) u = drop-drop 5 (5 * k) u ∙ ap (λ (j : ℕ). drop j u) z in
         let first = reason-of (drop (5 * k) u) in
         both (as-finding (record { reason = words-of first; is = note-words u k; reasoned = noted first (h .0) }))
-        (subst (λ (a : List ℕ). Agrees st (each (unsupported-entry r) (map (render s) (reasons n a))) (items-numbersM (λ j. Item.finding (noteM own-set line column u j) ∷ []) n (k + 1))) (sym y) (notes-from u n (k + 1) (subst (λ (a : List ℕ). AllReadable s (reasons n a)) y (h .1))))
+        (subst (λ (a : List ℕ). Agrees st (each (unsupported-entry r) (map (render s) (reasons n a)))
+        (items-numbersM (λ j. Item.finding (noteM own-set line column u j) ∷ []) n (k + 1))) (sym y)
+        (notes-from u n (k + 1) (subst (λ (a : List ℕ). AllReadable s (reasons n a)) y (h .1))))
 
     module _ {b c : Board} (f : RuleNotes s rs i b c) where
       are-notes : listed s (f .many) (f .reasons) ≡ unsupported (r ∷ [])
-      are-notes = f .are-reasons ∙ alone-agrees size few-texts counted-as text-at 0 r (row-is i h (f .row) (f .is-row)) few-own
+      are-notes = f .are-reasons ∙ alone-agrees size few-texts counted-as text-at 0 r (row-is i h (f .row) (f .is-row))
+          few-own
 
       many-are : f .many ≡ length (unsupported (r ∷ []))
-      many-are = sym (reasons-long (f .many) (f .reasons)) ∙ sym (map-long (render s) (reasons (f .many) (f .reasons))) ∙ ap length are-notes
+      many-are = sym (reasons-long (f .many) (f .reasons)) ∙ sym (map-long (render s) (reasons (f .many) (f .reasons)))
+          ∙ ap length are-notes
 
       count-is : f .count ≡ f .many
       count-is = f .counts .same (omega (arith, many-are, few-reasons))
@@ -171,8 +221,11 @@ module _ {s : List ℕ} {d : Names} {rs : Section} {ts : List Text} {m : Model} 
       note-agrees : Agrees st (unsupported-entries r) note-items
       unfolding note-items unsupported-entries noteItems
       note-agrees =
-          subst (λ (n : ℕ). Agrees st (each (unsupported-entry r) (unsupported (r ∷ []))) (items-numbersM (λ j. Item.finding (noteM own-set line column (f .reasons) j) ∷ []) n 0)) (sym count-is)
-          (subst (λ (l : List Text). Agrees st (each (unsupported-entry r) l) (items-numbersM (λ j. Item.finding (noteM own-set line column (f .reasons) j) ∷ []) (f .many) 0)) are-notes (notes-from (f .reasons) (f .many) 0 (f .clean has-text .readable)))
+          subst (λ (n : ℕ). Agrees st (each (unsupported-entry r) (unsupported (r ∷ [])))
+          (items-numbersM (λ j. Item.finding (noteM own-set line column (f .reasons) j) ∷ []) n 0)) (sym count-is)
+          (subst (λ (l : List Text). Agrees st (each (unsupported-entry r) l)
+          (items-numbersM (λ j. Item.finding (noteM own-set line column (f .reasons) j) ∷ []) (f .many) 0)) are-notes
+          (notes-from (f .reasons) (f .many) 0 (f .clean has-text .readable)))
 
   -- ---- all automations
 
@@ -181,7 +234,9 @@ module _ {s : List ℕ} {d : Names} {rs : Section} {ts : List Text} {m : Model} 
     pub inserted : c ≡ pushes items b
     pub agrees : Agrees st (flat unsupported-entries l) items
 
-  from-noted : {left i : ℕ} {b c : Board} → AllNotes s rs left i b c → (l : List Automation) → length l ≡ left → i + length l ≡ length (m .rules) → ((j : ℕ) → j < length l → getD l j no-rule ≡ getD (m .rules) (i + j) no-rule) → Noted l b c
+  from-noted : {left i : ℕ} {b c : Board} → AllNotes s rs left i b c → (l : List Automation) → length l ≡ left →
+      i + length l ≡ length (m .rules) → ((j : ℕ) → j < length l → getD l j no-rule ≡ getD (m .rules) (i + j) no-rule) →
+      Noted l b c
   unfolding flat pushes
   from-noted no-notes [] e n same = record { items = []; inserted = refl; agrees = neither }
   from-noted no-notes (x ∷ l) e n same = absurd (omega arith)
@@ -190,12 +245,18 @@ module _ {s : List ℕ} {d : Names} {rs : Section} {ts : List Text} {m : Model} 
       let h : i < length (m .rules) = omega arith in
       let o : i + 0 ≡ i = omega arith in
       let y : x ≡ getD (m .rules) i no-rule = same 0 (omega arith) ∙ ap (λ (k : ℕ). getD (m .rules) k no-rule) o in
-      let rest = from-noted g l (omega arith) (omega arith) (λ j k. let w : i + suc j ≡ i + 1 + j = omega arith in same (suc j) (omega arith) ∙ ap (λ (k : ℕ). getD (m .rules) k no-rule) w) in
+      let rest = from-noted g l (omega arith) (omega arith)
+      (λ j k. let w : i + suc j ≡ i + 1 + j = omega arith in
+      same (suc j) (omega arith) ∙ ap (λ (k : ℕ). getD (m .rules) k no-rule) w) in
       record {
         items = note-items i h f ++ rest .items;
-        inserted = rest .inserted ∙ ap (pushes (rest .items)) (note-inserted i h f) ∙ sym (pushes-append (note-items i h f) (rest .items) b);
-        agrees = agree-append s (names st) (ids st) (subst (λ (a : Automation). Agrees st (unsupported-entries a) (note-items i h f)) (sym y) (note-agrees i h f)) (rest .agrees);
+        inserted = rest .inserted ∙ ap (pushes (rest .items)) (note-inserted i h f)
+            ∙ sym (pushes-append (note-items i h f) (rest .items) b);
+        agrees = agree-append s (names st) (ids st) (subst
+            (λ (a : Automation). Agrees st (unsupported-entries a) (note-items i h f)) (sym y) (note-agrees i h f))
+            (rest .agrees);
       }
 
   pub all-noted : {b c : Board} → AllNotes s rs (rs .count) 0 b c → Noted (m .rules) b c
-  all-noted f = from-noted f (m .rules) (sym (st .rules .counts)) (omega arith) (λ j h. let z : 0 + j ≡ j = omega arith in rw z)
+  all-noted f = from-noted f (m .rules) (sym (st .rules .counts)) (omega arith)
+      (λ j h. let z : 0 + j ≡ j = omega arith in rw z)

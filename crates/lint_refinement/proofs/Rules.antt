@@ -16,7 +16,19 @@ use Rattle.engine_spec.proofs.Bounds.{length-each}
 use Rattle.texts.specs.Lists.{if_then_else_, present-and, listed, is-empty, any, all, keep, each, flat}
 use Rattle.texts.specs.Texts.{Text, text, eqT, memT}
 use Rattle.texts.proofs.Ordering.{not-both, eq-is, eq-refl}
-use Rattle.model_spec.specs.Model.{Source, Entity, Effect, toggle, delay, condition, choose, wait, Branches, Automation, Model}
+use Rattle.model_spec.specs.Model.{
+  Source,
+  Entity,
+  Effect,
+  toggle,
+  delay,
+  condition,
+  choose,
+  wait,
+  Branches,
+  Automation,
+  Model,
+}
 use Rattle.model_spec.specs.File.{got, counted, predicate, branches, actions}
 use Rattle.model_walk.proofs.Found.{Case, is-true, is-false, case, bound, given, u16-wide}
 use Rattle.model_parts.specs.declared.Section.{Section}
@@ -24,39 +36,175 @@ use Rattle.model_check.specs.Checks.{number-of}
 use Rattle.engine_spec.proofs.Lists.{Each}
 use Rattle.model_spec.specs.Rewrite.{place-of}
 use Rattle.lint_spec.specs.Reach.{places}
-use Rattle.lint_spec.specs.Touches.{Action, conditions-of, branch-conditions, is-delay, Write, write, written-by, reads-of, writes-of}
+use Rattle.lint_spec.specs.Touches.{
+  Action,
+  conditions-of,
+  branch-conditions,
+  is-delay,
+  Write,
+  write,
+  written-by,
+  reads-of,
+  writes-of,
+}
 use Rattle.lint_spec.specs.Touches as touches
-use Rattle.lint_spec.specs.Findings.{Problem, unreachable-conditions, trigger-condition-mismatch, delayed-write, unreachable-branch, high-fanout, freshness-assumption, missing-safety-guard, Finding, Entry, rank, rank-name, contradictory, mismatched, is-star, values-of, guards, sets-off, tier-of, highest, about, about-if, expires, unguarded, branch-entries, write-entries, rule-entries}
-use Rattle.lint_spec.specs.Words.{set-of, code-number, certainty-number, source-words, sources-of, entity-number, ids-set, finding-words, interaction-words, plain}
+use Rattle.lint_spec.specs.Findings.{
+  Problem,
+  unreachable-conditions,
+  trigger-condition-mismatch,
+  delayed-write,
+  unreachable-branch,
+  high-fanout,
+  freshness-assumption,
+  missing-safety-guard,
+  Finding,
+  Entry,
+  rank,
+  rank-name,
+  contradictory,
+  mismatched,
+  is-star,
+  values-of,
+  guards,
+  sets-off,
+  tier-of,
+  highest,
+  about,
+  about-if,
+  expires,
+  unguarded,
+  branch-entries,
+  write-entries,
+  rule-entries,
+}
+use Rattle.lint_spec.specs.Words.{
+  set-of,
+  code-number,
+  certainty-number,
+  source-words,
+  sources-of,
+  entity-number,
+  ids-set,
+  finding-words,
+  interaction-words,
+  plain,
+}
 use Rattle.lint_spec.specs.Memory.{neither}
 use Rattle.lint_reach.specs.Sets.{holds, members}
 use Rattle.lint_reach.proofs.Bits.{ones-members}
 use Rattle.lint_walk.specs.declared.Walk.{Walk}
 use Rattle.lint_walk.specs.Raw.{placeM, past, predicatesEnd, kindM, conditionsM, actionsM}
 use Rattle.lint_walk.specs.Walks.{walkM, listEnd}
-use Rattle.lint_walk.proofs.Found.{past-is, place-got, SourceAt, predicates-end, EffectAt, set-at, toggle-at, delay-at, condition-at, choose-at, wait-at, unknown-at, ActionAt, RuleAt}
+use Rattle.lint_walk.proofs.Found.{
+  past-is,
+  place-got,
+  SourceAt,
+  predicates-end,
+  EffectAt,
+  set-at,
+  toggle-at,
+  delay-at,
+  condition-at,
+  choose-at,
+  wait-at,
+  unknown-at,
+  ActionAt,
+  RuleAt,
+}
 use Rattle.lint_walk.proofs.Refines.{Walked, list-ends}
 use Rattle.lint_access.specs.Names.{nameAt}
 use Rattle.lint_access.specs.Sets.{readsM, writesM}
-use Rattle.lint_access.proofs.Refines.{name-once, number-at, reads-hold, reads-inside, writes-hold, Declares, members-below, names-are, writes-are, each-append}
+use Rattle.lint_access.proofs.Refines.{
+  name-once,
+  number-at,
+  reads-hold,
+  reads-inside,
+  writes-hold,
+  Declares,
+  members-below,
+  names-are,
+  writes-are,
+  each-append,
+}
 use Rattle.lint_access.proofs.Rising.{mem-cons, mem-none, mem-append, rising-sorted}
 use Rattle.lint_conditions.specs.declared.Names.{Names}
-use Rattle.lint_conditions.specs.Conditions.{contradictoryM, mismatchedM, delaysM, guardedM, unguardedM, leadsM, tierM, staleM}
+use Rattle.lint_conditions.specs.Conditions.{
+  contradictoryM,
+  mismatchedM,
+  delaysM,
+  guardedM,
+  unguardedM,
+  leadsM,
+  tierM,
+  staleM,
+}
 use Rattle.lint_conditions.proofs.Refines.{contradictory-agrees, mismatched-agrees, Value, leads-agrees}
 use Rattle.lint_conditions.proofs.More.{delays-agree, guarded-agrees}
 use Rattle.lint_areas.specs.Areas.{Item, onlyIf}
 use Rattle.lint_findings.specs.declared.About.{About}
-use Rattle.lint_findings.specs.Entries.{items-numbersM, items-partsM, aboutM, actionM, delayedM, ownItems, branchItems, branchesAt, branchesItems, fanoutItems, staleHereM, freshItems, valueM, riskyM, interactItems, writeItems, writesItems, firstItems, ruleItems}
+use Rattle.lint_findings.specs.Entries.{
+  items-numbersM,
+  items-partsM,
+  aboutM,
+  actionM,
+  delayedM,
+  ownItems,
+  branchItems,
+  branchesAt,
+  branchesItems,
+  fanoutItems,
+  staleHereM,
+  freshItems,
+  valueM,
+  riskyM,
+  interactItems,
+  writeItems,
+  writesItems,
+  firstItems,
+  ruleItems,
+}
 use Rattle.lint_collect.specs.Collect.{aboutAt, ruleAt}
-use Rattle.lint_refinement.proofs.Lists.{flat-flat, each-keep, flat-keep, each-empty, either, rising-keep, sorted-rising, mem-keep, mem-at, not-at, found-at}
+use Rattle.lint_refinement.proofs.Lists.{
+  flat-flat,
+  each-keep,
+  flat-keep,
+  each-empty,
+  either,
+  rising-keep,
+  sorted-rising,
+  mem-keep,
+  mem-at,
+  not-at,
+  found-at,
+}
 use Rattle.lint_refinement.proofs.Sets.{Once, set-empty, place-at}
-use Rattle.lint_refinement.proofs.Agree.{Stands, as-finding, as-interaction, Agree, agree-append, agree-if, agree-numbers}
+use Rattle.lint_refinement.proofs.Agree.{
+  Stands,
+  as-finding,
+  as-interaction,
+  Agree,
+  agree-append,
+  agree-if,
+  agree-numbers,
+}
 use Rattle.lint_refinement.proofs.Tiers.{entity-at, no-entity, tier-at, expires-at, expires-none, highest-word}
 use Rattle.lint_refinement.proofs.Accepted.{Declared, FineA}
-use Rattle.lint_refinement.proofs.FileFacts.{Stage, no-rule, writes-small, rule-start, rule-of, rule-at, legal-at, walked-at, id-number, agree-actions}
+use Rattle.lint_refinement.proofs.FileFacts.{
+  Stage,
+  no-rule,
+  writes-small,
+  rule-start,
+  rule-of,
+  rule-at,
+  legal-at,
+  walked-at,
+  id-number,
+  agree-actions,
+}
 
 -- the entities that an action writes are declared
-written-fine : (es : List Entity) (a : Action) → FineA es a → (t : Text) → memT t (each (λ w. w .entity) (listed (write (a .source) (a .effect)))) ≡ true → Declared es t
+written-fine : (es : List Entity) (a : Action) → FineA es a → (t : Text) →
+    memT t (each (λ w. w .entity) (listed (write (a .source) (a .effect)))) ≡ true → Declared es t
 unfolding write listed each
 written-fine es a f t h = cases (a .effect) f h
   where
@@ -67,7 +215,8 @@ written-fine es a f t h = cases (a .effect) f h
         same true e = e
         same false e = absurd (not-both (mem-cons t x [] ∙ rw e (mem-none t)) k)
 
-    cases : (g : Effect) → Rattle.lint_refinement.proofs.Accepted.Fine es g → memT t (each (λ w. w .entity) (listed (write (a .source) g))) ≡ true → Declared es t
+    cases : (g : Effect) → Rattle.lint_refinement.proofs.Accepted.Fine es g →
+        memT t (each (λ w. w .entity) (listed (write (a .source) g))) ≡ true → Declared es t
     cases (Effect.set x v) f h = one x f h
     cases (toggle x) f h = one x f h
     cases (delay n) f h = absurd (not-both (mem-none t) h)
@@ -76,13 +225,16 @@ written-fine es a f t h = cases (a .effect) f h
     cases (wait u n c) f h = absurd (not-both (mem-none t) h)
     cases (Effect.unknown r) f h = absurd (not-both (mem-none t) h)
 
-writes-fine : (es : List Entity) (l : List Action) → Each (FineA es) l → (t : Text) → memT t (each (λ w. w .entity) (flat (λ a. listed (write (a .source) (a .effect))) l)) ≡ true → Declared es t
+writes-fine : (es : List Entity) (l : List Action) → Each (FineA es) l → (t : Text) →
+    memT t (each (λ w. w .entity) (flat (λ a. listed (write (a .source) (a .effect))) l)) ≡ true → Declared es t
 unfolding flat each
 writes-fine es [] f t h = absurd (not-both (mem-none t) h)
 writes-fine es (a ∷ l) f t h =
     let x = listed (write (a .source) (a .effect)) in
     let y = flat (λ a. listed (write (a .source) (a .effect))) l in
-    let e : memT t (each (λ w. w .entity) (x ++ y)) ≡ (memT t (each (λ w. w .entity) x) || memT t (each (λ w. w .entity) y)) = ap (memT t) (each-append (λ w. w .entity) x y) ∙ mem-append t (each (λ w. w .entity) x) (each (λ w. w .entity) y) in
+    let e : memT t (each (λ w. w .entity) (x ++ y)) ≡ (memT t (each (λ w. w .entity) x)
+    || memT t (each (λ w. w .entity) y)) = ap (memT t) (each-append (λ w. w .entity) x y)
+    ∙ mem-append t (each (λ w. w .entity) x) (each (λ w. w .entity) y) in
     ⊎-elim (λ k. written-fine es a (f .0) t k) (λ k. writes-fine es l (f .1) t k) (either _ _ (sym e ∙ h))
 
 -- the rank is above 1
@@ -122,7 +274,8 @@ module _ {s : List ℕ} {d : Names} {rs : Section} {ts : List Text} {m : Model} 
   name-number j h = place-at (names) names-once j (rw (length-each (λ e. e .name) (es)) h)
 
   -- the entity that a place names is declared: its number
-  pub declared-number : (x : ℕ) (t : Text) → x < length ts → t ≡ T x → (j : ℕ) → j < length (es) → nameAt (es) j ≡ t → number-of (e) x s ≡ j
+  pub declared-number : (x : ℕ) (t : Text) → x < length ts → t ≡ T x → (j : ℕ) → j < length (es) → nameAt (es) j ≡ t →
+      number-of (e) x s ≡ j
   declared-number x t h k j l n = number-at s (e) ts (es) (st .grounds) x j h l (n ∙ k)
 
   -- ---- values that are written
@@ -180,7 +333,8 @@ module _ {s : List ℕ} {d : Names} {rs : Section} {ts : List Text} {m : Model} 
   unfolding write
   write-at p a f fine = cases (a .effect) (f .effect-at) fine
     where
-      cases : (g : Effect) → EffectAt ts s (f .left) p (f .end) g → Rattle.lint_refinement.proofs.Accepted.Fine (es) g → Writes p (write (a .source) g)
+      cases : (g : Effect) → EffectAt ts s (f .left) p (f .end) g →
+          Rattle.lint_refinement.proofs.Accepted.Fine (es) g → Writes p (write (a .source) g)
       cases (Effect.set x v) (set-at x′ v′ k i j l n o) y = writes (record {
         kind = omega arith;
         x = x′;
@@ -229,7 +383,8 @@ module _ {s : List ℕ} {d : Names} {rs : Section} {ts : List Text} {m : Model} 
     W = writesM s (d .entities) (walkM s (getD (rs .starts) i 0))
 
     abbrev a : About
-    a = aboutAt s (d .entities) i (walkM s (getD (rs .starts) i 0) .next) (writesM s (d .entities) (walkM s (getD (rs .starts) i 0)))
+    a = aboutAt s (d .entities) i (walkM s (getD (rs .starts) i 0) .next)
+        (writesM s (d .entities) (walkM s (getD (rs .starts) i 0)))
 
     abbrev ra : RuleAt ts s (getD (rs .starts) i 0) (getD (m .rules) i no-rule)
     ra = rule-at st i h
@@ -245,7 +400,8 @@ module _ {s : List ℕ} {d : Names} {rs : Section} {ts : List Text} {m : Model} 
 
     pub writes-listed : writes-of r ≡ each (nameAt es) (members W)
     unfolding Declares written-by
-    writes-listed = writes-are s e ts es (st .grounds) p w r ra wa (λ t k. writes-fine es (touches.actions-of r) (legal-at st i h .actions) t k)
+    writes-listed = writes-are s e ts es (st .grounds) p w r ra wa
+        (λ t k. writes-fine es (touches.actions-of r) (legal-at st i h .actions) t k)
 
     single-set : bitOr 0 (2 ^ i) ≡ ids-set names ids (r .id ∷ [])
     unfolding ids-set set-of each Rattle.texts.specs.Lists.through
@@ -257,20 +413,31 @@ module _ {s : List ℕ} {d : Names} {rs : Section} {ts : List Text} {m : Model} 
 
     -- the finding about it
     abbrev found : Problem → Source → Finding
-    found q src = record { problem = q; automations = r .id ∷ []; sources = src ∷ []; tier = rank-name (highest (m .scenario) (writes-of r)) }
+    found q src = record {
+      problem = q;
+      automations = r .id ∷ [];
+      sources = src ∷ [];
+      tier =
+          rank-name (highest (m .scenario) (writes-of r));
+    }
 
     sources-one : (q : Problem) (src : Source) → eqb (code-number q) 5 ≡ false → sources-of (found q src) ≡ src ∷ []
     unfolding sources-of
     sources-one q src n = rw n
 
-    about-words : (q : Problem) (src : Source) {code certainty entity line column : ℕ} → code ≡ code-number q → certainty ≡ certainty-number q → entity ≡ entity-number names ids q → line ≡ src .line → column ≡ src .column → eqb (code-number q) 5 ≡ false →
+    about-words : (q : Problem) (src : Source) {code certainty entity line column : ℕ} → code ≡ code-number q →
+        certainty ≡ certainty-number q → entity ≡ entity-number names ids q → line ≡ src .line → column ≡ src .column →
+        eqb (code-number q) 5 ≡ false →
         aboutM a code certainty entity line column ≡ finding-words names ids (found q src) ++ (0 ∷ 0 ∷ 0 ∷ 0 ∷ 0 ∷ [])
     unfolding finding-words aboutM source-words
     about-words q src c₁ c₂ c₃ c₄ c₅ n =
         rw (c₁, c₂, c₃, c₄, c₅) (
-        ap (λ (t : ℕ). code-number q ∷ certainty-number q ∷ t ∷ entity-number names ids q ∷ a .set ∷ src .line ∷ src .column ∷ 0 ∷ 0 ∷ 0 ∷ 0 ∷ 0 ∷ 0 ∷ 0 ∷ []) tier-word
-        ∙ ap (λ (t : ℕ). code-number q ∷ certainty-number q ∷ tier-number′ ∷ entity-number names ids q ∷ t ∷ src .line ∷ src .column ∷ 0 ∷ 0 ∷ 0 ∷ 0 ∷ 0 ∷ 0 ∷ 0 ∷ []) set-word
-        ∙ ap (λ (l : List Source). (code-number q ∷ certainty-number q ∷ tier-number′ ∷ entity-number names ids q ∷ ids-set names ids (r .id ∷ []) ∷ []) ++ source-words l ++ (0 ∷ 0 ∷ 0 ∷ 0 ∷ 0 ∷ [])) (sym (sources-one q src n)))
+        ap (λ (t : ℕ). code-number q ∷ certainty-number q ∷ t ∷ entity-number names ids
+        q ∷ a .set ∷ src .line ∷ src .column ∷ 0 ∷ 0 ∷ 0 ∷ 0 ∷ 0 ∷ 0 ∷ 0 ∷ []) tier-word
+        ∙ ap (λ (t : ℕ). code-number q ∷ certainty-number q ∷ tier-number′ ∷ entity-number names ids
+        q ∷ t ∷ src .line ∷ src .column ∷ 0 ∷ 0 ∷ 0 ∷ 0 ∷ 0 ∷ 0 ∷ 0 ∷ []) set-word
+        ∙ ap (λ (l : List Source). (code-number q ∷ certainty-number q ∷ tier-number′ ∷ entity-number names ids q ∷ ids-set
+        names ids (r .id ∷ []) ∷ []) ++ source-words l ++ (0 ∷ 0 ∷ 0 ∷ 0 ∷ 0 ∷ [])) (sym (sources-one q src n)))
       where
         tier-number′ : ℕ
         tier-number′ = Rattle.lint_spec.specs.Words.tier-number (rank-name (highest (m .scenario) (writes-of r)))
@@ -278,11 +445,16 @@ module _ {s : List ℕ} {d : Names} {rs : Section} {ts : List Text} {m : Model} 
         set-word : a .set ≡ ids-set names ids (r .id ∷ [])
         set-word = unfold aboutAt in single-set
 
-    about-stands : (q : Problem) (src : Source) {code certainty entity line column : ℕ} → code ≡ code-number q → certainty ≡ certainty-number q → entity ≡ entity-number names ids q → line ≡ src .line → column ≡ src .column → eqb (code-number q) 5 ≡ false → ltb (code-number q) 9 ≡ true →
+    about-stands : (q : Problem) (src : Source) {code certainty entity line column : ℕ} → code ≡ code-number q →
+        certainty ≡ certainty-number q → entity ≡ entity-number names ids q → line ≡ src .line → column ≡ src .column →
+        eqb (code-number q) 5 ≡ false → ltb (code-number q) 9 ≡ true →
         Stands s names ids (Entry.finding (found q src)) (Item.finding (aboutM a code certainty entity line column))
-    about-stands q src c₁ c₂ c₃ c₄ c₅ n₅ n₉ = as-finding (record { reason = 0 ∷ 0 ∷ 0 ∷ 0 ∷ 0 ∷ []; is = about-words q src c₁ c₂ c₃ c₄ c₅ n₅; reasoned = plain n₉ })
+    about-stands q src c₁ c₂ c₃ c₄ c₅ n₅ n₉ = as-finding
+        (record { reason = 0 ∷ 0 ∷ 0 ∷ 0 ∷ 0 ∷ []; is = about-words q src c₁ c₂ c₃ c₄ c₅ n₅; reasoned = plain n₉ })
 
-    about-agrees : (b c : Bool) (q : Problem) (src : Source) {code certainty entity line column : ℕ} → c ≡ b → code ≡ code-number q → certainty ≡ certainty-number q → entity ≡ entity-number names ids q → line ≡ src .line → column ≡ src .column → eqb (code-number q) 5 ≡ false → ltb (code-number q) 9 ≡ true →
+    about-agrees : (b c : Bool) (q : Problem) (src : Source) {code certainty entity line column : ℕ} → c ≡ b →
+        code ≡ code-number q → certainty ≡ certainty-number q → entity ≡ entity-number names ids q → line ≡ src .line →
+        column ≡ src .column → eqb (code-number q) 5 ≡ false → ltb (code-number q) 9 ≡ true →
         Agrees (about-if (m .scenario) b r q src) (onlyIf c (Item.finding (aboutM a code certainty entity line column)))
     unfolding about-if about
     about-agrees b c q src z c₁ c₂ c₃ c₄ c₅ n₅ n₉ = agree-if s names ids b c z (about-stands q src c₁ c₂ c₃ c₄ c₅ n₅ n₉)
@@ -300,7 +472,9 @@ module _ {s : List ℕ} {d : Names} {rs : Section} {ts : List Text} {m : Model} 
     delayed-is : delayedM s w W ≡ (any (λ a. is-delay (a .effect)) (touches.actions-of r) && not (is-empty (writes-of r)))
     unfolding delayedM
     delayed-is =
-        ap (λ (b : Bool). if b then false else delaysM s w) (set-empty W (writes-small s e few-entities w) ∙ sym (ap is-empty writes-listed ∙ each-empty (nameAt es) (members W)))
+        ap (λ (b : Bool). if b then false else delaysM s w)
+        (set-empty W (writes-small s e few-entities w)
+        ∙ sym (ap is-empty writes-listed ∙ each-empty (nameAt es) (members W)))
         ∙ ap (λ (b : Bool). if is-empty (writes-of r) then false else b) (delays-agree ts s w r wa)
         ∙ go (is-empty (writes-of r)) (any (λ a. is-delay (a .effect)) (touches.actions-of r))
       where
@@ -313,33 +487,52 @@ module _ {s : List ℕ} {d : Names} {rs : Section} {ts : List Text} {m : Model} 
     own-agrees : Agrees
         (about-if (m .scenario) (contradictory (r .conditions)) r unreachable-conditions (r .source)
         ++ about-if (m .scenario) (all (mismatched (r .conditions)) (r .triggers)) r trigger-condition-mismatch (r .source)
-        ++ about-if (m .scenario) (any (λ a. is-delay (a .effect)) (touches.actions-of r) && not (is-empty (writes-of r))) r delayed-write (r .source))
+        ++ about-if (m .scenario) (any (λ a. is-delay (a .effect)) (touches.actions-of r) && not (is-empty (writes-of r)))
+        r delayed-write (r .source))
         (ownItems s a p w W)
     unfolding ownItems code-number certainty-number entity-number
     own-agrees =
         agree-append s names ids
         (agree-append s names ids
-        (about-agrees (contradictory (r .conditions)) (contradictoryM s (conditionsM s p)) unreachable-conditions (r .source) (contradictory-agrees s ts (st .grounds .same) (conditionsM s p) (r .conditions) (actionsM s p) (ra .conditions)) refl refl refl own-line own-column refl refl)
-        (about-agrees (all (mismatched (r .conditions)) (r .triggers)) (mismatchedM s p) trigger-condition-mismatch (r .source) (mismatched-agrees s ts (st .grounds .same) p r ra) refl refl refl own-line own-column refl refl))
+        (about-agrees (contradictory (r .conditions)) (contradictoryM s (conditionsM s p)) unreachable-conditions (r .source)
+        (contradictory-agrees s ts (st .grounds .same) (conditionsM s p) (r .conditions) (actionsM s p) (ra .conditions))
+        refl refl refl own-line own-column refl refl)
+        (about-agrees (all (mismatched (r .conditions)) (r .triggers)) (mismatchedM s p) trigger-condition-mismatch
+        (r .source) (mismatched-agrees s ts (st .grounds .same) p r ra) refl refl refl own-line own-column refl refl))
         (about-agrees _ (delayedM s w W) delayed-write (r .source) delayed-is refl refl refl own-line own-column refl refl)
 
     -- ---- branches
 
-    branch-parts : (left : ℕ) → left ≤ 18 → (q₀ : ℕ) (src : Source) (after : ℕ) → SourceAt s q₀ src after → (n q : ℕ) (bs : Branches) (o : ℕ) → branches ts (actions ts left) n s q ≡ got bs o →
-        Agrees (flat (λ ps. about-if (m .scenario) (contradictory ps) r unreachable-branch src) (conditions-of bs)) (items-partsM (λ q. onlyIf (contradictoryM s q) (Item.finding (actionM s a 3 0 0 q₀))) (λ q. listEnd s (predicatesEnd s q)) n q)
+    branch-parts : (left : ℕ) → left ≤ 18 → (q₀ : ℕ) (src : Source) (after : ℕ) → SourceAt s q₀ src after →
+        (n q : ℕ) (bs : Branches) (o : ℕ) → branches ts (actions ts left) n s q ≡ got bs o →
+        Agrees (flat (λ ps. about-if (m .scenario) (contradictory ps) r unreachable-branch src) (conditions-of bs))
+        (items-partsM (λ q. onlyIf (contradictoryM s q) (Item.finding (actionM s a 3 0 0 q₀)))
+        (λ q. listEnd s (predicatesEnd s q)) n q)
     unfolding branches flat items-partsM conditions-of actionM code-number certainty-number entity-number
     branch-parts left b q₀ src after sa zero q bs o x =
-        subst (λ (y : Branches). Agrees (flat (λ ps. about-if (m .scenario) (contradictory ps) r unreachable-branch src) (conditions-of y)) []) (given _ _ _ x .0) neither
+        subst (λ (y : Branches). Agrees (flat (λ ps. about-if (m .scenario) (contradictory ps) r unreachable-branch src)
+        (conditions-of y)) []) (given _ _ _ x .0) neither
     branch-parts left b q₀ src after sa (suc n) q bs o x =
         let c = bound (counted (predicate ts)) _ x in
         let f = bound (actions ts left) _ (c .rest) in
         let y = bound (branches ts (actions ts left) n) _ (f .rest) in
         let z = given _ _ _ (y .rest) in
-        let t : listEnd s (predicatesEnd s q) ≡ f .next = ap (listEnd s) (predicates-end ts s q (c .first)) ∙ list-ends ts s left (c .next) (f .value) (f .next) b (f .first) in
-        let first = about-agrees (contradictory (c .value)) (contradictoryM s q) unreachable-branch src (contradictory-agrees s ts (st .grounds .same) q (c .value) (c .next) (c .first)) refl refl refl (sa .line) (sa .column) refl refl in
+        let t : listEnd s (predicatesEnd s q) ≡ f .next =
+        ap (listEnd s) (predicates-end ts s q (c .first))
+        ∙ list-ends ts s left (c .next) (f .value) (f .next) b (f .first) in
+        let first = about-agrees (contradictory (c .value)) (contradictoryM s q) unreachable-branch src
+        (contradictory-agrees s ts (st .grounds .same) q (c .value) (c .next) (c .first)) refl refl refl (sa .line)
+        (sa .column) refl refl in
         let rest = branch-parts left b q₀ src after sa n (f .next) (y .value) o (y .first ∙ ap (got (y .value)) (z .1)) in
-        subst (λ (u : Branches). Agrees (flat (λ ps. about-if (m .scenario) (contradictory ps) r unreachable-branch src) (conditions-of u)) (onlyIf (contradictoryM s q) (Item.finding (actionM s a 3 0 0 q₀)) ++ items-partsM (λ q. onlyIf (contradictoryM s q) (Item.finding (actionM s a 3 0 0 q₀))) (λ q. listEnd s (predicatesEnd s q)) n (listEnd s (predicatesEnd s q)))) (z .0)
-        (agree-append s names ids first (subst (λ (k : ℕ). Agrees (flat (λ ps. about-if (m .scenario) (contradictory ps) r unreachable-branch src) (conditions-of (y .value))) (items-partsM (λ q. onlyIf (contradictoryM s q) (Item.finding (actionM s a 3 0 0 q₀))) (λ q. listEnd s (predicatesEnd s q)) n k)) (sym t) rest))
+        subst (λ (u : Branches). Agrees (flat (λ ps. about-if (m .scenario) (contradictory ps) r unreachable-branch src)
+        (conditions-of u)) (onlyIf (contradictoryM s q) (Item.finding (actionM s a 3 0 0 q₀)) ++ items-partsM
+        (λ q. onlyIf (contradictoryM s q) (Item.finding (actionM s a 3 0 0 q₀))) (λ q. listEnd s (predicatesEnd s q)) n
+        (listEnd s (predicatesEnd s q)))) (z .0)
+        (agree-append s names ids first
+        (subst (λ (k : ℕ). Agrees (flat (λ ps. about-if (m .scenario) (contradictory ps) r unreachable-branch src)
+        (conditions-of (y .value)))
+        (items-partsM (λ q. onlyIf (contradictoryM s q) (Item.finding (actionM s a 3 0 0 q₀)))
+        (λ q. listEnd s (predicatesEnd s q)) n k)) (sym t) rest))
 
     abbrev choice-items : ℕ → List Item
     choice-items q = if eqb (kindM s q) 4 then branchItems s a q else []
@@ -347,14 +540,17 @@ module _ {s : List ℕ} {d : Names} {rs : Section} {ts : List Text} {m : Model} 
     no-choice : (q k : ℕ) → kindM s q ≡ k → (k ≡ 4 → ⊥) → choice-items q ≡ []
     no-choice q k x n = rw x (rw (ne-eqb k 4 n))
 
-    choice-agrees : (q : ℕ) (x : Action) → ActionAt ts s q x → FineA es x → Agrees (branch-entries (m .scenario) r x) (choice-items q)
+    choice-agrees : (q : ℕ) (x : Action) → ActionAt ts s q x → FineA es x →
+        Agrees (branch-entries (m .scenario) r x) (choice-items q)
     unfolding branch-entries branch-conditions branchItems flat
     choice-agrees q x f fine = cases (x .effect) (f .effect-at)
       where
         none-of : (k : ℕ) → kindM s q ≡ k → (k ≡ 4 → ⊥) → Agrees [] (choice-items q)
         none-of k z n = subst (Agrees []) (sym (no-choice q k z n)) neither
 
-        cases : (g : Effect) → EffectAt ts s (f .left) q (f .end) g → Agrees (flat (λ ps. about-if (m .scenario) (contradictory ps) r unreachable-branch (x .source)) (branch-conditions g)) (choice-items q)
+        cases : (g : Effect) → EffectAt ts s (f .left) q (f .end) g →
+            Agrees (flat (λ ps. about-if (m .scenario) (contradictory ps) r unreachable-branch (x .source))
+            (branch-conditions g)) (choice-items q)
         cases (Effect.set y v) (set-at x′ v′ k i j l n o) = none-of 0 k (λ z. omega arith)
         cases (toggle y) (toggle-at x′ k i l o) = none-of 1 k (λ z. omega arith)
         cases (delay y) (delay-at x′ k o) = none-of 2 k (λ z. omega arith)
@@ -362,22 +558,27 @@ module _ {s : List ℕ} {d : Names} {rs : Section} {ts : List Text} {m : Model} 
         cases (choose bs b) (choose-at bs′ d′ n y k c q′ t) =
             let u : placeM s (past s q 9) ≡ n = place-got s (past s q 9) c in
             let v : past s (past s q 9) 2 ≡ past s q 11 = past-is s (u16-wide s (past s q 9) c) in
-            rw k (rw (u, v) (branch-parts (f .left) (f .is-shallow) q (x .source) (f .after) (f .source-at) n (past s q 11) bs y q′))
+            rw k (rw (u, v) (branch-parts (f .left) (f .is-shallow) q (x .source) (f .after) (f .source-at) n (past s q 11)
+            bs y q′))
         cases (wait t y z) (wait-at t′ y′ z′ o k i n) = none-of 5 k (λ z. omega arith)
         cases (Effect.unknown y) (unknown-at x′ k i l o) = none-of 6 k (λ z. omega arith)
 
     branches-agree : Agrees (flat (branch-entries (m .scenario) r) (touches.actions-of r)) (branchesItems s a w)
     unfolding branchesItems branchesAt
-    branches-agree = agree-actions s names ids ts s es choice-items (branch-entries (m .scenario) r) choice-agrees w r wa (legal-at st i h)
+    branches-agree = agree-actions s names ids ts s es choice-items (branch-entries (m .scenario) r) choice-agrees w r wa
+        (legal-at st i h)
 
     -- ---- fanout
 
     many-writes : ones W ≡ length (writes-of r)
-    many-writes = ones-members W (writes-small s e few-entities w) ∙ sym (ap length writes-listed ∙ length-each (nameAt es) (members W))
+    many-writes = ones-members W (writes-small s e few-entities w)
+        ∙ sym (ap length writes-listed ∙ length-each (nameAt es) (members W))
 
-    fanout-agrees : Agrees (about-if (m .scenario) (ltb 8 (length (writes-of r))) r high-fanout (r .source)) (fanoutItems s a W)
+    fanout-agrees : Agrees (about-if (m .scenario) (ltb 8 (length (writes-of r))) r high-fanout (r .source))
+        (fanoutItems s a W)
     unfolding fanoutItems code-number certainty-number entity-number
-    fanout-agrees = about-agrees _ (ltb 8 (ones W)) high-fanout (r .source) (ap (ltb 8) many-writes) refl refl refl own-line own-column refl refl
+    fanout-agrees = about-agrees _ (ltb 8 (ones W)) high-fanout (r .source) (ap (ltb 8) many-writes)
+        refl refl refl own-line own-column refl refl
 
     -- ---- entities that are read
 
@@ -394,8 +595,13 @@ module _ {s : List ℕ} {d : Names} {rs : Section} {ts : List Text} {m : Model} 
     reads-listed =
         sym (sorted-rising (keep declared (reads-of r)) (rising-keep declared (rising-sorted _)))
         ∙ names-are s e ts es (st .grounds) R (keep declared (reads-of r)) (reads-inside s e ts es (st .grounds) p w r ra wa)
-        (λ t k. let x = found-at names t (both-true (declared t) (memT t (reads-of r)) (sym (mem-keep declared t (reads-of r)) ∙ k)) in let l = x .1 .0 in (x .0, (omega (arith, length-each (λ e. e .name) es), x .1 .1)))
-        (λ j k. reads-hold s e ts es (st .grounds) p w r ra wa j k ∙ sym (mem-keep declared (nameAt es j) (reads-of r) ∙ ap (λ (b : Bool). b && memT (nameAt es j) (reads-of r)) (mem-at names j (rw (length-each (λ e. e .name) es) k))))
+        (λ t k. let x =
+        found-at names t (both-true (declared t) (memT t (reads-of r)) (sym (mem-keep declared t (reads-of r)) ∙ k)) in
+        let l = x .1 .0 in (x .0, (omega (arith, length-each (λ e. e .name) es), x .1 .1)))
+        (λ j k. reads-hold s e ts es (st .grounds) p w r ra wa j k
+        ∙ sym (mem-keep declared (nameAt es j) (reads-of r)
+        ∙ ap (λ (b : Bool). b && memT (nameAt es j) (reads-of r))
+        (mem-at names j (rw (length-each (λ e. e .name) es) k))))
       where
         both-true : (a b : Bool) → (a && b) ≡ true → a ≡ true
         both-true true b k = refl
@@ -407,13 +613,15 @@ module _ {s : List ℕ} {d : Names} {rs : Section} {ts : List Text} {m : Model} 
     fresh-none : (x : Text) → declared x ≡ false → fresh-entries x ≡ []
     unfolding about-if nameAt
     fresh-none x k =
-        let z = expires-none s e ts (m .scenario) (st .grounds) x (λ j l. not-at names x k j (rw (length-each (λ e. e .name) es) l)) in
+        let z = expires-none s e ts (m .scenario) (st .grounds) x
+        (λ j l. not-at names x k j (rw (length-each (λ e. e .name) es) l)) in
         rw z
 
     abbrev fresh-items : ℕ → List Item
     fresh-items k = onlyIf (staleHereM s e R k) (Item.finding (aboutM a 6 1 k (a .line) (a .column)))
 
-    fresh-numbers : (n k : ℕ) → k + n ≤ length es → Agrees (flat fresh-entries (each (nameAt es) (keep (holds R) (places n k)))) (items-numbersM fresh-items n k)
+    fresh-numbers : (n k : ℕ) → k + n ≤ length es → Agrees
+        (flat fresh-entries (each (nameAt es) (keep (holds R) (places n k)))) (items-numbersM fresh-items n k)
     unfolding places keep each flat items-numbersM staleHereM code-number certainty-number entity-number
     fresh-numbers zero k b = neither
     fresh-numbers (suc n) k b = cases (case (holds R k)) (fresh-numbers n (k + 1) (omega arith))
@@ -421,12 +629,17 @@ module _ {s : List ℕ} {d : Names} {rs : Section} {ts : List Text} {m : Model} 
         rest : List Text
         rest = each (nameAt es) (keep (holds R) (places n (k + 1)))
 
-        cases : Case (holds R k) → Agrees (flat fresh-entries (each (nameAt es) (keep (holds R) (places n (k + 1))))) (items-numbersM fresh-items n (k + 1)) →
-            Agrees (flat fresh-entries (each (nameAt es) (if holds R k then k ∷ keep (holds R) (places n (k + 1)) else keep (holds R) (places n (k + 1))))) (fresh-items k ++ items-numbersM fresh-items n (k + 1))
+        cases : Case (holds R k) → Agrees (flat fresh-entries (each (nameAt es) (keep (holds R) (places n (k + 1)))))
+            (items-numbersM fresh-items n (k + 1)) →
+            Agrees (flat fresh-entries
+            (each (nameAt es) (if holds R k then k ∷ keep (holds R) (places n (k + 1))
+            else keep (holds R) (places n (k + 1))))) (fresh-items k ++ items-numbersM fresh-items n (k + 1))
         cases (is-true z) ih =
             let l : k < length es = omega arith in
             rw z (agree-append s names ids
-            (about-agrees (expires (m .scenario) (nameAt es k)) (staleM s (getD (e .starts) k 0)) (freshness-assumption (nameAt es k)) (r .source) (expires-at s e ts (m .scenario) (st .grounds) k l) refl refl (sym (name-number k l)) own-line own-column refl refl)
+            (about-agrees (expires (m .scenario) (nameAt es k)) (staleM s (getD (e .starts) k 0))
+            (freshness-assumption (nameAt es k)) (r .source) (expires-at s e ts (m .scenario) (st .grounds) k l)
+            refl refl (sym (name-number k l)) own-line own-column refl refl)
             ih)
         cases (is-false z) ih = rw z (unfold onlyIf in ih)
 
@@ -434,8 +647,12 @@ module _ {s : List ℕ} {d : Names} {rs : Section} {ts : List Text} {m : Model} 
     unfolding freshItems
     fresh-agrees =
         let n : 0 + length es ≤ length es = omega arith in
-        subst (λ (l : List Entry). Agrees l (items-numbersM fresh-items (e .count) 0)) (sym (flat-keep fresh-entries declared fresh-none (reads-of r) ∙ ap (flat fresh-entries) (reads-listed ∙ ap (each (nameAt es)) (members-below s e ts es (st .grounds) R (reads-inside s e ts es (st .grounds) p w r ra wa)))))
-        (subst (λ (k : ℕ). Agrees (flat fresh-entries (each (nameAt es) (keep (holds R) (places (length es) 0)))) (items-numbersM fresh-items k 0)) (sym (st .grounds .counts)) (fresh-numbers (length es) 0 n))
+        subst (λ (l : List Entry). Agrees l (items-numbersM fresh-items (e .count) 0))
+        (sym (flat-keep fresh-entries declared fresh-none (reads-of r)
+        ∙ ap (flat fresh-entries) (reads-listed ∙ ap (each (nameAt es))
+        (members-below s e ts es (st .grounds) R (reads-inside s e ts es (st .grounds) p w r ra wa)))))
+        (subst (λ (k : ℕ). Agrees (flat fresh-entries (each (nameAt es) (keep (holds R) (places (length es) 0))))
+        (items-numbersM fresh-items k 0)) (sym (st .grounds .counts)) (fresh-numbers (length es) 0 n))
 
     -- ---- writes
 
@@ -444,11 +661,14 @@ module _ {s : List ℕ} {d : Names} {rs : Section} {ts : List Text} {m : Model} 
       v = valueM s (d .star) q
 
       number-is : number-of e (placeM s (past s q 9)) s ≡ at .number
-      number-is = ap (λ (k : ℕ). number-of e k s) (at .at-entity) ∙ declared-number (at .x) (x .entity) (at .is-in) (at .is-entity) (at .number) (at .below) (at .named)
+      number-is = ap (λ (k : ℕ). number-of e k s) (at .at-entity)
+          ∙ declared-number (at .x) (x .entity) (at .is-in) (at .is-entity) (at .number) (at .below) (at .named)
 
-      guarded-is : (u : ℕ) (t : Text) → u < length ts → T u ≡ t → guardedM s (d .invariants) (at .x) u ≡ any (guards (x .entity) t) (m .scenario .invariants)
+      guarded-is : (u : ℕ) (t : Text) → u < length ts → T u ≡ t →
+          guardedM s (d .invariants) (at .x) u ≡ any (guards (x .entity) t) (m .scenario .invariants)
       guarded-is u t k n =
-          guarded-agrees ts s (st .grounds .same) (at .x) u (at .is-in) k (d .invariants) (m .scenario .invariants) (st .invariants .counts) (omega (arith, st .lawful .few-invariants)) (st .invariants .stand)
+          guarded-agrees ts s (st .grounds .same) (at .x) u (at .is-in) k (d .invariants) (m .scenario .invariants)
+          (st .invariants .counts) (omega (arith, st .lawful .few-invariants)) (st .invariants .stand)
           ∙ ap (λ (y : Text). any (guards y (T u)) (m .scenario .invariants)) (sym (at .is-entity))
           ∙ ap (λ (y : Text). any (guards (x .entity) y) (m .scenario .invariants)) n
 
@@ -469,19 +689,32 @@ module _ {s : List ℕ} {d : Names} {rs : Section} {ts : List Text} {m : Model} 
           one false = refl
 
           cases : Case (is-star (x .value)) →
-              (if is-star (x .value) then (if guardedM s (d .invariants) (at .x) (d .on) then not (guardedM s (d .invariants) (at .x) (d .off)) else true) else not (guardedM s (d .invariants) (at .x) v))
+              (if is-star (x .value) then (if guardedM s (d .invariants) (at .x) (d .on)
+              then not (guardedM s (d .invariants) (at .x) (d .off)) else true)
+              else not (guardedM s (d .invariants) (at .x) v))
               ≡ any unmet (if is-star (x .value) then text "on" ∷ text "off" ∷ [] else x .value ∷ [])
-          cases (is-true z) = rw z (rw (guarded-is (d .on) (text "on") (st .on .is-in) (st .on .is-text), guarded-is (d .off) (text "off") (st .off .is-in) (st .off .is-text)) (pair (any (guards (x .entity) (text "on")) (m .scenario .invariants)) (any (guards (x .entity) (text "off")) (m .scenario .invariants))))
-          cases (is-false z) = let y = at .valued .set z in rw z (rw (guarded-is v (x .value) (y .0) (y .1)) (one (unmet (x .value))))
+          cases (is-true z) =
+              rw z (rw (
+                guarded-is (d .on) (text "on") (st .on .is-in) (st .on .is-text),
+                guarded-is (d .off) (text "off") (st .off .is-in) (st .off .is-text),
+              )
+              (pair (any (guards (x .entity) (text "on")) (m .scenario .invariants))
+              (any (guards (x .entity) (text "off")) (m .scenario .invariants))))
+          cases (is-false z) = let y = at .valued .set z in
+              rw z (rw (guarded-is v (x .value) (y .0) (y .1)) (one (unmet (x .value))))
 
       risky-is : riskyM s d (at .x) v (at .number) ≡ unguarded (m .scenario) x
       unfolding riskyM unguarded present-and
       risky-is =
-          let t : tier-of (m .scenario) (x .entity) ≡ some (getD es (at .number) no-entity .tier) = ap (tier-of (m .scenario)) (sym (at .named)) ∙ tier-at s e ts (m .scenario) (st .grounds) (at .number) (at .below) in
+          let t : tier-of (m .scenario) (x .entity) ≡ some (getD es (at .number) no-entity .tier) =
+          ap (tier-of (m .scenario)) (sym (at .named))
+          ∙ tier-at s e ts (m .scenario) (st .grounds) (at .number) (at .below) in
           ap (λ (b : Bool). if ltb (tierM s (getD (e .starts) (at .number) 0)) 2 then false else b) unguarded-is
-          ∙ ap (λ (k : ℕ). if ltb k 2 then false else any unmet (values-of x)) (entity-at s e ts (m .scenario) (st .grounds) (at .number) (at .below) .0)
+          ∙ ap (λ (k : ℕ). if ltb k 2 then false else any unmet (values-of x))
+          (entity-at s e ts (m .scenario) (st .grounds) (at .number) (at .below) .0)
           ∙ rank-above (rank (getD es (at .number) no-entity .tier)) (any unmet (values-of x))
-          ∙ ap (λ (o : Option Rattle.model_spec.specs.Model.Tier). present-and (λ t. ltb 1 (rank t)) o && any unmet (values-of x)) (sym t)
+          ∙ ap (λ (o : Option Rattle.model_spec.specs.Model.Tier). present-and (λ t. ltb 1 (rank t)) o
+          && any unmet (values-of x)) (sym t)
 
       value-is : Value s ts (st .grounds .same) (d .star) v (x .value)
       value-is = record { stars = at .valued .stars; equals = at .valued .equals }
@@ -495,46 +728,64 @@ module _ {s : List ℕ} {d : Names} {rs : Section} {ts : List Text} {m : Model} 
       interacts : Agrees (each between (keep set-off (m .rules))) (interactItems s i rs (d .star) (at .x) v (at .number))
       unfolding interactItems interaction-words
       interacts =
-          subst (λ (l : List Entry). Agrees l (items-numbersM items (rs .count) 0)) (sym (each-keep between set-off (m .rules)))
-          (subst (λ (n : ℕ). Agrees (flat (λ t. if set-off t then between t ∷ [] else []) (m .rules)) (items-numbersM items n 0)) (sym (st .rules .counts))
+          subst (λ (l : List Entry). Agrees l (items-numbersM items (rs .count) 0))
+          (sym (each-keep between set-off (m .rules)))
+          (subst (λ (n : ℕ). Agrees (flat (λ t. if set-off t then between t ∷ [] else []) (m .rules))
+          (items-numbersM items n 0)) (sym (st .rules .counts))
           (agree-numbers s names ids items (λ t. if set-off t then between t ∷ [] else []) no-rule (m .rules) 0 (λ j b.
           let z : 0 + j ≡ j = omega arith in
-          rw z (agree-if s names ids (set-off (rule-of st j)) (leadsM s (d .star) (at .x) v (rule-start st j)) (leads-agrees s ts (st .grounds .same) (d .star) (at .x) v (rule-start st j) x (rule-of st j) (at .is-in) (at .is-entity) value-is (rule-at st j b))
+          rw z (agree-if s names ids (set-off (rule-of st j)) (leadsM s (d .star) (at .x) v (rule-start st j))
+          (leads-agrees s ts (st .grounds .same) (d .star) (at .x) v (rule-start st j) x (rule-of st j) (at .is-in)
+          (at .is-entity) value-is (rule-at st j b))
           (as-interaction (rw (id-number st i h, id-number st j b, ← at .named, name-number (at .number) (at .below))))))))
         where
           items : ℕ → List Item
-          items k = onlyIf (leadsM s (d .star) (at .x) v (getD (rs .starts) k 0)) (Item.interaction (i ∷ k ∷ at .number ∷ []))
+          items k = onlyIf (leadsM s (d .star) (at .x) v (getD (rs .starts) k 0))
+              (Item.interaction (i ∷ k ∷ at .number ∷ []))
 
-      write-items : writeItems s d rs a q ≡ onlyIf (riskyM s d (at .x) v (at .number)) (Item.finding (actionM s a 7 1 (at .number) q)) ++ interactItems s i rs (d .star) (at .x) v (at .number)
+      write-items : writeItems s d rs a q ≡ onlyIf (riskyM s d (at .x) v (at .number))
+          (Item.finding (actionM s a 7 1 (at .number) q)) ++ interactItems s i rs (d .star) (at .x) v (at .number)
       unfolding writeItems aboutAt
       write-items =
-          rw (le-ltb 1 (kindM s q) (at .kind)) (rw number-is (rw (at .at-entity) (rw (lt-leb (e .count) (at .number) (omega (arith, st .grounds .counts, at .below))))))
+          rw (le-ltb 1 (kindM s q) (at .kind)) (rw number-is
+          (rw (at .at-entity) (rw (lt-leb (e .count) (at .number) (omega (arith, st .grounds .counts, at .below))))))
 
       write-agrees : Agrees (write-entries (m .scenario) (m .rules) r x) (writeItems s d rs a q)
       unfolding write-entries actionM code-number certainty-number entity-number
       write-agrees =
           subst (Agrees (write-entries (m .scenario) (m .rules) r x)) (sym write-items)
           (agree-append s names ids
-          (about-agrees (unguarded (m .scenario) x) (riskyM s d (at .x) v (at .number)) (missing-safety-guard (x .entity)) (x .source) risky-is refl refl (sym (ap (λ (t : Text). place-of t names) (sym (at .named)) ∙ name-number (at .number) (at .below))) (at .source-at .line) (at .source-at .column) refl refl)
+          (about-agrees (unguarded (m .scenario) x) (riskyM s d (at .x) v (at .number)) (missing-safety-guard (x .entity))
+          (x .source) risky-is refl refl
+          (sym (ap (λ (t : Text). place-of t names) (sym (at .named)) ∙ name-number (at .number) (at .below)))
+          (at .source-at .line) (at .source-at .column) refl refl)
           interacts)
 
     no-write : (q : ℕ) → 1 < kindM s q → writeItems s d rs a q ≡ []
     unfolding writeItems
     no-write q k = rw (lt-ltb 1 (kindM s q) k)
 
-    action-agrees : (q : ℕ) (x : Action) → ActionAt ts s q x → FineA es x → Agrees (flat (write-entries (m .scenario) (m .rules) r) (listed (write (x .source) (x .effect)))) (writeItems s d rs a q)
+    action-agrees : (q : ℕ) (x : Action) → ActionAt ts s q x → FineA es x →
+        Agrees (flat (write-entries (m .scenario) (m .rules) r) (listed (write (x .source) (x .effect))))
+        (writeItems s d rs a q)
     unfolding listed flat
     action-agrees q x f fine = cases (write (x .source) (x .effect)) (write-at q x f fine)
       where
-        cases : (o : Option Write) → Writes q o → Agrees (flat (write-entries (m .scenario) (m .rules) r) (listed o)) (writeItems s d rs a q)
-        cases (some y) (writes at) = subst (λ (l : List Entry). Agrees l (writeItems s d rs a q)) (sym (append-nil (write-entries (m .scenario) (m .rules) r y))) (write-agrees q y at)
+        cases : (o : Option Write) → Writes q o → Agrees (flat (write-entries (m .scenario) (m .rules) r) (listed o))
+            (writeItems s d rs a q)
+        cases (some y) (writes at) = subst (λ (l : List Entry). Agrees l (writeItems s d rs a q))
+            (sym (append-nil (write-entries (m .scenario) (m .rules) r y))) (write-agrees q y at)
         cases none (others k) = subst (Agrees []) (sym (no-write q k)) neither
 
     writes-agree : Agrees (flat (write-entries (m .scenario) (m .rules) r) (written-by r)) (writesItems s d rs a w)
     unfolding writesItems written-by
     writes-agree =
-        subst (λ (l : List Entry). Agrees l (items-numbersM (λ k. writeItems s d rs a (getD (w .list) k 0)) (w .count) 0)) (sym (flat-flat (write-entries (m .scenario) (m .rules) r) (λ a. listed (write (a .source) (a .effect))) (touches.actions-of r)))
-        (agree-actions s names ids ts s es (writeItems s d rs a) (λ x. flat (write-entries (m .scenario) (m .rules) r) (listed (write (x .source) (x .effect)))) action-agrees w r wa (legal-at st i h))
+        subst (λ (l : List Entry). Agrees l (items-numbersM (λ k. writeItems s d rs a (getD (w .list) k 0)) (w .count) 0))
+        (sym (flat-flat (write-entries (m .scenario) (m .rules) r) (λ a. listed (write (a .source) (a .effect)))
+        (touches.actions-of r)))
+        (agree-actions s names ids ts s es (writeItems s d rs a)
+        (λ x. flat (write-entries (m .scenario) (m .rules) r) (listed (write (x .source) (x .effect))))
+        action-agrees w r wa (legal-at st i h))
 
     -- ---- all of it
 

@@ -48,8 +48,11 @@ module _ (x : ℕ) where
       add : ℕ → ℕ → ℕ
       add j y = bitOr y (2 ^ j)
 
-      cases : (b : Bool) → eqb (x / 2 ^ i % 2) 1 ≡ b → through (λ i x. bitOr x (2 ^ i)) (keep (λ j. eqb (x / 2 ^ j % 2) 1) (places n (i + 1))) (x % 2 ^ (i + 1)) ≡ x % 2 ^ (i + 1 + n) →
-          through (λ i x. bitOr x (2 ^ i)) (if b then i ∷ keep (λ j. eqb (x / 2 ^ j % 2) 1) (places n (i + 1)) else keep (λ j. eqb (x / 2 ^ j % 2) 1) (places n (i + 1))) (x % 2 ^ i) ≡ x % 2 ^ (i + 1 + n)
+      cases : (b : Bool) → eqb (x / 2 ^ i % 2) 1 ≡ b →
+          through (λ i x. bitOr x (2 ^ i)) (keep (λ j. eqb (x / 2 ^ j % 2) 1) (places n (i + 1))) (x % 2 ^ (i + 1))
+          ≡ x % 2 ^ (i + 1 + n) →
+          through (λ i x. bitOr x (2 ^ i)) (if b then i ∷ keep (λ j. eqb (x / 2 ^ j % 2) 1) (places n (i + 1))
+          else keep (λ j. eqb (x / 2 ^ j % 2) 1) (places n (i + 1))) (x % 2 ^ i) ≡ x % 2 ^ (i + 1 + n)
       cases true h ih =
           let o : bitOr (x % 2 ^ i) (2 ^ i) ≡ x % 2 ^ (i + 1) =
           ap (bitOr (x % 2 ^ i)) (sym (one-mul (2 ^ i)))
@@ -81,7 +84,8 @@ set-empty x h = cases (members x) refl
 
     cases : (l : List ℕ) → members x ≡ l → eqb x 0 ≡ is-empty l
     cases [] e = unfold is-empty in eq-eqb x 0 (sym (set-members x h) ∙ ap set-of e ∙ none-of)
-    cases (y ∷ l) e = unfold is-empty in ne-eqb x 0 (λ z. let w : y ∷ l ≡ [] = sym e ∙ ap members z ∙ members-none in let q : _≡_ {A = ℕ} 0 1 = cc in omega arith)
+    cases (y ∷ l) e = unfold is-empty in ne-eqb x 0 (λ z. let w : y ∷ l ≡ [] = sym e ∙ ap members z ∙ members-none in
+        let q : _≡_ {A = ℕ} 0 1 = cc in omega arith)
 
 -- ---- numbers of texts
 
@@ -108,10 +112,12 @@ unfolding place-of
 place-at [] o j h = absurd (omega arith)
 place-at (t ∷ l) o zero h = rw (eq-refl t)
 place-at (t ∷ l) o (suc j) h =
-    let z : eqT (getD l j []) t ≡ false = once-at (t ∷ l) o (suc j) 0 h (omega arith) ∙ ne-eqb (suc j) 0 (λ e. omega arith) in
+    let z : eqT (getD l j []) t ≡ false = once-at (t ∷ l) o (suc j) 0 h (omega arith)
+    ∙ ne-eqb (suc j) 0 (λ e. omega arith) in
     rw z (omega (arith, place-at l (once-rest t l o) j (omega arith)))
 
-pub places-at : (l : List Text) → Once l → (ns : List ℕ) → ((j : ℕ) → j < length ns → getD ns j 0 < length l) → each (λ t. place-of t l) (each (λ i. getD l i []) ns) ≡ ns
+pub places-at : (l : List Text) → Once l → (ns : List ℕ) → ((j : ℕ) → j < length ns → getD ns j 0 < length l) →
+    each (λ t. place-of t l) (each (λ i. getD l i []) ns) ≡ ns
 unfolding each
 places-at l o [] h = refl
 places-at l o (n ∷ ns) h =

@@ -37,7 +37,8 @@ pub record Top (n : ℕ) (R : ℕ → ℕ) (h : ℕ → Bool) (M : ℕ) : Type 0
 
 module _ {n : ℕ} {R : ℕ → ℕ} {h : ℕ → Bool} where
   top-below : (a b : ℕ) → Top n R h a → Top n R h b → a ≤ b
-  top-below a b f g = ⊎-elim (λ z. omega arith) (λ k. omega (arith, g .above (k .0) (k .1 .0) (k .1 .1 .0), k .1 .1 .1)) (f .reached)
+  top-below a b f g = ⊎-elim (λ z. omega arith) (λ k. omega (arith, g .above (k .0) (k .1 .0) (k .1 .1 .0), k .1 .1 .1))
+      (f .reached)
 
   pub top-one : (a b : ℕ) → Top n R h a → Top n R h b → a ≡ b
   top-one a b f g = omega (arith, top-below a b f g, top-below b a g f)
@@ -45,7 +46,8 @@ module _ {n : ℕ} {R : ℕ → ℕ} {h : ℕ → Bool} where
 pub top-same : {n : ℕ} {R : ℕ → ℕ} (h g : ℕ → Bool) {M : ℕ} → ((k : ℕ) → k < n → h k ≡ g k) → Top n R h M → Top n R g M
 top-same h g d t = record {
   above = λ k l e. t .above k l (d k l ∙ e);
-  reached = ⊎-elim (λ z. inl z) (λ k. inr (k .0, (k .1 .0, (sym (d (k .0) (k .1 .0)) ∙ k .1 .1 .0, k .1 .1 .1)))) (t .reached);
+  reached = ⊎-elim (λ z. inl z) (λ k. inr (k .0, (k .1 .0, (sym (d (k .0) (k .1 .0)) ∙ k .1 .1 .0, k .1 .1 .1))))
+      (t .reached);
 }
 
 or-left : (a b : Bool) → a ≡ true → (a || b) ≡ true
@@ -61,23 +63,31 @@ or-no true = refl
 or-no false = refl
 
 -- one number more
-top-more : (n : ℕ) (R : ℕ → ℕ) (h : ℕ → Bool) (i M : ℕ) → i < n → Top n R h M → Top n R (λ k. h k || eqb i k) (greater M (R i))
+top-more : (n : ℕ) (R : ℕ → ℕ) (h : ℕ → Bool) (i M : ℕ) → i < n → Top n R h M →
+    Top n R (λ k. h k || eqb i k) (greater M (R i))
 unfolding greater
 top-more n R h i M l t = elim (decLt M (R i)) [
   | yes b ↦ rw (lt-ltb M (R i) b) (record {
-    above = λ k m e. ⊎-elim (λ z. omega (arith, t .above k m z)) (λ z. let w : i ≡ k = eqb-true i k z in rw w (omega arith)) (either (h k) (eqb i k) e);
+    above = λ k m e. ⊎-elim (λ z. omega (arith, t .above k m z)) (λ z. let w : i ≡ k = eqb-true i k z in rw w (omega arith))
+        (either (h k) (eqb i k) e);
     reached = inr (i, (l, (or-right (h i) (eqb i i) (eq-eqb i i refl), refl)));
   })
   | no b ↦ rw (le-ltb M (R i) (omega arith)) (record {
-    above = λ k m e. ⊎-elim (λ z. t .above k m z) (λ z. let w : i ≡ k = eqb-true i k z in rw (← w) (omega arith)) (either (h k) (eqb i k) e);
-    reached = ⊎-elim (λ z. inl z) (λ k. inr (k .0, (k .1 .0, (or-left (h (k .0)) (eqb i (k .0)) (k .1 .1 .0), k .1 .1 .1)))) (t .reached);
+    above = λ k m e. ⊎-elim (λ z. t .above k m z) (λ z. let w : i ≡ k = eqb-true i k z in rw (← w) (omega arith))
+        (either (h k) (eqb i k) e);
+    reached = ⊎-elim (λ z. inl z) (λ k. inr (k .0, (k .1 .0, (or-left (h (k .0)) (eqb i (k .0)) (k .1 .1 .0), k .1 .1 .1))))
+        (t .reached);
   })
 ]
 
 -- a test that holds of no number more
 top-wide : (n : ℕ) (R : ℕ → ℕ) (h : ℕ → Bool) (M : ℕ) → h n ≡ false → Top n R h M → Top (n + 1) R h M
 top-wide n R h M z t = record {
-  above = λ k m e. elim (decLt k n) [ yes b ↦ t .above k b e | no b ↦ let w : k ≡ n = omega arith in absurd (not-both (ap h w ∙ z) e) ];
+  above = λ k m e. elim (decLt k n) [
+    | yes b ↦ t .above k b e
+    | no b ↦ let w : k ≡ n = omega arith in
+        absurd (not-both (ap h w ∙ z) e)
+  ];
   reached = ⊎-elim (λ y. inl y) (λ k. let b = k .1 .0 in inr (k .0, (omega arith, k .1 .1))) (t .reached);
 }
 
@@ -86,7 +96,11 @@ top-end : (n : ℕ) (R : ℕ → ℕ) (h : ℕ → Bool) (M : ℕ) → h n ≡ t
 unfolding greaterM
 top-end n R h M z t = elim (decLt M (R n)) [
   | yes b ↦ rw (lt-ltb M (R n) b) (record {
-    above = λ k m e. elim (decLt k n) [ yes c ↦ omega (arith, t .above k c e) | no c ↦ let w : k ≡ n = omega arith in rw w (omega arith) ];
+    above = λ k m e. elim (decLt k n) [
+      | yes c ↦ omega (arith, t .above k c e)
+      | no c ↦ let w : k ≡ n = omega arith in
+          rw w (omega arith)
+    ];
     reached = inr (n, (omega arith, (z, refl)));
   })
   | no b ↦ rw (le-ltb M (R n) (omega arith)) (record {
@@ -110,7 +124,8 @@ unfolding find named nameAt each
 look [] x = nowhere (λ j h. absurd (omega arith)) refl
 look (e ∷ es) x = cases (case (eqT (e .name) x)) (look es x)
   where
-    none-of : eqT (e .name) x ≡ false → ((j : ℕ) → j < length es → eqT (nameAt es j) x ≡ false) → (j : ℕ) → j < length (e ∷ es) → eqT (nameAt (e ∷ es) j) x ≡ false
+    none-of : eqT (e .name) x ≡ false → ((j : ℕ) → j < length es → eqT (nameAt es j) x ≡ false) → (j : ℕ) →
+        j < length (e ∷ es) → eqT (nameAt (e ∷ es) j) x ≡ false
     none-of h n zero k = h
     none-of h n (suc j) k = n j (omega arith)
 
@@ -150,7 +165,8 @@ module _ (s : List ℕ) (e : Section) (ts : List Text) (sc : Scenario) (g : Grou
   abbrev R : ℕ → ℕ
   R k = tierM s (getD (e .starts) k 0)
 
-  pub entity-at : (i : ℕ) → i < length es → (R i ≡ rank (getD es i no-entity .tier)) × (staleM s (getD (e .starts) i 0) ≡ not (absent (getD es i no-entity .stale-after)))
+  pub entity-at : (i : ℕ) → i < length es → (R i ≡ rank (getD es i no-entity .tier))
+      × (staleM s (getD (e .starts) i 0) ≡ not (absent (getD es i no-entity .stale-after)))
   entity-at i h =
       let r = g .stand no-entity i (omega (arith, g .few)) h in
       entity-agrees ts s (getD (e .starts) i 0) (getD es i no-entity) (r .0) (r .1)
@@ -163,7 +179,8 @@ module _ (s : List ℕ) (e : Section) (ts : List Text) (sc : Scenario) (g : Grou
   unfolding tier-of
   tier-at i h = cases (look es (nameAt es i))
     where
-      cases : Looked es (nameAt es i) → elim (find (named (nameAt es i)) es) [ none ↦ none | some x ↦ some (x .tier) ] ≡ some (getD es i no-entity .tier)
+      cases : Looked es (nameAt es i) → elim (find (named (nameAt es i)) es) [ none ↦ none | some x ↦ some (x .tier) ]
+          ≡ some (getD es i no-entity .tier)
       cases (looked-at j l n f) =
           let w : j ≡ i = eqb-true j i (sym (name-once s e ts es g j i l h) ∙ is-eq n) in
           rw f (ap (λ (k : ℕ). some (getD es k no-entity .tier)) w)
@@ -177,7 +194,8 @@ module _ (s : List ℕ) (e : Section) (ts : List Text) (sc : Scenario) (g : Grou
   unfolding expires present-and
   expires-at i h = cases (look es (nameAt es i))
     where
-      cases : Looked es (nameAt es i) → staleM s (getD (e .starts) i 0) ≡ present-and (λ x. not (absent (x .stale-after))) (find (named (nameAt es i)) es)
+      cases : Looked es (nameAt es i) → staleM s (getD (e .starts) i 0)
+          ≡ present-and (λ x. not (absent (x .stale-after))) (find (named (nameAt es i)) es)
       cases (looked-at j l n f) =
           let w : j ≡ i = eqb-true j i (sym (name-once s e ts es g j i l h) ∙ is-eq n) in
           rw f (entity-at i h .1 ∙ ap (λ (k : ℕ). not (absent (getD es k no-entity .stale-after))) (sym w))
@@ -213,45 +231,59 @@ module _ (s : List ℕ) (e : Section) (ts : List Text) (sc : Scenario) (g : Grou
   highest-top : (set : ℕ) → Top (length es) R (holds set) (highestM s e set)
   unfolding highestM
   highest-top set =
-      subst (λ (n : ℕ). Top n R (holds set) (highestFrom s e set (e .count) 0 0)) (omega (arith, g .counts)) (set-top set (e .count) 0 0 (none-top R (holds set)))
+      subst (λ (n : ℕ). Top n R (holds set) (highestFrom s e set (e .count) 0 0)) (omega (arith, g .counts))
+      (set-top set (e .count) 0 0 (none-top R (holds set)))
 
   list-top : (l : List Text) (h : ℕ → Bool) (best : ℕ) → Top (length es) R h best →
-      Top (length es) R (λ k. h k || memT (nameAt es k) l) (through (λ t n. greater n (rank t)) (flat (λ x. listed (tier-of sc x)) l) best)
+      Top (length es) R (λ k. h k || memT (nameAt es k) l)
+      (through (λ t n. greater n (rank t)) (flat (λ x. listed (tier-of sc x)) l) best)
   unfolding through flat listed
-  list-top [] h best t = top-same h (λ k. h k || memT (nameAt es k) []) (λ k l. sym (ap (λ (b : Bool). h k || b) (mem-none (nameAt es k)) ∙ or-no (h k))) t
+  list-top [] h best t = top-same h (λ k. h k || memT (nameAt es k) [])
+      (λ k l. sym (ap (λ (b : Bool). h k || b) (mem-none (nameAt es k)) ∙ or-no (h k))) t
   list-top (x ∷ l) h best t = cases (look es x) (λ h best t. list-top l h best t)
     where
       Goal : List Tier → Type 0
-      Goal o = Top (length es) R (λ k. h k || memT (nameAt es k) (x ∷ l)) (through (λ t n. greater n (rank t)) (o ++ flat (λ x. listed (tier-of sc x)) l) best)
+      Goal o = Top (length es) R (λ k. h k || memT (nameAt es k) (x ∷ l))
+          (through (λ t n. greater n (rank t)) (o ++ flat (λ x. listed (tier-of sc x)) l) best)
 
       Rest : Type 0
-      Rest = (h : ℕ → Bool) (best : ℕ) → Top (length es) R h best → Top (length es) R (λ k. h k || memT (nameAt es k) l) (through (λ t n. greater n (rank t)) (flat (λ x. listed (tier-of sc x)) l) best)
+      Rest = (h : ℕ → Bool) (best : ℕ) → Top (length es) R h best →
+          Top (length es) R (λ k. h k || memT (nameAt es k) l)
+          (through (λ t n. greater n (rank t)) (flat (λ x. listed (tier-of sc x)) l) best)
 
       cases : Looked es x → Rest → Goal (listed (tier-of sc x))
       cases (looked-at i b n f) ih =
           let y : tier-of sc x ≡ some (getD es i no-entity .tier) = ap (tier-of sc) (sym n) ∙ tier-at i b in
-          let o : greater best (R i) ≡ greater best (rank (getD es i no-entity .tier)) = ap (greater best) (entity-at i b .0) in
+          let o : greater best (R i) ≡ greater best (rank (getD es i no-entity .tier)) =
+          ap (greater best) (entity-at i b .0) in
           rw y (top-same (λ k. (h k || eqb i k) || memT (nameAt es k) l) (λ k. h k || memT (nameAt es k) (x ∷ l))
           (λ k m. or-assoc (h k) (eqb i k) (memT (nameAt es k) l) ∙ ap (λ (c : Bool). h k || c) (
-          ap (λ (c : Bool). c || memT (nameAt es k) l) (sym (eq-sym (nameAt es k) x ∙ ap (λ (v : Text). eqT v (nameAt es k)) (sym n) ∙ name-once s e ts es g i k b m))
+          ap (λ (c : Bool). c || memT (nameAt es k) l) (sym
+          (eq-sym (nameAt es k) x ∙ ap (λ (v : Text). eqT v (nameAt es k)) (sym n) ∙ name-once s e ts es g i k b m))
           ∙ sym (mem-cons (nameAt es k) x l)))
-          (ih (λ k. h k || eqb i k) (greater best (rank (getD es i no-entity .tier))) (subst (Top (length es) R (λ k. h k || eqb i k)) o (top-more (length es) R h i best b t))))
+          (ih (λ k. h k || eqb i k) (greater best (rank (getD es i no-entity .tier)))
+          (subst (Top (length es) R (λ k. h k || eqb i k)) o (top-more (length es) R h i best b t))))
       cases (nowhere n f) ih =
           let y : tier-of sc x ≡ none = tier-none x f in
           rw y (top-same (λ k. h k || memT (nameAt es k) l) (λ k. h k || memT (nameAt es k) (x ∷ l))
-          (λ k m. ap (λ (c : Bool). h k || c) (ap (λ (c : Bool). c || memT (nameAt es k) l) (sym (n k m)) ∙ sym (mem-cons (nameAt es k) x l))) (ih h best t))
+          (λ k m. ap (λ (c : Bool). h k || c) (ap (λ (c : Bool). c || memT (nameAt es k) l) (sym (n k m))
+          ∙ sym (mem-cons (nameAt es k) x l))) (ih h best t))
 
   -- a set that holds the declared entities of a list has the list's highest tier
-  pub highest-is : (set : ℕ) (l : List Text) → ((j : ℕ) → j < length es → holds set j ≡ memT (nameAt es j) l) → highestM s e set ≡ highest sc l
+  pub highest-is : (set : ℕ) (l : List Text) → ((j : ℕ) → j < length es → holds set j ≡ memT (nameAt es j) l) →
+      highestM s e set ≡ highest sc l
   unfolding highest
   highest-is set l h =
       top-one (highestM s e set) (through (λ t n. greater n (rank t)) (flat (λ x. listed (tier-of sc x)) l) 0)
       (top-same (holds set) (λ k. memT (nameAt es k) l) h (highest-top set))
-      (top-same (λ k. false || memT (nameAt es k) l) (λ k. memT (nameAt es k) l) (λ k m. refl) (list-top l (λ k. false) 0 (nothing-top (length es))))
+      (top-same (λ k. false || memT (nameAt es k) l) (λ k. memT (nameAt es k) l) (λ k m. refl)
+      (list-top l (λ k. false) 0 (nothing-top (length es))))
 
   top-small : (M : ℕ) (h : ℕ → Bool) → Top (length es) R h M → M < 4
   top-small M h t = ⊎-elim (λ z. omega arith) (λ k. omega (arith, rank-few (k .0) (k .1 .0), k .1 .1 .1)) (t .reached)
 
   -- as a word
-  pub highest-word : (set : ℕ) (l : List Text) → ((j : ℕ) → j < length es → holds set j ≡ memT (nameAt es j) l) → highestM s e set ≡ tier-number (rank-name (highest sc l))
-  highest-word set l h = sym (ap (λ (n : ℕ). tier-number (rank-name n)) (sym (highest-is set l h)) ∙ rank-word (highestM s e set) (top-small (highestM s e set) (holds set) (highest-top set)))
+  pub highest-word : (set : ℕ) (l : List Text) → ((j : ℕ) → j < length es → holds set j ≡ memT (nameAt es j) l) →
+      highestM s e set ≡ tier-number (rank-name (highest sc l))
+  highest-word set l h = sym (ap (λ (n : ℕ). tier-number (rank-name n)) (sym (highest-is set l h))
+      ∙ rank-word (highestM s e set) (top-small (highestM s e set) (holds set) (highest-top set)))

@@ -14,7 +14,20 @@ use Rattle.engine_spec.proofs.Bounds.{length-each}
 use Rattle.texts.specs.Lists.{if_then_else_, absent, any, keep, each, flat}
 use Rattle.texts.specs.Texts.{Text, eqT, memT}
 use Rattle.texts.proofs.Ordering.{not-both, eq-is, eq-sym}
-use Rattle.model_spec.specs.Model.{Predicate, state, window, Trigger, Effect, toggle, delay, condition, choose, wait, Automation, Model}
+use Rattle.model_spec.specs.Model.{
+  Predicate,
+  state,
+  window,
+  Trigger,
+  Effect,
+  toggle,
+  delay,
+  condition,
+  choose,
+  wait,
+  Automation,
+  Model,
+}
 use Rattle.model_walk.proofs.Found.{Case, is-true, is-false, case}
 use Rattle.model_parts.specs.declared.Section.{Section}
 use Rattle.model_check.specs.Checks.{number-of}
@@ -26,7 +39,17 @@ use Rattle.lint_spec.specs.Touches as touches
 use Rattle.lint_walk.specs.declared.Walk.{Walk}
 use Rattle.lint_walk.specs.Raw.{placeM, past, kindM}
 use Rattle.lint_walk.specs.Walks.{walkM}
-use Rattle.lint_walk.proofs.Found.{EffectAt, set-at, toggle-at, delay-at, condition-at, choose-at, wait-at, unknown-at, ActionAt}
+use Rattle.lint_walk.proofs.Found.{
+  EffectAt,
+  set-at,
+  toggle-at,
+  delay-at,
+  condition-at,
+  choose-at,
+  wait-at,
+  unknown-at,
+  ActionAt,
+}
 use Rattle.lint_walk.proofs.Refines.{ActionsAt, no-action, action}
 use Rattle.lint_access.specs.Names.{nameAt}
 use Rattle.lint_access.proofs.Refines.{number-at, number-none}
@@ -52,12 +75,14 @@ unfolding keep
 keep-append p [] m = refl
 keep-append p (x ∷ l) m = cases (p x) (keep-append p l m)
   where
-    cases : (b : Bool) → keep p (l ++ m) ≡ keep p l ++ keep p m → (if b then x ∷ keep p (l ++ m) else keep p (l ++ m)) ≡ (if b then x ∷ keep p l else keep p l) ++ keep p m
+    cases : (b : Bool) → keep p (l ++ m) ≡ keep p l ++ keep p m →
+        (if b then x ∷ keep p (l ++ m) else keep p (l ++ m)) ≡ (if b then x ∷ keep p l else keep p l) ++ keep p m
     cases true ih = ap (λ (z : List _). x ∷ z) ih
     cases false ih = ih
 
 -- kept by place, or by text
-pub keep-texts : (f : ℕ → Bool) (g : Text → Bool) (all l : List Text) (k : ℕ) → ((t : ℕ) → t < length l → getD all (k + t) [] ≡ getD l t []) → ((t : ℕ) → t < length l → f (k + t) ≡ g (getD l t [])) →
+pub keep-texts : (f : ℕ → Bool) (g : Text → Bool) (all l : List Text) (k : ℕ) →
+    ((t : ℕ) → t < length l → getD all (k + t) [] ≡ getD l t []) → ((t : ℕ) → t < length l → f (k + t) ≡ g (getD l t [])) →
     each (λ i. getD all i []) (keep f (places (length l) k)) ≡ keep g l
 unfolding keep places each
 keep-texts f g all [] k h e = refl
@@ -70,7 +95,8 @@ keep-texts f g all (x ∷ l) k h e =
     (λ t b. let y : k + 1 + t ≡ k + suc t = omega arith in ap f y ∙ e (suc t) (omega arith))))
   where
     cases : (b : Bool) → getD all k [] ≡ x → each (λ i. getD all i []) (keep f (places (length l) (k + 1))) ≡ keep g l →
-        each (λ i. getD all i []) (if b then k ∷ keep f (places (length l) (k + 1)) else keep f (places (length l) (k + 1))) ≡ (if b then x ∷ keep g l else keep g l)
+        each (λ i. getD all i []) (if b then k ∷ keep f (places (length l) (k + 1)) else keep f (places (length l) (k + 1)))
+        ≡ (if b then x ∷ keep g l else keep g l)
     cases true a ih = rw (a, ih)
     cases false a ih = ih
 
@@ -98,7 +124,8 @@ module _ {s : List ℕ} {d : Names} {rs : Section} {ts : List Text} {m : Model} 
   unfolding nameAt
   fine-not x y h f =
       let b = f .1 .0 in
-      eq-sym x y ∙ ap (λ (t : Text). eqT t x) (sym (f .1 .1)) ∙ not-at (names st) x h (f .0) (omega (arith, length-each (λ e. e .name) (es st)))
+      eq-sym x y ∙ ap (λ (t : Text). eqT t x) (sym (f .1 .1))
+      ∙ not-at (names st) x h (f .0) (omega (arith, length-each (λ e. e .name) (es st)))
 
   pub one-not : (x y : Text) → Strange x → Declared (es st) y → memT x (y ∷ []) ≡ false
   one-not x y h f = mem-cons x y [] ∙ ap (λ (b : Bool). b || memT x []) (fine-not x y h f) ∙ mem-none x
@@ -109,18 +136,22 @@ module _ {s : List ℕ} {d : Names} {rs : Section} {ts : List Text} {m : Model} 
   predicate-not x h (Predicate.unknown r) f = mem-none x
   predicate-not x h (window d b e) f = mem-none x
 
-  pub flat-not : {A : Type 0} (x : Text) (g : A → List Text) (P : A → Type 0) → ((a : A) → P a → memT x (g a) ≡ false) → (l : List A) → Each P l → memT x (flat g l) ≡ false
+  pub flat-not : {A : Type 0} (x : Text) (g : A → List Text) (P : A → Type 0) → ((a : A) → P a → memT x (g a) ≡ false) →
+      (l : List A) → Each P l → memT x (flat g l) ≡ false
   unfolding flat
   flat-not x g P h [] f = mem-none x
   flat-not x g P h (a ∷ l) f = mem-append x (g a) (flat g l) ∙ rw (h a (f .0), flat-not x g P h l (f .1))
 
-  trigger-not : (x : Text) → Strange x → (l : List Trigger) → Each (FineT (es st)) l → memT x (each (λ t. t .entity) (keep (λ t. absent (t .note)) l)) ≡ false
+  trigger-not : (x : Text) → Strange x → (l : List Trigger) → Each (FineT (es st)) l →
+      memT x (each (λ t. t .entity) (keep (λ t. absent (t .note)) l)) ≡ false
   unfolding keep each absent
   trigger-not x h [] f = mem-none x
   trigger-not x h (t ∷ l) f = cases (t .note) (f .0) (trigger-not x h l (f .1))
     where
-      cases : (o : Option Text) → (o ≡ none → Declared (es st) (t .entity)) → memT x (each (λ t. t .entity) (keep (λ t. absent (t .note)) l)) ≡ false →
-          memT x (each (λ t. t .entity) (if absent o then t ∷ keep (λ t. absent (t .note)) l else keep (λ t. absent (t .note)) l)) ≡ false
+      cases : (o : Option Text) → (o ≡ none → Declared (es st) (t .entity)) →
+          memT x (each (λ t. t .entity) (keep (λ t. absent (t .note)) l)) ≡ false →
+          memT x (each (λ t. t .entity) (if absent o then t ∷ keep (λ t. absent (t .note)) l
+          else keep (λ t. absent (t .note)) l)) ≡ false
       cases none g ih = mem-cons x (t .entity) _ ∙ rw (fine-not x (t .entity) h (g refl)) ih
       cases (some y) g ih = ih
 
@@ -133,35 +164,43 @@ module _ {s : List ℕ} {d : Names} {rs : Section} {ts : List Text} {m : Model} 
       long : length (names st) ≡ length (es st)
       long = length-each (λ e. e .name) (es st)
 
-      cases : Case (memT (T t) (names st)) → leb (d .entities .count) (number-of (d .entities) t s) ≡ not (memT (T t) (names st))
+      cases : Case (memT (T t) (names st)) → leb (d .entities .count) (number-of (d .entities) t s)
+          ≡ not (memT (T t) (names st))
       cases (is-true b) =
           let f = found-at (names st) (T t) b in
           let k : f .0 < length (es st) = let l = f .1 .0 in omega (arith, long) in
           let z = number-at s (d .entities) ts (es st) (st .grounds) t (f .0) h k (f .1 .1) in
           rw (b, z) (lt-leb (d .entities .count) (f .0) (omega (arith, st .grounds .counts)))
-      cases (is-false b) = rw b (le-leb (d .entities .count) (number-of (d .entities) t s) (number-none s (d .entities) ts (es st) (st .grounds) t h (λ j k. not-at (names st) (T t) b j (omega (arith, long)))))
+      cases (is-false b) =
+          rw b (le-leb (d .entities .count) (number-of (d .entities) t s)
+          (number-none s (d .entities) ts (es st) (st .grounds) t h
+          (λ j k. not-at (names st) (T t) b j (omega (arith, long)))))
 
-  action-strange : (t : ℕ) → t < length ts → Strange (T t) → (p : ℕ) (a : Action) → ActionAt ts s p a → FineA (es st) a → awaitM s t p ≡ memT (T t) (effect-reads (a .effect))
+  action-strange : (t : ℕ) → t < length ts → Strange (T t) → (p : ℕ) (a : Action) → ActionAt ts s p a → FineA (es st) a →
+      awaitM s t p ≡ memT (T t) (effect-reads (a .effect))
   unfolding awaitM effect-reads
   action-strange t h n p a f fine = cases (a .effect) (f .effect-at) fine
     where
       x : Text
       x = T t
 
-      cases : (g : Effect) → EffectAt ts s (f .left) p (f .end) g → Fine (es st) g → (if eqb (kindM s p) 5 then eqb (placeM s (past s p 9)) t else false) ≡ memT x (effect-reads g)
+      cases : (g : Effect) → EffectAt ts s (f .left) p (f .end) g → Fine (es st) g →
+          (if eqb (kindM s p) 5 then eqb (placeM s (past s p 9)) t else false) ≡ memT x (effect-reads g)
       cases (Effect.set y v) (set-at x′ v′ k i j l o q) z = rw k (sym (mem-none x))
       cases (toggle y) (toggle-at x′ k i l o) z = rw k (sym (mem-none x))
       cases (delay y) (delay-at x′ k o) z = rw k (sym (mem-none x))
       cases (condition y) (condition-at x′ k i o) z = rw k (sym (predicate-not x n y z))
       cases (choose bs b) (choose-at bs′ d′ c r k q y o) z =
-          rw k (sym (flat-not x (flat predicate-reads) (Each (FineP (es st))) (λ l g. flat-not x predicate-reads (FineP (es st)) (predicate-not x n) l g) (conditions-of bs) z))
+          rw k (sym (flat-not x (flat predicate-reads) (Each (FineP (es st)))
+          (λ l g. flat-not x predicate-reads (FineP (es st)) (predicate-not x n) l g) (conditions-of bs) z))
       cases (wait u y c) (wait-at t′ y′ z′ r k i o) z =
           rw k (
           ap (λ (q : ℕ). eqb q t) (i .at-entity)
           ∙ sym (st .grounds .same (i .x) t (i .is-in) h)
           ∙ eq-sym (T (i .x)) x
           ∙ ap (eqT x) (sym (i .is-entity))
-          ∙ sym (mem-cons x (u .entity) [] ∙ ap (λ (b : Bool). eqT x (u .entity) || b) (mem-none x) ∙ or-no (eqT x (u .entity))))
+          ∙ sym (mem-cons x (u .entity) [] ∙ ap (λ (b : Bool). eqT x (u .entity) || b) (mem-none x)
+          ∙ or-no (eqT x (u .entity))))
       cases (Effect.unknown y) (unknown-at x′ k i l o) z = rw k (sym (mem-none x))
 
   -- ---- the i-th automation
@@ -188,8 +227,10 @@ module _ {s : List ℕ} {d : Names} {rs : Section} {ts : List Text} {m : Model} 
         let l₃ = flat predicate-reads (r .conditions) in
         mem-sorted x (l₁ ++ l₂ ++ l₃)
         ∙ mem-append x (l₁ ++ l₂) l₃
-        ∙ ap (λ (b : Bool). b || memT x l₃) (mem-append x l₁ l₂ ∙ ap (λ (b : Bool). b || memT x l₂) (trigger-not x n (r .triggers) (legal .triggers)))
-        ∙ ap (λ (b : Bool). memT x l₂ || b) (flat-not x predicate-reads (FineP (es st)) (predicate-not x n) (r .conditions) (legal .conditions))
+        ∙ ap (λ (b : Bool). b || memT x l₃) (mem-append x l₁ l₂
+        ∙ ap (λ (b : Bool). b || memT x l₂) (trigger-not x n (r .triggers) (legal .triggers)))
+        ∙ ap (λ (b : Bool). memT x l₂ || b) (flat-not x predicate-reads (FineP (es st)) (predicate-not x n) (r .conditions)
+        (legal .conditions))
         ∙ or-no (memT x l₂)
         ∙ any-flat (eqT x) (λ a. effect-reads (a .effect)) acts
 
@@ -198,8 +239,10 @@ module _ {s : List ℕ} {d : Names} {rs : Section} {ts : List Text} {m : Model} 
     awaits-is t b n =
         let wa = walked-at st i h in
         ap (λ (k : ℕ). Rattle.lint_conditions.specs.Conditions.any-listM (awaitM s t) (w .list) k 0) (wa .filled .many)
-        ∙ any-over st (awaitM s t) (λ a. memT (T t) (effect-reads (a .effect))) (action-strange t b n) (w .list) 0 (wa .positions) acts
-        (λ k c. ap (λ (o : ℕ). getD (w .list) o 0) (zero-add k) ∙ sym (getD-take (length (wa .positions)) (w .list) k 0 c) ∙ ap (λ (l : List ℕ). getD l k 0) (wa .filled .front))
+        ∙ any-over st (awaitM s t) (λ a. memT (T t) (effect-reads (a .effect))) (action-strange t b n) (w .list) 0
+        (wa .positions) acts
+        (λ k c. ap (λ (o : ℕ). getD (w .list) o 0) (zero-add k) ∙ sym (getD-take (length (wa .positions)) (w .list) k 0 c)
+        ∙ ap (λ (l : List ℕ). getD l k 0) (wa .filled .front))
         (wa .are-actions) (legal .actions)
         ∙ sym (reads-acts (T t) n)
 
@@ -209,7 +252,8 @@ module _ {s : List ℕ} {d : Names} {rs : Section} {ts : List Text} {m : Model} 
 
     pub strange-is : (t : ℕ) → t < length ts → strangeM s (d .entities) w t ≡ alien (T t)
     unfolding strangeM
-    strange-is t b = ap (λ (c : Bool). if awaitsM s w t then c else false) (number-is t b) ∙ cases (case (memT (T t) (names st)))
+    strange-is t b = ap (λ (c : Bool). if awaitsM s w t then c else false) (number-is t b)
+        ∙ cases (case (memT (T t) (names st)))
       where
         never : (c : Bool) → (if c then false else false) ≡ false
         never true = refl
@@ -224,28 +268,35 @@ module _ {s : List ℕ} {d : Names} {rs : Section} {ts : List Text} {m : Model} 
         cases (is-false n) = rw n (same (awaitsM s w t) ∙ awaits-is t b n)
 
     -- such a name is one of the texts
-    one-text : (x : Text) → Strange x → (p : ℕ) (a : Action) → ActionAt ts s p a → FineA (es st) a → memT x (effect-reads (a .effect)) ≡ true → memT x ts ≡ true
+    one-text : (x : Text) → Strange x → (p : ℕ) (a : Action) → ActionAt ts s p a → FineA (es st) a →
+        memT x (effect-reads (a .effect)) ≡ true → memT x ts ≡ true
     unfolding effect-reads
     one-text x n p a f fine = cases (a .effect) (f .effect-at) fine
       where
-        cases : (g : Effect) → EffectAt ts s (f .left) p (f .end) g → Fine (es st) g → memT x (effect-reads g) ≡ true → memT x ts ≡ true
+        cases : (g : Effect) → EffectAt ts s (f .left) p (f .end) g → Fine (es st) g → memT x (effect-reads g) ≡ true →
+            memT x ts ≡ true
         cases (Effect.set y v) (set-at x′ v′ k i j l o q) z e = absurd (not-both (mem-none x) e)
         cases (toggle y) (toggle-at x′ k i l o) z e = absurd (not-both (mem-none x) e)
         cases (delay y) (delay-at x′ k o) z e = absurd (not-both (mem-none x) e)
         cases (condition y) (condition-at x′ k i o) z e = absurd (not-both (predicate-not x n y z) e)
         cases (choose bs b) (choose-at bs′ d′ c r k q y o) z e =
-            absurd (not-both (flat-not x (flat predicate-reads) (Each (FineP (es st))) (λ l g. flat-not x predicate-reads (FineP (es st)) (predicate-not x n) l g) (conditions-of bs) z) e)
+            absurd (not-both (flat-not x (flat predicate-reads) (Each (FineP (es st)))
+            (λ l g. flat-not x predicate-reads (FineP (es st)) (predicate-not x n) l g) (conditions-of bs) z) e)
         cases (wait u y c) (wait-at t′ y′ z′ r k i o) z e =
-            let q : eqT x (u .entity) ≡ true = sym (mem-cons x (u .entity) [] ∙ ap (λ (b : Bool). eqT x (u .entity) || b) (mem-none x) ∙ or-no (eqT x (u .entity))) ∙ e in
+            let q : eqT x (u .entity) ≡ true = sym (mem-cons x (u .entity) []
+            ∙ ap (λ (b : Bool). eqT x (u .entity) || b) (mem-none x) ∙ or-no (eqT x (u .entity))) ∙ e in
             ap (λ (y : Text). memT y ts) (eq-is x (u .entity) q ∙ i .is-entity) ∙ mem-at ts (i .x) (i .is-in)
         cases (Effect.unknown y) (unknown-at x′ k i l o) z e = absurd (not-both (mem-none x) e)
 
-    some-text : (x : Text) → Strange x → (ps : List ℕ) (l : List Action) → ActionsAt ts s ps l → Each (FineA (es st)) l → any (λ a. memT x (effect-reads (a .effect))) l ≡ true → memT x ts ≡ true
+    some-text : (x : Text) → Strange x → (ps : List ℕ) (l : List Action) → ActionsAt ts s ps l → Each (FineA (es st)) l →
+        any (λ a. memT x (effect-reads (a .effect))) l ≡ true → memT x ts ≡ true
     unfolding any
     some-text x n ps l no-action fine e = absurd (not-both refl e)
-    some-text x n ps l (action {p} {a} {ps = qs} {l = rest} y z) fine e = cases (case (memT x (effect-reads (a .effect)))) (λ k. some-text x n qs rest z (fine .1) k)
+    some-text x n ps l (action {p} {a} {ps = qs} {l = rest} y z) fine e =
+        cases (case (memT x (effect-reads (a .effect)))) (λ k. some-text x n qs rest z (fine .1) k)
       where
-        cases : Case (memT x (effect-reads (a .effect))) → (any (λ a. memT x (effect-reads (a .effect))) rest ≡ true → memT x ts ≡ true) → memT x ts ≡ true
+        cases : Case (memT x (effect-reads (a .effect))) →
+            (any (λ a. memT x (effect-reads (a .effect))) rest ≡ true → memT x ts ≡ true) → memT x ts ≡ true
         cases (is-true b) ih = one-text x n p a y (fine .0) b
         cases (is-false b) ih = ih (rw b at e)
 
@@ -255,7 +306,9 @@ module _ {s : List ℕ} {d : Names} {rs : Section} {ts : List Text} {m : Model} 
         cases : Case (memT x (names st)) → Case (memT x (reads-of r)) → (alien x && memT x ts) ≡ alien x
         cases (is-true n) c = rw n
         cases (is-false n) (is-false c) = rw (n, c)
-        cases (is-false n) (is-true c) = rw (n, c) (some-text x n (walked-at st i h .positions) acts (walked-at st i h .are-actions) (legal .actions) (sym (reads-acts x n) ∙ c))
+        cases (is-false n) (is-true c) =
+            rw (n, c) (some-text x n (walked-at st i h .positions) acts (walked-at st i h .are-actions) (legal .actions)
+            (sym (reads-acts x n) ∙ c))
 
     unfoldable pub found-places : List ℕ
     found-places = keep (strangeM s (d .entities) w) (places (length ts) 0)
@@ -264,12 +317,16 @@ module _ {s : List ℕ} {d : Names} {rs : Section} {ts : List Text} {m : Model} 
     pub strangers-are : (ascends : Rising ts) → each T found-places ≡ undeclared (names st) (reads-of r)
     unfolding found-places undeclared reads-of
     strangers-are ascends =
-        keep-texts (strangeM s (d .entities) w) alien ts ts 0 (λ t b. ap T (zero-add t)) (λ t b. ap (strangeM s (d .entities) w) (zero-add t) ∙ strange-is t b)
-        ∙ unique (keep alien ts) (keep (λ t. not (memT t (names st))) (reads-of r)) (rising-keep alien ascends) (rising-keep (λ t. not (memT t (names st))) (rising-sorted _))
+        keep-texts (strangeM s (d .entities) w) alien ts ts 0 (λ t b. ap T (zero-add t))
+        (λ t b. ap (strangeM s (d .entities) w) (zero-add t) ∙ strange-is t b)
+        ∙ unique (keep alien ts) (keep (λ t. not (memT t (names st))) (reads-of r)) (rising-keep alien ascends)
+        (rising-keep (λ t. not (memT t (names st))) (rising-sorted _))
         (λ x. mem-keep alien x ts ∙ alien-text x ∙ sym (mem-keep (λ t. not (memT t (names st))) x (reads-of r)))
 
-    pub strange-places : (ascends : Rising ts) → Once ts → found-places ≡ each (λ t. place-of t ts) (undeclared (names st) (reads-of r))
+    pub strange-places : (ascends : Rising ts) → Once ts →
+        found-places ≡ each (λ t. place-of t ts) (undeclared (names st) (reads-of r))
     unfolding found-places
     strange-places ascends once =
-        sym (places-at ts once found-places (λ j b. let y = places-below (strangeM s (d .entities) w) (length ts) 0 j b in omega arith))
+        sym (places-at ts once found-places (λ j b. let y = places-below (strangeM s (d .entities) w) (length ts) 0 j b in
+        omega arith))
         ∙ ap (each (λ t. place-of t ts)) (strangers-are ascends)

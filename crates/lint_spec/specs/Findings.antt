@@ -5,7 +5,21 @@ use mathlib.Core.List.{List, [], _∷_, _++_}
 use mathlib.Core.Option.{Option, none, some}
 use lib.Dec.{ltb}
 use lib.ListN.{length, getD}
-use Rattle.texts.specs.Lists.{if_then_else_, absent, present-and, absent-or, listed, is-empty, any, all, keep, find, each, flat, through}
+use Rattle.texts.specs.Lists.{
+  if_then_else_,
+  absent,
+  present-and,
+  absent-or,
+  listed,
+  is-empty,
+  any,
+  all,
+  keep,
+  find,
+  each,
+  flat,
+  through,
+}
 use Rattle.texts.specs.Texts.{Text, text, eqT}
 use Rattle.model_spec.specs.Model.{
   Source,
@@ -28,7 +42,16 @@ use Rattle.model_spec.specs.Model.{
   named,
 }
 use Rattle.engine_spec.specs.Unsupported.{unsupported}
-use Rattle.lint_spec.specs.Touches.{Action, actions-of, branch-conditions, is-delay, Write, written-by, reads-of, writes-of}
+use Rattle.lint_spec.specs.Touches.{
+  Action,
+  actions-of,
+  branch-conditions,
+  is-delay,
+  Write,
+  written-by,
+  reads-of,
+  writes-of,
+}
 use Rattle.lint_spec.specs.Reach.{Square, closure, components}
 
 -- what was found
@@ -145,7 +168,8 @@ module _ (s : Scenario) where
 
   -- a branch that is never taken
   unfoldable pub branch-entries : Automation → Action → List Entry
-  branch-entries r a = flat (λ ps. about-if (contradictory ps) r unreachable-branch (a .source)) (branch-conditions (a .effect))
+  branch-entries r a = flat (λ ps. about-if (contradictory ps) r unreachable-branch (a .source))
+      (branch-conditions (a .effect))
 
   -- what a write of the automation r adds, among all automations
   unfoldable pub write-entries : List Automation → Automation → Write → List Entry
@@ -158,7 +182,8 @@ module _ (s : Scenario) where
   rule-entries rules r =
       about-if (contradictory (r .conditions)) r unreachable-conditions (r .source)
       ++ about-if (all (mismatched (r .conditions)) (r .triggers)) r trigger-condition-mismatch (r .source)
-      ++ about-if (any (λ a. is-delay (a .effect)) (actions-of r) && not (is-empty (writes-of r))) r delayed-write (r .source)
+      ++ about-if (any (λ a. is-delay (a .effect)) (actions-of r) && not (is-empty (writes-of r))) r delayed-write
+      (r .source)
       ++ flat (branch-entries r) (actions-of r)
       ++ about-if (ltb 8 (length (writes-of r))) r high-fanout (r .source)
       ++ flat (λ x. about-if (expires x) r (freshness-assumption x) (r .source)) (reads-of r)
@@ -259,12 +284,14 @@ certainty (unsupported-note r) = text "unknown"
 
 unfoldable pub message : Problem → Text
 message unreachable-conditions = text "Admission conditions require contradictory states"
-message trigger-condition-mismatch = text "Trigger target differs from admission conditions; same-time event ordering can matter"
+message trigger-condition-mismatch =
+    text "Trigger target differs from admission conditions; same-time event ordering can matter"
 message delayed-write = text "Delayed writes may outlive trigger-time safety conditions; replay with changed state"
 message unreachable-branch = text "Choose branch has contradictory state predicates"
 message high-fanout = text "More than eight literal entity targets"
 message trigger-cycle = text "Cyclic trigger/write interaction; simulate to distinguish stable states from repeated toggling"
 message (freshness-assumption x) = x ++ text " has modeled freshness expiry"
 message (missing-safety-guard x) = x ++ text " write has no matching action-guard invariant"
-message (opposing-writes x) = text "Opposing or toggling intents for " ++ x ++ text "; conditions may make them mutually exclusive"
+message (opposing-writes x) = text "Opposing or toggling intents for " ++ x ++ text
+    "; conditions may make them mutually exclusive"
 message (unsupported-note r) = r

@@ -32,7 +32,8 @@ pub record Holds (file : List ℕ) (l : Lint) (before after : Lent) : Type 0 whe
   pub words : List (List ℕ)
   pub are-words : Both (Worded file (names-in file) (ids-in file)) (l .findings) words
   pub findings : after .findings ≡ area (λ w. w) (length (before .findings)) words
-  pub interactions : after .interactions ≡ area (interaction-words (names-in file) (ids-in file)) (length (before .interactions)) (l .interactions)
+  pub interactions : after .interactions ≡ area (interaction-words (names-in file) (ids-in file))
+      (length (before .interactions)) (l .interactions)
 
 -- after 45 and 46 both are zeros, after any other refusal they are as they came
 abbrev pub Leaves : (file : List ℕ) → Answer Lint → (before after : Lent) → Type 0

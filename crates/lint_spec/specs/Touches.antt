@@ -133,5 +133,6 @@ toggles-of r = sortedT (flat (λ a. toggles (a .effect)) (actions-of r))
 
 -- opens the file, for proofs by computation
 unfoldable pub all-touches : Unit {0}
-unfolding all-lists all-texts within actions-of conditions-of branch-conditions is-delay write written-by toggles predicate-reads effect-reads reads-of writes-of toggles-of
+unfolding all-lists all-texts within actions-of conditions-of branch-conditions is-delay write written-by toggles
+    predicate-reads effect-reads reads-of writes-of toggles-of
 all-touches = tt

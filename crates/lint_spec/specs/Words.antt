@@ -1,4 +1,5 @@
--- What stands in the two lent areas, word for word (docs/FORMAT.md): entities and automations as numbers in the file's order.
+-- What stands in the two lent areas, word for word (docs/FORMAT.md): entities and automations as numbers in the file's
+-- order.
 use Prim.Native.Nat.{ℕ, _^_}
 use mathlib.Core.Path.{_≡_}
 use mathlib.Core.Bool.{true}
@@ -15,7 +16,21 @@ use Rattle.reasons.specs.Reasons.{render}
 use Rattle.reasons.specs.Readable.{Readable}
 use Rattle.reasons.specs.Lists.{words-of}
 use Rattle.model_spec.specs.Rewrite.{place-of}
-use Rattle.lint_spec.specs.Findings.{Problem, unreachable-conditions, trigger-condition-mismatch, delayed-write, unreachable-branch, high-fanout, trigger-cycle, freshness-assumption, missing-safety-guard, opposing-writes, unsupported-note, Finding, Interaction}
+use Rattle.lint_spec.specs.Findings.{
+  Problem,
+  unreachable-conditions,
+  trigger-condition-mismatch,
+  delayed-write,
+  unreachable-branch,
+  high-fanout,
+  trigger-cycle,
+  freshness-assumption,
+  missing-safety-guard,
+  opposing-writes,
+  unsupported-note,
+  Finding,
+  Interaction,
+}
 
 -- numbers below 32 as the bits of a number
 unfoldable pub set-of : List ℕ → ℕ
@@ -47,7 +62,8 @@ certainty-number (opposing-writes x) = 1
 certainty-number (unsupported-note r) = 2
 
 abbrev pub tiers : List Text
-tiers = text "observational" ∷ text "comfort" ∷ text "property" ∷ text "access_safety" ∷ text "accesssafety" ∷ text "unknown" ∷ []
+tiers = text "observational" ∷ text "comfort" ∷ text "property" ∷ text "access_safety" ∷ text "accesssafety" ∷ text
+    "unknown" ∷ []
 
 unfoldable pub tier-number : Text → ℕ
 tier-number t = place-of t tiers
@@ -84,7 +100,8 @@ module _ (names ids : List Text) where
   -- a finding's first nine words
   unfoldable pub finding-words : Finding → List ℕ
   finding-words f =
-      (code-number (f .problem) ∷ certainty-number (f .problem) ∷ tier-number (f .tier) ∷ entity-number (f .problem) ∷ ids-set (f .automations) ∷ [])
+      (code-number (f .problem) ∷ certainty-number (f .problem) ∷ tier-number (f .tier) ∷ entity-number
+      (f .problem) ∷ ids-set (f .automations) ∷ [])
       ++ source-words (sources-of f)
 
   unfoldable pub interaction-words : Interaction → List ℕ

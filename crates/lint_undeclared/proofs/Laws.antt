@@ -14,10 +14,27 @@ use Rattle.lint_walk.specs.Raw.{placeM, past, kindM}
 use Rattle.lint_walk.specs.Walks.{walkBy, walkM}
 use Rattle.lint_conditions.specs.Conditions.{any-listM}
 use Rattle.lint_undeclared.specs.declared.Undeclared.{Undeclared}
-use Rattle.lint_undeclared.specs.Undeclared.{withM, none, awaitM, awaitsM, strangeM, readM, nameM, namesM, ruleM, rulesM, undeclaredM}
+use Rattle.lint_undeclared.specs.Undeclared.{
+  withM,
+  none,
+  awaitM,
+  awaitsM,
+  strangeM,
+  readM,
+  nameM,
+  namesM,
+  ruleM,
+  rulesM,
+  undeclaredM,
+}
 
 module _ (u : Undeclared) (i t : ℕ) where
-  pub with-place : u .count < 64 → record { count = u .count + 1; names = set (u .names) (u .count) t; readers = set (u .readers) (u .count) i } ≡ withM u i t
+  pub with-place : u .count < 64 → record {
+    count = u .count + 1;
+    names = set (u .names) (u .count) t;
+    readers =
+        set (u .readers) (u .count) i;
+  } ≡ withM u i t
   unfolding withM
   with-place h = rw (lt-ltb (u .count) 64 h)
 
@@ -48,17 +65,19 @@ module _ (s : List ℕ) where
     unfolding readM
     read-is h g = rw (← f) (rw (le-leb (e .count) n h) g)
 
-  module _ (e : Section) (w : Walk) (i t : ℕ) (u : Undeclared) {b : Bool} (d : b ≡ awaitsM s (walkBy (w .list) (w .count)) t) where
-    pub name-yes : {v : Undeclared} → b ≡ true → v ≡ readM s e i t u → v ≡ nameM s e w i t u
-    unfolding nameM strangeM readM awaitsM
-    name-yes h f = rw (← d) (rw h f)
+  module _ (e : Section) (w : Walk) (i t : ℕ) (u : Undeclared) {b : Bool} (d : b ≡ awaitsM s (walkBy (w .list) (w .count)) t)
+    where
+      pub name-yes : {v : Undeclared} → b ≡ true → v ≡ readM s e i t u → v ≡ nameM s e w i t u
+      unfolding nameM strangeM readM awaitsM
+      name-yes h f = rw (← d) (rw h f)
 
-    pub name-no : b ≡ false → u ≡ nameM s e w i t u
-    unfolding nameM strangeM awaitsM
-    name-no h = rw (← d) (rw h)
+      pub name-no : b ≡ false → u ≡ nameM s e w i t u
+      unfolding nameM strangeM awaitsM
+      name-no h = rw (← d) (rw h)
 
   module _ (e : Section) (w : Walk) (i n t : ℕ) (u : Undeclared) where
-    pub names-more : {v : Undeclared} → t < n → v ≡ nameM s e w i t u → namesM s e w i (n - t) t u ≡ namesM s e w i (n - (t + 1)) (t + 1) v
+    pub names-more : {v : Undeclared} → t < n → v ≡ nameM s e w i t u →
+        namesM s e w i (n - t) t u ≡ namesM s e w i (n - (t + 1)) (t + 1) v
     unfolding namesM
     names-more h f =
         let m : n - t ≡ suc (n - (t + 1)) = omega arith in
@@ -70,14 +89,16 @@ module _ (s : List ℕ) where
         let m : n - t ≡ 0 = omega arith in
         rw m
 
-  pub rule-is : (e rules : Section) (n i : ℕ) (u : Undeclared) {w : Walk} → w ≡ walkM s (getD (rules .starts) i 0) → ruleM s e rules n i u ≡ namesM s e w i (n - 0) 0 u
+  pub rule-is : (e rules : Section) (n i : ℕ) (u : Undeclared) {w : Walk} → w ≡ walkM s (getD (rules .starts) i 0) →
+      ruleM s e rules n i u ≡ namesM s e w i (n - 0) 0 u
   unfolding ruleM
   rule-is e rules n i u d =
       let m : n - 0 ≡ n = omega arith in
       rw (m, d)
 
   module _ (e rules : Section) (x n i : ℕ) (u : Undeclared) where
-    pub rules-more : {v : Undeclared} → i < n → v ≡ ruleM s e rules x i u → rulesM s e rules x (n - i) i u ≡ rulesM s e rules x (n - (i + 1)) (i + 1) v
+    pub rules-more : {v : Undeclared} → i < n → v ≡ ruleM s e rules x i u →
+        rulesM s e rules x (n - i) i u ≡ rulesM s e rules x (n - (i + 1)) (i + 1) v
     unfolding rulesM
     rules-more h f =
         let m : n - i ≡ suc (n - (i + 1)) = omega arith in

@@ -15,7 +15,12 @@ use Rattle.lint_undeclared.specs.declared.Undeclared.{Undeclared}
 
 -- with one name more, if there is place
 unfoldable pub withM : Undeclared → (reader place : ℕ) → Undeclared
-withM u i t = if ltb (u .count) 64 then record { count = u .count + 1; names = set (u .names) (u .count) t; readers = set (u .readers) (u .count) i } else u
+withM u i t = if ltb (u .count) 64 then record {
+  count = u .count + 1;
+  names = set (u .names) (u .count) t;
+  readers =
+      set (u .readers) (u .count) i;
+} else u
 
 abbrev pub none : Undeclared
 none = record { count = 0; names = replicate 64 0; readers = replicate 64 0 }

@@ -7,14 +7,83 @@ use native.Mathlib.Omega.{arith}
 use native.Mathlib.Nat.{mul-suc}
 use lib.ListN.{length, getD}
 use Rattle.texts.specs.Texts.{Text}
-use Rattle.model_spec.specs.Model.{Source, Predicate, state, window, Trigger, Effect, toggle, delay, condition, choose, wait, Actions, Branches, Automation}
-use Rattle.model_spec.specs.File.{got, Reader, _>>=_, give, refuse, u8, u16, u32, times, counted, flag, source, mode, place, predicate, trigger, branches, effect, actions, automation, effect-kinds}
-use Rattle.model_walk.proofs.Found.{bound, given, Wide, wide-sum, u8-wide, u16-wide, u32-wide, source-wide, kind-wide, counted-found, Kind, kind-found, place-found, predicate-wide, u8-value, Value?, trigger-found}
+use Rattle.model_spec.specs.Model.{
+  Source,
+  Predicate,
+  state,
+  window,
+  Trigger,
+  Effect,
+  toggle,
+  delay,
+  condition,
+  choose,
+  wait,
+  Actions,
+  Branches,
+  Automation,
+}
+use Rattle.model_spec.specs.File.{
+  got,
+  Reader,
+  _>>=_,
+  give,
+  refuse,
+  u8,
+  u16,
+  u32,
+  times,
+  counted,
+  flag,
+  source,
+  mode,
+  place,
+  predicate,
+  trigger,
+  branches,
+  effect,
+  actions,
+  automation,
+  effect-kinds,
+}
+use Rattle.model_walk.proofs.Found.{
+  bound,
+  given,
+  Wide,
+  wide-sum,
+  u8-wide,
+  u16-wide,
+  u32-wide,
+  source-wide,
+  kind-wide,
+  counted-found,
+  Kind,
+  kind-found,
+  place-found,
+  predicate-wide,
+  u8-value,
+  Value?,
+  trigger-found,
+}
 use Rattle.model_walk.proofs.Found as found
 use Rattle.model_walk.proofs.Refines.{sees-flag, sees-mode}
 use Rattle.model_parts.proofs.Stands.{more}
 use Rattle.lint_spec.specs.Touches.{Action}
-use Rattle.lint_walk.specs.Raw.{value-of, byteM, placeM, numberM, past, repeat, predicateEnd, predicatesEnd, simpleEnd, kindM, triggersM, conditionsM, actionsM}
+use Rattle.lint_walk.specs.Raw.{
+  value-of,
+  byteM,
+  placeM,
+  numberM,
+  past,
+  repeat,
+  predicateEnd,
+  predicatesEnd,
+  simpleEnd,
+  kindM,
+  triggersM,
+  conditionsM,
+  actionsM,
+}
 use Rattle.lint_walk.proofs.Laws as laws
 
 -- ---- numbers
@@ -50,7 +119,8 @@ source-found {s} {p} {x} {q} e =
     let g = given _ _ _ (c .rest) in
     record {
       line = number-got s _ (l .first) ∙ ap (λ (y : Source). y .line) (g .0);
-      column = ap (numberM s) (past-is s (u32-wide s p (l .first))) ∙ number-got s _ (c .first) ∙ ap (λ (y : Source). y .column) (g .0);
+      column = ap (numberM s) (past-is s (u32-wide s p (l .first))) ∙ number-got s _ (c .first)
+          ∙ ap (λ (y : Source). y .column) (g .0);
       wide = source-wide s p e;
     }
 
@@ -94,7 +164,8 @@ module _ (ts : List Text) (s : List ℕ) where
           let g = place-found ts (v .first ∙ ap (got (v .value)) (z .1)) in
           let w = u8-wide s p d in
           let w₁ = wide-sum w (u16-wide s o (f .is-place)) in
-          subst (λ (b : Predicate). PredicateAt p q b) (ap (λ (t : Text). state t (getD ts (g .at) [])) (sym (f .is-text)) ∙ ap (state (x .value)) (sym (g .is-text)) ∙ z .0)
+          subst (λ (b : Predicate). PredicateAt p q b) (ap (λ (t : Text). state t (getD ts (g .at) [])) (sym (f .is-text))
+          ∙ ap (state (x .value)) (sym (g .is-text)) ∙ z .0)
           (state-at (f .at) (g .at) (byte-got s _ d)
           (ap (placeM s) (past-is s w) ∙ place-got s _ (f .is-place))
           (ap (placeM s) (past-is s w₁) ∙ place-got s _ (g .is-place))
@@ -117,7 +188,8 @@ module _ (ts : List Text) (s : List ℕ) where
   predicate-ends (note-at r k e) = e
   predicate-ends (window-at d b c k e) = e
 
-  times-end : {A : Type 0} (r : Reader A) (f : ℕ → ℕ) → ((p : ℕ) (a : A) (q : ℕ) → r s p ≡ got a q → f p ≡ q) → (n p : ℕ) (l : List A) (q : ℕ) → times n r s p ≡ got l q → repeat n f p ≡ q
+  times-end : {A : Type 0} (r : Reader A) (f : ℕ → ℕ) → ((p : ℕ) (a : A) (q : ℕ) → r s p ≡ got a q → f p ≡ q) →
+      (n p : ℕ) (l : List A) (q : ℕ) → times n r s p ≡ got l q → repeat n f p ≡ q
   unfolding times repeat
   times-end r f h zero p l q e = given _ _ _ e .1
   times-end r f h (suc n) p l q e =
@@ -129,7 +201,8 @@ module _ (ts : List Text) (s : List ℕ) where
       let c = counted-found (predicate ts) e in
       laws.predicates-is s p
       ∙ laws.same-start (predicateEnd s) (sym (place-got s _ (c .is-count))) (sym (past-is s (u16-wide s p (c .is-count))))
-      ∙ times-end (predicate ts) (predicateEnd s) (λ p a q d. predicate-ends (predicate-found d)) (c .count) (c .start) l q (c .are-values)
+      ∙ times-end (predicate ts) (predicateEnd s) (λ p a q d. predicate-ends (predicate-found d)) (c .count) (c .start) l q
+      (c .are-values)
 
   -- ---- triggers
 
@@ -158,12 +231,15 @@ module _ (ts : List Text) (s : List ℕ) where
         is-in = f .entity-at .is-in;
         at-entity = place-got s _ (f .entity-at .is-place);
         is-entity = f .entity-at .is-text;
-        to-at = subst (λ (n : ℕ). Value? ts n (t .to)) (sym (ap (placeM s) (past-is s v₂) ∙ place-got s _ (f .to-at .is-place))) (f .to-at .is-value);
-        note-at = subst (λ (n : ℕ). Value? ts n (t .note)) (sym (ap (placeM s) (past-is s v₄) ∙ place-got s _ (f .note-at .is-place))) (f .note-at .is-value);
+        to-at = subst (λ (n : ℕ). Value? ts n (t .to))
+            (sym (ap (placeM s) (past-is s v₂) ∙ place-got s _ (f .to-at .is-place))) (f .to-at .is-value);
+        note-at = subst (λ (n : ℕ). Value? ts n (t .note))
+            (sym (ap (placeM s) (past-is s v₄) ∙ place-got s _ (f .note-at .is-place))) (f .note-at .is-value);
         wide = wide-sum v₄ w₅;
       }
 
-  times-wide : {A : Type 0} (r : Reader A) (k : ℕ) → ((p : ℕ) (a : A) (q : ℕ) → r s p ≡ got a q → Wide k s p q) → (n p : ℕ) (l : List A) (q : ℕ) → p ≤ length s → times n r s p ≡ got l q → Wide (k * n) s p q
+  times-wide : {A : Type 0} (r : Reader A) (k : ℕ) → ((p : ℕ) (a : A) (q : ℕ) → r s p ≡ got a q → Wide k s p q) →
+      (n p : ℕ) (l : List A) (q : ℕ) → p ≤ length s → times n r s p ≡ got l q → Wide (k * n) s p q
   unfolding times
   times-wide r k h zero p l q b e = let z = given _ _ _ e .1 in record { ends = omega arith; inside = omega arith }
   times-wide r k h (suc n) p l q b e =
@@ -176,17 +252,24 @@ module _ (ts : List Text) (s : List ℕ) where
   -- ---- effects: from the position of the action on
 
   pub data EffectAt (left p q : ℕ) : Effect → Type 0 where
-    set-at : (x v : ℕ) → kindM s p ≡ 0 → placeM s (past s p 9) ≡ x → placeM s (past s p 11) ≡ v → x < length ts → v < length ts → simpleEnd s 0 (past s p 9) ≡ q →
+    set-at : (x v : ℕ) → kindM s p ≡ 0 → placeM s (past s p 9) ≡ x → placeM s (past s p 11) ≡ v → x < length ts →
+        v < length ts → simpleEnd s 0 (past s p 9) ≡ q →
         EffectAt left p q (Effect.set (getD ts x []) (getD ts v []))
-    toggle-at : (x : ℕ) → kindM s p ≡ 1 → placeM s (past s p 9) ≡ x → x < length ts → simpleEnd s 1 (past s p 9) ≡ q → EffectAt left p q (toggle (getD ts x []))
+    toggle-at : (x : ℕ) → kindM s p ≡ 1 → placeM s (past s p 9) ≡ x → x < length ts → simpleEnd s 1 (past s p 9) ≡ q →
+        EffectAt left p q (toggle (getD ts x []))
     delay-at : (n : ℕ) → kindM s p ≡ 2 → simpleEnd s 2 (past s p 9) ≡ q → EffectAt left p q (delay n)
-    condition-at : (a : Predicate) → kindM s p ≡ 3 → PredicateAt (past s p 9) q a → simpleEnd s 3 (past s p 9) ≡ q → EffectAt left p q (condition a)
-    choose-at : (bs : Branches) (d : Actions) (n r : ℕ) → kindM s p ≡ 4 → u16 s (past s p 9) ≡ got n (past s p 11) → branches ts (actions ts left) n s (past s p 11) ≡ got bs r → actions ts left s r ≡ got d q →
+    condition-at : (a : Predicate) → kindM s p ≡ 3 → PredicateAt (past s p 9) q a → simpleEnd s 3 (past s p 9) ≡ q →
+        EffectAt left p q (condition a)
+    choose-at : (bs : Branches) (d : Actions) (n r : ℕ) → kindM s p ≡ 4 → u16 s (past s p 9) ≡ got n (past s p 11) →
+        branches ts (actions ts left) n s (past s p 11) ≡ got bs r → actions ts left s r ≡ got d q →
         EffectAt left p q (choose bs d)
-    wait-at : (t : Trigger) (m : ℕ) (c : Bool) (r : ℕ) → kindM s p ≡ 5 → TriggerAt (past s p 9) t r → simpleEnd s 5 (past s p 9) ≡ q → EffectAt left p q (wait t m c)
-    unknown-at : (n : ℕ) → kindM s p ≡ 6 → placeM s (past s p 9) ≡ n → n < length ts → simpleEnd s 6 (past s p 9) ≡ q → EffectAt left p q (Effect.unknown (getD ts n []))
+    wait-at : (t : Trigger) (m : ℕ) (c : Bool) (r : ℕ) → kindM s p ≡ 5 → TriggerAt (past s p 9) t r →
+        simpleEnd s 5 (past s p 9) ≡ q → EffectAt left p q (wait t m c)
+    unknown-at : (n : ℕ) → kindM s p ≡ 6 → placeM s (past s p 9) ≡ n → n < length ts → simpleEnd s 6 (past s p 9) ≡ q →
+        EffectAt left p q (Effect.unknown (getD ts n []))
 
-  pub effect-found : (left : ℕ) {p o : ℕ} {f : Effect} {q : ℕ} → Wide 8 s p o → effect ts (actions ts left) s o ≡ got f q → EffectAt left p q f
+  pub effect-found : (left : ℕ) {p o : ℕ} {f : Effect} {q : ℕ} → Wide 8 s p o → effect ts (actions ts left) s o ≡ got f q →
+      EffectAt left p q f
   unfolding effect
   effect-found left {p} {o} {f} {q} w e = cases (k .kind) (k .is-kind) (k .holds)
     where
@@ -208,7 +291,8 @@ module _ (ts : List Text) (s : List ℕ) where
       same : {a b : Effect} → a ≡ b → EffectAt left p q a → EffectAt left p q b
       same z y = subst (λ (g : Effect). EffectAt left p q g) z y
 
-      cases : (i : ℕ) → u8 s o ≡ got i n → getD (effect-kinds ts (actions ts left)) i refuse s n ≡ got f q → EffectAt left p q f
+      cases : (i : ℕ) → u8 s o ≡ got i n → getD (effect-kinds ts (actions ts left)) i refuse s n ≡ got f q →
+          EffectAt left p q f
       cases zero d h =
           let x = bound (place ts) _ h in
           let v = bound (place ts) _ (x .rest) in
@@ -217,7 +301,8 @@ module _ (ts : List Text) (s : List ℕ) where
           let b = place-found ts (v .first ∙ ap (got (v .value)) (z .1)) in
           let u₁ = u16-wide s n (a .is-place) in
           let u₂ = u16-wide s (x .next) (b .is-place) in
-          same (ap (λ (t : Text). Effect.set t (getD ts (b .at) [])) (sym (a .is-text)) ∙ ap (Effect.set (x .value)) (sym (b .is-text)) ∙ z .0)
+          same (ap (λ (t : Text). Effect.set t (getD ts (b .at) [])) (sym (a .is-text))
+          ∙ ap (Effect.set (x .value)) (sym (b .is-text)) ∙ z .0)
           (set-at (a .at) (b .at) (kind 0 d) (ap (placeM s) (nine 0 d) ∙ place-got s _ (a .is-place))
           (ap (placeM s) (past-is s (wide-sum (w₉ 0 d) u₁)) ∙ place-got s _ (b .is-place)) (a .is-in) (b .is-in)
           (ap (simpleEnd s 0) (nine 0 d) ∙ laws.simple-0 s n refl ∙ past-is s (wide-sum u₁ u₂)))
@@ -227,11 +312,13 @@ module _ (ts : List Text) (s : List ℕ) where
           let a = place-found ts (x .first ∙ ap (got (x .value)) (z .1)) in
           same (ap toggle (sym (a .is-text)) ∙ z .0)
           (toggle-at (a .at) (kind 1 d) (ap (placeM s) (nine 1 d) ∙ place-got s _ (a .is-place)) (a .is-in)
-          (ap (simpleEnd s 1) (nine 1 d) ∙ laws.simple-else s n (λ y. omega arith) (λ y. omega arith) (λ y. omega arith) (λ y. omega arith) ∙ past-is s (u16-wide s n (a .is-place))))
+          (ap (simpleEnd s 1) (nine 1 d) ∙ laws.simple-else s n (λ y. omega arith) (λ y. omega arith) (λ y. omega arith)
+          (λ y. omega arith) ∙ past-is s (u16-wide s n (a .is-place))))
       cases (suc (suc zero)) d h =
           let x = bound u32 _ h in
           let z = given _ _ _ (x .rest) in
-          same (z .0) (delay-at (x .value) (kind 2 d) (ap (simpleEnd s 2) (nine 2 d) ∙ laws.simple-2 s n refl ∙ past-is s (u32-wide s n (x .first ∙ ap (got (x .value)) (z .1)))))
+          same (z .0) (delay-at (x .value) (kind 2 d) (ap (simpleEnd s 2) (nine 2 d) ∙ laws.simple-2 s n refl
+          ∙ past-is s (u32-wide s n (x .first ∙ ap (got (x .value)) (z .1)))))
       cases (suc (suc (suc zero))) d h =
           let x = bound (predicate ts) _ h in
           let z = given _ _ _ (x .rest) in
@@ -259,7 +346,8 @@ module _ (ts : List Text) (s : List ℕ) where
           let u₂ = u32-wide s (t .next) (m .first) in
           let u₃ = kind-wide 2 flag sees-flag (c .first ∙ ap (got (c .value)) (z .1)) in
           same (z .0)
-          (wait-at (t .value) (m .value) (c .value) (t .next) (kind 5 d) (subst (λ (y : ℕ). TriggerAt y (t .value) (t .next)) (sym (nine 5 d)) a)
+          (wait-at (t .value) (m .value) (c .value) (t .next) (kind 5 d)
+          (subst (λ (y : ℕ). TriggerAt y (t .value) (t .next)) (sym (nine 5 d)) a)
           (ap (simpleEnd s 5) (nine 5 d) ∙ laws.simple-5 s n refl ∙ past-is s (wide-sum (wide-sum (a .wide) u₂) u₃)))
       cases (suc (suc (suc (suc (suc (suc zero)))))) d h =
           let x = bound (place ts) _ h in
@@ -267,7 +355,8 @@ module _ (ts : List Text) (s : List ℕ) where
           let a = place-found ts (x .first ∙ ap (got (x .value)) (z .1)) in
           same (ap Effect.unknown (sym (a .is-text)) ∙ z .0)
           (unknown-at (a .at) (kind 6 d) (ap (placeM s) (nine 6 d) ∙ place-got s _ (a .is-place)) (a .is-in)
-          (ap (simpleEnd s 6) (nine 6 d) ∙ laws.simple-else s n (λ y. omega arith) (λ y. omega arith) (λ y. omega arith) (λ y. omega arith) ∙ past-is s (u16-wide s n (a .is-place))))
+          (ap (simpleEnd s 6) (nine 6 d) ∙ laws.simple-else s n (λ y. omega arith) (λ y. omega arith) (λ y. omega arith)
+          (λ y. omega arith) ∙ past-is s (u16-wide s n (a .is-place))))
       cases (suc (suc (suc (suc (suc (suc (suc i))))))) d h = absurd (found.refused s n h)
 
   -- an action, from its position on
@@ -298,7 +387,8 @@ module _ (ts : List Text) (s : List ℕ) where
   times-length : {A : Type 0} (r : Reader A) (n p : ℕ) (l : List A) (q : ℕ) → times n r s p ≡ got l q → length l ≡ n
   unfolding times
   times-length r zero p l q e = ap length (sym (given _ _ _ e .0))
-  times-length r (suc n) p l q e = let m = more r s n p e in ap length (m .both) ∙ ap suc (times-length r n (m .after) (m .others) q (m .are-others))
+  times-length r (suc n) p l q e = let m = more r s n p e in
+      ap length (m .both) ∙ ap suc (times-length r n (m .after) (m .others) q (m .are-others))
 
   pub rule-found : {p : ℕ} {r : Automation} {q : ℕ} → automation ts s p ≡ got r q → RuleAt p r
   unfolding automation
@@ -319,8 +409,11 @@ module _ (ts : List Text) (s : List ℕ) where
       let zt : triggersM s p ≡ x .next = laws.triggers-is s p ∙ past-is s w₇ in
       let f = counted-found (trigger ts) (t .first) in
       let wc = u16-wide s (x .next) (f .is-count) in
-      let wt = times-wide (trigger ts) 16 (λ p a q d. trigger-at d .wide) (f .count) (f .start) (t .value) (t .next) (omega (arith, wc .ends, wc .inside)) (f .are-values) in
-      let zc : conditionsM s p ≡ t .next = sym (laws.conditions-is s p (x .next) (f .count) (f .start) (sym zt) (sym (place-got s _ (f .is-count))) (sym (past-is s wc))) ∙ past-is s wt in
+      let wt = times-wide (trigger ts) 16 (λ p a q d. trigger-at d .wide) (f .count) (f .start) (t .value) (t .next)
+      (omega (arith, wc .ends, wc .inside)) (f .are-values) in
+      let zc : conditionsM s p ≡ t .next =
+      sym (laws.conditions-is s p (x .next) (f .count) (f .start) (sym zt) (sym (place-got s _ (f .is-count)))
+      (sym (past-is s wc))) ∙ past-is s wt in
       let za : actionsM s p ≡ c .next = sym (laws.actions-is s p (t .next) (sym zc)) ∙ predicates-end (t .next) (c .first) in
       let ln = times-length (trigger ts) (f .count) (f .start) (t .value) (t .next) (f .are-values) in
       subst (λ (y : Automation). RuleAt p y) (z .0) (record {

@@ -13,8 +13,36 @@ use Rattle.model_walk.specs.Walk.{found, predicate-size}
 use Rattle.model_walk.proofs.Laws.{is-got, is-broken}
 use Rattle.lint_walk.specs.declared.Walk.{Walk}
 use Rattle.lint_walk.specs.declared.Cursor.{Cursor}
-use Rattle.lint_walk.specs.Raw.{value-of, byteM, placeM, numberM, past, repeat, predicateEnd, predicatesEnd, simpleEnd, kindM, triggersM, conditionsM, actionsM}
-use Rattle.lint_walk.specs.Walks.{walkOf, moved-cursorM, movedM, notedM, enteredM, simpleM, actionM, branchM, choiceM, listM, fresh, walkM, listEnd}
+use Rattle.lint_walk.specs.Raw.{
+  value-of,
+  byteM,
+  placeM,
+  numberM,
+  past,
+  repeat,
+  predicateEnd,
+  predicatesEnd,
+  simpleEnd,
+  kindM,
+  triggersM,
+  conditionsM,
+  actionsM,
+}
+use Rattle.lint_walk.specs.Walks.{
+  walkOf,
+  moved-cursorM,
+  movedM,
+  notedM,
+  enteredM,
+  simpleM,
+  actionM,
+  branchM,
+  choiceM,
+  listM,
+  fresh,
+  walkM,
+  listEnd,
+}
 
 -- ---- numbers
 
@@ -122,7 +150,12 @@ unfolding moved-cursorM movedM
 moved-of l c p e = rw e
 
 module _ (w : Walk) where
-  pub noted-in : w .count < 512 → notedM w ≡ record { list = set (w .list) (w .count) (w .next); count = w .count + 1; next = w .next }
+  pub noted-in : w .count < 512 → notedM w ≡ record {
+    list = set (w .list) (w .count) (w .next);
+    count = w .count + 1;
+    next =
+        w .next;
+  }
   unfolding notedM
   noted-in h = rw (lt-ltb (w .count) 512 h)
 
@@ -135,7 +168,8 @@ module _ (s : List ℕ) (w : Walk) where
   unfolding enteredM
   entered-is v p e f = rw (e, f)
 
-  pub simple-is : (v : Walk) (k q p : ℕ) → k ≡ kindM s (w .next) → q ≡ past s (w .next) 9 → p ≡ simpleEnd s k q → v ≡ notedM w → movedM v p ≡ simpleM s w
+  pub simple-is : (v : Walk) (k q p : ℕ) → k ≡ kindM s (w .next) → q ≡ past s (w .next) 9 → p ≡ simpleEnd s k q →
+      v ≡ notedM w → movedM v p ≡ simpleM s w
   unfolding simpleM
   simple-is v k q p e f g h = rw (h, g, f, e)
 
@@ -151,16 +185,19 @@ module _ (s : List ℕ) (w : Walk) where
   unfolding listM
   list-none = refl
 
-  pub list-more : (left : ℕ) → (left ≡ 0 → ⊥) → listM left s w ≡ repeat (placeM s (w .next)) (actionM s (choiceM s (listM (left - 1) s))) (movedM w (past s (w .next) 2))
+  pub list-more : (left : ℕ) → (left ≡ 0 → ⊥) → listM left s w
+      ≡ repeat (placeM s (w .next)) (actionM s (choiceM s (listM (left - 1) s))) (movedM w (past s (w .next) 2))
   unfolding listM
   list-more zero h = absurd (h refl)
   list-more (suc left) h = rw (sub-one (suc left))
 
-  pub list-suc : (left : ℕ) → listM (suc left) s w ≡ repeat (placeM s (w .next)) (actionM s (choiceM s (listM left s))) (movedM w (past s (w .next) 2))
+  pub list-suc : (left : ℕ) → listM (suc left) s w ≡ repeat (placeM s (w .next)) (actionM s (choiceM s (listM left s)))
+      (movedM w (past s (w .next) 2))
   unfolding listM
   list-suc left = refl
 
-  pub choice-is : (inner : Walk → Walk) → choiceM s inner w ≡ inner (repeat (placeM s (w .next)) (branchM s inner) (movedM w (past s (w .next) 2)))
+  pub choice-is : (inner : Walk → Walk) → choiceM s inner w
+      ≡ inner (repeat (placeM s (w .next)) (branchM s inner) (movedM w (past s (w .next) 2)))
   unfolding choiceM
   choice-is inner = refl
 
@@ -168,7 +205,8 @@ module _ (s : List ℕ) (w : Walk) where
   unfolding branchM
   branch-is inner = refl
 
-pub walk-is : (s : List ℕ) (p : ℕ) {l : List ℕ} {q : ℕ} → l ≡ replicate 512 0 → q ≡ actionsM s p → listM 18 s (record { list = l; count = 0; next = q }) ≡ walkM s p
+pub walk-is : (s : List ℕ) (p : ℕ) {l : List ℕ} {q : ℕ} → l ≡ replicate 512 0 → q ≡ actionsM s p →
+    listM 18 s (record { list = l; count = 0; next = q }) ≡ walkM s p
 unfolding walkM
 walk-is s p d e = rw (d, e)
 
@@ -185,12 +223,15 @@ same-start f e g = rw (e, g)
 
 -- ---- loops of walks
 
-module _ (s : List ℕ) (w : Walk) {i p : ℕ} {v u : Walk} (e : i ≡ placeM s (w .next)) (f : p ≡ past s (w .next) 2) (g : v ≡ movedM w p) where
-  pub list-done : (left : ℕ) → (left ≡ 0 → ⊥) → repeat i (actionM s (choiceM s (listM (left - 1) s))) v ≡ u → u ≡ listM left s w
+module _ (s : List ℕ) (w : Walk) {i p : ℕ} {v u : Walk} (e : i ≡ placeM s (w .next)) (f : p ≡ past s (w .next) 2)
+    (g : v ≡ movedM w p) where
+  pub list-done : (left : ℕ) → (left ≡ 0 → ⊥) → repeat i (actionM s (choiceM s (listM (left - 1) s))) v ≡ u →
+      u ≡ listM left s w
   list-done left h k = sym (list-more s w left h ∙ rw (← e, ← f, ← g) k)
 
   pub choice-done : (inner : Walk → Walk) → repeat i (branchM s inner) v ≡ u → inner u ≡ choiceM s inner w
   choice-done inner k = sym (choice-is s w inner ∙ rw (← e, ← f, ← g) (ap inner k))
 
-pub branch-next : (s : List ℕ) (inner : Walk → Walk) (v : Walk) {u x : Walk} {p : ℕ} → p ≡ predicatesEnd s (v .next) → u ≡ movedM v p → x ≡ inner u → branchM s inner v ≡ x
+pub branch-next : (s : List ℕ) (inner : Walk → Walk) (v : Walk) {u x : Walk} {p : ℕ} → p ≡ predicatesEnd s (v .next) →
+    u ≡ movedM v p → x ≡ inner u → branchM s inner v ≡ x
 branch-next s inner v e f g = branch-is s v inner ∙ rw (← e, ← f) (sym g)

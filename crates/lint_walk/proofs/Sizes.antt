@@ -24,8 +24,13 @@ sized-noted : (w : Walk) → Sized w → Sized (notedM w)
 unfolding notedM
 sized-noted w h = cases (ltb (w .count) 512) refl
   where
-    cases : (b : Bool) → ltb (w .count) 512 ≡ b → Sized (if b then record { list = set (w .list) (w .count) (w .next); count = w .count + 1; next = w .next } else w)
-    cases true e = record { few = omega (arith, ltb-true (w .count) 512 e); size = length-set (w .list) (w .count) (w .next) ∙ h .size }
+    cases : (b : Bool) → ltb (w .count) 512 ≡ b → Sized
+        (if b then record { list = set (w .list) (w .count) (w .next); count = w .count + 1; next = w .next } else w)
+    cases true e = record {
+      few = omega (arith, ltb-true (w .count) 512 e);
+      size =
+          length-set (w .list) (w .count) (w .next) ∙ h .size;
+    }
     cases false e = h
 
 sized-repeat : (f : Walk → Walk) → ((w : Walk) → Sized w → Sized (f w)) → (n : ℕ) (w : Walk) → Sized w → Sized (repeat n f w)
@@ -34,11 +39,13 @@ sized-repeat f h zero w k = k
 sized-repeat f h (suc n) w k = sized-repeat f h n (f w) (h w k)
 
 module _ (s : List ℕ) where
-  sized-choice : (inner : Walk → Walk) → ((w : Walk) → Sized w → Sized (inner w)) → (w : Walk) → Sized w → Sized (choiceM s inner w)
+  sized-choice : (inner : Walk → Walk) → ((w : Walk) → Sized w → Sized (inner w)) → (w : Walk) → Sized w →
+      Sized (choiceM s inner w)
   unfolding choiceM branchM
   sized-choice inner h w k = h _ (sized-repeat (branchM s inner) (λ v i. h _ (sized-moved v _ i)) _ _ (sized-moved w _ k))
 
-  sized-action : (choice : Walk → Walk) → ((w : Walk) → Sized w → Sized (choice w)) → (w : Walk) → Sized w → Sized (actionM s choice w)
+  sized-action : (choice : Walk → Walk) → ((w : Walk) → Sized w → Sized (choice w)) → (w : Walk) → Sized w →
+      Sized (actionM s choice w)
   unfolding actionM enteredM simpleM
   sized-action choice h w k = cases (eqb (kindM s (w .next)) 4)
     where
@@ -49,7 +56,8 @@ module _ (s : List ℕ) where
   sized-list : (left : ℕ) (w : Walk) → Sized w → Sized (listM left s w)
   unfolding listM
   sized-list zero w k = k
-  sized-list (suc left) w k = sized-repeat (actionM s (choiceM s (listM left s))) (sized-action (choiceM s (listM left s)) (sized-choice (listM left s) (sized-list left))) _ _ (sized-moved w _ k)
+  sized-list (suc left) w k = sized-repeat (actionM s (choiceM s (listM left s)))
+      (sized-action (choiceM s (listM left s)) (sized-choice (listM left s) (sized-list left))) _ _ (sized-moved w _ k)
 
   pub walk-sized : (p : ℕ) → Sized (walkM s p)
   unfolding walkM

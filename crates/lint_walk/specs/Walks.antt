@@ -24,7 +24,12 @@ movedM w p = record { list = w .list; count = w .count; next = p }
 
 -- one action more, if there is room
 unfoldable pub notedM : Walk → Walk
-notedM w = if ltb (w .count) 512 then record { list = set (w .list) (w .count) (w .next); count = w .count + 1; next = w .next } else w
+notedM w = if ltb (w .count) 512 then record {
+  list = set (w .list) (w .count) (w .next);
+  count = w .count + 1;
+  next =
+      w .next;
+} else w
 
 module _ (s : List ℕ) where
   -- the action that is next, a choice: its branches are next

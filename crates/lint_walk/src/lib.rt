@@ -1,12 +1,34 @@
-// Reading of an accepted model file by position: numbers, where parts end, and an automation's actions in the order of Rust's walk.
-// The file was read before, so that what is looked for is there; past the end of the file numbers are 0.
+// Reading of an accepted model file by position: numbers, where parts end, and an automation's actions in the order of
+// Rust's walk. The file was read before, so that what is looked for is there; past the end of the file numbers are 0.
 use model_walk::Num;
 ghost use Rattle.notation.specs.Reference.{was, is};
 ghost use mathlib.Core.Path.{_≡_};
 ghost use Prim.Native.Nat.{_+_, _≤_, _<_};
 ghost use lib.ListN.{replicate};
-ghost use Rattle.lint_walk.specs.Raw.{byteM, placeM, numberM, past, predicateEnd, predicatesEnd, simpleEnd, kindM, triggersM, conditionsM, actionsM};
-ghost use Rattle.lint_walk.specs.Walks.{walkOf, moved-cursorM, notedM, enteredM, simpleM, listM, choiceM, walkM, listEnd};
+ghost use Rattle.lint_walk.specs.Raw.{
+  byteM,
+  placeM,
+  numberM,
+  past,
+  predicateEnd,
+  predicatesEnd,
+  simpleEnd,
+  kindM,
+  triggersM,
+  conditionsM,
+  actionsM,
+};
+ghost use Rattle.lint_walk.specs.Walks.{
+  walkOf,
+  moved-cursorM,
+  notedM,
+  enteredM,
+  simpleM,
+  listM,
+  choiceM,
+  walkM,
+  listEnd,
+};
 
 // ---- numbers
 

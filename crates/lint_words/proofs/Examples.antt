@@ -1,7 +1,21 @@
 -- The words for a code and a certainty are those of the definitions.
 use mathlib.Core.Path.{_≡_, refl}
 use Rattle.texts.specs.Texts.{Text}
-use Rattle.lint_spec.specs.Findings.{Problem, unreachable-conditions, trigger-condition-mismatch, delayed-write, unreachable-branch, high-fanout, trigger-cycle, freshness-assumption, missing-safety-guard, opposing-writes, unsupported-note, code-name, certainty}
+use Rattle.lint_spec.specs.Findings.{
+  Problem,
+  unreachable-conditions,
+  trigger-condition-mismatch,
+  delayed-write,
+  unreachable-branch,
+  high-fanout,
+  trigger-cycle,
+  freshness-assumption,
+  missing-safety-guard,
+  opposing-writes,
+  unsupported-note,
+  code-name,
+  certainty,
+}
 use Rattle.lint_spec.specs.Words.{code-number, certainty-number}
 use Rattle.lint_words.specs.Numbers.{problem-of, certainty-of}
 

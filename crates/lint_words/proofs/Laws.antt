@@ -22,7 +22,17 @@ use Rattle.lint_walk.specs.Raw.{placeM}
 use Rattle.show.specs.Lines.{escape, quoted, all-lines}
 use Rattle.show.proofs.Laws as show
 use Rattle.lint_words.specs.Lines.{spaced, listed, quoted-list}
-use Rattle.lint_words.specs.Numbers.{text-at, start-at, name-place, name-of, names-of, problems, problem-of, certainty-of, tier-of}
+use Rattle.lint_words.specs.Numbers.{
+  text-at,
+  start-at,
+  name-place,
+  name-of,
+  names-of,
+  problems,
+  problem-of,
+  certainty-of,
+  tier-of,
+}
 
 -- ---- choices
 
@@ -89,10 +99,15 @@ module _ (x t : Text) where
   unfolding code-name
   note-name = refl
 
-  pub code-other : (n : ℕ) → (n ≡ 0 → ⊥) → (n ≡ 1 → ⊥) → (n ≡ 2 → ⊥) → (n ≡ 3 → ⊥) → (n ≡ 4 → ⊥) → (n ≡ 5 → ⊥) → (n ≡ 6 → ⊥) → (n ≡ 7 → ⊥) → (n ≡ 8 → ⊥) → text "unsupported" ≡ code-name (problem-of x t n)
+  pub code-other : (n : ℕ) → (n ≡ 0 → ⊥) → (n ≡ 1 → ⊥) → (n ≡ 2 → ⊥) → (n ≡ 3 → ⊥) → (n ≡ 4 → ⊥) → (n ≡ 5 → ⊥) →
+      (n ≡ 6 → ⊥) → (n ≡ 7 → ⊥) → (n ≡ 8 → ⊥) → text "unsupported" ≡ code-name (problem-of x t n)
   code-other n a b c d e f g h i =
       note-name
-      ∙ ap code-name (sym (noted x t n (above 8 n (above 7 n (above 6 n (above 5 n (above 4 n (above 3 n (above 2 n (above 1 n (above 0 n (omega arith) a) b) c) d) e) f) g) h) i)))
+      ∙ ap code-name
+      (sym (noted x t n
+      (above 8 n (above 7 n
+      (above 6 n (above 5 n (above 4 n (above 3 n (above 2 n (above 1 n (above 0 n (omega arith) a) b) c) d) e) f) g) h)
+      i)))
 
 module _ (n : ℕ) where
   pub certainty-0 : n ≡ 0 → text "static" ≡ certainty-of n
@@ -105,7 +120,9 @@ module _ (n : ℕ) where
 
   pub certainty-other : (n ≡ 0 → ⊥) → (n ≡ 1 → ⊥) → text "unknown" ≡ certainty-of n
   unfolding certainty-of
-  certainty-other a b = sym (List·getD-eq-default (text "static" ∷ text "potential" ∷ []) (text "unknown") (above 1 n (above 0 n (omega arith) a) b))
+  certainty-other a b =
+      sym (List·getD-eq-default (text "static" ∷ text "potential" ∷ []) (text "unknown")
+      (above 1 n (above 0 n (omega arith) a) b))
 
   pub tier-0 : n ≡ 0 → text "observational" ≡ tier-of n
   unfolding tier-of
@@ -131,7 +148,8 @@ module _ (n : ℕ) where
   unfolding tier-of
   tier-other a b c d e =
       let h : 5 ≤ n = above 4 n (above 3 n (above 2 n (above 1 n (above 0 n (omega arith) a) b) c) d) e in
-      ⊎-elim (λ q. let z : n ≡ 5 = omega arith in rw z) (λ q. sym (List·getD-eq-default tiers (text "unknown") q)) (lt-or-ge n 6)
+      ⊎-elim (λ q. let z : n ≡ 5 = omega arith in rw z) (λ q. sym (List·getD-eq-default tiers (text "unknown") q))
+      (lt-or-ge n 6)
 
 -- ---- names
 
@@ -153,10 +171,12 @@ module _ (s : Section) (i : ℕ) where
     unfolding name-of text-at
     name-is q at e h = rw (h, e)
 
-    pub quoted-name : (q at : ℕ) → q ≡ name-place f s i → at ≡ startFrom f 6 q → quoted (textAt f at) ≡ quoted (name-of f s i)
+    pub quoted-name : (q at : ℕ) → q ≡ name-place f s i → at ≡ startFrom f 6 q →
+        quoted (textAt f at) ≡ quoted (name-of f s i)
     quoted-name q at e h = ap quoted (name-is q at e h)
 
-    pub inner-name : (q at : ℕ) → q ≡ name-place f s i → at ≡ startFrom f 6 q → flat escape (textAt f at) ≡ flat escape (name-of f s i)
+    pub inner-name : (q at : ℕ) → q ≡ name-place f s i → at ≡ startFrom f 6 q →
+        flat escape (textAt f at) ≡ flat escape (name-of f s i)
     inner-name q at e h = ap (flat escape) (name-is q at e h)
 
 pub whole-escaped : (t : Text) (i : ℕ) → i ≤ length t → length t ≤ i → flat escape (take i t) ≡ flat escape t
@@ -176,16 +196,25 @@ after-name : (x s : Text) → flat escape s ≡ s → 34 ∷ (flat escape x ++ (
 unfolding quoted
 after-name x s h = rw (flat-append x s, h, append-assoc (flat escape x) s (34 ∷ []))
 
-around-name : (b x s : Text) → flat escape b ≡ b → flat escape s ≡ s → 34 ∷ (b ++ (flat escape x ++ (s ++ (34 ∷ [])))) ≡ quoted (b ++ x ++ s)
+around-name : (b x s : Text) → flat escape b ≡ b → flat escape s ≡ s →
+    34 ∷ (b ++ (flat escape x ++ (s ++ (34 ∷ [])))) ≡ quoted (b ++ x ++ s)
 unfolding quoted
 around-name b x s e h =
-    rw (flat-append (b ++ x) s, flat-append b x, e, h, append-assoc (b ++ flat escape x) s (34 ∷ []), append-assoc b (flat escape x) (s ++ (34 ∷ [])))
+    rw (
+      flat-append (b ++ x) s,
+      flat-append b x,
+      e,
+      h,
+      append-assoc (b ++ flat escape x) s (34 ∷ []),
+      append-assoc b (flat escape x) (s ++ (34 ∷ [])),
+    )
 
 fresh-words : flat escape (text " has modeled freshness expiry") ≡ text " has modeled freshness expiry"
 unfolding flat all-lines
 fresh-words = refl
 
-guard-words : flat escape (text " write has no matching action-guard invariant") ≡ text " write has no matching action-guard invariant"
+guard-words : flat escape (text " write has no matching action-guard invariant")
+    ≡ text " write has no matching action-guard invariant"
 unfolding flat all-lines
 guard-words = refl
 
@@ -193,7 +222,8 @@ opposing-words : flat escape (text "Opposing or toggling intents for ") ≡ text
 unfolding flat all-lines
 opposing-words = refl
 
-exclusive-words : flat escape (text "; conditions may make them mutually exclusive") ≡ text "; conditions may make them mutually exclusive"
+exclusive-words : flat escape (text "; conditions may make them mutually exclusive")
+    ≡ text "; conditions may make them mutually exclusive"
 unfolding flat all-lines
 exclusive-words = refl
 
@@ -202,11 +232,13 @@ module _ (x t : Text) where
   unfolding problem-of message
   message-0 = refl
 
-  pub message-1 : quoted (text "Trigger target differs from admission conditions; same-time event ordering can matter") ≡ quoted (message (problem-of x t 1))
+  pub message-1 : quoted (text "Trigger target differs from admission conditions; same-time event ordering can matter")
+      ≡ quoted (message (problem-of x t 1))
   unfolding problem-of message
   message-1 = refl
 
-  pub message-2 : quoted (text "Delayed writes may outlive trigger-time safety conditions; replay with changed state") ≡ quoted (message (problem-of x t 2))
+  pub message-2 : quoted (text "Delayed writes may outlive trigger-time safety conditions; replay with changed state")
+      ≡ quoted (message (problem-of x t 2))
   unfolding problem-of message
   message-2 = refl
 
@@ -218,7 +250,9 @@ module _ (x t : Text) where
   unfolding problem-of message
   message-4 = refl
 
-  pub message-5 : quoted (text "Cyclic trigger/write interaction; simulate to distinguish stable states from repeated toggling") ≡ quoted (message (problem-of x t 5))
+  pub message-5 : quoted
+      (text "Cyclic trigger/write interaction; simulate to distinguish stable states from repeated toggling")
+      ≡ quoted (message (problem-of x t 5))
   unfolding problem-of message
   message-5 = refl
 
@@ -226,13 +260,16 @@ module _ (x t : Text) where
   unfolding problem-of message
   message-6 = after-name x (text " has modeled freshness expiry") fresh-words
 
-  pub message-7 : 34 ∷ (flat escape x ++ text " write has no matching action-guard invariant\"") ≡ quoted (message (problem-of x t 7))
+  pub message-7 : 34 ∷ (flat escape x ++ text " write has no matching action-guard invariant\"")
+      ≡ quoted (message (problem-of x t 7))
   unfolding problem-of message
   message-7 = after-name x (text " write has no matching action-guard invariant") guard-words
 
-  pub message-8 : text "\"Opposing or toggling intents for " ++ (flat escape x ++ text "; conditions may make them mutually exclusive\"") ≡ quoted (message (problem-of x t 8))
+  pub message-8 : text "\"Opposing or toggling intents for " ++ (flat escape x ++ text
+      "; conditions may make them mutually exclusive\"") ≡ quoted (message (problem-of x t 8))
   unfolding problem-of message
-  message-8 = around-name (text "Opposing or toggling intents for ") x (text "; conditions may make them mutually exclusive") opposing-words exclusive-words
+  message-8 = around-name (text "Opposing or toggling intents for ") x (text "; conditions may make them mutually exclusive")
+      opposing-words exclusive-words
 
   note-text : quoted t ≡ quoted (message (unsupported-note t))
   unfolding message
@@ -260,13 +297,16 @@ each-each g h [] = refl
 each-each {C = C} g h (x ∷ l) = ap {B = List C} (λ k. g (h x) ∷ k) (each-each g h l)
 
 -- a number of texts, and the texts
-pub counted : {A : Type 0} (h : A → Text) (l : List A) (k : ℕ) → k ≡ length l → decimal k ++ spaced (each h l) ≡ listed (each h l)
+pub counted : {A : Type 0} (h : A → Text) (l : List A) (k : ℕ) → k ≡ length l →
+    decimal k ++ spaced (each h l) ≡ listed (each h l)
 unfolding listed
 counted h l k e = rw (length-each h l, e)
 
 pub many : (x k : ℕ) → k ≡ ones x → x < 4294967296 → k ≡ length (members x)
 many x k e small = e ∙ ones-members x small
 
-pub names-listed : (f : List ℕ) (s : Section) (x k : ℕ) → k ≡ ones x → x < 4294967296 → decimal k ++ spaced (each (λ i. quoted (name-of f s i)) (members x)) ≡ quoted-list (names-of f s x)
+pub names-listed : (f : List ℕ) (s : Section) (x k : ℕ) → k ≡ ones x → x < 4294967296 →
+    decimal k ++ spaced (each (λ i. quoted (name-of f s i)) (members x)) ≡ quoted-list (names-of f s x)
 unfolding quoted-list names-of
-names-listed f s x k e small = counted (λ i. quoted (name-of f s i)) (members x) k (many x k e small) ∙ ap listed (sym (each-each quoted (name-of f s) (members x)))
+names-listed f s x k e small = counted (λ i. quoted (name-of f s i)) (members x) k (many x k e small)
+    ∙ ap listed (sym (each-each quoted (name-of f s) (members x)))

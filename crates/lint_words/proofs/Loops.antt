@@ -24,7 +24,8 @@ pub record Part (whole rest : Text) (a : List ℕ) (n : ℕ) (b : List ℕ) (m :
 pub begun : {whole rest : Text} {a : List ℕ} {n : ℕ} → rest ≡ whole → Part whole rest a n a n
 begun {whole} {rest} {a} {n} e = record { done = []; written = show.nothing a n; left = e }
 
-pub further : {whole rest t next : Text} {a b c : List ℕ} {n m k : ℕ} → rest ≡ t ++ next → Part whole rest a n b m → Written t b m c k → Part whole next a n c k
+pub further : {whole rest t next : Text} {a b c : List ℕ} {n m k : ℕ} → rest ≡ t ++ next → Part whole rest a n b m →
+    Written t b m c k → Part whole next a n c k
 further {whole} {rest} {t} {next} e p w =
     record {
       done = p .done ++ t;
@@ -41,7 +42,8 @@ module _ (N : ℕ) (p : ℕ → Bool) where
   abbrev pub from-on : ℕ → List ℕ
   from-on i = keep p (places (N - i) i)
 
-  keep-turn : (n i : ℕ) → keep p (places (suc n) i) ≡ (if p i then i ∷ keep p (places n (i + 1)) else keep p (places n (i + 1)))
+  keep-turn : (n i : ℕ) → keep p (places (suc n) i)
+      ≡ (if p i then i ∷ keep p (places n (i + 1)) else keep p (places n (i + 1)))
   unfolding keep places
   keep-turn n i = refl
 
@@ -61,7 +63,8 @@ module _ (N : ℕ) (p : ℕ → Bool) where
 
   -- each written behind a space
   module _ (h : ℕ → Text) where
-    one-more : (b : Bool) (i : ℕ) (l : List ℕ) → spaced (each h (if b then i ∷ l else l)) ≡ (if b then 32 ∷ h i else []) ++ spaced (each h l)
+    one-more : (b : Bool) (i : ℕ) (l : List ℕ) → spaced (each h (if b then i ∷ l else l))
+        ≡ (if b then 32 ∷ h i else []) ++ spaced (each h l)
     unfolding spaced each flat
     one-more true i l = refl
     one-more false i l = refl
@@ -70,7 +73,8 @@ module _ (N : ℕ) (p : ℕ → Bool) where
     unfolding spaced each flat
     no-more = refl
 
-    pub turn : (i : ℕ) → i < N → spaced (each h (from-on i)) ≡ (if p i then 32 ∷ h i else []) ++ spaced (each h (from-on (i + 1)))
+    pub turn : (i : ℕ) → i < N → spaced (each h (from-on i))
+        ≡ (if p i then 32 ∷ h i else []) ++ spaced (each h (from-on (i + 1)))
     turn i l = ap (λ (k : List ℕ). spaced (each h k)) (from-turn i l) ∙ one-more (p i) i (from-on (i + 1))
 
     pub end : (i : ℕ) → N ≤ i → spaced (each h (from-on i)) ≡ []

@@ -1,5 +1,5 @@
--- What the words of an answer say, whatever they are: names and problems. f is the model file; a section has the positions of its
--- parts in it.
+-- What the words of an answer say, whatever they are: names and problems. f is the model file; a section has the positions
+-- of its parts in it.
 use Prim.Native.Nat.{ℕ}
 use mathlib.Core.List.{List, [], _∷_}
 use lib.Dec.{ltb}
@@ -8,7 +8,19 @@ use Rattle.texts.specs.Lists.{if_then_else_, each}
 use Rattle.texts.specs.Texts.{Text, text}
 use Rattle.texts.specs.Places.{textAt, startFrom}
 use Rattle.model_parts.specs.declared.Section.{Section}
-use Rattle.lint_spec.specs.Findings.{Problem, unreachable-conditions, trigger-condition-mismatch, delayed-write, unreachable-branch, high-fanout, trigger-cycle, freshness-assumption, missing-safety-guard, opposing-writes, unsupported-note}
+use Rattle.lint_spec.specs.Findings.{
+  Problem,
+  unreachable-conditions,
+  trigger-condition-mismatch,
+  delayed-write,
+  unreachable-branch,
+  high-fanout,
+  trigger-cycle,
+  freshness-assumption,
+  missing-safety-guard,
+  opposing-writes,
+  unsupported-note,
+}
 use Rattle.lint_spec.specs.Words.{tiers}
 use Rattle.lint_reach.specs.Sets.{members}
 use Rattle.lint_walk.specs.Raw.{placeM}

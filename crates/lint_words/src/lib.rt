@@ -1,5 +1,5 @@
-// The words, names and messages of `lint`'s answer, which the writers of its lines share. The writers put texts behind the first
-// n bytes of a lent area, as those of `show` do. f is the model file.
+// The words, names and messages of `lint`'s answer, which the writers of its lines share. The writers put texts behind the
+// first n bytes of a lent area, as those of `show` do. f is the model file.
 use model_parts::Section;
 use reasons::Reason;
 ghost use Rattle.notation.specs.Reference.{was, is};
@@ -204,7 +204,9 @@ fn put_entity_message(
     e: usize,
 ) -> usize
     requires { ⌜ (6 ≤ code) × (code < 9) ⌝ }
-    ensures { λ m. ⌜ ((t : Text) → Written (quoted (message (problem-of (name-of (was f) entities e) t code))) (was out) n (is out) m) ⌝ }
+    ensures { λ m.
+        ⌜ ((t : Text) → Written (quoted (message (problem-of (name-of (was f) entities e) t code))) (was out) n (is out)
+        m) ⌝ }
 {
     if code == 6 {
         let a = show::put_byte(out, n, 34);
@@ -230,7 +232,8 @@ pub fn put_message(
     e: usize,
     r: Reason,
 ) -> usize
-    ensures { λ m. ⌜ Written (quoted (message (problem-of (name-of (was f) entities e) (render (was f) r) code))) (was out) n (is out) m ⌝ }
+    ensures { λ m. ⌜ Written (quoted (message (problem-of (name-of (was f) entities e) (render (was f) r) code))) (was out) n
+        (is out) m ⌝ }
 {
     if code < 6 {
         return put_plain_message(out, n, code);

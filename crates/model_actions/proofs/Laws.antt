@@ -10,7 +10,22 @@ use Rattle.model_spec.specs.File.{Got, got, broken, Reader, u16, u32}
 use Rattle.model_spec.specs.Validate.{day}
 use Rattle.model_check.specs.declared.Checked.{Checked}
 use Rattle.model_check.specs.declared.Checked.the-variants as checked
-use Rattle.model_check.specs.Checks.{Check, and-then, _⨾_, by, stay, refuse, refuse-if, skipM, timesM, Declaration, valueM, pairM, predicateM, triggerM}
+use Rattle.model_check.specs.Checks.{
+  Check,
+  and-then,
+  _⨾_,
+  by,
+  stay,
+  refuse,
+  refuse-if,
+  skipM,
+  timesM,
+  Declaration,
+  valueM,
+  pairM,
+  predicateM,
+  triggerM,
+}
 use Rattle.model_actions.specs.Actions.{countM, toggleM, waitM, simpleM, actionM, actionsM}
 
 -- ---- the count
@@ -31,7 +46,9 @@ unfolding and-then
 and-then-assoc (checked.To p n) f g = refl
 and-then-assoc (checked.Refused k) f g = refl
 
-by-and-then : (g : Got ℕ) (f : ℕ → ℕ → Checked) (h : ℕ → ℕ → Checked) → and-then (elim g [ got x q ↦ f x q | broken ↦ checked.Refused 30 ]) h ≡ elim g [ got x q ↦ and-then (f x q) h | broken ↦ checked.Refused 30 ]
+by-and-then : (g : Got ℕ) (f : ℕ → ℕ → Checked) (h : ℕ → ℕ → Checked) →
+    and-then (elim g [ got x q ↦ f x q | broken ↦ checked.Refused 30 ]) h
+    ≡ elim g [ got x q ↦ and-then (f x q) h | broken ↦ checked.Refused 30 ]
 unfolding and-then
 by-and-then (got x q) f h = refl
 by-and-then broken f h = refl
@@ -47,7 +64,8 @@ module _ (s : List ℕ) (p n : ℕ) where
 
 -- ---- lists
 
-pub times-then : (k l : Check) (s : List ℕ) (p n : ℕ) (i : ℕ) → 0 < i → (timesM i k ⨾ l) s p n ≡ (k ⨾ (timesM (i - 1) k ⨾ l)) s p n
+pub times-then : (k l : Check) (s : List ℕ) (p n : ℕ) (i : ℕ) → 0 < i →
+    (timesM i k ⨾ l) s p n ≡ (k ⨾ (timesM (i - 1) k ⨾ l)) s p n
 unfolding timesM
 times-then k l s p n zero h = absurd (omega arith)
 times-then k l s p n (suc i) h = rw (sub-one (suc i)) (assoc s p n k (timesM i k) l)
@@ -98,7 +116,8 @@ pub actions-none : (d : Declaration) (s : List ℕ) (p n : ℕ) → actionsM d 0
 unfolding actionsM refuse
 actions-none d s p n = refl
 
-pub actions-more : (d : Declaration) (left : ℕ) (s : List ℕ) (p n : ℕ) → (left ≡ 0 → ⊥) → actionsM d left s p n ≡ by u16 (λ c. timesM c (actionM d (actionsM d (left - 1)))) s p n
+pub actions-more : (d : Declaration) (left : ℕ) (s : List ℕ) (p n : ℕ) → (left ≡ 0 → ⊥) →
+    actionsM d left s p n ≡ by u16 (λ c. timesM c (actionM d (actionsM d (left - 1)))) s p n
 unfolding actionsM
 actions-more d zero s p n h = absurd (h refl)
 actions-more d (suc left) s p n h = rw (sub-one (suc left))

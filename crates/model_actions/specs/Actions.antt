@@ -5,7 +5,21 @@ use lib.Dec.{ltb, eqb}
 use Rattle.texts.specs.Lists.{if_then_else_}
 use Rattle.model_spec.specs.File.{u8, u16}
 use Rattle.model_check.specs.declared.Checked.the-variants as checked
-use Rattle.model_check.specs.Checks.{Check, _⨾_, by, refuse, skipM, timesM, dayM, Declaration, valueM, pairM, predicateM, predicatesM, triggerM}
+use Rattle.model_check.specs.Checks.{
+  Check,
+  _⨾_,
+  by,
+  refuse,
+  skipM,
+  timesM,
+  dayM,
+  Declaration,
+  valueM,
+  pairM,
+  predicateM,
+  predicatesM,
+  triggerM,
+}
 
 -- one action more; 17: more than 512
 unfoldable pub countM : Check

@@ -135,7 +135,8 @@ pub fn choice_check(
     n: u32,
 ) -> Checked
     requires { ⌜ d .count ≤ 100 ⌝ }
-    ensures { λ r. ⌜ r ≡ choiceM (declaration d (was entities)) (actionsM (declaration d (was entities)) left) (was s) at n ⌝ }
+    ensures { λ r. ⌜ r ≡ choiceM (declaration d (was entities)) (actionsM (declaration d (was entities)) left) (was s)
+        at n ⌝ }
 {
     let x = model_walk::u16_at(s, at);
     let Num::Is(count, start) = x else {

@@ -17,7 +17,33 @@ use Rattle.model_walk.specs.Walk.{found, predicate-size}
 use Rattle.model_walk.proofs.Laws.{is-got, is-broken, u16-out}
 use Rattle.model_check.specs.declared.Checked.{Checked}
 use Rattle.model_check.specs.declared.Checked.the-variants as checked
-use Rattle.model_check.specs.Checks.{Check, and-then, _⨾_, by, stay, refuse, refuse-if, skipM, timesM, place-is, among, listed-at, first-from, Declaration, entity-valueM, valueM, pairM, windowM, predicateM, predicatesM, declaredM, optionalM, trigger-ofM, triggerM, triggersM}
+use Rattle.model_check.specs.Checks.{
+  Check,
+  and-then,
+  _⨾_,
+  by,
+  stay,
+  refuse,
+  refuse-if,
+  skipM,
+  timesM,
+  place-is,
+  among,
+  listed-at,
+  first-from,
+  Declaration,
+  entity-valueM,
+  valueM,
+  pairM,
+  windowM,
+  predicateM,
+  predicatesM,
+  declaredM,
+  optionalM,
+  trigger-ofM,
+  triggerM,
+  triggersM,
+}
 
 -- ---- one check after the other
 
@@ -106,7 +132,8 @@ module _ (s : List ℕ) (p x : ℕ) {a : Num} (e : found a ≡ u16 s p) where
   among-here zero o h w = absurd (omega arith)
   among-here (suc left) {y} o h w = rw (is-got e h, among) (rw (eq-eqb y x w, among))
 
-  pub among-later : (left : ℕ) {y q : ℕ} → 0 < left → a ≡ num.Is y q → (y ≡ x → ⊥) → among left s p x ≡ among (left - 1) s q x
+  pub among-later : (left : ℕ) {y q : ℕ} → 0 < left → a ≡ num.Is y q → (y ≡ x → ⊥) →
+      among left s p x ≡ among (left - 1) s q x
   unfolding among
   among-later zero o h w = absurd (omega arith)
   among-later (suc left) {y} o h w = rw (sub-one (suc left)) (rw (is-got e h, among) (rw (ne-eqb y x w, among)))
@@ -131,7 +158,8 @@ module _ (starts : List ℕ) (x : ℕ) (s : List ℕ) where
   first-here zero i o h = absurd (omega arith)
   first-here (suc left) i o h = rw (h, first-from)
 
-  pub first-later : (left i : ℕ) → 0 < left → place-is s (getD starts i 0) x ≡ false → first-from starts x s left i ≡ first-from starts x s (left - 1) (i + 1)
+  pub first-later : (left i : ℕ) → 0 < left → place-is s (getD starts i 0) x ≡ false →
+      first-from starts x s left i ≡ first-from starts x s (left - 1) (i + 1)
   unfolding first-from
   first-later zero i o h = absurd (omega arith)
   first-later (suc left) i o h = rw (sub-one (suc left)) (rw (h, first-from))
@@ -210,7 +238,8 @@ module _ (d : Declaration) (s : List ℕ) (p n : ℕ) where
         module _ (b : v ≡ d .unavailable → ⊥) where
           pub value-listed : listed-at s (getD (d .starts) i 0 + 2) v ≡ true → entity-valueM d i v s p n ≡ checked.To p n
           unfolding entity-valueM
-          value-listed c = rw (lt-leb (d .count) i h) (rw (ne-eqb v (d .unknown) a) (rw (ne-eqb v (d .unavailable) b) (rw c)))
+          value-listed c =
+              rw (lt-leb (d .count) i h) (rw (ne-eqb v (d .unknown) a) (rw (ne-eqb v (d .unavailable) b) (rw c)))
 
           pub value-8 : listed-at s (getD (d .starts) i 0 + 2) v ≡ false → entity-valueM d i v s p n ≡ checked.Refused 8
           unfolding entity-valueM
@@ -233,11 +262,13 @@ module _ (d : Declaration) (s : List ℕ) (p n : ℕ) where
   unfolding predicatesM
   predicates-is banned = refl
 
-  pub declared-no : (x i : ℕ) → i ≡ first-from (d .starts) x s (d .count) 0 → d .count ≤ i → declaredM d x s p n ≡ checked.Refused 15
+  pub declared-no : (x i : ℕ) → i ≡ first-from (d .starts) x s (d .count) 0 → d .count ≤ i →
+      declaredM d x s p n ≡ checked.Refused 15
   unfolding declaredM
   declared-no x i e h = refuse-yes s p n 15 (ap (leb (d .count)) (sym e) ∙ le-leb (d .count) i h)
 
-  pub declared-yes : (x i : ℕ) → i ≡ first-from (d .starts) x s (d .count) 0 → i < d .count → declaredM d x s p n ≡ checked.To p n
+  pub declared-yes : (x i : ℕ) → i ≡ first-from (d .starts) x s (d .count) 0 → i < d .count →
+      declaredM d x s p n ≡ checked.To p n
   unfolding declaredM
   declared-yes x i e h = refuse-no s p n 15 (ap (leb (d .count)) (sym e) ∙ lt-leb (d .count) i h)
 
@@ -253,7 +284,8 @@ module _ (d : Declaration) (s : List ℕ) (p n : ℕ) where
   unfolding trigger-ofM
   trigger-of-is x f t = refl
 
-  pub trigger-is : triggerM d s p n ≡ by u16 (λ x. by u16 (λ f. by u16 (λ t. skipM 8 ⨾ by u16 (λ m. if eqb m 65535 then trigger-ofM d x f t else stay)))) s p n
+  pub trigger-is : triggerM d s p n ≡ by u16 (λ x. by u16
+      (λ f. by u16 (λ t. skipM 8 ⨾ by u16 (λ m. if eqb m 65535 then trigger-ofM d x f t else stay)))) s p n
   unfolding triggerM
   trigger-is = refl
 

@@ -74,7 +74,8 @@ listed-at s p x = elim (u16 s p) [ got c q ↦ among c s q x | broken ↦ false 
 -- the number of the first of the positions, from the i-th on and `left` of them, that holds the place x
 unfoldable pub first-from : (starts : List ℕ) → (x : ℕ) → List ℕ → (left i : ℕ) → ℕ
 first-from starts x s zero i = i
-first-from starts x s (suc left) i = elim (place-is s (getD starts i 0) x) [ true ↦ i | false ↦ first-from starts x s left (i + 1) ]
+first-from starts x s (suc left) i = elim (place-is s (getD starts i 0) x)
+    [ true ↦ i | false ↦ first-from starts x s left (i + 1) ]
 
 -- the number of the section's first part that begins with the place x, or the count
 abbrev pub number-of : Section → (x : ℕ) → List ℕ → ℕ
@@ -91,7 +92,15 @@ pub record Declaration : Type 0 where
 
 -- the same, of what the code passes on and the positions that it lends
 abbrev pub declaration : Declared → (starts : List ℕ) → Declaration
-declaration d l = record { count = d .count; starts = l; on = d .on; off = d .off; unknown = d .unknown; unavailable = d .unavailable }
+declaration d l = record {
+  count = d .count;
+  starts = l;
+  on = d .on;
+  off = d .off;
+  unknown = d .unknown;
+  unavailable =
+      d .unavailable;
+}
 
 -- 50: a window's days, start and end
 unfoldable pub windowM : Check
@@ -141,7 +150,8 @@ module _ (d : Declaration) where
 
   -- a trigger with a note isn't checked
   unfoldable pub triggerM : Check
-  triggerM = by u16 (λ x. by u16 (λ f. by u16 (λ t. skipM 8 ⨾ by u16 (λ m. if eqb m 65535 then trigger-ofM x f t else stay))))
+  triggerM = by u16
+      (λ x. by u16 (λ f. by u16 (λ t. skipM 8 ⨾ by u16 (λ m. if eqb m 65535 then trigger-ofM x f t else stay))))
 
   unfoldable pub triggersM : ℕ → Check
   triggersM c = timesM c triggerM

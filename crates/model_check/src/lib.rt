@@ -6,7 +6,27 @@ ghost use Rattle.notation.specs.Reference.{was};
 ghost use mathlib.Core.Path.{_≡_};
 ghost use Prim.Native.Nat.{_+_, _≤_, _<_};
 ghost use Rattle.model_spec.specs.Validate.{bad-window};
-ghost use Rattle.model_check.specs.Checks.{declaration, skipM, dayM, place-is, among, listed-at, first-from, number-of, entity-valueM, valueM, pairM, windowM, predicateM, predicatesM, declaredM, optionalM, trigger-ofM, triggerM, triggersM};
+ghost use Rattle.model_check.specs.Checks.{
+  declaration,
+  skipM,
+  dayM,
+  place-is,
+  among,
+  listed-at,
+  first-from,
+  number-of,
+  entity-valueM,
+  valueM,
+  pairM,
+  windowM,
+  predicateM,
+  predicatesM,
+  declaredM,
+  optionalM,
+  trigger-ofM,
+  triggerM,
+  triggersM,
+};
 
 // The position after a part that passed and the actions counted so far, or the refusal.
 pub enum Checked {

@@ -21,7 +21,21 @@ use Rattle.model_index.specs.declared.Status.{Status}
 use Rattle.model_index.specs.declared.Status.the-variants as status
 use Rattle.model_index.specs.declared.Index.{Index}
 use Rattle.model_index.specs.declared.Outline.{Outline}
-use Rattle.model_index.specs.Index.{empty, refusedM, refusalM, wholeM, index-of, file-of, on, on-section, given, closed, restM, bodyM, readM}
+use Rattle.model_index.specs.Index.{
+  empty,
+  refusedM,
+  refusalM,
+  wholeM,
+  index-of,
+  file-of,
+  on,
+  on-section,
+  given,
+  closed,
+  restM,
+  bodyM,
+  readM,
+}
 
 module _ (w : Walked) (f : ℕ → ℕ → File) {x : Walked} (e : x ≡ w) where
   pub on-to : {p n : ℕ} → x ≡ walked.To p n → on w f ≡ f p n
@@ -59,9 +73,41 @@ module _ (s : List ℕ) (p n : ℕ) (i : Index) where
   whole h k = rw (le-ltb 64 n h, le-ltb p (length s) k)
 
 -- a refusal's index, from the section that it repeats
-pub refused-with : (number : ℕ) {x : Section} → x ≡ empty → _≡_ {A = File} (record { status = status.Refused number; index = record { version = 0; texts = x; title = 0; entities = x; events = x; invariants = x; alphabet = x; gaps = x; limits = 0; rules = x } }) (refusedM number)
+pub refused-with : (number : ℕ) {x : Section} → x ≡ empty →
+    _≡_ {A = File} (record {
+      status = status.Refused number;
+      index =
+          record {
+            version = 0;
+            texts = x;
+            title = 0;
+            entities = x;
+            events = x;
+            invariants = x;
+            alphabet = x;
+            gaps = x;
+            limits = 0;
+            rules = x;
+          };
+    }) (refusedM number)
 unfolding refusedM
-refused-with number e = ap {B = File} (λ (x : Section). record { status = status.Refused number; index = record { version = 0; texts = x; title = 0; entities = x; events = x; invariants = x; alphabet = x; gaps = x; limits = 0; rules = x } }) e
+refused-with number e =
+    ap {B = File} (λ (x : Section). record {
+      status = status.Refused number;
+      index =
+          record {
+            version = 0;
+            texts = x;
+            title = 0;
+            entities = x;
+            events = x;
+            invariants = x;
+            alphabet = x;
+            gaps = x;
+            limits = 0;
+            rules = x;
+          };
+    }) e
 
 -- a file by its outline's status
 module _ (o : Outline) (t e v i a g r : List ℕ) where
@@ -72,18 +118,41 @@ module _ (o : Outline) (t e v i a g r : List ℕ) where
   pub file-refusal : {k : ℕ} → o ≡ refusalM k → file-of o t e v i a g r ≡ refusedM k
   file-refusal h = file-refused (ap (λ (x : Outline). x .status) h)
 
-  pub file-read : o .status ≡ status.Read → file-of o t e v i a g r ≡ wholeM (index-of (o .front) t e v i (section (o .alphabet) a) (section (o .gaps) g) (o .limits) (section (o .rules) r))
+  pub file-read : o .status ≡ status.Read → file-of o t e v i a g r
+      ≡ wholeM (index-of (o .front) t e v i (section (o .alphabet) a) (section (o .gaps) g) (o .limits)
+      (section (o .rules) r))
   unfolding file-of
   file-read h = rw (h, file-of)
 
   -- from the sections
   pub file-made : o .status ≡ status.Read → {x₁ x₂ x₃ x₄ x₅ x₆ x₇ : Section} →
       x₁ ≡ section (o .front .texts) t → x₂ ≡ section (o .front .entities) e → x₃ ≡ section (o .front .events) v →
-      x₄ ≡ section (o .front .invariants) i → x₅ ≡ section (o .alphabet) a → x₆ ≡ section (o .gaps) g → x₇ ≡ section (o .rules) r →
-      _≡_ {A = File} (record { status = o .status; index = record { version = o .front .version; texts = x₁; title = o .front .title; entities = x₂; events = x₃; invariants = x₄; alphabet = x₅; gaps = x₆; limits = o .limits; rules = x₇ } }) (file-of o t e v i a g r)
+      x₄ ≡ section (o .front .invariants) i → x₅ ≡ section (o .alphabet) a → x₆ ≡ section (o .gaps) g →
+      x₇ ≡ section (o .rules) r →
+      _≡_ {A = File} (record {
+        status = o .status;
+        index =
+            record {
+              version = o .front .version;
+              texts = x₁;
+              title = o .front .title;
+              entities = x₂;
+              events = x₃;
+              invariants =
+                  x₄;
+              alphabet = x₅;
+              gaps = x₆;
+              limits = o .limits;
+              rules = x₇;
+            };
+      }) (file-of o t e v i a g r)
   file-made h e₁ e₂ e₃ e₄ e₅ e₆ e₇ =
       rw (e₁, e₂, e₃, e₄, e₅, e₆, e₇)
-      (ap {B = File} (λ (x : Status). record { status = x; index = index-of (o .front) t e v i (section (o .alphabet) a) (section (o .gaps) g) (o .limits) (section (o .rules) r) }) h
+      (ap {B = File} (λ (x : Status). record {
+        status = x;
+        index =
+            index-of (o .front) t e v i (section (o .alphabet) a) (section (o .gaps) g) (o .limits) (section (o .rules) r);
+      }) h
       ∙ sym (file-read h))
 
 pub rest-is : (s : List ℕ) (c : ℕ) (f : Section → Section → ℕ → Section → Index) (p₃ n₃ : ℕ) → restM s c f p₃ n₃ ≡ (
@@ -103,7 +172,20 @@ pub body-is : (s : List ℕ) (v : ℕ) (texts : Section) (at : ℕ) → bodyM s 
     given (sectionM (partM (texts .count) part.Entity) s p₀ 0) λ entities.
     on-section (sectionM (partM (texts .count) part.Event) s p₁ 0) λ events p₂ n₂.
     on-section (sectionM (partM (texts .count) part.Invariant) s p₂ n₂) λ invariants p₃ n₃.
-    restM s (texts .count) (λ alphabet gaps limits rules. record { version = v; texts = texts; title = at; entities = entities; events = events; invariants = invariants; alphabet = alphabet; gaps = gaps; limits = limits; rules = rules }) p₃ n₃
+    restM s (texts .count) (λ alphabet gaps limits rules. record {
+      version = v;
+      texts = texts;
+      title = at;
+      entities =
+          entities;
+      events = events;
+      invariants = invariants;
+      alphabet = alphabet;
+      gaps = gaps;
+      limits = limits;
+      rules =
+          rules;
+    }) p₃ n₃
     )
 unfolding bodyM
 body-is s v texts at = refl
@@ -118,6 +200,7 @@ module _ (s : List ℕ) where
     unfolding readM
     no-version g = rw (le-ltb 32768 (length s) h, is-broken e g, readM)
 
-    pub version-is : {v p : ℕ} → x ≡ num.Is v p → readM s ≡ on (textsM s p) (λ p₁ n₁. given (sectionM (partM 0 part.Text) s p 0) λ texts. bodyM s v texts p₁)
+    pub version-is : {v p : ℕ} → x ≡ num.Is v p → readM s
+        ≡ on (textsM s p) (λ p₁ n₁. given (sectionM (partM 0 part.Text) s p 0) λ texts. bodyM s v texts p₁)
     unfolding readM
     version-is g = rw (le-ltb 32768 (length s) h, is-got e g, readM)

@@ -51,7 +51,18 @@ use Rattle.model_walk.specs.declared.Walked.{Walked}
 use Rattle.model_walk.specs.declared.Walked.the-variants as walked
 use Rattle.model_walk.specs.Walk.{capped, seen, Walk, placeM, bytesM, or-zerosM}
 use Rattle.model_walk.proofs.Laws.{bind-got, bind-broken, u32-in, u32-out}
-use Rattle.model_walk.proofs.Refines.{Sees, bind, last, quiet, marks, sees-counted, sees-place, sees-u32, sees-zeros, bytes-sum}
+use Rattle.model_walk.proofs.Refines.{
+  Sees,
+  bind,
+  last,
+  quiet,
+  marks,
+  sees-counted,
+  sees-place,
+  sees-u32,
+  sees-zeros,
+  bytes-sum,
+}
 use Rattle.model_parts.specs.declared.Section.{Section}
 use Rattle.model_parts.specs.declared.Part.the-variants as part
 use Rattle.model_parts.specs.Parts.{partM, sectionM, textM, entityM, eventM, invariantM, inputM, ruleM}
@@ -73,7 +84,8 @@ module _ {A : Type 0} (r : Reader A) (s : List ℕ) where
   times-length : (i p : ℕ) (l : List A) (q : ℕ) → times i r s p ≡ got l q → length l ≡ i
   unfolding times give
   times-length zero p l q h = let z : l ≡ [] = cc in ap length z
-  times-length (suc i) p l q h = let m = more r s i p h in ap length (m .both) ∙ ap suc (times-length i (m .after) (m .others) q (m .are-others))
+  times-length (suc i) p l q h = let m = more r s i p h in
+      ap length (m .both) ∙ ap suc (times-length i (m .after) (m .others) q (m .are-others))
 
   pub record Counted (p q : ℕ) (l : List A) : Type 0 where
     pub c : ℕ
@@ -114,12 +126,19 @@ module _ (s : List ℕ) (size : ℕ) where
     on-bind w e f h = cases (r s p) refl
       where
         cases : (g : Got A) → r s p ≡ g → Finds s (on w f) (decoded ((r >>= k) s p) size)
-        cases (got a q) d = subst (λ (x : File). Finds s x (decoded ((r >>= k) s p) size)) (sym (ap (λ (y : Walked). on y f) (e ∙ ap (seen v n) d))) (subst (λ (y : Got Model). Finds s (f q (capped (n + v a))) (decoded y size)) (sym (bind-got r k d)) (h a q d))
-        cases broken d = subst (λ (x : File). Finds s x (decoded ((r >>= k) s p) size)) (sym (ap (λ (y : Walked). on y f) (e ∙ ap (seen v n) d))) (subst (λ (y : Got Model). Finds s (refusedM 30) (decoded y size)) (sym (bind-broken r k d)) refl)
+        cases (got a q) d = subst (λ (x : File). Finds s x (decoded ((r >>= k) s p) size))
+            (sym (ap (λ (y : Walked). on y f) (e ∙ ap (seen v n) d)))
+            (subst (λ (y : Got Model). Finds s (f q (capped (n + v a))) (decoded y size)) (sym (bind-got r k d)) (h a q d))
+        cases broken d = subst (λ (x : File). Finds s x (decoded ((r >>= k) s p) size))
+            (sym (ap (λ (y : Walked). on y f) (e ∙ ap (seen v n) d)))
+            (subst (λ (y : Got Model). Finds s (refusedM 30) (decoded y size)) (sym (bind-broken r k d)) refl)
 
   -- a section: its reader is a count and its parts
-  pub sec-bind : {A : Type 0} (v : A → ℕ) (u : List A → ℕ) → u [] ≡ 0 → ((x : A) (l : List A) → u (x ∷ l) ≡ v x + u l) → (r : Reader A) (j : Walk) → Sees v r j → (n p : ℕ) (k : List A → Reader Model) (f : Section → ℕ → ℕ → File) →
-      ((l : List A) (q : ℕ) → sectionM j s p (capped n) .end ≡ walked.To q (capped (n + u l)) → Holds r s (sectionM j s p (capped n)) l → Finds s (f (sectionM j s p (capped n)) q (capped (n + u l))) (decoded (k l s q) size)) →
+  pub sec-bind : {A : Type 0} (v : A → ℕ) (u : List A → ℕ) → u [] ≡ 0 → ((x : A) (l : List A) → u (x ∷ l) ≡ v x + u l) →
+      (r : Reader A) (j : Walk) → Sees v r j → (n p : ℕ) (k : List A → Reader Model) (f : Section → ℕ → ℕ → File) →
+      ((l : List A) (q : ℕ) → sectionM j s p (capped n) .end ≡ walked.To q (capped (n + u l)) →
+      Holds r s (sectionM j s p (capped n)) l → Finds s (f (sectionM j s p (capped n)) q (capped (n + u l)))
+      (decoded (k l s q) size)) →
       Finds s (on-section (sectionM j s p (capped n)) f) (decoded ((counted r >>= k) s p) size)
   unfolding on-section seen
   sec-bind v u z c r j e n p k f h =
@@ -129,7 +148,8 @@ module _ (s : List ℕ) (size : ℕ) where
 
 -- ---- what a text section's reader found
 
-bind-assoc : {A B C : Type 0} (r : Reader A) (f : A → Reader B) (k : B → Reader C) (s : List ℕ) (p : ℕ) → ((r >>= f) >>= k) s p ≡ (r >>= λ a. f a >>= k) s p
+bind-assoc : {A B C : Type 0} (r : Reader A) (f : A → Reader B) (k : B → Reader C) (s : List ℕ) (p : ℕ) →
+    ((r >>= f) >>= k) s p ≡ (r >>= λ a. f a >>= k) s p
 unfolding _>>=_
 bind-assoc {A} r f k s p = cases (r s p)
   where
@@ -147,7 +167,8 @@ module _ {A : Type 0} (r : Reader A) (t : A → Bool) (s : List ℕ) (p : ℕ) w
   unfolding require
   passed {a} {q} e = cases (r s p) refl
     where
-      tested : (x : A) (o : ℕ) → r s p ≡ got x o → (b : Bool) → t x ≡ b → (if b then got x o else broken) ≡ got a q → Passed a q
+      tested : (x : A) (o : ℕ) → r s p ≡ got x o → (b : Bool) → t x ≡ b → (if b then got x o else broken) ≡ got a q →
+          Passed a q
       tested x o d true b h = let z : x ≡ a = cc in record { read = d ∙ h; holds = subst (λ (y : A). t y ≡ true) z b }
       tested x o d false b h = let z : _≡_ {A = ℕ} 0 1 = cc in absurd (omega arith)
 
@@ -159,11 +180,13 @@ pub and-true : (a b : Bool) → (a && b) ≡ true → a ≡ true
 and-true true b h = refl
 and-true false b h = h
 
-texts-passed : (s : List ℕ) (p : ℕ) {ts : List Text} {q : ℕ} → texts s p ≡ got ts q → Passed (counted one-text) (λ l. ascending l && has-fixed l) s p ts q
+texts-passed : (s : List ℕ) (p : ℕ) {ts : List Text} {q : ℕ} → texts s p ≡ got ts q →
+    Passed (counted one-text) (λ l. ascending l && has-fixed l) s p ts q
 unfolding texts
 texts-passed s p e = passed (counted one-text) (λ l. ascending l && has-fixed l) s p e
 
-entities-passed : (ts : List Text) (s : List ℕ) (p : ℕ) {es : List Entity} {q : ℕ} → entities ts s p ≡ got es q → Passed (counted (entity ts)) (λ l. ascending (each (λ e. e .name) l)) s p es q
+entities-passed : (ts : List Text) (s : List ℕ) (p : ℕ) {es : List Entity} {q : ℕ} → entities ts s p ≡ got es q →
+    Passed (counted (entity ts)) (λ l. ascending (each (λ e. e .name) l)) s p es q
 unfolding entities
 entities-passed ts s p e = passed (counted (entity ts)) (λ l. ascending (each (λ e. e .name) l)) s p e
 
@@ -191,11 +214,13 @@ flat-nil : {A : Type 0} (f : A → List Text) → length (flat f []) ≡ 0
 unfolding flat
 flat-nil f = refl
 
-flat-more : {A : Type 0} (f : A → List Text) (x : A) (l : List A) → length (flat f (x ∷ l)) ≡ length (f x) + length (flat f l)
+flat-more : {A : Type 0} (f : A → List Text) (x : A) (l : List A) →
+    length (flat f (x ∷ l)) ≡ length (f x) + length (flat f l)
 unfolding flat
 flat-more f x l = length-append (f x) (flat f l)
 
-in-model : (m : Model) → length (notes-of m) ≡ length (flat of-invariant (m .scenario .invariants)) + length (flat of-rule (m .rules))
+in-model : (m : Model) → length (notes-of m) ≡ length (flat of-invariant (m .scenario .invariants)) + length
+    (flat of-rule (m .rules))
 unfolding notes-of
 in-model m = length-append (flat of-invariant (m .scenario .invariants)) (flat of-rule (m .rules))
 
@@ -207,11 +232,13 @@ capped-test n = elim (decLt 64 n) [
 ]
 
 -- the end of the file
-ends : (s : List ℕ) (p n : ℕ) (i : Index) (m : Model) → n ≡ length (notes-of m) → Indexed s i m → Finds s (closed s p (capped n) i) (decoded (got m p) (length s))
+ends : (s : List ℕ) (p n : ℕ) (i : Index) (m : Model) → n ≡ length (notes-of m) → Indexed s i m →
+    Finds s (closed s p (capped n) i) (decoded (got m p) (length s))
 unfolding closed decoded
 ends s p n i m e x = rw (capped-test n, e) (cases (ltb 64 (length (notes-of m))) (ltb p (length s)))
   where
-    cases : (a b : Bool) → Finds s (if a then refusedM 30 else if b then refusedM 31 else record { status = status.Read; index = i }) (if a then refused 30 else if b then refused 31 else answer m)
+    cases : (a b : Bool) → Finds s (if a then refusedM 30 else if b then refusedM 31
+        else record { status = status.Read; index = i }) (if a then refused 30 else if b then refused 31 else answer m)
     cases true b = refl
     cases false true = refl
     cases false false = (refl, x)
@@ -229,7 +256,19 @@ body-with : (c : ℕ) (s : List ℕ) (v : ℕ) (x : Section) (at : ℕ) → x .c
     on (bytesM 16 s p₅ n₅) λ p₆ n₆.
     on-section (sectionM (partM c part.Rule) s p₆ n₆) λ rules p₇ n₇.
     on (or-zerosM (bytesM 8) s p₇ n₇) λ p₈ n₈.
-    closed s p₈ n₈ (record { version = v; texts = x; title = at; entities = entities; events = events; invariants = invariants; alphabet = alphabet; gaps = gaps; limits = p₅; rules = rules })
+    closed s p₈ n₈ (record {
+      version = v;
+      texts = x;
+      title = at;
+      entities = entities;
+      events = events;
+      invariants =
+          invariants;
+      alphabet = alphabet;
+      gaps = gaps;
+      limits = p₅;
+      rules = rules;
+    })
     )
 unfolding bodyM restM
 body-with c s v x at e = subst (λ (d : ℕ). bodyM s v x at ≡ (
@@ -243,7 +282,19 @@ body-with c s v x at e = subst (λ (d : ℕ). bodyM s v x at ≡ (
     on (bytesM 16 s p₅ n₅) λ p₆ n₆.
     on-section (sectionM (partM d part.Rule) s p₆ n₆) λ rules p₇ n₇.
     on (or-zerosM (bytesM 8) s p₇ n₇) λ p₈ n₈.
-    closed s p₈ n₈ (record { version = v; texts = x; title = at; entities = entities; events = events; invariants = invariants; alphabet = alphabet; gaps = gaps; limits = p₅; rules = rules })
+    closed s p₈ n₈ (record {
+      version = v;
+      texts = x;
+      title = at;
+      entities = entities;
+      events = events;
+      invariants =
+          invariants;
+      alphabet = alphabet;
+      gaps = gaps;
+      limits = p₅;
+      rules = rules;
+    })
     )) e refl
 
 -- what follows the head
@@ -260,19 +311,33 @@ after h =
 
 module _ (s : List ℕ) (ts : List Text) (v at : ℕ) (x : Section) where
   body-says : ascending ts ≡ true → x .count ≡ length ts → Reads texts s 4 ts → Holds one-text s x ts →
-      Finds s (bodyM s v x at) (decoded ((place ts >>= λ t. entities ts >>= λ es. after (record { version = v; texts = ts; title = t; entities = es })) s at) (length s))
+      Finds s (bodyM s v x at)
+      (decoded ((place ts >>= λ t. entities ts >>= λ es. after
+      (record { version = v; texts = ts; title = t; entities = es })) s at) (length s))
   unfolding partM given capped after events give
   body-says asc e rt ht =
-      subst (λ (y : File). Finds s y (decoded ((place ts >>= λ t. entities ts >>= λ es. after (record { version = v; texts = ts; title = t; entities = es })) s at) (length s))) (sym (body-with (length ts) s v x at e)) (
+      subst (λ (y : File). Finds s y
+      (decoded ((place ts >>= λ t. entities ts >>= λ es. after
+      (record { version = v; texts = ts; title = t; entities = es })) s at) (length s)))
+      (sym (body-with (length ts) s v x at e)) (
       on-bind s (length s) quiet 0 (place ts) at _ _ (sees-place ts 0 s at) _ λ t p₀ at-title.
       on-bind s (length s) quiet 0 (entities ts) p₀ _ _ (sees-entities ts asc s p₀) _ λ es p₁ are-entities.
-      sec-bind s (length s) quiet quiet refl (λ x l. refl) (event ts) (eventM (length ts)) (sees-event ts) 0 p₁ _ _ λ evs p₂ _ h-events.
-      sec-bind s (length s) (marks of-invariant) (marks (flat of-invariant)) (flat-nil of-invariant) (flat-more of-invariant) (invariant ts) (invariantM (length ts)) (sees-invariant ts) (0 + 0) p₂ _ _ λ is p₃ _ h-invariants.
-      sec-bind s (length s) quiet quiet refl (λ x l. refl) (input ts) (inputM (length ts)) (sees-input ts) (0 + 0 + length (flat of-invariant is)) p₃ _ _ λ al p₄ _ h-alphabet.
-      sec-bind s (length s) quiet quiet refl (λ x l. refl) u32 (bytesM 4) sees-u32 (0 + 0 + length (flat of-invariant is) + 0) p₄ _ _ λ gs p₅ _ h-gaps.
-      on-bind s (length s) quiet (0 + 0 + length (flat of-invariant is) + 0 + 0) limits p₅ _ _ (sees-limits (0 + 0 + length (flat of-invariant is) + 0 + 0) s p₅) _ λ ls p₆ at-limits.
-      sec-bind s (length s) (marks of-rule) (marks (flat of-rule)) (flat-nil of-rule) (flat-more of-rule) (automation ts) (ruleM (length ts)) (sees-rule ts) (0 + 0 + length (flat of-invariant is) + 0 + 0 + 0) p₆ _ _ λ rs p₇ rules-end h-rules.
-      on-bind s (length s) quiet (0 + 0 + length (flat of-invariant is) + 0 + 0 + 0 + length (flat of-rule rs)) (or-zeros midnight start) p₇ _ _ (sees-zeros quiet midnight start (bytesM 8) refl sees-start (0 + 0 + length (flat of-invariant is) + 0 + 0 + 0 + length (flat of-rule rs)) s p₇) _ λ st p₈ at-start.
+      sec-bind s (length s) quiet quiet refl (λ x l. refl) (event ts) (eventM (length ts)) (sees-event ts)
+      0 p₁ _ _ λ evs p₂ _ h-events.
+      sec-bind s (length s) (marks of-invariant) (marks (flat of-invariant)) (flat-nil of-invariant) (flat-more of-invariant)
+      (invariant ts) (invariantM (length ts)) (sees-invariant ts) (0 + 0) p₂ _ _ λ is p₃ _ h-invariants.
+      sec-bind s (length s) quiet quiet refl (λ x l. refl) (input ts) (inputM (length ts)) (sees-input ts)
+      (0 + 0 + length (flat of-invariant is)) p₃ _ _ λ al p₄ _ h-alphabet.
+      sec-bind s (length s) quiet quiet refl (λ x l. refl) u32 (bytesM 4) sees-u32
+      (0 + 0 + length (flat of-invariant is) + 0) p₄ _ _ λ gs p₅ _ h-gaps.
+      on-bind s (length s) quiet (0 + 0 + length (flat of-invariant is) + 0 + 0) limits p₅ _ _
+      (sees-limits (0 + 0 + length (flat of-invariant is) + 0 + 0) s p₅) _ λ ls p₆ at-limits.
+      sec-bind s (length s) (marks of-rule) (marks (flat of-rule)) (flat-nil of-rule) (flat-more of-rule) (automation ts)
+      (ruleM (length ts)) (sees-rule ts) (0 + 0 + length (flat of-invariant is) + 0 + 0 + 0)
+      p₆ _ _ λ rs p₇ rules-end h-rules.
+      on-bind s (length s) quiet (0 + 0 + length (flat of-invariant is) + 0 + 0 + 0 + length (flat of-rule rs))
+      (or-zeros midnight start) p₇ _ _ (sees-zeros quiet midnight start (bytesM 8) refl sees-start
+      (0 + 0 + length (flat of-invariant is) + 0 + 0 + 0 + length (flat of-rule rs)) s p₇) _ λ st p₈ at-start.
       ends s p₈ (0 + 0 + length (flat of-invariant is) + 0 + 0 + 0 + length (flat of-rule rs) + 0) _
       (made (record { version = v; texts = ts; title = t; entities = es }) evs is al gs ls rs st)
       (omega (arith, in-model (made (record { version = v; texts = ts; title = t; entities = es }) evs is al gs ls rs st)))
@@ -282,7 +347,8 @@ module _ (s : List ℕ) (ts : List Text) (v at : ℕ) (x : Section) where
         each-text = ht;
         version = refl;
         title = (p₀, at-title);
-        entities = holds quiet (entity ts) (entityM (length ts)) (sees-entity ts) s p₀ 0 (entities-passed ts s p₀ are-entities .read);
+        entities = holds quiet (entity ts) (entityM (length ts)) (sees-entity ts) s p₀ 0
+            (entities-passed ts s p₀ are-entities .read);
         names = entities-passed ts s p₀ are-entities .holds;
         events = h-events;
         invariants = h-invariants;
@@ -298,7 +364,8 @@ module _ (s : List ℕ) (ts : List Text) (v at : ℕ) (x : Section) where
 
 -- ---- the whole file
 
-bind-same : {A B : Type 0} (r : Reader A) (f g : A → Reader B) → ((a : A) (s : List ℕ) (p : ℕ) → f a s p ≡ g a s p) → (s : List ℕ) (p : ℕ) → (r >>= f) s p ≡ (r >>= g) s p
+bind-same : {A B : Type 0} (r : Reader A) (f g : A → Reader B) → ((a : A) (s : List ℕ) (p : ℕ) → f a s p ≡ g a s p) →
+    (s : List ℕ) (p : ℕ) → (r >>= f) s p ≡ (r >>= g) s p
 unfolding _>>=_
 bind-same {A} r f g h s p = cases (r s p)
   where
@@ -341,9 +408,12 @@ model-flat s p =
     model-is s p
     ∙ bind-assoc u32 (λ v. head₁ v) after s p
     ∙ bind-same u32 (λ v. head₁ v >>= after) (λ v. flat₁ v) (λ v s p. bind-assoc texts (λ ts. head₂ v ts) after s p
-    ∙ bind-same texts (λ ts. head₂ v ts >>= after) (λ ts. flat₂ v ts) (λ ts s p. bind-assoc (place ts) (λ t. head₃ v ts t) after s p
-    ∙ bind-same (place ts) (λ t. head₃ v ts t >>= after) (λ t. flat₃ v ts t) (λ t s p. bind-assoc (entities ts) (λ es. give (headed v ts t es)) after s p
-    ∙ bind-same (entities ts) (λ es. give (headed v ts t es) >>= after) (λ es. after (headed v ts t es)) (λ es s p. given-after (headed v ts t es) s p) s p) s p) s p) s p
+    ∙ bind-same texts (λ ts. head₂ v ts >>= after) (λ ts. flat₂ v ts)
+    (λ ts s p. bind-assoc (place ts) (λ t. head₃ v ts t) after s p
+    ∙ bind-same (place ts) (λ t. head₃ v ts t >>= after) (λ t. flat₃ v ts t)
+    (λ t s p. bind-assoc (entities ts) (λ es. give (headed v ts t es)) after s p
+    ∙ bind-same (entities ts) (λ es. give (headed v ts t es) >>= after) (λ es. after (headed v ts t es))
+    (λ es s p. given-after (headed v ts t es) s p) s p) s p) s p) s p
 
 u32-next : (s : List ℕ) {v p : ℕ} → u32 s 0 ≡ got v p → p ≡ 4
 u32-next s {v} {p} e = elim (decLt (length s) 4) [
@@ -355,11 +425,13 @@ read-short : (s : List ℕ) → u32 s 0 ≡ broken → length s ≤ 32768 → re
 unfolding readM
 read-short s e h = rw (le-ltb 32768 (length s) h, e, readM)
 
-read-on : (s : List ℕ) {v p : ℕ} → u32 s 0 ≡ got v p → length s ≤ 32768 → readM s ≡ on (textsM s p) (λ p₁ n₁. bodyM s v (sectionM (partM 0 part.Text) s p 0) p₁)
+read-on : (s : List ℕ) {v p : ℕ} → u32 s 0 ≡ got v p → length s ≤ 32768 →
+    readM s ≡ on (textsM s p) (λ p₁ n₁. bodyM s v (sectionM (partM 0 part.Text) s p 0) p₁)
 unfolding readM given
 read-on s e h = rw (le-ltb 32768 (length s) h, e, readM)
 
-text-holds : (s : List ℕ) (p : ℕ) {ts : List Text} {q : ℕ} → texts s p ≡ got ts q → Holds one-text s (sectionM (partM 0 part.Text) s p 0) ts
+text-holds : (s : List ℕ) (p : ℕ) {ts : List Text} {q : ℕ} → texts s p ≡ got ts q →
+    Holds one-text s (sectionM (partM 0 part.Text) s p 0) ts
 unfolding partM capped
 text-holds s p e = holds quiet one-text textM sees-text s p 0 (texts-passed s p e .read)
 
@@ -373,12 +445,16 @@ small s h = subst (λ (y : Got Model). Finds s (readM s) (decoded y (length s)))
     cases : (g : Got ℕ) → u32 s 0 ≡ g → Finds s (readM s) (decoded ((u32 >>= λ v. flat₁ v) s 0) (length s))
     cases (got v p) e =
         subst (λ (y : File). Finds s y (decoded ((u32 >>= λ v. flat₁ v) s 0) (length s))) (sym (read-on s e h))
-        (subst (λ (y : Got Model). Finds s (on (textsM s p) (λ p₁ n₁. bodyM s v (sectionM (partM 0 part.Text) s p 0) p₁)) (decoded y (length s))) (sym (bind-got u32 (λ v. flat₁ v) e))
-        (on-bind s (length s) quiet 0 texts p (λ ts. flat₂ v ts) (textsM s p) (sees-texts s p) (λ p₁ n₁. bodyM s v (sectionM (partM 0 part.Text) s p 0) p₁)
-        (λ ts q d. body-says s ts v q (sectionM (partM 0 part.Text) s p 0) (texts-ascend s p d) (text-holds s p d .counts) (q, ap (texts s) (sym (u32-next s e)) ∙ d) (text-holds s p d))))
+        (subst (λ (y : Got Model). Finds s (on (textsM s p) (λ p₁ n₁. bodyM s v (sectionM (partM 0 part.Text) s p 0) p₁))
+        (decoded y (length s))) (sym (bind-got u32 (λ v. flat₁ v) e))
+        (on-bind s (length s) quiet 0 texts p (λ ts. flat₂ v ts) (textsM s p) (sees-texts s p)
+        (λ p₁ n₁. bodyM s v (sectionM (partM 0 part.Text) s p 0) p₁)
+        (λ ts q d. body-says s ts v q (sectionM (partM 0 part.Text) s p 0) (texts-ascend s p d) (text-holds s p d .counts)
+        (q, ap (texts s) (sym (u32-next s e)) ∙ d) (text-holds s p d))))
     cases broken e =
         subst (λ (y : File). Finds s y (decoded ((u32 >>= λ v. flat₁ v) s 0) (length s))) (sym (read-short s e h))
-        (subst (λ (y : Got Model). Finds s (refusedM 30) (decoded y (length s))) (sym (bind-broken u32 (λ v. flat₁ v) e)) refl)
+        (subst (λ (y : Got Model). Finds s (refusedM 30) (decoded y (length s))) (sym (bind-broken u32 (λ v. flat₁ v) e))
+        refl)
 
 whole : (s : List ℕ) → Finds s (readM s) (decode s)
 unfolding decode

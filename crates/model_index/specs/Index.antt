@@ -48,7 +48,15 @@ no-extent = record { count = 0; end = walked.Broken }
 abbrev pub refusalM : ℕ → Outline
 refusalM n = record {
   status = status.Refused n;
-  front = record { version = 0; texts = no-extent; title = 0; entities = no-extent; events = no-extent; invariants = no-extent };
+  front = record {
+    version = 0;
+    texts = no-extent;
+    title = 0;
+    entities = no-extent;
+    events = no-extent;
+    invariants =
+        no-extent;
+  };
   alphabet = no-extent;
   gaps = no-extent;
   limits = 0;
@@ -75,7 +83,8 @@ unfoldable pub closed : List ℕ → ℕ → ℕ → Index → File
 closed s p n i = if ltb 64 n then refusedM 30 else if ltb p (length s) then refusedM 31 else wholeM i
 
 -- an index from the front, the positions of its sections, and what follows it
-abbrev pub index-of : Front → (texts entities events invariants : List ℕ) → (alphabet gaps : Section) → (limits : ℕ) → (rules : Section) → Index
+abbrev pub index-of : Front → (texts entities events invariants : List ℕ) → (alphabet gaps : Section) → (limits : ℕ) →
+    (rules : Section) → Index
 index-of f t e v i alphabet gaps limits rules = record {
   version = f .version;
   texts = section (f .texts) t;
@@ -92,7 +101,8 @@ index-of f t e v i alphabet gaps limits rules = record {
 -- the file of an outline and its positions; a refused one has none
 unfoldable pub file-of : Outline → (texts entities events invariants alphabet gaps rules : List ℕ) → File
 file-of o t e v i a g r = elim (o .status) [
-  | status.Read ↦ wholeM (index-of (o .front) t e v i (section (o .alphabet) a) (section (o .gaps) g) (o .limits) (section (o .rules) r))
+  | status.Read ↦
+      wholeM (index-of (o .front) t e v i (section (o .alphabet) a) (section (o .gaps) g) (o .limits) (section (o .rules) r))
   | status.Refused n ↦ refusedM n
 ]
 
@@ -120,7 +130,20 @@ bodyM s v texts at =
     given (sectionM (partM (texts .count) part.Entity) s p₀ 0) λ entities.
     on-section (sectionM (partM (texts .count) part.Event) s p₁ 0) λ events p₂ n₂.
     on-section (sectionM (partM (texts .count) part.Invariant) s p₂ n₂) λ invariants p₃ n₃.
-    restM s (texts .count) (λ alphabet gaps limits rules. record { version = v; texts = texts; title = at; entities = entities; events = events; invariants = invariants; alphabet = alphabet; gaps = gaps; limits = limits; rules = rules }) p₃ n₃
+    restM s (texts .count) (λ alphabet gaps limits rules. record {
+      version = v;
+      texts = texts;
+      title = at;
+      entities =
+          entities;
+      events = events;
+      invariants = invariants;
+      alphabet = alphabet;
+      gaps = gaps;
+      limits = limits;
+      rules =
+          rules;
+    }) p₃ n₃
 
 unfoldable pub readM : List ℕ → File
 readM s =

@@ -8,7 +8,21 @@ use Rattle.texts.specs.Lists.{each}
 use Rattle.texts.specs.Texts.{Text}
 use Rattle.model_spec.specs.Answer.{Answer, answer, refused}
 use Rattle.model_spec.specs.Model.{Model, midnight}
-use Rattle.model_spec.specs.File.{u32, or-zeros, start, limits, texts, one-text, place, entity, event, invariant, input, automation, ascending}
+use Rattle.model_spec.specs.File.{
+  u32,
+  or-zeros,
+  start,
+  limits,
+  texts,
+  one-text,
+  place,
+  entity,
+  event,
+  invariant,
+  input,
+  automation,
+  ascending,
+}
 use Rattle.model_walk.specs.declared.Walked.the-variants as walked
 use Rattle.model_parts.specs.declared.Section.{Section}
 use Rattle.model_parts.specs.Stand.{Reads, Stand}

@@ -140,7 +140,8 @@ pub fn file_of(
     gaps: &[usize; 100],
     rules: &[usize; 100],
 ) -> File
-    ensures { λ r. ⌜ r ≡ file-of x (was texts) (was entities) (was events) (was invariants) (was alphabet) (was gaps) (was rules) ⌝ }
+    ensures { λ r. ⌜ r ≡ file-of x (was texts) (was entities) (was events) (was invariants) (was alphabet) (was gaps)
+        (was rules) ⌝ }
 {
     let status = x.status;
     if let Status::Refused(number) = status {
@@ -174,7 +175,9 @@ fn rest_at(
     rules: &mut [usize; 100],
 ) -> Outline
     requires { ⌜ Zeros (now alphabet) (now gaps) (now rules) ⌝ }
-    ensures { λ r. ⌜ ((t e v i : List ℕ) → file-of r t e v i (is alphabet) (is gaps) (is rules) ≡ restM (was s) (front .texts .count) (index-of front t e v i) at notes) ⌝ }
+    ensures { λ r.
+        ⌜ ((t e v i : List ℕ) → file-of r t e v i (is alphabet) (is gaps) (is rules)
+        ≡ restM (was s) (front .texts .count) (index-of front t e v i) at notes) ⌝ }
 {
     let count = front.texts.count;
     let a = model_parts::section_into(s, count, Part::Input, at, notes, alphabet);
@@ -230,7 +233,9 @@ fn body_at(
     rules: &mut [usize; 100],
 ) -> Outline
     requires { ⌜ Zeros (now entities) (now events) (now invariants) × Zeros (now alphabet) (now gaps) (now rules) ⌝ }
-    ensures { λ r. ⌜ ((t : List ℕ) → file-of r t (is entities) (is events) (is invariants) (is alphabet) (is gaps) (is rules) ≡ bodyM (was s) version (section texts t) at) ⌝ }
+    ensures { λ r.
+        ⌜ ((t : List ℕ) → file-of r t (is entities) (is events) (is invariants) (is alphabet) (is gaps) (is rules)
+        ≡ bodyM (was s) version (section texts t) at) ⌝ }
 {
     let count = texts.count;
     let a = model_walk::place_at(s, count, at, 0);
@@ -274,8 +279,11 @@ pub fn read(
     gaps: &mut [usize; 100],
     rules: &mut [usize; 100],
 ) -> Outline
-    requires { ⌜ (now texts ≡ no-starts) × (Zeros (now entities) (now events) (now invariants) × Zeros (now alphabet) (now gaps) (now rules)) ⌝ }
-    ensures { λ r. ⌜ Says (was s) (file-of r (is texts) (is entities) (is events) (is invariants) (is alphabet) (is gaps) (is rules)) (decode (was s)) ⌝ }
+    requires { ⌜ (now texts ≡ no-starts) × (Zeros (now entities) (now events) (now invariants)
+        × Zeros (now alphabet) (now gaps) (now rules)) ⌝ }
+    ensures { λ r.
+        ⌜ Says (was s) (file-of r (is texts) (is entities) (is events) (is invariants) (is alphabet) (is gaps) (is rules))
+        (decode (was s)) ⌝ }
 {
     if 32768 < s.len() {
         return refusal(30);

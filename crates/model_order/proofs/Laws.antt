@@ -22,7 +22,19 @@ use Rattle.model_walk.proofs.Laws.{is-got, is-broken}
 use Rattle.model_parts.specs.declared.Part.{Part}
 use Rattle.model_parts.specs.declared.Part.the-variants as part
 use Rattle.model_parts.specs.Parts.{partM, textM}
-use Rattle.model_order.specs.Order.{place-from, fits, text-before, place-before, before, chain, chained, ascendingM, among, has, textsM}
+use Rattle.model_order.specs.Order.{
+  place-from,
+  fits,
+  text-before,
+  place-before,
+  before,
+  chain,
+  chained,
+  ascendingM,
+  among,
+  has,
+  textsM,
+}
 
 -- ---- a text in the file
 
@@ -77,8 +89,10 @@ module _ (s : List ℕ) (a b : ℕ) where
         pub more : getD s (b + 1 + i) 0 < getD s (a + 1 + i) 0 → ltT (drop i (textAt s a)) (drop i (textAt s b)) ≡ false
         more l = lt-more _ _ i (omega (arith, la)) (omega (arith, lb)) (omega (arith, text-byte s a i h, text-byte s b i k))
 
-        pub same : getD s (b + 1 + i) 0 ≤ getD s (a + 1 + i) 0 → getD s (a + 1 + i) 0 ≤ getD s (b + 1 + i) 0 → ltT (drop i (textAt s a)) (drop i (textAt s b)) ≡ ltT (drop (i + 1) (textAt s a)) (drop (i + 1) (textAt s b))
-        same l m = lt-same _ _ i (omega (arith, la)) (omega (arith, lb)) (omega (arith, text-byte s a i h, text-byte s b i k)) (omega (arith, text-byte s a i h, text-byte s b i k))
+        pub same : getD s (b + 1 + i) 0 ≤ getD s (a + 1 + i) 0 → getD s (a + 1 + i) 0 ≤ getD s (b + 1 + i) 0 →
+            ltT (drop i (textAt s a)) (drop i (textAt s b)) ≡ ltT (drop (i + 1) (textAt s a)) (drop (i + 1) (textAt s b))
+        same l m = lt-same _ _ i (omega (arith, la)) (omega (arith, lb))
+            (omega (arith, text-byte s a i h, text-byte s b i k)) (omega (arith, text-byte s a i h, text-byte s b i k))
 
 -- the word w and the text at p
 module _ (w s : List ℕ) (p : ℕ) where
@@ -103,7 +117,8 @@ module _ (w s : List ℕ) (p : ℕ) where
         pub is-other : (getD w i 0 ≡ getD s (p + 1 + i) 0 → ⊥) → eqT (drop i w) (drop i (textAt s p)) ≡ false
         is-other l = eq-other (textAt s p) w i (omega (arith, lp)) k (λ g. l (g ∙ text-byte s p i h))
 
-        pub is-same : getD w i 0 ≡ getD s (p + 1 + i) 0 → eqT (drop i w) (drop i (textAt s p)) ≡ eqT (drop (i + 1) w) (drop (i + 1) (textAt s p))
+        pub is-same : getD w i 0 ≡ getD s (p + 1 + i) 0 →
+            eqT (drop i w) (drop i (textAt s p)) ≡ eqT (drop (i + 1) w) (drop (i + 1) (textAt s p))
         is-same l = eq-same (textAt s p) w i (omega (arith, lp)) k (l ∙ sym (text-byte s p i h))
 
 -- ---- places
@@ -254,7 +269,8 @@ module _ (w s : List ℕ) (p k : ℕ) where
     place-here zero h t = absurd (omega arith)
     place-here (suc c) h t = rw (sym e ∙ t, place-from)
 
-    pub place-later : (c q : ℕ) → 0 < c → z ≡ false → q ≡ p + 1 + getD s p 0 → place-from c k w s p ≡ place-from (c - 1) (k + 1) w s q
+    pub place-later : (c q : ℕ) → 0 < c → z ≡ false → q ≡ p + 1 + getD s p 0 →
+        place-from c k w s p ≡ place-from (c - 1) (k + 1) w s q
     unfolding place-from
     place-later zero q h t o = absurd (omega arith)
     place-later (suc c) q h t o = rw (sub-one (suc c), o) (rw (sym e ∙ t, place-from))

@@ -9,7 +9,16 @@ ghost use lib.ListN.{length, getD};
 ghost use mathlib.Core.Bool.{_&&_};
 ghost use Rattle.texts.specs.Texts.{eqT};
 ghost use Rattle.texts.specs.Places.{textAt};
-ghost use Rattle.model_order.specs.Order.{fits, text-before, place-before, before, ascendingM, has, place-from, textsM};
+ghost use Rattle.model_order.specs.Order.{
+  fits,
+  text-before,
+  place-before,
+  before,
+  ascendingM,
+  has,
+  place-from,
+  textsM,
+};
 
 fn text_fits(s: &[u8], p: usize) -> bool
     ensures { λ r. ⌜ r ≡ fits (was s) p ⌝ }

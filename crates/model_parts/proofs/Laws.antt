@@ -15,12 +15,40 @@ use Rattle.model_walk.specs.declared.Num.the-variants as num
 use Rattle.model_walk.specs.declared.Walked.{Walked}
 use Rattle.model_walk.specs.declared.Walked.the-variants as walked
 use Rattle.model_walk.specs.declared.Piece.the-variants as piece
-use Rattle.model_walk.specs.Walk.{found, Walk, _⨾_, by, stop, staying, bytesM, timesM, kindM, placeM, piecesM, predicateM, actionsM}
+use Rattle.model_walk.specs.Walk.{
+  found,
+  Walk,
+  _⨾_,
+  by,
+  stop,
+  staying,
+  bytesM,
+  timesM,
+  kindM,
+  placeM,
+  piecesM,
+  predicateM,
+  actionsM,
+}
 use Rattle.model_walk.proofs.Laws.{is-got, is-broken}
 use Rattle.model_parts.specs.declared.Part.{Part}
 use Rattle.model_parts.specs.declared.Part.the-variants as part
 use Rattle.model_parts.specs.declared.Section.{Section}
-use Rattle.model_parts.specs.Parts.{letterM, textM, entityM, inputM, eventM, conditionM, invariantM, ruleM, partM, put, no-starts, fill, sectionM}
+use Rattle.model_parts.specs.Parts.{
+  letterM,
+  textM,
+  entityM,
+  inputM,
+  eventM,
+  conditionM,
+  invariantM,
+  ruleM,
+  partM,
+  put,
+  no-starts,
+  fill,
+  sectionM,
+}
 
 pub text-is : (s : List ℕ) (p n : ℕ) → textM s p n ≡ by u8 (λ i. timesM i letterM) s p n
 unfolding textM
@@ -55,7 +83,8 @@ module _ (ts : ℕ) (s : List ℕ) (p n : ℕ) where
   unfolding invariantM
   invariant-is = refl
 
-  pub rule-is : ruleM ts s p n ≡ (placeM ts ⨾ kindM 4 ⨾ bytesM 4 ⨾ piecesM ts piece.Trigger ⨾ piecesM ts piece.Predicate ⨾ actionsM ts 18 ⨾ bytesM 8 ⨾ piecesM ts piece.Note) s p n
+  pub rule-is : ruleM ts s p n ≡ (placeM ts ⨾ kindM 4 ⨾ bytesM 4 ⨾ piecesM ts piece.Trigger ⨾ piecesM ts piece.Predicate
+      ⨾ actionsM ts 18 ⨾ bytesM 8 ⨾ piecesM ts piece.Note) s p n
   unfolding ruleM
   rule-is = refl
 
@@ -136,12 +165,14 @@ module _ (k : Walk) (s : List ℕ) (p n i c : ℕ) (l : List ℕ) where
   fill-end (suc left) h = absurd (omega arith)
 
   module _ {x : Walked} (e : x ≡ k s p n) {l′ : List ℕ} (f : l′ ≡ put i p l) where
-    pub fill-more : {q m : ℕ} (left : ℕ) → 0 < left → x ≡ walked.To q m → fill left i c k l s p n ≡ fill (left - 1) (i + 1) c k l′ s q m
+    pub fill-more : {q m : ℕ} (left : ℕ) → 0 < left → x ≡ walked.To q m →
+        fill left i c k l s p n ≡ fill (left - 1) (i + 1) c k l′ s q m
     unfolding fill
     fill-more zero h g = absurd (omega arith)
     fill-more (suc left) h g = rw (sub-one (suc left), f, sym e ∙ g, fill)
 
-    pub fill-broken : (left : ℕ) → 0 < left → x ≡ walked.Broken → fill left i c k l s p n ≡ record { count = c; starts = l′; end = walked.Broken }
+    pub fill-broken : (left : ℕ) → 0 < left → x ≡ walked.Broken →
+        fill left i c k l s p n ≡ record { count = c; starts = l′; end = walked.Broken }
     unfolding fill
     fill-broken zero h g = absurd (omega arith)
     fill-broken (suc left) h g = rw (f, sym e ∙ g, fill)

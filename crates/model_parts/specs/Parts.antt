@@ -43,7 +43,8 @@ module _ (ts : ℕ) where
   invariantM = by u8 (λ k. placeM ts ⨾ conditionM k)
 
   unfoldable pub ruleM : Walk
-  ruleM = placeM ts ⨾ kindM 4 ⨾ bytesM 4 ⨾ piecesM ts piece.Trigger ⨾ piecesM ts piece.Predicate ⨾ actionsM ts 18 ⨾ bytesM 8 ⨾ piecesM ts piece.Note
+  ruleM = placeM ts ⨾ kindM 4 ⨾ bytesM 4 ⨾ piecesM ts piece.Trigger ⨾ piecesM ts piece.Predicate ⨾ actionsM ts 18 ⨾ bytesM 8
+      ⨾ piecesM ts piece.Note
 
   unfoldable pub partM : Part → Walk
   partM part.Text = textM

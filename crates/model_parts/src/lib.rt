@@ -5,7 +5,20 @@ use model_walk::Walked;
 ghost use Rattle.notation.specs.Reference.{was, is};
 ghost use mathlib.Core.Path.{_≡_};
 ghost use Rattle.model_walk.specs.Walk.{_⨾_, by, timesM, bytesM};
-ghost use Rattle.model_parts.specs.Parts.{textM, entityM, inputM, eventM, conditionM, invariantM, ruleM, partM, put, no-starts, sectionM, section};
+ghost use Rattle.model_parts.specs.Parts.{
+  textM,
+  entityM,
+  inputM,
+  eventM,
+  conditionM,
+  invariantM,
+  ruleM,
+  partM,
+  put,
+  no-starts,
+  sectionM,
+  section,
+};
 
 // What a section is a list of. Texts don't name texts; any other part does.
 pub enum Part {

@@ -1,7 +1,7 @@
 -- Every reader of the model file looks only at what stands behind its position, up to the end of the file: what it finds
--- there it finds in any other file that ends alike. Most readers look only at the bytes that they take (`Local`, in Spelled);
--- a group of fields that the file may end before (`or-zeros`) looks also at whether a byte follows, so that only this weaker
--- law holds of it.
+-- there it finds in any other file that ends alike. Most readers look only at the bytes that they take (`Local`, in
+-- Spelled); a group of fields that the file may end before (`or-zeros`) looks also at whether a byte follows, so that only
+-- this weaker law holds of it.
 use mathlib.Core.Path.{_≡_, refl, sym, ap, _∙_, subst}
 use mathlib.Core.List.{List, [], _++_}
 use Prim.Native.Nat.{ℕ, _+_, _≤_, _<_}

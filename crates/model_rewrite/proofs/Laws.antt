@@ -18,11 +18,21 @@ use Rattle.model_parts.specs.declared.Part.the-variants as part
 use Rattle.model_parts.specs.Parts.{partM, sectionM}
 use Rattle.model_rewrite.specs.declared.Span.{Span}
 use Rattle.model_rewrite.specs.Span.{nowhere, behind, bodyM, spanM}
-use Rattle.model_rewrite.specs.Written.{event-start, two-places, event-of, event-at, first-events, section-bytes, file-with, Wrote}
+use Rattle.model_rewrite.specs.Written.{
+  event-start,
+  two-places,
+  event-of,
+  event-at,
+  first-events,
+  section-bytes,
+  file-with,
+  Wrote,
+}
 
 -- ---- copies to the front of a list
 
-pub copied : (o s : List ℕ) (i : ℕ) → i < length s → i < length o → set (take i s ++ drop i o) i (getD s i 0) ≡ take (i + 1) s ++ drop (i + 1) o
+pub copied : (o s : List ℕ) (i : ℕ) → i < length s → i < length o →
+    set (take i s ++ drop i o) i (getD s i 0) ≡ take (i + 1) s ++ drop (i + 1) o
 copied o s i hs ho =
     let l : length (take i s) ≡ i = length-take-le i s (omega arith) in
     rw (drop-cons o i 0 ho, set-at (take i s) (getD o i 0) (drop (suc i) o) (getD s i 0) i l, add-one i, take-suc s i 0 hs)
@@ -34,7 +44,8 @@ all o s i h k =
     rw (e, take-length)
 
 -- bytes written in the part from a on, of an output that holds p so far: it then holds p and those
-pub wrote : (o p b x y : List ℕ) (a k : ℕ) → x ≡ p ++ drop (length p) o → length p ≡ a → length p + length b ≤ length o → k ≡ length x - a →
+pub wrote : (o p b x y : List ℕ) (a k : ℕ) → x ≡ p ++ drop (length p) o → length p ≡ a → length p + length b ≤ length o →
+    k ≡ length x - a →
     y ≡ b ++ drop (length b) (take k (drop a x)) → putMid a k x y ≡ (p ++ b) ++ drop (length (p ++ b)) o
 wrote o p b x y a k ex ep h ek ey =
     let d : drop a x ≡ drop (length p) o = ap (drop a) ex ∙ drop-at p (drop (length p) o) a ep in
@@ -44,7 +55,8 @@ wrote o p b x y a k ex ep h ek ey =
     let z : drop k (drop a x) ≡ [] = drop-of-length-le (drop a x) {i = k} (omega arith) in
     rw (z, ey, ly, t, d, append-nil, drop-drop, length-append) (sym (append-assoc p b (drop (length p + length b) o)))
 
-pub joined : (o p b x y : List ℕ) (a m r : ℕ) → x ≡ p ++ drop (length p) o → length p ≡ a → length p + length b ≤ length o → m ≡ length x - a →
+pub joined : (o p b x y : List ℕ) (a m r : ℕ) → x ≡ p ++ drop (length p) o → length p ≡ a → length p + length b ≤ length o →
+    m ≡ length x - a →
     Wrote b r (take m (drop a x)) y → Wrote (p ++ b) (a + r) o (putMid a m x y)
 joined o p b x y a m r ex ep h em w = record {
   is-size = omega (arith, length-append p b, w .is-size);
@@ -52,7 +64,8 @@ joined o p b x y a m r ex ep h em w = record {
 }
 
 pub wrote-length : {b : List ℕ} {r : ℕ} {o x : List ℕ} → Wrote b r o x → length b ≤ length o → length x ≡ length o
-wrote-length {b} {r} {o} w h = ap length (w .is-out) ∙ length-append b (drop (length b) o) ∙ omega (arith, length-drop (length b) o)
+wrote-length {b} {r} {o} w h = ap length (w .is-out) ∙ length-append b (drop (length b) o)
+    ∙ omega (arith, length-drop (length b) o)
 
 -- ---- single bytes
 
@@ -124,7 +137,8 @@ module _ (l : List ℕ) (k : ℕ) where
   at-least = simp (length-append, start-size) (omega arith)
 
   pub set-size : kind ≡ 0 → length (event-at l k) ≡ 9
-  set-size h = ap length (is-set h) ∙ length-append (event-start s kind) (two-places e v) ∙ omega (arith, start-size s kind, places-size e v)
+  set-size h = ap length (is-set h) ∙ length-append (event-start s kind) (two-places e v)
+      ∙ omega (arith, start-size s kind, places-size e v)
 
   module _ (o x : List ℕ) (w : x ≡ event-start s kind ++ drop 5 o) where
     pub plain-wrote : (kind ≡ 0 → ⊥) → Wrote (event-at l k) 5 o x
@@ -179,12 +193,20 @@ pub section-size : (l : List ℕ) (n : ℕ) → length (section-bytes l n) ≡ 2
 unfolding section-bytes
 section-size l n = length-append (bytes2 n) (first-events l n) ∙ omega (arith, count-size n)
 
-pub next-size : (l : List ℕ) (n k : ℕ) → k < n → length (first-events l k) + length (event-at l k) ≤ length (first-events l n)
-next-size l n k h = omega (arith, no-longer l n (k + 1) (omega arith), ap length (next-event l k), length-append (first-events l k) (event-at l k))
+pub next-size : (l : List ℕ) (n k : ℕ) → k < n → length (first-events l k) + length (event-at l k) ≤ length
+    (first-events l n)
+next-size l n k h = omega (
+  arith,
+  no-longer l n (k + 1) (omega arith),
+  ap length (next-event l k),
+  length-append (first-events l k) (event-at l k),
+)
 
 -- the count, and behind it the events
-pub section-wrote : (l : List ℕ) (n : ℕ) {o x y : List ℕ} {r m : ℕ} → length (section-bytes l n) ≤ length o → x ≡ bytes2 n ++ drop 2 o →
-    m ≡ length x - 2 → Wrote (first-events l n) r (take m (drop 2 x)) y → Wrote (section-bytes l n) (2 + r) o (putMid 2 m x y)
+pub section-wrote : (l : List ℕ) (n : ℕ) {o x y : List ℕ} {r m : ℕ} → length (section-bytes l n) ≤ length o →
+    x ≡ bytes2 n ++ drop 2 o →
+    m ≡ length x - 2 → Wrote (first-events l n) r (take m (drop 2 x)) y →
+    Wrote (section-bytes l n) (2 + r) o (putMid 2 m x y)
 section-wrote l n {o} {x} {y} {r} {m} h ex em w =
     rw section-is
     (joined o (bytes2 n) (first-events l n) x y 2 m r
@@ -201,10 +223,12 @@ pub file-is : (f : List ℕ) (x : Span) (l : List ℕ) (n : ℕ) → x .end ≤ 
 unfolding file-with
 file-is f x l n h =
     let e : x .start - 0 ≡ x .start = omega arith in
-    let t : take (length f - x .end) (drop (x .end) f) ≡ drop (x .end) f = take-all (length f - x .end) (drop (x .end) f) (simp length-drop (omega arith)) in
+    let t : take (length f - x .end) (drop (x .end) f) ≡ drop (x .end) f =
+    take-all (length f - x .end) (drop (x .end) f) (simp length-drop (omega arith)) in
     rw (e, t)
 
-file-size : (f : List ℕ) (x : Span) (l : List ℕ) (n : ℕ) → x .start ≤ length f → length (file-with f x l n) ≡ x .start + length (section-bytes l n) + (length f - x .end)
+file-size : (f : List ℕ) (x : Span) (l : List ℕ) (n : ℕ) → x .start ≤ length f →
+    length (file-with f x l n) ≡ x .start + length (section-bytes l n) + (length f - x .end)
 unfolding file-with
 file-size f x l n h = simp (length-append, length-drop) (omega (arith, length-take-le (x .start) f h))
 
@@ -230,7 +254,8 @@ module _ (f : List ℕ) (s : Span) (l : List ℕ) (n : ℕ) (hs : s .start ≤ l
   sizes = record { whole = file-size f s l n hs; of-first = first-size; of-later = later-size }
 
   -- the first sections, the new one, and the later ones
-  pub file-wrote : {o x y z : List ℕ} {r m k : ℕ} → length (file-with f s l n) ≤ length o → x ≡ first ++ drop (length first) o →
+  pub file-wrote : {o x y z : List ℕ} {r m k : ℕ} → length (file-with f s l n) ≤ length o →
+      x ≡ first ++ drop (length first) o →
       m ≡ length x - s .start → Wrote (section-bytes l n) r (take m (drop (s .start) x)) y →
       k ≡ length (putMid (s .start) m x y) - (s .start + r) →
       z ≡ later ++ drop (length later) (take k (drop (s .start + r) (putMid (s .start) m x y))) →
@@ -238,7 +263,8 @@ module _ (f : List ℕ) (s : Span) (l : List ℕ) (n : ℕ) (hs : s .start ≤ l
   file-wrote {o} {x} {y} {z} {r} {m} {k} h ex em w ek ez =
       let room = file-size f s l n hs in
       let a = joined o first (section-bytes l n) x y (s .start) m r ex first-size (omega (arith, first-size)) em w in
-      let b : Wrote later (length f - s .end) (take k (drop (s .start + r) (putMid (s .start) m x y))) z = record { is-size = sym later-size; is-out = ez } in
+      let b : Wrote later (length f - s .end) (take k (drop (s .start + r) (putMid (s .start) m x y))) z =
+      record { is-size = sym later-size; is-out = ez } in
       let j =
       joined o (first ++ section-bytes l n) later (putMid (s .start) m x y) z (s .start + r) k (length f - s .end)
       (a .is-out)
@@ -247,7 +273,8 @@ module _ (f : List ℕ) (s : Span) (l : List ℕ) (n : ℕ) (hs : s .start ≤ l
       ek
       b
       in
-      subst (λ (c : List ℕ). Wrote c (s .start + r + (length f - s .end)) o (putMid (s .start + r) k (putMid (s .start) m x y) z)) (file-is f s l n he) j
+      subst (λ (c : List ℕ). Wrote c (s .start + r + (length f - s .end)) o
+      (putMid (s .start + r) k (putMid (s .start) m x y) z)) (file-is f s l n he) j
 
 -- ---- the walk to the events
 
@@ -269,6 +296,7 @@ pub body-is : (s : List ℕ) (ts at : ℕ) → bodyM s ts at ≡ (
 unfolding bodyM
 body-is s ts at = refl
 
-pub span-is : (s : List ℕ) {x : Section} → x ≡ sectionM (partM 0 part.Text) s 4 0 → spanM s ≡ behind (x .end) (bodyM s (x .count))
+pub span-is : (s : List ℕ) {x : Section} → x ≡ sectionM (partM 0 part.Text) s 4 0 →
+    spanM s ≡ behind (x .end) (bodyM s (x .count))
 unfolding spanM
 span-is s e = ap (λ (x : Section). behind (x .end) (bodyM s (x .count))) (sym e)

@@ -11,7 +11,31 @@ use Rattle.model_spec.specs.Answer.{answer, refused}
 use Rattle.model_spec.specs.Notes.{notes-of}
 use Rattle.model_spec.specs.Model.{Model, Event, midnight}
 use Rattle.model_spec.specs.File
-use Rattle.model_spec.specs.File.{Got, got, broken, Reader, _>>=_, give, u32, counted, or-zeros, limits, texts, place, input, invariant, automation, Head, head, events, entities, model, decoded, decode, made}
+use Rattle.model_spec.specs.File.{
+  Got,
+  got,
+  broken,
+  Reader,
+  _>>=_,
+  give,
+  u32,
+  counted,
+  or-zeros,
+  limits,
+  texts,
+  place,
+  input,
+  invariant,
+  automation,
+  Head,
+  head,
+  events,
+  entities,
+  model,
+  decoded,
+  decode,
+  made,
+}
 use Rattle.model_walk.proofs.Found.{Case, is-true, is-false, case, bound, given, u32-wide}
 
 -- what follows the events
@@ -29,7 +53,8 @@ pub model-is : (s : List ℕ) (p : ℕ) → model s p ≡ (head >>= λ h. events
 unfolding model after
 model-is s p = refl
 
-pub after-events : (h : Head) (evs : List Event) (s : List ℕ) (p : ℕ) (m : Model) (q : ℕ) → after h evs s p ≡ got m q → m .scenario .events ≡ evs
+pub after-events : (h : Head) (evs : List Event) (s : List ℕ) (p : ℕ) (m : Model) (q : ℕ) → after h evs s p ≡ got m q →
+    m .scenario .events ≡ evs
 unfolding after
 after-events h evs s p m q e =
     let i = bound (counted (invariant (h .texts))) _ e in
@@ -58,7 +83,8 @@ never e = let z : _≡_ {A = ℕ} 0 1 = cc in omega arith
 same-model : {a b : Model} → answer a ≡ answer b → a ≡ b
 same-model e = cc
 
-parts : (f : List ℕ) (m : Model) (q : ℕ) → model f 0 ≡ got m q → length f ≤ q → length f ≤ 32768 → length (notes-of m) ≤ 64 → Opened f m
+parts : (f : List ℕ) (m : Model) (q : ℕ) → model f 0 ≡ got m q → length f ≤ q → length f ≤ 32768 → length (notes-of m) ≤ 64 →
+    Opened f m
 parts f m q e w s n =
     let x = bound head (λ h. events h >>= λ evs. after h evs) (sym (model-is f 0) ∙ e) in
     let y = bound (events (x .value)) (λ evs. after (x .value) evs) (x .rest) in
@@ -80,7 +106,8 @@ pub opened : (f : List ℕ) (m : Model) → decode f ≡ answer m → Opened f m
 unfolding decode decoded
 opened f m e = by (case (ltb 32768 (length f)))
   where
-    ended : (n : Model) (q : ℕ) → model f 0 ≡ got n q → length f ≤ 32768 → length (notes-of n) ≤ 64 → Case (ltb q (length f)) →
+    ended : (n : Model) (q : ℕ) → model f 0 ≡ got n q → length f ≤ 32768 → length (notes-of n) ≤ 64 →
+        Case (ltb q (length f)) →
         (if ltb q (length f) then refused 31 else answer n) ≡ answer m → Opened f m
     ended n q d s b (is-true c) e = absurd (never (rw c at e))
     ended n q d s b (is-false c) e =

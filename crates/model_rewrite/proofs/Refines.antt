@@ -11,7 +11,23 @@ use Rattle.texts.specs.Lists.{flat}
 use Rattle.texts.specs.Texts.{Text}
 use Rattle.model_spec.specs.Answer.{answer}
 use Rattle.model_spec.specs.Model.{Model, Entity, Event, Input, reload}
-use Rattle.model_spec.specs.File.{got, Reader, u8, times, counted, one-text, texts, place, entity, entities, event, events, head, ascending, decode}
+use Rattle.model_spec.specs.File.{
+  got,
+  Reader,
+  u8,
+  times,
+  counted,
+  one-text,
+  texts,
+  place,
+  entity,
+  entities,
+  event,
+  events,
+  head,
+  ascending,
+  decode,
+}
 use Rattle.model_spec.specs.Events.{InputWords, EventWords}
 use Rattle.model_spec.specs.Rewrite.{bytes2, bytes4, place-of, input-bytes, event-bytes, events-bytes, rewritten}
 use Rattle.model_spec.proofs.Places.{place-first}
@@ -29,8 +45,28 @@ use Rattle.model_index.specs.Indexed.{Indexed}
 use Rattle.model_index.proofs.Refines.{and-true}
 use Rattle.model_rewrite.specs.declared.Span.{Span}
 use Rattle.model_rewrite.specs.Span.{behind, bodyM, spanM}
-use Rattle.model_rewrite.specs.Written.{event-start, two-places, event-of, event-at, first-events, section-bytes, file-with, EventFits, Room, Wrote}
-use Rattle.model_rewrite.proofs.Spelled.{Spelled, local-u8, local-times, local-place, local-entities, local-counted, local-event, local-head}
+use Rattle.model_rewrite.specs.Written.{
+  event-start,
+  two-places,
+  event-of,
+  event-at,
+  first-events,
+  section-bytes,
+  file-with,
+  EventFits,
+  Room,
+  Wrote,
+}
+use Rattle.model_rewrite.proofs.Spelled.{
+  Spelled,
+  local-u8,
+  local-times,
+  local-place,
+  local-entities,
+  local-counted,
+  local-event,
+  local-head,
+}
 use Rattle.model_rewrite.proofs.Opened.{Opened, opened, Headed, headed}
 
 -- ---- places of texts
@@ -78,7 +114,8 @@ module _ (ts : List Text) (asc : ascending ts ≡ true) where
   event-agrees : (l : List ℕ) (k : ℕ) (v : Event) → EventWords ts l k v → event-at l k ≡ event-bytes ts v
   unfolding event-at event-bytes
   event-agrees l k v w =
-      input-agrees (getD l (k * 4) 0) (getD l (k * 4 + 1) 0) (getD l (k * 4 + 2) 0) (getD l (k * 4 + 3) 0) (v .input) (w .input)
+      input-agrees (getD l (k * 4) 0) (getD l (k * 4 + 1) 0) (getD l (k * 4 + 2) 0) (getD l (k * 4 + 3) 0) (v .input)
+      (w .input)
       ∙ ap (λ (x : ℕ). bytes4 x ++ input-bytes ts (v .input)) (w .second)
 
   flat-end : (g : Event → List ℕ) (vs : List Event) (v : Event) → flat g (vs ++ (v ∷ [])) ≡ flat g vs ++ g v
@@ -101,7 +138,8 @@ module _ (ts : List Text) (asc : ascending ts ≡ true) where
 -- ---- where the events stand
 
 -- as many values as the count says
-pub times-length : {A : Type 0} (r : Reader A) (s : List ℕ) (n p : ℕ) (l : List A) (q : ℕ) → times n r s p ≡ got l q → length l ≡ n
+pub times-length : {A : Type 0} (r : Reader A) (s : List ℕ) (n p : ℕ) (l : List A) (q : ℕ) → times n r s p ≡ got l q →
+    length l ≡ n
 unfolding times
 times-length r s zero p l q e = ap length (sym (given s p [] e .0))
 times-length r s (suc n) p l q e =
@@ -109,16 +147,19 @@ times-length r s (suc n) p l q e =
     let y = bound (times n r) _ (x .rest) in
     ap length (sym (given _ _ _ (y .rest) .0)) ∙ ap suc (times-length r s n (x .next) (y .value) (y .next) (y .first))
 
-module _ {A : Type 0} (r : Reader A) (k : Walk) (e : Sees quiet r k) (s : List ℕ) (p : ℕ) {l : List A} {q : ℕ} (h : counted r s p ≡ got l q) where
+module _ {A : Type 0} (r : Reader A) (k : Walk) (e : Sees quiet r k) (s : List ℕ) (p : ℕ) {l : List A} {q : ℕ}
+    (h : counted r s p ≡ got l q) where
   section-end : sectionM k s p 0 .end ≡ walked.To q 0
   unfolding seen capped
   section-end = section-ends k s p 0 ∙ sees-counted quiet quiet refl (λ x l. refl) r k e 0 s p ∙ ap (seen quiet 0) h
 
   section-count : sectionM k s p 0 .count ≡ length l
-  section-count = let x = counted-found r h in section-counts k s p 0 (x .is-count) ∙ sym (times-length r s (x .count) (x .start) l q (x .are-values))
+  section-count = let x = counted-found r h in section-counts k s p 0 (x .is-count)
+      ∙ sym (times-length r s (x .count) (x .start) l q (x .are-values))
 
 -- the texts, and that they ascend
-pub texts-found : (s : List ℕ) (p : ℕ) {ts : List Text} {q : ℕ} → texts s p ≡ got ts q → (counted one-text s p ≡ got ts q) × (ascending ts ≡ true)
+pub texts-found : (s : List ℕ) (p : ℕ) {ts : List Text} {q : ℕ} → texts s p ≡ got ts q →
+    (counted one-text s p ≡ got ts q) × (ascending ts ≡ true)
 unfolding texts
 texts-found s p e =
     let x = bound (counted one-text) _ e in
@@ -128,7 +169,8 @@ texts-found s p e =
     let w = g .1 .1 in
     ((cc), subst (λ (l : List Text). ascending l ≡ true) (g .1 .0) (and-true _ _ (g .0)))
 
-entities-found : (ts : List Text) (s : List ℕ) (p : ℕ) {es : List Entity} {q : ℕ} → entities ts s p ≡ got es q → counted (entity ts) s p ≡ got es q
+entities-found : (ts : List Text) (s : List ℕ) (p : ℕ) {es : List Entity} {q : ℕ} → entities ts s p ≡ got es q →
+    counted (entity ts) s p ≡ got es q
 unfolding entities
 entities-found ts s p e =
     let x = bound (counted (entity ts)) _ e in
@@ -138,26 +180,39 @@ entities-found ts s p e =
     let w = g .1 .1 in
     cc
 
-place-end : (ts : List Text) (s : List ℕ) (p : ℕ) {t : Text} {q : ℕ} → place ts s p ≡ got t q → placeM (length ts) s p 0 ≡ walked.To q 0
+place-end : (ts : List Text) (s : List ℕ) (p : ℕ) {t : Text} {q : ℕ} → place ts s p ≡ got t q →
+    placeM (length ts) s p 0 ≡ walked.To q 0
 unfolding seen capped
 place-end ts s p h = sees-place ts 0 s p ∙ ap (seen quiet 0) h
 
 -- ---- how many texts there are
 -- each value takes a byte or more
-grows : {A : Type 0} (r : Reader A) (s : List ℕ) → ((p : ℕ) (a : A) (q : ℕ) → r s p ≡ got a q → p + 1 ≤ q) → (n p : ℕ) (l : List A) (q : ℕ) → times n r s p ≡ got l q → p + n ≤ q
+grows : {A : Type 0} (r : Reader A) (s : List ℕ) → ((p : ℕ) (a : A) (q : ℕ) → r s p ≡ got a q → p + 1 ≤ q) →
+    (n p : ℕ) (l : List A) (q : ℕ) → times n r s p ≡ got l q → p + n ≤ q
 unfolding times
 grows r s f zero p l q e = omega (arith, given s p [] e .1)
 grows r s f (suc n) p l q e =
     let x = bound r _ e in
     let y = bound (times n r) _ (x .rest) in
-    omega (arith, f p (x .value) (x .next) (x .first), grows r s f n (x .next) (y .value) (y .next) (y .first), given _ _ _ (y .rest) .1)
+    omega (
+      arith,
+      f p (x .value) (x .next) (x .first),
+      grows r s f n (x .next) (y .value) (y .next) (y .first),
+      given _ _ _ (y .rest) .1,
+    )
 
 text-grows : (s : List ℕ) (p : ℕ) (t : Text) (q : ℕ) → one-text s p ≡ got t q → p + 1 ≤ q
 unfolding one-text
 text-grows s p t q e =
     let x = bound u8 _ e in
     let y = bound (times (x .value) u8) _ (x .rest) in
-    omega (arith, u8-wide s p (x .first) .ends, local-times u8 local-u8 (x .value) s (x .next) (y .value) (y .next) (y .first) .ends, required _ _ _ _ (y .rest) .1 .1)
+    omega (
+      arith,
+      u8-wide s p (x .first) .ends,
+      local-times u8 local-u8 (x .value) s (x .next) (y .value) (y .next)
+          (y .first) .ends,
+      required _ _ _ _ (y .rest) .1 .1,
+    )
 
 module _ (f : List ℕ) (m : Model) (o : Opened f m) where
   abbrev ts : List Text
@@ -173,7 +228,11 @@ module _ (f : List ℕ) (m : Model) (o : Opened f m) where
   unfolding bodyM behind partM events
   body-agrees =
       rw (place-end ts f (parted .at-title) (parted .is-title), behind)
-      (rw (section-end (entity ts) (entityM (length ts)) (sees-entity ts) f (parted .at-entities) (entities-found ts f (parted .at-entities) (parted .are-entities)), behind)
+      (rw (
+        section-end (entity ts) (entityM (length ts)) (sees-entity ts) f (parted .at-entities)
+            (entities-found ts f (parted .at-entities) (parted .are-entities)),
+        behind,
+      )
       (rw (section-end (event ts) (eventM (length ts)) (sees-event ts) f (o .start) (o .are-events), behind)))
 
   pub span-agrees : spanM f ≡ record { start = o .start; end = o .end }
@@ -185,7 +244,14 @@ module _ (f : List ℕ) (m : Model) (o : Opened f m) where
   -- ---- and that they stand in the file
 
   within : {A : Type 0} {r : Reader A} {p q : ℕ} {a : A} → Spelled r f p a q → p ≤ length f → q ≤ length f
-  within {p = p} {q = q} x h = omega (arith, x .ends, length-drop p f, length-drop q f, ap length (x .stands), length-append (x .bytes) (drop q f))
+  within {p = p} {q = q} x h = omega (
+    arith,
+    x .ends,
+    length-drop p f,
+    length-drop q f,
+    ap length (x .stands),
+    length-append (x .bytes) (drop q f),
+  )
 
   pub first-part : Spelled head f 0 (o .h) (o .start)
   first-part = local-head f 0 (o .h) (o .start) (o .is-head)
@@ -239,7 +305,8 @@ module _ (f : List ℕ) (m : Model) (i : Index) (dec : decode f ≡ answer m) (x
     pub asked : (o : List ℕ) → n * 4 ≤ length l → n < 65536 → length (rewritten f vs) ≤ length o → Room f s l n o
     asked o h c r =
         let y = opened f m dec in
-        let p : (s .start ≤ s .end) × (s .end ≤ length f) = rw (is-span, span-agrees f m y) (omega (arith, events-part f m y .ends), end-inside f m y) in
+        let p : (s .start ≤ s .end) × (s .end ≤ length f) =
+        rw (is-span, span-agrees f m y) (omega (arith, events-part f m y .ends), end-inside f m y) in
         record {
           ordered = p .0;
           inside = p .1;

@@ -12,7 +12,43 @@ use lib.Dec.{ltb, eqb}
 use Rattle.texts.specs.Lists.{if_then_else_}
 use Rattle.texts.specs.Texts.{Text}
 use Rattle.model_spec.specs.Model.{Actions}
-use Rattle.model_spec.specs.File.{got, Reader, _>>=_, give, refuse, require, u8, u16, u32, times, counted, kinds, flag, number?, one-text, texts, source, tier, mode, limits, place, place?, predicate, trigger, entity, entities, input, event, invariant, branches, effect, actions-of, actions, automation, head}
+use Rattle.model_spec.specs.File.{
+  got,
+  Reader,
+  _>>=_,
+  give,
+  refuse,
+  require,
+  u8,
+  u16,
+  u32,
+  times,
+  counted,
+  kinds,
+  flag,
+  number?,
+  one-text,
+  texts,
+  source,
+  tier,
+  mode,
+  limits,
+  place,
+  place?,
+  predicate,
+  trigger,
+  entity,
+  entities,
+  input,
+  event,
+  invariant,
+  branches,
+  effect,
+  actions-of,
+  actions,
+  automation,
+  head,
+}
 use Rattle.model_walk.proofs.Laws.{bind-got, u8-in}
 use Rattle.model_walk.proofs.Found.{bound, given, required, refused, u8-wide}
 
@@ -36,14 +72,17 @@ pub spells-give : {A : Type 0} (a : A) → Spells (give a) a []
 unfolding give
 spells-give a s p rest e = ap (got a) (omega arith)
 
-pub spells-bind : {A B : Type 0} (r : Reader A) (k : A → Reader B) {a : A} {b : B} (c d : List ℕ) → Spells r a c → Spells (k a) b d → Spells (r >>= k) b (c ++ d)
+pub spells-bind : {A B : Type 0} (r : Reader A) (k : A → Reader B) {a : A} {b : B} (c d : List ℕ) → Spells r a c →
+    Spells (k a) b d → Spells (r >>= k) b (c ++ d)
 spells-bind r k {a} {b} c d f g s p rest e =
     let e₁ : drop p s ≡ c ++ (d ++ rest) = e ∙ append-assoc c d rest in
-    let e₂ : drop (p + length c) s ≡ d ++ rest = sym (drop-drop (length c) p s) ∙ ap (drop (length c)) e₁ ∙ drop-at c (d ++ rest) (length c) refl in
+    let e₂ : drop (p + length c) s ≡ d ++ rest = sym (drop-drop (length c) p s) ∙ ap (drop (length c)) e₁
+    ∙ drop-at c (d ++ rest) (length c) refl in
     bind-got r k (f s p (d ++ rest) e₁) ∙ g s (p + length c) rest e₂ ∙ ap (got b) (omega (arith, length-append c d))
 
 -- the last part
-pub spells-last : {A B : Type 0} (r : Reader A) (f : A → B) {a : A} (c : List ℕ) → Spells r a c → Spells (r >>= λ x. give (f x)) (f a) c
+pub spells-last : {A B : Type 0} (r : Reader A) (f : A → B) {a : A} (c : List ℕ) → Spells r a c →
+    Spells (r >>= λ x. give (f x)) (f a) c
 unfolding give
 spells-last r f {a} c h s p rest e = bind-got r (λ x. give (f x)) (h s p rest e)
 
@@ -58,7 +97,8 @@ local-bind r k f g s p b q e =
     let z = g (x .value) s (x .next) b q (x .rest) in
     record {
       bytes = y .bytes ++ z .bytes;
-      stands = y .stands ∙ ap (λ (l : List ℕ). y .bytes ++ l) (z .stands) ∙ sym (append-assoc (y .bytes) (z .bytes) (drop q s));
+      stands = y .stands ∙ ap (λ (l : List ℕ). y .bytes ++ l) (z .stands)
+          ∙ sym (append-assoc (y .bytes) (z .bytes) (drop q s));
       ends = omega (arith, y .ends, z .ends, length-append (y .bytes) (z .bytes));
       spells = spells-bind r k (y .bytes) (z .bytes) (y .spells) (z .spells);
     }
@@ -75,7 +115,8 @@ local-give b s p a q e =
 pub local-require : {A : Type 0} (t : Bool) (b : A) → Local (require t b)
 local-require t b s p a q e =
     let g = required s p b t e in
-    nothing (require t b) s p a q (g .1 .1) (subst (λ (x : _). Spells (require t b) x []) (g .1 .0) (spells-require t b (g .0)))
+    nothing (require t b) s p a q (g .1 .1) (subst (λ (x : _). Spells (require t b) x []) (g .1 .0)
+    (spells-require t b (g .0)))
 
 pub local-refuse : {A : Type 0} → Local {A = A} refuse
 local-refuse s p a q e = absurd (refused s p e)
@@ -171,7 +212,8 @@ local-mode = local-kinds _ (local-give _, (local-give _, (local-give _, (local-g
 
 pub local-limits : Local limits
 unfolding limits
-local-limits = local-bind _ _ local-u32 λ h. local-bind _ _ local-u32 λ m. local-bind _ _ local-u32 λ d. local-bind _ _ local-u32 λ c. local-give _
+local-limits = local-bind _ _ local-u32 λ h. local-bind _ _ local-u32 λ m. local-bind _ _ local-u32 λ d. local-bind _ _
+    local-u32 λ c. local-give _
 
 -- ---- parts that name texts
 
@@ -182,7 +224,9 @@ module _ (ts : List Text) where
 
   local-place? : Local (place? ts)
   unfolding place?
-  local-place? = local-bind _ _ local-u16 λ p. local-if (eqb p 65535) (give none) (require (ltb p (length ts)) (some (getD ts p []))) (local-give none) (local-require (ltb p (length ts)) (some (getD ts p [])))
+  local-place? = local-bind _ _ local-u16 λ p. local-if (eqb p 65535) (give none)
+      (require (ltb p (length ts)) (some (getD ts p []))) (local-give none)
+      (local-require (ltb p (length ts)) (some (getD ts p [])))
 
   local-predicate : Local (predicate ts)
   unfolding predicate
@@ -243,11 +287,14 @@ module _ (ts : List Text) where
       local-kinds _ (
         local-bind _ _ local-place λ i. local-bind _ _ (local-counted _ local-predicate) λ ps. local-give _,
         (
-          local-bind _ _ local-place λ i. local-bind _ _ local-place λ e. local-bind _ _ local-place λ v. local-bind _ _ (local-counted _ local-predicate) λ ps. local-give _,
+          local-bind _ _ local-place λ i. local-bind _ _ local-place λ e. local-bind _ _ local-place λ v. local-bind _ _
+              (local-counted _ local-predicate) λ ps. local-give _,
           (
-            local-bind _ _ local-place λ i. local-bind _ _ local-place λ e. local-bind _ _ local-place λ f. local-bind _ _ local-place λ t. local-give _,
+            local-bind _ _ local-place λ i. local-bind _ _ local-place λ e. local-bind _ _ local-place λ f. local-bind _ _
+                local-place λ t. local-give _,
             (
-              local-bind _ _ local-place λ i. local-bind _ _ local-predicate λ p. local-bind _ _ local-predicate λ q. local-bind _ _ local-u32 λ n. local-give _,
+              local-bind _ _ local-place λ i. local-bind _ _ local-predicate λ p. local-bind _ _ local-predicate λ q.
+                  local-bind _ _ local-u32 λ n. local-give _,
               tt,
             ),
           ),
@@ -258,7 +305,8 @@ module _ (ts : List Text) where
     local-branches : (n : ℕ) → Local (branches ts inner n)
     unfolding branches
     local-branches zero = local-give _
-    local-branches (suc n) = local-bind _ _ (local-counted _ local-predicate) λ ps. local-bind _ _ f λ as′. local-bind _ _ (local-branches n) λ bs. local-give _
+    local-branches (suc n) = local-bind _ _ (local-counted _ local-predicate) λ ps. local-bind _ _ f λ as′. local-bind _ _
+        (local-branches n) λ bs. local-give _
 
     local-effect : Local (effect ts inner)
     unfolding effect
@@ -274,7 +322,8 @@ module _ (ts : List Text) where
                 (
                   local-bind _ _ local-u16 λ n. local-bind _ _ (local-branches n) λ bs. local-bind _ _ f λ d. local-give _,
                   (
-                    local-bind _ _ local-trigger λ t. local-bind _ _ local-u32 λ n. local-bind _ _ local-flag λ c. local-give _,
+                    local-bind _ _ local-trigger λ t. local-bind _ _ local-u32 λ n. local-bind _ _ local-flag λ c. local-give
+                        _,
                     (
                       local-bind _ _ local-place λ r. local-give _,
                       tt,
@@ -289,7 +338,8 @@ module _ (ts : List Text) where
     local-actions-of : (n : ℕ) → Local (actions-of ts inner n)
     unfolding actions-of
     local-actions-of zero = local-give _
-    local-actions-of (suc n) = local-bind _ _ local-source λ s. local-bind _ _ local-effect λ e. local-bind _ _ (local-actions-of n) λ r. local-give _
+    local-actions-of (suc n) = local-bind _ _ local-source λ s. local-bind _ _ local-effect λ e. local-bind _ _
+        (local-actions-of n) λ r. local-give _
 
   local-actions : (left : ℕ) → Local (actions ts left)
   unfolding actions

@@ -13,16 +13,69 @@ use Rattle.texts.specs.Texts.{Text}
 use Rattle.model_spec.specs.Answer.{Answer, answer}
 use Rattle.model_spec.specs.Notes.{notes-of}
 use Rattle.model_spec.specs.Model.{Model, Event, Input, reload, with-events}
-use Rattle.model_spec.specs.File.{got, refuse, require, u8, u16, u32, times, counted, kinds, texts, place, input, event, events, Head, head, ascending, model, decoded, decode, input-kinds}
+use Rattle.model_spec.specs.File.{
+  got,
+  refuse,
+  require,
+  u8,
+  u16,
+  u32,
+  times,
+  counted,
+  kinds,
+  texts,
+  place,
+  input,
+  event,
+  events,
+  Head,
+  head,
+  ascending,
+  model,
+  decoded,
+  decode,
+  input-kinds,
+}
 use Rattle.model_spec.specs.Events.{Some, no-more, skip, keep}
 use Rattle.model_spec.specs.Rewrite.{bytes2, bytes4, place-of, input-bytes, event-bytes, events-bytes, rewritten}
 use Rattle.model_walk.proofs.Laws.{bind-got}
-use Rattle.model_walk.proofs.Found.{bound, given, refused, kind-found, counted-found, place-found, u8-wide, u16-wide, u32-wide}
+use Rattle.model_walk.proofs.Found.{
+  bound,
+  given,
+  refused,
+  kind-found,
+  counted-found,
+  place-found,
+  u8-wide,
+  u16-wide,
+  u32-wide,
+}
 use Rattle.model_parts.specs.Stand.{Reads}
-use Rattle.model_rewrite.proofs.Spelled.{Spells, spells-give, spells-bind, spells-last, spells-require, spells-u8, local-u32, local-counted, local-input, local-invariant, local-limits, local-automation}
+use Rattle.model_rewrite.proofs.Spelled.{
+  Spells,
+  spells-give,
+  spells-bind,
+  spells-last,
+  spells-require,
+  spells-u8,
+  local-u32,
+  local-counted,
+  local-input,
+  local-invariant,
+  local-limits,
+  local-automation,
+}
 use Rattle.model_rewrite.proofs.Behind.{Found, Twin, twin-give, twin-bind, twin-zeros, local-start}
 use Rattle.model_rewrite.proofs.Opened.{Opened, opened, after, model-is}
-use Rattle.model_rewrite.proofs.Refines.{place-is, head-ascends, first-part, start-inside, end-inside, rewritten-is, same-texts}
+use Rattle.model_rewrite.proofs.Refines.{
+  place-is,
+  head-ascends,
+  first-part,
+  start-inside,
+  end-inside,
+  rewritten-is,
+  same-texts,
+}
 
 -- ---- what can be written
 
@@ -65,14 +118,16 @@ module _ (ts : List Text) (asc : ascending ts ≡ true) where
   unfolding place
   spells-place t a =
       let p : place-of t ts ≡ a .at = ap (λ (u : Text). place-of u ts) (a .is-text) ∙ place-is ts asc (a .at) (a .inside) in
-      let s = spells-bind u16 (λ p. require (ltb p (length ts)) (getD ts p [])) (bytes2 (a .at)) [] (spells-u16 (a .at)) (spells-require (ltb (a .at) (length ts)) (getD ts (a .at) []) (lt-ltb (a .at) (length ts) (a .inside))) in
+      let s = spells-bind u16 (λ p. require (ltb p (length ts)) (getD ts p [])) (bytes2 (a .at)) [] (spells-u16 (a .at))
+      (spells-require (ltb (a .at) (length ts)) (getD ts (a .at) []) (lt-ltb (a .at) (length ts) (a .inside))) in
       rw (p, a .is-text) (rw append-nil at s)
 
   spells-input : (i : Input) → FitsInput ts i → Spells (input ts) i (input-bytes ts i)
   unfolding input kinds input-bytes
   spells-input (Input.set x v) h =
       spells-bind u8 _ (0 ∷ []) (bytes2 (place-of x ts) ++ bytes2 (place-of v ts)) (spells-u8 0)
-      (spells-bind (place ts) _ (bytes2 (place-of x ts)) (bytes2 (place-of v ts)) (spells-place x (h .0)) (spells-last (place ts) (Input.set x) (bytes2 (place-of v ts)) (spells-place v (h .1))))
+      (spells-bind (place ts) _ (bytes2 (place-of x ts)) (bytes2 (place-of v ts)) (spells-place x (h .0))
+      (spells-last (place ts) (Input.set x) (bytes2 (place-of v ts)) (spells-place v (h .1))))
   spells-input Input.restart h = spells-bind u8 _ (1 ∷ []) [] (spells-u8 1) (spells-give Input.restart)
   spells-input reload h = spells-bind u8 _ (2 ∷ []) [] (spells-u8 2) (spells-give reload)
 
@@ -80,7 +135,8 @@ module _ (ts : List Text) (asc : ascending ts ≡ true) where
   unfolding event event-bytes
   spells-event v h =
       spells-bind u32 _ (bytes4 (v .at)) (input-bytes ts (v .input)) (spells-u32 (v .at))
-      (spells-last (input ts) (λ i. record { at = v .at; input = i }) (input-bytes ts (v .input)) (spells-input (v .input) h))
+      (spells-last (input ts) (λ i. record { at = v .at; input = i }) (input-bytes ts (v .input))
+      (spells-input (v .input) h))
 
   spells-times : (vs : List Event) → AllFit ts vs → Spells (times (length vs) (event ts)) vs (flat (event-bytes ts) vs)
   unfolding times flat
@@ -198,7 +254,8 @@ module _ (ts : List Text) where
       cases Input.restart = omega arith
       cases reload = omega arith
 
-  more-size : (v : Event) (vs : List Event) → length (flat (event-bytes ts) (v ∷ vs)) ≡ length (event-bytes ts v) + length (flat (event-bytes ts) vs)
+  more-size : (v : Event) (vs : List Event) → length (flat (event-bytes ts) (v ∷ vs))
+      ≡ length (event-bytes ts v) + length (flat (event-bytes ts) vs)
   unfolding flat
   more-size v vs = length-append (event-bytes ts v) (flat (event-bytes ts) vs)
 
@@ -232,8 +289,10 @@ module _ (ts : List Text) where
           let u = u16-wide s o (place-found ts (a .first) .is-place) .ends in
           let x = u16-wide s (a .next) (place-found ts (b .first) .is-place) .ends in
           subst (λ (i : Input). q ≡ p + length (input-bytes ts i)) (g .0) (omega (arith, w, u, x, g .1))
-      cases (suc zero) o w y = let g = given _ _ _ y in subst (λ (i : Input). q ≡ p + length (input-bytes ts i)) (g .0) (omega (arith, w, g .1))
-      cases (suc (suc zero)) o w y = let g = given _ _ _ y in subst (λ (i : Input). q ≡ p + length (input-bytes ts i)) (g .0) (omega (arith, w, g .1))
+      cases (suc zero) o w y = let g = given _ _ _ y in
+          subst (λ (i : Input). q ≡ p + length (input-bytes ts i)) (g .0) (omega (arith, w, g .1))
+      cases (suc (suc zero)) o w y = let g = given _ _ _ y in
+          subst (λ (i : Input). q ≡ p + length (input-bytes ts i)) (g .0) (omega (arith, w, g .1))
       cases (suc (suc (suc n))) o w y = absurd (refused s o y)
 
   event-read : (s : List ℕ) (p : ℕ) (v : Event) (q : ℕ) → event ts s p ≡ got v q → q ≡ p + length (event-bytes ts v)
@@ -246,24 +305,34 @@ module _ (ts : List Text) where
       subst (λ (x : Event). q ≡ p + length (event-bytes ts x)) (g .0)
       (omega (arith, u32-wide s p (a .first) .ends, input-read s (a .next) (b .value) (b .next) (b .first), g .1, n))
 
-  times-read : (s : List ℕ) (n p : ℕ) (l : List Event) (q : ℕ) → times n (event ts) s p ≡ got l q → q ≡ p + length (flat (event-bytes ts) l)
+  times-read : (s : List ℕ) (n p : ℕ) (l : List Event) (q : ℕ) → times n (event ts) s p ≡ got l q →
+      q ≡ p + length (flat (event-bytes ts) l)
   unfolding times flat
-  times-read s zero p l q h = let g = given s p [] h in subst (λ (x : List Event). q ≡ p + length (flat (event-bytes ts) x)) (g .0) (omega (arith, g .1))
+  times-read s zero p l q h = let g = given s p [] h in
+      subst (λ (x : List Event). q ≡ p + length (flat (event-bytes ts) x)) (g .0) (omega (arith, g .1))
   times-read s (suc n) p l q h =
       let a = bound (event ts) _ h in
       let b = bound (times n (event ts)) _ (a .rest) in
       let g = given _ _ _ (b .rest) in
       subst (λ (x : List Event). q ≡ p + length (flat (event-bytes ts) x)) (g .0)
-      (omega (arith, event-read s p (a .value) (a .next) (a .first), times-read s n (a .next) (b .value) (b .next) (b .first), g .1, more-size (a .value) (b .value)))
+      (omega (
+        arith,
+        event-read s p (a .value) (a .next) (a .first),
+        times-read s n (a .next) (b .value) (b .next) (b .first),
+        g .1,
+        more-size (a .value) (b .value),
+      ))
 
-  events-read : (s : List ℕ) (p : ℕ) (l : List Event) (q : ℕ) → counted (event ts) s p ≡ got l q → q ≡ p + length (events-bytes ts l)
+  events-read : (s : List ℕ) (p : ℕ) (l : List Event) (q : ℕ) → counted (event ts) s p ≡ got l q →
+      q ≡ p + length (events-bytes ts l)
   events-read s p l q h =
       let c = counted-found (event ts) h in
       omega (arith, u16-wide s p (c .is-count) .ends, times-read s (c .count) (c .start) l q (c .are-values), section-size l)
 
 -- the new file's length
 new-size : (f : List ℕ) (m : Model) (o : Opened f m) (vs : List Event) →
-    length (rewritten f vs) + length (events-bytes (o .h .texts) (m .scenario .events)) ≡ length f + length (events-bytes (o .h .texts) vs)
+    length (rewritten f vs) + length (events-bytes (o .h .texts) (m .scenario .events))
+    ≡ length f + length (events-bytes (o .h .texts) vs)
 unfolding events
 new-size f m o vs =
     let n = length-append (take (o .start) f ++ events-bytes (o .h .texts) vs) (drop (o .end) f) in
@@ -274,14 +343,16 @@ new-size f m o vs =
     omega (arith, ap length (rewritten-is f m o vs), n, a, t, d, e, end-inside f m o)
 
 -- at most 5 events: at most 45 bytes more
-pub few-events : (f : List ℕ) (m : Model) → decode f ≡ answer m → (vs : List Event) → length vs ≤ 5 → length (rewritten f vs) ≤ length f + 45
+pub few-events : (f : List ℕ) (m : Model) → decode f ≡ answer m → (vs : List Event) → length vs ≤ 5 →
+    length (rewritten f vs) ≤ length f + 45
 few-events f m dec vs h =
     let o = opened f m dec in
     let ts = o .h .texts in
     omega (arith, new-size f m o vs, section-size ts vs, section-size ts (m .scenario .events), at-most ts vs)
 
 -- some of the file's events: no byte more
-pub some-events : (f : List ℕ) (m : Model) → decode f ≡ answer m → (vs : List Event) → Some vs (m .scenario .events) → length (rewritten f vs) ≤ length f
+pub some-events : (f : List ℕ) (m : Model) → decode f ≡ answer m → (vs : List Event) → Some vs (m .scenario .events) →
+    length (rewritten f vs) ≤ length f
 some-events f m dec vs h =
     let o = opened f m dec in
     let ts = o .h .texts in

@@ -8,7 +8,14 @@ ghost use Prim.Native.Nat.{_+_, _*_, _≤_, _<_};
 ghost use lib.ListN.{length, drop};
 ghost use Rattle.model_spec.specs.Rewrite.{bytes2};
 ghost use Rattle.model_rewrite.specs.Span.{spanM, bodyM, nowhere};
-ghost use Rattle.model_rewrite.specs.Written.{event-start, two-places, event-at, first-events, section-bytes, file-with};
+ghost use Rattle.model_rewrite.specs.Written.{
+  event-start,
+  two-places,
+  event-at,
+  first-events,
+  section-bytes,
+  file-with,
+};
 ghost use Rattle.model_rewrite.specs.Written.{EventFits, EventsFit, Room, Wrote};
 
 // The events section of a file: its count stands at `start`, and it ends before `end`.
@@ -93,7 +100,8 @@ fn write_places(entity: u32, value: u32, out: &mut [u8])
 
 // The k-th event. Only an event that sets has places.
 fn write_event(events: &[u32], k: usize, out: &mut [u8]) -> usize
-    requires { ⌜ (k * 4 + 4 ≤ length (now events)) × (EventFits (now events) k × (length (event-at (now events) k) ≤ length (now out))) ⌝ }
+    requires { ⌜ (k * 4 + 4 ≤ length (now events)) × (EventFits (now events) k
+        × (length (event-at (now events) k) ≤ length (now out))) ⌝ }
     ensures { λ r. ⌜ Wrote (event-at (was events) k) r (was out) (is out) ⌝ }
 {
     let second = events[k * 4];

@@ -19,12 +19,56 @@ use Rattle.model_walk.specs.Walk.{found}
 use Rattle.model_walk.proofs.Laws.{is-got, is-broken}
 use Rattle.model_check.specs.declared.Checked.{Checked}
 use Rattle.model_check.specs.declared.Checked.the-variants as checked
-use Rattle.model_check.specs.Checks.{Declaration, and-then, _⨾_, by, stay, skipM, dayM, place-is, among, valueM, pairM, predicateM, predicatesM, triggersM}
+use Rattle.model_check.specs.Checks.{
+  Declaration,
+  and-then,
+  _⨾_,
+  by,
+  stay,
+  skipM,
+  dayM,
+  place-is,
+  among,
+  valueM,
+  pairM,
+  predicateM,
+  predicatesM,
+  triggersM,
+}
 use Rattle.model_actions.specs.Actions.{actionsM}
 use Rattle.model_check.proofs.Laws as checks
 use Rattle.model_sections.specs.declared.Part.{Part}
 use Rattle.model_sections.specs.declared.Part.the-variants as part
-use Rattle.model_sections.specs.Sections.{bad-place, any-bad, doubled, bad-domain, stale-bad, entity-ofM, entity-restM, entityM, inputM, eventM, seconds-bad, gaps-bad, id-is, seen, bad-id, conditionsM, guardM, transitionM, responseM, invariant-ofM, invariantM, bad-counts, listsM, rule-listsM, rule-ofM, ruleM, partM, partsM}
+use Rattle.model_sections.specs.Sections.{
+  bad-place,
+  any-bad,
+  doubled,
+  bad-domain,
+  stale-bad,
+  entity-ofM,
+  entity-restM,
+  entityM,
+  inputM,
+  eventM,
+  seconds-bad,
+  gaps-bad,
+  id-is,
+  seen,
+  bad-id,
+  conditionsM,
+  guardM,
+  transitionM,
+  responseM,
+  invariant-ofM,
+  invariantM,
+  bad-counts,
+  listsM,
+  rule-listsM,
+  rule-ofM,
+  ruleM,
+  partM,
+  partsM,
+}
 
 -- ---- tests in a row
 
@@ -88,12 +132,14 @@ module _ (s : List ℕ) (p : ℕ) {a : Num} (e : found a ≡ u16 s p) where
     pub double-here : (left : ℕ) → 0 < left → among (left - 1) s q x ≡ true → doubled left s p ≡ true
     unfolding doubled
     double-here zero o b = absurd (omega arith)
-    double-here (suc left) o b = rw (is-got e h, doubled) (rw (ap (λ (i : ℕ). among i s q x) (sym (sub-one (suc left))) ∙ b, doubled))
+    double-here (suc left) o b = rw (is-got e h, doubled)
+        (rw (ap (λ (i : ℕ). among i s q x) (sym (sub-one (suc left))) ∙ b, doubled))
 
     pub double-later : (left : ℕ) → 0 < left → among (left - 1) s q x ≡ false → doubled left s p ≡ doubled (left - 1) s q
     unfolding doubled
     double-later zero o b = absurd (omega arith)
-    double-later (suc left) o b = rw (sub-one (suc left)) (rw (is-got e h, doubled) (rw (ap (λ (i : ℕ). among i s q x) (sym (sub-one (suc left))) ∙ b, doubled)))
+    double-later (suc left) o b = rw (sub-one (suc left))
+        (rw (is-got e h, doubled) (rw (ap (λ (i : ℕ). among i s q x) (sym (sub-one (suc left))) ∙ b, doubled)))
 
 pub any-end : (s : List ℕ) (p left : ℕ) → left ≤ 0 → any-bad left s p ≡ false
 unfolding any-bad
@@ -151,7 +197,8 @@ module _ (d : Declaration) (s : List ℕ) (p n : ℕ) where
     unfolding entity-ofM
     entity-value h k = rw (h, k)
 
-  pub entity-rest-is : (x c q : ℕ) → entity-restM d x c q s p n ≡ by u16 (λ v. skipM 1 ⨾ by u32 (λ a. entity-ofM d x c q v a)) s p n
+  pub entity-rest-is : (x c q : ℕ) → entity-restM d x c q s p n
+      ≡ by u16 (λ v. skipM 1 ⨾ by u32 (λ a. entity-ofM d x c q v a)) s p n
   unfolding entity-restM
   entity-rest-is x c q = refl
 
@@ -204,12 +251,15 @@ module _ (h : ℕ) (starts s : List ℕ) where
       pub seconds-fall : (left : ℕ) → 0 < left → t ≤ h → t < last → seconds-bad h starts s left j last ≡ true
       unfolding seconds-bad
       seconds-fall zero o k m = absurd (omega arith)
-      seconds-fall (suc left) o k m = rw (is-got e g, seconds-bad) (rw (or-later {b = ltb t last} (le-ltb h t k) ∙ lt-ltb t last m, seconds-bad))
+      seconds-fall (suc left) o k m = rw (is-got e g, seconds-bad)
+          (rw (or-later {b = ltb t last} (le-ltb h t k) ∙ lt-ltb t last m, seconds-bad))
 
-      pub seconds-next : (left : ℕ) → 0 < left → t ≤ h → last ≤ t → seconds-bad h starts s left j last ≡ seconds-bad h starts s (left - 1) (j + 1) t
+      pub seconds-next : (left : ℕ) → 0 < left → t ≤ h → last ≤ t →
+          seconds-bad h starts s left j last ≡ seconds-bad h starts s (left - 1) (j + 1) t
       unfolding seconds-bad
       seconds-next zero o k m = absurd (omega arith)
-      seconds-next (suc left) o k m = rw (sub-one (suc left)) (rw (is-got e g, seconds-bad) (rw (or-false (le-ltb h t k) (le-ltb t last m), seconds-bad)))
+      seconds-next (suc left) o k m = rw (sub-one (suc left))
+          (rw (is-got e g, seconds-bad) (rw (or-false (le-ltb h t k) (le-ltb t last m), seconds-bad)))
 
 module _ (starts s : List ℕ) where
   pub gaps-end : (left j : ℕ) → left ≤ 0 → gaps-bad starts s left j ≡ false
@@ -274,12 +324,15 @@ module _ (k : Part) (starts s : List ℕ) (x : ℕ) where
   pub seen-here : (j i : ℕ) → 0 < j → i ≡ j - 1 → id-is k s (getD starts i 0) x ≡ true → seen k starts s j x ≡ true
   unfolding seen
   seen-here zero i o e h = absurd (omega arith)
-  seen-here (suc j) i o e h = let z : i ≡ j = omega arith in rw (ap (λ (y : ℕ). id-is k s (getD starts y 0) x) (sym z) ∙ h, seen)
+  seen-here (suc j) i o e h = let z : i ≡ j = omega arith in
+      rw (ap (λ (y : ℕ). id-is k s (getD starts y 0) x) (sym z) ∙ h, seen)
 
-  pub seen-later : (j i : ℕ) → 0 < j → i ≡ j - 1 → id-is k s (getD starts i 0) x ≡ false → seen k starts s j x ≡ seen k starts s i x
+  pub seen-later : (j i : ℕ) → 0 < j → i ≡ j - 1 → id-is k s (getD starts i 0) x ≡ false →
+      seen k starts s j x ≡ seen k starts s i x
   unfolding seen
   seen-later zero i o e h = absurd (omega arith)
-  seen-later (suc j) i o e h = let z : i ≡ j = omega arith in rw (ap (λ (y : ℕ). id-is k s (getD starts y 0) x) (sym z) ∙ h, seen) (ap (λ (y : ℕ). seen k starts s y x) (sym z))
+  seen-later (suc j) i o e h = let z : i ≡ j = omega arith in
+      rw (ap (λ (y : ℕ). id-is k s (getD starts y 0) x) (sym z) ∙ h, seen) (ap (λ (y : ℕ). seen k starts s y x) (sym z))
 
 module _ (k : Part) (starts : List ℕ) (j : ℕ) (s : List ℕ) (x : ℕ) where
   pub id-bad : bad-place s x ≡ true → bad-id k starts j s x ≡ true
@@ -465,7 +518,8 @@ module _ (d : Declaration) (k : Part) (starts s : List ℕ) where
     parts-refused zero o h = absurd (omega arith)
     parts-refused (suc left) o h = rw (sym e ∙ h, and-then) (sym h)
 
-    pub parts-next : (left : ℕ) {q m : ℕ} → 0 < left → x ≡ checked.To q m → partsM d k starts left j s n ≡ partsM d k starts (left - 1) (j + 1) s m
+    pub parts-next : (left : ℕ) {q m : ℕ} → 0 < left → x ≡ checked.To q m →
+        partsM d k starts left j s n ≡ partsM d k starts (left - 1) (j + 1) s m
     unfolding partsM and-then
     parts-next zero o h = absurd (omega arith)
     parts-next (suc left) o h = rw (sub-one (suc left)) (rw (sym e ∙ h, and-then))

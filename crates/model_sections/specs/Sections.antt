@@ -12,7 +12,23 @@ use Rattle.model_spec.specs.File.{got, broken, u8, u16, u32}
 use Rattle.model_spec.specs.Validate.{day, bad-length}
 use Rattle.model_check.specs.declared.Checked.{Checked}
 use Rattle.model_check.specs.declared.Checked.the-variants as checked
-use Rattle.model_check.specs.Checks.{Declaration, Check, and-then, _⨾_, by, stay, skipM, dayM, place-is, among, valueM, pairM, predicateM, predicatesM, triggersM}
+use Rattle.model_check.specs.Checks.{
+  Declaration,
+  Check,
+  and-then,
+  _⨾_,
+  by,
+  stay,
+  skipM,
+  dayM,
+  place-is,
+  among,
+  valueM,
+  pairM,
+  predicateM,
+  predicatesM,
+  triggersM,
+}
 use Rattle.model_actions.specs.Actions.{actionsM}
 use Rattle.model_sections.specs.declared.Part.{Part}
 use Rattle.model_sections.specs.declared.Part.the-variants as part
@@ -193,7 +209,8 @@ module _ (d : Declaration) where
   -- `left` parts, the j-th on. Only the actions counted are carried along.
   unfoldable pub partsM : Part → (starts : List ℕ) → (left j : ℕ) → List ℕ → ℕ → Checked
   partsM k starts zero j s n = checked.To 0 n
-  partsM k starts (suc left) j s n = and-then (partM k starts j s (getD starts j 0) n) (λ q m. partsM k starts left (j + 1) s m)
+  partsM k starts (suc left) j s n = and-then (partM k starts j s (getD starts j 0) n)
+      (λ q m. partsM k starts left (j + 1) s m)
 
   abbrev pub sectionM : Part → (count : ℕ) → (starts : List ℕ) → Check
   sectionM k c starts s p n = partsM k starts c 0 s n

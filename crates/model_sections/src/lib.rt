@@ -6,7 +6,36 @@ ghost use Rattle.notation.specs.Reference.{was};
 ghost use mathlib.Core.Path.{_≡_};
 ghost use Prim.Native.Nat.{_≤_};
 ghost use Rattle.model_check.specs.Checks.{declaration};
-ghost use Rattle.model_sections.specs.Sections.{bad-place, any-bad, doubled, bad-domain, stale-bad, entity-ofM, entity-restM, entityM, inputM, eventM, seconds-bad, gaps-bad, id-is, seen, bad-id, conditionsM, guardM, transitionM, responseM, invariant-ofM, invariantM, bad-counts, listsM, rule-listsM, rule-ofM, ruleM, partM, partsM};
+ghost use Rattle.model_sections.specs.Sections.{
+  bad-place,
+  any-bad,
+  doubled,
+  bad-domain,
+  stale-bad,
+  entity-ofM,
+  entity-restM,
+  entityM,
+  inputM,
+  eventM,
+  seconds-bad,
+  gaps-bad,
+  id-is,
+  seen,
+  bad-id,
+  conditionsM,
+  guardM,
+  transitionM,
+  responseM,
+  invariant-ofM,
+  invariantM,
+  bad-counts,
+  listsM,
+  rule-listsM,
+  rule-ofM,
+  ruleM,
+  partM,
+  partsM,
+};
 
 // What a section is a list of.
 pub enum Part {

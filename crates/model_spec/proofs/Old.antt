@@ -13,7 +13,23 @@ use Rattle.texts.specs.Texts.{Text, memT}
 use Rattle.model_spec.specs.Answer as answers
 use Rattle.model_spec.specs.Answer.{answer, refused, Verdict, _and_, _when_, each-accepted}
 use Rattle.model_spec.specs.Notes.{notes-of}
-use Rattle.model_spec.specs.Model.{Entity, Moment, Predicate, state, window, Actions, Invariant, never, guard, transition, response, id-of, Model, midnight, is-window}
+use Rattle.model_spec.specs.Model.{
+  Entity,
+  Moment,
+  Predicate,
+  state,
+  window,
+  Actions,
+  Invariant,
+  never,
+  guard,
+  transition,
+  response,
+  id-of,
+  Model,
+  midnight,
+  is-window,
+}
 use Rattle.model_spec.specs.Windows.{
   no-window,
   windowless-effect,
@@ -23,7 +39,42 @@ use Rattle.model_spec.specs.Windows.{
   windowless-invariant,
   windowless,
 }
-use Rattle.model_spec.specs.File.{Got, got, broken, Reader, _>>=_, give, refuse, u16, u32, times, counted, kinds, flag, or-zeros, source, start, mode, limits, place, predicate, trigger, input, invariant, branches, effect, actions-of, actions, automation, head, events, made, model, decoded, decode}
+use Rattle.model_spec.specs.File.{
+  Got,
+  got,
+  broken,
+  Reader,
+  _>>=_,
+  give,
+  refuse,
+  u16,
+  u32,
+  times,
+  counted,
+  kinds,
+  flag,
+  or-zeros,
+  source,
+  start,
+  mode,
+  limits,
+  place,
+  predicate,
+  trigger,
+  input,
+  invariant,
+  branches,
+  effect,
+  actions-of,
+  actions,
+  automation,
+  head,
+  events,
+  made,
+  model,
+  decoded,
+  decode,
+}
 use Rattle.model_spec.specs.Validate.{
   bad-title,
   bad-size,

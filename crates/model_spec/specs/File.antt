@@ -1,5 +1,6 @@
 -- The model file: from bytes to the model, or 30 or 31.
--- A reader looks at a list of bytes from a position on. It finds a value and the position after it, or the file rules broken.
+-- A reader looks at a list of bytes from a position on. It finds a value and the position after it, or the file rules
+-- broken.
 use Prim.Native.Nat.{ℕ, zero, suc, _+_, _*_}
 use mathlib.Core.Bool.{Bool, true, false, _&&_}
 use mathlib.Core.List.{List, [], _∷_}
@@ -418,5 +419,7 @@ decode s = if ltb 32768 (length s) then refused 30 else decoded (model s 0) (len
 
 -- opens the file, for proofs by computation
 unfoldable pub all-readers : Unit {0}
-unfolding all-lists all-texts all-notes _>>=_ give refuse require u8 u16 u32 times counted kinds flag number? or-zeros printable one-text ascending has-fixed texts source start tier mode limits place place? predicate trigger entity entities input event invariant branches effect actions-of actions automation head events model decoded decode
+unfolding all-lists all-texts all-notes _>>=_ give refuse require u8 u16 u32 times counted kinds flag number? or-zeros
+    printable one-text ascending has-fixed texts source start tier mode limits place place? predicate trigger entity entities
+    input event invariant branches effect actions-of actions automation head events model decoded decode
 all-readers = tt

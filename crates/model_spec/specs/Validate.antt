@@ -7,7 +7,18 @@ use lib.Dec.{ltb, leb, eqb}
 use lib.ListN.{length}
 use Rattle.texts.specs.Lists.{absent, present-and, listed, is-empty, any, find, each, all-lists}
 use Rattle.texts.specs.Texts.{Text, text, eqT, memT, all-texts}
-use Rattle.model_spec.specs.Answer.{Answer, answer, refused, Verdict, accept, _>>=_, _and_, _when_, each-accepted, all-answers}
+use Rattle.model_spec.specs.Answer.{
+  Answer,
+  answer,
+  refused,
+  Verdict,
+  accept,
+  _>>=_,
+  _and_,
+  _when_,
+  each-accepted,
+  all-answers,
+}
 use Rattle.model_spec.specs.File.{decode, all-readers}
 use Rattle.model_spec.specs.Model.{
   Entity,
@@ -250,5 +261,8 @@ accepted file = decode file >>= validate
 
 -- opens the file, for proofs by computation
 unfoldable pub all-checks : Unit {0}
-unfolding all-lists all-texts all-answers all-readers all-model undecided bad-length doubles ordered bad-title bad-size bad-limits bad-start bad-alphabet bad-entity bad-events bad-bounds bad-window counting check-value check-predicate check-stated check-trigger check-input check-entity check-conditions check-invariant check-invariants check-effect check-rule check-rules validate accepted
+unfolding all-lists all-texts all-answers all-readers all-model undecided bad-length doubles ordered bad-title bad-size
+    bad-limits bad-start bad-alphabet bad-entity bad-events bad-bounds bad-window counting check-value check-predicate
+    check-stated check-trigger check-input check-entity check-conditions check-invariant check-invariants check-effect
+    check-rule check-rules validate accepted
 all-checks = tt

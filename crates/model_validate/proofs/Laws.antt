@@ -30,7 +30,20 @@ use Rattle.model_check.proofs.Laws as checks
 use Rattle.model_validate.specs.declared.Numbers.{Numbers}
 use Rattle.model_sections.specs.declared.Part.the-variants as part
 use Rattle.model_sections.specs.Sections.{seconds-bad, gaps-bad, partsM}
-use Rattle.model_validate.specs.ModelChecks.{title-bad, size-bad, limits-bad, start-bad, alphabet-bad, ordersM, Small, sectionsM, modelM, declared-in, numbers-of, indexM}
+use Rattle.model_validate.specs.ModelChecks.{
+  title-bad,
+  size-bad,
+  limits-bad,
+  start-bad,
+  alphabet-bad,
+  ordersM,
+  Small,
+  sectionsM,
+  modelM,
+  declared-in,
+  numbers-of,
+  indexM,
+}
 
 -- ---- the tests before the sections
 
@@ -100,7 +113,8 @@ module _ (h m d c : ℕ) where
           unfolding bad-limits
           limits-5 g = rw (le-ltb 86400 h a, ne-eqb m 0 b, le-ltb 10000 m e, le-ltb 5 d f, eq-eqb c 0 g)
 
-          pub limits-6 : (c ≡ 0 → ⊥) → bad-limits (record { horizon = h; max-steps = m; search-depth = d; max-cases = c }) ≡ ltb 2000 c
+          pub limits-6 : (c ≡ 0 → ⊥) → bad-limits (record { horizon = h; max-steps = m; search-depth = d; max-cases = c })
+              ≡ ltb 2000 c
           unfolding bad-limits
           limits-6 g = rw (le-ltb 86400 h a, ne-eqb m 0 b, le-ltb 10000 m e, le-ltb 5 d f, ne-eqb c 0 g)
 
@@ -186,11 +200,14 @@ module _ (s : List ℕ) (p : ℕ) {a : Num} (e : found a ≡ u32 s p) where
       module _ {z t : ℕ} (m : c ≡ num.Is z t) {d : Num} (o : found d ≡ u32 s t) where
         pub no-cases : d ≡ num.Broken → limits s p ≡ broken
         unfolding limits
-        no-cases u = bind-got u32 _ (is-got e h) ∙ bind-got u32 _ (is-got f k) ∙ bind-got u32 _ (is-got g m) ∙ bind-broken u32 _ (is-broken o u)
+        no-cases u = bind-got u32 _ (is-got e h) ∙ bind-got u32 _ (is-got f k) ∙ bind-got u32 _ (is-got g m)
+            ∙ bind-broken u32 _ (is-broken o u)
 
-        pub all-limits : {w v : ℕ} → d ≡ num.Is w v → limits s p ≡ got (record { horizon = x; max-steps = y; search-depth = z; max-cases = w }) v
+        pub all-limits : {w v : ℕ} → d ≡ num.Is w v → limits s p
+            ≡ got (record { horizon = x; max-steps = y; search-depth = z; max-cases = w }) v
         unfolding limits give
-        all-limits u = bind-got u32 _ (is-got e h) ∙ bind-got u32 _ (is-got f k) ∙ bind-got u32 _ (is-got g m) ∙ bind-got u32 _ (is-got o u)
+        all-limits u = bind-got u32 _ (is-got e h) ∙ bind-got u32 _ (is-got f k) ∙ bind-got u32 _ (is-got g m)
+            ∙ bind-got u32 _ (is-got o u)
 
 module _ (s : List ℕ) (i : Numbers) (gaps : List ℕ) where
   pub alphabet-1 : 12 < i .alphabet → alphabet-bad s i gaps ≡ true
@@ -227,7 +244,8 @@ module _ (i : Numbers) (events s : List ℕ) (p n : ℕ) {a : Num} (e : found a 
     unfolding ordersM
     orders-right k = rw (is-got e h, ordersM) (checks.refuse-no s p n 9 k)
 
-pub sections-are : (d : Declaration) (i : Numbers) (events invariants alphabet rules s : List ℕ) (p n : ℕ) → sectionsM d i events invariants alphabet rules s p n ≡ (
+pub sections-are : (d : Declaration) (i : Numbers) (events invariants alphabet rules s : List ℕ) (p n : ℕ) →
+    sectionsM d i events invariants alphabet rules s p n ≡ (
     (λ s p n. partsM d part.Entity (d .starts) (d .count) 0 s n)
     ⨾ (λ s p n. partsM d part.Event events (i .events) 0 s n)
     ⨾ (λ s p n. partsM d part.Input alphabet (i .alphabet) 0 s n)
@@ -281,7 +299,8 @@ or-no : (a b : Bool) → (a || b) ≡ false → (a ≡ false) × (b ≡ false)
 or-no true b h = absurd (not-both h refl)
 or-no false b h = (refl, h)
 
-pub small : (s : List ℕ) (n : ℕ) (i : Numbers) (gaps : List ℕ) → size-bad n i ≡ false → alphabet-bad s i gaps ≡ false → Small n i
+pub small : (s : List ℕ) (n : ℕ) (i : Numbers) (gaps : List ℕ) → size-bad n i ≡ false → alphabet-bad s i gaps ≡ false →
+    Small n i
 unfolding size-bad alphabet-bad
 small s n i gaps h k =
     let r = i .rules in
@@ -308,6 +327,9 @@ unfolding declared-in
 declared-count s t n = refl
 
 pub model-with : (s : List ℕ) (i : Index) {d : Declared} {x : Checked} →
-    x ≡ modelM (declaration d (i .entities .starts)) (numbers-of i) (i .events .starts) (i .invariants .starts) (i .alphabet .starts) (i .gaps .starts) (i .rules .starts) s →
+    x ≡ modelM (declaration d (i .entities .starts)) (numbers-of i) (i .events .starts) (i .invariants .starts)
+    (i .alphabet .starts) (i .gaps .starts) (i .rules .starts) s →
     d ≡ declared-in s (i .texts .count) (i .entities .count) → x ≡ indexM i s
-model-with s i e f = e ∙ ap (λ (d : Declared). modelM (declaration d (i .entities .starts)) (numbers-of i) (i .events .starts) (i .invariants .starts) (i .alphabet .starts) (i .gaps .starts) (i .rules .starts) s) f
+model-with s i e f =
+    e ∙ ap (λ (d : Declared). modelM (declaration d (i .entities .starts)) (numbers-of i) (i .events .starts)
+    (i .invariants .starts) (i .alphabet .starts) (i .gaps .starts) (i .rules .starts) s) f

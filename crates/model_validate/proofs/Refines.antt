@@ -14,7 +14,22 @@ use Rattle.model_spec.specs.Answer.{Answer, answer, refused, Verdict, _>>=_, _a
 use Rattle.model_spec.specs.Model.{Entity, Input, Event, Invariant, Limits, Scenario, Model}
 use Rattle.model_spec.specs.File.{_>>=_ as _>>=ᵣ_}
 use Rattle.model_spec.specs.File.{got, Reader, u32, limits, texts, entity, input, event, invariant, automation, decode}
-use Rattle.model_spec.specs.Validate.{day, ordered, bad-title, bad-size, bad-limits, bad-start, bad-alphabet, bad-events, check-input, check-entity, check-invariants, check-rules, validate, accepted}
+use Rattle.model_spec.specs.Validate.{
+  day,
+  ordered,
+  bad-title,
+  bad-size,
+  bad-limits,
+  bad-start,
+  bad-alphabet,
+  bad-events,
+  check-input,
+  check-entity,
+  check-invariants,
+  check-rules,
+  validate,
+  accepted,
+}
 use Rattle.model_walk.proofs.Found as found
 use Rattle.model_walk.proofs.Found.{Case, is-true, is-false, case, bound, given, place-found}
 use Rattle.model_parts.specs.declared.Section.{Section}
@@ -40,9 +55,36 @@ use Rattle.model_validate.specs.Contract.{validity-of, validated}
 use Rattle.model_validate.specs.declared.Numbers.{Numbers}
 use Rattle.model_sections.specs.declared.Part.the-variants as part
 use Rattle.model_sections.specs.Sections.{seconds-bad, gaps-bad, partsM}
-use Rattle.model_validate.specs.ModelChecks.{title-bad, size-bad, limits-bad, start-bad, alphabet-bad, ordersM, Small, sectionsM, modelM, declared-in, declared-of, numbers-of, indexM}
+use Rattle.model_validate.specs.ModelChecks.{
+  title-bad,
+  size-bad,
+  limits-bad,
+  start-bad,
+  alphabet-bad,
+  ordersM,
+  Small,
+  sectionsM,
+  modelM,
+  declared-in,
+  declared-of,
+  numbers-of,
+  indexM,
+}
 use Rattle.model_sections.proofs.Laws as parts
-use Rattle.model_sections.proofs.Refines.{empty-is, from-start, section-agrees, no-ids, entity-agrees, event-agrees, input-agrees, invariants-agree, rules-agree, ordered-all, seconds-agree, gaps-agree}
+use Rattle.model_sections.proofs.Refines.{
+  empty-is,
+  from-start,
+  section-agrees,
+  no-ids,
+  entity-agrees,
+  event-agrees,
+  input-agrees,
+  invariants-agree,
+  rules-agree,
+  ordered-all,
+  seconds-agree,
+  gaps-agree,
+}
 use Rattle.model_validate.proofs.Laws as laws
 
 -- ---- answers
@@ -58,7 +100,8 @@ outcome-after m (answer n) = refl
 outcome-after m (refused k) = refl
 
 -- a test ahead of the others
-ahead : (m : Model) (k : ℕ) (b : Bool) (y : Checked) (w : Answer Model) → (b ≡ false → outcome m y ≡ w) → outcome m (if b then checked.Refused k else y) ≡ (k when b and w)
+ahead : (m : Model) (k : ℕ) (b : Bool) (y : Checked) (w : Answer Model) → (b ≡ false → outcome m y ≡ w) →
+    outcome m (if b then checked.Refused k else y) ≡ (k when b and w)
 unfolding outcome _when_ _and_
 ahead m k true y w h = refl
 ahead m k false y w h = h refl
@@ -68,7 +111,8 @@ unfolding _>>=_ _and_
 and-to (answer tt) x f = refl
 and-to (refused k) x f = refl
 
-accepted-both : {A B C : Type 0} (c : B → Verdict) (f : A → B) (l : List A) (r : List B) (x : Answer C) → (each-accepted c (each f l ++ r) and x) ≡ (each-accepted (λ a. c (f a)) l and (each-accepted c r and x))
+accepted-both : {A B C : Type 0} (c : B → Verdict) (f : A → B) (l : List A) (r : List B) (x : Answer C) →
+    (each-accepted c (each f l ++ r) and x) ≡ (each-accepted (λ a. c (f a)) l and (each-accepted c r and x))
 unfolding each-accepted each
 accepted-both c f [] r x = sym (accept-and (each-accepted c r and x))
 accepted-both {A} {B} {C} c f (a ∷ l) r x =
@@ -112,11 +156,14 @@ module _ (s : List ℕ) (i : Index) (m : Model) (x : Indexed s i m) where
       let p = place-found (x .ts) (x .title .1) in
       rw (p .is-place, title-bad) (
       ap (λ (v : ℕ). not (eqb v 1) || ltb 200 (length (textAt s (startFrom s 6 (p .at))))) (x .version)
-      ∙ ap (λ (t : Text). not (eqb (sc .version) 1) || ltb 200 (length t)) (text-at s (x .all-texts .1) (p .at) (p .is-in) ∙ sym (p .is-text)))
+      ∙ ap (λ (t : Text). not (eqb (sc .version) 1) || ltb 200 (length t))
+      (text-at s (x .all-texts .1) (p .at) (p .is-in) ∙ sym (p .is-text)))
 
   sized : size-bad (i .entities .count) nn ≡ bad-size m
   unfolding size-bad bad-size
-  sized = rw (x .entities .counts, x .rules .counts, x .events .counts, x .invariants .counts) (ap (λ (b : Bool). b || ltb 32 (length (sc .entities)) || ltb 32 (length (m .rules)) || ltb 100 (length (sc .events)) || ltb 32 (length (sc .invariants))) (sym (empty-is (sc .entities))))
+  sized = rw (x .entities .counts, x .rules .counts, x .events .counts, x .invariants .counts)
+      (ap (λ (b : Bool). b || ltb 32 (length (sc .entities)) || ltb 32 (length (m .rules)) || ltb 100 (length (sc .events))
+      || ltb 32 (length (sc .invariants))) (sym (empty-is (sc .entities))))
 
   size-agrees : size-bad (dd .count) nn ≡ bad-size m
   size-agrees = ap (λ (c : ℕ). size-bad c nn) (laws.declared-count s (i .texts .count) (i .entities .count)) ∙ sized
@@ -129,7 +176,9 @@ module _ (s : List ℕ) (i : Index) (m : Model) (x : Indexed s i m) where
 
   alphabet-agrees : alphabet-bad s nn (i .gaps .starts) ≡ bad-alphabet sc
   unfolding alphabet-bad bad-alphabet
-  alphabet-agrees = rw (x .alphabet .counts, x .gaps .counts) (cases (case (ltb 4 (length (sc .gaps)))) ∙ ap (λ (b : Bool). ltb 12 (length (sc .alphabet)) || b || ltb 4 (length (sc .gaps)) || any (ltb day) (sc .gaps)) (sym (empty-is (sc .gaps))))
+  alphabet-agrees = rw (x .alphabet .counts, x .gaps .counts)
+      (cases (case (ltb 4 (length (sc .gaps)))) ∙ ap (λ (b : Bool). ltb 12 (length (sc .alphabet)) || b
+      || ltb 4 (length (sc .gaps)) || any (ltb day) (sc .gaps)) (sym (empty-is (sc .gaps))))
     where
       a : Bool
       a = ltb 12 (length (sc .alphabet))
@@ -137,11 +186,15 @@ module _ (s : List ℕ) (i : Index) (m : Model) (x : Indexed s i m) where
       e : Bool
       e = eqb (length (sc .gaps)) 0
 
-      cases : Case (ltb 4 (length (sc .gaps))) → (a || e || ltb 4 (length (sc .gaps)) || gaps-bad (i .gaps .starts) s (length (sc .gaps)) 0) ≡ (a || e || ltb 4 (length (sc .gaps)) || any (ltb day) (sc .gaps))
+      cases : Case (ltb 4 (length (sc .gaps))) →
+          (a || e || ltb 4 (length (sc .gaps)) || gaps-bad (i .gaps .starts) s (length (sc .gaps)) 0)
+          ≡ (a || e || ltb 4 (length (sc .gaps)) || any (ltb day) (sc .gaps))
       cases (is-true h) = rw h (third a e (gaps-bad (i .gaps .starts) s (length (sc .gaps)) 0) (any (ltb day) (sc .gaps)))
-      cases (is-false h) = ap (λ (b : Bool). a || e || ltb 4 (length (sc .gaps)) || b) (gaps-agree s (x .ts) (i .gaps .starts) (sc .gaps) 0 (λ a₀ k o.
+      cases (is-false h) = ap (λ (b : Bool). a || e || ltb 4 (length (sc .gaps)) || b)
+          (gaps-agree s (x .ts) (i .gaps .starts) (sc .gaps) 0 (λ a₀ k o.
           let z : k ≡ 0 + k = omega arith in
-          subst (λ (j : ℕ). Reads u32 s (getD (i .gaps .starts) j 0) (getD (sc .gaps) k a₀)) z (x .gaps .stand a₀ k (omega (arith, ltb-false 4 (length (sc .gaps)) h)) o)))
+          subst (λ (j : ℕ). Reads u32 s (getD (i .gaps .starts) j 0) (getD (sc .gaps) k a₀)) z
+          (x .gaps .stand a₀ k (omega (arith, ltb-false 4 (length (sc .gaps)) h)) o)))
 
   horizon-read : (q : ℕ) × (u32 s (i .limits) ≡ got (sc .limits .horizon) q)
   horizon-read = horizon-of s (i .limits) (sc .limits) (x .limits-at .0) (x .limits-at .1)
@@ -155,7 +208,9 @@ module _ (s : List ℕ) (i : Index) (m : Model) (x : Indexed s i m) where
     grounded =
         let e = x .all-texts .1 in
         let f = fixed-texts s e in
-        let at : (w : Text) → memT w (x .ts) ≡ true → Fixed (x .ts) (place-from (i .texts .count) 0 w s 6) w = λ w h. subst (λ (c : ℕ). Fixed (x .ts) (place-from c 0 w s 6) w) (sym (x .each-text .counts)) (fixed-at s e w h) in
+        let at : (w : Text) → memT w (x .ts) ≡ true → Fixed (x .ts) (place-from (i .texts .count) 0 w s 6) w =
+        λ w h. subst (λ (c : ℕ). Fixed (x .ts) (place-from c 0 w s 6) w) (sym (x .each-text .counts))
+        (fixed-at s e w h) in
         record {
           same = same-place (x .ts) (texts-ascend s e);
           counts = x .entities .counts;
@@ -167,19 +222,24 @@ module _ (s : List ℕ) (i : Index) (m : Model) (x : Indexed s i m) where
           unavailable = at (text "unavailable") (f .unavailable);
         }
 
-    start : {A : Type 0} (r : Reader A) (y : Section) (l : List A) → Holds r s y l → y .count ≤ 100 → (a₀ : A) (k : ℕ) → k < length l → Reads r s (getD (y .starts) (0 + k) 0) (getD l k a₀)
+    start : {A : Type 0} (r : Reader A) (y : Section) (l : List A) → Holds r s y l → y .count ≤ 100 → (a₀ : A) (k : ℕ) →
+        k < length l → Reads r s (getD (y .starts) (0 + k) 0) (getD l k a₀)
     start r y l h o = from-start s (x .ts) (x .all-texts) dd (sc .entities) grounded r y l h (few r y l h o)
 
-    orders-agree : (n : ℕ) → ordersM nn (i .events .starts) s 0 n ≡ after 0 (9 when bad-events (sc .limits .horizon) (sc .events) and answer n)
+    orders-agree : (n : ℕ) → ordersM nn (i .events .starts) s 0 n
+        ≡ after 0 (9 when bad-events (sc .limits .horizon) (sc .events) and answer n)
     unfolding ordersM bad-events
     orders-agree n =
         let h = sc .limits .horizon in
         rw (horizon-read .1, ordersM) (
         ap (λ (c : ℕ). refuse-if 9 (seconds-bad h (i .events .starts) s c 0 0) s 0 n) (x .events .counts)
-        ∙ ap (λ (b : Bool). refuse-if 9 b s 0 n) (seconds-agree s (x .ts) (i .events .starts) h (sc .events) 0 0 (start (event (x .ts)) (i .events) (sc .events) (x .events) (small .events)) ∙ ap (λ (b : Bool). any (λ e. ltb h (e .at)) (sc .events) || not b) (ordered-all (sc .events)))
+        ∙ ap (λ (b : Bool). refuse-if 9 b s 0 n) (seconds-agree s (x .ts) (i .events .starts) h (sc .events) 0 0
+        (start (event (x .ts)) (i .events) (sc .events) (x .events) (small .events))
+        ∙ ap (λ (b : Bool). any (λ e. ltb h (e .at)) (sc .events) || not b) (ordered-all (sc .events)))
         ∙ refuse-if-is s 9 (any (λ e. ltb h (e .at)) (sc .events) || not (ordered (sc .events))) 0 n)
 
-    sections-agree : sectionsM dd nn (i .events .starts) (i .invariants .starts) (i .alphabet .starts) (i .rules .starts) s 0 0 ≡ after 0 (
+    sections-agree : sectionsM dd nn (i .events .starts) (i .invariants .starts) (i .alphabet .starts) (i .rules .starts)
+        s 0 0 ≡ after 0 (
         each-accepted (check-entity (sc .entities)) (sc .entities)
         and (each-accepted (λ e. check-input (sc .entities) (e .input)) (sc .events)
         and (each-accepted (check-input (sc .entities)) (sc .alphabet)
@@ -197,16 +257,33 @@ module _ (s : List ℕ) (i : Index) (m : Model) (x : Indexed s i m) where
         let t = x .all-texts in
         laws.sections-are dd nn (i .events .starts) (i .invariants .starts) (i .alphabet .starts) (i .rules .starts) s 0 0
         ∙ next-and s _ _ 0 0 0 0 v₁ (λ n. v₂ and (v₃ and (v₄ and (v₅ and rs n))))
-        (ap (λ (c : ℕ). partsM dd part.Entity (i .entities .starts) c 0 s 0) (laws.declared-count s (i .texts .count) (i .entities .count)) ∙ section-agrees s (x .ts) t dd es grounded (entity (x .ts)) (check-entity es) part.Entity (i .entities) es (λ j p n a q e. parts.part-entity dd s p n (i .entities .starts) j refl ∙ entity-agrees s (x .ts) t dd es grounded p n a q e) (x .entities) (few (entity (x .ts)) (i .entities) es (x .entities) (small .entities)) 0)
+        (ap (λ (c : ℕ). partsM dd part.Entity (i .entities .starts) c 0 s 0)
+        (laws.declared-count s (i .texts .count) (i .entities .count))
+        ∙ section-agrees s (x .ts) t dd es grounded (entity (x .ts)) (check-entity es) part.Entity (i .entities) es
+        (λ j p n a q e. parts.part-entity dd s p n (i .entities .starts) j refl
+        ∙ entity-agrees s (x .ts) t dd es grounded p n a q e) (x .entities)
+        (few (entity (x .ts)) (i .entities) es (x .entities) (small .entities)) 0)
         (λ n₁. next-and s _ _ 0 n₁ 0 0 v₂ (λ n. v₃ and (v₄ and (v₅ and rs n)))
-        (section-agrees s (x .ts) t dd es grounded (event (x .ts)) (λ e. check-input es (e .input)) part.Event (i .events) (sc .events) (λ j p n a q e. parts.part-event dd s p n (i .events .starts) j refl ∙ event-agrees s (x .ts) t dd es grounded p n a q e) (x .events) (few (event (x .ts)) (i .events) (sc .events) (x .events) (small .events)) n₁)
+        (section-agrees s (x .ts) t dd es grounded (event (x .ts)) (λ e. check-input es (e .input)) part.Event (i .events)
+        (sc .events) (λ j p n a q e. parts.part-event dd s p n (i .events .starts) j refl
+        ∙ event-agrees s (x .ts) t dd es grounded p n a q e) (x .events)
+        (few (event (x .ts)) (i .events) (sc .events) (x .events) (small .events)) n₁)
         (λ n₂. next-and s _ _ 0 n₂ 0 0 v₃ (λ n. v₄ and (v₅ and rs n))
-        (section-agrees s (x .ts) t dd es grounded (input (x .ts)) (check-input es) part.Input (i .alphabet) (sc .alphabet) (λ j p n a q e. parts.part-input dd s p n (i .alphabet .starts) j refl ∙ input-agrees s (x .ts) t dd es grounded p n a q e) (x .alphabet) (few (input (x .ts)) (i .alphabet) (sc .alphabet) (x .alphabet) (small .alphabet)) n₂)
+        (section-agrees s (x .ts) t dd es grounded (input (x .ts)) (check-input es) part.Input (i .alphabet) (sc .alphabet)
+        (λ j p n a q e. parts.part-input dd s p n (i .alphabet .starts) j refl
+        ∙ input-agrees s (x .ts) t dd es grounded p n a q e) (x .alphabet)
+        (few (input (x .ts)) (i .alphabet) (sc .alphabet) (x .alphabet) (small .alphabet)) n₂)
         (λ n₃. next-and s _ _ 0 n₃ 0 0 v₄ (λ n. v₅ and rs n)
         (orders-agree n₃)
         (λ n₄. next-and s _ _ 0 n₄ 0 0 v₅ rs
-        (ap (λ (c : ℕ). partsM dd part.Invariant (i .invariants .starts) c 0 s n₄) (x .invariants .counts) ∙ invariants-agree s (x .ts) t dd es grounded (i .invariants .starts) (sc .invariants) 0 n₄ [] (no-ids s (x .ts) t dd es grounded part.Invariant (i .invariants .starts)) (start (invariant (x .ts)) (i .invariants) (sc .invariants) (x .invariants) (small .invariants)))
-        (λ n₅. ap (λ (c : ℕ). partsM dd part.Rule (i .rules .starts) c 0 s n₅) (x .rules .counts) ∙ rules-agree s (x .ts) t dd es grounded (i .rules .starts) (m .rules) 0 n₅ [] (no-ids s (x .ts) t dd es grounded part.Rule (i .rules .starts)) (start (automation (x .ts)) (i .rules) (m .rules) (x .rules) (small .rules)))))))
+        (ap (λ (c : ℕ). partsM dd part.Invariant (i .invariants .starts) c 0 s n₄) (x .invariants .counts)
+        ∙ invariants-agree s (x .ts) t dd es grounded (i .invariants .starts) (sc .invariants) 0 n₄ []
+        (no-ids s (x .ts) t dd es grounded part.Invariant (i .invariants .starts))
+        (start (invariant (x .ts)) (i .invariants) (sc .invariants) (x .invariants) (small .invariants)))
+        (λ n₅. ap (λ (c : ℕ). partsM dd part.Rule (i .rules .starts) c 0 s n₅) (x .rules .counts)
+        ∙ rules-agree s (x .ts) t dd es grounded (i .rules .starts) (m .rules) 0 n₅ []
+        (no-ids s (x .ts) t dd es grounded part.Rule (i .rules .starts))
+        (start (automation (x .ts)) (i .rules) (m .rules) (x .rules) (small .rules)))))))
 
   -- the whole model
   pub model-agrees : outcome m (indexM i s) ≡ validate m
@@ -215,13 +292,19 @@ module _ (s : List ℕ) (i : Index) (m : Model) (x : Indexed s i m) where
       let es = sc .entities in
       rw (title-agrees, limits-agree, start-agrees) (
       ahead m 1 (bad-title sc) _ _ λ a.
-      ap (λ (b : Bool). outcome m (if b then checked.Refused 2 else if bad-limits (sc .limits) then checked.Refused 3 else if bad-start (m .start) then checked.Refused 3 else if alphabet-bad s nn (i .gaps .starts) then checked.Refused 4 else sectionsM dd nn (i .events .starts) (i .invariants .starts) (i .alphabet .starts) (i .rules .starts) s 0 0)) size-agrees
+      ap (λ (b : Bool). outcome m (if b then checked.Refused 2 else if bad-limits (sc .limits) then checked.Refused 3
+      else if bad-start (m .start) then checked.Refused 3 else if alphabet-bad s nn (i .gaps .starts)
+      then checked.Refused 4 else sectionsM dd nn (i .events .starts) (i .invariants .starts) (i .alphabet .starts)
+      (i .rules .starts) s 0 0)) size-agrees
       ∙ (ahead m 2 (bad-size m) _ _ λ b.
       ap (outcome m) (or-if (bad-limits (sc .limits)) (bad-start (m .start)) _ _) ∙ (
       ahead m 3 (bad-limits (sc .limits) || bad-start (m .start)) _ _ λ c.
-      ap (λ (b : Bool). outcome m (if b then checked.Refused 4 else sectionsM dd nn (i .events .starts) (i .invariants .starts) (i .alphabet .starts) (i .rules .starts) s 0 0)) alphabet-agrees
+      ap (λ (b : Bool). outcome m (if b then checked.Refused 4
+      else sectionsM dd nn (i .events .starts) (i .invariants .starts) (i .alphabet .starts) (i .rules .starts) s 0 0))
+      alphabet-agrees
       ∙ (ahead m 4 (bad-alphabet sc) _ _ λ d.
-      ap (outcome m) (sections-agree (laws.small s (i .entities .count) nn (i .gaps .starts) (sized ∙ b) (alphabet-agrees ∙ d)))
+      ap (outcome m)
+      (sections-agree (laws.small s (i .entities .count) nn (i .gaps .starts) (sized ∙ b) (alphabet-agrees ∙ d)))
       ∙ outcome-after m _
       ∙ and-to (each-accepted (check-entity es) es) _ _
       ∙ ap (λ (y : Answer Model). each-accepted (check-entity es) es and y) (
@@ -266,7 +349,8 @@ module _ (s : List ℕ) (file : File) where
         cases (answer m) y = subst (Says s file) (sym (ap (outcome m) h) ∙ verdict m (y .indexed)) y
         cases (refused k) y = absurd (read-or-not r (refused-status k y))
 
-    pub is-refused : Says s file (decode s) → {k : ℕ} → x ≡ checked.Refused k → {f : File} → f ≡ refusedM k → Says s f (accepted s)
+    pub is-refused : Says s file (decode s) → {k : ℕ} → x ≡ checked.Refused k → {f : File} → f ≡ refusedM k →
+        Says s f (accepted s)
     unfolding accepted _>>=_ outcome
     is-refused says {k} h {f} o = cases (decode s) says
       where
@@ -325,7 +409,9 @@ module _ (o : Outline) (t e v i a g r : List ℕ) where
     outline-refused h = stays-refused s (file-of o t e v i a g r) says (is-refusal h)
 
     module _ (h : o .status ≡ status.Read) {d : Declared} {x : Checked}
-        (c : x ≡ modelM (declaration d e) (numbers-of (index-of (o .front) t e v i (section (o .alphabet) a) (section (o .gaps) g) (o .limits) (section (o .rules) r))) v i a g r s)
+        (c : x ≡ modelM (declaration d e)
+        (numbers-of (index-of (o .front) t e v i (section (o .alphabet) a) (section (o .gaps) g) (o .limits)
+        (section (o .rules) r))) v i a g r s)
         (f : d ≡ declared-in s (o .front .texts .count) (o .front .entities .count)) where
       abbrev ii : Index
       ii = index-of (o .front) t e v i (section (o .alphabet) a) (section (o .gaps) g) (o .limits) (section (o .rules) r)
@@ -334,10 +420,13 @@ module _ (o : Outline) (t e v i a g r : List ℕ) where
       read-says = subst (λ (y : File). Says s y (decode s)) (index.file-read o t e v i a g r h) says
 
       pub outline-accepted : {p n : ℕ} → x ≡ checked.To p n → Says s (file-of o t e v i a g r) (accepted s)
-      outline-accepted k = subst (λ (y : File). Says s y (accepted s)) (sym (index.file-read o t e v i a g r h)) (is-accepted s (wholeM ii) refl (laws.model-with s ii c f) read-says k)
+      outline-accepted k = subst (λ (y : File). Says s y (accepted s)) (sym (index.file-read o t e v i a g r h))
+          (is-accepted s (wholeM ii) refl (laws.model-with s ii c f) read-says k)
 
-      pub outline-checked : {k : ℕ} → x ≡ checked.Refused k → (u : Outline) → u ≡ refusalM k → Says s (file-of u t e v i a g r) (accepted s)
-      outline-checked k u m = is-refused s (wholeM ii) refl (laws.model-with s ii c f) read-says k (index.file-refusal u t e v i a g r m)
+      pub outline-checked : {k : ℕ} → x ≡ checked.Refused k → (u : Outline) → u ≡ refusalM k →
+          Says s (file-of u t e v i a g r) (accepted s)
+      outline-checked k u m = is-refused s (wholeM ii) refl (laws.model-with s ii c f) read-says k
+          (index.file-refusal u t e v i a g r m)
 
 pub file-says : (s : List ℕ) {f x : File} → f ≡ x → Says s x (accepted s) → Says s f (accepted s)
 file-says s e h = subst (λ (y : File). Says s y (accepted s)) (sym e) h

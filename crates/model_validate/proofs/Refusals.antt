@@ -10,10 +10,58 @@ use lib.Dec.{ltb}
 use Rattle.texts.specs.Lists.{if_then_else_, absent, listed, find}
 use Rattle.texts.specs.Texts.{Text, text, memT}
 use Rattle.model_spec.specs.Answer.{Answer, answer, refused, Verdict, accept, _>>=_, _and_, _when_, each-accepted}
-use Rattle.model_spec.specs.Model.{Entity, Predicate, state, window, Trigger, Effect, toggle, delay, condition, choose, wait, Actions, done, act, Branches, no-branch, branch, Automation, Input, reload, Invariant, never, guard, transition, response, id-of, Model, named}
+use Rattle.model_spec.specs.Model.{
+  Entity,
+  Predicate,
+  state,
+  window,
+  Trigger,
+  Effect,
+  toggle,
+  delay,
+  condition,
+  choose,
+  wait,
+  Actions,
+  done,
+  act,
+  Branches,
+  no-branch,
+  branch,
+  Automation,
+  Input,
+  reload,
+  Invariant,
+  never,
+  guard,
+  transition,
+  response,
+  id-of,
+  Model,
+  named,
+}
 use Rattle.model_spec.specs.Notes.{notes-of}
 use Rattle.model_spec.specs.File.{Got, got, broken, model, decoded, decode}
-use Rattle.model_spec.specs.Validate.{undecided, counting, check-value, check-predicate, check-stated, check-trigger, check-input, check-entity, check-conditions, check-invariant, check-invariants, check-effect, check-actions, check-branches, check-rule, check-rules, validate, accepted}
+use Rattle.model_spec.specs.Validate.{
+  undecided,
+  counting,
+  check-value,
+  check-predicate,
+  check-stated,
+  check-trigger,
+  check-input,
+  check-entity,
+  check-conditions,
+  check-invariant,
+  check-invariants,
+  check-effect,
+  check-actions,
+  check-branches,
+  check-rule,
+  check-rules,
+  validate,
+  accepted,
+}
 
 -- an answer, or one of the numbers that P allows
 abbrev pub Refuses : (P : ℕ → Type 0) → {A : Type 0} → Answer A → Type 0

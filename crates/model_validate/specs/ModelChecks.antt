@@ -108,4 +108,5 @@ numbers-of i = record {
 
 -- the check of the model that the index finds
 abbrev pub indexM : Index → List ℕ → Checked
-indexM i s = modelM (declared-of s i) (numbers-of i) (i .events .starts) (i .invariants .starts) (i .alphabet .starts) (i .gaps .starts) (i .rules .starts) s
+indexM i s = modelM (declared-of s i) (numbers-of i) (i .events .starts) (i .invariants .starts) (i .alphabet .starts)
+    (i .gaps .starts) (i .rules .starts) s

@@ -15,7 +15,18 @@ ghost use Rattle.model_parts.specs.Parts.{no-starts};
 ghost use Rattle.model_index.specs.Index.{file-of, Zeros};
 ghost use Rattle.model_index.specs.Indexed.{Says};
 ghost use Rattle.model_check.specs.Checks.{declaration};
-ghost use Rattle.model_validate.specs.ModelChecks.{title-bad, size-bad, limits-bad, start-bad, alphabet-bad, ordersM, Small, sectionsM, modelM, declared-in};
+ghost use Rattle.model_validate.specs.ModelChecks.{
+  title-bad,
+  size-bad,
+  limits-bad,
+  start-bad,
+  alphabet-bad,
+  ordersM,
+  Small,
+  sectionsM,
+  modelM,
+  declared-in,
+};
 ghost use Rattle.model_validate.specs.Contract.{validated};
 
 // lib.rs: the version of the model file.
@@ -76,7 +87,8 @@ fn size_bad(entities: u32, numbers: Numbers) -> bool
 
 // The tests of the four limits.
 fn numbers_bad(horizon: u32, steps: u32, depth: u32, cases: u32) -> bool
-    ensures { λ r. ⌜ r ≡ bad-limits (record { horizon = horizon; max-steps = steps; search-depth = depth; max-cases = cases }) ⌝ }
+    ensures { λ r.
+        ⌜ r ≡ bad-limits (record { horizon = horizon; max-steps = steps; search-depth = depth; max-cases = cases }) ⌝ }
 {
     if 86400 < horizon {
         return true;
@@ -185,7 +197,8 @@ fn sections_check(
     rules: &[usize; 100],
 ) -> Checked
     requires { ⌜ Small (d .count) numbers ⌝ }
-    ensures { λ r. ⌜ r ≡ sectionsM (declaration d (was entities)) numbers (was events) (was invariants) (was alphabet) (was rules) (was s) 0 0 ⌝ }
+    ensures { λ r. ⌜ r ≡ sectionsM (declaration d (was entities)) numbers (was events) (was invariants) (was alphabet)
+        (was rules) (was s) 0 0 ⌝ }
 {
     let a = model_sections::section_check(s, d, entities, Part::Entity, entities, d.count, 0);
     let Checked::To(p0, n0) = a else {
@@ -224,7 +237,8 @@ fn whole_check(
     gaps: &[usize; 100],
     rules: &[usize; 100],
 ) -> Checked
-    ensures { λ r. ⌜ r ≡ modelM (declaration d (was entities)) numbers (was events) (was invariants) (was alphabet) (was gaps) (was rules) (was s) ⌝ }
+    ensures { λ r. ⌜ r ≡ modelM (declaration d (was entities)) numbers (was events) (was invariants) (was alphabet)
+        (was gaps) (was rules) (was s) ⌝ }
 {
     if title_bad(s, numbers) {
         return Checked::Refused(1);
@@ -272,8 +286,11 @@ fn examine(
     gaps: &mut [usize; 100],
     rules: &mut [usize; 100],
 ) -> Outline
-    requires { ⌜ (now texts ≡ no-starts) × (Zeros (now entities) (now events) (now invariants) × Zeros (now alphabet) (now gaps) (now rules)) ⌝ }
-    ensures { λ r. ⌜ Says (was s) (file-of r (is texts) (is entities) (is events) (is invariants) (is alphabet) (is gaps) (is rules)) (accepted (was s)) ⌝ }
+    requires { ⌜ (now texts ≡ no-starts) × (Zeros (now entities) (now events) (now invariants)
+        × Zeros (now alphabet) (now gaps) (now rules)) ⌝ }
+    ensures { λ r.
+        ⌜ Says (was s) (file-of r (is texts) (is entities) (is events) (is invariants) (is alphabet) (is gaps) (is rules))
+        (accepted (was s)) ⌝ }
 {
     let x = model_index::read(
         s,

@@ -1,4 +1,5 @@
--- What a reader found, part by part: from the value that the reader of a part gave back to the numbers that stand in the file.
+-- What a reader found, part by part: from the value that the reader of a part gave back to the numbers that stand in the
+-- file.
 use mathlib.Core.Path.{_≡_, refl, sym, ap, _∙_, subst}
 use mathlib.Core.List.{List, [], _∷_}
 use mathlib.Core.Bool.{Bool, true, false}
@@ -12,7 +13,30 @@ use borrow.Author.Tests.{ltb-true, eqb-true, eqb-false}
 use Rattle.texts.specs.Lists.{if_then_else_}
 use Rattle.texts.specs.Texts.{Text}
 use Rattle.model_spec.specs.Model.{Source, Predicate, state, window, Trigger, Entity}
-use Rattle.model_spec.specs.File.{Got, got, broken, Reader, _>>=_, give, refuse, require, u8, u16, u32, times, counted, kinds, number?, source, tier, place, place?, predicate, trigger, entity}
+use Rattle.model_spec.specs.File.{
+  Got,
+  got,
+  broken,
+  Reader,
+  _>>=_,
+  give,
+  refuse,
+  require,
+  u8,
+  u16,
+  u32,
+  times,
+  counted,
+  kinds,
+  number?,
+  source,
+  tier,
+  place,
+  place?,
+  predicate,
+  trigger,
+  entity,
+}
 use Rattle.model_walk.specs.declared.Walked.the-variants as walked
 use Rattle.model_walk.specs.Walk.{seen, capped, predicate-size, kindM, by, staying, stay, stop}
 use Rattle.model_walk.proofs.Refines.{Sees, quiet, sees-tier}
@@ -36,7 +60,8 @@ pub record Bound {A B : Type 0} (r : Reader A) (k : A → Reader B) (s : List �
   pub rest : k value s next ≡ got b q
 
 -- a reader, and then another
-pub bound : {A B : Type 0} (r : Reader A) (k : A → Reader B) {s : List ℕ} {p : ℕ} {b : B} {q : ℕ} → (r >>= k) s p ≡ got b q → Bound r k s p b q
+pub bound : {A B : Type 0} (r : Reader A) (k : A → Reader B) {s : List ℕ} {p : ℕ} {b : B} {q : ℕ} → (r >>= k) s p ≡ got b q →
+    Bound r k s p b q
 bound {A} r k {s} {p} {b} {q} e = cases (r s p) refl
   where
     cases : (g : Got A) → r s p ≡ g → Bound r k s p b q
@@ -54,7 +79,8 @@ module _ {A : Type 0} (s : List ℕ) (p : ℕ) (a : A) {b : A} {q : ℕ} where
     where
       cases : (x : Bool) → t ≡ x → (t ≡ true) × ((a ≡ b) × (p ≡ q))
       cases true h = let g : got a p ≡ got b q = rw h at e in (h, ((cc), (cc)))
-      cases false h = let g : _≡_ {A = Got A} broken (got b q) = rw h at e in let z : _≡_ {A = ℕ} 0 1 = cc in absurd (omega arith)
+      cases false h = let g : _≡_ {A = Got A} broken (got b q) = rw h at e in let z : _≡_ {A = ℕ} 0 1 = cc in
+          absurd (omega arith)
 
 pub refused : {A : Type 0} (s : List ℕ) (p : ℕ) {b : A} {q : ℕ} → refuse s p ≡ got b q → ⊥
 unfolding refuse
@@ -70,7 +96,8 @@ pub record Wide (w : ℕ) (s : List ℕ) (p q : ℕ) : Type 0 where
 pub wide-sum : {v w : ℕ} {s : List ℕ} {p q t : ℕ} → Wide v s p q → Wide w s q t → Wide (v + w) s p t
 wide-sum a b = record { ends = omega arith; inside = omega arith }
 
-module _ (w : ℕ) (s : List ℕ) (p : ℕ) (r : Reader ℕ) (x : ℕ) (inside : p + w ≤ length s → r s p ≡ got x (p + w)) (outside : length s < p + w → r s p ≡ broken) where
+module _ (w : ℕ) (s : List ℕ) (p : ℕ) (r : Reader ℕ) (x : ℕ) (inside : p + w ≤ length s → r s p ≡ got x (p + w))
+    (outside : length s < p + w → r s p ≡ broken) where
   wide-of : {v q : ℕ} → r s p ≡ got v q → Wide w s p q
   wide-of {v} {q} e = elim (decLt (length s) (p + w)) [
     | yes h ↦ let g = outside h in let z : _≡_ {A = ℕ} 0 1 = cc in absurd (omega arith)
@@ -107,9 +134,11 @@ pub record Counted {A : Type 0} (r : Reader A) (s : List ℕ) (p : ℕ) (l : Lis
   pub is-count : u16 s p ≡ got count start
   pub are-values : times count r s start ≡ got l q
 
-pub counted-found : {A : Type 0} (r : Reader A) {s : List ℕ} {p : ℕ} {l : List A} {q : ℕ} → counted r s p ≡ got l q → Counted r s p l q
+pub counted-found : {A : Type 0} (r : Reader A) {s : List ℕ} {p : ℕ} {l : List A} {q : ℕ} → counted r s p ≡ got l q →
+    Counted r s p l q
 unfolding counted
-counted-found r e = let b = bound u16 (λ n. times n r) e in record { count = b .value; start = b .next; is-count = b .first; are-values = b .rest }
+counted-found r e = let b = bound u16 (λ n. times n r) e in
+    record { count = b .value; start = b .next; is-count = b .first; are-values = b .rest }
 
 -- ---- kinds
 
@@ -119,12 +148,15 @@ pub record Kind {A : Type 0} (rs : List (Reader A)) (s : List ℕ) (p : ℕ) (a 
   pub is-kind : u8 s p ≡ got kind next
   pub holds : getD rs kind refuse s next ≡ got a q
 
-pub kind-found : {A : Type 0} (rs : List (Reader A)) {s : List ℕ} {p : ℕ} {a : A} {q : ℕ} → kinds rs s p ≡ got a q → Kind rs s p a q
+pub kind-found : {A : Type 0} (rs : List (Reader A)) {s : List ℕ} {p : ℕ} {a : A} {q : ℕ} → kinds rs s p ≡ got a q →
+    Kind rs s p a q
 unfolding kinds
-kind-found rs e = let b = bound u8 (λ k. getD rs k refuse) e in record { kind = b .value; next = b .next; is-kind = b .first; holds = b .rest }
+kind-found rs e = let b = bound u8 (λ k. getD rs k refuse) e in
+    record { kind = b .value; next = b .next; is-kind = b .first; holds = b .rest }
 
 -- a kind that holds nothing
-pub kind-wide : {A : Type 0} (limit : ℕ) (r : Reader A) → Sees quiet r (kindM limit) → {s : List ℕ} {p : ℕ} {a : A} {q : ℕ} → r s p ≡ got a q → Wide 1 s p q
+pub kind-wide : {A : Type 0} (limit : ℕ) (r : Reader A) → Sees quiet r (kindM limit) → {s : List ℕ} {p : ℕ} {a : A} {q : ℕ} →
+    r s p ≡ got a q → Wide 1 s p q
 unfolding seen by staying stay stop capped
 kind-wide limit r f {s} {p} {a} {q} e = cases (u8 s p) refl
   where
@@ -137,7 +169,8 @@ kind-wide limit r f {s} {p} {a} {q} e = cases (u8 s p) refl
 
     cases : (g : Got ℕ) → u8 s p ≡ g → Wide 1 s p q
     cases (got x o) d = subst (Wide 1 s p) (ended x o (ltb x limit) (rw (d, by) at told)) (u8-wide s p d)
-    cases broken d = let g : walked.Broken ≡ walked.To q 0 = rw (d, by) at told in let z : _≡_ {A = ℕ} 0 1 = cc in absurd (omega arith)
+    cases broken d = let g : walked.Broken ≡ walked.To q 0 = rw (d, by) at told in let z : _≡_ {A = ℕ} 0 1 = cc in
+        absurd (omega arith)
 
 -- ---- places
 module _ (ts : List Text) where
@@ -187,7 +220,8 @@ module _ (ts : List Text) where
             is-value = subst (Value? (b .value)) (r .0) (absent (eqb-true _ _ h));
           }
       cases (is-false h) =
-          let g : require (ltb (b .value) (length ts)) (some (getD ts (b .value) [])) s (b .next) ≡ got o q = rw h at (b .rest) in
+          let g : require (ltb (b .value) (length ts)) (some (getD ts (b .value) [])) s (b .next) ≡ got o q =
+          rw h at (b .rest) in
           let r = required _ _ _ _ g in
           record {
             at = b .value;

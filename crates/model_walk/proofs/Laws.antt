@@ -15,7 +15,34 @@ use Rattle.model_walk.specs.declared.Num.{Num}
 use Rattle.model_walk.specs.declared.Num.the-variants as num
 use Rattle.model_walk.specs.declared.Walked.{Walked}
 use Rattle.model_walk.specs.declared.Walked.the-variants as walked
-use Rattle.model_walk.specs.Walk.{found, capped, Walk, and-then, _⨾_, by, stop, stay, noted, staying, bytesM, or-zerosM, timesM, kindM, placeM, place?M, note?M, noteM, predicate-size, predicateM, triggerM, pieceM, simpleM, actionsM, actionM, countedM}
+use Rattle.model_walk.specs.Walk.{
+  found,
+  capped,
+  Walk,
+  and-then,
+  _⨾_,
+  by,
+  stop,
+  stay,
+  noted,
+  staying,
+  bytesM,
+  or-zerosM,
+  timesM,
+  kindM,
+  placeM,
+  place?M,
+  note?M,
+  noteM,
+  predicate-size,
+  predicateM,
+  triggerM,
+  pieceM,
+  simpleM,
+  actionsM,
+  actionM,
+  countedM,
+}
 use Rattle.model_walk.specs.declared.Piece.{Piece}
 use Rattle.model_walk.specs.declared.Piece.the-variants as piece
 
@@ -53,7 +80,8 @@ u16-out s at h = elim (decLt at (length s)) [
   | no i ↦ bind-broken _ _ (u8-out s at (omega arith))
 ]
 
-pub u32-in : (s : List ℕ) (at : ℕ) → at + 4 ≤ length s → u32 s at ≡ got (getD s at 0 + 256 * getD s (at + 1) 0 + 65536 * (getD s (at + 2) 0 + 256 * getD s (at + 3) 0)) (at + 4)
+pub u32-in : (s : List ℕ) (at : ℕ) → at + 4 ≤ length s →
+    u32 s at ≡ got (getD s at 0 + 256 * getD s (at + 1) 0 + 65536 * (getD s (at + 2) 0 + 256 * getD s (at + 3) 0)) (at + 4)
 unfolding u32 give
 u32-in s at h =
     bind-got _ _ (u16-in s at (omega arith))
@@ -209,7 +237,9 @@ unfolding and-then
 and-then-assoc (walked.To p n) f g = refl
 and-then-assoc walked.Broken f g = refl
 
-by-and-then : (g : Got ℕ) (f : ℕ → ℕ → Walked) (h : ℕ → ℕ → Walked) → and-then (elim g [ got x q ↦ f x q | broken ↦ walked.Broken ]) h ≡ elim g [ got x q ↦ and-then (f x q) h | broken ↦ walked.Broken ]
+by-and-then : (g : Got ℕ) (f : ℕ → ℕ → Walked) (h : ℕ → ℕ → Walked) →
+    and-then (elim g [ got x q ↦ f x q | broken ↦ walked.Broken ]) h
+    ≡ elim g [ got x q ↦ and-then (f x q) h | broken ↦ walked.Broken ]
 unfolding and-then
 by-and-then (got x q) f h = refl
 by-and-then broken f h = refl
@@ -236,7 +266,8 @@ module _ (k : Walk) (s : List ℕ) (p n : ℕ) where
   times-none zero h = refl
   times-none (suc i) h = absurd (omega arith)
 
-pub times-then : (k l : Walk) (s : List ℕ) (p n : ℕ) (i : ℕ) → 0 < i → (timesM i k ⨾ l) s p n ≡ (k ⨾ (timesM (i - 1) k ⨾ l)) s p n
+pub times-then : (k l : Walk) (s : List ℕ) (p n : ℕ) (i : ℕ) → 0 < i →
+    (timesM i k ⨾ l) s p n ≡ (k ⨾ (timesM (i - 1) k ⨾ l)) s p n
 unfolding timesM
 times-then k l s p n zero h = absurd (omega arith)
 times-then k l s p n (suc i) h = rw (sub-one (suc i)) (assoc s p n k (timesM i k) l)
@@ -250,7 +281,8 @@ pub actions-none : (ts : ℕ) (s : List ℕ) (p n : ℕ) → actionsM ts 0 s p n
 unfolding actionsM stop
 actions-none ts s p n = refl
 
-pub actions-more : (ts left : ℕ) (s : List ℕ) (p n : ℕ) → (left ≡ 0 → ⊥) → actionsM ts left s p n ≡ countedM (actionM ts (actionsM ts (left - 1))) s p n
+pub actions-more : (ts left : ℕ) (s : List ℕ) (p n : ℕ) → (left ≡ 0 → ⊥) →
+    actionsM ts left s p n ≡ countedM (actionM ts (actionsM ts (left - 1))) s p n
 unfolding actionsM
 actions-more ts zero s p n h = absurd (h refl)
 actions-more ts (suc left) s p n h = rw (sub-one (suc left))
@@ -301,7 +333,8 @@ module _ (ts : ℕ) (s : List ℕ) (p n : ℕ) where
     unfolding simpleM
     simple-6 e = rw e
 
-    pub simple-else : (k ≡ 0 → ⊥) → (k ≡ 1 → ⊥) → (k ≡ 2 → ⊥) → (k ≡ 3 → ⊥) → (k ≡ 5 → ⊥) → (k ≡ 6 → ⊥) → simpleM ts k s p n ≡ walked.Broken
+    pub simple-else : (k ≡ 0 → ⊥) → (k ≡ 1 → ⊥) → (k ≡ 2 → ⊥) → (k ≡ 3 → ⊥) → (k ≡ 5 → ⊥) → (k ≡ 6 → ⊥) →
+        simpleM ts k s p n ≡ walked.Broken
     unfolding simpleM stop
     simple-else a b c d e f = rw (ne-eqb _ _ a, ne-eqb _ _ b, ne-eqb _ _ c, ne-eqb _ _ d, ne-eqb _ _ e, ne-eqb _ _ f)
 

@@ -11,7 +11,33 @@ use lib.Dec.{ltb, eqb}
 use borrow.Author.Tests.{lt-ltb, le-ltb, ne-eqb}
 use Rattle.texts.specs.Lists.{if_then_else_, listed, flat}
 use Rattle.texts.specs.Texts.{Text}
-use Rattle.model_spec.specs.Model.{Source, observational, comfort, property, access-safety, single, queued, parallel, Predicate, state, window, Trigger, Mode, Effect, toggle, delay, condition, choose, wait, Actions, done, act, Branches, no-branch, branch}
+use Rattle.model_spec.specs.Model.{
+  Source,
+  observational,
+  comfort,
+  property,
+  access-safety,
+  single,
+  queued,
+  parallel,
+  Predicate,
+  state,
+  window,
+  Trigger,
+  Mode,
+  Effect,
+  toggle,
+  delay,
+  condition,
+  choose,
+  wait,
+  Actions,
+  done,
+  act,
+  Branches,
+  no-branch,
+  branch,
+}
 use Rattle.model_spec.specs.Notes.{of-predicate, of-trigger, of-effect, of-actions, of-branches}
 use Rattle.model_spec.specs.File.{
   Got,
@@ -104,11 +130,13 @@ module _ {B : Type 0} (w : B → ℕ) (n m : ℕ) where
         cases broken = refl
 
   -- a number that decides
-  pub choice : (r : Reader ℕ) (f : ℕ → Reader B) (g : ℕ → Walk) → ((x : ℕ) → Runs w n (f x) m (g x)) → Runs w n (r >>= f) m (by r g)
+  pub choice : (r : Reader ℕ) (f : ℕ → Reader B) (g : ℕ → Walk) → ((x : ℕ) → Runs w n (f x) m (g x)) →
+      Runs w n (r >>= f) m (by r g)
   unfolding _>>=_ by seen
   choice r f g h s p = cases (r s p)
     where
-      cases : (x : Got ℕ) → elim x [ got a q ↦ g a s q (capped m) | broken ↦ walked.Broken ] ≡ seen w n (elim x [ got a q ↦ f a s q | broken ↦ broken ])
+      cases : (x : Got ℕ) → elim x [ got a q ↦ g a s q (capped m) | broken ↦ walked.Broken ]
+          ≡ seen w n (elim x [ got a q ↦ f a s q | broken ↦ broken ])
       cases (got a q) = h a s q
       cases broken = refl
 
@@ -146,7 +174,8 @@ pub sees-u32 : Sees quiet u32 (bytesM 4)
 unfolding seen
 sees-u32 n s p = elim (decLt (length s) (p + 4)) [
   | yes h ↦ rw (laws.bytes-out s p (capped n) 4 h, laws.u32-out s p h)
-  | no h ↦ rw (laws.bytes-in s p (capped n) 4 (omega arith), laws.u32-in s p (omega arith)) (ap (λ x. walked.To (p + 4) (capped x)) (omega arith))
+  | no h ↦ rw (laws.bytes-in s p (capped n) 4 (omega arith), laws.u32-in s p (omega arith))
+      (ap (λ x. walked.To (p + 4) (capped x)) (omega arith))
 ]
 
 pub sees-u8 : Sees quiet u8 (bytesM 1)
@@ -164,13 +193,15 @@ bytes-sum a b s p n = elim (decLt (length s) (p + a)) [
   | yes h ↦ rw (laws.bytes-out s p n a h) (laws.bytes-out s p n (a + b) (omega arith))
   | no h ↦ rw (laws.bytes-in s p n a (omega arith)) (elim (decLt (length s) (p + a + b)) [
     | yes i ↦ laws.bytes-out s p n (a + b) (omega arith) ∙ sym (laws.bytes-out s (p + a) n b i)
-    | no i ↦ laws.bytes-in s p n (a + b) (omega arith) ∙ ap (λ x. walked.To x n) (omega arith) ∙ sym (laws.bytes-in s (p + a) n b (omega arith))
+    | no i ↦ laws.bytes-in s p n (a + b) (omega arith) ∙ ap (λ x. walked.To x n) (omega arith)
+        ∙ sym (laws.bytes-in s (p + a) n b (omega arith))
   ])
 ]
 
 pub sees-source : Sees quiet source (bytesM 8)
 unfolding source
-sees-source n s p = bytes-sum 4 4 s p (capped n) ∙ bind quiet n n quiet u32 (bytesM 4) sees-u32 _ _ (λ l. last quiet n (n + 0) quiet u32 (bytesM 4) sees-u32 _ (λ c. omega arith)) s p
+sees-source n s p = bytes-sum 4 4 s p (capped n) ∙ bind quiet n n quiet u32 (bytesM 4) sees-u32 _ _
+    (λ l. last quiet n (n + 0) quiet u32 (bytesM 4) sees-u32 _ (λ c. omega arith)) s p
 
 -- a group of fields that the file may end before, and of which zeros hold no note
 pub sees-zeros : {A : Type 0} (w : A → ℕ) (z : A) (r : Reader A) (k : Walk) → w z ≡ 0 → Sees w r k
@@ -184,11 +215,14 @@ sees-zeros w z r k h e n s p = cases (ltb p (length s))
 
 -- ---- lists
 
-module _ {A : Type 0} (w : A → ℕ) (v : List A → ℕ) (z : v [] ≡ 0) (c : (x : A) (l : List A) → v (x ∷ l) ≡ w x + v l) (r : Reader A) (k : Walk) (e : Sees w r k) where
+module _ {A : Type 0} (w : A → ℕ) (v : List A → ℕ) (z : v [] ≡ 0) (c : (x : A) (l : List A) → v (x ∷ l) ≡ w x + v l)
+    (r : Reader A) (k : Walk) (e : Sees w r k) where
   pub sees-times : (i : ℕ) → Sees v (times i r) (timesM i k)
   unfolding times timesM
   sees-times zero n = gives v n n [] (omega (arith, z))
-  sees-times (suc i) n = bind v n n w r k e _ _ (λ x. last v n (n + w x) v (times i r) (timesM i k) (sees-times i) _ (λ l. omega (arith, c x l)))
+  sees-times (suc i) n =
+      bind v n n w r k e _ _ (λ x. last v n (n + w x) v (times i r) (timesM i k) (sees-times i) _
+      (λ l. omega (arith, c x l)))
 
   pub sees-counted : Sees v (counted r) (countedM k)
   unfolding counted
@@ -209,7 +243,9 @@ pub sees-tier : Sees quiet tier (kindM 4)
 unfolding tier kinds staying
 sees-tier n = choice quiet n n u8 _ _ cases
   where
-    cases : (k : ℕ) → Runs quiet n (getD (give observational ∷ give comfort ∷ give property ∷ give access-safety ∷ []) k refuse) n (staying (ltb k 4))
+    cases : (k : ℕ) →
+        Runs quiet n (getD (give observational ∷ give comfort ∷ give property ∷ give access-safety ∷ []) k refuse) n
+        (staying (ltb k 4))
     cases zero = gives quiet n n _ (omega arith)
     cases (suc zero) = gives quiet n n _ (omega arith)
     cases (suc (suc zero)) = gives quiet n n _ (omega arith)
@@ -220,7 +256,8 @@ pub sees-mode : Sees quiet mode (kindM 4)
 unfolding mode kinds staying
 sees-mode n = choice quiet n n u8 _ _ cases
   where
-    cases : (k : ℕ) → Runs quiet n (getD (give single ∷ give Mode.restart ∷ give queued ∷ give parallel ∷ []) k refuse) n (staying (ltb k 4))
+    cases : (k : ℕ) → Runs quiet n (getD (give single ∷ give Mode.restart ∷ give queued ∷ give parallel ∷ []) k refuse) n
+        (staying (ltb k 4))
     cases zero = gives quiet n n _ (omega arith)
     cases (suc zero) = gives quiet n n _ (omega arith)
     cases (suc (suc zero)) = gives quiet n n _ (omega arith)
@@ -244,7 +281,8 @@ module _ (ts : List Text) where
   unfolding place?
   sees-place? n = choice quiet n n u16 _ _ (λ x. cases x (eqb x 65535))
     where
-      cases : (x : ℕ) (b : Bool) → Runs quiet n (if b then give none else require (ltb x (length ts)) (some (getD ts x []))) n (if b then stay else staying (ltb x (length ts)))
+      cases : (x : ℕ) (b : Bool) → Runs quiet n (if b then give none else require (ltb x (length ts)) (some (getD ts x [])))
+          n (if b then stay else staying (ltb x (length ts)))
       cases x true = gives quiet n n _ (omega arith)
       cases x false = requires quiet n n _ _ (omega arith)
 
@@ -256,16 +294,22 @@ module _ (ts : List Text) where
       inner x true = notes (marks listed) n n (some (getD ts x [])) (omega arith)
       inner x false = refuses (marks listed) n n
 
-      cases : (x : ℕ) (b : Bool) → Runs (marks listed) n (if b then give none else require (ltb x (length ts)) (some (getD ts x []))) n (if b then stay else if ltb x (length ts) then noted else stop)
+      cases : (x : ℕ) (b : Bool) → Runs (marks listed) n
+          (if b then give none else require (ltb x (length ts)) (some (getD ts x []))) n
+          (if b then stay else if ltb x (length ts) then noted else stop)
       cases x true = gives (marks listed) n n none (omega arith)
       cases x false = inner x (ltb x (length ts))
 
   -- a place whose value is a note
-  pub note-of : {B : Type 0} (w : B → ℕ) (n m : ℕ) (f : Text → B) → ((t : Text) → m + 1 ≡ n + w (f t)) → Runs w n (place ts >>= λ t. give (f t)) m (noteM (length ts))
-  note-of w n m f h = bind w n m quiet (place ts) (placeM (length ts)) sees-place _ _ (λ t. notes w n (m + 0) (f t) (omega (arith, h t)))
+  pub note-of : {B : Type 0} (w : B → ℕ) (n m : ℕ) (f : Text → B) → ((t : Text) → m + 1 ≡ n + w (f t)) →
+      Runs w n (place ts >>= λ t. give (f t)) m (noteM (length ts))
+  note-of w n m f h = bind w n m quiet (place ts) (placeM (length ts)) sees-place _ _
+      (λ t. notes w n (m + 0) (f t) (omega (arith, h t)))
 
-  pub two-places : {B : Type 0} (w : B → ℕ) (n m : ℕ) (f : Text → Text → B) → ((t u : Text) → m ≡ n + w (f t u)) → Runs w n (place ts >>= λ t. place ts >>= λ u. give (f t u)) m (placeM (length ts) ⨾ placeM (length ts))
-  two-places w n m f h = bind w n m quiet (place ts) (placeM (length ts)) sees-place _ _ (λ t. last w n (m + 0) quiet (place ts) (placeM (length ts)) sees-place (f t) (λ u. omega (arith, h t u)))
+  pub two-places : {B : Type 0} (w : B → ℕ) (n m : ℕ) (f : Text → Text → B) → ((t u : Text) → m ≡ n + w (f t u)) →
+      Runs w n (place ts >>= λ t. place ts >>= λ u. give (f t u)) m (placeM (length ts) ⨾ placeM (length ts))
+  two-places w n m f h = bind w n m quiet (place ts) (placeM (length ts)) sees-place _ _
+      (λ t. last w n (m + 0) quiet (place ts) (placeM (length ts)) sees-place (f t) (λ u. omega (arith, h t u)))
 
   -- a window's days, start and end
   window-of : (n : ℕ) → Runs (marks of-predicate) n (u8 >>= λ d. u32 >>= λ b. u32 >>= λ e. give (window d b e)) n (bytesM 9)
@@ -321,25 +365,31 @@ module _ (ts : List Text) where
   unfolding flat
   flat-nil = refl
 
-  flat-more : (x : Predicate) (l : List Predicate) → length (flat of-predicate (x ∷ l)) ≡ length (of-predicate x) + length (flat of-predicate l)
+  flat-more : (x : Predicate) (l : List Predicate) →
+      length (flat of-predicate (x ∷ l)) ≡ length (of-predicate x) + length (flat of-predicate l)
   unfolding flat
   flat-more x l = length-append (of-predicate x) (flat of-predicate l)
 
   pub sees-conditions : Sees (marks (flat of-predicate)) (counted (predicate ts)) (countedM (predicateM (length ts)))
-  sees-conditions = sees-counted (marks of-predicate) (marks (flat of-predicate)) flat-nil flat-more (predicate ts) (predicateM (length ts)) sees-predicate
+  sees-conditions = sees-counted (marks of-predicate) (marks (flat of-predicate)) flat-nil flat-more (predicate ts)
+      (predicateM (length ts)) sees-predicate
 
   -- the notes of what holds lists
-  in-branch : (ps : List Predicate) (l : Actions) (bs : Branches) → length (of-branches (branch ps l bs)) ≡ length (flat of-predicate ps) + length (of-actions l) + length (of-branches bs)
+  in-branch : (ps : List Predicate) (l : Actions) (bs : Branches) →
+      length (of-branches (branch ps l bs)) ≡ length (flat of-predicate ps) + length (of-actions l) + length (of-branches bs)
   unfolding of-effect
   in-branch ps l bs =
-      let e : length (of-branches (branch ps l bs)) ≡ length (flat of-predicate ps ++ of-actions l) + length (of-branches bs) = length-append (flat of-predicate ps ++ of-actions l) (of-branches bs) in
+      let e : length (of-branches (branch ps l bs)) ≡ length (flat of-predicate ps ++ of-actions l) + length
+      (of-branches bs) = length-append (flat of-predicate ps ++ of-actions l) (of-branches bs) in
       omega (arith, e, length-append (flat of-predicate ps) (of-actions l))
 
-  in-choose : (bs : Branches) (l : Actions) → length (of-effect (choose bs l)) ≡ length (of-branches bs) + length (of-actions l)
+  in-choose : (bs : Branches) (l : Actions) → length (of-effect (choose bs l))
+      ≡ length (of-branches bs) + length (of-actions l)
   unfolding of-effect
   in-choose bs l = length-append (of-branches bs) (of-actions l)
 
-  in-act : (s : Source) (f : Effect) (l : Actions) → length (of-actions (act s f l)) ≡ length (of-effect f) + length (of-actions l)
+  in-act : (s : Source) (f : Effect) (l : Actions) →
+      length (of-actions (act s f l)) ≡ length (of-effect f) + length (of-actions l)
   unfolding of-effect
   in-act s f l = length-append (of-effect f) (of-actions l)
 
@@ -350,14 +400,17 @@ module _ (ts : List Text) where
     sees-branches zero n s p = gives (marks of-branches) n n no-branch (omega arith) s p
     sees-branches (suc i) n s p =
         laws.assoc s p (capped n) (countedM (predicateM (length ts))) k (timesM i (branchM (length ts) k))
-        ∙ (bind w n n (marks (flat of-predicate)) (counted (predicate ts)) (countedM (predicateM (length ts))) sees-conditions _ _ λ ps.
+        ∙ (bind w n n (marks (flat of-predicate)) (counted (predicate ts)) (countedM (predicateM (length ts)))
+        sees-conditions _ _ λ ps.
         bind w n (n + length (flat of-predicate ps)) (marks of-actions) r k inner _ _ λ as′.
-        last w n (n + length (flat of-predicate ps) + length (of-actions as′)) w (branches ts r i) (timesM i (branchM (length ts) k)) (sees-branches i) _ (λ bs. omega (arith, in-branch ps as′ bs))) s p
+        last w n (n + length (flat of-predicate ps) + length (of-actions as′)) w (branches ts r i)
+        (timesM i (branchM (length ts) k)) (sees-branches i) _ (λ bs. omega (arith, in-branch ps as′ bs))) s p
       where
         w : Branches → ℕ
         w = marks of-branches
 
-    sees-choose : (n m : ℕ) → m ≡ n → Runs (marks of-effect) n (u16 >>= λ i. branches ts r i >>= λ bs. r >>= λ d. give (choose bs d)) m (choiceM (length ts) k)
+    sees-choose : (n m : ℕ) → m ≡ n → Runs (marks of-effect) n
+        (u16 >>= λ i. branches ts r i >>= λ bs. r >>= λ d. give (choose bs d)) m (choiceM (length ts) k)
     unfolding of-effect
     sees-choose n m e =
         choice w n m u16 _ _ λ i.
@@ -367,7 +420,8 @@ module _ (ts : List Text) where
         w : Effect → ℕ
         w = marks of-effect
 
-    sees-wait : (n : ℕ) → Runs (marks of-effect) n (trigger ts >>= λ t. u32 >>= λ i. flag >>= λ c. give (wait t i c)) n (triggerM (length ts) ⨾ bytesM 4 ⨾ kindM 2)
+    sees-wait : (n : ℕ) → Runs (marks of-effect) n (trigger ts >>= λ t. u32 >>= λ i. flag >>= λ c. give (wait t i c)) n
+        (triggerM (length ts) ⨾ bytesM 4 ⨾ kindM 2)
     unfolding of-effect
     sees-wait n =
         bind w n n (marks of-trigger) (trigger ts) (triggerM (length ts)) sees-trigger _ _ λ t.
@@ -377,7 +431,8 @@ module _ (ts : List Text) where
         w : Effect → ℕ
         w = marks of-effect
 
-    pub sees-effect : Sees (marks of-effect) (effect ts r) (by u8 (λ x. if eqb x 4 then choiceM (length ts) k else simpleM (length ts) x))
+    pub sees-effect : Sees (marks of-effect) (effect ts r)
+        (by u8 (λ x. if eqb x 4 then choiceM (length ts) k else simpleM (length ts) x))
     unfolding effect kinds simpleM of-effect
     sees-effect n = choice w n n u8 _ _ cases
       where
@@ -399,11 +454,21 @@ module _ (ts : List Text) where
         cases zero = two-places w n n Effect.set (λ t u. omega arith)
         cases (suc zero) = last w n n quiet (place ts) (placeM (length ts)) sees-place toggle (λ t. omega arith)
         cases (suc (suc zero)) = last w n n quiet u32 (bytesM 4) sees-u32 delay (λ t. omega arith)
-        cases (suc (suc (suc zero))) = last w n n (marks of-predicate) (predicate ts) (predicateM (length ts)) sees-predicate condition (λ p. omega arith)
+        cases (suc (suc (suc zero))) = last w n n (marks of-predicate) (predicate ts) (predicateM (length ts))
+            sees-predicate condition (λ p. omega arith)
         cases (suc (suc (suc (suc zero)))) = sees-choose n n refl
         cases (suc (suc (suc (suc (suc zero))))) = sees-wait n
         cases (suc (suc (suc (suc (suc (suc zero)))))) = note-of w n n Effect.unknown (λ t. omega arith)
-        cases (suc (suc (suc (suc (suc (suc (suc x))))))) = rw (above (suc (suc (suc (suc (suc (suc (suc x))))))) 0 (omega arith), above (suc (suc (suc (suc (suc (suc (suc x))))))) 1 (omega arith), above (suc (suc (suc (suc (suc (suc (suc x))))))) 2 (omega arith), above (suc (suc (suc (suc (suc (suc (suc x))))))) 3 (omega arith), above (suc (suc (suc (suc (suc (suc (suc x))))))) 4 (omega arith), above (suc (suc (suc (suc (suc (suc (suc x))))))) 5 (omega arith), above (suc (suc (suc (suc (suc (suc (suc x))))))) 6 (omega arith)) (refuses w n n)
+        cases (suc (suc (suc (suc (suc (suc (suc x))))))) =
+            rw (
+              above (suc (suc (suc (suc (suc (suc (suc x))))))) 0 (omega arith),
+              above (suc (suc (suc (suc (suc (suc (suc x))))))) 1 (omega arith),
+              above (suc (suc (suc (suc (suc (suc (suc x))))))) 2 (omega arith),
+              above (suc (suc (suc (suc (suc (suc (suc x))))))) 3 (omega arith),
+              above (suc (suc (suc (suc (suc (suc (suc x))))))) 4 (omega arith),
+              above (suc (suc (suc (suc (suc (suc (suc x))))))) 5 (omega arith),
+              above (suc (suc (suc (suc (suc (suc (suc x))))))) 6 (omega arith),
+            ) (refuses w n n)
 
     pub sees-list : (i : ℕ) → Sees (marks of-actions) (actions-of ts r i) (timesM i (actionM (length ts) k))
     unfolding actions-of timesM of-actions
@@ -412,7 +477,8 @@ module _ (ts : List Text) where
         laws.assoc s p (capped n) (bytesM 8) _ (timesM i (actionM (length ts) k))
         ∙ (bind w n n quiet source (bytesM 8) sees-source _ _ λ src.
         bind w n (n + 0) (marks of-effect) (effect ts r) _ sees-effect _ _ λ f.
-        last w n (n + 0 + length (of-effect f)) w (actions-of ts r i) (timesM i (actionM (length ts) k)) (sees-list i) _ (λ l. omega (arith, in-act src f l))) s p
+        last w n (n + 0 + length (of-effect f)) w (actions-of ts r i) (timesM i (actionM (length ts) k)) (sees-list i) _
+        (λ l. omega (arith, in-act src f l))) s p
       where
         w : Actions → ℕ
         w = marks of-actions
@@ -420,4 +486,5 @@ module _ (ts : List Text) where
   pub sees-actions : (left : ℕ) → Sees (marks of-actions) (actions ts left) (actionsM (length ts) left)
   unfolding actions actionsM
   sees-actions zero n = refuses (marks of-actions) n n
-  sees-actions (suc left) n = choice (marks of-actions) n n u16 _ _ (λ i. sees-list (actions ts left) (actionsM (length ts) left) (sees-actions left) i n)
+  sees-actions (suc left) n = choice (marks of-actions) n n u16 _ _
+      (λ i. sees-list (actions ts left) (actionsM (length ts) left) (sees-actions left) i n)

@@ -3,7 +3,26 @@ ghost use Rattle.notation.specs.Reference.{was};
 ghost use mathlib.Core.Path.{_≡_};
 ghost use Rattle.model_spec.specs.File.{u8, u16, u32};
 ghost use Prim.Native.Nat.{_+_};
-ghost use Rattle.model_walk.specs.Walk.{found, capped, _⨾_, bytesM, or-zerosM, kindM, placeM, place?M, note?M, noteM, predicate-size, predicateM, triggerM, pieceM, piecesM, simpleM, choiceM, actionsM};
+ghost use Rattle.model_walk.specs.Walk.{
+  found,
+  capped,
+  _⨾_,
+  bytesM,
+  or-zerosM,
+  kindM,
+  placeM,
+  place?M,
+  note?M,
+  noteM,
+  predicate-size,
+  predicateM,
+  triggerM,
+  pieceM,
+  piecesM,
+  simpleM,
+  choiceM,
+  actionsM,
+};
 
 // A number and the position after it.
 pub enum Num {

@@ -11,7 +11,15 @@ use Rattle.engine_spec.specs.Records.{Areas}
 use Rattle.checker_spec.specs.Check.{checked, check}
 use Rattle.checker_spec.specs.Verify.{Verification, verified, verify}
 use Rattle.noninterference.specs.Alike.{Alike}
-use Rattle.noninterference.specs.Demand.{reading-for, about-all, witness-incomplete, SameCheck, SameVerification, CheckClaim, Demand3}
+use Rattle.noninterference.specs.Demand.{
+  reading-for,
+  about-all,
+  witness-incomplete,
+  SameCheck,
+  SameVerification,
+  CheckClaim,
+  Demand3,
+}
 use Rattle.cone_judge.proofs.Check.{Inside, Common, check-same}
 use Rattle.engine_spec.proofs.Distinct.{and-inv, accepted-fresh}
 use Rattle.cone_engine.proofs.Closure.{in-entities, in-automations}

@@ -412,7 +412,8 @@ module _ (areas areas′ : Areas) (m m′ : Model) (cells cells′ : List Cell)
             λ q. sym (open-is k o) ∙ w;
       }
 
-      status-is : (k : Model) (o : Search) → (verification-of k o) .reasons ≡ [] → (verification-of k o) .status ≡ found-of (o .witness) []
+      status-is : (k : Model) (o : Search) → (verification-of k o) .reasons ≡ [] →
+          (verification-of k o) .status ≡ found-of (o .witness) []
       status-is k o r = unfold verification-of in (ap (found-of (o .witness)) (unfold verification-of in r))
 
       cases-is : (k : Model) (o : Search) → (verification-of k o) .cases ≡ o .cases

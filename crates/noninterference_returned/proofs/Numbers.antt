@@ -88,7 +88,8 @@ row-is p a i (deadline-missed d) s = record {
 
 -- ---- two violations that tell the same
 
-module _ (ts ts′ : List Text) (v v′ : Violation) (same : told (v .failure) (v .at) (v .source) ≡ told (v′ .failure) (v′ .at) (v′ .source)) where
+module _ (ts ts′ : List Text) (v v′ : Violation) (same : told (v .failure) (v .at) (v .source)
+    ≡ told (v′ .failure) (v′ .at) (v′ .source)) where
   abbrev words : List ℕ
   words = violation-words ts v
 

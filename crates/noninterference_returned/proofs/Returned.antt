@@ -58,7 +58,8 @@ answered f r before after ch done = by (check (entries entry-words before) f) re
     by (answer c) e s = record { c = c; is = e; shows = s }
     by (refused n) e s = absurd (done .answered n (ap (λ (y : CheckResult). y .status) s ∙ unfold no-check in refl))
 
-complete : {f : List ℕ} {before : Lent} {r : CheckResult} → Complete r → (a : Answered f before r) → a .c .simulation .incomplete ≡ []
+complete : {f : List ℕ} {before : Lent} {r : CheckResult} → Complete r → (a : Answered f before r) →
+    a .c .simulation .incomplete ≡ []
 unfolding incomplete-of
 complete done a = sym (a .shows .simulation .incomplete) ∙ rw (done .stopped, done .«runs_left»)
 
@@ -120,8 +121,10 @@ module _ (f f′ : List ℕ) (r r′ : CheckResult) (c c′ : Check) (x : Shows 
     same-violation = record {
       invariant = names ∙ ap (λ (p : Text × Told). p .0) alike ∙ sym names′;
       kind = word 3 (omega arith) ∙ numbers.same-kind (texts-in f) (texts-in f′) v v′ tells ∙ sym (word′ 3 (omega arith));
-      deadline = word 4 (omega arith) ∙ numbers.same-deadline (texts-in f) (texts-in f′) v v′ tells ∙ sym (word′ 4 (omega arith));
-      second = λ n. word 1 (omega arith) ∙ numbers.same-second (texts-in f) (texts-in f′) v v′ tells (not-missed n) ∙ sym (word′ 1 (omega arith));
+      deadline = word 4 (omega arith) ∙ numbers.same-deadline (texts-in f) (texts-in f′) v v′ tells
+          ∙ sym (word′ 4 (omega arith));
+      second = λ n. word 1 (omega arith) ∙ numbers.same-second (texts-in f) (texts-in f′) v v′ tells (not-missed n)
+          ∙ sym (word′ 1 (omega arith));
       source = λ n j o.
           let e : 5 + j ≡ suc (suc (suc (suc (suc j)))) = omega arith in
           word (5 + j) (omega arith)
@@ -139,9 +142,11 @@ check-returned f f′ m m′ p p′ alike r r′ before after before′ after′
     let b = answered f′ r′ before′ after′ ch′ done′ in
     let both = demand3 f f′ m m′ p p′ alike .0 _ _ (a .c) (b .c) (a .is) (b .is) (complete done a) (complete done′ b) in
     let ins = subst (Each (λ (v : Violation). In (v .invariant) (texts-in f))) (sym (both .readings .violations))
-    (named (λ (t : Text). In t (texts-in f)) (λ (i : Invariant). reading-for m (a .c .simulation) i .failing) (m .scenario .invariants) (invariant-in f m p)) in
+    (named (λ (t : Text). In t (texts-in f)) (λ (i : Invariant). reading-for m (a .c .simulation) i .failing)
+    (m .scenario .invariants) (invariant-in f m p)) in
     let ins′ = subst (Each (λ (v : Violation). In (v .invariant) (texts-in f′))) (sym (both .readings′ .violations))
-    (named (λ (t : Text). In t (texts-in f′)) (λ (i : Invariant). reading-for m′ (b .c .simulation) i .failing) (m′ .scenario .invariants) (invariant-in f′ m′ p′)) in
+    (named (λ (t : Text). In t (texts-in f′)) (λ (i : Invariant). reading-for m′ (b .c .simulation) i .failing)
+    (m′ .scenario .invariants) (invariant-in f′ m′ p′)) in
     record {
       c = a .c;
       c′ = b .c;
@@ -149,5 +154,6 @@ check-returned f f′ m m′ p p′ alike r r′ before after before′ after′
       returns′ = record { is = b .is; unknown = b .shows .unknown .texts };
       invariants = both;
       count = counts f f′ r r′ (a .c) (b .c) (a .shows) (b .shows) (both .returned) ins ins′;
-      violations = λ k h. same-violation f f′ r r′ (a .c) (b .c) (a .shows) (b .shows) (both .returned) ins ins′ k (omega (arith, h, a .shows .violations));
+      violations = λ k h. same-violation f f′ r r′ (a .c) (b .c) (a .shows) (b .shows) (both .returned) ins ins′ k
+          (omega (arith, h, a .shows .violations));
     }

@@ -44,7 +44,8 @@ unfolding violation-words
 sized ts v = eight (place-of (v .invariant) ts) (v .at) (v .index) (v .failure) (v .source)
 
 read-back : (f : List ℕ) (p a i : ℕ) (e : Failure) (s : Option Source) →
-    violation-of f (violated-of ((p ∷ a ∷ i ∷ []) ++ (failure-words e ++ source-words s))) ≡ record { invariant = text-at f p; at = a; index = i; source = s; failure = e }
+    violation-of f (violated-of ((p ∷ a ∷ i ∷ []) ++ (failure-words e ++ source-words s)))
+    ≡ record { invariant = text-at f p; at = a; index = i; source = s; failure = e }
 unfolding violation-of violated-of failure-of source-of source-words
 read-back f p a i prohibited-state none = refl
 read-back f p a i prohibited-state (some s) = refl
@@ -66,8 +67,10 @@ module _ (f x : List ℕ) (ts : List Text) (m : Model) (tb : Tabled f x ts m) wh
   identifier : (v : check.Violation) → Named ts v → text-at f (place-of (v .invariant) ts) ≡ v .invariant
   unfolding text-at
   identifier v n =
-      let p : place-of (v .invariant) ts ≡ n .place = ap (λ (t : Text). place-of t ts) (n .is) ∙ text-place f x ts m tb (n .place) (n .among) in
-      let q : atMost (n .place) 65535 ≡ n .place = sym (reads.most-yes (n .place) 65535 (omega (arith, n .among, tb .few-texts))) in
+      let p : place-of (v .invariant) ts ≡ n .place =
+      ap (λ (t : Text). place-of t ts) (n .is) ∙ text-place f x ts m tb (n .place) (n .among) in
+      let q : atMost (n .place) 65535 ≡ n .place = sym
+      (reads.most-yes (n .place) 65535 (omega (arith, n .among, tb .few-texts))) in
       rw (p, q) (tb .text-at (n .place) (n .among) ∙ sym (n .is))
 
   said : (v : check.Violation) → Named ts v → violation-of f (violated-of (violation-words ts v)) ≡ v
@@ -83,24 +86,37 @@ module _ (f x : List ℕ) (ts : List Text) (m : Model) (tb : Tabled f x ts m) wh
 
     same : violated-of (drop (k * 8) held) ≡ violated-of (violation-words ts (getD vs k d))
     unfolding violated-of
-    same = rw (at 0 (omega arith), at 1 (omega arith), at 2 (omega arith), at 3 (omega arith), at 4 (omega arith), at 5 (omega arith), at 6 (omega arith), at 7 (omega arith))
+    same = rw (
+      at 0 (omega arith),
+      at 1 (omega arith),
+      at 2 (omega arith),
+      at 3 (omega arith),
+      at 4 (omega arith),
+      at 5 (omega arith),
+      at 6 (omega arith),
+      at 7 (omega arith),
+    )
 
     pub held-is : Named ts (getD vs k d) → violation-of f (violated-of (drop (k * 8) held)) ≡ getD vs k d
     held-is n = ap (violation-of f) same ∙ said (getD vs k d) n
 
   -- the violation at k of the entry's answer is the definition's
-  pub violation-is : {r : CheckResult} {c : check.Check} → Shows f r c → texts-in f ≡ ts → (k : ℕ) (d : check.Violation) → k < length (c .violations) → Named ts (getD (c .violations) k d) →
+  pub violation-is : {r : CheckResult} {c : check.Check} → Shows f r c → texts-in f ≡ ts → (k : ℕ) (d : check.Violation) →
+      k < length (c .violations) → Named ts (getD (c .violations) k d) →
       violation-of f (violated-of (drop (k * 8) (r .violated))) ≡ getD (c .violations) k d
   violation-is {r} {c} s e k d h n =
-      let g : r .violated ≡ area (violation-words ts) 256 (c .violations) = s .violated ∙ ap (λ (l : List Text). area (violation-words l) 256 (c .violations)) e in
+      let g : r .violated ≡ area (violation-words ts) 256 (c .violations) =
+      s .violated ∙ ap (λ (l : List Text). area (violation-words l) 256 (c .violations)) e in
       rw g (held-is 256 (c .violations) k d h n)
 
 -- ---- reasons
 
 -- the reason at k of an answer's list is the definition's
-pub reason-is : {f : List ℕ} {l : List Text} {n : ℕ} {a : List ℕ} → Reported f l n a → (k : ℕ) → k < length l → render f (reason-of (drop (k * 5) a)) ≡ getD l k []
+pub reason-is : {f : List ℕ} {l : List Text} {n : ℕ} {a : List ℕ} → Reported f l n a → (k : ℕ) → k < length l →
+    render f (reason-of (drop (k * 5) a)) ≡ getD l k []
 reason-is {f} {l} {n} {a} h k o =
     let t : Text = render f (reason-of (drop (k * 5) a)) in
-    let e : drop k l ≡ t ∷ drop (k + 1) (listed f n a) = ap (drop k) (sym (h .texts)) ∙ listing.next f n a k (omega (arith, h .many)) in
+    let e : drop k l ≡ t ∷ drop (k + 1) (listed f n a) =
+    ap (drop k) (sym (h .texts)) ∙ listing.next f n a k (omega (arith, h .many)) in
     let z : k + 0 ≡ k = omega arith in
     sym (ap (λ (i : ℕ). getD l i []) (sym z) ∙ sym (getD-drop k l 0 []) ∙ ap (λ (y : List Text). getD y 0 []) e)

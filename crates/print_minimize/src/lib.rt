@@ -9,7 +9,15 @@ ghost use lib.ListN.{length};
 ghost use Rattle.simulate_lines.specs.Lines.{number-line};
 ghost use Rattle.show.specs.Lines.{quoted};
 ghost use Rattle.show.specs.Writing.{Written};
-ghost use Rattle.print_minimize.specs.Lines.{input-text, event-line, text-at, input-of, event-of, answer-line, invariant-line};
+ghost use Rattle.print_minimize.specs.Lines.{
+  input-text,
+  event-line,
+  text-at,
+  input-of,
+  event-of,
+  answer-line,
+  invariant-line,
+};
 
 // No line is longer.
 const LINE: usize = 4096;

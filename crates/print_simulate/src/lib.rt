@@ -1,6 +1,6 @@
 // The answers of `unsupported` and `simulate`, printed line by line through a lent area of bytes.
-// No contract can say what is printed; the lines are those of `simulate_lines` and `record_lines`, and their order is the order of
-// the calls here. None is lost if `out` has room for the longest one (`Kept`).
+// No contract can say what is printed; the lines are those of `simulate_lines` and `record_lines`, and their order is the
+// order of the calls here. None is lost if `out` has room for the longest one (`Kept`).
 use engine_table::Table;
 use simulate_lines::Word;
 ghost use Rattle.notation.specs.Reference.{was, is};

@@ -4,7 +4,12 @@ use mathlib.Core.List.{_++_}
 use Rattle.texts.specs.Texts.{Text, text, decimal}
 use Rattle.checker_spec.specs.Verify as verify
 use Rattle.search_answer.specs.declared.Found.{Found}
-use Rattle.search_answer.specs.declared.Found.the-variants.{Refused, NoCounterexampleWithinBounds, Counterexample, Inconclusive}
+use Rattle.search_answer.specs.declared.Found.the-variants.{
+  Refused,
+  NoCounterexampleWithinBounds,
+  Counterexample,
+  Inconclusive,
+}
 use Rattle.show.specs.Lines.{newline, refused-line}
 
 unfoldable pub found-line : verify.Found → Text

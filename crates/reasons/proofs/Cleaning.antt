@@ -22,7 +22,8 @@ put-behind a at end w h l i g =
     let t = take (end - at) (drop at a) in
     let y = drop (end + length w) a in
     let j = i - (end + length w) in
-    let p : i ≡ length (take at a) + (length w + (length t + j)) = omega (arith, length-take-le at a (omega arith), length-take-le (end - at) (drop at a) m) in
+    let p : i ≡ length (take at a) + (length w + (length t + j)) =
+    omega (arith, length-take-le at a (omega arith), length-take-le (end - at) (drop at a) m) in
     let q : end + length w + j ≡ i = omega arith in
     ap (λ (k : ℕ). getD (take at a ++ (w ++ (t ++ y))) k 0) p
     ∙ getD-append-add (take at a) (w ++ (t ++ y)) (length w + (length t + j)) 0

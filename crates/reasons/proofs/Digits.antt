@@ -36,7 +36,8 @@ fuel zero n m t e h = let k : n < 10 = omega arith in low zero n t k ∙ sym (lo
 fuel (suc f) n m t e h =
     ⊎-elim
     (λ k. low (suc f) n t k ∙ sym (low (suc (suc f)) n t k))
-    (λ k. high (suc f) n t k ∙ fuel f (n / 10) (10 ^ f) ((48 + n % 10) ∷ t) refl (omega arith) ∙ sym (high (suc (suc f)) n t k))
+    (λ k. high (suc f) n t k ∙ fuel f (n / 10) (10 ^ f) ((48 + n % 10) ∷ t) refl (omega arith)
+    ∙ sym (high (suc (suc f)) n t k))
     (lt-or-ge n 10)
 
 most : (f n : ℕ) (t : Text) → length (digits f n t) ≤ f + length t
@@ -58,7 +59,8 @@ small n h = low 19 n [] h
 
 pub step : (n : ℕ) → 10 ≤ n → n < 18446744073709551616 → decimal n ≡ decimal (n / 10) ++ ((48 + n % 10) ∷ [])
 unfolding decimal
-step n h k = high 19 n [] h ∙ behind 19 (n / 10) ((48 + n % 10) ∷ []) ∙ ap (λ (l : Text). l ++ ((48 + n % 10) ∷ [])) (fuel 18 (n / 10) (10 ^ 18) [] refl (omega arith))
+step n h k = high 19 n [] h ∙ behind 19 (n / 10) ((48 + n % 10) ∷ [])
+    ∙ ap (λ (l : Text). l ++ ((48 + n % 10) ∷ [])) (fuel 18 (n / 10) (10 ^ 18) [] refl (omega arith))
 
 pub length-step : (n : ℕ) → 10 ≤ n → n < 4294967296 → length (decimal n) ≡ length (decimal (n / 10)) + 1
 length-step n h k = ap length (step n h (omega arith)) ∙ length-append (decimal (n / 10)) ((48 + n % 10) ∷ [])
@@ -69,12 +71,17 @@ length-small n h = ap length (small n h)
 -- the digit with k behind it
 module _ (n : ℕ) (b : n < 4294967296) where
   pub digit-next : (k : ℕ) → 0 < k → k < length (decimal n) →
-      (k - 1 < length (decimal (n / 10))) × (getD (decimal n) (length (decimal n) - 1 - k) 0 ≡ getD (decimal (n / 10)) (length (decimal (n / 10)) - 1 - (k - 1)) 0)
+      (k - 1 < length (decimal (n / 10))) × (getD (decimal n) (length (decimal n) - 1 - k) 0
+      ≡ getD (decimal (n / 10)) (length (decimal (n / 10)) - 1 - (k - 1)) 0)
   digit-next k p h =
       let m : 10 ≤ n = ⊎-elim (λ q. absurd (omega (arith, length-small n q))) (λ q. q) (lt-or-ge n 10) in
       let l = length-step n m b in
-      let e : length (decimal n) - 1 - k ≡ length (decimal (n / 10)) - 1 - (k - 1) = omega arith in
-      (omega arith, ap (λ (t : Text). getD t (length (decimal n) - 1 - k) 0) (step n m (omega arith)) ∙ rw e (List·getD-append (decimal (n / 10)) ((48 + n % 10) ∷ []) 0 (length (decimal (n / 10)) - 1 - (k - 1)) (omega arith)))
+      let e : length (decimal n) - 1 - k ≡ length (decimal (n / 10)) - 1 - (k - 1) = omega arith in (
+        omega arith,
+        ap (λ (t : Text). getD t (length (decimal n) - 1 - k) 0) (step n m (omega arith))
+            ∙ rw e (List·getD-append (decimal (n / 10)) ((48 + n % 10) ∷ []) 0 (length (decimal (n / 10)) - 1 - (k - 1))
+            (omega arith)),
+      )
 
   pub digit-last : getD (decimal n) (length (decimal n) - 1 - 0) 0 ≡ 48 + n % 10
   digit-last =
@@ -82,5 +89,6 @@ module _ (n : ℕ) (b : n < 4294967296) where
       (λ q. rw (small n q) (let e : 48 + n ≡ 48 + n % 10 = omega arith in e))
       (λ q.
       let e : length (decimal (n / 10)) ≡ length (decimal n) - 1 - 0 = omega (arith, length-step n q b) in
-      ap (λ (t : Text). getD t (length (decimal n) - 1 - 0) 0) (step n q (omega arith)) ∙ getD-at (decimal (n / 10)) (48 + n % 10) [] 0 _ e)
+      ap (λ (t : Text). getD t (length (decimal n) - 1 - 0) 0) (step n q (omega arith))
+      ∙ getD-at (decimal (n / 10)) (48 + n % 10) [] 0 _ e)
       (lt-or-ge n 10)

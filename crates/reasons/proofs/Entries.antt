@@ -12,9 +12,16 @@ use Rattle.reasons.specs.declared.Reason.{Reason}
 
 -- ---- words and reasons
 
-pub get-is : (a : List ℕ) (at : ℕ) → record { kind = getD a at 0; first = getD a (at + 1) 0; second = getD a (at + 2) 0; line = getD a (at + 3) 0; column = getD a (at + 4) 0 } ≡ reason-of (drop at a)
+pub get-is : (a : List ℕ) (at : ℕ) → record {
+  kind = getD a at 0;
+  first = getD a (at + 1) 0;
+  second = getD a (at + 2) 0;
+  line = getD a (at + 3) 0;
+  column = getD a (at + 4) 0;
+} ≡ reason-of (drop at a)
 unfolding reason-of
-get-is a at = let e : at + 0 ≡ at = omega arith in rw (getD-drop at a 0 0, getD-drop at a 1 0, getD-drop at a 2 0, getD-drop at a 3 0, getD-drop at a 4 0, e)
+get-is a at = let e : at + 0 ≡ at = omega arith in
+    rw (getD-drop at a 0 0, getD-drop at a 1 0, getD-drop at a 2 0, getD-drop at a 3 0, getD-drop at a 4 0, e)
 
 -- a list with five words at its front
 data Five : List ℕ → Type 0 where
@@ -45,7 +52,8 @@ nth-reason (suc n) (suc i) a d h =
     nth-reason n i (drop 5 a) d (omega arith) ∙ ap reason-of (drop-drop (i * 5) 5 a ∙ ap (λ (k : ℕ). drop k a) e)
 
 -- the first n reasons stand in the first n * 5 words
-front-more : (n : ℕ) (z : List ℕ) {a : List ℕ} → Five a → reasons (suc n) (take (suc n * 5) a ++ z) ≡ reason-of a ∷ reasons n (take (n * 5) (drop 5 a) ++ z)
+front-more : (n : ℕ) (z : List ℕ) {a : List ℕ} → Five a →
+    reasons (suc n) (take (suc n * 5) a ++ z) ≡ reason-of a ∷ reasons n (take (n * 5) (drop 5 a) ++ z)
 unfolding reasons reason-of
 front-more n z (five a b c d e l) = rw (five-more n)
 
@@ -57,13 +65,16 @@ front (suc n) a z h =
     front-more n z (has-five a (omega arith)) ∙ ap (λ (t : List Reason). reason-of a ∷ t) (front n (drop 5 a) z k)
 
 -- the words of a reason put in before the first, and behind it
-in-first : (n : ℕ) (a : List ℕ) (r : Reason) → n * 5 ≤ length a → reasons (suc n) (opened a (zero * 5) (n * 5) (words-of r)) ≡ r ∷ reasons n a
+in-first : (n : ℕ) (a : List ℕ) (r : Reason) → n * 5 ≤ length a →
+    reasons (suc n) (opened a (zero * 5) (n * 5) (words-of r)) ≡ r ∷ reasons n a
 unfolding reasons reason-of opened
 in-first n a r h =
     let e : n * 5 - 0 ≡ n * 5 = omega arith in
     rw e (ap (λ (t : List Reason). r ∷ t) (front n a _ h))
 
-in-later : (n k : ℕ) (w : List ℕ) {a : List ℕ} → Five a → reasons (suc (n + 1)) (opened a (suc k * 5) (suc n * 5) w) ≡ reason-of a ∷ reasons (n + 1) (opened (drop 5 a) (k * 5) (n * 5) w)
+in-later : (n k : ℕ) (w : List ℕ) {a : List ℕ} → Five a →
+    reasons (suc (n + 1)) (opened a (suc k * 5) (suc n * 5) w)
+    ≡ reason-of a ∷ reasons (n + 1) (opened (drop 5 a) (k * 5) (n * 5) w)
 unfolding reasons reason-of opened
 in-later n k w (five a b c d e l) =
     let p : suc n * 5 - suc k * 5 ≡ n * 5 - k * 5 = omega arith in
@@ -71,14 +82,16 @@ in-later n k w (five a b c d e l) =
     rw (p, q, five-more k)
 
 -- the words of a reason put in at index k
-pub put-in : (n k : ℕ) (a : List ℕ) (r : Reason) → k ≤ n → n * 5 + 5 ≤ length a → reasons (n + 1) (opened a (k * 5) (n * 5) (words-of r)) ≡ take k (reasons n a) ++ (r ∷ drop k (reasons n a))
+pub put-in : (n k : ℕ) (a : List ℕ) (r : Reason) → k ≤ n → n * 5 + 5 ≤ length a →
+    reasons (n + 1) (opened a (k * 5) (n * 5) (words-of r)) ≡ take k (reasons n a) ++ (r ∷ drop k (reasons n a))
 unfolding reasons
 put-in n zero a r h l = rw (add-one n) (in-first n a r (omega arith))
 put-in zero (suc k) a r h l = absurd (omega arith)
 put-in (suc n) (suc k) a r h l =
     let m : n * 5 + 5 ≤ length (drop 5 a) = simp length-drop (omega arith) in
     let e : suc n + 1 ≡ suc (n + 1) = omega arith in
-    rw e (in-later n k (words-of r) (has-five a (omega arith)) ∙ ap (λ (t : List Reason). reason-of a ∷ t) (put-in n k (drop 5 a) r (omega arith) m))
+    rw e (in-later n k (words-of r) (has-five a (omega arith))
+    ∙ ap (λ (t : List Reason). reason-of a ∷ t) (put-in n k (drop 5 a) r (omega arith) m))
 
 -- at index n it stands behind the others
 pub at-end : (n : ℕ) (a : List ℕ) (r : Reason) → take n (reasons n a) ++ (r ∷ drop n (reasons n a)) ≡ reasons n a ++ (r ∷ [])

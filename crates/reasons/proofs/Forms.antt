@@ -30,25 +30,34 @@ pub numbers : decimal 0 ∷ decimal 10 ∷ decimal 4294967295 ∷ [] ≡ text "0
 unfolding decimal digits
 numbers = refl
 
-pub orders : orderT (text "10:1: x") (text "1:1: x") ∷ orderT (text "1:1: x") (text "9:1: x") ∷ orderT (text "r!: n") (text "r: n") ∷ orderT (text "r") (text "r: n") ∷ orderT (text "b") (text "ab") ∷ [] ≡ Less ∷ Less ∷ Less ∷ Less ∷ Greater ∷ []
+pub orders : orderT (text "10:1: x") (text "1:1: x") ∷ orderT (text "1:1: x") (text "9:1: x") ∷ orderT (text "r!: n")
+    (text "r: n") ∷ orderT (text "r") (text "r: n") ∷ orderT (text "b") (text "ab") ∷ []
+    ≡ Less ∷ Less ∷ Less ∷ Less ∷ Greater ∷ []
 unfolding orderT eqT ltT
 orders = refl
 
 module _ (f : List ℕ) (small : length f ≤ 4294967295) (k a b l c : ℕ) where
   -- words alone, words behind one text, words between two texts
-  pub just-words : (k ≡ source-note → ⊥) → render f (record { kind = k; first = 4294967295; second = 4294967295; line = l; column = c }) ≡ words k
+  pub just-words : (k ≡ source-note → ⊥) → render f
+      (record { kind = k; first = 4294967295; second = 4294967295; line = l; column = c }) ≡ words k
   unfolding body
-  just-words n = without f (record { kind = k; first = 4294967295; second = 4294967295; line = l; column = c }) n ∙ rw (absent f 4294967295 small) (append-nil (words k))
+  just-words n = without f (record { kind = k; first = 4294967295; second = 4294967295; line = l; column = c }) n
+      ∙ rw (absent f 4294967295 small) (append-nil (words k))
 
-  pub text-words : (k ≡ source-note → ⊥) → render f (record { kind = k; first = a; second = 4294967295; line = l; column = c }) ≡ textAt f a ++ words k
+  pub text-words : (k ≡ source-note → ⊥) → render f
+      (record { kind = k; first = a; second = 4294967295; line = l; column = c }) ≡ textAt f a ++ words k
   unfolding body
-  text-words n = without f (record { kind = k; first = a; second = 4294967295; line = l; column = c }) n ∙ rw (absent f 4294967295 small, append-nil (words k))
+  text-words n = without f (record { kind = k; first = a; second = 4294967295; line = l; column = c }) n
+      ∙ rw (absent f 4294967295 small, append-nil (words k))
 
-  pub text-words-text : (k ≡ source-note → ⊥) → render f (record { kind = k; first = a; second = b; line = l; column = c }) ≡ textAt f a ++ (words k ++ textAt f b)
+  pub text-words-text : (k ≡ source-note → ⊥) → render f (record { kind = k; first = a; second = b; line = l; column = c })
+      ≡ textAt f a ++ (words k ++ textAt f b)
   unfolding body
   text-words-text n = without f (record { kind = k; first = a; second = b; line = l; column = c }) n
 
   -- LINE:COLUMN: note
-  pub with-place : render f (record { kind = source-note; first = 4294967295; second = b; line = l; column = c }) ≡ decimal l ++ (58 ∷ decimal c) ++ (words source-note ++ textAt f b)
+  pub with-place : render f (record { kind = source-note; first = 4294967295; second = b; line = l; column = c })
+      ≡ decimal l ++ (58 ∷ decimal c) ++ (words source-note ++ textAt f b)
   unfolding body placed
-  with-place = with-source f (record { kind = source-note; first = 4294967295; second = b; line = l; column = c }) refl ∙ rw (absent f 4294967295 small)
+  with-place = with-source f (record { kind = source-note; first = 4294967295; second = b; line = l; column = c }) refl
+      ∙ rw (absent f 4294967295 small)

@@ -43,16 +43,20 @@ module _ (t : Text) (l : List Text) (i : ℕ) (x : Text) (e : drop i l ≡ x ∷
 
     pub before : eqT t x ≡ false → ltT t x ≡ true → insertT t l ≡ take i l ++ (t ∷ drop i l)
     unfolding insertT
-    before q p = v ∙ ap (λ (m : List Text). take i l ++ m) (ap (insertT t) e ∙ rw (q, p) (ap (λ (m : List Text). t ∷ m) (sym e)))
+    before q p = v ∙ ap (λ (m : List Text). take i l ++ m)
+        (ap (insertT t) e ∙ rw (q, p) (ap (λ (m : List Text). t ∷ m) (sym e)))
 
-    pub behind : i < length l → eqT t x ≡ false → ltT t x ≡ false → insertT t l ≡ take (i + 1) l ++ insertT t (drop (i + 1) l)
+    pub behind : i < length l → eqT t x ≡ false → ltT t x ≡ false →
+        insertT t l ≡ take (i + 1) l ++ insertT t (drop (i + 1) l)
     unfolding insertT
     behind h q p =
         let d : getD l i x ≡ x = let s = drop-cons l i x h in cc in
-        let k : take (i + 1) l ≡ take i l ++ (x ∷ []) = rw (add-one i) (take-suc l i x h ∙ ap (λ (y : Text). take i l ++ (y ∷ [])) d) in
+        let k : take (i + 1) l ≡ take i l ++ (x ∷ []) =
+        rw (add-one i) (take-suc l i x h ∙ ap (λ (y : Text). take i l ++ (y ∷ [])) d) in
         v
         ∙ ap (λ (m : List Text). take i l ++ m) (ap (insertT t) e ∙ rw (q, p))
-        ∙ sym (ap (λ (m : List Text). m ++ insertT t (drop (i + 1) l)) k ∙ append-snoc (take i l) x (insertT t (drop (i + 1) l)))
+        ∙ sym (ap (λ (m : List Text). m ++ insertT t (drop (i + 1) l)) k
+        ∙ append-snoc (take i l) x (insertT t (drop (i + 1) l)))
 
   pub all-on : (m : List Text) → insertAll (drop i l) m ≡ insertAll (drop (i + 1) l) (insertT x m)
   unfolding insertAll
@@ -85,7 +89,8 @@ unfolding insertT
 length-insert t [] = omega arith
 length-insert t (x ∷ l) = go (eqT t x) (ltT t x) (length-insert t l)
   where
-    go : (e p : Bool) → length l ≤ length (insertT t l) → length (x ∷ l) ≤ length (if e then x ∷ l else if p then t ∷ x ∷ l else x ∷ insertT t l)
+    go : (e p : Bool) → length l ≤ length (insertT t l) →
+        length (x ∷ l) ≤ length (if e then x ∷ l else if p then t ∷ x ∷ l else x ∷ insertT t l)
     go true p h = omega arith
     go false true h = omega arith
     go false false h = omega arith
@@ -96,7 +101,8 @@ unfolding insertT
 one-more t [] = omega arith
 one-more t (x ∷ l) = go (eqT t x) (ltT t x) (one-more t l)
   where
-    go : (e p : Bool) → length (insertT t l) ≤ length l + 1 → length (if e then x ∷ l else if p then t ∷ x ∷ l else x ∷ insertT t l) ≤ length (x ∷ l) + 1
+    go : (e p : Bool) → length (insertT t l) ≤ length l + 1 →
+        length (if e then x ∷ l else if p then t ∷ x ∷ l else x ∷ insertT t l) ≤ length (x ∷ l) + 1
     go true p h = omega arith
     go false true h = omega arith
     go false false h = omega arith
@@ -125,10 +131,12 @@ length-push t l = go (memT t l)
 pub room-push : (t : Text) (l : List Text) → false ≡ memT t l → length (pushT t l) ≡ length l + 1
 room-push t l e = ap length (push-new t l e) ∙ length-append l (t ∷ [])
 
-pub room-insert : (t : Text) (l : List Text) (k : ℕ) → insertT t l ≡ take k l ++ (t ∷ drop k l) → length (insertT t l) ≡ length l + 1
+pub room-insert : (t : Text) (l : List Text) (k : ℕ) → insertT t l ≡ take k l ++ (t ∷ drop k l) →
+    length (insertT t l) ≡ length l + 1
 room-insert t l k e = ap length e ∙ length-between t l k
 
-pub room-all : (w m ts : List Text) (x : Text) (i : ℕ) → drop i ts ≡ x ∷ drop (i + 1) ts → w ≡ insertAll (drop i ts) m → length (insertT x m) ≤ length w
+pub room-all : (w m ts : List Text) (x : Text) (i : ℕ) → drop i ts ≡ x ∷ drop (i + 1) ts → w ≡ insertAll (drop i ts) m →
+    length (insertT x m) ≤ length w
 room-all w m ts x i e q = omega (arith, ap length (q ∙ all-on x ts i x e m), length-all (drop (i + 1) ts) (insertT x m))
 
 -- ---- renderings
@@ -143,7 +151,8 @@ module _ (f : List ℕ) (n : ℕ) (a : List ℕ) where
       let l : i < length (listed f n a) = rw length-listed h in
       rw (add-one i)
       (drop-cons (listed f n a) i (render f d) l
-      ∙ ap (λ (t : Text). t ∷ drop (suc i) (listed f n a)) (List·getD-map (render f) (reasons n a) i d ∙ ap (render f) (nth-reason n i a d h)))
+      ∙ ap (λ (t : Text). t ∷ drop (suc i) (listed f n a))
+      (List·getD-map (render f) (reasons n a) i d ∙ ap (render f) (nth-reason n i a d h)))
 
   pub count-is : {l : List Text} → listed f n a ≡ l → n ≡ length l
   count-is e = sym length-listed ∙ ap length e
@@ -152,7 +161,8 @@ module _ (f : List ℕ) (n : ℕ) (a b : List ℕ) (r : Reason) where
   pub pushed : reasons (n + 1) b ≡ reasons n a ++ (r ∷ []) → listed f (n + 1) b ≡ listed f n a ++ (render f r ∷ [])
   pushed e = ap (map (render f)) e ∙ map-append (render f) (reasons n a) (r ∷ [])
 
-  pub inserted : (k : ℕ) → reasons (n + 1) b ≡ take k (reasons n a) ++ (r ∷ drop k (reasons n a)) → listed f (n + 1) b ≡ take k (listed f n a) ++ (render f r ∷ drop k (listed f n a))
+  pub inserted : (k : ℕ) → reasons (n + 1) b ≡ take k (reasons n a) ++ (r ∷ drop k (reasons n a)) →
+      listed f (n + 1) b ≡ take k (listed f n a) ++ (render f r ∷ drop k (listed f n a))
   inserted k e =
       ap (map (render f)) e
       ∙ map-append (render f) (take k (reasons n a)) (r ∷ drop k (reasons n a))

@@ -32,7 +32,8 @@ equal : {t u : Text} (l : List Text) → t ≡ u → Swap t u l
 equal {t} {u} l e = rw e
 
 both-empty : {t u : Text} → Before t u → Swap t u []
-both-empty {t} {u} p = ap (insertT t) (alone u) ∙ in-front [] p ∙ sym (ap (insertT u) (alone t) ∙ further [] p ∙ ap (λ (m : List Text). t ∷ m) (alone u))
+both-empty {t} {u} p = ap (insertT t) (alone u) ∙ in-front [] p
+    ∙ sym (ap (insertT u) (alone t) ∙ further [] p ∙ ap (λ (m : List Text). t ∷ m) (alone u))
 
 module _ {t u x : Text} (l : List Text) where
   both-front : Before t u → Before u x → Swap t u (x ∷ l)
@@ -56,7 +57,8 @@ module _ {t u x : Text} (l : List Text) where
 
 module _ {t x : Text} (l : List Text) where
   front-at : Before t x → Swap t x (x ∷ l)
-  front-at p = ap (insertT t) (already x l) ∙ in-front l p ∙ sym (ap (insertT x) (in-front l p) ∙ further (x ∷ l) p ∙ ap (λ (m : List Text). t ∷ m) (already x l))
+  front-at p = ap (insertT t) (already x l) ∙ in-front l p
+      ∙ sym (ap (insertT x) (in-front l p) ∙ further (x ∷ l) p ∙ ap (λ (m : List Text). t ∷ m) (already x l))
 
   behind-at : Before x t → Swap t x (x ∷ l)
   behind-at p = ap (insertT t) (already x l) ∙ further l p ∙ sym (ap (insertT x) (further l p) ∙ already x (insertT t l))

@@ -57,7 +57,8 @@ pub record Holds (f : List ℕ) (l : List Text) (n : ℕ) (a : List ℕ) : Type 
   pub texts : listed f n a ≡ l
   pub clean : HasText f → Clean f n a
 
--- the first n reasons of a become the first m of a', rendered as l; they stay clean if what goes in can be read, which R says
+-- the first n reasons of a become the first m of a', rendered as l; they stay clean if what goes in can be read, which R
+-- says
 pub record Grows (f : List ℕ) (R : Type 0) (l : List Text) (n : ℕ) (a : List ℕ) (m : ℕ) (a' : List ℕ) : Type 0 where
   pub many : m ≡ length l
   pub texts : listed f m a' ≡ l

@@ -294,7 +294,8 @@ pub fn contains(f: &[u8], a: &[u32], n: usize, r: Reason) -> bool
 // A reason behind the first n, unless one there is rendered like it; the answer is how many there are then.
 pub fn push_if_absent(f: &[u8], a: &mut [u32], n: usize, r: Reason) -> usize
     requires { ⌜ length (pushT (render (now f) r) (listed (now f) n (now a))) * 5 ≤ length (now a) ⌝ }
-    ensures { λ m. ⌜ Grows (was f) (Readable (was f) r) (pushT (render (was f) r) (listed (was f) n (was a))) n (was a) m (is a) ⌝ }
+    ensures { λ m. ⌜ Grows (was f) (Readable (was f) r) (pushT (render (was f) r) (listed (was f) n (was a))) n (was a) m
+        (is a) ⌝ }
 {
     if contains(f, a, n, r) {
         return n;
@@ -338,7 +339,8 @@ fn insert_at(a: &mut [u32], n: usize, k: usize, r: Reason)
 // A reason among the first n, which ascend as rendered, unless one there is rendered like it.
 pub fn insert_sorted(f: &[u8], a: &mut [u32], n: usize, r: Reason) -> usize
     requires { ⌜ length (insertT (render (now f) r) (listed (now f) n (now a))) * 5 ≤ length (now a) ⌝ }
-    ensures { λ m. ⌜ Grows (was f) (Readable (was f) r) (insertT (render (was f) r) (listed (was f) n (was a))) n (was a) m (is a) ⌝ }
+    ensures { λ m. ⌜ Grows (was f) (Readable (was f) r) (insertT (render (was f) r) (listed (was f) n (was a))) n (was a) m
+        (is a) ⌝ }
 {
     let s = find_spot(f, a, n, r);
     match s {
@@ -352,8 +354,10 @@ pub fn insert_sorted(f: &[u8], a: &mut [u32], n: usize, r: Reason) -> usize
 
 // The first m reasons of b inserted into the first n of a.
 pub fn merge(f: &[u8], a: &mut [u32], n: usize, b: &[u32], m: usize) -> usize
-    requires { ⌜ (m * 5 ≤ length (now b)) × (length (insertAll (listed (now f) m (now b)) (listed (now f) n (now a))) * 5 ≤ length (now a)) ⌝ }
-    ensures { λ k. ⌜ Grows (was f) (Clean (was f) m (was b)) (insertAll (listed (was f) m (was b)) (listed (was f) n (was a))) n (was a) k (is a) ⌝ }
+    requires { ⌜ (m * 5 ≤ length (now b)) × (length (insertAll (listed (now f) m (now b)) (listed (now f) n (now a)))
+        * 5 ≤ length (now a)) ⌝ }
+    ensures { λ k. ⌜ Grows (was f) (Clean (was f) m (was b))
+        (insertAll (listed (was f) m (was b)) (listed (was f) n (was a))) n (was a) k (is a) ⌝ }
 {
     let mut k = n;
     let mut j: usize = 0;

@@ -38,13 +38,19 @@ name-short : (k : ℕ) → length (name-of k) ≤ 9
 unfolding name-of all-places
 name-short k =
     ⊎-elim
-    (λ h. each (λ (k : ℕ). length (name-of k) ≤ 9) 18 0 (omega arith and omega arith and omega arith and omega arith and omega arith and omega arith and omega arith and omega arith and omega arith and omega arith and omega arith and omega arith and omega arith and omega arith and omega arith and omega arith and omega arith and omega arith and tt) k (omega arith) h)
+    (λ h. each (λ (k : ℕ). length (name-of k) ≤ 9) 18 0
+    (omega arith and omega arith and omega arith and omega arith and omega arith and omega arith and omega arith and
+    omega arith and omega arith and omega arith and omega arith and omega arith and omega arith and omega arith and
+    omega arith and omega arith and omega arith and omega arith and tt) k (omega arith) h)
     (λ h. omega (arith, ap length (name-out k h)))
     (lt-or-ge k 18)
 
 begins-short : (k : ℕ) → k < 18 → length (detail-begins k) ≤ 38
 unfolding detail-begins all-places
-begins-short k h = each (λ (k : ℕ). length (detail-begins k) ≤ 38) 18 0 (omega arith and omega arith and omega arith and omega arith and omega arith and omega arith and omega arith and omega arith and omega arith and omega arith and omega arith and omega arith and omega arith and omega arith and omega arith and omega arith and omega arith and omega arith and tt) k (omega arith) h
+begins-short k h = each (λ (k : ℕ). length (detail-begins k) ≤ 38) 18 0
+    (omega arith and omega arith and omega arith and omega arith and omega arith and omega arith and omega arith and
+    omega arith and omega arith and omega arith and omega arith and omega arith and omega arith and omega arith and
+    omega arith and omega arith and omega arith and omega arith and tt) k (omega arith) h
 
 verdict-short : (v : kleene.Truth) → length (truth-name v) ≤ 28
 unfolding truth-name
@@ -61,8 +67,12 @@ unfolding detail-ends
 ends-short d k h =
     let v = verdict-short (verdict-of d) in
     let n : length (decimal d) ≤ 28 = omega (arith, digits.at-most d) in
-    let s : length (decimal d ++ text " seconds") ≤ 28 = app (decimal d) (text " seconds") 20 8 (digits.at-most d) (omega arith) in
-    each (λ (k : ℕ). length (detail-ends k d) ≤ 28) 18 0 (omega arith and omega arith and omega arith and omega arith and omega arith and omega arith and omega arith and omega arith and omega arith and omega arith and v and v and n and n and n and s and n and flag-short (eqb d 1) and tt) k (omega arith) h
+    let s : length (decimal d ++ text " seconds") ≤ 28 =
+    app (decimal d) (text " seconds") 20 8 (digits.at-most d) (omega arith) in
+    each (λ (k : ℕ). length (detail-ends k d) ≤ 28) 18 0
+    (omega arith and omega arith and omega arith and omega arith and omega arith and omega arith and omega arith and
+    omega arith and omega arith and omega arith and v and v and n and n and n and s and n and flag-short (eqb d 1)
+    and tt) k (omega arith) h
 
 -- ---- the parts of a line, over a file f of bytes
 
@@ -80,7 +90,8 @@ module _ (f : List ℕ) (bytes : (i : ℕ) → getD f i 0 < 256) (x : List ℕ) 
   change-short : (c : Change) → length (changed (change-of x (texts-of f x) c)) ≤ 1538
   unfolding changed
   change-short NoChange = omega arith
-  change-short (Write e b a) = glue (quoted (text-of f x e)) _ 512 1025 (quoted-short f bytes x e) (glue (quoted (text-of f x b)) _ 512 512 (quoted-short f bytes x b) (quoted-short f bytes x a))
+  change-short (Write e b a) = glue (quoted (text-of f x e)) _ 512 1025 (quoted-short f bytes x e)
+      (glue (quoted (text-of f x b)) _ 512 512 (quoted-short f bytes x b) (quoted-short f bytes x a))
 
   detail-short : (k d : ℕ) → length (quoted (detail (kind-of x (texts-of f x) k d))) ≤ 512
   detail-short k d =
@@ -96,7 +107,8 @@ module _ (f : List ℕ) (bytes : (i : ℕ) → getD f i 0 < 256) (x : List ℕ) 
   unfolding record-line record-of
   record-short k r =
       let ts : List Text = texts-of f x in
-      let n : length (kind-name (kind-of x ts (r .kind) (r .detail))) ≤ 9 = omega (arith, ap length (name-is x ts (r .kind) (r .detail)), name-short (r .kind)) in
+      let n : length (kind-name (kind-of x ts (r .kind) (r .detail))) ≤ 9 =
+      omega (arith, ap length (name-is x ts (r .kind) (r .detail)), name-short (r .kind)) in
       let y = kind-of x ts (r .kind) (r .detail) in
       let t₁ : Text = quoted (detail y) ++ newline in
       let t₂ : Text = changed (change-of x ts (r .change)) ++ (32 ∷ t₁) in

@@ -63,11 +63,32 @@ module _ (x : List ℕ) (ts : List Text) where
   unfolding kind-of
   kind-unknown k d h =
       let no : (i : ℕ) → i < 18 → eqb k i ≡ false = λ i l. ne-eqb k i (λ e. omega arith) in
-      rw (no 0 (omega arith), no 1 (omega arith), no 2 (omega arith), no 3 (omega arith), no 4 (omega arith), no 5 (omega arith), no 6 (omega arith), no 7 (omega arith), no 8 (omega arith), no 9 (omega arith), no 10 (omega arith), no 11 (omega arith), no 12 (omega arith), no 13 (omega arith), no 14 (omega arith), no 15 (omega arith), no 16 (omega arith), no 17 (omega arith))
+      rw (
+        no 0 (omega arith),
+        no 1 (omega arith),
+        no 2 (omega arith),
+        no 3 (omega arith),
+        no 4 (omega arith),
+        no 5 (omega arith),
+        no 6 (omega arith),
+        no 7 (omega arith),
+        no 8 (omega arith),
+        no 9 (omega arith),
+        no 10 (omega arith),
+        no 11 (omega arith),
+        no 12 (omega arith),
+        no 13 (omega arith),
+        no 14 (omega arith),
+        no 15 (omega arith),
+        no 16 (omega arith),
+        no 17 (omega arith),
+      )
 
   name-known : (d k : ℕ) → k < 18 → textAt names-file (startFrom names-file 0 k) ≡ kind-name (kind-of x ts k d)
   unfolding kind-of all-records all-places
-  name-known d k h = each (λ (k : ℕ). textAt names-file (startFrom names-file 0 k) ≡ kind-name (kind-of x ts k d)) 18 0 (refl and refl and refl and refl and refl and refl and refl and refl and refl and refl and refl and refl and refl and refl and refl and refl and refl and refl and tt) k (omega arith) h
+  name-known d k h = each (λ (k : ℕ). textAt names-file (startFrom names-file 0 k) ≡ kind-name (kind-of x ts k d)) 18 0
+      (refl and refl and refl and refl and refl and refl and refl and refl and refl and refl and refl and refl and refl and
+      refl and refl and refl and refl and refl and tt) k (omega arith) h
 
   pub name-is : (k d : ℕ) → name-of k ≡ kind-name (kind-of x ts k d)
   unfolding name-of kind-name
@@ -79,7 +100,9 @@ module _ (x : List ℕ) (ts : List Text) where
 
   pub detail-known : (d k : ℕ) → k < 18 → detail-begins k ++ detail-ends k d ≡ detail (kind-of x ts k d)
   unfolding kind-of detail-begins detail-ends all-records all-places
-  detail-known d k h = each (λ (k : ℕ). detail-begins k ++ detail-ends k d ≡ detail (kind-of x ts k d)) 18 0 (refl and refl and refl and refl and refl and refl and refl and refl and refl and refl and refl and refl and refl and refl and refl and refl and refl and refl and tt) k (omega arith) h
+  detail-known d k h = each (λ (k : ℕ). detail-begins k ++ detail-ends k d ≡ detail (kind-of x ts k d)) 18 0
+      (refl and refl and refl and refl and refl and refl and refl and refl and refl and refl and refl and refl and refl and
+      refl and refl and refl and refl and refl and tt) k (omega arith) h
 
 -- ---- texts without quotes and backslashes are quoted as they are
 
@@ -99,7 +122,8 @@ plain-digits zero n t p = p
 plain-digits (suc f) n t p =
     ⊎-elim
     (λ h. rw (digits.low f n t h) (plain-cons (48 + n) t (λ e. omega arith) (λ e. omega arith) p))
-    (λ h. rw (digits.high f n t h) (plain-digits f (n / 10) ((48 + n % 10) ∷ t) (plain-cons (48 + n % 10) t (λ e. omega arith) (λ e. omega arith) p)))
+    (λ h. rw (digits.high f n t h) (plain-digits f (n / 10) ((48 + n % 10) ∷ t)
+    (plain-cons (48 + n % 10) t (λ e. omega arith) (λ e. omega arith) p)))
     (lt-or-ge n 10)
 
 plain-decimal : (n : ℕ) → Plain (decimal n)
@@ -123,14 +147,18 @@ plain-seconds n = plain-append (decimal n) (text " seconds") (plain-decimal n) r
 
 plain-begins : (k : ℕ) → k < 18 → Plain (detail-begins k)
 unfolding detail-begins all-places all-lists all-lines
-plain-begins k h = each (λ (k : ℕ). Plain (detail-begins k)) 18 0 (refl and refl and refl and refl and refl and refl and refl and refl and refl and refl and refl and refl and refl and refl and refl and refl and refl and refl and tt) k (omega arith) h
+plain-begins k h = each (λ (k : ℕ). Plain (detail-begins k)) 18 0
+    (refl and refl and refl and refl and refl and refl and refl and refl and refl and refl and refl and refl and refl and
+    refl and refl and refl and refl and refl and tt) k (omega arith) h
 
 plain-ends : (d k : ℕ) → k < 18 → Plain (detail-ends k d)
 unfolding detail-ends flat
 plain-ends d k h =
     let v = plain-verdict (verdict-of d) in
     let n = plain-decimal d in
-    each (λ (k : ℕ). Plain (detail-ends k d)) 18 0 (refl and refl and refl and refl and refl and refl and refl and refl and refl and refl and v and v and n and n and n and plain-seconds d and n and plain-flag (eqb d 1) and tt) k (omega arith) h
+    each (λ (k : ℕ). Plain (detail-ends k d)) 18 0 (refl and refl and refl and refl and refl and refl and refl and refl and
+    refl and refl and v and v and n and n and n and plain-seconds d and n and plain-flag (eqb d 1) and tt) k
+    (omega arith) h
 
 plain-quoted : (t : Text) → Plain t → 34 ∷ (t ++ (34 ∷ [])) ≡ quoted t
 unfolding quoted
@@ -140,7 +168,8 @@ module _ (x : List ℕ) (ts : List Text) (k d : ℕ) where
   pub detail-is : k < 18 → 34 ∷ (detail-begins k ++ (detail-ends k d ++ (34 ∷ []))) ≡ quoted (detail (kind-of x ts k d))
   detail-is h =
       ap (λ (l : Text). 34 ∷ l) (sym (append-assoc (detail-begins k) (detail-ends k d) (34 ∷ [])))
-      ∙ plain-quoted (detail-begins k ++ detail-ends k d) (plain-append (detail-begins k) (detail-ends k d) (plain-begins k h) (plain-ends d k h))
+      ∙ plain-quoted (detail-begins k ++ detail-ends k d)
+      (plain-append (detail-begins k) (detail-ends k d) (plain-begins k h) (plain-ends d k h))
       ∙ ap quoted (detail-known x ts d k h)
 
   pub detail-text : 18 ≤ k → quoted (getD ts d []) ≡ quoted (detail (kind-of x ts k d))

@@ -1,4 +1,5 @@
--- The line of a record of `simulate`, with its place among the records and its newline: what a reader of the program's output sees.
+-- The line of a record of `simulate`, with its place among the records and its newline: what a reader of the program's
+-- output sees.
 use Prim.Native.Nat.{ℕ}
 use mathlib.Core.List.{_∷_, _++_}
 use mathlib.Core.Option.{Option, none, some}

@@ -69,7 +69,11 @@ fn put_where(out: &mut [u8], n: usize, source: Where) -> usize
 }
 
 fn put_write(out: &mut [u8], n: usize, f: &[u8], x: &[u32; 436], e: u32, b: u32, a: u32) -> usize
-    ensures { λ m. ⌜ Written (quoted (text-of (was f) (was x) e) ++ (32 ∷ (quoted (text-of (was f) (was x) b) ++ (32 ∷ quoted (text-of (was f) (was x) a))))) (was out) n (is out) m ⌝ }
+    ensures { λ m.
+        ⌜ Written (quoted
+        (text-of (was f) (was x)
+        e) ++ (32 ∷ (quoted (text-of (was f) (was x) b) ++ (32 ∷ quoted (text-of (was f) (was x) a))))) (was out) n (is out)
+        m ⌝ }
 {
     let i = put_place(out, n, f, x, e);
     let j = show::put_byte(out, i, 32);
@@ -159,7 +163,8 @@ fn put_end(out: &mut [u8], n: usize, kind: u32, number: u32) -> usize
 
 // A record's detail, quoted.
 fn put_detail(out: &mut [u8], n: usize, f: &[u8], x: &[u32; 436], kind: u32, number: u32) -> usize
-    ensures { λ m. ⌜ Written (quoted (detail (kind-of (was x) (texts-of (was f) (was x)) kind number))) (was out) n (is out) m ⌝ }
+    ensures { λ m. ⌜ Written (quoted (detail (kind-of (was x) (texts-of (was f) (was x)) kind number))) (was out) n (is out)
+        m ⌝ }
 {
     if 18 <= kind {
         return put_place(out, n, f, x, number);
@@ -174,7 +179,8 @@ fn put_detail(out: &mut [u8], n: usize, f: &[u8], x: &[u32; 436], kind: u32, num
 
 // `record INDEX SECOND KIND `
 fn put_head(out: &mut [u8], n: usize, k: usize, second: u32, kind: u32) -> usize
-    ensures { λ m. ⌜ Written (text "record " ++ (decimal k ++ (32 ∷ (decimal second ++ (32 ∷ (name-of kind ++ (32 ∷ []))))))) (was out) n (is out) m ⌝ }
+    ensures { λ m. ⌜ Written (text "record " ++ (decimal k ++ (32 ∷ (decimal second ++ (32 ∷ (name-of kind ++ (32 ∷ [])))))))
+        (was out) n (is out) m ⌝ }
 {
     let a = show::put(out, n, b"record ");
     let b = show::put_number(out, a, k as u64);
@@ -212,7 +218,8 @@ pub fn put_record(out: &mut [u8], n: usize, f: &[u8], x: &[u32; 436], a: &[u32],
 }
 
 // ---- printing: lines behind the first n bytes of `out`, which goes to standard output first where a line may not fit.
-// The answer is where the next text goes; whoever printed last flushes. No line is cut if `out` has room for the longest one.
+// The answer is where the next text goes; whoever printed last flushes. No line is cut if `out` has room for the longest
+// one.
 
 fn print_record(out: &mut [u8], n: usize, f: &[u8], x: &[u32; 436], a: &[u32], k: usize) -> usize
     requires { ⌜ k * 13 + 13 ≤ length (now a) ⌝ }

@@ -109,7 +109,14 @@ never e k = let y : true ≡ false = sym e ∙ k in let z : _≡_ {A = ℕ} 0 1 
 
 module _ {r : Reduced} {w : List ℕ} {n : ℕ} {b : Bool} where
   pub tried-full : (n ≡ 0 → ⊥) →
-      Tried r w n b (record { refused = n; count = r .count; words = r .words; attempts = r .attempts + 1; reached = r .reached })
+      Tried r w n b (record {
+        refused = n;
+        count = r .count;
+        words = r .words;
+        attempts = r .attempts + 1;
+        reached =
+            r .reached;
+      })
   tried-full z = record { full = λ y. refl; kept = λ y. absurd (z y); passed = λ y. absurd (z y) }
 
   pub tried-kept : n ≡ 0 → b ≡ true →
@@ -117,5 +124,12 @@ module _ {r : Reduced} {w : List ℕ} {n : ℕ} {b : Bool} where
   tried-kept z e = record { full = λ y. absurd (y z); kept = λ y k. refl; passed = λ y k. never e k }
 
   pub tried-passed : n ≡ 0 → b ≡ false →
-      Tried r w n b (record { refused = 0; count = r .count; words = r .words; attempts = r .attempts + 1; reached = r .reached + 1 })
+      Tried r w n b (record {
+        refused = 0;
+        count = r .count;
+        words = r .words;
+        attempts = r .attempts + 1;
+        reached =
+            r .reached + 1;
+      })
   tried-passed z e = record { full = λ y. absurd (y z); kept = λ y k. never k e; passed = λ y k. refl }

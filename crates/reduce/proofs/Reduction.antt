@@ -104,7 +104,8 @@ module _ {f starts : List ℕ} {many : ℕ} {g : Ground} (target : ℕ) (r : Red
   areas = sizes q a u
 
   -- the definition's turn that this attempt is
-  module _ (i : Index) (es : starts ≡ i .invariants .starts) (em : many ≡ i .invariants .count) (m : Model) (acc : accepted f ≡ answer m) (o : Indexed f i m) (gr : Grounds f i g)
+  module _ (i : Index) (es : starts ≡ i .invariants .starts) (em : many ≡ i .invariants .count) (m : Model)
+      (acc : accepted f ≡ answer m) (o : Indexed f i m) (gr : Grounds f i g)
       (inside : target < length (o .ts)) (vs : List Event) (left : Left m (o .ts) (r .words) (r .count) vs) where
     abbrev x : List ℕ
     x = g .table
@@ -159,7 +160,8 @@ module _ {f starts : List ℕ} {many : ℕ} {g : Ground} (target : ℕ) (r : Red
             (begins ∙ turn-refused areas m cells name vs (r .attempts) (r .reached) (200 - (r .attempts + 1)) here n y
             ∙ ap refused (sym no))
 
-    module _ (z : c .simulation .refused ≡ 0) (b : Bool) (is-b : b ≡ violatesM (c .status) (c .violations) (c .violated) target) where
+    module _ (z : c .simulation .refused ≡ 0) (b : Bool)
+        (is-b : b ≡ violatesM (c .status) (c .violations) (c .violated) target) where
       verdict : (k : Check) → checked areas m cells rest ≡ answer k → Rattle.checker_entry.specs.Contract.Shows f c k
           → violates name k ≡ b
       verdict k y shows = sym (is-b ∙ violates-is f x i m acc o t (texts-here f i m acc o bytes g gr) c k shows
@@ -295,7 +297,8 @@ module _ {f starts : List ℕ} {many : ℕ} {g : Ground} {target : ℕ} {n : ℕ
     does = λ i es em m acc o gr inside vs left. going refl vs left refl;
   }
 
-  module _ {s : List ℕ} {r : Reduced} {b : Bool} {q' a' u' : List ℕ} (l : Looped f starts many g target s n r b q q' a a' u u') where
+  module _ {s : List ℕ} {r : Reduced} {b : Bool} {q' a' u' : List ℕ}
+      (l : Looped f starts many g target s n r b q q' a a' u u') where
     pub loop-open : b ≡ true → Open r
     loop-open z =
         let k = l .goes .more z in
@@ -307,7 +310,8 @@ module _ {f starts : List ℕ} {many : ℕ} {g : Ground} {target : ℕ} {n : ℕ
         Looped f starts many g target s n r' b' q q'' a a'' u u''
     loop-step z {r'} {b'} k t eq ea eu =
         let y = l .goes .more z in
-        let k' : Attempted f starts many g target r r' (length q) (length a) (length u) = rw (l .queue, l .records, l .runs) at k in
+        let k' : Attempted f starts many g target r r' (length q) (length a) (length u) =
+        rw (l .queue, l .records, l .runs) at k in
         record {
           goes = t;
           attempts = omega (arith, k .attempts, y .attempts);
@@ -321,7 +325,8 @@ module _ {f starts : List ℕ} {many : ℕ} {g : Ground} {target : ℕ} {n : ℕ
               (l .does i es em m acc o gr inside vs left) (λ ws left-ws. k' .does i es em m acc o gr inside ws left-ws);
         }
 
-pub loop-end : {f : List ℕ} {i : Index} {g : Ground} {target n : ℕ} {e : Events} {r : Reduced} {b : Bool} {q q' a a' u u' : List ℕ}
+pub loop-end : {f : List ℕ} {i : Index} {g : Ground} {target n : ℕ} {e : Events} {r : Reduced} {b : Bool}
+    {q q' a a' u u' : List ℕ}
     → Looped f (i .invariants .starts) (i .invariants .count) g target (e .words) n r b q q' a a' u u' → b ≡ false →
     Reduces f i g target e n r (length q) (length a) (length u)
 loop-end {i = i} {target = target} {r = r} {q = q} {a = a} {u = u} l z = record {

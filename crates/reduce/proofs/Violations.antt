@@ -224,7 +224,8 @@ module _ (f x : List ℕ) (i : Index) (m : Model) (acc : accepted f ≡ answer m
     violated-here : r .violated ≡ area (violation-words ts) 256 (c .violations)
     violated-here = shows .violated ∙ ap (λ (l : List Text). area (violation-words l) 256 (c .violations)) here
 
-    pub violates-is : (target : ℕ) → target < length ts → violatesM (r .status) (r .violations) (r .violated) target ≡ violates (getD ts target []) c
+    pub violates-is : (target : ℕ) → target < length ts →
+        violatesM (r .status) (r .violations) (r .violated) target ≡ violates (getD ts target []) c
     unfolding violatesM violates fewM
     violates-is target l =
         let n = length (c .violations) in

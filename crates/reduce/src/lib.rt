@@ -10,7 +10,19 @@ ghost use mathlib.Core.Path.{_≡_};
 ghost use Prim.Native.Nat.{_*_, _≤_, _<_};
 ghost use lib.ListN.{length};
 ghost use Rattle.engine_entry.specs.Contract.{ground};
-ghost use Rattle.reduce.specs.Contracts.{Without, among, is-violation, fewM, violatesM, GoesOn, Open, Tried, Attempted, Begun, Reduces};
+ghost use Rattle.reduce.specs.Contracts.{
+  Without,
+  among,
+  is-violation,
+  fewM,
+  violatesM,
+  GoesOn,
+  Open,
+  Tried,
+  Attempted,
+  Begun,
+  Reduces,
+};
 
 // `refused` is 0, or 41 to 43 where a check was refused. The first `count` events in `words`, four words each, are left;
 // so many candidates were checked, and the place reached.
@@ -147,7 +159,9 @@ fn attempt(
     incompletes: &mut [u32; 200],
 ) -> Reduced
     requires { ⌜ Open r ⌝ }
-    ensures { λ e. ⌜ Attempted (was file) (was starts) (shared .invariants) (ground (was table) (shared .cells) (shared .notes) (was notes)) target r e (length (was queue)) (length (was records)) (length (was runs)) ⌝ }
+    ensures { λ e. ⌜ Attempted (was file) (was starts) (shared .invariants)
+        (ground (was table) (shared .cells) (shared .notes) (was notes)) target r e (length (was queue))
+        (length (was records)) (length (was runs)) ⌝ }
 {
     let words = r.words;
     let n = r.count - 1;
@@ -188,7 +202,8 @@ pub fn reduce_events(
     runs: &mut [u32],
 ) -> Reduced
     requires { ⌜ Begun events n ⌝ }
-    ensures { λ r. ⌜ Reduces (was file) index (ground (b .table) (b .cells) (b .count) (was notes)) target events n r (length (was queue)) (length (was records)) (length (was runs)) ⌝ }
+    ensures { λ r. ⌜ Reduces (was file) index (ground (b .table) (b .cells) (b .count) (was notes)) target events n r
+        (length (was queue)) (length (was records)) (length (was runs)) ⌝ }
 {
     let table = b.table;
     let invariants = index.invariants;

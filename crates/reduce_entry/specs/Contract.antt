@@ -1,5 +1,5 @@
--- What `minimize` answers, by the definitions of crate `checker_spec`: each number of the answer, each word of the lent areas,
--- and each byte of the output.
+-- What `minimize` answers, by the definitions of crate `checker_spec`: each number of the answer, each word of the lent
+-- areas, and each byte of the output.
 use Prim.Native.Nat.{ℕ}
 use mathlib.Core.Path.{_≡_}
 use mathlib.Core.List.{List, _++_}

@@ -22,8 +22,10 @@ fn reduction(
     runs: &mut [u32],
     output: &mut [u8],
 ) -> Minimized
-    requires { ⌜ Aimed (now file) index (ground (b .table) (b .cells) (b .count) (now notes)) target events n (now output) ⌝ }
-    ensures { λ e. ⌜ ReducesTo (was file) index (ground (b .table) (b .cells) (b .count) (was notes)) target events n e (was queue) (is queue) (was records) (is records) (was runs) (is runs) (was output) (is output) ⌝ }
+    requires { ⌜ Aimed (now file) index (ground (b .table) (b .cells) (b .count) (now notes)) target events n
+        (now output) ⌝ }
+    ensures { λ e. ⌜ ReducesTo (was file) index (ground (b .table) (b .cells) (b .count) (was notes)) target events n e
+        (was queue) (is queue) (was records) (is records) (was runs) (is runs) (was output) (is output) ⌝ }
 {
     let r = reduce::reduce_events(
         file,
@@ -70,7 +72,8 @@ fn first_check(
     output: &mut [u8],
 ) -> Minimized
     requires { ⌜ Given (now file) index (ground (b .table) (b .cells) (b .count) (now notes)) events n (now output) ⌝ }
-    ensures { λ e. ⌜ ReducesAll (was file) index (ground (b .table) (b .cells) (b .count) (was notes)) events n e (was queue) (is queue) (was records) (is records) (was runs) (is runs) (was output) (is output) ⌝ }
+    ensures { λ e. ⌜ ReducesAll (was file) index (ground (b .table) (b .cells) (b .count) (was notes)) events n e (was queue)
+        (is queue) (was records) (is records) (was runs) (is runs) (was output) (is output) ⌝ }
 {
     let words = events.words;
     let c = reduce_result::check_of(file, index, b, notes, &words, n, queue, records, runs);
@@ -110,7 +113,8 @@ fn run(
     output: &mut [u8],
 ) -> Minimized
     requires { ⌜ Accepted (now file) index ⌝ }
-    ensures { λ e. ⌜ RunsAs (was file) index e (lent (was queue) (was records) (was runs)) (lent (is queue) (is records) (is runs)) (was output) (is output) ⌝ }
+    ensures { λ e. ⌜ RunsAs (was file) index e (lent (was queue) (was records) (was runs))
+        (lent (is queue) (is records) (is runs)) (was output) (is output) ⌝ }
 {
     if output.len() < file.len() + 45 {
         return reduce_result::refused(44);
@@ -142,7 +146,8 @@ pub fn minimize(
     runs: &mut [u32],
     output: &mut [u8],
 ) -> Minimized
-    ensures { λ e. ⌜ Minimizes (was file) e (lent (was queue) (was records) (was runs)) (lent (is queue) (is records) (is runs)) (was output) (is output) ⌝ }
+    ensures { λ e. ⌜ Minimizes (was file) e (lent (was queue) (was records) (was runs))
+        (lent (is queue) (is records) (is runs)) (was output) (is output) ⌝ }
 {
     let x = model_validate::accept(file);
     let status = x.status;

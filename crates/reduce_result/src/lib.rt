@@ -75,7 +75,9 @@ pub fn check_of(
     runs: &mut [u32],
 ) -> CheckResult
     requires { ⌜ n * 4 ≤ length (now words) ⌝ }
-    ensures { λ r. ⌜ Whole (was file) (index .invariants .starts) (index .invariants .count) (ground (b .table) (b .cells) (b .count) (was notes)) (was words) n r (was queue) (is queue) (was records) (is records) (was runs) (is runs) ⌝ }
+    ensures { λ r. ⌜ Whole (was file) (index .invariants .starts) (index .invariants .count)
+        (ground (b .table) (b .cells) (b .count) (was notes)) (was words) n r (was queue) (is queue) (was records)
+        (is records) (was runs) (is runs) ⌝ }
 {
     let table = b.table;
     let cells = b.cells;
@@ -116,7 +118,8 @@ pub fn last_check(
     output: &mut [u8],
 ) -> Minimized
     requires { ⌜ Ready (now file) r (now output) ⌝ }
-    ensures { λ e. ⌜ Finished (was file) index (ground (b .table) (b .cells) (b .count) (was notes)) target originals r e (was queue) (is queue) (was records) (is records) (was runs) (is runs) (was output) (is output) ⌝ }
+    ensures { λ e. ⌜ Finished (was file) index (ground (b .table) (b .cells) (b .count) (was notes)) target originals r e
+        (was queue) (is queue) (was records) (is records) (was runs) (is runs) (was output) (is output) ⌝ }
 {
     let words = r.words;
     let check = check_of(file, index, b, notes, &words, r.count, queue, records, runs);

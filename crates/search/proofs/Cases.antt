@@ -39,7 +39,18 @@ use Rattle.engine_inputs.proofs.Refines.{Fine}
 use Rattle.search_inputs.proofs.Refines.{fine-here, input-accepted, event-at-here}
 use Rattle.search_cases.specs.declared.Search.{Search}
 use Rattle.search_cases.specs.Contracts.{refusalM, violatesM, refusedM, Spends, Found, Other, Gathers}
-use Rattle.search.specs.Meaning.{none-such, cells-of, sizes, search-pool, Entire, Setting, PlacedAs, WitnessIs, Held, Outcome}
+use Rattle.search.specs.Meaning.{
+  none-such,
+  cells-of,
+  sizes,
+  search-pool,
+  Entire,
+  Setting,
+  PlacedAs,
+  WitnessIs,
+  Held,
+  Outcome,
+}
 use Rattle.search.proofs.Sorted.{sorted-few, sorted-again, sorted-both, sorted-one, sorted-none}
 use Rattle.search.proofs.Budget.{few-steps}
 
@@ -147,7 +158,8 @@ module _ {f : List ℕ} {p : Entire} {q a u : ℕ} (x : Setting f p q a u) where
         told =
             subst (λ (l : List Text). Holds f l (r .reasons) w')
             (ap (λ (t : Text). insertT t (sortedT (s .reasons))) spent-is ∙ sorted-one (s .reasons) spent-text)
-            (grown f (insertT (render f (alone kinds.search-spent))) (k .reasons (few-reasons s o w h)) (λ t. tt) (h .reasons))
+            (grown f (insertT (render f (alone kinds.search-spent))) (k .reasons (few-reasons s o w h)) (λ t. tt)
+            (h .reasons))
 
         held : Held x (out-of-budget s) r w'
         held = record {
@@ -235,7 +247,8 @@ module _ {f : List ℕ} {p : Entire} {q a u : ℕ} {placed : Placed} {c : CheckR
   Promised = Tells f (x .m) c plain
 
   promised : Promised
-  promised = ch .does (x .index) (x .starts-are) (x .invariants-are) (x .m) (x .is-accepted) (x .indexed) (x .bytes) (x .grounds) none-such vs (events-at x vs ps)
+  promised = ch .does (x .index) (x .starts-are) (x .invariants-are) (x .m) (x .is-accepted) (x .indexed) (x .bytes)
+      (x .grounds) none-such vs (events-at x vs ps)
       (ps .count)
 
   answer-so : (b : Check) → plain ≡ answer b → here ≡ answer (after-case vs b s)
@@ -306,7 +319,8 @@ module _ {f : List ℕ} {p : Entire} {q a u : ℕ} {placed : Placed} {c : CheckR
 
   pub other-held : {n : ℕ} {v : Bool} {count : ℕ} {r : Search} {w' : List ℕ} → n ≡ refusalM (c .status) → n ≡ 0
       → v ≡ violatesM (c .status) → v ≡ false →
-      Gathers f (o .reasons) (c .unknown) (c .unknowns) (c .incomplete) (c .incompletes) w count w' → Other o count (c .simulation .steps) r → Outcome x here r w'
+      Gathers f (o .reasons) (c .unknown) (c .unknowns) (c .incomplete) (c .incompletes) w count w' →
+      Other o count (c .simulation .steps) r → Outcome x here r w'
   other-held {n} {v} {count} {r} {w'} e z d t told g = by promised
     where
       by : Promised → Outcome x here r w'

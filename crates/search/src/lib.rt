@@ -30,7 +30,8 @@ fn try_case(
     incompletes: &mut [u32; 200],
 ) -> Search
     requires { ⌜ Shaped p placed 0 (length (now w)) ⌝ }
-    ensures { λ r. ⌜ Tries (was file) (entire p (was table) (was starts) (was notes)) placed o (was w) r (is w) (length (was queue)) (length (was records)) (length (was runs)) ⌝ }
+    ensures { λ r. ⌜ Tries (was file) (entire p (was table) (was starts) (was notes)) placed o (was w) r (is w)
+        (length (was queue)) (length (was records)) (length (was runs)) ⌝ }
 {
     if p.cases <= o.cases {
         return search_cases::spent(file, o, w);
@@ -100,7 +101,8 @@ fn visit(
     incompletes: &mut [u32; 200],
 ) -> Search
     requires { ⌜ Shaped p placed remaining (length (now w)) ⌝ }
-    ensures { λ r. ⌜ Visits (was file) (entire p (was table) (was starts) (was notes)) remaining placed o (was w) r (is w) (length (was queue)) (length (was records)) (length (was runs)) ⌝ }
+    ensures { λ r. ⌜ Visits (was file) (entire p (was table) (was starts) (was notes)) remaining placed o (was w) r (is w)
+        (length (was queue)) (length (was records)) (length (was runs)) ⌝ }
 {
     if o.stopped {
         return o;
@@ -176,7 +178,8 @@ fn deepen(
     incompletes: &mut [u32; 200],
 ) -> Search
     requires { ⌜ (depth ≤ 5) × Fitted p (length (now w)) ⌝ }
-    ensures { λ r. ⌜ Deepens (was file) (entire p (was table) (was starts) (was notes)) depth o (was w) r (is w) (length (was queue)) (length (was records)) (length (was runs)) ⌝ }
+    ensures { λ r. ⌜ Deepens (was file) (entire p (was table) (was starts) (was notes)) depth o (was w) r (is w)
+        (length (was queue)) (length (was records)) (length (was runs)) ⌝ }
 {
     let none = Placed {
         count: 0,
@@ -223,7 +226,8 @@ pub fn search_depths(
     w: &mut [u32],
 ) -> Search
     requires { ⌜ (depth ≤ 5) × Fitted p (length (now w)) ⌝ }
-    ensures { λ r. ⌜ Deepens (was file) (entire p (was table) (was starts) (was notes)) depth o (was w) r (is w) (length (was queue)) (length (was records)) (length (was runs)) ⌝ }
+    ensures { λ r. ⌜ Deepens (was file) (entire p (was table) (was starts) (was notes)) depth o (was w) r (is w)
+        (length (was queue)) (length (was records)) (length (was runs)) ⌝ }
 {
     let mut reasons = [0u32; 1500];
     let mut violated = [0u64; 256];

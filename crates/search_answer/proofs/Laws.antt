@@ -25,10 +25,51 @@ unfolding no-verification
 refused-is n e = rw e
 
 pub with-lists-is : (x : Searched) {t v us ws s : List ℕ} {c : CheckResult} → c ≡ result-of (x .check) v us ws s →
-    record { status = x .status; cases = x .cases; «total_steps» = x .«total_steps»; depth = x .depth; horizon = x .horizon; «max_cases» = x .«max_cases»; «max_steps_per_case» = x .«max_steps_per_case»; alphabet = x .alphabet; inputs = x .inputs; gaps = x .gaps; seconds = x .seconds; reasons = x .reasons; told = t; shortest = x .shortest; events = x .events; words = x .words; written = x .written; check = c }
+    record {
+      status = x .status;
+      cases = x .cases;
+      «total_steps» = x .«total_steps»;
+      depth = x .depth;
+      horizon = x .horizon;
+      «max_cases» = x .«max_cases»;
+      «max_steps_per_case» = x .«max_steps_per_case»;
+      alphabet = x .alphabet;
+      inputs =
+          x .inputs;
+      gaps = x .gaps;
+      seconds = x .seconds;
+      reasons = x .reasons;
+      told = t;
+      shortest = x .shortest;
+      events =
+          x .events;
+      words = x .words;
+      written = x .written;
+      check = c;
+    }
     ≡ whole-of x t v us ws s
 with-lists-is x {t} e =
-    ap (λ (c : CheckResult). record { status = x .status; cases = x .cases; «total_steps» = x .«total_steps»; depth = x .depth; horizon = x .horizon; «max_cases» = x .«max_cases»; «max_steps_per_case» = x .«max_steps_per_case»; alphabet = x .alphabet; inputs = x .inputs; gaps = x .gaps; seconds = x .seconds; reasons = x .reasons; told = t; shortest = x .shortest; events = x .events; words = x .words; written = x .written; check = c }) e
+    ap (λ (c : CheckResult). record {
+      status = x .status;
+      cases = x .cases;
+      «total_steps» = x .«total_steps»;
+      depth =
+          x .depth;
+      horizon = x .horizon;
+      «max_cases» = x .«max_cases»;
+      «max_steps_per_case» = x .«max_steps_per_case»;
+      alphabet = x .alphabet;
+      inputs = x .inputs;
+      gaps = x .gaps;
+      seconds = x .seconds;
+      reasons = x .reasons;
+      told = t;
+      shortest = x .shortest;
+      events = x .events;
+      words = x .words;
+      written = x .written;
+      check = c;
+    }) e
 
 pub without-is : {c : CheckResult} → c ≡ no-check 0 → _≡_ {A = WithCheck}
     (record { events = 0; words = replicate 20 0; written = 0; check = c }) without
@@ -60,4 +101,5 @@ pub told-reasons : (f b : List ℕ) {a' : List ℕ} {n m r : ℕ} → AtMost n 4
     n ≤ 400 → (HasText f → Clean f n b) → Holds f (insertAll (listed f n b) []) r a'
 told-reasons f b {a'} {n} {m} {r} k h o c =
     subst (λ (j : ℕ). Holds f (insertAll (listed f j b) []) r a') (k .same o)
-    (grown f (insertAll (listed f m b)) h (λ t. subst (λ (j : ℕ). Clean f j b) (sym (k .same o)) (c t)) (holds-zeros f (zeros 2000)))
+    (grown f (insertAll (listed f m b)) h (λ t. subst (λ (j : ℕ). Clean f j b) (sym (k .same o)) (c t))
+    (holds-zeros f (zeros 2000)))

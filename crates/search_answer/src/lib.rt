@@ -73,7 +73,8 @@ pub fn refused(
     unknowns: &mut [u32; 2000],
     incompletes: &mut [u32; 200],
 ) -> Searched
-    ensures { λ r. ⌜ whole-of r (is told) (is violated) (is unknowns) (is incompletes) (is reasons) ≡ no-verification number ⌝ }
+    ensures { λ r. ⌜ whole-of r (is told) (is violated) (is unknowns) (is incompletes) (is reasons)
+        ≡ no-verification number ⌝ }
 {
     let check = checker_result::refused_judgement(0, reasons, violated, unknowns, incompletes);
     *told = [0u32; 2000];
@@ -114,7 +115,8 @@ pub fn no_witness(
     unknowns: &mut [u32; 2000],
     incompletes: &mut [u32; 200],
 ) -> Witness
-    ensures { λ r. ⌜ with-check r (result-of (r .check) (is violated) (is unknowns) (is incompletes) (is reasons)) ≡ without ⌝ }
+    ensures { λ r. ⌜ with-check r (result-of (r .check) (is violated) (is unknowns) (is incompletes) (is reasons))
+        ≡ without ⌝ }
 {
     let check = checker_result::refused_judgement(0, reasons, violated, unknowns, incompletes);
     Witness {
@@ -150,7 +152,9 @@ pub fn told_of(
     told: &mut [u32; 2000],
 ) -> Searched
     requires { ⌜ length (now w) ≡ 4000 ⌝ }
-    ensures { λ r. ⌜ ((v us ws s : List ℕ) → Told (was file) limits (p .alphabet) (p .gaps) (p .horizon) o (was w) (with-check x (result-of (x .check) v us ws s)) (whole-of r (is told) v us ws s)) ⌝ }
+    ensures { λ r.
+        ⌜ ((v us ws s : List ℕ) → Told (was file) limits (p .alphabet) (p .gaps) (p .horizon) o (was w)
+        (with-check x (result-of (x .check) v us ws s)) (whole-of r (is told) v us ws s)) ⌝ }
 {
     let alphabet = p.alphabet;
     let inputs = alphabet.words;
@@ -184,7 +188,8 @@ pub fn told_of(
 }
 
 pub fn clear(queue: &mut [u32], records: &mut [u32], runs: &mut [u32])
-    ensures { λ _. ⌜ (is queue ≡ replicate (length (was queue)) 0) × ((is records ≡ replicate (length (was records)) 0) × (is runs ≡ replicate (length (was runs)) 0)) ⌝ }
+    ensures { λ _. ⌜ (is queue ≡ replicate (length (was queue)) 0)
+        × ((is records ≡ replicate (length (was records)) 0) × (is runs ≡ replicate (length (was runs)) 0)) ⌝ }
 {
     areas::clear_all(queue);
     areas::clear_all(records);

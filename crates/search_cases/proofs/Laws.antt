@@ -55,7 +55,8 @@ spent-reasons f w {w'} {k} {n} {r} a e h o =
       clean = λ u c. g .clean (alone-readable refl (record { known = omega arith; is = refl })) c;
     })
 
-pub gathers-is : (f w : List ℕ) (n : ℕ) {un inc : ℕ} (us ws : List ℕ) {k many first j more r : ℕ} {w₁ w₂ : List ℕ} → AtMost n 400 k
+pub gathers-is : (f w : List ℕ) (n : ℕ) {un inc : ℕ} (us ws : List ℕ) {k many first j more r : ℕ} {w₁ w₂ : List ℕ} →
+    AtMost n 400 k
     → AtMost un 400 many →
     Grows f (Clean f many us) (insertAll (listed f many us) (listed f k w)) k w first w₁ → AtMost first 400 j
     → AtMost inc 40 more →
@@ -63,7 +64,8 @@ pub gathers-is : (f w : List ℕ) (n : ℕ) {un inc : ℕ} (us ws : List ℕ) {k
 gathers-is f w n {un} {inc} us ws {k} {many} {first} {j} {more} {r} {w₁} {w₂} ak am h aj ao g on om oo few =
     let h₁ : Grows f (Clean f un us) (insertAll (listed f un us) (listed f n w)) n w first w₁ =
     subst (λ (i : ℕ). Grows f (Clean f i us) (insertAll (listed f i us) (listed f n w)) n w first w₁) (am .same om)
-    (subst (λ (i : ℕ). Grows f (Clean f many us) (insertAll (listed f many us) (listed f i w)) i w first w₁) (ak .same on) h) in
+    (subst (λ (i : ℕ). Grows f (Clean f many us) (insertAll (listed f many us) (listed f i w)) i w first w₁) (ak .same on)
+    h) in
     let fj : j ≡ first = aj .same (omega (arith, h₁ .many, few)) in
     let g₁ : Grows f (Clean f inc ws) (insertAll (listed f inc ws) (listed f first w₁)) first w₁ r w₂ =
     subst (λ (i : ℕ). Grows f (Clean f i ws) (insertAll (listed f i ws) (listed f first w₁)) first w₁ r w₂) (ao .same oo)

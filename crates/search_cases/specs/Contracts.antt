@@ -91,7 +91,8 @@ pub record Spends (f : List ℕ) (o : Search) (w : List ℕ) (r : Search) (w' : 
   pub stopped : r .stopped ≡ true
   pub witness : r .witness ≡ o .witness
   pub reasons : o .reasons ≤ 400 →
-      Grows f (Unit {0}) (insertT (render f (alone kinds.search-spent)) (listed f (o .reasons) w)) (o .reasons) w (r .reasons) w'
+      Grows f (Unit {0}) (insertT (render f (alone kinds.search-spent)) (listed f (o .reasons) w)) (o .reasons) w
+      (r .reasons) w'
 
 -- a case was checked: a violation, or its reasons were gathered
 pub record Found (o : Search) (placed : Placed) (took : ℕ) (r : Search) : Type 0 where

@@ -11,7 +11,21 @@ ghost use mathlib.Core.Path.{_≡_};
 ghost use Prim.Native.Nat.{_+_, _*_, _≤_, _<_};
 ghost use lib.ListN.{length};
 ghost use Rattle.engine_fields.specs.Fields.{cap};
-ghost use Rattle.search_cases.specs.Contracts.{AtMost, limitM, Plans, Shaped, refusalM, violatesM, refusedM, Spends, Found, Other, Gathers, Nexts, Begins};
+ghost use Rattle.search_cases.specs.Contracts.{
+  AtMost,
+  limitM,
+  Plans,
+  Shaped,
+  refusalM,
+  violatesM,
+  refusedM,
+  Spends,
+  Found,
+  Other,
+  Gathers,
+  Nexts,
+  Begins,
+};
 
 // What all cases share beside the arrays that are lent: the start, what is chosen from, the horizon and the most cases.
 pub struct Plan {

@@ -67,7 +67,8 @@ module _ {f : List ℕ} {i : Index} (bytes : (k : ℕ) → getD f k 0 < 256) (p 
         ap (λ (n : ℕ). verify.deepen (sizes q a u) m (cells-of m) n 0 (start-of m)) e
 
     pub reached : Outcome here (searched (sizes q a u) m (cells-of m)) o w
-    reached = subst (λ (y : Answer verify.Search). Outcome here y o w) searched-is (d .does here (start-of m) (start-held here b))
+    reached = subst (λ (y : Answer verify.Search). Outcome here y o w) searched-is
+        (d .does here (start-of m) (start-held here b))
 
   pub reach : Accepted f i → {k : ℕ} → length f + 45 ≤ k → length w ≡ 4000 → {q' a' u' : ℕ} → q' ≡ q → a' ≡ a → u' ≡ u
       → Reached f all o w q' a' u' k

@@ -28,7 +28,15 @@ use Rattle.search.proofs.Cases.{table, few-reasons}
 use Rattle.search.proofs.Sorted.{sorted-again}
 use Rattle.search_answer.specs.declared.Verification.{Verification}
 use Rattle.search_answer.specs.Result.{no-verification}
-use Rattle.search_entry.specs.Contract.{found-as, NoWitness, Witnesses, WitnessSays, Shows, witness-trace, output-after}
+use Rattle.search_entry.specs.Contract.{
+  found-as,
+  NoWitness,
+  Witnesses,
+  WitnessSays,
+  Shows,
+  witness-trace,
+  output-after,
+}
 use Rattle.search_answer.specs.Answer.{statusM, WithCheck, Told, without}
 use Rattle.search_entry.specs.Contracts.{Writable, Written, Writes, Reached, answer-of, Ending, Ends}
 use Rattle.search_entry.proofs.Start.{limits-are}
@@ -128,13 +136,15 @@ module _ {f : List ℕ} {at : ℕ} {p : Entire} {o : Search} {w : List ℕ} {q a
         output = refl;
       }
 
-  pub end-none : o .refused ≡ 0 → o .found ≡ false → {y : WithCheck} {r : Verification} → y ≡ without → Told f at (p .alphabet) (p .gaps) (p .horizon) o w y r →
+  pub end-none : o .refused ≡ 0 → o .found ≡ false → {y : WithCheck} {r : Verification} → y ≡ without →
+      Told f at (p .alphabet) (p .gaps) (p .horizon) o w y r →
       after .queue ≡ replicate q 0 → after .records ≡ replicate a 0 → after .runs ≡ replicate u 0
       → Ends f at p o w r q a u after out out
   unfolding _>>=_ output-after witness-trace witness-file verification-of
   end-none z e {y} {r} n t eq ea eu = record { does = by }
     where
-      made : (x : Setting f p q a u) → x .index .limits ≡ at → (s : verify.Search) (h : Held x s o w) (v : Option verify.Witness) → s .witness ≡ v →
+      made : (x : Setting f p q a u) → x .index .limits ≡ at →
+          (s : verify.Search) (h : Held x s o w) (v : Option verify.Witness) → s .witness ≡ v →
           Rattle.search.specs.Meaning.WitnessIs x v o → Ending f r (answer (verification-of (x .m) s)) q a u after out out
       made x here s h none g k = record {
         says = shows-with x here s h t (subst (λ (v : Option verify.Witness). r .status
@@ -160,7 +170,8 @@ module _ {f : List ℕ} {at : ℕ} {p : Entire} {o : Search} {w : List ℕ} {q a
   unfolding _>>=_ output-after witness-trace witness-file verification-of
   end-some z e {y} {r} {out'} ws t = record { does = by }
     where
-      made : (x : Setting f p q a u) → x .index .limits ≡ at → (s : verify.Search) (h : Held x s o w) (v : Option verify.Witness) → s .witness ≡ v →
+      made : (x : Setting f p q a u) → x .index .limits ≡ at →
+          (s : verify.Search) (h : Held x s o w) (v : Option verify.Witness) → s .witness ≡ v →
           Rattle.search.specs.Meaning.WitnessIs x v o → Ending f r (answer (verification-of (x .m) s)) q a u after out out'
       made x here s h none g k = let c : true ≡ false = sym e ∙ k in let d : _≡_ {A = ℕ} 0 1 = cc in absurd (omega arith)
       made x here s h (some v) g k =

@@ -160,7 +160,8 @@ module _ {f : List ℕ} {p : Entire} {q a u : ℕ} (x : Setting f p q a u) where
         (notes-held f (x .index) (x .m) (x .is-accepted) (x .indexed) (x .bytes) (p .ground) (x .grounds) .texts)
         ∙ one-by-one (unsupported (x .m .rules)))
         (grown f (insertAll (listed f (p .ground .count) (p .ground .reasons))) (b .reasons few-notes)
-        (notes-held f (x .index) (x .m) (x .is-accepted) (x .indexed) (x .bytes) (p .ground) (x .grounds) .clean) (holds-zeros f (zeros 4000)));
+        (notes-held f (x .index) (x .m) (x .is-accepted) (x .indexed) (x .bytes) (p .ground) (x .grounds) .clean)
+        (holds-zeros f (zeros 4000)));
     within = widen x (unsupported (x .m .rules))
         (notes-among (x .m) (cells-of (x .m))
         (record { trace = []; final-state = []; unknown = []; incomplete = []; steps = 0; horizon = 0 }));

@@ -1,5 +1,5 @@
--- What `verify` answers, by the definitions of crate `checker_spec`: each number of the answer, each word of the lent areas, each
--- byte of the output.
+-- What `verify` answers, by the definitions of crate `checker_spec`: each number of the answer, each word of the lent areas,
+-- each byte of the output.
 use Prim.Native.Nat.{ℕ}
 use mathlib.Core.Path.{_≡_}
 use mathlib.Core.List.{List, [], _++_}

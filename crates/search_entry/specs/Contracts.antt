@@ -83,7 +83,8 @@ pub record Ending (f : List ℕ) (r : Verification) (v : Answer verify.Verificat
   pub runs : after .runs ≡ replicate u 0
   pub output : o' ≡ output-after f v o
 
-pub record Ends (f : List ℕ) (limits : ℕ) (p : Entire) (s : Search) (w : List ℕ) (r : Verification) (q a u : ℕ) (after : Lent)
+pub record Ends (f : List ℕ) (limits : ℕ) (p : Entire) (s : Search) (w : List ℕ) (r : Verification) (q a u : ℕ)
+    (after : Lent)
     (o o' : List ℕ) : Type 0 where
   pub does : (x : Setting f p q a u) → x .index .limits ≡ limits → (y : Answer verify.Search) → Outcome x y s w
       → Ending f r (answer-of (x .m) y) q a u after o o'

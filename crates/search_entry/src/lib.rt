@@ -36,8 +36,11 @@ fn witness_of(
     unknowns: &mut [u32; 2000],
     incompletes: &mut [u32; 200],
 ) -> Witness
-    requires { ⌜ Writable (now file) (entire p (now table) (now starts) (now reasons)) placed (length (now queue)) (length (now records)) (length (now runs)) (length (now output)) ⌝ }
-    ensures { λ r. ⌜ Writes (was file) (entire p (was table) (was starts) (was reasons)) placed (with-check r (result-of (r .check) (is violated) (is unknowns) (is incompletes) (is reasons))) (length (was queue)) (length (was records)) (length (was runs)) (lent (is queue) (is records) (is runs)) (was output) (is output) ⌝ }
+    requires { ⌜ Writable (now file) (entire p (now table) (now starts) (now reasons)) placed (length (now queue))
+        (length (now records)) (length (now runs)) (length (now output)) ⌝ }
+    ensures { λ r. ⌜ Writes (was file) (entire p (was table) (was starts) (was reasons)) placed
+        (with-check r (result-of (r .check) (is violated) (is unknowns) (is incompletes) (is reasons))) (length (was queue))
+        (length (was records)) (length (was runs)) (lent (is queue) (is records) (is runs)) (was output) (is output) ⌝ }
 {
     let shared = p.shared;
     let words = placed.words;
@@ -88,8 +91,11 @@ fn ended(
     unknowns: &mut [u32; 2000],
     incompletes: &mut [u32; 200],
 ) -> Searched
-    requires { ⌜ Reached (now file) (entire p (now table) (now starts) (now reasons)) o (now w) (length (now queue)) (length (now records)) (length (now runs)) (length (now output)) ⌝ }
-    ensures { λ r. ⌜ Ends (was file) limits (entire p (was table) (was starts) (was reasons)) o (was w) (whole-of r (is told) (is violated) (is unknowns) (is incompletes) (is reasons)) (length (was queue)) (length (was records)) (length (was runs)) (lent (is queue) (is records) (is runs)) (was output) (is output) ⌝ }
+    requires { ⌜ Reached (now file) (entire p (now table) (now starts) (now reasons)) o (now w) (length (now queue))
+        (length (now records)) (length (now runs)) (length (now output)) ⌝ }
+    ensures { λ r. ⌜ Ends (was file) limits (entire p (was table) (was starts) (was reasons)) o (was w)
+        (whole-of r (is told) (is violated) (is unknowns) (is incompletes) (is reasons)) (length (was queue))
+        (length (was records)) (length (was runs)) (lent (is queue) (is records) (is runs)) (was output) (is output) ⌝ }
 {
     if o.refused != 0 {
         search_answer::clear(queue, records, runs);
@@ -134,7 +140,9 @@ fn run(
     incompletes: &mut [u32; 200],
 ) -> Searched
     requires { ⌜ (Accepted (now file) index) × (length (now file) + 45 ≤ length (now output)) ⌝ }
-    ensures { λ r. ⌜ Runs (was file) index (whole-of r (is told) (is violated) (is unknowns) (is incompletes) (is reasons)) (length (was queue)) (length (was records)) (length (was runs)) (lent (is queue) (is records) (is runs)) (was output) (is output) ⌝ }
+    ensures { λ r. ⌜ Runs (was file) index (whole-of r (is told) (is violated) (is unknowns) (is incompletes) (is reasons))
+        (length (was queue)) (length (was records)) (length (was runs)) (lent (is queue) (is records) (is runs)) (was output)
+        (is output) ⌝ }
 {
     let mut w = [0u32; 4000];
     let b = engine_entry::prepared(file, index, reasons);
@@ -194,7 +202,8 @@ fn admitted(
     incompletes: &mut [u32; 200],
 ) -> Searched
     requires { ⌜ Accepted (now file) index ⌝ }
-    ensures { λ r. ⌜ Admits (was file) index (whole-of r (is told) (is violated) (is unknowns) (is incompletes) (is reasons)) (lent (was queue) (was records) (was runs)) (lent (is queue) (is records) (is runs)) (was output) (is output) ⌝ }
+    ensures { λ r. ⌜ Admits (was file) index (whole-of r (is told) (is violated) (is unknowns) (is incompletes) (is reasons))
+        (lent (was queue) (was records) (was runs)) (lent (is queue) (is records) (is runs)) (was output) (is output) ⌝ }
 {
     let invariants = index.invariants;
     if invariants.count == 0 {
@@ -234,7 +243,8 @@ pub fn verify_lent(
     unknowns: &mut [u32; 2000],
     incompletes: &mut [u32; 200],
 ) -> Searched
-    ensures { λ r. ⌜ Verifies (was file) (whole-of r (is told) (is violated) (is unknowns) (is incompletes) (is reasons)) (lent (was queue) (was records) (was runs)) (lent (is queue) (is records) (is runs)) (was output) (is output) ⌝ }
+    ensures { λ r. ⌜ Verifies (was file) (whole-of r (is told) (is violated) (is unknowns) (is incompletes) (is reasons))
+        (lent (was queue) (was records) (was runs)) (lent (is queue) (is records) (is runs)) (was output) (is output) ⌝ }
 {
     let x = model_validate::accept(file);
     let status = x.status;
@@ -268,7 +278,8 @@ pub fn verify(
     runs: &mut [u32],
     output: &mut [u8],
 ) -> Verification
-    ensures { λ r. ⌜ Verifies (was file) r (lent (was queue) (was records) (was runs)) (lent (is queue) (is records) (is runs)) (was output) (is output) ⌝ }
+    ensures { λ r. ⌜ Verifies (was file) r (lent (was queue) (was records) (was runs))
+        (lent (is queue) (is records) (is runs)) (was output) (is output) ⌝ }
 {
     let mut told = [0u32; 2000];
     let mut reasons = [0u32; 1500];

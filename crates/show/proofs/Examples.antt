@@ -24,6 +24,7 @@ no-source : source Absent ≡ text "-"
 unfolding all-lines
 no-source = refl
 
-lines : accepted-line ++ (refused-line 30 ++ model-line 0) ≡ text "accepted" ++ (newline ++ (text "refused 30" ++ (newline ++ (text "model 0" ++ newline))))
+lines : accepted-line ++ (refused-line 30 ++ model-line 0)
+    ≡ text "accepted" ++ (newline ++ (text "refused 30" ++ (newline ++ (text "model 0" ++ newline))))
 unfolding all-lines all-texts
 lines = refl

@@ -20,7 +20,17 @@ use Rattle.reasons.proofs.Digits as digits
 use Rattle.show.specs.declared.Source.{Source}
 use Rattle.show.specs.declared.Source.the-variants.{At, Absent}
 use Rattle.show.specs.Writing.{Written, Kept}
-use Rattle.show.specs.Lines.{newline, escape, quoted, dash, quoted-or-dash, source, accepted-line, refused-line, model-line}
+use Rattle.show.specs.Lines.{
+  newline,
+  escape,
+  quoted,
+  dash,
+  quoted-or-dash,
+  source,
+  accepted-line,
+  refused-line,
+  model-line,
+}
 
 -- ---- one text
 
@@ -46,7 +56,8 @@ one a n b h =
 -- ---- one text behind another
 
 module _ {t u : Text} {a b c : List ℕ} {n m k : ℕ} (w : Written t a n b m) (v : Written u b m c k) where
-  both-room : n + length (t ++ u) ≤ length a → (k ≡ n + length (t ++ u)) × (c ≡ take n a ++ ((t ++ u) ++ drop (n + length (t ++ u)) a))
+  both-room : n + length (t ++ u) ≤ length a → (k ≡ n + length (t ++ u))
+      × (c ≡ take n a ++ ((t ++ u) ++ drop (n + length (t ++ u)) a))
   both-room h =
       let l = length-append t u in
       let x = w .room (omega arith) in
@@ -55,11 +66,14 @@ module _ {t u : Text} {a b c : List ℕ} {n m k : ℕ} (w : Written t a n b m) (
       let r : List ℕ = drop (n + length t) a in
       let e : b ≡ p ++ r = x .1 ∙ sym (append-assoc (take n a) t r) in
       let lp : length p ≡ m = length-append (take n a) t ∙ omega (arith, length-take-le n a (omega arith), x .0) in
-      let d : drop (m + length u) b ≡ drop (n + length t + length u) a = sym (drop-drop (length u) m b) ∙ ap (drop (length u)) (ap (drop m) e ∙ drop-at p r m lp) ∙ drop-drop (length u) (n + length t) a in
+      let d : drop (m + length u) b ≡ drop (n + length t + length u) a =
+      sym (drop-drop (length u) m b) ∙ ap (drop (length u)) (ap (drop m) e ∙ drop-at p r m lp)
+      ∙ drop-drop (length u) (n + length t) a in
       let f : take m b ≡ p = ap (take m) e ∙ take-at p r m lp in
       let g : n + length t + length u ≡ n + length (t ++ u) = omega arith in (
         omega (arith, x .0, y .0),
-        y .1 ∙ rw (f, d, g) (append-assoc (take n a) t (u ++ drop (n + length (t ++ u)) a) ∙ rw (append-assoc t u (drop (n + length (t ++ u)) a)) refl),
+        y .1 ∙ rw (f, d, g) (append-assoc (take n a) t (u ++ drop (n + length (t ++ u)) a)
+            ∙ rw (append-assoc t u (drop (n + length (t ++ u)) a)) refl),
       )
 
   both-full : length a < n + length (t ++ u) → (length a < k) × (take n c ≡ take n a)
@@ -69,13 +83,17 @@ module _ {t u : Text} {a b c : List ℕ} {n m k : ℕ} (w : Written t a n b m) (
       (λ q.
       let x = w .full q in
       let y = v .full (omega (arith, w .same, x .0)) in
-      let e : c ≡ b = sym (take-all m c (omega (arith, w .same, v .same, x .0))) ∙ y .1 ∙ take-all m b (omega (arith, w .same, x .0)) in
+      let e : c ≡ b = sym (take-all m c (omega (arith, w .same, v .same, x .0))) ∙ y .1
+      ∙ take-all m b (omega (arith, w .same, x .0)) in
       (omega (arith, w .same, y .0), ap (take n) e ∙ x .1))
       (λ q.
       let x = w .room q in
       let y = v .full (omega (arith, w .same, x .0)) in
-      let i : n ≤ m = omega (arith, x .0) in
-      (omega (arith, w .same, y .0), sym (take-take n m c i) ∙ ap (take n) (y .1) ∙ take-take n m b i ∙ ap (take n) (x .1) ∙ take-at (take n a) _ n (length-take-le n a (omega arith))))
+      let i : n ≤ m = omega (arith, x .0) in (
+        omega (arith, w .same, y .0),
+        sym (take-take n m c i) ∙ ap (take n) (y .1) ∙ take-take n m b i ∙ ap (take n) (x .1)
+            ∙ take-at (take n a) _ n (length-take-le n a (omega arith)),
+      ))
       (lt-or-ge (length a) (n + length t))
 
   pub both : Written (t ++ u) a n c k
@@ -86,7 +104,8 @@ pub is : {t u : Text} {a b : List ℕ} {n m : ℕ} → t ≡ u → Written t a n
 is {t} {u} {a} {b} {n} {m} e w = rw e at w
 
 -- a text in the room r that was made for it is not lost
-pub kept : {t : Text} {a b : List ℕ} {r m : ℕ} (n : ℕ) → Written t a r b m → length t ≤ 4096 → (4096 ≤ length a → r + 4096 ≤ length a) → Kept a n b m
+pub kept : {t : Text} {a b : List ℕ} {r m : ℕ} (n : ℕ) → Written t a r b m → length t ≤ 4096 →
+    (4096 ≤ length a → r + 4096 ≤ length a) → Kept a n b m
 kept n w short room many h = let k = room many in omega (arith, w .room (omega arith) .0, w .same)
 
 -- ---- a text byte by byte
@@ -106,7 +125,8 @@ flat-one b = append-nil (escape b)
 
 module _ (t : Text) (i b : ℕ) (e : b ≡ getD t i 0) (h : i < length t) where
   pub next-escaped : flat escape (take i t) ++ escape b ≡ flat escape (take (i + 1) t)
-  next-escaped = sym (ap (flat escape) (sym (next t i b e h)) ∙ flat-append (take i t) (b ∷ []) ∙ ap (λ (l : Text). flat escape (take i t) ++ l) (flat-one b))
+  next-escaped = sym (ap (flat escape) (sym (next t i b e h)) ∙ flat-append (take i t) (b ∷ [])
+      ∙ ap (λ (l : Text). flat escape (take i t) ++ l) (flat-one b))
 
 pub whole : (t : Text) (i : ℕ) → i ≤ length t → length t ≤ i → take i t ≡ t
 whole t i h k = take-all i t k
@@ -139,14 +159,17 @@ other b d e = rw (ne-eqb b 34 d, ne-eqb b 92 e)
 
 -- ---- a text of the file
 
-pub part : (f : List ℕ) (at n from end : ℕ) → n ≡ length (textAt f at) → from ≡ at + 1 → end ≡ from + n → take (end - from) (drop from f) ≡ textAt f at
+pub part : (f : List ℕ) (at n from end : ℕ) → n ≡ length (textAt f at) → from ≡ at + 1 → end ≡ from + n →
+    take (end - from) (drop from f) ≡ textAt f at
 unfolding textAt
 part f at n from end e g h =
     let z : end - from ≡ n = omega arith in
     rw (z, g) (cut (getD f at 0) (drop (at + 1) f) n e)
   where
     cut : (k : ℕ) (l : List ℕ) (n : ℕ) → n ≡ length (take k l) → take n l ≡ take k l
-    cut k l n e = ⊎-elim (λ h. rw (e, length-take-le k l (omega arith))) (λ h. let q : take k l ≡ l = take-all k l h in let z : n ≡ length l = e ∙ ap length q in rw q (take-all n l (omega arith))) (lt-or-ge k (length l))
+    cut k l n e = ⊎-elim (λ h. rw (e, length-take-le k l (omega arith)))
+        (λ h. let q : take k l ≡ l = take-all k l h in let z : n ≡ length l = e ∙ ap length q in
+        rw q (take-all n l (omega arith))) (lt-or-ge k (length l))
 
 pub no-text : (f : List ℕ) (at : ℕ) → length f ≤ at → [] ≡ textAt f at
 no-text f at h = sym (texts.absent f at h)
@@ -207,10 +230,20 @@ length-quoted t = omega (arith, length-append (flat escape t) (34 ∷ []), lengt
 -- LINE:COLUMN
 pub length-source : (s : Source) → length (source s) ≤ 41
 unfolding source placed
-length-source (At line column) = omega (arith, length-append (decimal line) (58 ∷ decimal column), digits.at-most line, digits.at-most column)
+length-source (At line column) = omega (
+  arith,
+  length-append (decimal line) (58 ∷ decimal column),
+  digits.at-most line,
+  digits.at-most column,
+)
 length-source Absent = omega arith
 
 -- a refusal
 pub length-refused : (n : ℕ) → length (refused-line n) ≤ 29
 unfolding refused-line
-length-refused n = omega (arith, length-append (text "refused ") (decimal n ++ newline), length-append (decimal n) newline, digits.at-most n)
+length-refused n = omega (
+  arith,
+  length-append (text "refused ") (decimal n ++ newline),
+  length-append (decimal n) newline,
+  digits.at-most n,
+)

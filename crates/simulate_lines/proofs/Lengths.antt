@@ -21,7 +21,18 @@ use Rattle.engine_spec.specs.Reasons.{space-spent, steps-spent, runs-left, all-
 use Rattle.show.specs.Lines.{newline, quoted}
 use Rattle.show.specs.Lines as lines
 use Rattle.show.proofs.Laws as show
-use Rattle.simulate_lines.specs.Lines.{number-line, steps-line, records-line, horizon-line, text-line, sim-incomplete-line, incomplete-of, incomplete-lines, final-line, all-lines}
+use Rattle.simulate_lines.specs.Lines.{
+  number-line,
+  steps-line,
+  records-line,
+  horizon-line,
+  text-line,
+  sim-incomplete-line,
+  incomplete-of,
+  incomplete-lines,
+  final-line,
+  all-lines,
+}
 use Rattle.simulate_lines.specs.FileTexts.{texts-of, text-of}
 
 module _ (s t : Text) (m n : ℕ) (a : length s ≤ m) (b : length t ≤ n) where
@@ -36,7 +47,12 @@ module _ (s t : Text) (m n : ℕ) (a : length s ≤ m) (b : length t ≤ n) wher
 
 pub number-short : (w : Text) (n : ℕ) → length (number-line w n) ≤ length w + 22
 unfolding number-line
-number-short w n = omega (arith, length-append w (32 ∷ (decimal n ++ newline)), length-append (decimal n) newline, digits.at-most n)
+number-short w n = omega (
+  arith,
+  length-append w (32 ∷ (decimal n ++ newline)),
+  length-append (decimal n) newline,
+  digits.at-most n,
+)
 
 -- the three lines before the records
 pub numbers-short : (s r h : ℕ) → length (steps-line s ++ (records-line r ++ horizon-line h)) ≤ 4096
@@ -52,7 +68,12 @@ numbers-short s r h =
 
 text-line-short : (w t : Text) → length (text-line w t) ≤ length w + 2 * length t + 4
 unfolding text-line
-text-line-short w t = omega (arith, length-append w (32 ∷ (quoted t ++ newline)), length-append (quoted t) newline, show.length-quoted t)
+text-line-short w t = omega (
+  arith,
+  length-append w (32 ∷ (quoted t ++ newline)),
+  length-append (quoted t) newline,
+  show.length-quoted t,
+)
 
 -- the two lines that say why a simulation is incomplete
 pub incomplete-short : (why : ℕ) (waiting : Bool) → length (incomplete-lines (incomplete-of why waiting)) ≤ 4096
@@ -60,7 +81,9 @@ unfolding all-lines lines.all-lines all-lists all-reasons
 incomplete-short w waiting = go (eqb w 0) (eqb w 1) waiting
   where
     go : (none space waiting : Bool) →
-        length (flat sim-incomplete-line ((if none then [] else if space then space-spent ∷ [] else steps-spent ∷ []) ++ (if waiting then runs-left ∷ [] else []))) ≤ 4096
+        length (flat sim-incomplete-line
+        ((if none then [] else if space then space-spent ∷ [] else steps-spent ∷ []) ++ (if waiting then runs-left ∷ []
+        else []))) ≤ 4096
     go true _ true = omega arith
     go true _ false = omega arith
     go false true true = omega arith
@@ -87,7 +110,12 @@ module _ (f : List ℕ) (bytes : (i : ℕ) → getD f i 0 < 256) (x : List ℕ) 
   text-short k =
       let n : ℕ = getD x 9 0 in
       ⊎-elim
-      (λ h. omega (arith, ap length (texts.text-at-place f n k 6 h), texts.length-byte f (startFrom f 6 k), bytes (startFrom f 6 k)))
+      (λ h. omega (
+        arith,
+        ap length (texts.text-at-place f n k 6 h),
+        texts.length-byte f (startFrom f 6 k),
+        bytes (startFrom f 6 k),
+      ))
       (λ h.
       let l : length (textsFrom f 6 n) ≤ k = omega (arith, texts.texts-many f 6 n) in
       omega (arith, ap length (List·getD-eq-default (textsFrom f 6 n) [] l)))
@@ -101,7 +129,8 @@ module _ (f : List ℕ) (bytes : (i : ℕ) → getD f i 0 < 256) (x : List ℕ) 
   final-short e v =
       let t : Text = quoted (text-of f x v) ++ newline in
       let w = app (quoted (text-of f x v)) newline 512 1 (quoted-short v) (omega arith) in
-      let l = app (text "final ") (quoted (text-of f x e) ++ (32 ∷ t)) 6 1026 (omega arith) (glue (quoted (text-of f x e)) t 512 513 (quoted-short e) w) in
+      let l = app (text "final ") (quoted (text-of f x e) ++ (32 ∷ t)) 6 1026 (omega arith)
+      (glue (quoted (text-of f x e)) t 512 513 (quoted-short e) w) in
       omega (arith, l)
 
   -- ---- a reason

@@ -1,4 +1,5 @@
--- The lines of `unsupported` and `simulate` besides the records, with their newlines: what a reader of the programs' output sees.
+-- The lines of `unsupported` and `simulate` besides the records, with their newlines: what a reader of the programs' output
+-- sees.
 use Prim.Native.Nat.{ℕ}
 use mathlib.Core.Bool.{Bool}
 use mathlib.Core.List.{List, [], _∷_, _++_}

@@ -1,6 +1,6 @@
 // The lines of `unsupported` and `simulate` besides the records: numbers, reasons, why a simulation is incomplete, and the
-// entities' values at the end. They are written behind the first n bytes of a lent area as the writers of `show` do. x is the table
-// of the file f (crate `engine_table`); texts are named by their places.
+// entities' values at the end. They are written behind the first n bytes of a lent area as the writers of `show` do. x is
+// the table of the file f (crate `engine_table`); texts are named by their places.
 use reasons::Reason;
 ghost use Rattle.notation.specs.Reference.{was, is};
 ghost use Prim.Native.Nat.{_+_, _*_, _≤_, _<_};
@@ -10,7 +10,20 @@ ghost use Rattle.reasons.specs.Lists.{reason-of};
 ghost use Rattle.engine_fields.specs.Fields.{name};
 ghost use Rattle.show.specs.Lines.{quoted};
 ghost use Rattle.show.specs.Writing.{Written, Kept};
-ghost use Rattle.simulate_lines.specs.Lines.{number-line, text-line, steps-line, records-line, horizon-line, unsupported-line, reason-line, sim-unknown-line, halted, incomplete-of, incomplete-lines, final-line};
+ghost use Rattle.simulate_lines.specs.Lines.{
+  number-line,
+  text-line,
+  steps-line,
+  records-line,
+  horizon-line,
+  unsupported-line,
+  reason-line,
+  sim-unknown-line,
+  halted,
+  incomplete-of,
+  incomplete-lines,
+  final-line,
+};
 ghost use Rattle.simulate_lines.specs.FileTexts.{text-of};
 
 // ---- a word and a number
@@ -70,7 +83,8 @@ pub fn put_reason(out: &mut [u8], n: usize, f: &[u8], a: &[u32], i: usize) -> us
 
 pub fn put_unknown(out: &mut [u8], n: usize, f: &[u8], a: &[u32], i: usize) -> usize
     requires { ⌜ i * 5 + 5 ≤ length (now a) ⌝ }
-    ensures { λ m. ⌜ Written (sim-unknown-line (render (was f) (reason-of (drop (i * 5) (was a))))) (was out) n (is out) m ⌝ }
+    ensures { λ m. ⌜ Written (sim-unknown-line (render (was f) (reason-of (drop (i * 5) (was a))))) (was out) n (is out)
+        m ⌝ }
 {
     let r = reasons::get(a, i);
     put_reason_line(out, n, b"sim-unknown", f, r)
@@ -137,7 +151,8 @@ pub fn put_place(out: &mut [u8], n: usize, f: &[u8], x: &[u32; 436], place: u32)
 // The value of an entity at the end.
 pub fn put_final(out: &mut [u8], n: usize, f: &[u8], x: &[u32; 436], e: usize, value: u32) -> usize
     requires { ⌜ e < 32 ⌝ }
-    ensures { λ m. ⌜ Written (final-line (text-of (was f) (was x) (name (was x) e)) (text-of (was f) (was x) value)) (was out) n (is out) m ⌝ }
+    ensures { λ m. ⌜ Written (final-line (text-of (was f) (was x) (name (was x) e)) (text-of (was f) (was x) value))
+        (was out) n (is out) m ⌝ }
 {
     let a = show::put(out, n, b"final ");
     let b = put_place(out, a, f, x, engine_fields::name_of(x, e));
@@ -147,7 +162,8 @@ pub fn put_final(out: &mut [u8], n: usize, f: &[u8], x: &[u32; 436], e: usize, v
 }
 
 // ---- printing: lines behind the first n bytes of `out`, which goes to standard output first where a line may not fit.
-// The answer is where the next text goes; whoever printed last flushes. No line is cut if `out` has room for the longest one.
+// The answer is where the next text goes; whoever printed last flushes. No line is cut if `out` has room for the longest
+// one.
 
 // No line is longer, here or in `record_lines`, however its texts are escaped (proofs/Lengths).
 pub const LINE: usize = 4096;

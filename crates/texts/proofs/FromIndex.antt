@@ -21,7 +21,8 @@ module _ (x y : List ℕ) (i : ℕ) where
     where
       rest : (z : List ℕ) → drop i y ≡ z → ltT [] z ≡ ltb i (length y)
       rest [] e = let l : length y - i ≡ 0 = sym (length-drop i y) ∙ ap length e in sym (le-ltb i (length y) (omega arith))
-      rest (c ∷ z) e = let l : length y - i ≡ suc (length z) = sym (length-drop i y) ∙ ap length e in sym (lt-ltb i (length y) (omega arith))
+      rest (c ∷ z) e = let l : length y - i ≡ suc (length z) = sym (length-drop i y) ∙ ap length e in
+          sym (lt-ltb i (length y) (omega arith))
 
   pub lt-longer : i < length x → length y ≤ i → ltT (drop i x) (drop i y) ≡ false
   unfolding ltT
@@ -33,7 +34,8 @@ module _ (x y : List ℕ) (i : ℕ) where
     where
       rest : (z : List ℕ) → drop i y ≡ z → eqT z [] ≡ leb (length y) i
       rest [] e = let l : length y - i ≡ 0 = sym (length-drop i y) ∙ ap length e in sym (le-leb (length y) i (omega arith))
-      rest (c ∷ z) e = let l : length y - i ≡ suc (length z) = sym (length-drop i y) ∙ ap length e in sym (lt-leb (length y) i (omega arith))
+      rest (c ∷ z) e = let l : length y - i ≡ suc (length z) = sym (length-drop i y) ∙ ap length e in
+          sym (lt-leb (length y) i (omega arith))
 
   pub eq-longer : i < length x → length y ≤ i → eqT (drop i y) (drop i x) ≡ false
   unfolding eqT
@@ -50,7 +52,8 @@ module _ (x y : List ℕ) (i : ℕ) where
         let g : getD y i 0 ≤ getD x i 0 = omega arith in
         rw (drop-cons x i 0 h, drop-cons y i 0 k, le-ltb _ _ g, ne-eqb (getD x i 0) (getD y i 0) (λ e. omega arith))
 
-    pub lt-same : getD y i 0 ≤ getD x i 0 → getD x i 0 ≤ getD y i 0 → ltT (drop i x) (drop i y) ≡ ltT (drop (i + 1) x) (drop (i + 1) y)
+    pub lt-same : getD y i 0 ≤ getD x i 0 → getD x i 0 ≤ getD y i 0 →
+        ltT (drop i x) (drop i y) ≡ ltT (drop (i + 1) x) (drop (i + 1) y)
     unfolding ltT
     lt-same l m =
         let e : getD x i 0 ≡ getD y i 0 = omega arith in
@@ -90,6 +93,13 @@ module _ (a b : Text) (i : ℕ) where
         let g : getD b i 0 ≤ getD a i 0 = omega arith in
         rw (drop-cons a i 0 h, drop-cons b i 0 k, ne-eqb (getD a i 0) (getD b i 0) (λ e. omega arith), le-ltb _ _ g)
 
-    pub same : getD b i 0 ≤ getD a i 0 → getD a i 0 ≤ getD b i 0 → orderT (drop i a) (drop i b) ≡ orderT (drop (i + 1) a) (drop (i + 1) b)
+    pub same : getD b i 0 ≤ getD a i 0 → getD a i 0 ≤ getD b i 0 →
+        orderT (drop i a) (drop i b) ≡ orderT (drop (i + 1) a) (drop (i + 1) b)
     unfolding orderT eqT ltT
-    same l m = rw (drop-cons a i 0 h, drop-cons b i 0 k, eq-eqb (getD a i 0) (getD b i 0) (omega arith), le-ltb _ _ l, add-one i)
+    same l m = rw (
+      drop-cons a i 0 h,
+      drop-cons b i 0 k,
+      eq-eqb (getD a i 0) (getD b i 0) (omega arith),
+      le-ltb _ _ l,
+      add-one i,
+    )

@@ -57,7 +57,8 @@ module _ (f : List ℕ) (at : ℕ) where
   pub length-whole : (n : ℕ) → n ≡ getD f at 0 → at < length f → n < length f - at - 1 → n ≡ length (textAt f at)
   length-whole n e h k = e ∙ sym (text-length (omega arith))
 
-  pub length-cut : (n : ℕ) → n ≡ getD f at 0 → at < length f → length f - at - 1 ≤ n → length f - at - 1 ≡ length (textAt f at)
+  pub length-cut : (n : ℕ) → n ≡ getD f at 0 → at < length f → length f - at - 1 ≤ n →
+      length f - at - 1 ≡ length (textAt f at)
   unfolding textAt
   length-cut n e h k =
       let l : length (drop (at + 1) f) ≡ length f - at - 1 = length-drop (at + 1) f ∙ omega arith in

@@ -27,6 +27,8 @@ number-spec =
     (λ c. search needs)
     (λ c.
     let c3 = c .before .before .before in
-    let c5 = c3 .before .before in
-    (laws.turn _ _ _ _ (c5 .args .t .now) (c3 .loop .inv .0) (c .before .before .loop-test .taken) (c .next .ensures .0), c .next .ensures .1))
+    let c5 = c3 .before .before in (
+      laws.turn _ _ _ _ (c5 .args .t .now) (c3 .loop .inv .0) (c .before .before .loop-test .taken) (c .next .ensures .0),
+      c .next .ensures .1,
+    ))
     (λ c. (laws.end _ _ _ _ (c .before .loop .inv .0) (c .loop-test .left), c .before .loop .inv .1)))

@@ -13,7 +13,12 @@ returns c =
     let c7 = c .before .before .before .before .before .before .before in
     let c12 = c7 .before .before .before .before .before in
     let c17 = c12 .before .before .before .before .before in
-    rw (c .before .before .put-words2 .ensures, c7 .put-words .ensures, c12 .put-numbers2 .ensures, c17 .put-numbers .ensures)
+    rw (
+      c .before .before .put-words2 .ensures,
+      c7 .put-words .ensures,
+      c12 .put-numbers2 .ensures,
+      c17 .put-numbers .ensures,
+    )
 
 pub lay-check-spec : {M : Type 1} → statement M
 lay-check-spec =

@@ -9,7 +9,10 @@ use Rattle.c_encoding.proofs.put_words.Reads as put-words-reads
 
 returns : tie.Need-returns
 unfolding laidCone
-returns c = rw (c .before .before .put-words .ensures, c .before .before .before .before .before .before .before .put-numbers .ensures)
+returns c = rw (
+  c .before .before .put-words .ensures,
+  c .before .before .before .before .before .before .before .put-numbers .ensures,
+)
 
 pub lay-cone-spec : {M : Type 1} → statement M
 lay-cone-spec = tie.close (tie.spec (λ c κs. search needs) (λ c κs. search needs) (λ c. search needs) returns)

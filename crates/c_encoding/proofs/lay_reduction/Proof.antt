@@ -9,7 +9,10 @@ use Rattle.c_encoding.proofs.put_words.Reads as put-words-reads
 
 returns : tie.Need-returns
 unfolding laidReduction
-returns c = rw (c .before .before .put-words .ensures, c .before .before .before .before .before .before .before .put-numbers .ensures)
+returns c = rw (
+  c .before .before .put-words .ensures,
+  c .before .before .before .before .before .before .before .put-numbers .ensures,
+)
 
 pub lay-reduction-spec : {M : Type 1} → statement M
 lay-reduction-spec =

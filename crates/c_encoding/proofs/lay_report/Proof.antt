@@ -15,7 +15,14 @@ returns c =
     let c17 = c12 .before .before .before .before .before in
     let c22 = c17 .before .before .before .before .before in
     let c27 = c22 .before .before .before .before .before in
-    rw (c .before .before .put-words5 .ensures, c7 .put-words4 .ensures, c12 .put-words3 .ensures, c17 .put-words2 .ensures, c22 .put-words .ensures, c27 .put-numbers .ensures)
+    rw (
+      c .before .before .put-words5 .ensures,
+      c7 .put-words4 .ensures,
+      c12 .put-words3 .ensures,
+      c17 .put-words2 .ensures,
+      c22 .put-words .ensures,
+      c27 .put-numbers .ensures,
+    )
 
 pub lay-report-spec : {M : Type 1} → statement M
 lay-report-spec =

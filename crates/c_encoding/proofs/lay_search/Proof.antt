@@ -14,7 +14,13 @@ returns c =
     let c12 = c7 .before .before .before .before .before in
     let c17 = c12 .before .before .before .before .before in
     let c22 = c17 .before .before .before .before .before in
-    rw (c .before .before .put-words4 .ensures, c7 .put-words3 .ensures, c12 .put-words2 .ensures, c17 .put-words .ensures, c22 .put-numbers .ensures)
+    rw (
+      c .before .before .put-words4 .ensures,
+      c7 .put-words3 .ensures,
+      c12 .put-words2 .ensures,
+      c17 .put-words .ensures,
+      c22 .put-numbers .ensures,
+    )
 
 pub lay-search-spec : {M : Type 1} → statement M
 lay-search-spec =

@@ -16,7 +16,13 @@ returns c =
     let c12 = c7 .before .before .before .before .before in
     let c13 = c12 .before in
     let c14 = c13 .before in
-    rw (c .before .before .put-result .ensures, c7 .lay-reduction .ensures, c14 .wide .ensures, c13 .wide2 .ensures, c12 .flag .ensures)
+    rw (
+      c .before .before .put-result .ensures,
+      c7 .lay-reduction .ensures,
+      c14 .wide .ensures,
+      c13 .wide2 .ensures,
+      c12 .flag .ensures,
+    )
 
 pub put-minimized-spec : {M : Type 1} → statement M
 put-minimized-spec =

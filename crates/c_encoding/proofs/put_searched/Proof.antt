@@ -20,7 +20,17 @@ returns c =
     let c16 = c15 .before in
     let c17 = c16 .before in
     let c18 = c17 .before in
-    rw (c .before .before .lay-search .ensures, c18 .found-number .ensures, c17 .wide .ensures, c16 .wide2 .ensures, c15 .wide3 .ensures, c14 .wide4 .ensures, c13 .wide5 .ensures, c12 .wide6 .ensures, c11 .flag .ensures)
+    rw (
+      c .before .before .lay-search .ensures,
+      c18 .found-number .ensures,
+      c17 .wide .ensures,
+      c16 .wide2 .ensures,
+      c15 .wide3 .ensures,
+      c14 .wide4 .ensures,
+      c13 .wide5 .ensures,
+      c12 .wide6 .ensures,
+      c11 .flag .ensures,
+    )
 
 pub put-searched-spec : {M : Type 1} → statement M
 put-searched-spec =

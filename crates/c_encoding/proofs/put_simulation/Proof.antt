@@ -15,7 +15,13 @@ returns c =
     let c8 = c7 .before in
     let c9 = c8 .before in
     let c10 = c9 .before in
-    rw (c .before .before .lay-simulation .ensures, c10 .wide .ensures, c9 .wide2 .ensures, c8 .wide3 .ensures, c7 .flag .ensures)
+    rw (
+      c .before .before .lay-simulation .ensures,
+      c10 .wide .ensures,
+      c9 .wide2 .ensures,
+      c8 .wide3 .ensures,
+      c7 .flag .ensures,
+    )
 
 pub put-simulation-spec : {M : Type 1} → statement M
 put-simulation-spec =

@@ -9,7 +9,10 @@ use Rattle.c_encoding.proofs.put_searched.Reads as put-searched-reads
 
 returns : tie.Need-returns
 unfolding verificationIn searchIn
-returns c = rw (c .before .before .put-check .ensures, c .before .before .before .before .before .before .before .put-searched .ensures)
+returns c = rw (
+  c .before .before .put-check .ensures,
+  c .before .before .before .before .before .before .before .put-searched .ensures,
+)
 
 pub put-verification-spec : {M : Type 1} → statement M
 put-verification-spec =

@@ -23,7 +23,14 @@ put-words-spec =
     (tie.spec
     Inv-loop
     μ-loop
-    (λ c. (search needs, (refl, paste-zero (c .before .before .args .out .now) (c .before .before .args .at) (c .before .before .args .w .now))))
+    (λ c. (
+      search needs,
+      (
+        refl,
+        paste-zero (c .before .before .args .out .now) (c .before .before .args .at)
+            (c .before .before .args .w .now),
+      ),
+    ))
     (λ c. search needs)
     (λ c. search needs)
     (λ c κs. search needs)
@@ -35,8 +42,16 @@ put-words-spec =
     (λ c.
     let c3 = c .before .before .before in
     let c6 = c3 .before .before .before in
-    let a = c6 .args in let l = c3 .loop in let w = c .wide in (search needs, (simp length-set (l .inv .1 .0), rw (w .ensures, l .inv .1 .1) (lists.put-one (a .out .now) (a .w .now) (a .at) (l .k) (omega arith) (search needs)))))
+    let a = c6 .args in let l = c3 .loop in let w = c .wide in (
+      search needs,
+      (
+        simp length-set (l .inv .1 .0),
+        rw (w .ensures, l .inv .1 .1) (lists.put-one (a .out .now) (a .w .now) (a .at) (l .k) (omega arith)
+            (search needs)),
+      ),
+    ))
     (λ c. search needs)
     (λ c.
     let c4 = c .before .before .before .before in
-    let a = c4 .args in let l = c .before .loop in l .inv .1 .1 ∙ lists.put-all (a .out .now) (a .w .now) (a .at) (l .k) (omega arith)))
+    let a = c4 .args in let l = c .before .loop in l .inv .1 .1
+    ∙ lists.put-all (a .out .now) (a .w .now) (a .at) (l .k) (omega arith)))

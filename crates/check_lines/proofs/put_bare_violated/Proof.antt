@@ -21,4 +21,6 @@ put-bare-violated-spec =
     let c14 = c10 .before .before .before .before in
     let c18 = c14 .before .before .before .before in
     let c23 = c18 .before .before .before .before .before in
-    show.is (laws.bare-is _ (c23 .args .v)) (show.both (c18 .put .ensures) (show.both (c14 .put-identifier .ensures) (show.both (c10 .put-moment .ensures) (show.both (c6 .put-origin .ensures) (c .before .before .put-byte .ensures)))))))
+    show.is (laws.bare-is _ (c23 .args .v)) (show.both (c18 .put .ensures)
+    (show.both (c14 .put-identifier .ensures) (show.both (c10 .put-moment .ensures)
+    (show.both (c6 .put-origin .ensures) (c .before .before .put-byte .ensures)))))))

@@ -17,4 +17,5 @@ put-deadline-spec =
     (λ c.
     let c7 = c .before .before .before .before .before .before .before in
     let c11 = c7 .before .before .before .before in
-    show.is (laws.deadline-is _) (show.both (c11 .put .ensures) (show.both (c7 .put-number .ensures) (c .before .before .put2 .ensures)))))
+    show.is (laws.deadline-is _) (show.both (c11 .put .ensures)
+    (show.both (c7 .put-number .ensures) (c .before .before .put2 .ensures)))))

@@ -25,4 +25,8 @@ put-full-violated-spec =
     let c22 = c18 .before .before .before .before in
     let c26 = c22 .before .before .before .before in
     let c31 = c26 .before .before .before .before .before in
-    show.is (laws.full-is _ (c31 .args .v)) (show.both (c26 .put .ensures) (show.both (c22 .put-quoted-identifier .ensures) (show.both (c18 .put-moment .ensures) (show.both (c14 .put-origin .ensures) (show.both (c10 .put-byte .ensures) (show.both (c6 .put-message .ensures) (c .before .before .put-byte2 .ensures)))))))))
+    show.is (laws.full-is _ (c31 .args .v)) (show.both (c26 .put .ensures)
+    (show.both (c22 .put-quoted-identifier .ensures)
+    (show.both (c18 .put-moment .ensures) (show.both (c14 .put-origin .ensures)
+    (show.both (c10 .put-byte .ensures) (show.both (c6 .put-message .ensures)
+    (c .before .before .put-byte2 .ensures)))))))))

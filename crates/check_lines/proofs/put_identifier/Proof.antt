@@ -10,4 +10,5 @@ put-identifier-spec =
     (tie.spec (λ c κs. search needs) (λ c κs. search needs) (λ c κs. search needs) (λ c. search needs) (λ c.
     let c4 = c .before .before .before .before in
     let c5 = c4 .before in
-    show.is (laws.identifier-is _ _ _ _ (c5 .place-of .ensures) (c4 .text-start .ensures)) (c .before .before .put-text .ensures)))
+    show.is (laws.identifier-is _ _ _ _ (c5 .place-of .ensures) (c4 .text-start .ensures))
+    (c .before .before .put-text .ensures)))

@@ -19,4 +19,6 @@ put-moment-spec =
     let c10 = c6 .before .before .before .before in
     let c14 = c10 .before .before .before .before in
     let c18 = c14 .before .before .before .before in
-    show.is (laws.moment-is _ _) (show.both (c18 .put-byte .ensures) (show.both (c14 .put-number .ensures) (show.both (c10 .put-byte2 .ensures) (show.both (c6 .put-number2 .ensures) (c .before .before .put-byte3 .ensures)))))))
+    show.is (laws.moment-is _ _) (show.both (c18 .put-byte .ensures)
+    (show.both (c14 .put-number .ensures) (show.both (c10 .put-byte2 .ensures)
+    (show.both (c6 .put-number2 .ensures) (c .before .before .put-byte3 .ensures)))))))

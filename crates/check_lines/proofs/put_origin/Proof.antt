@@ -10,7 +10,8 @@ put-origin-spec =
     (tie.spec
     (λ c κs. search needs)
     (λ c. search needs)
-    (λ c. show.is (laws.nowhere _ _ _ (c .before .before .before .before .if1 .taken)) (c .before .before .put-byte .ensures))
+    (λ c. show.is (laws.nowhere _ _ _ (c .before .before .before .before .if1 .taken))
+    (c .before .before .put-byte .ensures))
     (λ c κs. search needs)
     (λ c κs. search needs)
     (λ c κs. search needs)
@@ -19,4 +20,5 @@ put-origin-spec =
     let c6 = c .before .before .before .before .before .before in
     let c10 = c6 .before .before .before .before in
     let c12 = c10 .before .before in
-    show.is (laws.somewhere _ _ _ (c12 .if1 .left)) (show.both (c10 .put-number .ensures) (show.both (c6 .put-byte2 .ensures) (c .before .before .put-number2 .ensures)))))
+    show.is (laws.somewhere _ _ _ (c12 .if1 .left)) (show.both (c10 .put-number .ensures)
+    (show.both (c6 .put-byte2 .ensures) (c .before .before .put-number2 .ensures)))))

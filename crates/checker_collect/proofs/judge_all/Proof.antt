@@ -44,4 +44,5 @@ judge-all-spec =
     (λ c. c .before .loop .inv .1 .long-v)
     (λ c. c .before .loop .inv .1 .long-u)
     (λ c. c .before .loop .inv .1 .long-w)
-    (λ c. laws.gathers-all _ _ _ _ _ (c .before .before .at-most .ensures) (omega (arith, c .loop-test .left, c .before .loop .inv .0)) (c .before .loop .inv .1)))
+    (λ c. laws.gathers-all _ _ _ _ _ (c .before .before .at-most .ensures)
+    (omega (arith, c .loop-test .left, c .before .loop .inv .0)) (c .before .loop .inv .1)))

@@ -24,11 +24,13 @@ judge-one-spec =
     (λ c κs. search needs)
     (λ c κs. search needs)
     (λ c κs.
-    let c15 = c .before .before .before .before .before .before .before .before .before .before .before .before .before .before .before in
+    let c15 = c .before .before .before .before .before .before .before .before .before .before .before .before .before
+    .before .before in
     laws.told-room _ _ _ _ (c15 .pre .1 .1 .0))
     (λ c κs. search needs)
     (λ c κs.
-    let c20 = c .before .before .before .before .before .before .before .before .before .before .before .before .before .before .before .before .before .before .before .before in
+    let c20 = c .before .before .before .before .before .before .before .before .before .before .before .before .before
+    .before .before .before .before .before .before .before in
     laws.lack-room _ _ _ _ _ (c .before .incomplete-reasons .ensures) (c20 .pre .1 .1 .1))
     (λ c. search needs)
     (λ c. search needs)
@@ -41,4 +43,7 @@ judge-one-spec =
     let c14 = c12 .before .before in
     let c15 = c14 .before in
     let c17 = c15 .before .before in
-    laws.gathers-one (c17 .judge .result) (c17 .judge .ensures) (c15 .capped .ensures) (c14 .two-at .ensures .0) (c12 .push-violation .ensures) (c9 .unknown-reasons .ensures) (c7 .insert-told .ensures) (c4 .incomplete-reasons .ensures) (c .before .before .insert-told2 .ensures) (c12 .push-violation .kept .0) (c7 .insert-told .kept .1 .0) (c .before .before .insert-told2 .kept .1 .0)))
+    laws.gathers-one (c17 .judge .result) (c17 .judge .ensures) (c15 .capped .ensures) (c14 .two-at .ensures .0)
+    (c12 .push-violation .ensures) (c9 .unknown-reasons .ensures) (c7 .insert-told .ensures)
+    (c4 .incomplete-reasons .ensures) (c .before .before .insert-told2 .ensures) (c12 .push-violation .kept .0)
+    (c7 .insert-told .kept .1 .0) (c .before .before .insert-told2 .kept .1 .0)))

@@ -23,4 +23,5 @@ numbers-of-spec =
     let c4 = c3 .before in
     let c5 = c4 .before in
     let c6 = c5 .before in
-    laws.numbers-are _ (c6 .args .r) (c5 .failure-number .ensures) (c4 .failure-deadline .ensures) (c3 .source-part .ensures) (c .before .before .source-part2 .ensures) (c .before .source-part3 .ensures)))
+    laws.numbers-are _ (c6 .args .r) (c5 .failure-number .ensures) (c4 .failure-deadline .ensures) (c3 .source-part .ensures)
+    (c .before .before .source-part2 .ensures) (c .before .source-part3 .ensures)))

@@ -19,7 +19,11 @@ push-violation-spec =
     (λ c κs. search needs)
     (λ c. search needs)
     (λ c. search needs)
-    (λ c κs. omega (arith, c .before .before .before .before .before .before .before .pre, ap length (c .before .before .before .numbers-of .ensures)))
+    (λ c κs. omega (
+      arith,
+      c .before .before .before .before .before .before .before .pre,
+      ap length (c .before .before .before .numbers-of .ensures),
+    ))
     (λ c. search needs)
     (λ c. search needs)
     (λ c.
@@ -27,5 +31,6 @@ push-violation-spec =
     let c7 = c6 .before in
     let c8 = c7 .before in
     let c10 = c8 .before .before in
-    laws.pushed-one _ _ _ _ (sym (c7 .if1 .taken) ∙ c8 .failed .ensures) (c10 .pre) (c6 .numbers-of .ensures) (c .before .before .put .ensures))
+    laws.pushed-one _ _ _ _ (sym (c7 .if1 .taken) ∙ c8 .failed .ensures) (c10 .pre) (c6 .numbers-of .ensures)
+    (c .before .before .put .ensures))
     (λ c. laws.pushed-none _ _ _ _ (sym (c .if1 .left) ∙ c .before .failed .ensures)))

@@ -23,4 +23,5 @@ run-spec =
     let c19 = c17 .before .before in
     let c24 = c19 .before .before .before .before .before in
     let c29 = c24 .before .before .before .before .before in
-    entry.run-is _ _ (λ k. omega (arith, c29 .shared-slice-known .given k)) _ (c24 .prepared .ensures) (c19 .events-of .ensures) (c17 .at-most .ensures .0) (c6 .check-settled .ensures)))
+    entry.run-is _ _ (λ k. omega (arith, c29 .shared-slice-known .given k)) _ (c24 .prepared .ensures)
+    (c19 .events-of .ensures) (c17 .at-most .ensures .0) (c6 .check-settled .ensures)))

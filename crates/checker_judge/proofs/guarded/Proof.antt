@@ -7,7 +7,12 @@ returns : tie.Need-returns
 unfolding guardedM
 returns c =
     let c3 = c .before .before .before in
-    rw (← (c3 .is-no .ensures), ← (c .before .is-unknown .ensures), ← (c .before .before .fails-if .ensures), ← (c .unsure .ensures))
+    rw (
+      ← (c3 .is-no .ensures),
+      ← (c .before .is-unknown .ensures),
+      ← (c .before .before .fails-if .ensures),
+      ← (c .unsure .ensures),
+    )
 
 pub guarded-spec : {M : Type 1} → statement M
 guarded-spec =

@@ -10,7 +10,8 @@ unfolding namesM
 returns c =
     let c3 = c .before .before .before in
     let c4 = c3 .before in
-    rw (← (c4 .byte-at .ensures .0), eq-eqb _ _ (c3 .if1 .taken), ← (c .before .before .after .ensures)) (c .name-list .ensures)
+    rw (← (c4 .byte-at .ensures .0), eq-eqb _ _ (c3 .if1 .taken), ← (c .before .before .after .ensures))
+    (c .name-list .ensures)
 
 returns-2 : tie.Need-returns-2
 unfolding namesM

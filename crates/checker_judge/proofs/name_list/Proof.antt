@@ -17,7 +17,8 @@ loop-holds c = named.each-start _ _ _ _ _ (c .before .two-at .ensures .0) (c .af
 loop-again : tie.Need-loop-again Inv-loop μ-loop
 loop-again c =
     c .before .before .before .before .loop .inv
-    ∙ named.each-more _ _ _ _ _ _ (c .before .before .before .loop-test .taken) (c .before .name-predicate .ensures) (c .after-predicate .ensures)
+    ∙ named.each-more _ _ _ _ _ _ (c .before .before .before .loop-test .taken) (c .before .name-predicate .ensures)
+    (c .after-predicate .ensures)
 
 returns : tie.Need-returns Inv-loop μ-loop
 returns c = sym (c .before .loop .inv ∙ named.each-end _ _ _ _ (c .loop-test .left))

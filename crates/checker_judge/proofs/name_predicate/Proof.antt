@@ -13,7 +13,8 @@ unfolding predicateM
 returns-2 c =
     let c3 = c .before .before .before in
     let c4 = c3 .before in
-    rw (← (c4 .byte-at .ensures .0), ne-eqb _ _ (c3 .if1 .left), ← (c .before .before .two-at .ensures .0)) (c .name .ensures)
+    rw (← (c4 .byte-at .ensures .0), ne-eqb _ _ (c3 .if1 .left), ← (c .before .before .two-at .ensures .0))
+    (c .name .ensures)
 
 pub name-predicate-spec : {M : Type 1} → statement M
 name-predicate-spec =

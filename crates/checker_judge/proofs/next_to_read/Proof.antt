@@ -25,7 +25,11 @@ loop-holds c = laws.none-quiet _ _ _ _ _ refl
 add-j : tie.Need-add-j Inv-loop μ-loop
 add-j c =
     let quiet = c .before in
-    omega (arith, quiet .is-quiet .ensures .among (c .if3 .taken), quiet .before .before .before .before .before .before .fits)
+    omega (
+      arith,
+      quiet .is-quiet .ensures .among (c .if3 .taken),
+      quiet .before .before .before .before .before .before .fits,
+    )
 
 loop-less : tie.Need-loop-less Inv-loop μ-loop
 loop-less c = omega (arith, c .before .is-quiet .ensures .among (c .if3 .taken))

@@ -13,7 +13,13 @@ returns-2 c =
     let c3 = c .before .before .before in
     let c4 = c3 .before in
     let c6 = c4 .before .before in
-    rw (c6 .change .given .1, ← (c4 .two-at .ensures .0), ← (c3 .two-at2 .ensures .0), ← (c .before .before .both .ensures), ← (c .before .two-at3 .ensures .0)) (c .both2 .ensures)
+    rw (
+      c6 .change .given .1,
+      ← (c4 .two-at .ensures .0),
+      ← (c3 .two-at2 .ensures .0),
+      ← (c .before .before .both .ensures),
+      ← (c .before .two-at3 .ensures .0),
+    ) (c .both2 .ensures)
 
 pub passes-spec : {M : Type 1} → statement M
 passes-spec =

@@ -8,7 +8,12 @@ unfolding guardM
 returns c =
     let c3 = c .before .before .before in
     let c4 = c3 .before in
-    rw (← (c4 .is-about .ensures), c3 .if1 .taken, ← (c .before .before .after .ensures), ← (c .before .evaluate-all .ensures)) (c .guarded .ensures)
+    rw (
+      ← (c4 .is-about .ensures),
+      c3 .if1 .taken,
+      ← (c .before .before .after .ensures),
+      ← (c .before .evaluate-all .ensures),
+    ) (c .guarded .ensures)
 
 returns-2 : tie.Need-returns-2
 unfolding guardM

@@ -9,7 +9,14 @@ returns c =
     let c3 = c .before .before .before in
     let c4 = c3 .before in
     let c5 = c4 .before in
-    rw (← (c5 .after .ensures), ← (c4 .evaluate-all .ensures), ← (c3 .is-yes .ensures), ← (c .before .is-unknown .ensures), ← (c .before .before .fails-if .ensures), ← (c .unsure .ensures))
+    rw (
+      ← (c5 .after .ensures),
+      ← (c4 .evaluate-all .ensures),
+      ← (c3 .is-yes .ensures),
+      ← (c .before .is-unknown .ensures),
+      ← (c .before .before .fails-if .ensures),
+      ← (c .unsure .ensures),
+    )
 
 pub read-never-spec : {M : Type 1} → statement M
 read-never-spec =

@@ -10,7 +10,15 @@ returns c =
     let c4 = c3 .before in
     let c5 = c4 .before in
     let c6 = c5 .before in
-    rw (← (c6 .after .ensures), ← (c5 .after-predicate .ensures), ← (c4 .evaluate .ensures), ← (c3 .evaluate2 .ensures), ← (c .before .before .evaluate3 .ensures), ← (c .before .after-predicate2 .ensures), ← (c .four-at .ensures))
+    rw (
+      ← (c6 .after .ensures),
+      ← (c5 .after-predicate .ensures),
+      ← (c4 .evaluate .ensures),
+      ← (c3 .evaluate2 .ensures),
+      ← (c .before .before .evaluate3 .ensures),
+      ← (c .before .after-predicate2 .ensures),
+      ← (c .four-at .ensures),
+    )
 
 pub seen-at-spec : {M : Type 1} → statement M
 seen-at-spec =

@@ -11,7 +11,8 @@ returns-2 : tie.Need-returns-2
 unfolding writesM
 returns-2 c =
     let c4 = c .before .before .before .before in
-    rw (c4 .change .given .1, ← (c .before .before .two-at .ensures .0), ← (c .before .two-at2 .ensures .0)) (c .both .ensures)
+    rw (c4 .change .given .1, ← (c .before .before .two-at .ensures .0), ← (c .before .two-at2 .ensures .0))
+    (c .both .ensures)
 
 pub writes-spec : {M : Type 1} → statement M
 writes-spec =

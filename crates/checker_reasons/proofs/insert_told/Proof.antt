@@ -4,10 +4,12 @@ use Rattle.checker_reasons.proofs.insert_told.Statement.{statement}
 use Rattle.checker_reasons.proofs.insert_told.Tie as tie
 
 insert-sorted-requires : tie.Need-insert-sorted-requires
-insert-sorted-requires c κs = laws.one-fits _ _ _ (c .before .before .t .given .1) _ _ (c .before .before .before .before .before .before .pre)
+insert-sorted-requires c κs = laws.one-fits _ _ _ (c .before .before .t .given .1) _ _
+    (c .before .before .before .before .before .before .pre)
 
 insert-sorted-requires-2 : tie.Need-insert-sorted-requires-2
-insert-sorted-requires-2 c κs = laws.two-fits _ _ _ _ (c .before .before .t2 .given .1) _ _ (c .before .before .before .before .before .before .pre)
+insert-sorted-requires-2 c κs = laws.two-fits _ _ _ _ (c .before .before .t2 .given .1) _ _
+    (c .before .before .before .before .before .before .pre)
 
 insert-sorted-requires-3 : tie.Need-insert-sorted-requires-3
 insert-sorted-requires-3 c κs =
@@ -20,7 +22,8 @@ returns : tie.Need-returns
 returns c = laws.none-told _ _ _ _ (c .enum-told .given .1)
 
 returns-2 : tie.Need-returns-2
-returns-2 c = laws.one-told _ _ _ (c .before .before .before .before .before .t .given .1) _ _ (c .before .before .insert-sorted .ensures)
+returns-2 c = laws.one-told _ _ _ (c .before .before .before .before .before .t .given .1) _ _
+    (c .before .before .insert-sorted .ensures)
 
 returns-3 : tie.Need-returns-3
 returns-3 c =

@@ -9,7 +9,8 @@ returns c = rw (c .if1 .taken)
 
 returns-2 : tie.Need-returns-2
 unfolding begunM
-returns-2 c = rw (c .before .before .before .if1 .left, ← (c .before .before .is-yes .ensures), c .before .if2 .taken) (c .started .ensures)
+returns-2 c = rw (c .before .before .before .if1 .left, ← (c .before .before .is-yes .ensures), c .before .if2 .taken)
+    (c .started .ensures)
 
 returns-3 : tie.Need-returns-3
 unfolding begunM

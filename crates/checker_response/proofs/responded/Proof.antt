@@ -5,7 +5,11 @@ use Rattle.checker_response.proofs.responded.Tie as tie
 
 returns : tie.Need-returns
 unfolding respondedM
-returns c = rw (← (c .before .before .waits-after .ensures), ← (c .before .response-failure .ensures), ← (c .response-memory .ensures))
+returns c = rw (
+  ← (c .before .before .waits-after .ensures),
+  ← (c .before .response-failure .ensures),
+  ← (c .response-memory .ensures),
+)
 
 pub responded-spec : {M : Type 1} → statement M
 responded-spec =

@@ -15,7 +15,20 @@ returns c =
     let c9 = c8 .before in
     let c10 = c9 .before in
     let c11 = c10 .before in
-    rw (← (c11 .is-yes .ensures), ← (c10 .is-unknown .ensures), ← (c9 .either .ensures), ← (c8 .is-unknown2 .ensures), ← (c7 .either2 .ensures), ← (c6 .overdue .ensures), ← (c5 .is-unknown3 .ensures), ← (c4 .both .ensures), ← (c3 .either3 .ensures), ← (c .before .before .is-beyond .ensures), ← (c .before .both2 .ensures), ← (c .either4 .ensures))
+    rw (
+      ← (c11 .is-yes .ensures),
+      ← (c10 .is-unknown .ensures),
+      ← (c9 .either .ensures),
+      ← (c8 .is-unknown2 .ensures),
+      ← (c7 .either2 .ensures),
+      ← (c6 .overdue .ensures),
+      ← (c5 .is-unknown3 .ensures),
+      ← (c4 .both .ensures),
+      ← (c3 .either3 .ensures),
+      ← (c .before .before .is-beyond .ensures),
+      ← (c .before .both2 .ensures),
+      ← (c .either4 .ensures),
+    )
 
 pub response-memory-spec : {M : Type 1} → statement M
 response-memory-spec =

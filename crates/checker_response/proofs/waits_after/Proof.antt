@@ -9,7 +9,8 @@ returns c = rw (← (c .before .is-yes .ensures), c .if1 .taken)
 
 returns-2 : tie.Need-returns-2
 unfolding waitsM
-returns-2 c = rw (← (c .before .before .before .is-yes .ensures), c .before .before .if1 .left, ← (c .before .kept .ensures)) (c .begun .ensures)
+returns-2 c = rw (← (c .before .before .before .is-yes .ensures), c .before .before .if1 .left, ← (c .before .kept .ensures))
+    (c .begun .ensures)
 
 pub waits-after-spec : {M : Type 1} → statement M
 waits-after-spec =

@@ -16,7 +16,8 @@ add-stopped-spec =
     let c4 = c .before .before .before .before in
     let c5 = c4 .before in
     let c6 = c5 .before in
-    laws.starts-space _ _ (c6 .if1 .left) (c5 .if2 .taken) (c4 .by-itself .ensures) _ _ (c .before .before .insert-sorted .ensures))
+    laws.starts-space _ _ (c6 .if1 .left) (c5 .if2 .taken) (c4 .by-itself .ensures) _ _
+    (c .before .before .insert-sorted .ensures))
     (λ c κs. search needs)
     (λ c κs. laws.insert-room _ _ 0 _ (omega (arith, c .before .before .before .before .before .before .pre)))
     (λ c. search needs)
@@ -24,4 +25,5 @@ add-stopped-spec =
     let c4 = c .before .before .before .before in
     let c5 = c4 .before in
     let c6 = c5 .before in
-    laws.starts-steps _ _ (c6 .if1 .left) (c5 .if2 .left) (c4 .by-itself2 .ensures) _ _ (c .before .before .insert-sorted2 .ensures)))
+    laws.starts-steps _ _ (c6 .if1 .left) (c5 .if2 .left) (c4 .by-itself2 .ensures) _ _
+    (c .before .before .insert-sorted2 .ensures)))

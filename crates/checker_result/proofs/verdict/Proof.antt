@@ -16,8 +16,21 @@ verdict-spec =
     (λ c κs.
     let c4 = c .before .before .before .before in
     let c5 = c4 .before in
-    let c7 = c5 .before .before in
-    (c4 .fitting .ensures .most, (search needs, (omega (arith, laws.merged-most _ _ _ _ (c .before .before .before .before .before .before .before .before .before .before .before .before .few .ensures .most) (c .before .before .before .before .before .before .before .before .before .merge .ensures)), omega (arith, c5 .add-waiting .ensures .most, c7 .add-stopped .ensures .most)))))
+    let c7 = c5 .before .before in (
+      c4 .fitting .ensures .most,
+      (
+        search needs,
+        (
+          omega (
+            arith,
+            laws.merged-most _ _ _ _
+                (c .before .before .before .before .before .before .before .before .before .before .before .before .few .ensures
+                .most) (c .before .before .before .before .before .before .before .before .before .merge .ensures),
+          ),
+          omega (arith, c5 .add-waiting .ensures .most, c7 .add-stopped .ensures .most),
+        ),
+      ),
+    ))
     (λ c κs. search needs)
     (λ c.
     let c6 = c .before .before .before .before .before .before in
@@ -25,4 +38,5 @@ verdict-spec =
     let c9 = c7 .before .before in
     let c11 = c9 .before .before in
     let c14 = c11 .before .before .before in
-    laws.judged-is _ (c14 .few .ensures) (c11 .merge .ensures) (c9 .add-stopped .ensures) (c7 .add-waiting .ensures) (c6 .fitting .ensures) (c .before .judge-all .ensures) (c .status-of .ensures)))
+    laws.judged-is _ (c14 .few .ensures) (c11 .merge .ensures) (c9 .add-stopped .ensures) (c7 .add-waiting .ensures)
+    (c6 .fitting .ensures) (c .before .judge-all .ensures) (c .status-of .ensures)))

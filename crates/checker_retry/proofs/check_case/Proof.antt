@@ -17,25 +17,34 @@ check-case-spec =
     (λ c κs. search needs)
     (λ c κs. search needs)
     (λ c κs.
-    let c29 = c .before .before .before .before .before .before .before .before .before .before .before .before .before .before .before .before .before .before .before .before .before .before .before .before .before .before .before .before .before in
+    let c29 = c .before .before .before .before .before .before .before .before .before .before .before .before .before
+    .before .before .before .before .before .before .before .before .before .before .before .before .before .before
+    .before .before in
     c29 .pre)
     (λ c.
     let c6 = c .before .before .before .before .before .before in
-    let c23 = c6 .before .before .before .before .before .before .before .before .before .before .before .before .before .before .before .before .before in
+    let c23 = c6 .before .before .before .before .before .before .before .before .before .before .before .before .before
+    .before .before .before .before in
     omega (arith, c6 .check-events .kept .1 .1 .1 .1 .1 .1 .0, c23 .check-part .kept .1 .1 .1 .1 .1 .1 .1 .0))
     (λ c.
     let c6 = c .before .before .before .before .before .before in
-    let c23 = c6 .before .before .before .before .before .before .before .before .before .before .before .before .before .before .before .before .before in
+    let c23 = c6 .before .before .before .before .before .before .before .before .before .before .before .before .before
+    .before .before .before .before in
     omega (arith, c6 .check-events .kept .1 .1 .1 .1 .1 .1 .1 .0, c23 .check-part .kept .1 .1 .1 .1 .1 .1 .1 .1 .0))
     (λ c.
     let c6 = c .before .before .before .before .before .before in
-    let c23 = c6 .before .before .before .before .before .before .before .before .before .before .before .before .before .before .before .before .before in
+    let c23 = c6 .before .before .before .before .before .before .before .before .before .before .before .before .before
+    .before .before .before .before in
     omega (arith, c6 .check-events .kept .1 .1 .1 .1 .1 .1 .1 .1 .0, c23 .check-part .kept .1 .1 .1 .1 .1 .1 .1 .1 .1 .0))
     (λ c.
     let c6 = c .before .before .before .before .before .before in
-    let c23 = c6 .before .before .before .before .before .before .before .before .before .before .before .before .before .before .before .before .before in
-    laws.whole-as (c6 .check-events .ensures) (omega (arith, c23 .check-part .kept .1 .1 .1 .1 .1 .1 .1 .0)) (omega (arith, c23 .check-part .kept .1 .1 .1 .1 .1 .1 .1 .1 .0)) (omega (arith, c23 .check-part .kept .1 .1 .1 .1 .1 .1 .1 .1 .1 .0)))
+    let c23 = c6 .before .before .before .before .before .before .before .before .before .before .before .before .before
+    .before .before .before .before in
+    laws.whole-as (c6 .check-events .ensures) (omega (arith, c23 .check-part .kept .1 .1 .1 .1 .1 .1 .1 .0))
+    (omega (arith, c23 .check-part .kept .1 .1 .1 .1 .1 .1 .1 .1 .0))
+    (omega (arith, c23 .check-part .kept .1 .1 .1 .1 .1 .1 .1 .1 .1 .0)))
     (λ c. search needs)
     (λ c. search needs)
     (λ c. search needs)
-    (λ c. c .before .before .before .before .before .before .before .before .check-part .ensures (sym (c .before .is-refused .ensures) ∙ c .if1 .left)))
+    (λ c. c .before .before .before .before .before .before .before .before .check-part .ensures
+    (sym (c .before .is-refused .ensures) ∙ c .if1 .left)))

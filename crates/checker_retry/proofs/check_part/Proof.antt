@@ -29,4 +29,5 @@ check-part-spec =
     let c15 = c6 .before .before .before .before .before .before .before .before .before in
     let c16 = c15 .before in
     let c17 = c16 .before in
-    laws.partly (c6 .check-events .ensures) _ _ _ (laws.shorter _ _ (c17 .part .ensures .inside)) (laws.shorter _ _ (c16 .part2 .ensures .inside)) (laws.shorter _ _ (c15 .part3 .ensures .inside))))
+    laws.partly (c6 .check-events .ensures) _ _ _ (laws.shorter _ _ (c17 .part .ensures .inside))
+    (laws.shorter _ _ (c16 .part2 .ensures .inside)) (laws.shorter _ _ (c15 .part3 .ensures .inside))))

@@ -18,4 +18,6 @@ abbrev μ-loop : tie.MeasureT-loop
 pub close-spec : {M : Type 1} → statement M
 close-spec =
     tie.close
-    (tie.spec Inv-loop μ-loop (λ c. laws.closed-is _ _ _ _) (λ c κs. search needs) (λ c. search needs) (λ c. search needs) (λ c. c .before .before .loop .inv ∙ laws.rounds-more _ _ _ _ _ (c .before .loop-test .taken) (c .round .ensures)) (λ c. sym (c .before .loop .inv ∙ laws.rounds-end _ _ _ _ _ (c .loop-test .left))))
+    (tie.spec Inv-loop μ-loop (λ c. laws.closed-is _ _ _ _) (λ c κs. search needs) (λ c. search needs) (λ c. search needs)
+    (λ c. c .before .before .loop .inv ∙ laws.rounds-more _ _ _ _ _ (c .before .loop-test .taken) (c .round .ensures))
+    (λ c. sym (c .before .loop .inv ∙ laws.rounds-end _ _ _ _ _ (c .loop-test .left))))

@@ -25,7 +25,8 @@ first-spec =
     (λ c κs. search needs)
     (λ c.
     let c3 = c .before .before .before in
-    sym (c3 .loop .inv ∙ laws.first-here _ _ _ _ (c .before .before .loop-test .taken) (c .before .adds .ensures) (c .if1 .taken)))
+    sym (c3 .loop .inv ∙ laws.first-here _ _ _ _ (c .before .before .loop-test .taken) (c .before .adds .ensures)
+    (c .if1 .taken)))
     (λ c. search needs)
     (λ c. search needs)
     (λ c.

@@ -11,4 +11,5 @@ pub round-spec : {M : Type 1} → statement M
 round-spec =
     tie.close (tie.spec (λ c κs. search needs) (λ c. search needs) (λ c. search needs) (λ c κs. search needs) (λ c.
     let c3 = c .before .before .before in
-    laws.round-yes _ _ _ _ (c3 .first .ensures) (c .before .before .if1 .taken) (c .with .ensures)) (λ c. laws.round-no _ _ _ _ (c .before .first .ensures) (c .if1 .left)))
+    laws.round-yes _ _ _ _ (c3 .first .ensures) (c .before .before .if1 .taken) (c .with .ensures))
+    (λ c. laws.round-no _ _ _ _ (c .before .first .ensures) (c .if1 .left)))

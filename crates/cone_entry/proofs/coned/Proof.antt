@@ -24,4 +24,5 @@ coned-spec =
     let c7 = c .before .before .before .before .before .before .before in
     let c10 = c7 .before .before .before in
     let c11 = c10 .before in
-    laws.told-is _ _ (c11 .named .ensures) (c10 .rule-sets .ensures) (c7 .close .ensures) (c .before .before .undeclared-names .ensures) (c .before .names-in .ensures)))
+    laws.told-is _ _ (c11 .named .ensures) (c10 .rule-sets .ensures) (c7 .close .ensures)
+    (c .before .before .undeclared-names .ensures) (c .before .names-in .ensures)))

@@ -19,7 +19,10 @@ use Rattle.lint_access.proofs.writes.Reads as writes-reads
 use Rattle.lint_walk.proofs.rule_walk.Reads as rule-walk-reads
 
 abbrev Inv-loop : tie.InvT-loop
-Inv-loop s entities rules n many writes₀ needs₀ i₀ writes needs i = (writes-eachM s entities rules ≡ fillM (λ k. writesM s entities (walkM s (getD (rules .starts) k 0))) (n - i) i writes) × (needs-eachM s entities rules ≡ fillM (λ k. needsM s entities (getD (rules .starts) k 0) (walkM s (getD (rules .starts) k 0))) (n - i) i needs)
+Inv-loop s entities rules n many writes₀ needs₀ i₀ writes needs i =
+    (writes-eachM s entities rules ≡ fillM (λ k. writesM s entities (walkM s (getD (rules .starts) k 0))) (n - i) i writes)
+    × (needs-eachM s entities rules ≡ fillM (λ k. needsM s entities (getD (rules .starts) k 0)
+    (walkM s (getD (rules .starts) k 0))) (n - i) i needs)
 
 abbrev μ-loop : tie.MeasureT-loop
 μ-loop s entities rules n many writes₀ needs₀ i₀ writes needs i = n - i
@@ -53,6 +56,14 @@ rule-sets-spec =
     let c4 = c .before .before .before .before in
     let c8 = c4 .before .before .before .before in
     let c11 = c8 .before .before .before in
-    let c12 = c11 .before in
-    (c12 .loop .inv .0 ∙ entry.fill-more _ _ _ _ (c11 .loop-test .taken) (laws.write-is _ _ _ (c8 .rule-walk .ensures) (c4 .writes .ensures)), c12 .loop .inv .1 ∙ entry.fill-more _ _ _ _ (c11 .loop-test .taken) (laws.need-is _ _ _ (c8 .rule-walk .ensures) (c .needs .ensures))))
-    (λ c. record { writes = sym (c .before .loop .inv .0 ∙ entry.fill-end _ _ _ _ (c .loop-test .left)); needs = sym (c .before .loop .inv .1 ∙ entry.fill-end _ _ _ _ (c .loop-test .left)) }))
+    let c12 = c11 .before in (
+      c12 .loop .inv .0 ∙ entry.fill-more _ _ _ _ (c11 .loop-test .taken)
+          (laws.write-is _ _ _ (c8 .rule-walk .ensures) (c4 .writes .ensures)),
+      c12 .loop .inv .1
+          ∙ entry.fill-more _ _ _ _ (c11 .loop-test .taken) (laws.need-is _ _ _ (c8 .rule-walk .ensures) (c .needs .ensures)),
+    ))
+    (λ c. record {
+      writes = sym (c .before .loop .inv .0 ∙ entry.fill-end _ _ _ _ (c .loop-test .left));
+      needs =
+          sym (c .before .loop .inv .1 ∙ entry.fill-end _ _ _ _ (c .loop-test .left));
+    }))

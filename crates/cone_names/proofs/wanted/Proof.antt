@@ -27,11 +27,13 @@ wanted-spec =
     (λ c.
     let c3 = c .before .before .before in
     let c4 = c3 .before in
-    sym (c4 .loop .inv ∙ laws.some-here _ _ _ _ _ (c3 .loop-test .taken) (c .before .before .if1 .left) (c .before .read-by .ensures) (c .if2 .taken)))
+    sym (c4 .loop .inv ∙ laws.some-here _ _ _ _ _ (c3 .loop-test .taken) (c .before .before .if1 .left)
+    (c .before .read-by .ensures) (c .if2 .taken)))
     (λ c. search needs)
     (λ c. search needs)
     (λ c.
     let c3 = c .before .before .before in
     let c4 = c3 .before in
-    c4 .loop .inv ∙ laws.some-later _ _ _ _ _ (c3 .loop-test .taken) (c .before .before .if1 .left) (c .before .read-by .ensures) (c .if2 .left))
+    c4 .loop .inv ∙ laws.some-later _ _ _ _ _ (c3 .loop-test .taken) (c .before .before .if1 .left)
+    (c .before .read-by .ensures) (c .if2 .left))
     (λ c. sym (c .before .loop .inv ∙ laws.some-end _ _ _ _ _ (c .loop-test .left))))

@@ -22,7 +22,8 @@ add-named-spec =
     (λ c κs. search needs)
     (λ c.
     let c3 = c .before .before .before in
-    c .add-predicates .ensures ∙ laws.named-0 _ _ _ _ (c3 .byte-at .ensures) (c .before .before .past .ensures) (c .before .if1 .taken))
+    c .add-predicates .ensures ∙ laws.named-0 _ _ _ _ (c3 .byte-at .ensures) (c .before .before .past .ensures)
+    (c .before .if1 .taken))
     (λ c κs. search needs)
     (λ c κs. search needs)
     (λ c κs. search needs)
@@ -33,7 +34,8 @@ add-named-spec =
     let c5 = c4 .before in
     let c6 = c5 .before in
     let c7 = c6 .before in
-    c .add-predicates2 .ensures ∙ laws.named-1 _ _ _ _ (c7 .byte-at .ensures) (c6 .past .ensures) (c5 .if1 .left) (c4 .if2 .taken) (c3 .place-at .ensures) (c .before .before .add-entity .ensures) (c .before .past2 .ensures))
+    c .add-predicates2 .ensures ∙ laws.named-1 _ _ _ _ (c7 .byte-at .ensures) (c6 .past .ensures) (c5 .if1 .left)
+    (c4 .if2 .taken) (c3 .place-at .ensures) (c .before .before .add-entity .ensures) (c .before .past2 .ensures))
     (λ c κs. search needs)
     (λ c κs. search needs)
     (λ c.
@@ -41,7 +43,8 @@ add-named-spec =
     let c4 = c3 .before in
     let c5 = c4 .before in
     let c6 = c5 .before in
-    c .add-entity2 .ensures ∙ laws.named-2 _ _ _ _ (c6 .byte-at .ensures) (c5 .past .ensures) (c4 .if1 .left) (c3 .if2 .left) (c .before .before .if3 .taken) (c .before .place-at2 .ensures))
+    c .add-entity2 .ensures ∙ laws.named-2 _ _ _ _ (c6 .byte-at .ensures) (c5 .past .ensures) (c4 .if1 .left) (c3 .if2 .left)
+    (c .before .before .if3 .taken) (c .before .place-at2 .ensures))
     (λ c κs. search needs)
     (λ c κs. search needs)
     (λ c κs. search needs)
@@ -51,4 +54,5 @@ add-named-spec =
     let c5 = c4 .before in
     let c6 = c5 .before in
     let c7 = c6 .before in
-    c .add-predicate2 .ensures ∙ laws.named-else _ _ _ _ (c7 .byte-at .ensures) (c6 .past .ensures) (c5 .if1 .left) (c4 .if2 .left) (c3 .if3 .left) (c .before .before .add-predicate .ensures) (c .before .predicate-end .ensures)))
+    c .add-predicate2 .ensures ∙ laws.named-else _ _ _ _ (c7 .byte-at .ensures) (c6 .past .ensures) (c5 .if1 .left)
+    (c4 .if2 .left) (c3 .if3 .left) (c .before .before .add-predicate .ensures) (c .before .predicate-end .ensures)))

@@ -13,7 +13,8 @@ use Rattle.cone_sets.proofs.add_named.Reads as add-named-reads
 
 abbrev Inv-loop : tie.InvT-loop
 Inv-loop s entities many invariants count set₀ k₀ set k =
-    namedM s (sectionBy entities many) invariants ≡ over (add-namedM s (sectionBy entities many)) (invariants .starts) (count - k) k set
+    namedM s (sectionBy entities many) invariants ≡ over (add-namedM s (sectionBy entities many)) (invariants .starts)
+    (count - k) k set
 
 abbrev μ-loop : tie.MeasureT-loop
 μ-loop s entities many invariants count set₀ k₀ set k = count - k
@@ -31,5 +32,6 @@ named-spec =
     (λ c κs. search needs)
     (λ c. search needs)
     (λ c. search needs)
-    (λ c. c .before .before .before .loop .inv ∙ touches.over-more _ _ _ _ _ (c .before .before .loop-test .taken) (c .add-named .ensures))
+    (λ c. c .before .before .before .loop .inv ∙ touches.over-more _ _ _ _ _ (c .before .before .loop-test .taken)
+    (c .add-named .ensures))
     (λ c. sym (c .before .loop .inv ∙ touches.over-end _ _ _ _ _ (c .loop-test .left))))

@@ -14,7 +14,9 @@ use Rattle.cone_sets.proofs.add_toggle.Reads as add-toggle-reads
 use Rattle.lint_access.proofs.reads.Reads as reads-reads
 
 abbrev Inv-loop : tie.InvT-loop
-Inv-loop s entities many at list count set₀ k₀ set k = needsM s (sectionBy entities many) at (walkBy list count) ≡ over (add-toggleM s (sectionBy entities many)) list (count - k) k set
+Inv-loop s entities many at list count set₀ k₀ set k =
+    needsM s (sectionBy entities many) at (walkBy list count)
+    ≡ over (add-toggleM s (sectionBy entities many)) list (count - k) k set
 
 abbrev μ-loop : tie.MeasureT-loop
 μ-loop s entities many at list count set₀ k₀ set k = count - k
@@ -32,5 +34,6 @@ needs-spec =
     (λ c κs. search needs)
     (λ c. search needs)
     (λ c. search needs)
-    (λ c. c .before .before .before .loop .inv ∙ touches.over-more _ _ _ _ _ (c .before .before .loop-test .taken) (c .add-toggle .ensures))
+    (λ c. c .before .before .before .loop .inv ∙ touches.over-more _ _ _ _ _ (c .before .before .loop-test .taken)
+    (c .add-toggle .ensures))
     (λ c. sym (c .before .loop .inv ∙ touches.over-end _ _ _ _ _ (c .loop-test .left))))

@@ -22,7 +22,8 @@ returns c =
     let c11 = c6 .before .before .before .before .before in
     let c13 = c11 .before .before in
     let c19 = c13 .before .before .before .before .before .before in
-    wholes.part (c6 .take-list .ensures) same same same (wide (c19 .pre .1 .1 .1 .1 .0)) lent apart apart (λ v n s k. laws.choose-is _ _ _ _ _ _ _ _ _ (c11 .b .given .1) (c13 .select .ensures))
+    wholes.part (c6 .take-list .ensures) same same same (wide (c19 .pre .1 .1 .1 .1 .0)) lent apart apart
+    (λ v n s k. laws.choose-is _ _ _ _ _ _ _ _ _ (c11 .b .given .1) (c13 .select .ensures))
 
 returns-2 : tie.Need-returns-2
 unfolding chosenM
@@ -30,7 +31,8 @@ returns-2 c =
     let c8 = c .before .before .before .before .before .before .before .before in
     let c13 = c8 .before .before .before .before .before in
     let c15 = c13 .before .before in
-    wholes.part (c8 .unclear .ensures) same same same same lent apart apart (λ v n s k. laws.choose-is _ _ _ _ _ _ _ _ _ (c13 .enum-told .given .1) (c15 .select .ensures))
+    wholes.part (c8 .unclear .ensures) same same same same lent apart apart
+    (λ v n s k. laws.choose-is _ _ _ _ _ _ _ _ _ (c13 .enum-told .given .1) (c15 .select .ensures))
 
 returns-3 : tie.Need-returns-3
 unfolding chosenM
@@ -38,7 +40,8 @@ returns-3 c =
     let c8 = c .before .before .before .before .before .before .before .before in
     let c13 = c8 .before .before .before .before .before in
     let c15 = c13 .before .before in
-    wholes.part (c8 .unclear2 .ensures) same same same same lent apart apart (λ v n s k. laws.choose-is _ _ _ _ _ _ _ _ _ (c13 .enum-told2 .given .1) (c15 .select .ensures))
+    wholes.part (c8 .unclear2 .ensures) same same same same lent apart apart
+    (λ v n s k. laws.choose-is _ _ _ _ _ _ _ _ _ (c13 .enum-told2 .given .1) (c15 .select .ensures))
 
 pub choose-spec : {M : Type 1} → statement M
 choose-spec =

@@ -23,8 +23,19 @@ condition-spec =
     (λ c κs. search needs)
     (λ c κs.
     let c6 = c .before .before .before .before .before .before in
-    let c15 = c6 .before .before .before .before .before .before .before .before .before in
-    (omega (arith, c15 .pre, c6 .log-action .ensures .runs), (omega (arith, c15 .pre, c6 .log-action .ensures .queue), (omega (arith, c6 .log-action .ensures .records), (omega (arith, c15 .pre, c6 .log-action .ensures .runs), (omega (arith, c15 .pre, c6 .log-action .ensures .reasons), omega (arith, c15 .pre)))))))
+    let c15 = c6 .before .before .before .before .before .before .before .before .before in (
+      omega (arith, c15 .pre, c6 .log-action .ensures .runs),
+      (
+        omega (arith, c15 .pre, c6 .log-action .ensures .queue),
+        (
+          omega (arith, c6 .log-action .ensures .records),
+          (
+            omega (arith, c15 .pre, c6 .log-action .ensures .runs),
+            (omega (arith, c15 .pre, c6 .log-action .ensures .reasons), omega (arith, c15 .pre)),
+          ),
+        ),
+      ),
+    ))
     (λ c. search needs)
     (λ c. search needs)
     (λ c. search needs)
@@ -34,4 +45,7 @@ condition-spec =
     let c15 = c8 .before .before .before .before .before .before .before in
     let c17 = c15 .before .before in
     let c18 = c17 .before in
-    states.moves (λ v n s. states.renamed _ (states.follow (testedM _ _ _ _ _) (c15 .log-action .ensures .does _ _ _) (c8 .tested .ensures .does _ _ _) two both two two) (λ k. laws.condition-is _ _ _ _ _ _ _ _ _ (c18 .evaluate .ensures) (c17 .number-of .ensures)))))
+    states.moves
+    (λ v n s. states.renamed _ (states.follow (testedM _ _ _ _ _) (c15 .log-action .ensures .does _ _ _)
+    (c8 .tested .ensures .does _ _ _) two both two two)
+    (λ k. laws.condition-is _ _ _ _ _ _ _ _ _ (c18 .evaluate .ensures) (c17 .number-of .ensures)))))

@@ -29,8 +29,16 @@ give-up-spec =
     (λ c κs.
     let c5 = c .before .before .before .before .before in
     let c9 = c5 .before .before .before .before in
-    let c17 = c9 .before .before .before .before .before .before .before .before in
-    (omega (arith, c17 .pre, c9 .uncertain .ensures .runs, c5 .log-action .ensures .runs), (omega (arith, c17 .pre, c9 .uncertain .ensures .queue, c5 .log-action .ensures .queue), (omega (arith, c5 .log-action .ensures .records), omega (arith, c17 .pre, c9 .uncertain .ensures .runs, c5 .log-action .ensures .runs)))))
+    let c17 = c9 .before .before .before .before .before .before .before .before in (
+      omega (arith, c17 .pre, c9 .uncertain .ensures .runs, c5 .log-action .ensures .runs),
+      (
+        omega (arith, c17 .pre, c9 .uncertain .ensures .queue, c5 .log-action .ensures .queue),
+        (
+          omega (arith, c5 .log-action .ensures .records),
+          omega (arith, c17 .pre, c9 .uncertain .ensures .runs, c5 .log-action .ensures .runs),
+        ),
+      ),
+    ))
     (λ c. search needs)
     (λ c. search needs)
     (λ c. search needs)
@@ -40,4 +48,8 @@ give-up-spec =
     let c12 = c6 .before .before .before .before .before .before in
     let c16 = c12 .before .before .before .before in
     let c18 = c16 .before .before in
-    states.moves (λ v n s. states.renamed _ (states.follow (finishM _) (states.follow (log-actionM _ _ _ _) (c16 .uncertain .ensures .does _ _ _) (c12 .log-action .ensures .does _ _ _) none two none one) (c6 .finish .ensures .does _ _ _) two both two one) (λ k. laws.give-is _ _ _ _ _ _ _ (c18 .note-reason .ensures)))))
+    states.moves
+    (λ v n s. states.renamed _ (states.follow (finishM _)
+    (states.follow (log-actionM _ _ _ _) (c16 .uncertain .ensures .does _ _ _) (c12 .log-action .ensures .does _ _ _)
+    none two none one) (c6 .finish .ensures .does _ _ _) two both two one)
+    (λ k. laws.give-is _ _ _ _ _ _ _ (c18 .note-reason .ensures)))))

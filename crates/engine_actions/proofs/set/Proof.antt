@@ -16,7 +16,10 @@ returns : tie.Need-returns
 unfolding setM
 returns c =
     let c8 = c .before .before .before .before .before .before .before .before in
-    states.moves (λ v n s. states.follow (nowM _) (c8 .write .ensures .does v n _) (c .before .before .next-step .ensures .does _ _ _) both one none none)
+    states.moves (λ v n s. states.follow (nowM _) (c8 .write .ensures .does v n _)
+    (c .before .before .next-step .ensures .does _ _ _) both one none none)
 
 pub set-spec : {M : Type 1} → statement M
-set-spec = tie.close (tie.spec (λ c κs. search needs) (λ c κs. omega (arith, c .before .before .before .before .before .write .ensures .queue)) (λ c. search needs) (λ c. search needs) returns)
+set-spec = tie.close (tie.spec (λ c κs. search needs)
+    (λ c κs. omega (arith, c .before .before .before .before .before .write .ensures .queue)) (λ c. search needs)
+    (λ c. search needs) returns)

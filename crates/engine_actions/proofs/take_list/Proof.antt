@@ -22,7 +22,11 @@ returns c =
     let c10 = c6 .before .before .before .before in
     let c12 = c10 .before .before in
     let c17 = c12 .before .before .before .before .before in
-    states.moves (λ v n s. states.follow (nowM _) (states.follow (log-actionM 8 _ _ _) (steps.replaced _ _ _ (omega (arith, c17 .pre)) (search needs) _ _ _ (c10 .put-run .ensures) (c12 .with-list .ensures) (omega (arith, c17 .pre))) (c6 .log-action .ensures .does _ _ _) none two one none) (c .before .before .next-step .ensures .does _ _ _) two one one none)
+    states.moves
+    (λ v n s. states.follow (nowM _) (states.follow (log-actionM 8 _ _ _)
+    (steps.replaced _ _ _ (omega (arith, c17 .pre)) (search needs) _ _ _ (c10 .put-run .ensures)
+    (c12 .with-list .ensures) (omega (arith, c17 .pre))) (c6 .log-action .ensures .does _ _ _) none two one none)
+    (c .before .before .next-step .ensures .does _ _ _) two one one none)
 
 pub take-list-spec : {M : Type 1} → statement M
 take-list-spec =

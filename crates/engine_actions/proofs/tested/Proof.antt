@@ -20,7 +20,9 @@ unfolding testedM
 returns c =
     let c4 = c .before .before .before .before in
     let c11 = c4 .before .before .before .before .before .before .before in
-    wholes.part (c .before .before .next-step .ensures) same (wide (c11 .pre .1 .1 .0)) (wide (c11 .pre .1 .1 .1 .0)) (wide (c11 .pre .1 .1 .1 .1 .0)) apart apart apart (λ v n s k. laws.tested-is _ _ _ _ _ _ _ (c4 .enum-told .given .1))
+    wholes.part (c .before .before .next-step .ensures) same (wide (c11 .pre .1 .1 .0)) (wide (c11 .pre .1 .1 .1 .0))
+    (wide (c11 .pre .1 .1 .1 .1 .0)) apart apart apart
+    (λ v n s k. laws.tested-is _ _ _ _ _ _ _ (c4 .enum-told .given .1))
 
 returns-2 : tie.Need-returns-2
 unfolding testedM
@@ -28,14 +30,16 @@ returns-2 c =
     let c6 = c .before .before .before .before .before .before in
     let c10 = c6 .before .before .before .before in
     let c17 = c10 .before .before .before .before .before .before .before in
-    wholes.part (c6 .finish .ensures) same same same (wide (c17 .pre .1 .1 .1 .1 .0)) apart apart apart (λ v n s k. laws.tested-is _ _ _ _ _ _ _ (c10 .enum-told2 .given .1))
+    wholes.part (c6 .finish .ensures) same same same (wide (c17 .pre .1 .1 .1 .1 .0)) apart apart apart
+    (λ v n s k. laws.tested-is _ _ _ _ _ _ _ (c10 .enum-told2 .given .1))
 
 returns-3 : tie.Need-returns-3
 unfolding testedM
 returns-3 c =
     let c8 = c .before .before .before .before .before .before .before .before in
     let c13 = c8 .before .before .before .before .before in
-    wholes.part (c8 .unclear .ensures) same same same same apart apart apart (λ v n s k. laws.tested-is _ _ _ _ _ _ _ (c13 .enum-told3 .given .1))
+    wholes.part (c8 .unclear .ensures) same same same same apart apart apart
+    (λ v n s k. laws.tested-is _ _ _ _ _ _ _ (c13 .enum-told3 .given .1))
 
 pub tested-spec : {M : Type 1} → statement M
 tested-spec =

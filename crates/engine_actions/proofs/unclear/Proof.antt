@@ -23,7 +23,10 @@ returns c =
     let c12 = c6 .before .before .before .before .before .before in
     let c14 = c12 .before .before in
     let c15 = c14 .before in
-    states.moves (λ v n s. states.follow (finishM _) (states.renamed _ (c12 .uncertain .ensures .does _ _ _) (λ k. laws.doubt-is _ _ _ _ _ _ _ (c15 .at-most .ensures .0) (c14 .about-rule .ensures))) (c6 .finish .ensures .does _ _ _) two two two one)
+    states.moves (λ v n s. states.follow (finishM _)
+    (states.renamed _ (c12 .uncertain .ensures .does _ _ _)
+    (λ k. laws.doubt-is _ _ _ _ _ _ _ (c15 .at-most .ensures .0) (c14 .about-rule .ensures)))
+    (c6 .finish .ensures .does _ _ _) two two two one)
 
 pub unclear-spec : {M : Type 1} → statement M
 unclear-spec =
@@ -36,8 +39,13 @@ unclear-spec =
     (search needs, (search needs, about-readable _ _ (c .before .about-rule .ensures) (c8 .pre .0))))
     (λ c κs.
     let c5 = c .before .before .before .before .before in
-    let c14 = c5 .before .before .before .before .before .before .before .before .before in
-    (omega (arith, c14 .pre, c5 .uncertain .ensures .runs), (omega (arith, c14 .pre, c5 .uncertain .ensures .queue), (omega (arith, c14 .pre, c5 .uncertain .ensures .records), omega (arith, c14 .pre, c5 .uncertain .ensures .runs)))))
+    let c14 = c5 .before .before .before .before .before .before .before .before .before in (
+      omega (arith, c14 .pre, c5 .uncertain .ensures .runs),
+      (
+        omega (arith, c14 .pre, c5 .uncertain .ensures .queue),
+        (omega (arith, c14 .pre, c5 .uncertain .ensures .records), omega (arith, c14 .pre, c5 .uncertain .ensures .runs)),
+      ),
+    ))
     (λ c. search needs)
     (λ c. search needs)
     (λ c. search needs)

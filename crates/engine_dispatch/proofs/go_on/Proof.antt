@@ -25,7 +25,9 @@ returns c =
     let c10 = c6 .before .before .before .before in
     let c12 = c10 .before .before in
     let c19 = c12 .before .before .before .before .before .before .before in
-    states.moves (λ v n s. steps.with-run (go-on-runM _ _ _) (c12 .run-at .ensures) (omega (arith, c19 .pre)) (states.renamed _ (states.widen (c6 .finish .ensures .does _ _ _) same same same (wide (omega (arith, c19 .pre)))) (λ z. laws.on-end _ _ _ _ _ (c10 .if1 .taken))))
+    states.moves (λ v n s. steps.with-run (go-on-runM _ _ _) (c12 .run-at .ensures) (omega (arith, c19 .pre))
+    (states.renamed _ (states.widen (c6 .finish .ensures .does _ _ _) same same same (wide (omega (arith, c19 .pre))))
+    (λ z. laws.on-end _ _ _ _ _ (c10 .if1 .taken))))
 
 returns-2 : tie.Need-returns-2
 unfolding go-onM
@@ -38,7 +40,12 @@ returns-2 c =
     let c23 = c22 .before in
     let c25 = c23 .before .before in
     let c32 = c25 .before .before .before .before .before .before .before in
-    states.moves (λ v n s. steps.with-run (go-on-runM _ _ _) (c25 .run-at .ensures) (omega (arith, c32 .pre)) (states.renamed _ (states.follow (performM _ _ _ _ _ _) (steps.replaced _ _ _ (omega (arith, c32 .pre)) (search needs) _ _ _ (c17 .put-run .ensures) refl (omega (arith, c32 .pre))) (c8 .perform .ensures .does v n _) two two both two) (λ z. laws.on-act _ _ _ _ _ _ _ _ (c23 .if1 .left) (c22 .top .ensures) (c21 .action-at .ensures) (c20 .stepped .ensures))))
+    states.moves (λ v n s. steps.with-run (go-on-runM _ _ _) (c25 .run-at .ensures) (omega (arith, c32 .pre))
+    (states.renamed _ (states.follow (performM _ _ _ _ _ _)
+    (steps.replaced _ _ _ (omega (arith, c32 .pre)) (search needs) _ _ _ (c17 .put-run .ensures) refl
+    (omega (arith, c32 .pre))) (c8 .perform .ensures .does v n _) two two both two)
+    (λ z. laws.on-act _ _ _ _ _ _ _ _ (c23 .if1 .left) (c22 .top .ensures) (c21 .action-at .ensures)
+    (c20 .stepped .ensures))))
 
 pub go-on-spec : {M : Type 1} → statement M
 go-on-spec =
@@ -53,9 +60,14 @@ go-on-spec =
     (λ c κs. search needs)
     (λ c κs. search needs)
     (λ c κs. search needs)
-    (λ c κs. omega (arith, c .before .before .before .before .before .before .before .before .before .before .before .before .before .before .pre))
+    (λ c κs. omega (
+      arith,
+      c .before .before .before .before .before .before .before .before .before .before .before .before .before .before
+          .pre,
+    ))
     (λ c κs.
-    let c23 = c .before .before .before .before .before .before .before .before .before .before .before .before .before .before .before .before .before .before .before .before .before .before .before in
+    let c23 = c .before .before .before .before .before .before .before .before .before .before .before .before .before
+    .before .before .before .before .before .before .before .before .before .before in
     (c23 .pre .0, (c23 .pre .1 .0, (c23 .pre .1 .1 .0, (omega (arith, c23 .pre), c23 .pre .1 .1 .1 .1)))))
     (λ c. search needs)
     (λ c. search needs)

@@ -20,7 +20,9 @@ returns : tie.Need-returns
 unfolding resumeM resume-atM
 returns c =
     let c9 = c .before .before .before .before .before .before .before .before .before in
-    steps.found (resume-atM _ _) (c .before .before .find-run .ensures) (c .enum-told .given .1) (wholes.part (wholes.idle _) (wide (c9 .pre .0)) (wide (c9 .pre .1 .0)) (wide (c9 .pre .1 .1 .0)) (wide (c9 .pre .1 .1 .1 .0)) lent lent apart (λ v n s k. refl))
+    steps.found (resume-atM _ _) (c .before .before .find-run .ensures) (c .enum-told .given .1)
+    (wholes.part (wholes.idle _) (wide (c9 .pre .0)) (wide (c9 .pre .1 .0)) (wide (c9 .pre .1 .1 .0))
+    (wide (c9 .pre .1 .1 .1 .0)) lent lent apart (λ v n s k. refl))
 
 returns-2 : tie.Need-returns-2
 unfolding resumeM resume-atM
@@ -31,7 +33,10 @@ returns-2 c =
     let c17 = c16 .before in
     let c20 = c17 .before .before .before in
     let c22 = c20 .before .before in
-    steps.found (resume-atM _ _) (c22 .find-run .ensures) (c20 .found .given .1) (steps.ran (resume-runM _ _ _) (c17 .run-at .ensures) (c22 .find-run .ensures .within _ (c20 .found .given .1)) (wholes.part (c8 .go-on .ensures) same same same same shared shared apart (λ v n s k. laws.resume-yes _ _ _ _ _ _ (c16 .is-going .ensures) (c15 .if1 .taken))))
+    steps.found (resume-atM _ _) (c22 .find-run .ensures) (c20 .found .given .1)
+    (steps.ran (resume-runM _ _ _) (c17 .run-at .ensures) (c22 .find-run .ensures .within _ (c20 .found .given .1))
+    (wholes.part (c8 .go-on .ensures) same same same same shared shared apart
+    (λ v n s k. laws.resume-yes _ _ _ _ _ _ (c16 .is-going .ensures) (c15 .if1 .taken))))
 
 returns-3 : tie.Need-returns-3
 unfolding resumeM resume-atM
@@ -39,7 +44,12 @@ returns-3 c =
     let c5 = c .before .before .before .before .before in
     let c7 = c5 .before .before in
     let c14 = c7 .before .before .before .before .before .before .before in
-    steps.found (resume-atM _ _) (c7 .find-run .ensures) (c5 .found .given .1) (steps.ran (resume-runM _ _ _) (c .before .before .run-at .ensures) (c7 .find-run .ensures .within _ (c5 .found .given .1)) (wholes.part (wholes.idle _) (wide (c14 .pre .0)) (wide (c14 .pre .1 .0)) (wide (c14 .pre .1 .1 .0)) (wide (c14 .pre .1 .1 .1 .0)) lent lent apart (λ v n s k. laws.resume-no _ _ _ _ _ _ (c .before .is-going .ensures) (c .if1 .left))))
+    steps.found (resume-atM _ _) (c7 .find-run .ensures) (c5 .found .given .1)
+    (steps.ran (resume-runM _ _ _) (c .before .before .run-at .ensures)
+    (c7 .find-run .ensures .within _ (c5 .found .given .1))
+    (wholes.part (wholes.idle _) (wide (c14 .pre .0)) (wide (c14 .pre .1 .0)) (wide (c14 .pre .1 .1 .0))
+    (wide (c14 .pre .1 .1 .1 .0)) lent lent apart (λ v n s k. laws.resume-no _ _ _ _ _ _ (c .before .is-going .ensures)
+    (c .if1 .left))))
 
 pub resume-spec : {M : Type 1} → statement M
 resume-spec =

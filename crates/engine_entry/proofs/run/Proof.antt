@@ -24,4 +24,5 @@ run-spec =
     let c17 = c15 .before .before in
     let c20 = c17 .before .before .before in
     let c25 = c20 .before .before .before .before .before in
-    entry.run-is _ _ (λ k. omega (arith, c25 .shared-slice-known .given k)) _ (c20 .prepared .ensures) (c17 .events-of .ensures) (c15 .at-most .ensures .0) (c8 .run-events .ensures) (c .settled .ensures)))
+    entry.run-is _ _ (λ k. omega (arith, c25 .shared-slice-known .given k)) _ (c20 .prepared .ensures)
+    (c17 .events-of .ensures) (c15 .at-most .ensures .0) (c8 .run-events .ensures) (c .settled .ensures)))

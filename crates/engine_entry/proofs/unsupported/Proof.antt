@@ -19,4 +19,5 @@ unsupported-spec =
     (λ c.
     let c4 = c .before .before .before .before in
     let c5 = c4 .before in
-    entry.notes-read _ _ (c4 .accept .ensures) (λ k. omega (arith, c5 .shared-slice-known .given k)) (c .before .before .enum-told .given .1) _ (c .prepared .ensures)))
+    entry.notes-read _ _ (c4 .accept .ensures) (λ k. omega (arith, c5 .shared-slice-known .given k))
+    (c .before .before .enum-told .given .1) _ (c .prepared .ensures)))

@@ -17,7 +17,14 @@ returns c =
     let c3 = c .before .before .before in
     let c4 = c3 .before in
     let c5 = c4 .before in
-    rw (← (c5 .byte-at .ensures .0), ← (c4 .after .ensures), ← (c3 .four-at .ensures), ← (c .before .before .four-at2 .ensures), ← (c .before .effect-at .ensures), ← (c .after-effect .ensures))
+    rw (
+      ← (c5 .byte-at .ensures .0),
+      ← (c4 .after .ensures),
+      ← (c3 .four-at .ensures),
+      ← (c .before .before .four-at2 .ensures),
+      ← (c .before .effect-at .ensures),
+      ← (c .after-effect .ensures),
+    )
 
 pub action-at-spec : {M : Type 1} → statement M
 action-at-spec =

@@ -19,7 +19,8 @@ returns-2 : tie.Need-returns-2
 unfolding afterM
 returns-2 c =
     let c3 = c .before .before .before in
-    rw (ne-eqb _ _ (c3 .if1 .left), eq-eqb _ _ (c .before .before .if2 .taken), ← (c .before .predicate-size .ensures)) (c .after2 .ensures)
+    rw (ne-eqb _ _ (c3 .if1 .left), eq-eqb _ _ (c .before .before .if2 .taken), ← (c .before .predicate-size .ensures))
+    (c .after2 .ensures)
 
 returns-3 : tie.Need-returns-3
 unfolding afterM
@@ -27,14 +28,24 @@ returns-3 c =
     let c3 = c .before .before .before in
     let c4 = c3 .before in
     let c5 = c4 .before in
-    rw (ne-eqb _ _ (c5 .if1 .left), ne-eqb _ _ (c4 .if2 .left), eq-eqb _ _ (c3 .if3 .taken), ← (c .before .choice-at .ensures)) (c .end-of .ensures)
+    rw (
+      ne-eqb _ _ (c5 .if1 .left),
+      ne-eqb _ _ (c4 .if2 .left),
+      eq-eqb _ _ (c3 .if3 .taken),
+      ← (c .before .choice-at .ensures),
+    ) (c .end-of .ensures)
 
 returns-4 : tie.Need-returns-4
 unfolding afterM
 returns-4 c =
     let c3 = c .before .before .before in
     let c4 = c3 .before in
-    rw (ne-eqb _ _ (c4 .if1 .left), ne-eqb _ _ (c3 .if2 .left), ne-eqb _ _ (c .before .before .if3 .left), eq-eqb _ _ (c .before .if4 .taken)) (c .after3 .ensures)
+    rw (
+      ne-eqb _ _ (c4 .if1 .left),
+      ne-eqb _ _ (c3 .if2 .left),
+      ne-eqb _ _ (c .before .before .if3 .left),
+      eq-eqb _ _ (c .before .if4 .taken),
+    ) (c .after3 .ensures)
 
 returns-5 : tie.Need-returns-5
 unfolding afterM
@@ -42,7 +53,13 @@ returns-5 c =
     let c3 = c .before .before .before in
     let c4 = c3 .before in
     let c5 = c4 .before in
-    rw (ne-eqb _ _ (c5 .if1 .left), ne-eqb _ _ (c4 .if2 .left), ne-eqb _ _ (c3 .if3 .left), ne-eqb _ _ (c .before .before .if4 .left), eq-eqb _ _ (c .before .if5 .taken)) (c .after4 .ensures)
+    rw (
+      ne-eqb _ _ (c5 .if1 .left),
+      ne-eqb _ _ (c4 .if2 .left),
+      ne-eqb _ _ (c3 .if3 .left),
+      ne-eqb _ _ (c .before .before .if4 .left),
+      eq-eqb _ _ (c .before .if5 .taken),
+    ) (c .after4 .ensures)
 
 returns-6 : tie.Need-returns-6
 unfolding afterM
@@ -50,7 +67,13 @@ returns-6 c =
     let c3 = c .before .before .before in
     let c4 = c3 .before in
     let c5 = c4 .before in
-    rw (ne-eqb _ _ (c5 .if1 .left), ne-eqb _ _ (c4 .if2 .left), ne-eqb _ _ (c3 .if3 .left), ne-eqb _ _ (c .before .before .if4 .left), ne-eqb _ _ (c .before .if5 .left)) (c .after5 .ensures)
+    rw (
+      ne-eqb _ _ (c5 .if1 .left),
+      ne-eqb _ _ (c4 .if2 .left),
+      ne-eqb _ _ (c3 .if3 .left),
+      ne-eqb _ _ (c .before .before .if4 .left),
+      ne-eqb _ _ (c .before .if5 .left),
+    ) (c .after5 .ensures)
 
 pub after-effect-spec : {M : Type 1} → statement M
 after-effect-spec =

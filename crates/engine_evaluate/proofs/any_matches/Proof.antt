@@ -28,12 +28,14 @@ any-matches-spec =
     (λ c κs. search needs)
     (λ c.
     let c3 = c .before .before .before in
-    sym (c3 .loop .inv ∙ laws.any-here _ _ _ _ _ (c .before .before .loop-test .taken) (c .before .matches .ensures) (c .if1 .taken)))
+    sym (c3 .loop .inv ∙ laws.any-here _ _ _ _ _ (c .before .before .loop-test .taken) (c .before .matches .ensures)
+    (c .if1 .taken)))
     (λ c κs. search needs)
     (λ c. search needs)
     (λ c. search needs)
     (λ c.
     let c3 = c .before .before .before in
     let c4 = c3 .before in
-    c4 .loop .inv ∙ laws.any-later _ _ _ _ _ (c3 .loop-test .taken) (c .before .before .matches .ensures) _ (c .before .if1 .left) (c .after2 .ensures))
+    c4 .loop .inv ∙ laws.any-later _ _ _ _ _ (c3 .loop-test .taken) (c .before .before .matches .ensures) _
+    (c .before .if1 .left) (c .after2 .ensures))
     (λ c. sym (c .before .loop .inv ∙ laws.any-end _ _ _ _ (c .loop-test .left))))

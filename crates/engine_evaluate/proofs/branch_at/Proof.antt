@@ -25,4 +25,5 @@ branch-at-spec =
     (λ c.
     let c3 = c .before .before .before in
     let c5 = c3 .before .before in
-    laws.branch-no _ _ _ _ _ _ (c5 .evaluate-all .ensures) _ _ (c3 .enum-told3 .given .1) (c .before .actions-at .ensures) (c .end-of .ensures)))
+    laws.branch-no _ _ _ _ _ _ (c5 .evaluate-all .ensures) _ _ (c3 .enum-told3 .given .1) (c .before .actions-at .ensures)
+    (c .end-of .ensures)))

@@ -21,20 +21,36 @@ returns-3 : tie.Need-returns-3
 unfolding effectM
 returns-3 c =
     let c3 = c .before .before .before in
-    rw (ne-eqb _ _ (c3 .if1 .left), ne-eqb _ _ (c .before .before .if2 .left), eq-eqb _ _ (c .before .if3 .taken), ← (c .four-at .ensures))
+    rw (
+      ne-eqb _ _ (c3 .if1 .left),
+      ne-eqb _ _ (c .before .before .if2 .left),
+      eq-eqb _ _ (c .before .if3 .taken),
+      ← (c .four-at .ensures),
+    )
 
 returns-4 : tie.Need-returns-4
 unfolding effectM
 returns-4 c =
     let c3 = c .before .before .before in
-    rw (ne-eqb _ _ (c3 .if1 .left), ne-eqb _ _ (c .before .before .if2 .left), ne-eqb _ _ (c .before .if3 .left), eq-eqb _ _ (c .if4 .taken))
+    rw (
+      ne-eqb _ _ (c3 .if1 .left),
+      ne-eqb _ _ (c .before .before .if2 .left),
+      ne-eqb _ _ (c .before .if3 .left),
+      eq-eqb _ _ (c .if4 .taken),
+    )
 
 returns-5 : tie.Need-returns-5
 unfolding effectM
 returns-5 c =
     let c3 = c .before .before .before in
     let c4 = c3 .before in
-    rw (ne-eqb _ _ (c4 .if1 .left), ne-eqb _ _ (c3 .if2 .left), ne-eqb _ _ (c .before .before .if3 .left), ne-eqb _ _ (c .before .if4 .left), eq-eqb _ _ (c .if5 .taken))
+    rw (
+      ne-eqb _ _ (c4 .if1 .left),
+      ne-eqb _ _ (c3 .if2 .left),
+      ne-eqb _ _ (c .before .before .if3 .left),
+      ne-eqb _ _ (c .before .if4 .left),
+      eq-eqb _ _ (c .if5 .taken),
+    )
 
 returns-6 : tie.Need-returns-6
 unfolding effectM
@@ -42,7 +58,14 @@ returns-6 c =
     let c3 = c .before .before .before in
     let c4 = c3 .before in
     let c5 = c4 .before in
-    rw (ne-eqb _ _ (c5 .if1 .left), ne-eqb _ _ (c4 .if2 .left), ne-eqb _ _ (c3 .if3 .left), ne-eqb _ _ (c .before .before .if4 .left), ne-eqb _ _ (c .before .if5 .left), eq-eqb _ _ (c .if6 .taken))
+    rw (
+      ne-eqb _ _ (c5 .if1 .left),
+      ne-eqb _ _ (c4 .if2 .left),
+      ne-eqb _ _ (c3 .if3 .left),
+      ne-eqb _ _ (c .before .before .if4 .left),
+      ne-eqb _ _ (c .before .if5 .left),
+      eq-eqb _ _ (c .if6 .taken),
+    )
 
 returns-7 : tie.Need-returns-7
 unfolding effectM
@@ -51,7 +74,15 @@ returns-7 c =
     let c4 = c3 .before in
     let c5 = c4 .before in
     let c6 = c5 .before in
-    rw (ne-eqb _ _ (c6 .if1 .left), ne-eqb _ _ (c5 .if2 .left), ne-eqb _ _ (c4 .if3 .left), ne-eqb _ _ (c3 .if4 .left), ne-eqb _ _ (c .before .before .if5 .left), ne-eqb _ _ (c .before .if6 .left), ← (c .two-at4 .ensures .0))
+    rw (
+      ne-eqb _ _ (c6 .if1 .left),
+      ne-eqb _ _ (c5 .if2 .left),
+      ne-eqb _ _ (c4 .if3 .left),
+      ne-eqb _ _ (c3 .if4 .left),
+      ne-eqb _ _ (c .before .before .if5 .left),
+      ne-eqb _ _ (c .before .if6 .left),
+      ← (c .two-at4 .ensures .0),
+    )
 
 pub effect-at-spec : {M : Type 1} → statement M
 effect-at-spec =

@@ -37,5 +37,6 @@ evaluate-all-spec =
     let c3 = c .before .before .before in
     let c4 = c3 .before in
     let c5 = c4 .before in
-    c5 .loop .inv ∙ laws.all-more _ _ _ _ _ _ _ _ _ _ _ (c4 .loop-test .taken) (c3 .evaluate .ensures) (c .before .before .both .ensures) (c .before .predicate-size .ensures) (c .after2 .ensures))
+    c5 .loop .inv ∙ laws.all-more _ _ _ _ _ _ _ _ _ _ _ (c4 .loop-test .taken) (c3 .evaluate .ensures)
+    (c .before .before .both .ensures) (c .before .predicate-size .ensures) (c .after2 .ensures))
     (λ c. sym (c .before .loop .inv ∙ laws.all-end _ _ _ _ _ _ _ (c .loop-test .left))))

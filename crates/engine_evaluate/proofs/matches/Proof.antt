@@ -19,7 +19,12 @@ unfolding matchesM
 returns-2 c =
     let c3 = c .before .before .before in
     let c4 = c3 .before in
-    rw (← (c4 .two-at .ensures .0), eq-eqb _ _ (c3 .if1 .left), ← (c .before .before .two-at2 .ensures .0), ne-eqb _ _ (c .if2 .taken))
+    rw (
+      ← (c4 .two-at .ensures .0),
+      eq-eqb _ _ (c3 .if1 .left),
+      ← (c .before .before .two-at2 .ensures .0),
+      ne-eqb _ _ (c .if2 .taken),
+    )
 
 returns-3 : tie.Need-returns-3
 unfolding matchesM
@@ -27,7 +32,13 @@ returns-3 c =
     let c4 = c .before .before .before .before in
     let c5 = c4 .before in
     let c6 = c5 .before in
-    rw (← (c6 .two-at .ensures .0), eq-eqb _ _ (c5 .if1 .left), ← (c4 .two-at2 .ensures .0), eq-eqb _ _ (c .before .before .if2 .left), eq-eqb _ _ (c .if3 .taken))
+    rw (
+      ← (c6 .two-at .ensures .0),
+      eq-eqb _ _ (c5 .if1 .left),
+      ← (c4 .two-at2 .ensures .0),
+      eq-eqb _ _ (c .before .before .if2 .left),
+      eq-eqb _ _ (c .if3 .taken),
+    )
 
 returns-4 : tie.Need-returns-4
 unfolding matchesM
@@ -39,7 +50,16 @@ returns-4 c =
     let c9 = c7 .before .before in
     let c10 = c9 .before in
     let c11 = c10 .before in
-    rw (← (c11 .two-at .ensures .0), eq-eqb _ _ (c10 .if1 .left), ← (c9 .two-at2 .ensures .0), eq-eqb _ _ (c7 .if2 .left), ne-eqb _ _ (c5 .if3 .left), ← (c4 .two-at3 .ensures .0), sym (c3 .admits .ensures) ∙ c .before .before .if4 .taken, ← (c .before .two-at4 .ensures .0)) (c .admits2 .ensures)
+    rw (
+      ← (c11 .two-at .ensures .0),
+      eq-eqb _ _ (c10 .if1 .left),
+      ← (c9 .two-at2 .ensures .0),
+      eq-eqb _ _ (c7 .if2 .left),
+      ne-eqb _ _ (c5 .if3 .left),
+      ← (c4 .two-at3 .ensures .0),
+      sym (c3 .admits .ensures) ∙ c .before .before .if4 .taken,
+      ← (c .before .two-at4 .ensures .0),
+    ) (c .admits2 .ensures)
 
 returns-5 : tie.Need-returns-5
 unfolding matchesM
@@ -49,7 +69,16 @@ returns-5 c =
     let c7 = c5 .before .before in
     let c8 = c7 .before in
     let c9 = c8 .before in
-    rw (← (c9 .two-at .ensures .0), eq-eqb _ _ (c8 .if1 .left), ← (c7 .two-at2 .ensures .0), eq-eqb _ _ (c5 .if2 .left), ne-eqb _ _ (c3 .if3 .left), ← (c .before .before .two-at3 .ensures .0), sym (c .before .admits .ensures) ∙ c .if4 .left)
+    rw (
+      ← (c9 .two-at .ensures .0),
+      eq-eqb _ _ (c8 .if1 .left),
+      ← (c7 .two-at2 .ensures .0),
+      eq-eqb _ _ (c5 .if2 .left),
+      ne-eqb _ _ (c3 .if3 .left),
+      ← (c .before .before .two-at3 .ensures .0),
+      sym (c .before .admits .ensures)
+          ∙ c .if4 .left,
+    )
 
 pub matches-spec : {M : Type 1} → statement M
 matches-spec =

@@ -31,12 +31,14 @@ select-spec =
     let c3 = c .before .before .before in
     let c4 = c3 .before in
     let c5 = c4 .before in
-    sym (c5 .loop .inv ∙ laws.select-take _ _ _ _ _ _ _ (c4 .loop-test .taken) (c3 .branch-at .ensures) _ (c .before .b .given .1)))
+    sym (c5 .loop .inv ∙ laws.select-take _ _ _ _ _ _ _ (c4 .loop-test .taken) (c3 .branch-at .ensures) _
+    (c .before .b .given .1)))
     (λ c. search needs)
     (λ c.
     let c3 = c .before .before .before in
     let c4 = c3 .before in
-    sym (c4 .loop .inv ∙ laws.select-unclear _ _ _ _ _ _ _ (c3 .loop-test .taken) (c .before .before .branch-at .ensures) (c .enum-told .given .1)))
+    sym (c4 .loop .inv ∙ laws.select-unclear _ _ _ _ _ _ _ (c3 .loop-test .taken) (c .before .before .branch-at .ensures)
+    (c .enum-told .given .1)))
     (λ c. search needs)
     (λ c. search needs)
     (λ c. search needs)
@@ -44,5 +46,6 @@ select-spec =
     let c3 = c .before .before .before in
     let c4 = c3 .before in
     let c5 = c4 .before in
-    c5 .loop .inv ∙ laws.select-skip _ _ _ _ _ _ _ (c4 .loop-test .taken) (c3 .branch-at .ensures) _ (c .before .b2 .given .1))
+    c5 .loop .inv ∙ laws.select-skip _ _ _ _ _ _ _ (c4 .loop-test .taken) (c3 .branch-at .ensures) _
+    (c .before .b2 .given .1))
     (λ c. sym (c .before .loop .inv ∙ laws.select-end _ _ _ _ _ _ (c .loop-test .left))))

@@ -29,7 +29,13 @@ unfolding steppedM nextM
 returns-4 c =
     let c4 = c .before .before .before .before in
     let c5 = c4 .before in
-    rw (ne-eqb _ _ (c5 .if1 .left), le-ltb _ _ (c4 .if2 .left), ← (c .before .before .place-in .ensures), le-ltb _ _ (c .before .if3 .left), ← (c .list-word .ensures))
+    rw (
+      ne-eqb _ _ (c5 .if1 .left),
+      le-ltb _ _ (c4 .if2 .left),
+      ← (c .before .before .place-in .ensures),
+      le-ltb _ _ (c .before .if3 .left),
+      ← (c .list-word .ensures),
+    )
 
 pub stepped-spec : {M : Type 1} → statement M
 stepped-spec =

@@ -23,7 +23,13 @@ unfolding listM
 returns-3 c =
     let c3 = c .before .before .before in
     let c4 = c3 .before in
-    rw (← (c4 .two-at .ensures .0), ne-eqb _ _ (c3 .if1 .left), le-ltb _ _ (c .before .before .if2 .left), ← (c .before .after .ensures), ← (c .list-word .ensures))
+    rw (
+      ← (c4 .two-at .ensures .0),
+      ne-eqb _ _ (c3 .if1 .left),
+      le-ltb _ _ (c .before .before .if2 .left),
+      ← (c .before .after .ensures),
+      ← (c .list-word .ensures),
+    )
 
 pub with-list-spec : {M : Type 1} → statement M
 with-list-spec =

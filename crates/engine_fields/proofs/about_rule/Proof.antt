@@ -8,4 +8,6 @@ use Rattle.engine_fields.proofs.rule_word.Reads as rule-word-reads
 use Rattle.engine_fields.proofs.text_position.Reads as text-position-reads
 
 pub about-rule-spec : {M : Type 1} → statement M
-about-rule-spec = tie.close (tie.spec (λ c κs. search needs) (λ c κs. search needs) (λ c. laws.about-is _ _ _ _ _ _ (c .before .rule-word .ensures) (c .text-position .ensures)))
+about-rule-spec =
+    tie.close (tie.spec (λ c κs. search needs) (λ c κs. search needs)
+    (λ c. laws.about-is _ _ _ _ _ _ (c .before .rule-word .ensures) (c .text-position .ensures)))

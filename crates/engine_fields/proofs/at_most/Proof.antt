@@ -6,4 +6,6 @@ use Rattle.engine_fields.proofs.at_most.Reads as reads
 use Rattle.engine_fields.proofs.at_most.Lts as lts
 
 pub at-most-spec : {M : Type 1} → statement M
-at-most-spec = tie.close (tie.spec (λ c. (laws.most-yes _ _ (c .if1 .taken), c .if1 .taken)) (λ c. (laws.most-no _ _ (c .if1 .left), omega arith)))
+at-most-spec =
+    tie.close (tie.spec (λ c. (laws.most-yes _ _ (c .if1 .taken), c .if1 .taken))
+    (λ c. (laws.most-no _ _ (c .if1 .left), omega arith)))

@@ -6,4 +6,5 @@ use Rattle.engine_fields.proofs.capped.Reads as reads
 use Rattle.engine_fields.proofs.capped.Lts as lts
 
 pub capped-spec : {M : Type 1} → statement M
-capped-spec = tie.close (tie.spec (λ c. laws.cap-yes _ (c .if1 .taken)) (λ c. search needs) (λ c. laws.cap-no _ (c .if1 .left)))
+capped-spec =
+    tie.close (tie.spec (λ c. laws.cap-yes _ (c .if1 .taken)) (λ c. search needs) (λ c. laws.cap-no _ (c .if1 .left)))

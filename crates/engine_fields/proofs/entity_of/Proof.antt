@@ -29,10 +29,14 @@ entity-of-spec =
     (λ c κs. search needs)
     (λ c.
     let c3 = c .before .before .before in
-    sym (c3 .loop .inv .0 ∙ laws.entity-here _ _ _ _ _ (c .before .before .loop-test .taken) (c .before .name-of .ensures) (c .if1 .taken)))
+    sym (c3 .loop .inv .0 ∙ laws.entity-here _ _ _ _ _ (c .before .before .loop-test .taken) (c .before .name-of .ensures)
+    (c .if1 .taken)))
     (λ c. search needs)
     (λ c. search needs)
     (λ c.
-    let c3 = c .before .before .before in
-    (c3 .loop .inv .0 ∙ laws.entity-later _ _ _ _ _ (c .before .before .loop-test .taken) (c .before .name-of .ensures) (c .if1 .left), omega arith))
+    let c3 = c .before .before .before in (
+      c3 .loop .inv .0 ∙ laws.entity-later _ _ _ _ _ (c .before .before .loop-test .taken) (c .before .name-of .ensures)
+          (c .if1 .left),
+      omega arith,
+    ))
     (λ c. sym (c .before .loop .inv .0 ∙ laws.entity-none _ _ _ _ (c .loop-test .left))))

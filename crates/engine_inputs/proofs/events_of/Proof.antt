@@ -35,6 +35,22 @@ events-of-spec =
     (λ c. search needs)
     (λ c.
     let c3 = c .before .before .before in
-    let c4 = c3 .before in
-    (table.one-more (event-from _ _) (c3 .loop .words) (c3 .loop .k) (c .event-word .result) (c3 .loop .inv .0) (omega (arith, c3 .loop .inv .1 .0, c .before .before .loop-test .taken, c4 .at-most .ensures .1)) (c .event-word .ensures), (length-set (c3 .loop .words) (c3 .loop .k) (c .event-word .result) ∙ c3 .loop .inv .1 .0, (omega (arith, c .before .before .loop-test .taken), laws.zeros-behind (c3 .loop .words) (c3 .loop .k) (c .event-word .result) (c3 .loop .inv .1 .1 .1)))))
-    (λ c. record { long = c .before .loop .inv .1 .0; words = λ k h. c .before .loop .inv .0 k (omega (arith, c .loop-test .left, c .before .before .at-most .ensures .0, h)); behind = λ k h. c .before .loop .inv .1 .1 .1 k (omega (arith, c .before .loop .inv .1 .1 .0, c .before .before .at-most .ensures .0, h)) }))
+    let c4 = c3 .before in (
+      table.one-more (event-from _ _) (c3 .loop .words) (c3 .loop .k) (c .event-word .result) (c3 .loop .inv .0)
+          (omega (arith, c3 .loop .inv .1 .0, c .before .before .loop-test .taken, c4 .at-most .ensures .1))
+          (c .event-word .ensures),
+      (
+        length-set (c3 .loop .words) (c3 .loop .k) (c .event-word .result) ∙ c3 .loop .inv .1 .0,
+        (
+          omega (arith, c .before .before .loop-test .taken),
+          laws.zeros-behind (c3 .loop .words) (c3 .loop .k) (c .event-word .result) (c3 .loop .inv .1 .1 .1),
+        ),
+      ),
+    ))
+    (λ c. record {
+      long = c .before .loop .inv .1 .0;
+      words =
+          λ k h. c .before .loop .inv .0 k (omega (arith, c .loop-test .left, c .before .before .at-most .ensures .0, h));
+      behind = λ k h. c .before .loop .inv .1 .1 .1 k
+          (omega (arith, c .before .loop .inv .1 .1 .0, c .before .before .at-most .ensures .0, h));
+    }))

@@ -18,10 +18,12 @@ input-part-spec =
     (λ c κs. search needs)
     (λ c.
     let c4 = c .before .before .before .before in
-    laws.part-entity _ _ _ (c4 .byte-at .ensures .0) (c .before .before .if2 .left) (c .before .if3 .taken) (c .two-at .ensures .0))
+    laws.part-entity _ _ _ (c4 .byte-at .ensures .0) (c .before .before .if2 .left) (c .before .if3 .taken)
+    (c .two-at .ensures .0))
     (λ c. search needs)
     (λ c κs. search needs)
     (λ c.
     let c3 = c .before .before .before in
     let c4 = c3 .before in
-    laws.part-value _ _ _ (c4 .byte-at .ensures .0) (c3 .if1 .left) (c .before .before .if2 .left) (c .before .if3 .left) (c .two-at2 .ensures .0)))
+    laws.part-value _ _ _ (c4 .byte-at .ensures .0) (c3 .if1 .left) (c .before .before .if2 .left) (c .before .if3 .left)
+    (c .two-at2 .ensures .0)))

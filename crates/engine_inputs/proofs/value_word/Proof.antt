@@ -16,5 +16,6 @@ value-word-spec =
     (λ c κs. search needs)
     (λ c. search needs)
     (λ c κs. search needs)
-    (λ c. laws.value-in _ _ _ _ (c .before .before .before .if1 .taken) (c .before .capped .ensures) (c .initial-at .ensures))
+    (λ c. laws.value-in _ _ _ _ (c .before .before .before .if1 .taken) (c .before .capped .ensures)
+    (c .initial-at .ensures))
     (λ c. laws.value-out _ _ _ _ (c .if1 .left)))

@@ -18,7 +18,10 @@ returns-3 c =
     let c22 = c18 .before .before .before .before in
     let c24 = c22 .before .before in
     let c31 = c24 .before .before .before .before .before .before .before in
-    states.moves (λ v n s. laws.with-taken (turn-withM _ _) (c22 .take .ensures) (c18 .t .given .1) (states.follow (processM _ _ _) (laws.taken _ _ _ _ (c22 .take .ensures) (search needs) (omega (arith, c31 .pre)) (omega (arith, c24 .if1 .left)) _ _ (c18 .t .given .1) (c16 .at-second .ensures)) (c8 .process .ensures .does v n s) both two two two))
+    states.moves (λ v n s. laws.with-taken (turn-withM _ _) (c22 .take .ensures) (c18 .t .given .1)
+    (states.follow (processM _ _ _) (laws.taken _ _ _ _ (c22 .take .ensures) (search needs) (omega (arith, c31 .pre))
+    (omega (arith, c24 .if1 .left)) _ _ (c18 .t .given .1) (c16 .at-second .ensures)) (c8 .process .ensures .does v n s)
+    both two two two))
 
 pub turn-spec : {M : Type 1} → statement M
 turn-spec =
@@ -26,7 +29,9 @@ turn-spec =
     (tie.spec
     (λ c.
     let c7 = c .before .before .before .before .before .before .before in
-    states.moves (λ v n s. laws.turn-empty _ _ (c .if1 .taken) (states.stay (λ k. refl) (same (omega (arith, c7 .pre))) (same (omega (arith, c7 .pre))) (same (omega (arith, c7 .pre))) (same (omega (arith, c7 .pre))))))
+    states.moves (λ v n s. laws.turn-empty _ _ (c .if1 .taken)
+    (states.stay (λ k. refl) (same (omega (arith, c7 .pre))) (same (omega (arith, c7 .pre)))
+    (same (omega (arith, c7 .pre))) (same (omega (arith, c7 .pre))))))
     (λ c κs. search needs)
     (λ c. search needs)
     (λ c. search needs)
@@ -35,9 +40,48 @@ turn-spec =
     let c4 = c .before .before .before .before in
     let c6 = c4 .before .before in
     let c13 = c6 .before .before .before .before .before .before .before in
-    states.moves (λ v n s. laws.never (c13 .args .st) _ _ _ (c4 .take .ensures) (search needs) (omega (arith, c13 .pre)) (omega (arith, c6 .if1 .left)) _ (c .enum-told .given .1) (omega (arith, c13 .pre)) (omega (arith, c13 .pre)) (omega (arith, c13 .pre))))
+    states.moves (λ v n s. laws.never (c13 .args .st) _ _ _ (c4 .take .ensures) (search needs) (omega (arith, c13 .pre))
+    (omega (arith, c6 .if1 .left)) _ (c .enum-told .given .1) (omega (arith, c13 .pre)) (omega (arith, c13 .pre))
+    (omega (arith, c13 .pre))))
     (λ c κs. omega (arith, c .before .before .before .before .before .before .before .if1 .left))
-    (λ c κs. (omega (arith, c .before .before .before .before .before .before .before .before .before .before .before .before .before .before .before .before .before .before .before .before .before .before .pre, ap (λ s. s .items) (c .before .before .before .before .before .before .before .at-second .ensures), ap (λ s. s .«queue_start») (c .before .before .before .before .before .before .before .at-second .ensures)), (omega (arith, c .before .before .before .before .before .before .before .before .before .before .before .before .before .before .before .before .before .before .before .before .before .before .pre, ap (λ s. s .records) (c .before .before .before .before .before .before .before .at-second .ensures)), (omega (arith, c .before .before .before .before .before .before .before .before .before .before .before .before .before .before .before .before .before .before .before .before .before .before .pre, ap (λ s. s .«live_runs») (c .before .before .before .before .before .before .before .at-second .ensures)), (omega (arith, c .before .before .before .before .before .before .before .before .before .before .before .before .before .before .before .before .before .before .before .before .before .before .pre, ap (λ s. s .reasons) (c .before .before .before .before .before .before .before .at-second .ensures)), omega (arith, c .before .before .before .before .before .before .before .before .before .before .before .before .before .before .before .before .before .before .before .before .before .before .pre))))))
+    (λ c κs. (
+      omega (
+        arith,
+        c .before .before .before .before .before .before .before .before .before .before .before .before .before
+            .before .before .before .before .before .before .before .before .before .pre,
+        ap (λ s. s .items) (c .before .before .before .before .before .before .before .at-second .ensures),
+        ap (λ s. s .«queue_start») (c .before .before .before .before .before .before .before .at-second .ensures),
+      ),
+      (
+        omega (
+          arith,
+          c .before .before .before .before .before .before .before .before .before .before .before .before .before .before
+              .before .before .before .before .before .before .before .before .pre,
+          ap (λ s. s .records) (c .before .before .before .before .before .before .before .at-second .ensures),
+        ),
+        (
+          omega (
+            arith,
+            c .before .before .before .before .before .before .before .before .before .before .before .before .before .before
+                .before .before .before .before .before .before .before .before .pre,
+            ap (λ s. s .«live_runs») (c .before .before .before .before .before .before .before .at-second .ensures),
+          ),
+          (
+            omega (
+              arith,
+              c .before .before .before .before .before .before .before .before .before .before .before .before .before .before
+                  .before .before .before .before .before .before .before .before .pre,
+              ap (λ s. s .reasons) (c .before .before .before .before .before .before .before .at-second .ensures),
+            ),
+            omega (
+              arith,
+              c .before .before .before .before .before .before .before .before .before .before .before .before .before .before
+                  .before .before .before .before .before .before .before .before .pre,
+            ),
+          ),
+        ),
+      ),
+    ))
     (λ c. search needs)
     (λ c. search needs)
     (λ c. search needs)

@@ -21,7 +21,10 @@ returns c =
     let c6 = c .before .before .before .before .before .before in
     let c10 = c6 .before .before .before .before in
     let c13 = c10 .before .before .before in
-    wholes.named (wholes.next {G = nowM _} (wholes.next (c10 .add-run .ensures) (c6 .log-rule .ensures) none two one none none none one) (wholes.named (c .before .before .next-step .ensures) (λ v n s k. refl)) two one one none none none one) (λ v n s k. laws.begin-now-is _ _ _ _ _ (c13 .new-run .ensures))
+    wholes.named
+    (wholes.next {G = nowM _} (wholes.next (c10 .add-run .ensures) (c6 .log-rule .ensures)
+    none two one none none none one) (wholes.named (c .before .before .next-step .ensures) (λ v n s k. refl))
+    two one one none none none one) (λ v n s k. laws.begin-now-is _ _ _ _ _ (c13 .new-run .ensures))
 
 pub begin-now-spec : {M : Type 1} → statement M
 begin-now-spec =

@@ -25,7 +25,10 @@ returns c =
     let c8 = c7 .before in
     let c9 = c8 .before in
     let c15 = c9 .before .before .before .before .before .before in
-    wholes.counted (carry-withM _ _ _) (c9 .count-runs .ensures) (wholes.part (c .before .before .log-rule .ensures) (wide (c15 .pre .1 .0)) same (wide (c15 .pre .1 .1 .1)) none apart apart lent (λ v n s k. laws.carry-is _ _ _ _ _ _ _ _ _ (c4 .enum-told .given .1) (c6 .decide .ensures) (c8 .rule-word .ensures) (c7 .rule-word2 .ensures)))
+    wholes.counted (carry-withM _ _ _) (c9 .count-runs .ensures)
+    (wholes.part (c .before .before .log-rule .ensures) (wide (c15 .pre .1 .0)) same (wide (c15 .pre .1 .1 .1))
+    none apart apart lent (λ v n s k. laws.carry-is _ _ _ _ _ _ _ _ _ (c4 .enum-told .given .1) (c6 .decide .ensures)
+    (c8 .rule-word .ensures) (c7 .rule-word2 .ensures)))
 
 returns-2 : tie.Need-returns-2
 unfolding carry-outM decidedM
@@ -36,7 +39,10 @@ returns-2 c =
     let c8 = c7 .before in
     let c9 = c8 .before in
     let c15 = c9 .before .before .before .before .before .before in
-    wholes.counted (carry-withM _ _ _) (c9 .count-runs .ensures) (wholes.part (c .before .before .log-rule2 .ensures) (wide (c15 .pre .1 .0)) same (wide (c15 .pre .1 .1 .1)) none apart apart lent (λ v n s k. laws.carry-is _ _ _ _ _ _ _ _ _ (c4 .enum-told2 .given .1) (c6 .decide .ensures) (c8 .rule-word .ensures) (c7 .rule-word2 .ensures)))
+    wholes.counted (carry-withM _ _ _) (c9 .count-runs .ensures)
+    (wholes.part (c .before .before .log-rule2 .ensures) (wide (c15 .pre .1 .0)) same (wide (c15 .pre .1 .1 .1))
+    none apart apart lent (λ v n s k. laws.carry-is _ _ _ _ _ _ _ _ _ (c4 .enum-told2 .given .1) (c6 .decide .ensures)
+    (c8 .rule-word .ensures) (c7 .rule-word2 .ensures)))
 
 returns-3 : tie.Need-returns-3
 unfolding carry-outM decidedM
@@ -47,7 +53,10 @@ returns-3 c =
     let c14 = c13 .before in
     let c15 = c14 .before in
     let c16 = c15 .before in
-    wholes.counted (carry-withM _ _ _) (c16 .count-runs .ensures) (wholes.part (c6 .begin-now .ensures) same same same none apart apart shared (λ v n s k. laws.carry-is _ _ _ _ _ _ _ _ _ (c11 .enum-told3 .given .1) (c13 .decide .ensures) (c15 .rule-word .ensures) (c14 .rule-word2 .ensures)))
+    wholes.counted (carry-withM _ _ _) (c16 .count-runs .ensures)
+    (wholes.part (c6 .begin-now .ensures) same same same none apart apart shared
+    (λ v n s k. laws.carry-is _ _ _ _ _ _ _ _ _ (c11 .enum-told3 .given .1) (c13 .decide .ensures)
+    (c15 .rule-word .ensures) (c14 .rule-word2 .ensures)))
 
 returns-4 : tie.Need-returns-4
 unfolding carry-outM decidedM
@@ -58,7 +67,10 @@ returns-4 c =
     let c14 = c13 .before in
     let c15 = c14 .before in
     let c16 = c15 .before in
-    wholes.counted (carry-withM _ _ _) (c16 .count-runs .ensures) (wholes.part (c6 .stop-and-start .ensures) same same same none apart apart shared (λ v n s k. laws.carry-is _ _ _ _ _ _ _ _ _ (c11 .enum-told4 .given .1) (c13 .decide .ensures) (c15 .rule-word .ensures) (c14 .rule-word2 .ensures)))
+    wholes.counted (carry-withM _ _ _) (c16 .count-runs .ensures)
+    (wholes.part (c6 .stop-and-start .ensures) same same same none apart apart shared
+    (λ v n s k. laws.carry-is _ _ _ _ _ _ _ _ _ (c11 .enum-told4 .given .1) (c13 .decide .ensures)
+    (c15 .rule-word .ensures) (c14 .rule-word2 .ensures)))
 
 returns-5 : tie.Need-returns-5
 unfolding carry-outM decidedM
@@ -70,7 +82,10 @@ returns-5 c =
     let c12 = c11 .before in
     let c13 = c12 .before in
     let c19 = c13 .before .before .before .before .before .before in
-    wholes.counted (carry-withM _ _ _) (c13 .count-runs .ensures) (wholes.part (c4 .begin-later .ensures) (wide (c19 .pre .1 .0)) same same none apart apart shared (λ v n s k. laws.carry-is _ _ _ _ _ _ _ _ _ (c8 .enum-told5 .given .1) (c10 .decide .ensures) (c12 .rule-word .ensures) (c11 .rule-word2 .ensures)))
+    wholes.counted (carry-withM _ _ _) (c13 .count-runs .ensures)
+    (wholes.part (c4 .begin-later .ensures) (wide (c19 .pre .1 .0)) same same none apart apart shared
+    (λ v n s k. laws.carry-is _ _ _ _ _ _ _ _ _ (c8 .enum-told5 .given .1) (c10 .decide .ensures)
+    (c12 .rule-word .ensures) (c11 .rule-word2 .ensures)))
 
 pub carry-out-spec : {M : Type 1} → statement M
 carry-out-spec =

@@ -29,13 +29,23 @@ returns-6 : tie.Need-returns-6
 unfolding decideM
 returns-6 c =
     let c3 = c .before .before .before in
-    rw (le-ltb _ _ (c3 .if1 .left), lt-leb _ _ (c .before .before .if4 .left), ne-eqb _ _ (c .before .if5 .left), eq-eqb _ _ (c .if6 .taken))
+    rw (
+      le-ltb _ _ (c3 .if1 .left),
+      lt-leb _ _ (c .before .before .if4 .left),
+      ne-eqb _ _ (c .before .if5 .left),
+      eq-eqb _ _ (c .if6 .taken),
+    )
 
 returns-7 : tie.Need-returns-7
 unfolding decideM
 returns-7 c =
     let c3 = c .before .before .before in
-    rw (le-ltb _ _ (c3 .if1 .left), lt-leb _ _ (c .before .before .if4 .left), ne-eqb _ _ (c .before .if5 .left), ne-eqb _ _ (c .if6 .left))
+    rw (
+      le-ltb _ _ (c3 .if1 .left),
+      lt-leb _ _ (c .before .before .if4 .left),
+      ne-eqb _ _ (c .before .if5 .left),
+      ne-eqb _ _ (c .if6 .left),
+    )
 
 pub decide-spec : {M : Type 1} → statement M
 decide-spec =

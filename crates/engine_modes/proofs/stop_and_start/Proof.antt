@@ -24,7 +24,9 @@ returns c =
     let c15 = c13 .before .before in
     let c18 = c15 .before .before .before in
     let c24 = c18 .before .before .before .before .before .before in
-    wholes.next (wholes.next (laws.dropped _ _ _ (c24 .pre .1 .1 .1) (search needs) _ _ _ (c18 .drop-runs .ensures) (c15 .with-active .ensures)) (c13 .log-rule .ensures) none two one none none none none) (c6 .begin-now .ensures) two both both none none none two
+    wholes.next (wholes.next (laws.dropped _ _ _ (c24 .pre .1 .1 .1) (search needs) _ _ _ (c18 .drop-runs .ensures)
+    (c15 .with-active .ensures)) (c13 .log-rule .ensures) none two one none none none none) (c6 .begin-now .ensures)
+    two both both none none none two
 
 pub stop-and-start-spec : {M : Type 1} → statement M
 stop-and-start-spec =
@@ -41,8 +43,23 @@ stop-and-start-spec =
     let c6 = c .before .before .before .before .before .before in
     let c8 = c6 .before .before in
     let c11 = c8 .before .before .before in
-    let c17 = c11 .before .before .before .before .before .before in
-    (c17 .pre .0, (laws.fits-as 5 _ (c6 .log-rule .ensures .queue ∙ ap (λ s. s .«queue_start» + s .items) (c8 .with-active .ensures)) (c17 .pre .1 .0), (c6 .log-rule .ensures .records .1, omega (arith, c17 .pre, ap (λ s. s .«live_runs») (c8 .with-active .ensures), c6 .log-rule .ensures .runs, c11 .drop-runs .ensures .room)))))
+    let c17 = c11 .before .before .before .before .before .before in (
+      c17 .pre .0,
+      (
+        laws.fits-as 5 _ (c6 .log-rule .ensures .queue ∙ ap (λ s. s .«queue_start» + s .items) (c8 .with-active .ensures))
+            (c17 .pre .1 .0),
+        (
+          c6 .log-rule .ensures .records .1,
+          omega (
+            arith,
+            c17 .pre,
+            ap (λ s. s .«live_runs») (c8 .with-active .ensures),
+            c6 .log-rule .ensures .runs,
+            c11 .drop-runs .ensures .room,
+          ),
+        ),
+      ),
+    ))
     (λ c. search needs)
     (λ c. search needs)
     (λ c. search needs)

@@ -15,13 +15,18 @@ note-at-spec =
     (λ c κs. search needs)
     (λ c. search needs)
     (λ c. search needs)
-    (λ c. record { is = sym (laws.note-is _ _ _ _ ∙ laws.by-broken _ _ _ _ _ (c .before .before .u16-at .ensures) (c .enum-told .given .1)); clean = λ t k. k })
+    (λ c. record {
+      is =
+          sym (laws.note-is _ _ _ _ ∙ laws.by-broken _ _ _ _ _ (c .before .before .u16-at .ensures) (c .enum-told .given .1));
+      clean = λ t k. k;
+    })
     (λ c κs. search needs)
     (λ c. search needs)
     (λ c.
     let c5 = c .before .before .before .before .before in
     let c7 = c5 .before .before in
     record {
-      is = sym (laws.note-is _ _ _ _ ∙ laws.by-is _ _ _ _ _ (c7 .u16-at .ensures) (c5 .x .given .1) ∙ laws.add-put _ _ _ _ _ (c .before .before .add-note .ensures .is));
+      is = sym (laws.note-is _ _ _ _ ∙ laws.by-is _ _ _ _ _ (c7 .u16-at .ensures) (c5 .x .given .1)
+          ∙ laws.add-put _ _ _ _ _ (c .before .before .add-note .ensures .is));
       clean = c .before .before .add-note .ensures .clean;
     }))

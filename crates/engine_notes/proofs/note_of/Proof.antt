@@ -8,4 +8,6 @@ use Rattle.engine_fields.proofs.note_reason.Reads as note-reason-reads
 use Rattle.engine_notes.proofs.id_note.Reads as id-note-reads
 
 pub note-of-spec : {M : Type 1} → statement M
-note-of-spec = tie.close (tie.spec (λ c κs. search needs) (λ c. laws.note-plain _ _ _ (c .before .if1 .taken) (c .note-reason .ensures)) (λ c κs. search needs) (λ c. laws.note-id _ _ _ (c .before .if1 .left) (c .id-note .ensures)))
+note-of-spec =
+    tie.close (tie.spec (λ c κs. search needs) (λ c. laws.note-plain _ _ _ (c .before .if1 .taken) (c .note-reason .ensures))
+    (λ c κs. search needs) (λ c. laws.note-id _ _ _ (c .before .if1 .left) (c .id-note .ensures)))

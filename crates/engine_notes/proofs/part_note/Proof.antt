@@ -22,12 +22,24 @@ part-note-spec =
     (λ c. search needs)
     (λ c.
     let c4 = c .before .before .before .before in
-    record { is = c .before .before .note-at .ensures .is ∙ sym (laws.part-note _ _ _ _ (c4 .enum-told .given .1)); clean = c .before .before .note-at .ensures .clean })
+    record {
+      is = c .before .before .note-at .ensures .is ∙ sym (laws.part-note _ _ _ _ (c4 .enum-told .given .1));
+      clean =
+          c .before .before .note-at .ensures .clean;
+    })
     (λ c. search needs)
     (λ c.
     let c4 = c .before .before .before .before in
-    record { is = c .before .before .trigger-note .ensures .is ∙ sym (laws.part-trigger _ _ _ _ (c4 .enum-told2 .given .1)); clean = c .before .before .trigger-note .ensures .clean })
+    record {
+      is = c .before .before .trigger-note .ensures .is ∙ sym (laws.part-trigger _ _ _ _ (c4 .enum-told2 .given .1));
+      clean = c .before .before .trigger-note .ensures .clean;
+    })
     (λ c. search needs)
     (λ c.
     let c4 = c .before .before .before .before in
-    record { is = c .before .before .predicate-note .ensures .is ∙ sym (laws.part-predicate _ _ _ _ (c4 .enum-told3 .given .1)); clean = c .before .before .predicate-note .ensures .clean }))
+    record {
+      is = c .before .before .predicate-note .ensures .is
+          ∙ sym (laws.part-predicate _ _ _ _ (c4 .enum-told3 .given .1));
+      clean =
+          c .before .before .predicate-note .ensures .clean;
+    }))

@@ -7,4 +7,5 @@ use Rattle.engine_notes.proofs.skip.Reads as reads
 use Rattle.engine_notes.proofs.skip.Lts as lts
 
 pub skip-spec : {M : Type 1} → statement M
-skip-spec = tie.close (tie.spec (λ c. laws.skip-out _ _ _ (omega arith)) (λ c. search needs) (λ c. laws.skip-out _ _ _ (omega arith)) (λ c. search needs) (λ c. laws.skip-in _ _ _ (omega arith)))
+skip-spec = tie.close (tie.spec (λ c. laws.skip-out _ _ _ (omega arith)) (λ c. search needs)
+    (λ c. laws.skip-out _ _ _ (omega arith)) (λ c. search needs) (λ c. laws.skip-in _ _ _ (omega arith)))

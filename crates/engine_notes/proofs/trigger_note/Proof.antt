@@ -11,4 +11,8 @@ use Rattle.engine_notes.proofs.skip.Reads as skip-reads
 pub trigger-note-spec : {M : Type 1} → statement M
 trigger-note-spec = tie.close (tie.spec (λ c κs. search needs) (λ c κs. search needs) (λ c. search needs) (λ c.
     let c4 = c .before .before .before .before in
-    record { is = c .before .before .note-at .ensures .is ∙ laws.skip-then _ _ _ _ _ (c4 .skip .ensures) ∙ sym (laws.trigger-is _ _ _ _); clean = c .before .before .note-at .ensures .clean }))
+    record {
+      is = c .before .before .note-at .ensures .is ∙ laws.skip-then _ _ _ _ _ (c4 .skip .ensures)
+          ∙ sym (laws.trigger-is _ _ _ _);
+      clean = c .before .before .note-at .ensures .clean;
+    }))

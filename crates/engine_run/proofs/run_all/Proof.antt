@@ -12,9 +12,20 @@ run-all-spec =
     (λ c κs. search needs)
     (λ c κs.
     let c11 = c .before .before .before .before .before .before .before .before .before .before .before in
-    let c21 = c11 .before .before .before .before .before .before .before .before .before .before in
-    (omega (arith, c11 .begun .ensures .queue), (omega (arith, c11 .begun .ensures .records), (omega (arith, c21 .pre, c11 .begun .ensures .runs), (omega (arith, c21 .pre, c11 .begun .ensures .reasons), omega (arith, c21 .pre))))))
-    (λ c κs. omega (arith, c .before .before .before .before .before .before .before .before .before .run-loop .ensures .records))
+    let c21 = c11 .before .before .before .before .before .before .before .before .before .before in (
+      omega (arith, c11 .begun .ensures .queue),
+      (
+        omega (arith, c11 .begun .ensures .records),
+        (
+          omega (arith, c21 .pre, c11 .begun .ensures .runs),
+          (omega (arith, c21 .pre, c11 .begun .ensures .reasons), omega (arith, c21 .pre)),
+        ),
+      ),
+    ))
+    (λ c κs. omega (
+      arith,
+      c .before .before .before .before .before .before .before .before .before .run-loop .ensures .records,
+    ))
     (λ c.
     let c12 = c .before .before .before .before .before .before .before .before .before .before .before .before in
     let c24 = c12 .before .before .before .before .before .before .before .before .before .before .before .before in
@@ -23,8 +34,10 @@ run-all-spec =
     let c12 = c .before .before .before .before .before .before .before .before .before .before .before .before in
     let c24 = c12 .before .before .before .before .before .before .before .before .before .before .before .before in
     c .before .before .closed .ensures .records .0 ∙ c12 .run-loop .ensures .records .0 ∙ c24 .begun .ensures .records .0)
-    (λ c. c .before .before .before .before .before .before .before .before .before .before .before .before .run-loop .ensures .runs .0)
-    (λ c. c .before .before .before .before .before .before .before .before .before .before .before .before .run-loop .ensures .reasons .0)
+    (λ c. c .before .before .before .before .before .before .before .before .before .before .before .before .run-loop
+    .ensures .runs .0)
+    (λ c. c .before .before .before .before .before .before .before .before .before .before .before .before .run-loop
+    .ensures .reasons .0)
     (λ c.
     let c12 = c .before .before .before .before .before .before .before .before .before .before .before .before in
     let c24 = c12 .before .before .before .before .before .before .before .before .before .before .before .before in

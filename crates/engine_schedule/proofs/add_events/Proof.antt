@@ -21,12 +21,24 @@ add-events-spec =
     (tie.spec
     Inv-loop
     μ-loop
-    (λ c. (states.moves (λ v n s. states.stay (λ k. laws.events-none _ _) (same (omega (arith, c .before .before .pre))) none none none), omega arith))
-    (λ c κs. (omega (arith, c .before .before .before .before .before .pre), omega (arith, c .before .before .loop .inv .0 .queue)))
+    (λ c. (
+      states.moves (λ v n s. states.stay (λ k. laws.events-none _ _) (same (omega (arith, c .before .before .pre)))
+          none none none),
+      omega arith,
+    ))
+    (λ c κs. (
+      omega (arith, c .before .before .before .before .before .pre),
+      omega (arith, c .before .before .loop .inv .0 .queue),
+    ))
     (λ c. search needs)
     (λ c. search needs)
     (λ c.
-    let c5 = c .before .before .before .before .before in
-    (states.moves (λ v n s. states.renamed _ (states.follow (add-eventM _ _) (c5 .loop .inv .0 .does _ _ _) (c .before .before .add-event .ensures .does _ _ _) both none none none) (λ k. laws.events-more _ _ _)), omega arith))
+    let c5 = c .before .before .before .before .before in (
+      states.moves
+          (λ v n s. states.renamed _ (states.follow (add-eventM _ _) (c5 .loop .inv .0 .does _ _ _)
+          (c .before .before .add-event .ensures .does _ _ _) both none none none) (λ k. laws.events-more _ _ _)),
+      omega arith,
+    ))
     (λ c. search needs)
-    (λ c. states.moves (λ v n s. states.renamed _ (c .before .loop .inv .0 .does _ _ _) (λ k. laws.events-all _ _ _ _ (omega arith)))))
+    (λ c. states.moves (λ v n s. states.renamed _ (c .before .loop .inv .0 .does _ _ _)
+    (λ k. laws.events-all _ _ _ _ (omega arith)))))

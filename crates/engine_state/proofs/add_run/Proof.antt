@@ -27,9 +27,11 @@ add-run-spec =
     let c5 = c3 .before .before in
     let c7 = c5 .before .before in
     let c8 = c7 .before in
-    laws.moves (λ v n s. laws.run-added _ _ _ _ _ _ (c3 .push-run .ensures) (c8 .if1 .left) (search needs) _ _ (c7 .more-than .ensures) (c5 .more-than2 .ensures) (c .if2 .taken)))
+    laws.moves (λ v n s. laws.run-added _ _ _ _ _ _ (c3 .push-run .ensures) (c8 .if1 .left) (search needs) _ _
+    (c7 .more-than .ensures) (c5 .more-than2 .ensures) (c .if2 .taken)))
     (λ c. search needs)
     (λ c.
     let c3 = c .before .before .before in
     let c8 = c3 .before .before .before .before .before in
-    laws.moves (λ v n s. laws.run-refused _ _ _ _ _ _ (c3 .push-run .ensures) (c8 .if1 .left) (search needs) (omega arith) (c .if2 .left))))
+    laws.moves (λ v n s. laws.run-refused _ _ _ _ _ _ (c3 .push-run .ensures) (c8 .if1 .left) (search needs) (omega arith)
+    (c .if2 .left))))

@@ -26,5 +26,11 @@ first-values-spec =
     (λ c. omega (arith, c .loop-test .taken, c .before .loop .inv .1 .1))
     (λ c. search needs)
     (λ c. search needs)
-    (λ c. (laws.firsts-more _ (c .before .loop .places) (c .before .loop .e) _ (c .before .loop .inv .0) (omega (arith, c .loop-test .taken, c .before .loop .inv .1 .1)) refl, (omega arith, c .before .loop .inv .1 .1)))
-    (λ c. let z : c .before .loop .e ≡ c .before .before .args .n = omega (arith, c .loop-test .left, c .before .loop .inv .1 .0) in subst (λ (k : ℕ). Firsts (c .before .before .args .t1) k (c .before .loop .places)) z (c .before .loop .inv .0)))
+    (λ c. (
+      laws.firsts-more _ (c .before .loop .places) (c .before .loop .e) _ (c .before .loop .inv .0)
+          (omega (arith, c .loop-test .taken, c .before .loop .inv .1 .1)) refl,
+      (omega arith, c .before .loop .inv .1 .1),
+    ))
+    (λ c. let z : c .before .loop .e ≡ c .before .before .args .n =
+    omega (arith, c .loop-test .left, c .before .loop .inv .1 .0) in
+    subst (λ (k : ℕ). Firsts (c .before .before .args .t1) k (c .before .loop .places)) z (c .before .loop .inv .0)))

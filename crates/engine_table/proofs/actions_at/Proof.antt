@@ -10,4 +10,6 @@ use Rattle.model_walk.proofs.pieces_at.Reads as pieces-at-reads
 
 pub actions-at-spec : {M : Type 1} → statement M
 actions-at-spec =
-    tie.close (tie.spec (λ c κs. search needs) (λ c κs. search needs) (λ c κs. search needs) (λ c. laws.actions-are _ _ _ (c .before .before .conditions-at .ensures .0) (c .before .pieces-at .ensures) (c .end-of .ensures)))
+    tie.close (tie.spec (λ c κs. search needs) (λ c κs. search needs) (λ c κs. search needs)
+    (λ c. laws.actions-are _ _ _ (c .before .before .conditions-at .ensures .0) (c .before .pieces-at .ensures)
+    (c .end-of .ensures)))

@@ -10,4 +10,5 @@ use Rattle.engine_fields.proofs.two_at.Reads as two-at-reads
 pub conditions-at-spec : {M : Type 1} → statement M
 conditions-at-spec =
     tie.close
-    (tie.spec (λ c. search needs) (λ c κs. search needs) (λ c. search needs) (λ c. search needs) (λ c. search needs) (λ c. search needs) (λ c. (laws.conditions-are _ _ (c .two-at .ensures .0), omega (arith, c .two-at .ensures .1))))
+    (tie.spec (λ c. search needs) (λ c κs. search needs) (λ c. search needs) (λ c. search needs) (λ c. search needs)
+    (λ c. search needs) (λ c. (laws.conditions-are _ _ (c .two-at .ensures .0), omega (arith, c .two-at .ensures .1))))

@@ -12,7 +12,8 @@ use Rattle.engine_table.proofs.headed.Lts as lts
 use Rattle.engine_table.proofs.head_word.Reads as head-word-reads
 
 abbrev Inv-loop : tie.InvT-loop
-Inv-loop s index words₀ k₀ words k = ((j : ℕ) → j < k → getD words j 0 ≡ head-word s index j) × ((length words ≡ 436) × (k ≤ 16))
+Inv-loop s index words₀ k₀ words k = ((j : ℕ) → j < k → getD words j 0 ≡ head-word s index j)
+    × ((length words ≡ 436) × (k ≤ 16))
 
 abbrev μ-loop : tie.MeasureT-loop
 μ-loop s index words₀ k₀ words k = 16 - k
@@ -29,5 +30,18 @@ headed-spec =
     (λ c. search needs)
     (λ c. search needs)
     (λ c. search needs)
-    (λ c. (laws.one-more (head-word _ _) (c .before .before .loop .words) (c .before .before .loop .k) (c .head-word .result) (c .before .before .loop .inv .0) (omega (arith, c .before .before .loop .inv .1 .0, c .before .loop-test .taken)) (c .head-word .ensures), (length-set (c .before .before .loop .words) (c .before .before .loop .k) (c .head-word .result) ∙ c .before .before .loop .inv .1 .0, omega arith)))
-    (λ c. record { long = c .before .loop .inv .1 .0; words = λ k h. c .before .loop .inv .0 k (omega (arith, c .loop-test .left)) }))
+    (λ c. (
+      laws.one-more (head-word _ _) (c .before .before .loop .words) (c .before .before .loop .k) (c .head-word .result)
+          (c .before .before .loop .inv .0) (omega (arith, c .before .before .loop .inv .1 .0, c .before .loop-test .taken))
+          (c .head-word .ensures),
+      (
+        length-set (c .before .before .loop .words) (c .before .before .loop .k) (c .head-word .result)
+            ∙ c .before .before .loop .inv .1 .0,
+        omega arith,
+      ),
+    ))
+    (λ c. record {
+      long = c .before .loop .inv .1 .0;
+      words =
+          λ k h. c .before .loop .inv .0 k (omega (arith, c .loop-test .left));
+    }))

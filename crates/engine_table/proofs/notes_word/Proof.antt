@@ -11,4 +11,6 @@ use Rattle.engine_table.proofs.source_at.Reads as source-at-reads
 
 pub notes-word-spec : {M : Type 1} → statement M
 notes-word-spec =
-    tie.close (tie.spec (λ c κs. search needs) (λ c. laws.cap-far _ _ (c .before .source-at .ensures) (c .if1 .taken)) (λ c. search needs) (λ c κs. search needs) (λ c. c .capped .ensures ∙ ap (λ p. Rattle.engine_fields.specs.Fields.cap (p + 8)) (c .before .before .source-at .ensures)))
+    tie.close (tie.spec (λ c κs. search needs) (λ c. laws.cap-far _ _ (c .before .source-at .ensures) (c .if1 .taken))
+    (λ c. search needs) (λ c κs. search needs) (λ c. c .capped .ensures
+    ∙ ap (λ p. Rattle.engine_fields.specs.Fields.cap (p + 8)) (c .before .before .source-at .ensures)))

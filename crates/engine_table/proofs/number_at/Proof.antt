@@ -8,4 +8,6 @@ use Rattle.engine_fields.proofs.capped.Reads as capped-reads
 use Rattle.engine_fields.proofs.four_at.Reads as four-at-reads
 
 pub number-at-spec : {M : Type 1} → statement M
-number-at-spec = tie.close (tie.spec (λ c κs. search needs) (λ c. search needs) (λ c. search needs) (λ c κs. search needs) (λ c. laws.number-is _ _ _ (c .before .capped .ensures) (c .four-at .ensures)))
+number-at-spec =
+    tie.close (tie.spec (λ c κs. search needs) (λ c. search needs) (λ c. search needs) (λ c κs. search needs)
+    (λ c. laws.number-is _ _ _ (c .before .capped .ensures) (c .four-at .ensures)))

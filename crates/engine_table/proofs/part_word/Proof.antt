@@ -20,7 +20,8 @@ part-word-spec =
     (λ c κs. search needs)
     (λ c. search needs)
     (λ c κs. search needs)
-    (λ c. c .two-at .ensures .0 ∙ sym (laws.part-name _ _ _ _ _ (c .before .before .before .if1 .taken) (c .before .capped .ensures)))
+    (λ c. c .two-at .ensures .0
+    ∙ sym (laws.part-name _ _ _ _ _ (c .before .before .before .if1 .taken) (c .before .capped .ensures)))
     (λ c. search needs)
     (λ c. search needs)
     (λ c κs. search needs)

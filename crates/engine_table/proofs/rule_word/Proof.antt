@@ -31,13 +31,16 @@ rule-word-spec =
     (λ c. c .capped .ensures ∙ sym (laws.word-3 _ _ _ _ (c .before .if4 .taken)))
     (λ c κs. search needs)
     (λ c κs. search needs)
-    (λ c. c .capped2 .ensures ∙ ap Rattle.engine_fields.specs.Fields.cap (c .before .conditions-at .ensures .0) ∙ sym (laws.word-4 _ _ _ _ (c .before .before .if5 .taken)))
+    (λ c. c .capped2 .ensures ∙ ap Rattle.engine_fields.specs.Fields.cap (c .before .conditions-at .ensures .0)
+    ∙ sym (laws.word-4 _ _ _ _ (c .before .before .if5 .taken)))
     (λ c κs. search needs)
     (λ c κs. search needs)
-    (λ c. c .capped3 .ensures ∙ ap Rattle.engine_fields.specs.Fields.cap (c .before .actions-at .ensures) ∙ sym (laws.word-5 _ _ _ _ (c .before .before .if6 .taken)))
+    (λ c. c .capped3 .ensures ∙ ap Rattle.engine_fields.specs.Fields.cap (c .before .actions-at .ensures)
+    ∙ sym (laws.word-5 _ _ _ _ (c .before .before .if6 .taken)))
     (λ c κs. search needs)
     (λ c κs. search needs)
-    (λ c. c .capped4 .ensures ∙ ap Rattle.engine_fields.specs.Fields.cap (c .before .source-at .ensures) ∙ sym (laws.word-6 _ _ _ _ (c .before .before .if7 .taken)))
+    (λ c. c .capped4 .ensures ∙ ap Rattle.engine_fields.specs.Fields.cap (c .before .source-at .ensures)
+    ∙ sym (laws.word-6 _ _ _ _ (c .before .before .if7 .taken)))
     (λ c κs. search needs)
     (λ c.
     let c3 = c .before .before .before in
@@ -45,4 +48,6 @@ rule-word-spec =
     let c5 = c4 .before in
     let c6 = c5 .before in
     let c7 = c6 .before in
-    c .notes-word .ensures ∙ sym (laws.word-else _ _ _ _ (c7 .if1 .left) (c6 .if2 .left) (c5 .if3 .left) (c4 .if4 .left) (c3 .if5 .left) (c .before .before .if6 .left) (c .before .if7 .left))))
+    c .notes-word .ensures
+    ∙ sym (laws.word-else _ _ _ _ (c7 .if1 .left) (c6 .if2 .left) (c5 .if3 .left) (c4 .if4 .left) (c3 .if5 .left)
+    (c .before .before .if6 .left) (c .before .if7 .left))))

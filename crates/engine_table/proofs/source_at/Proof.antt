@@ -10,4 +10,6 @@ use Rattle.model_walk.proofs.actions_at.Reads as actions-at-reads′
 
 pub source-at-spec : {M : Type 1} → statement M
 source-at-spec =
-    tie.close (tie.spec (λ c κs. search needs) (λ c κs. search needs) (λ c κs. search needs) (λ c. laws.source-is _ _ _ (c .before .before .actions-at .ensures) (c .before .actions-at2 .ensures) (c .end-of .ensures)))
+    tie.close (tie.spec (λ c κs. search needs) (λ c κs. search needs) (λ c κs. search needs)
+    (λ c. laws.source-is _ _ _ (c .before .before .actions-at .ensures) (c .before .actions-at2 .ensures)
+    (c .end-of .ensures)))

@@ -13,7 +13,9 @@ use Rattle.engine_table.proofs.headed.Reads as headed-reads
 use Rattle.engine_table.proofs.part_word.Reads as part-word-reads
 
 abbrev Inv-loop : tie.InvT-loop
-Inv-loop s names rules count n words₀ k₀ words k = ((j : ℕ) → j < k → getD words j 0 ≡ laws.so-far count s names rules words₀ j) × ((length words ≡ 436) × ((16 ≤ k) × (k ≤ 80 + n * 8)))
+Inv-loop s names rules count n words₀ k₀ words k =
+    ((j : ℕ) → j < k → getD words j 0 ≡ laws.so-far count s names rules words₀ j)
+    × ((length words ≡ 436) × ((16 ≤ k) × (k ≤ 80 + n * 8)))
 
 abbrev μ-loop : tie.MeasureT-loop
 μ-loop s names rules count n words₀ k₀ words k = 80 + n * 8 - k
@@ -44,9 +46,19 @@ table-of-spec =
     (λ c.
     let c3 = c .before .before .before in
     let c4 = c3 .before in
-    let c7 = c4 .before .before .before in
-    (laws.one-more (laws.so-far _ _ _ _ _) (c4 .loop .words) (c4 .loop .k) (c .part-word .result) (c4 .loop .inv .0) (omega (arith, c4 .loop .inv .1 .0, c3 .loop-test .taken, c7 .at-most .ensures .1)) (c .part-word .ensures ∙ laws.so-high _ _ _ _ _ _ (c4 .loop .inv .1 .1 .0)), (length-set (c4 .loop .words) (c4 .loop .k) (c .part-word .result) ∙ c4 .loop .inv .1 .0, (omega (arith, c4 .loop .inv .1 .1 .0), omega (arith, c3 .loop-test .taken)))))
+    let c7 = c4 .before .before .before in (
+      laws.one-more (laws.so-far _ _ _ _ _) (c4 .loop .words) (c4 .loop .k) (c .part-word .result) (c4 .loop .inv .0)
+          (omega (arith, c4 .loop .inv .1 .0, c3 .loop-test .taken, c7 .at-most .ensures .1))
+          (c .part-word .ensures ∙ laws.so-high _ _ _ _ _ _ (c4 .loop .inv .1 .1 .0)),
+      (
+        length-set (c4 .loop .words) (c4 .loop .k) (c .part-word .result) ∙ c4 .loop .inv .1 .0,
+        (omega (arith, c4 .loop .inv .1 .1 .0), omega (arith, c3 .loop-test .taken)),
+      ),
+    ))
     (λ c.
     let c3 = c .before .before .before in
     let c4 = c3 .before in
-    record { words = λ k h. c .before .loop .inv .0 k (omega (arith, c .loop-test .left, c4 .at-most .ensures .0, h)) ∙ laws.so-table _ _ _ (c3 .headed .ensures) k }))
+    record {
+      words = λ k h. c .before .loop .inv .0 k (omega (arith, c .loop-test .left, c4 .at-most .ensures .0, h))
+          ∙ laws.so-table _ _ _ (c3 .headed .ensures) k;
+    }))

@@ -26,7 +26,11 @@ returns c =
     let c14 = c11 .before .before .before in
     let c16 = c14 .before .before in
     let c21 = c16 .before .before .before .before .before in
-    laws.ran (finish-runM _) (c16 .run-at .ensures) (c21 .pre .0) (wholes.next (wholes.next (laws.removed _ _ _ (c21 .pre .1 .1 .1) (search needs) _ _ (c14 .take-run .ensures) (c11 .with-active .ensures) (c21 .pre .0)) (c9 .log-rule .ensures) none two one none none none none) (c4 .release .ensures) two one both none none none none)
+    laws.ran (finish-runM _) (c16 .run-at .ensures) (c21 .pre .0)
+    (wholes.next
+    (wholes.next (laws.removed _ _ _ (c21 .pre .1 .1 .1) (search needs) _ _ (c14 .take-run .ensures)
+    (c11 .with-active .ensures) (c21 .pre .0)) (c9 .log-rule .ensures) none two one none none none none)
+    (c4 .release .ensures) two one both none none none none)
 
 pub finish-spec : {M : Type 1} → statement M
 finish-spec =
@@ -42,8 +46,16 @@ finish-spec =
     (λ c κs.
     let c4 = c .before .before .before .before in
     let c6 = c4 .before .before in
-    let c16 = c6 .before .before .before .before .before .before .before .before .before .before in
-    (omega (arith, c16 .pre, ap (λ s. s .items) (c6 .with-active .ensures), ap (λ s. s .«queue_start») (c6 .with-active .ensures), c4 .log-rule .ensures .queue), omega (arith, c16 .pre, ap (λ s. s .«live_runs») (c6 .with-active .ensures), c4 .log-rule .ensures .runs)))
+    let c16 = c6 .before .before .before .before .before .before .before .before .before .before in (
+      omega (
+        arith,
+        c16 .pre,
+        ap (λ s. s .items) (c6 .with-active .ensures),
+        ap (λ s. s .«queue_start») (c6 .with-active .ensures),
+        c4 .log-rule .ensures .queue,
+      ),
+      omega (arith, c16 .pre, ap (λ s. s .«live_runs») (c6 .with-active .ensures), c4 .log-rule .ensures .runs),
+    ))
     (λ c. search needs)
     (λ c. search needs)
     (λ c. search needs)

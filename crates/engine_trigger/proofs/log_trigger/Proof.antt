@@ -18,7 +18,13 @@ returns c =
     let c5 = c4 .before in
     let c6 = c5 .before in
     let c7 = c6 .before in
-    states.moves (λ v n s. states.renamed _ (c .before .before .log .ensures .does _ _ _) (λ k. rw (← (c7 .rule-word .ensures), ← (c6 .four-at .ensures), ← (c5 .four-at2 .ensures), ← (c4 .number-of .ensures))))
+    states.moves (λ v n s. states.renamed _ (c .before .before .log .ensures .does _ _ _)
+    (λ k. rw (
+      ← (c7 .rule-word .ensures),
+      ← (c6 .four-at .ensures),
+      ← (c5 .four-at2 .ensures),
+      ← (c4 .number-of .ensures),
+    )))
 
 pub log-trigger-spec : {M : Type 1} → statement M
 log-trigger-spec =

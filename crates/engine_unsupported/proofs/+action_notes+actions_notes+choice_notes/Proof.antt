@@ -73,13 +73,18 @@ choice-notes-below t =
     choice-notes.Pre
 
 abbrev actions-notes-Inv-loop : actions-notes-lts.InvT-loop
-actions-notes-Inv-loop f u₀ left at n count start i₀ p₀ k₀ u i p k = ((length u ≡ length u₀) × (HasText f → Clean f n u₀ → Clean f k u)) × (actionsM left f at (listed f n u₀) ≡ timesM i (actionM (actionsM (left - 1))) f p (listed f k u))
+actions-notes-Inv-loop f u₀ left at n count start i₀ p₀ k₀ u i p k =
+    ((length u ≡ length u₀) × (HasText f → Clean f n u₀ → Clean f k u))
+    × (actionsM left f at (listed f n u₀) ≡ timesM i (actionM (actionsM (left - 1))) f p (listed f k u))
 
 abbrev actions-notes-μ-loop : actions-notes-lts.MeasureT-loop
 actions-notes-μ-loop f u₀ left at n count start i₀ p₀ k₀ u i p k = i
 
 abbrev choice-notes-Inv-loop : choice-notes-lts.InvT-loop
-choice-notes-Inv-loop f u₀ left at n count start i₀ p₀ k₀ u i p k = ((length u ≡ length u₀) × (HasText f → Clean f n u₀ → Clean f k u)) × (choiceM (actionsM left) f at (listed f n u₀) ≡ (timesM i (branchM (actionsM left)) ⨾ actionsM left) f p (listed f k u))
+choice-notes-Inv-loop f u₀ left at n count start i₀ p₀ k₀ u i p k =
+    ((length u ≡ length u₀) × (HasText f → Clean f n u₀ → Clean f k u))
+    × (choiceM (actionsM left) f at (listed f n u₀) ≡ (timesM i (branchM (actionsM left)) ⨾ actionsM left) f p
+    (listed f k u))
 
 abbrev choice-notes-μ-loop : choice-notes-lts.MeasureT-loop
 choice-notes-μ-loop f u₀ left at n count start i₀ p₀ k₀ u i p k = i
@@ -102,13 +107,23 @@ pub +action-notes+actions-notes+choice-notes-spec : {M : Type 1} → statement M
     (λ c.
     let c4 = c .before .before .before .before in
     let c5 = c4 .before in
-    record { is = c .before .before .choice-notes .ensures .is ∙ sym (laws.action-is _ _ _ _ _ (c5 .head-at .ensures) ∙ laws.effect-choice _ _ _ _ _ (c4 .if1 .taken)); clean = c .before .before .choice-notes .ensures .clean })
+    record {
+      is = c .before .before .choice-notes .ensures .is
+          ∙ sym (laws.action-is _ _ _ _ _ (c5 .head-at .ensures) ∙ laws.effect-choice _ _ _ _ _ (c4 .if1 .taken));
+      clean =
+          c .before .before .choice-notes .ensures .clean;
+    })
     (λ c κs. search needs)
     (λ c. search needs)
     (λ c.
     let c4 = c .before .before .before .before in
     let c5 = c4 .before in
-    record { is = c .before .before .simple-note .ensures .is ∙ sym (laws.action-is _ _ _ _ _ (c5 .head-at .ensures) ∙ laws.effect-simple _ _ _ _ _ (c4 .if1 .left)); clean = c .before .before .simple-note .ensures .clean }))
+    record {
+      is = c .before .before .simple-note .ensures .is
+          ∙ sym (laws.action-is _ _ _ _ _ (c5 .head-at .ensures) ∙ laws.effect-simple _ _ _ _ _ (c4 .if1 .left));
+      clean =
+          c .before .before .simple-note .ensures .clean;
+    }))
     (λ t. actions-notes-lts.spec (
       u16-at-reads.Asked,
       u16-at-reads.Learnt,
@@ -125,21 +140,36 @@ pub +action-notes+actions-notes+choice-notes-spec : {M : Type 1} → statement M
     (λ c. search needs)
     (λ c.
     let c3 = c .before .before .before in
-    record { is = sym (laws.actions-more _ _ _ _ (c3 .if1 .left) ∙ notes.by-broken _ _ _ _ _ (c .before .before .u16-at .ensures) (c .enum-told .given .1)); clean = λ t k. k })
+    record {
+      is = sym (laws.actions-more _ _ _ _ (c3 .if1 .left)
+          ∙ notes.by-broken _ _ _ _ _ (c .before .before .u16-at .ensures) (c .enum-told .given .1));
+      clean = λ t k. k;
+    })
     (λ c.
     let c3 = c .before .before .before in
-    let c4 = c3 .before in
-    ((refl, λ t k. k), laws.actions-more _ _ _ _ (c4 .if1 .left) ∙ notes.by-is _ _ _ _ _ (c3 .u16-at .ensures) (c .before .x .given .1)))
+    let c4 = c3 .before in (
+      (refl, λ t k. k),
+      laws.actions-more _ _ _ _ (c4 .if1 .left)
+          ∙ notes.by-is _ _ _ _ _ (c3 .u16-at .ensures) (c .before .x .given .1),
+    ))
     (λ c. search needs)
     (λ c κs. search needs)
     (λ c. search needs)
     (λ c. search needs)
     (λ c.
     let c4 = c .before .before .before .before in
-    let c5 = c4 .before in
-    ((search needs, λ t k. c .before .before .action-notes .ensures .clean t (c5 .loop .inv .0 .1 t k)), c5 .loop .inv .1 ∙ notes.times-more _ _ _ _ _ (c4 .loop-test .taken) ∙ notes.to _ _ _ _ _ _ _ (c .before .before .action-notes .ensures .is)))
+    let c5 = c4 .before in (
+      (search needs, λ t k. c .before .before .action-notes .ensures .clean t (c5 .loop .inv .0 .1 t k)),
+      c5 .loop .inv .1
+          ∙ notes.times-more _ _ _ _ _ (c4 .loop-test .taken)
+          ∙ notes.to _ _ _ _ _ _ _ (c .before .before .action-notes .ensures .is),
+    ))
     (λ c. search needs)
-    (λ c. record { is = sym (c .before .loop .inv .1 ∙ notes.times-none _ _ _ _ _ (c .loop-test .left)); clean = c .before .loop .inv .0 .1 }))
+    (λ c. record {
+      is = sym (c .before .loop .inv .1 ∙ notes.times-none _ _ _ _ _ (c .loop-test .left));
+      clean =
+          c .before .loop .inv .0 .1;
+    }))
     λ t. choice-notes-lts.spec (
       u16-at-reads.Asked,
       u16-at-reads.Learnt,
@@ -155,7 +185,10 @@ pub +action-notes+actions-notes+choice-notes-spec : {M : Type 1} → statement M
     (λ c κs. search needs)
     (λ c. search needs)
     (λ c. search needs)
-    (λ c. record { is = sym (notes.by-broken _ _ _ _ _ (c .before .before .u16-at .ensures) (c .enum-told .given .1)); clean = λ t k. k })
+    (λ c. record {
+      is = sym (notes.by-broken _ _ _ _ _ (c .before .before .u16-at .ensures) (c .enum-told .given .1));
+      clean = λ t k. k;
+    })
     (λ c. ((refl, λ t k. k), notes.by-is _ _ _ _ _ (c .before .before .before .u16-at .ensures) (c .before .x .given .1)))
     (λ c κs. search needs)
     (λ c κs. search needs)
@@ -164,14 +197,24 @@ pub +action-notes+actions-notes+choice-notes-spec : {M : Type 1} → statement M
     (λ c.
     let c6 = c .before .before .before .before .before .before in
     let c8 = c6 .before .before in
-    let c9 = c8 .before in
-    ((search needs, λ t k. c .before .before .actions-notes .ensures .clean t (c6 .part-notes .ensures .clean t (c9 .loop .inv .0 .1 t k))), c9 .loop .inv .1 ∙ laws.times-then _ _ _ _ _ _ (c8 .loop-test .taken) ∙ laws.assoc _ _ _ _ _ _ ∙ notes.to _ _ _ _ _ _ _ (c6 .part-notes .ensures .is) ∙ notes.to _ _ _ _ _ _ _ (c .before .before .actions-notes .ensures .is)))
+    let c9 = c8 .before in (
+      (
+        search needs,
+        λ t k. c .before .before .actions-notes .ensures .clean t
+            (c6 .part-notes .ensures .clean t (c9 .loop .inv .0 .1 t k)),
+      ),
+      c9 .loop .inv .1
+          ∙ laws.times-then _ _ _ _ _ _ (c8 .loop-test .taken) ∙ laws.assoc _ _ _ _ _ _
+          ∙ notes.to _ _ _ _ _ _ _ (c6 .part-notes .ensures .is)
+          ∙ notes.to _ _ _ _ _ _ _ (c .before .before .actions-notes .ensures .is),
+    ))
     (λ c κs. search needs)
     (λ c. search needs)
     (λ c.
     let c4 = c .before .before .before .before in
     let c5 = c4 .before in
     record {
-      is = c .before .before .actions-notes2 .ensures .is ∙ sym (c5 .loop .inv .1 ∙ laws.none-then _ _ _ _ _ _ (c4 .loop-test .left));
+      is = c .before .before .actions-notes2 .ensures .is
+          ∙ sym (c5 .loop .inv .1 ∙ laws.none-then _ _ _ _ _ _ (c4 .loop-test .left));
       clean = λ t k. c .before .before .actions-notes2 .ensures .clean t (c5 .loop .inv .0 .1 t k);
     })

@@ -30,6 +30,9 @@ own-notes-spec =
     let c14 = c13 .before in
     let c15 = c14 .before in
     record {
-      is = laws.own-is _ _ _ _ (c15 .rule-word .ensures) (c14 .rule-word2 .ensures) (c13 .rule-word3 .ensures) (c12 .rule-word4 .ensures) (c10 .part-notes .ensures .is) (c6 .part-notes2 .ensures .is) (c .before .before .part-notes3 .ensures .is);
-      clean = λ t k. c .before .before .part-notes3 .ensures .clean t (c6 .part-notes2 .ensures .clean t (c10 .part-notes .ensures .clean t k));
+      is = laws.own-is _ _ _ _ (c15 .rule-word .ensures) (c14 .rule-word2 .ensures) (c13 .rule-word3 .ensures)
+          (c12 .rule-word4 .ensures) (c10 .part-notes .ensures .is) (c6 .part-notes2 .ensures .is)
+          (c .before .before .part-notes3 .ensures .is);
+      clean = λ t k. c .before .before .part-notes3 .ensures .clean t
+          (c6 .part-notes2 .ensures .clean t (c10 .part-notes .ensures .clean t k));
     }))

@@ -21,6 +21,7 @@ rule-notes-spec =
     let c6 = c .before .before .before .before .before .before in
     let c8 = c6 .before .before in
     record {
-      is = laws.rule-is _ _ _ _ (c8 .rule-word .ensures) (c6 .own-notes .ensures .is) (c .before .before .actions-notes .ensures .is);
+      is = laws.rule-is _ _ _ _ (c8 .rule-word .ensures) (c6 .own-notes .ensures .is)
+          (c .before .before .actions-notes .ensures .is);
       clean = λ t k. c .before .before .actions-notes .ensures .clean t (c6 .own-notes .ensures .clean t k);
     }))

@@ -17,7 +17,11 @@ unknown-note-spec =
     (λ c κs. search needs)
     (λ c. search needs)
     (λ c. search needs)
-    (λ c. record { is = sym (laws.unknown-is _ _ _ _ _ ∙ notes.by-broken _ _ _ _ _ (c .before .before .u16-at .ensures) (c .enum-told .given .1)); clean = λ t k. k })
+    (λ c. record {
+      is = sym (laws.unknown-is _ _ _ _ _
+          ∙ notes.by-broken _ _ _ _ _ (c .before .before .u16-at .ensures) (c .enum-told .given .1));
+      clean = λ t k. k;
+    })
     (λ c κs. search needs)
     (λ c κs. (search needs, laws.source-readable _ _ _ (c .before .source-note .ensures)))
     (λ c. search needs)
@@ -26,6 +30,7 @@ unknown-note-spec =
     let c6 = c4 .before .before in
     let c8 = c6 .before .before in
     record {
-      is = sym (laws.unknown-is _ _ _ _ _ ∙ notes.by-is _ _ _ _ _ (c8 .u16-at .ensures) (c6 .x .given .1) ∙ laws.source-put _ _ _ _ _ _ (c4 .source-note .ensures) (c .before .before .put .ensures .is));
+      is = sym (laws.unknown-is _ _ _ _ _ ∙ notes.by-is _ _ _ _ _ (c8 .u16-at .ensures) (c6 .x .given .1)
+          ∙ laws.source-put _ _ _ _ _ _ (c4 .source-note .ensures) (c .before .before .put .ensures .is));
       clean = c .before .before .put .ensures .clean;
     }))

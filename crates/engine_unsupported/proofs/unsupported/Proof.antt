@@ -16,7 +16,8 @@ use Rattle.engine_fields.proofs.at_most.Reads as at-most-reads
 use Rattle.engine_unsupported.proofs.rule_notes.Reads as rule-notes-reads
 
 abbrev Inv-loop : tie.InvT-loop
-Inv-loop f x u₀ rules k₀ i₀ u k i = ((length u ≡ length u₀) × ((rules ≤ 32) × (HasText f → Clean f k u))) × (unsupportedM f x ≡ rulesM f x (rules - i) i (listed f k u))
+Inv-loop f x u₀ rules k₀ i₀ u k i = ((length u ≡ length u₀) × ((rules ≤ 32) × (HasText f → Clean f k u)))
+    × (unsupportedM f x ≡ rulesM f x (rules - i) i (listed f k u))
 
 abbrev μ-loop : tie.MeasureT-loop
 μ-loop f x u₀ rules k₀ i₀ u k i = rules - i
@@ -37,8 +38,13 @@ unsupported-spec =
     (λ c. search needs)
     (λ c.
     let c4 = c .before .before .before .before in
-    let c5 = c4 .before in
-    ((search needs, (c5 .loop .inv .0 .1 .0, λ t. c .before .before .rule-notes .ensures .clean t (c5 .loop .inv .0 .1 .1 t))), c5 .loop .inv .1 ∙ laws.rules-more _ _ _ _ _ _ (c4 .loop-test .taken) (c .before .before .rule-notes .ensures .is)))
+    let c5 = c4 .before in (
+      (
+        search needs,
+        (c5 .loop .inv .0 .1 .0, λ t. c .before .before .rule-notes .ensures .clean t (c5 .loop .inv .0 .1 .1 t)),
+      ),
+      c5 .loop .inv .1 ∙ laws.rules-more _ _ _ _ _ _ (c4 .loop-test .taken) (c .before .before .rule-notes .ensures .is),
+    ))
     (λ c. search needs)
     (λ c.
     let l = c .before .loop in

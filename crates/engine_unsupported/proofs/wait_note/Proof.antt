@@ -12,4 +12,9 @@ use Rattle.engine_notes.proofs.trigger_note.Reads as trigger-note-reads
 pub wait-note-spec : {M : Type 1} → statement M
 wait-note-spec = tie.close (tie.spec (λ c κs. search needs) (λ c κs. search needs) (λ c. search needs) (λ c.
     let c3 = c .before .before .before in
-    record { is = notes.skip-is _ _ _ _ (c .skip .ensures) ∙ sym (laws.wait-is _ _ _ ∙ notes.to _ _ _ _ _ _ _ (c3 .trigger-note .ensures .is)); clean = c3 .trigger-note .ensures .clean }))
+    record {
+      is = notes.skip-is _ _ _ _ (c .skip .ensures)
+          ∙ sym (laws.wait-is _ _ _ ∙ notes.to _ _ _ _ _ _ _ (c3 .trigger-note .ensures .is));
+      clean =
+          c3 .trigger-note .ensures .clean;
+    }))

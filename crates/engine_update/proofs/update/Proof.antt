@@ -23,7 +23,12 @@ returns-2 c =
     let c13 = c10 .before .before .before in
     let c16 = c13 .before .before .before in
     let c17 = c16 .before in
-    states.moves (λ v n s. states.renamed _ (states.follow (changedM _) (states.follow (log-writeM _ _) (states.follow (expiryM _ _) (states.celled _ _) (c10 .expiry .ensures .does _ n _) two none none none) (c6 .log-write .ensures .does _ _ _) one two none none) (c .before .before .changed .ensures .does _ _ _) both one none none) (λ k. laws.update-goes _ _ _ _ (c17 .entity-of .ensures) _ (c16 .if1 .left) (c13 .more-than .ensures)))
+    states.moves
+    (λ v n s. states.renamed _ (states.follow (changedM _)
+    (states.follow (log-writeM _ _) (states.follow (expiryM _ _) (states.celled _ _) (c10 .expiry .ensures .does _ n _)
+    two none none none) (c6 .log-write .ensures .does _ _ _) one two none none)
+    (c .before .before .changed .ensures .does _ _ _) both one none none)
+    (λ k. laws.update-goes _ _ _ _ (c17 .entity-of .ensures) _ (c16 .if1 .left) (c13 .more-than .ensures)))
 
 pub update-spec : {M : Type 1} → statement M
 update-spec =
@@ -32,7 +37,8 @@ update-spec =
     (λ c κs. search needs)
     (λ c.
     let c4 = c .before .before .before .before in
-    states.moves (λ v n s. states.stay (λ k. laws.update-none _ _ _ _ (c .before .entity-of .ensures) (c .if1 .taken)) (same (c4 .pre .0)) (same (c4 .pre .1)) none none))
+    states.moves (λ v n s. states.stay (λ k. laws.update-none _ _ _ _ (c .before .entity-of .ensures) (c .if1 .taken))
+    (same (c4 .pre .0)) (same (c4 .pre .1)) none none))
     (λ c. search needs)
     (λ c. search needs)
     (λ c. search needs)

@@ -7,4 +7,6 @@ use Rattle.engine_window.proofs.weekday_after.Reads as reads
 use Rattle.engine_window.proofs.weekday_after.Lts as lts
 
 pub weekday-after-spec : {M : Type 1} → statement M
-weekday-after-spec = tie.close (tie.spec (λ c. search needs) (λ c. search needs) (λ c. search needs) (λ c. (laws.weekday-is _ _ _, omega arith)))
+weekday-after-spec =
+    tie.close (tie.spec (λ c. search needs) (λ c. search needs) (λ c. search needs)
+    (λ c. (laws.weekday-is _ _ _, omega arith)))

@@ -18,4 +18,5 @@ fukhtsege-lint-spec =
     (λ c.
     let c8 = c .before .before .before .before .before .before .before .before in
     let c11 = c8 .before .before .before in
-    laws.answered (omega (arith, c11 .if1 .left)) (c8 .lint .result) (c8 .lint .ensures) refl (c .before .before .put-report .ensures)))
+    laws.answered (omega (arith, c11 .if1 .left)) (c8 .lint .result) (c8 .lint .ensures) refl
+    (c .before .before .put-report .ensures)))

@@ -20,4 +20,5 @@ fukhtsege-minimize-spec =
     (λ c.
     let c12 = c .before .before .before .before .before .before .before .before .before .before .before .before in
     let c17 = c12 .before .before .before .before .before in
-    laws.answered (omega (arith, c17 .if1 .left)) (c12 .minimize .result) (c12 .minimize .ensures) refl (c .before .before .put-minimized .ensures)))
+    laws.answered (omega (arith, c17 .if1 .left)) (c12 .minimize .result) (c12 .minimize .ensures) refl
+    (c .before .before .put-minimized .ensures)))

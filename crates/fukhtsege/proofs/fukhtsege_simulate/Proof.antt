@@ -19,4 +19,5 @@ fukhtsege-simulate-spec =
     (λ c.
     let c11 = c .before .before .before .before .before .before .before .before .before .before .before in
     let c16 = c11 .before .before .before .before .before in
-    laws.answered (omega (arith, c16 .if1 .left)) _ (c11 .simulate-lent .ensures) refl (c .before .before .put-simulation .ensures)))
+    laws.answered (omega (arith, c16 .if1 .left)) _ (c11 .simulate-lent .ensures) refl
+    (c .before .before .put-simulation .ensures)))

@@ -7,7 +7,9 @@ use Rattle.fukhtsege.proofs.fukhtsege_unsupported.Tie as tie
 
 pub fukhtsege-unsupported-spec : {M : Type 1} → statement M
 fukhtsege-unsupported-spec =
-    tie.close (tie.spec (λ c. laws.too-short (c .if1 .taken) tt) (λ c κs. search needs) (λ c κs. search needs) (λ c. search needs) (λ c.
+    tie.close (tie.spec (λ c. laws.too-short (c .if1 .taken) tt) (λ c κs. search needs) (λ c κs. search needs)
+    (λ c. search needs) (λ c.
     let c4 = c .before .before .before .before in
     let c5 = c4 .before in
-    laws.answered (omega (arith, c5 .if1 .left)) (c4 .unsupported .result) (c4 .unsupported .ensures) refl (c .before .before .put-notes .ensures)))
+    laws.answered (omega (arith, c5 .if1 .left)) (c4 .unsupported .result) (c4 .unsupported .ensures) refl
+    (c .before .before .put-notes .ensures)))

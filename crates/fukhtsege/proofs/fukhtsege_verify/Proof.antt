@@ -20,6 +20,8 @@ fukhtsege-verify-spec =
     (λ c. search needs)
     (λ c.
     let c3 = c .before .before .before in
-    let c18 = c3 .before .before .before .before .before .before .before .before .before .before .before .before .before .before .before in
+    let c18 = c3 .before .before .before .before .before .before .before .before .before .before .before .before .before
+    .before .before in
     let c28 = c18 .before .before .before .before .before .before .before .before .before .before in
-    laws.answered (omega (arith, c28 .if1 .left)) _ (c18 .verify-lent .ensures) (c .refusal-of .ensures) (c3 .put-verification .ensures)))
+    laws.answered (omega (arith, c28 .if1 .left)) _ (c18 .verify-lent .ensures) (c .refusal-of .ensures)
+    (c3 .put-verification .ensures)))

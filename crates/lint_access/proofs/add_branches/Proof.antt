@@ -16,7 +16,9 @@ use Rattle.lint_walk.proofs.place_at.Reads as place-at-reads
 use Rattle.lint_walk.proofs.predicates_end.Reads as predicates-end-reads
 
 abbrev Inv-loop : tie.InvT-loop
-Inv-loop s entities many set at left₀ p₀ out₀ left p out = along (add-predicatesM s (sectionBy entities many)) (λ q. listEnd s (predicatesEnd s q)) left₀ p₀ out₀ ≡ along (add-predicatesM s (sectionBy entities many)) (λ q. listEnd s (predicatesEnd s q)) left p out
+Inv-loop s entities many set at left₀ p₀ out₀ left p out =
+    along (add-predicatesM s (sectionBy entities many)) (λ q. listEnd s (predicatesEnd s q)) left₀ p₀ out₀
+    ≡ along (add-predicatesM s (sectionBy entities many)) (λ q. listEnd s (predicatesEnd s q)) left p out
 
 abbrev μ-loop : tie.MeasureT-loop
 μ-loop s entities many set at left₀ p₀ out₀ left p out = left
@@ -38,7 +40,9 @@ add-branches-spec =
     (λ c.
     let c3 = c .before .before .before in
     let c4 = c3 .before in
-    c4 .loop .inv ∙ laws.along-more _ _ _ _ _ (c3 .loop-test .taken) (c .before .before .add-predicates .ensures) (c .list-end .ensures ∙ ap (listEnd _) (c .before .predicates-end .ensures)))
+    c4 .loop .inv ∙ laws.along-more _ _ _ _ _ (c3 .loop-test .taken) (c .before .before .add-predicates .ensures)
+    (c .list-end .ensures ∙ ap (listEnd _) (c .before .predicates-end .ensures)))
     (λ c.
     let c3 = c .before .before .before in
-    sym (laws.branches-is _ _ _ _ ∙ laws.along-start _ _ _ (c3 .place-at .ensures) (c .before .before .past .ensures) ∙ c .before .loop .inv ∙ laws.along-end _ _ _ _ _ (c .loop-test .left))))
+    sym (laws.branches-is _ _ _ _ ∙ laws.along-start _ _ _ (c3 .place-at .ensures) (c .before .before .past .ensures)
+    ∙ c .before .loop .inv ∙ laws.along-end _ _ _ _ _ (c .loop-test .left))))

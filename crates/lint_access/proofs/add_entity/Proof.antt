@@ -12,4 +12,7 @@ use Rattle.model_check.proofs.first_of.Reads as first-of-reads
 
 pub add-entity-spec : {M : Type 1} → statement M
 add-entity-spec =
-    tie.close (tie.spec (λ c κs. search needs) (λ c κs. search needs) (λ c. c .with .ensures ∙ sym (laws.entity-yes _ (sectionBy _ _) _ (c .before .before .first-of .ensures .0) _ (c .before .if1 .taken))) (λ c. sym (laws.entity-no _ (sectionBy _ _) _ (c .before .first-of .ensures .0) _ (c .if1 .left))))
+    tie.close (tie.spec (λ c κs. search needs) (λ c κs. search needs)
+    (λ c. c .with .ensures
+    ∙ sym (laws.entity-yes _ (sectionBy _ _) _ (c .before .before .first-of .ensures .0) _ (c .before .if1 .taken)))
+    (λ c. sym (laws.entity-no _ (sectionBy _ _) _ (c .before .first-of .ensures .0) _ (c .if1 .left))))

@@ -23,5 +23,6 @@ add-predicate-spec =
     (λ c.
     let c3 = c .before .before .before in
     let c4 = c3 .before in
-    c .add-entity .ensures ∙ laws.predicate-yes _ _ _ _ (c4 .byte-at .ensures) (c3 .if1 .taken) (c .before .before .past .ensures) (c .before .place-at .ensures))
+    c .add-entity .ensures ∙ laws.predicate-yes _ _ _ _ (c4 .byte-at .ensures) (c3 .if1 .taken)
+    (c .before .before .past .ensures) (c .before .place-at .ensures))
     (λ c. laws.predicate-no _ _ _ _ (c .before .byte-at .ensures) (c .if1 .left)))

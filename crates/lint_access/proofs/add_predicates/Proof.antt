@@ -14,7 +14,9 @@ use Rattle.lint_walk.proofs.place_at.Reads as place-at-reads
 use Rattle.lint_walk.proofs.predicate_end.Reads as predicate-end-reads
 
 abbrev Inv-loop : tie.InvT-loop
-Inv-loop s entities many set at left₀ p₀ out₀ left p out = along (add-predicateM s (sectionBy entities many)) (predicateEnd s) left₀ p₀ out₀ ≡ along (add-predicateM s (sectionBy entities many)) (predicateEnd s) left p out
+Inv-loop s entities many set at left₀ p₀ out₀ left p out =
+    along (add-predicateM s (sectionBy entities many)) (predicateEnd s) left₀ p₀ out₀
+    ≡ along (add-predicateM s (sectionBy entities many)) (predicateEnd s) left p out
 
 abbrev μ-loop : tie.MeasureT-loop
 μ-loop s entities many set at left₀ p₀ out₀ left p out = left
@@ -34,7 +36,9 @@ add-predicates-spec =
     (λ c. search needs)
     (λ c.
     let c3 = c .before .before .before in
-    c3 .loop .inv ∙ laws.along-more _ _ _ _ _ (c .before .before .loop-test .taken) (c .before .add-predicate .ensures) (c .predicate-end .ensures))
+    c3 .loop .inv ∙ laws.along-more _ _ _ _ _ (c .before .before .loop-test .taken) (c .before .add-predicate .ensures)
+    (c .predicate-end .ensures))
     (λ c.
     let c3 = c .before .before .before in
-    sym (laws.predicates-is _ _ _ _ ∙ laws.along-start _ _ _ (c3 .place-at .ensures) (c .before .before .past .ensures) ∙ c .before .loop .inv ∙ laws.along-end _ _ _ _ _ (c .loop-test .left))))
+    sym (laws.predicates-is _ _ _ _ ∙ laws.along-start _ _ _ (c3 .place-at .ensures) (c .before .before .past .ensures)
+    ∙ c .before .loop .inv ∙ laws.along-end _ _ _ _ _ (c .loop-test .left))))

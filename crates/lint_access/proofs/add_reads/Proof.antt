@@ -23,12 +23,14 @@ add-reads-spec =
     (λ c κs. search needs)
     (λ c.
     let c3 = c .before .before .before in
-    c .add-predicate .ensures ∙ laws.reads-3 _ _ _ _ (c3 .kind-at .ensures) (c .before .before .past .ensures) (c .before .if1 .taken))
+    c .add-predicate .ensures ∙ laws.reads-3 _ _ _ _ (c3 .kind-at .ensures) (c .before .before .past .ensures)
+    (c .before .if1 .taken))
     (λ c κs. search needs)
     (λ c.
     let c3 = c .before .before .before in
     let c4 = c3 .before in
-    c .add-branches .ensures ∙ laws.reads-4 _ _ _ _ (c4 .kind-at .ensures) (c3 .past .ensures) (c .before .before .if1 .left) (c .before .if2 .taken))
+    c .add-branches .ensures ∙ laws.reads-4 _ _ _ _ (c4 .kind-at .ensures) (c3 .past .ensures) (c .before .before .if1 .left)
+    (c .before .if2 .taken))
     (λ c κs. search needs)
     (λ c κs. search needs)
     (λ c.
@@ -36,8 +38,10 @@ add-reads-spec =
     let c4 = c3 .before in
     let c5 = c4 .before in
     let c6 = c5 .before in
-    c .add-entity .ensures ∙ laws.reads-5 _ _ _ _ (c6 .kind-at .ensures) (c5 .past .ensures) (c4 .if1 .left) (c3 .if2 .left) (c .before .before .if3 .taken) (c .before .place-at .ensures))
+    c .add-entity .ensures ∙ laws.reads-5 _ _ _ _ (c6 .kind-at .ensures) (c5 .past .ensures) (c4 .if1 .left) (c3 .if2 .left)
+    (c .before .before .if3 .taken) (c .before .place-at .ensures))
     (λ c.
     let c3 = c .before .before .before in
     let c4 = c3 .before in
-    laws.reads-else _ _ _ _ (c4 .kind-at .ensures) (c3 .past .ensures) (c .before .before .if1 .left) (c .before .if2 .left) (c .if3 .left)))
+    laws.reads-else _ _ _ _ (c4 .kind-at .ensures) (c3 .past .ensures) (c .before .before .if1 .left) (c .before .if2 .left)
+    (c .if3 .left)))

@@ -22,5 +22,6 @@ add-trigger-spec =
     (λ c.
     let c3 = c .before .before .before in
     let c4 = c3 .before in
-    c .add-entity .ensures ∙ laws.trigger-yes _ _ _ _ (c4 .past .ensures) (c3 .place-at .ensures) (c .before .before .if1 .taken) (c .before .place-at2 .ensures))
+    c .add-entity .ensures ∙ laws.trigger-yes _ _ _ _ (c4 .past .ensures) (c3 .place-at .ensures)
+    (c .before .before .if1 .taken) (c .before .place-at2 .ensures))
     (λ c. laws.trigger-no _ _ _ _ (c .before .before .past .ensures) (c .before .place-at .ensures) (c .if1 .left)))

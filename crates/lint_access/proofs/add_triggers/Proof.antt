@@ -13,7 +13,9 @@ use Rattle.lint_walk.proofs.past.Reads as past-reads
 use Rattle.lint_walk.proofs.place_at.Reads as place-at-reads
 
 abbrev Inv-loop : tie.InvT-loop
-Inv-loop s entities many set at left₀ p₀ out₀ left p out = along (add-triggerM s (sectionBy entities many)) (λ q. past s q 16) left₀ p₀ out₀ ≡ along (add-triggerM s (sectionBy entities many)) (λ q. past s q 16) left p out
+Inv-loop s entities many set at left₀ p₀ out₀ left p out =
+    along (add-triggerM s (sectionBy entities many)) (λ q. past s q 16) left₀ p₀ out₀
+    ≡ along (add-triggerM s (sectionBy entities many)) (λ q. past s q 16) left p out
 
 abbrev μ-loop : tie.MeasureT-loop
 μ-loop s entities many set at left₀ p₀ out₀ left p out = left
@@ -33,7 +35,9 @@ add-triggers-spec =
     (λ c. search needs)
     (λ c.
     let c3 = c .before .before .before in
-    c3 .loop .inv ∙ laws.along-more _ _ _ _ _ (c .before .before .loop-test .taken) (c .before .add-trigger .ensures) (c .past2 .ensures))
+    c3 .loop .inv ∙ laws.along-more _ _ _ _ _ (c .before .before .loop-test .taken) (c .before .add-trigger .ensures)
+    (c .past2 .ensures))
     (λ c.
     let c3 = c .before .before .before in
-    sym (laws.triggers-is _ _ _ _ ∙ laws.along-start _ _ _ (c3 .place-at .ensures) (c .before .before .past .ensures) ∙ c .before .loop .inv ∙ laws.along-end _ _ _ _ _ (c .loop-test .left))))
+    sym (laws.triggers-is _ _ _ _ ∙ laws.along-start _ _ _ (c3 .place-at .ensures) (c .before .before .past .ensures)
+    ∙ c .before .loop .inv ∙ laws.along-end _ _ _ _ _ (c .loop-test .left))))

@@ -14,7 +14,9 @@ use Rattle.lint_walk.proofs.conditions_at.Reads as conditions-at-reads
 use Rattle.lint_walk.proofs.triggers_at.Reads as triggers-at-reads
 
 abbrev Inv-loop : tie.InvT-loop
-Inv-loop s entities many at list count set₀ k₀ set k = over (add-readsM s (sectionBy entities many)) list count 0 set₀ ≡ over (add-readsM s (sectionBy entities many)) list (count - k) k set
+Inv-loop s entities many at list count set₀ k₀ set k =
+    over (add-readsM s (sectionBy entities many)) list count 0 set₀
+    ≡ over (add-readsM s (sectionBy entities many)) list (count - k) k set
 
 abbrev μ-loop : tie.MeasureT-loop
 μ-loop s entities many at list count set₀ k₀ set k = count - k
@@ -33,11 +35,13 @@ reads-spec =
     (λ c κs. search needs)
     (λ c. search needs)
     (λ c. search needs)
-    (λ c. c .before .before .before .loop .inv ∙ laws.over-more _ _ _ _ _ (c .before .before .loop-test .taken) (c .add-reads .ensures))
+    (λ c. c .before .before .before .loop .inv ∙ laws.over-more _ _ _ _ _ (c .before .before .loop-test .taken)
+    (c .add-reads .ensures))
     (λ c κs. search needs)
     (λ c κs. search needs)
     (λ c.
     let c3 = c .before .before .before in
     let c4 = c3 .before in
     let c5 = c4 .before in
-    c .add-predicates .ensures ∙ laws.reads-is _ _ _ _ (c5 .triggers-at .ensures) (c4 .add-triggers .ensures) (c3 .loop .inv ∙ laws.over-end _ _ _ _ _ (c .before .before .loop-test .left)) (c .before .conditions-at .ensures)))
+    c .add-predicates .ensures ∙ laws.reads-is _ _ _ _ (c5 .triggers-at .ensures) (c4 .add-triggers .ensures)
+    (c3 .loop .inv ∙ laws.over-end _ _ _ _ _ (c .before .before .loop-test .left)) (c .before .conditions-at .ensures)))

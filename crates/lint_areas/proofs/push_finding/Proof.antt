@@ -17,4 +17,5 @@ push-finding-spec =
     (λ c κs. search needs)
     (λ c. search needs)
     (λ c. search needs)
-    (λ c. λ i. laws.finding-in _ _ _ _ _ (search needs) (c .before .before .before .before .before .if2 .left) (c .before .before .put .ensures)))
+    (λ c. λ i. laws.finding-in _ _ _ _ _ (search needs) (c .before .before .before .before .before .if2 .left)
+    (c .before .before .put .ensures)))

@@ -9,4 +9,5 @@ use Rattle.lint_areas.proofs.push_finding.Reads as push-finding-reads
 pub push-if-spec : {M : Type 1} → statement M
 push-if-spec = tie.close (tie.spec (λ c κs. search needs) (λ c. search needs) (λ c.
     let c4 = c .before .before .before .before in
-    λ i. laws.only-yes _ _ (c4 .if1 .taken) (c .before .before .push-finding .ensures i)) (λ c. λ i. laws.only-no _ (c .if1 .left)))
+    λ i. laws.only-yes _ _ (c4 .if1 .taken) (c .before .before .push-finding .ensures i))
+    (λ c. λ i. laws.only-no _ (c .if1 .left)))

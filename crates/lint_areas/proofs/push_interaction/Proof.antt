@@ -18,4 +18,5 @@ push-interaction-spec =
     (λ c κs. search needs)
     (λ c. search needs)
     (λ c. search needs)
-    (λ c. λ f. laws.interaction-in _ _ _ _ _ (search needs) (c .before .before .before .before .before .if2 .left) (c .before .before .put .ensures)))
+    (λ c. λ f. laws.interaction-in _ _ _ _ _ (search needs) (c .before .before .before .before .before .if2 .left)
+    (c .before .before .put .ensures)))

@@ -26,4 +26,5 @@ about-spec =
     (λ c.
     let c3 = c .before .before .before in
     let c4 = c3 .before in
-    laws.about-is _ _ _ _ _ (c4 .number-at .ensures) (c3 .past .ensures) (c .before .before .number-at2 .ensures) (c .before .with .ensures) (c .highest .ensures)))
+    laws.about-is _ _ _ _ _ (c4 .number-at .ensures) (c3 .past .ensures) (c .before .before .number-at2 .ensures)
+    (c .before .with .ensures) (c .highest .ensures)))

@@ -29,4 +29,5 @@ action-leads-spec =
     let c3 = c .before .before .before in
     let c4 = c3 .before in
     let c5 = c4 .before in
-    c .leads .ensures ∙ laws.action-is _ _ _ _ (c5 .kind-at .ensures) (c4 .if1 .left) (c3 .past .ensures) (c .before .before .place-at .ensures) (c .before .value .ensures)))
+    c .leads .ensures ∙ laws.action-is _ _ _ _ (c5 .kind-at .ensures) (c4 .if1 .left) (c3 .past .ensures)
+    (c .before .before .place-at .ensures) (c .before .value .ensures)))

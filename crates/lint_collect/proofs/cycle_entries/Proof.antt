@@ -13,7 +13,11 @@ use Rattle.lint_collect.proofs.cycle_entries.Statement.{statement}
 use Rattle.lint_collect.proofs.cycle_entries.Tie as tie
 
 abbrev Inv-loop : tie.InvT-loop
-Inv-loop s entities rules given findings₀ found count out₀ i₀ findings out i = ((k : List ℕ) → pushes (cyclesItems s (sectionOf entities (given .entities)) (sectionOf rules (given .rules)) found) (board findings₀ k out₀) ≡ pushes (items-numbersM (λ k. finding (cycleM s (sectionOf entities (given .entities)) (sectionOf rules (given .rules)) (getD (found .sets) k 0)) ∷ []) (count - i) i) (board findings k out)) × (length findings ≡ length findings₀)
+Inv-loop s entities rules given findings₀ found count out₀ i₀ findings out i =
+    ((k : List ℕ) → pushes (cyclesItems s (sectionOf entities (given .entities)) (sectionOf rules (given .rules)) found)
+    (board findings₀ k out₀) ≡ pushes (items-numbersM
+    (λ k. finding (cycleM s (sectionOf entities (given .entities)) (sectionOf rules (given .rules))
+    (getD (found .sets) k 0)) ∷ []) (count - i) i) (board findings k out)) × (length findings ≡ length findings₀)
 
 abbrev μ-loop : tie.MeasureT-loop
 μ-loop s entities rules given findings₀ found count out₀ i₀ findings out i = count - i
@@ -34,7 +38,10 @@ cycle-entries-spec =
     (λ c.
     let c3 = c .before .before .before in
     let c6 = c3 .before .before .before in
-    let c7 = c6 .before in
-    ((λ k. c7 .loop .inv .0 k ∙ items.numbers-more _ _ _ _ (c6 .loop-test .taken) (items.one-finding _ (c3 .cycle-words .ensures) (c .before .before .push-finding .ensures k))), search needs))
+    let c7 = c6 .before in (
+      (λ k. c7 .loop .inv .0 k ∙ items.numbers-more _ _ _ _ (c6 .loop-test .taken)
+          (items.one-finding _ (c3 .cycle-words .ensures) (c .before .before .push-finding .ensures k))),
+      search needs,
+    ))
     (λ c. search needs)
     (λ c. λ k. sym (c .before .loop .inv .0 k ∙ items.numbers-end _ _ _ _ (c .loop-test .left))))

@@ -12,4 +12,6 @@ use Rattle.lint_collect.proofs.cycle_writes.Reads as cycle-writes-reads
 use Rattle.lint_conditions.proofs.highest.Reads as highest-reads
 
 pub cycle-words-spec : {M : Type 1} → statement M
-cycle-words-spec = tie.close (tie.spec (λ c κs. search needs) (λ c κs. search needs) (λ c. laws.cycle-is _ _ _ _ (c .before .cycle-writes .ensures) (c .highest .ensures)))
+cycle-words-spec =
+    tie.close (tie.spec (λ c κs. search needs) (λ c κs. search needs)
+    (λ c. laws.cycle-is _ _ _ _ (c .before .cycle-writes .ensures) (c .highest .ensures)))

@@ -15,7 +15,10 @@ use Rattle.lint_access.proofs.writes.Reads as writes-reads
 use Rattle.lint_walk.proofs.rule_walk.Reads as rule-walk-reads
 
 abbrev Inv-loop : tie.InvT-loop
-Inv-loop s entities rules set count many writes₀ i₀ writes i = (z y : Walked) → cycleWritesM s (record { count = many; starts = entities; end = z }) (record { count = count; starts = rules; end = y }) set ≡ cycleWritesFrom s (record { count = many; starts = entities; end = z }) (record { count = count; starts = rules; end = y }) set (count - i) i writes
+Inv-loop s entities rules set count many writes₀ i₀ writes i = (z y : Walked) →
+    cycleWritesM s (record { count = many; starts = entities; end = z }) (record { count = count; starts = rules; end = y })
+    set ≡ cycleWritesFrom s (record { count = many; starts = entities; end = z })
+    (record { count = count; starts = rules; end = y }) set (count - i) i writes
 
 abbrev μ-loop : tie.MeasureT-loop
 μ-loop s entities rules set count many writes₀ i₀ writes i = count - i
@@ -44,10 +47,12 @@ cycle-writes-spec =
     let c7 = c6 .before in
     let c8 = c7 .before in
     let c9 = c8 .before in
-    λ z y. c9 .loop .inv z y ∙ laws.writes-yes _ _ _ _ _ _ _ (c8 .loop-test .taken) (c7 .has .ensures) (c6 .if1 .taken) (c3 .rule-walk .ensures) (c .before .writes .ensures) (c .union .ensures))
+    λ z y. c9 .loop .inv z y ∙ laws.writes-yes _ _ _ _ _ _ _ (c8 .loop-test .taken) (c7 .has .ensures) (c6 .if1 .taken)
+    (c3 .rule-walk .ensures) (c .before .writes .ensures) (c .union .ensures))
     (λ c. search needs)
     (λ c. search needs)
     (λ c.
     let c3 = c .before .before .before in
-    λ z y. c3 .loop .inv z y ∙ laws.writes-no _ _ _ _ _ _ _ (c .before .before .loop-test .taken) (c .before .has .ensures) (c .if1 .left))
+    λ z y. c3 .loop .inv z y ∙ laws.writes-no _ _ _ _ _ _ _ (c .before .before .loop-test .taken) (c .before .has .ensures)
+    (c .if1 .left))
     (λ c. sym (c .before .loop .inv _ _ ∙ laws.writes-end _ _ _ _ _ _ _ (c .loop-test .left))))

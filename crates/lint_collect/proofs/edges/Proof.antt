@@ -15,7 +15,9 @@ use Rattle.lint_collect.proofs.reach_row.Reads as reach-row-reads
 use Rattle.lint_walk.proofs.rule_walk.Reads as rule-walk-reads
 
 abbrev Inv-loop : tie.InvT-loop
-Inv-loop s star rules extent count start₀ i₀ start i = edgesM s star (sectionOf rules extent) ≡ fillM (λ i. rowM s star (sectionOf rules extent) (walkM s (getD rules i 0))) (count - i) i start
+Inv-loop s star rules extent count start₀ i₀ start i =
+    edgesM s star (sectionOf rules extent) ≡ fillM (λ i. rowM s star (sectionOf rules extent) (walkM s (getD rules i 0)))
+    (count - i) i start
 
 abbrev μ-loop : tie.MeasureT-loop
 μ-loop s star rules extent count start₀ i₀ start i = count - i
@@ -31,7 +33,10 @@ edges-spec =
     (λ c. search needs)
     (λ c. search needs)
     (λ c κs. search needs)
-    (λ c κs. (c .before .before .before .before .before .before .before .before .pre, sizes.sized _ _ (c .before .rule-walk .ensures) .0))
+    (λ c κs. (
+      c .before .before .before .before .before .before .before .before .pre,
+      sizes.sized _ _ (c .before .rule-walk .ensures) .0,
+    ))
     (λ c. search needs)
     (λ c. search needs)
     (λ c. search needs)
@@ -39,5 +44,6 @@ edges-spec =
     (λ c.
     let c5 = c .before .before .before .before .before in
     let c6 = c5 .before in
-    c6 .loop .inv ∙ laws.fill-more _ _ _ _ (c5 .loop-test .taken) (laws.edge-row _ _ _ _ (c .before .before .rule-walk .ensures) (c .reach-row .ensures)))
+    c6 .loop .inv ∙ laws.fill-more _ _ _ _ (c5 .loop-test .taken)
+    (laws.edge-row _ _ _ _ (c .before .before .rule-walk .ensures) (c .reach-row .ensures)))
     (λ c. sym (c .before .loop .inv ∙ laws.fill-end _ _ _ _ (c .loop-test .left))))

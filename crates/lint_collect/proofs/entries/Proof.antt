@@ -28,4 +28,9 @@ entries-spec =
     let c4 = c .before .before .before .before in
     let c7 = c4 .before .before .before in
     let c13 = c7 .before .before .before .before .before .before in
-    record { components = c4 .find-components .ensures; inserted = next _ _ _ (next _ _ _ (c13 .rules-entries .ensures) (c7 .opposing-entries .ensures _)) (c .before .before .cycle-entries .ensures _) }))
+    record {
+      components = c4 .find-components .ensures;
+      inserted =
+          next _ _ _ (next _ _ _ (c13 .rules-entries .ensures) (c7 .opposing-entries .ensures _))
+          (c .before .before .cycle-entries .ensures _);
+    }))

@@ -15,4 +15,5 @@ use Rattle.lint_reach.proofs.cycles.Reads as cycles-reads
 pub find-components-spec : {M : Type 1} → statement M
 find-components-spec = tie.close (tie.spec (λ c κs. search needs) (λ c. search needs) (λ c κs.
     let c3 = c .before .before .before in
-    (c3 .pre, rw (c .before .edges .ensures) (array.edges-full _ _ _ (c3 .pre)))) (λ c. rw (c .before .before .edges .ensures) at (c .cycles .ensures)))
+    (c3 .pre, rw (c .before .edges .ensures) (array.edges-full _ _ _ (c3 .pre))))
+    (λ c. rw (c .before .before .edges .ensures) at (c .cycles .ensures)))

@@ -19,7 +19,12 @@ use Rattle.lint_collect.proofs.pair_entries.Reads as pair-entries-reads
 use Rattle.lint_walk.proofs.rule_walk.Reads as rule-walk-reads
 
 abbrev Inv-loop : tie.InvT-loop
-Inv-loop s entities invariants rules given i findings₀ count j₀ list m out₀ findings j out = ((k : List ℕ) → pushes (items-numbersM (pairAt s (namesBy entities invariants given) (sectionOf rules (given .rules)) i (walkBy list m)) (count - j₀) j₀) (board findings₀ k out₀) ≡ pushes (items-numbersM (pairAt s (namesBy entities invariants given) (sectionOf rules (given .rules)) i (walkBy list m)) (count - j) j) (board findings k out)) × (length findings ≡ length findings₀)
+Inv-loop s entities invariants rules given i findings₀ count j₀ list m out₀ findings j out =
+    ((k : List ℕ) →
+    pushes (items-numbersM (pairAt s (namesBy entities invariants given) (sectionOf rules (given .rules)) i (walkBy list m))
+    (count - j₀) j₀) (board findings₀ k out₀) ≡ pushes
+    (items-numbersM (pairAt s (namesBy entities invariants given) (sectionOf rules (given .rules)) i (walkBy list m))
+    (count - j) j) (board findings k out)) × (length findings ≡ length findings₀)
 
 abbrev μ-loop : tie.MeasureT-loop
 μ-loop s entities invariants rules given i findings₀ count j₀ list m out₀ findings j out = count - j
@@ -45,7 +50,11 @@ later-entries-spec =
     (λ c. search needs)
     (λ c.
     let c5 = c .before .before .before .before .before in
-    let c6 = c5 .before in
-    ((λ k. c6 .loop .inv .0 k ∙ items.numbers-more _ _ _ _ (c5 .loop-test .taken) (c .before .before .pair-entries .ensures k)), search needs))
+    let c6 = c5 .before in (
+      (λ k. c6 .loop .inv .0 k ∙ items.numbers-more _ _ _ _ (c5 .loop-test .taken)
+          (c .before .before .pair-entries .ensures k)),
+      search needs,
+    ))
     (λ c. search needs)
-    (λ c. λ k. sym (laws.later-is _ _ _ _ _ (c .before .before .rule-walk .ensures) ∙ c .before .loop .inv .0 k ∙ items.numbers-end _ _ _ _ (c .loop-test .left))))
+    (λ c. λ k. sym (laws.later-is _ _ _ _ _ (c .before .before .rule-walk .ensures) ∙ c .before .loop .inv .0 k
+    ∙ items.numbers-end _ _ _ _ (c .loop-test .left))))

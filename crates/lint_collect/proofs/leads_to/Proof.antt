@@ -15,7 +15,8 @@ use Rattle.lint_collect.proofs.leads_to.Lts as lts
 use Rattle.lint_collect.proofs.action_leads.Reads as action-leads-reads
 
 abbrev Inv-loop : tie.InvT-loop
-Inv-loop s star list count at k₀ k = leadsToM s star (walkBy list count) at ≡ any-listM (actionLeadsM s star at) list (count - k) k
+Inv-loop s star list count at k₀ k = leadsToM s star (walkBy list count) at
+    ≡ any-listM (actionLeadsM s star at) list (count - k) k
 
 abbrev μ-loop : tie.MeasureT-loop
 μ-loop s star list count at k₀ k = count - k
@@ -33,7 +34,8 @@ leads-to-spec =
     (λ c.
     let c3 = c .before .before .before in
     let c4 = c3 .before in
-    sym (c4 .loop .inv ∙ tests.list-here _ _ _ _ (c3 .loop-test .taken) (sym (c .before .action-leads .ensures) ∙ c .if1 .taken)))
+    sym (c4 .loop .inv ∙ tests.list-here _ _ _ _ (c3 .loop-test .taken)
+    (sym (c .before .action-leads .ensures) ∙ c .if1 .taken)))
     (λ c. search needs)
     (λ c. search needs)
     (λ c.

@@ -18,7 +18,11 @@ use Rattle.lint_collect.proofs.opposing_entries.Lts as lts
 use Rattle.lint_collect.proofs.later_entries.Reads as later-entries-reads
 
 abbrev Inv-loop : tie.InvT-loop
-Inv-loop s entities invariants rules given findings₀ count out₀ i₀ findings out i = ((k : List ℕ) → pushes (opposingItems s (namesBy entities invariants given) (sectionOf rules (given .rules))) (board findings₀ k out₀) ≡ pushes (items-numbersM (laterItems s (namesBy entities invariants given) (sectionOf rules (given .rules))) (count - i) i) (board findings k out)) × (length findings ≡ length findings₀)
+Inv-loop s entities invariants rules given findings₀ count out₀ i₀ findings out i =
+    ((k : List ℕ) → pushes (opposingItems s (namesBy entities invariants given) (sectionOf rules (given .rules)))
+    (board findings₀ k out₀) ≡ pushes (items-numbersM
+    (laterItems s (namesBy entities invariants given) (sectionOf rules (given .rules))) (count - i) i)
+    (board findings k out)) × (length findings ≡ length findings₀)
 
 abbrev μ-loop : tie.MeasureT-loop
 μ-loop s entities invariants rules given findings₀ count out₀ i₀ findings out i = count - i
@@ -36,7 +40,10 @@ opposing-entries-spec =
     (λ c. search needs)
     (λ c.
     let c4 = c .before .before .before .before in
-    let c5 = c4 .before in
-    ((λ k. c5 .loop .inv .0 k ∙ items.numbers-more _ _ _ _ (c4 .loop-test .taken) (c .before .before .later-entries .ensures k)), search needs))
+    let c5 = c4 .before in (
+      (λ k. c5 .loop .inv .0 k ∙ items.numbers-more _ _ _ _ (c4 .loop-test .taken)
+          (c .before .before .later-entries .ensures k)),
+      search needs,
+    ))
     (λ c. search needs)
     (λ c. λ k. sym (c .before .loop .inv .0 k ∙ items.numbers-end _ _ _ _ (c .loop-test .left))))

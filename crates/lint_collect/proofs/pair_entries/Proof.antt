@@ -27,4 +27,5 @@ pair-entries-spec =
     let c5 = c .before .before .before .before .before in
     let c6 = c5 .before in
     let c7 = c6 .before in
-    λ k. laws.pair-is _ _ _ _ _ _ _ (c7 .rule-walk .ensures) (c6 .with .ensures) (c5 .with2 .ensures) (c .before .before .oppose-pair .ensures k)))
+    λ k. laws.pair-is _ _ _ _ _ _ _ (c7 .rule-walk .ensures) (c6 .with .ensures) (c5 .with2 .ensures)
+    (c .before .before .oppose-pair .ensures k)))

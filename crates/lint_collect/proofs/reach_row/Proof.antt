@@ -14,7 +14,9 @@ use Rattle.lint_collect.proofs.reach_row.Lts as lts
 use Rattle.lint_collect.proofs.leads_to.Reads as leads-to-reads
 
 abbrev Inv-loop : tie.InvT-loop
-Inv-loop s star rules list count n row₀ j₀ row j = fillM (λ j. leadsToM s star (walkBy list count) (getD rules j 0)) (n - 0) 0 (replicate 32 false) ≡ fillM (λ j. leadsToM s star (walkBy list count) (getD rules j 0)) (n - j) j row
+Inv-loop s star rules list count n row₀ j₀ row j =
+    fillM (λ j. leadsToM s star (walkBy list count) (getD rules j 0)) (n - 0) 0 (replicate 32 false)
+    ≡ fillM (λ j. leadsToM s star (walkBy list count) (getD rules j 0)) (n - j) j row
 
 abbrev μ-loop : tie.MeasureT-loop
 μ-loop s star rules list count n row₀ j₀ row j = n - j
@@ -33,5 +35,6 @@ reach-row-spec =
     (λ c. search needs)
     (λ c. search needs)
     (λ c. search needs)
-    (λ c. c .before .before .before .loop .inv ∙ laws.fill-more _ _ _ _ (c .before .before .loop-test .taken) (c .leads-to .ensures))
+    (λ c. c .before .before .before .loop .inv ∙ laws.fill-more _ _ _ _ (c .before .before .loop-test .taken)
+    (c .leads-to .ensures))
     (λ c. sym (laws.row-is _ _ (sectionOf _ _) _ ∙ c .before .loop .inv ∙ laws.fill-end _ _ _ _ (c .loop-test .left))))

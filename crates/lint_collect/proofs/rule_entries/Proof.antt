@@ -18,7 +18,10 @@ rule-entries-spec =
     (λ c. search needs)
     (λ c. search needs)
     (λ c κs. search needs)
-    (λ c κs. (c .before .before .before .before .before .before .before .before .pre .0, sizes.sized _ _ (c .before .before .rule-walk .ensures) .0))
+    (λ c κs. (
+      c .before .before .before .before .before .before .before .before .pre .0,
+      sizes.sized _ _ (c .before .before .rule-walk .ensures) .0,
+    ))
     (λ c κs.
     let c4 = c .before .before .before .before in
     let c10 = c4 .before .before .before .before .before .before in
@@ -36,4 +39,5 @@ rule-entries-spec =
     let c9 = c8 .before in
     let c11 = c9 .before .before in
     let c14 = c11 .before .before .before in
-    laws.rule-is _ _ _ _ _ (c14 .rule-walk .ensures) (c11 .writes .ensures) (c9 .reads .ensures) (c8 .about .ensures) (c4 .rule-findings .ensures)))
+    laws.rule-is _ _ _ _ _ (c14 .rule-walk .ensures) (c11 .writes .ensures) (c9 .reads .ensures) (c8 .about .ensures)
+    (c4 .rule-findings .ensures)))

@@ -17,7 +17,12 @@ use Rattle.lint_collect.proofs.rules_entries.Lts as lts
 use Rattle.lint_collect.proofs.rule_entries.Reads as rule-entries-reads
 
 abbrev Inv-loop : tie.InvT-loop
-Inv-loop s entities invariants rules given findings₀ interactions₀ count out₀ i₀ findings interactions out i = (pushes (rulesItems s (namesBy entities invariants given) (sectionOf rules (given .rules))) (board findings₀ interactions₀ out₀) ≡ pushes (items-numbersM (ruleAt s (namesBy entities invariants given) (sectionOf rules (given .rules))) (count - i) i) (board findings interactions out)) × ((length findings ≡ length findings₀) × (length interactions ≡ length interactions₀))
+Inv-loop s entities invariants rules given findings₀ interactions₀ count out₀ i₀ findings interactions out i =
+    (pushes (rulesItems s (namesBy entities invariants given) (sectionOf rules (given .rules)))
+    (board findings₀ interactions₀ out₀) ≡ pushes (items-numbersM
+    (ruleAt s (namesBy entities invariants given) (sectionOf rules (given .rules))) (count - i) i)
+    (board findings interactions out)) × ((length findings ≡ length findings₀)
+    × (length interactions ≡ length interactions₀))
 
 abbrev μ-loop : tie.MeasureT-loop
 μ-loop s entities invariants rules given findings₀ interactions₀ count out₀ i₀ findings interactions out i = count - i

@@ -21,11 +21,13 @@ clash-spec =
     (λ c κs. search needs)
     (λ c.
     let c4 = c .before .before .before .before in
-    sym (laws.clash-other _ _ _ _ (c4 .byte-at .ensures) (search needs) (c .before .before .past .ensures) (c .before .place-at .ensures) (c .if2 .taken)))
+    sym (laws.clash-other _ _ _ _ (c4 .byte-at .ensures) (search needs) (c .before .before .past .ensures)
+    (c .before .place-at .ensures) (c .if2 .taken)))
     (λ c κs. search needs)
     (λ c κs. search needs)
     (λ c.
     let c3 = c .before .before .before in
     let c4 = c3 .before in
     let c6 = c4 .before .before in
-    laws.clash-is _ _ _ _ (c6 .byte-at .ensures) (search needs) (c4 .past .ensures) (c3 .place-at .ensures) (search needs) (c .before .past2 .ensures) (c .place-at2 .ensures)))
+    laws.clash-is _ _ _ _ (c6 .byte-at .ensures) (search needs) (c4 .past .ensures) (c3 .place-at .ensures) (search needs)
+    (c .before .past2 .ensures) (c .place-at2 .ensures)))

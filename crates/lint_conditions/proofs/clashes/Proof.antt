@@ -27,12 +27,14 @@ clashes-spec =
     (λ c κs. search needs)
     (λ c.
     let c3 = c .before .before .before in
-    sym (c3 .loop .inv ∙ laws.any-here _ _ _ _ (c .before .before .loop-test .taken) (sym (c .before .clash .ensures) ∙ c .if1 .taken)))
+    sym (c3 .loop .inv ∙ laws.any-here _ _ _ _ (c .before .before .loop-test .taken)
+    (sym (c .before .clash .ensures) ∙ c .if1 .taken)))
     (λ c κs. search needs)
     (λ c. search needs)
     (λ c. search needs)
     (λ c.
     let c3 = c .before .before .before in
     let c4 = c3 .before in
-    c4 .loop .inv ∙ laws.any-later _ _ _ _ (c3 .loop-test .taken) (sym (c .before .before .clash .ensures) ∙ c .before .if1 .left) (c .predicate-end .ensures))
+    c4 .loop .inv ∙ laws.any-later _ _ _ _ (c3 .loop-test .taken)
+    (sym (c .before .before .clash .ensures) ∙ c .before .if1 .left) (c .predicate-end .ensures))
     (λ c. sym (c .before .loop .inv ∙ laws.any-none _ _ _ _ (c .loop-test .left))))

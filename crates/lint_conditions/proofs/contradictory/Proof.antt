@@ -32,12 +32,14 @@ contradictory-spec =
     (λ c κs. search needs)
     (λ c.
     let c3 = c .before .before .before in
-    sym (c3 .loop .inv ∙ laws.contra-here _ _ _ (c .before .before .loop-test .taken) (sym (c .before .meets .ensures) ∙ c .if1 .taken)))
+    sym (c3 .loop .inv ∙ laws.contra-here _ _ _ (c .before .before .loop-test .taken)
+    (sym (c .before .meets .ensures) ∙ c .if1 .taken)))
     (λ c κs. search needs)
     (λ c. search needs)
     (λ c. search needs)
     (λ c.
     let c3 = c .before .before .before in
     let c4 = c3 .before in
-    c4 .loop .inv ∙ laws.contra-later _ _ _ (c3 .loop-test .taken) (sym (c .before .before .meets .ensures) ∙ c .before .if1 .left) (c .predicate-end .ensures))
+    c4 .loop .inv ∙ laws.contra-later _ _ _ (c3 .loop-test .taken)
+    (sym (c .before .before .meets .ensures) ∙ c .before .if1 .left) (c .predicate-end .ensures))
     (λ c. sym (c .before .loop .inv ∙ laws.contra-none _ _ _ (c .loop-test .left))))

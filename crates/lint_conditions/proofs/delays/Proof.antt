@@ -32,11 +32,13 @@ delays-spec =
     (λ c.
     let c3 = c .before .before .before in
     let c4 = c3 .before in
-    sym (c4 .loop .inv ∙ laws.list-here _ _ _ _ (c3 .loop-test .taken) (eq-eqb _ _ (sym (c .before .kind-at .ensures) ∙ c .if1 .taken))))
+    sym (c4 .loop .inv ∙ laws.list-here _ _ _ _ (c3 .loop-test .taken)
+    (eq-eqb _ _ (sym (c .before .kind-at .ensures) ∙ c .if1 .taken))))
     (λ c. search needs)
     (λ c. search needs)
     (λ c.
     let c3 = c .before .before .before in
     let c4 = c3 .before in
-    c4 .loop .inv ∙ laws.list-later _ _ _ _ (c3 .loop-test .taken) (ne-eqb _ _ (λ e. c .if1 .left (c .before .kind-at .ensures ∙ e))))
+    c4 .loop .inv ∙ laws.list-later _ _ _ _ (c3 .loop-test .taken)
+    (ne-eqb _ _ (λ e. c .if1 .left (c .before .kind-at .ensures ∙ e))))
     (λ c. sym (c .before .loop .inv ∙ laws.list-end _ _ _ _ (c .loop-test .left))))

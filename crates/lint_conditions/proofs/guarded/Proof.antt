@@ -11,7 +11,8 @@ use Rattle.lint_conditions.proofs.guarded.Lts as lts
 use Rattle.lint_conditions.proofs.guard.Reads as guard-reads
 
 abbrev Inv-loop : tie.InvT-loop
-Inv-loop s invariants x v count k₀ k = any-listM (guardM s x v) invariants count 0 ≡ any-listM (guardM s x v) invariants (count - k) k
+Inv-loop s invariants x v count k₀ k = any-listM (guardM s x v) invariants count 0
+    ≡ any-listM (guardM s x v) invariants (count - k) k
 
 abbrev μ-loop : tie.MeasureT-loop
 μ-loop s invariants x v count k₀ k = count - k
@@ -30,7 +31,8 @@ guarded-spec =
     (λ c.
     let c3 = c .before .before .before in
     let c4 = c3 .before in
-    sym (laws.guarded-is _ (sectionOf _ _) _ _ ∙ c4 .loop .inv ∙ laws.list-here _ _ _ _ (c3 .loop-test .taken) (sym (c .before .guard .ensures) ∙ c .if1 .taken)))
+    sym (laws.guarded-is _ (sectionOf _ _) _ _ ∙ c4 .loop .inv
+    ∙ laws.list-here _ _ _ _ (c3 .loop-test .taken) (sym (c .before .guard .ensures) ∙ c .if1 .taken)))
     (λ c. search needs)
     (λ c. search needs)
     (λ c.

@@ -28,16 +28,19 @@ leads-spec =
     (λ c κs. search needs)
     (λ c κs. search needs)
     (λ c κs. search needs)
-    (λ c. laws.leads-is _ _ _ _ _ (c .before .before .triggers-at .ensures) (c .before .place-at .ensures) (c .past .ensures))
+    (λ c. laws.leads-is _ _ _ _ _ (c .before .before .triggers-at .ensures) (c .before .place-at .ensures)
+    (c .past .ensures))
     (λ c κs. search needs)
     (λ c.
     let c3 = c .before .before .before in
-    sym (c3 .loop .inv ∙ laws.any-here _ _ _ _ (c .before .before .loop-test .taken) (sym (c .before .sets-off .ensures) ∙ c .if1 .taken)))
+    sym (c3 .loop .inv ∙ laws.any-here _ _ _ _ (c .before .before .loop-test .taken)
+    (sym (c .before .sets-off .ensures) ∙ c .if1 .taken)))
     (λ c κs. search needs)
     (λ c. search needs)
     (λ c. search needs)
     (λ c.
     let c3 = c .before .before .before in
     let c4 = c3 .before in
-    c4 .loop .inv ∙ laws.any-later _ _ _ _ (c3 .loop-test .taken) (sym (c .before .before .sets-off .ensures) ∙ c .before .if1 .left) (c .past2 .ensures))
+    c4 .loop .inv ∙ laws.any-later _ _ _ _ (c3 .loop-test .taken)
+    (sym (c .before .before .sets-off .ensures) ∙ c .before .if1 .left) (c .past2 .ensures))
     (λ c. sym (c .before .loop .inv ∙ laws.any-none _ _ _ _ (c .loop-test .left))))

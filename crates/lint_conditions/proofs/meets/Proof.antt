@@ -30,4 +30,6 @@ meets-spec =
     let c4 = c3 .before in
     let c5 = c4 .before in
     let c7 = c5 .before .before in
-    c .clashes .ensures ∙ laws.meets-is _ _ _ (c7 .byte-at .ensures) (search needs) (c5 .past .ensures) (c4 .place-at .ensures) (c3 .past2 .ensures) (c .before .before .place-at2 .ensures) (c .before .predicate-end .ensures)))
+    c .clashes .ensures ∙ laws.meets-is _ _ _ (c7 .byte-at .ensures) (search needs) (c5 .past .ensures)
+    (c4 .place-at .ensures) (c3 .past2 .ensures) (c .before .before .place-at2 .ensures)
+    (c .before .predicate-end .ensures)))

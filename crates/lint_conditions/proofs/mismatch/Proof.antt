@@ -23,7 +23,8 @@ mismatch-spec =
     (λ c.
     let c4 = c .before .before .before .before in
     let c5 = c4 .before in
-    sym (laws.mismatch-any _ _ _ (c5 .past .ensures) (c4 .place-at .ensures) (search needs) (c .before .before .past2 .ensures) (c .before .place-at2 .ensures) (c .if2 .taken)))
+    sym (laws.mismatch-any _ _ _ (c5 .past .ensures) (c4 .place-at .ensures) (search needs)
+    (c .before .before .past2 .ensures) (c .before .place-at2 .ensures) (c .if2 .taken)))
     (λ c κs. search needs)
     (λ c κs. search needs)
     (λ c κs. search needs)
@@ -35,4 +36,6 @@ mismatch-spec =
     let c6 = c5 .before in
     let c8 = c6 .before .before in
     let c9 = c8 .before in
-    c .clashes .ensures ∙ laws.mismatch-is _ _ _ (c9 .past .ensures) (c8 .place-at .ensures) (search needs) (c6 .past2 .ensures) (c5 .place-at2 .ensures) (c4 .if2 .left) (c3 .place-at3 .ensures) (c .before .before .place-at4 .ensures) (c .before .past3 .ensures)))
+    c .clashes .ensures ∙ laws.mismatch-is _ _ _ (c9 .past .ensures) (c8 .place-at .ensures) (search needs)
+    (c6 .past2 .ensures) (c5 .place-at2 .ensures) (c4 .if2 .left) (c3 .place-at3 .ensures)
+    (c .before .before .place-at4 .ensures) (c .before .past3 .ensures)))

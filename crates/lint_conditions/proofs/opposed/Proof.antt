@@ -8,4 +8,7 @@ use Rattle.lint_conditions.proofs.opposed.Reads as reads
 use Rattle.lint_conditions.proofs.opposed.Lts as lts
 
 pub opposed-spec : {M : Type 1} → statement M
-opposed-spec = tie.close (tie.spec (λ c. sym (laws.opposed-other _ _ _ _ _ (c .if1 .taken))) (λ c. sym (laws.opposed-values _ _ _ _ _ (search needs) (c .if2 .taken))) (λ c. laws.opposed-star _ _ _ _ _ (search needs) (search needs)))
+opposed-spec =
+    tie.close (tie.spec (λ c. sym (laws.opposed-other _ _ _ _ _ (c .if1 .taken)))
+    (λ c. sym (laws.opposed-values _ _ _ _ _ (search needs) (c .if2 .taken)))
+    (λ c. laws.opposed-star _ _ _ _ _ (search needs) (search needs)))

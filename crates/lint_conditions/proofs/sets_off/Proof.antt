@@ -21,11 +21,13 @@ sets-off-spec =
     (λ c.
     let c3 = c .before .before .before in
     let c4 = c3 .before in
-    sym (laws.sets-other _ _ _ _ _ (c4 .past .ensures) (c3 .place-at .ensures) (search needs) (c .before .place-at2 .ensures) (c .if2 .taken)))
+    sym (laws.sets-other _ _ _ _ _ (c4 .past .ensures) (c3 .place-at .ensures) (search needs) (c .before .place-at2 .ensures)
+    (c .if2 .taken)))
     (λ c.
     let c4 = c .before .before .before .before in
     let c5 = c4 .before in
-    sym (laws.sets-star _ _ _ _ _ (c5 .past .ensures) (c4 .place-at .ensures) (search needs) (c .before .before .place-at2 .ensures) (search needs) (c .if3 .taken)))
+    sym (laws.sets-star _ _ _ _ _ (c5 .past .ensures) (c4 .place-at .ensures) (search needs)
+    (c .before .before .place-at2 .ensures) (search needs) (c .if3 .taken)))
     (λ c κs. search needs)
     (λ c κs. search needs)
     (λ c.
@@ -33,10 +35,12 @@ sets-off-spec =
     let c5 = c3 .before .before in
     let c7 = c5 .before .before in
     let c8 = c7 .before in
-    sym (laws.sets-any _ _ _ _ _ (c8 .past .ensures) (c7 .place-at .ensures) (search needs) (c5 .place-at2 .ensures) (search needs) (c3 .if3 .left) (c .before .before .past2 .ensures) (c .before .place-at3 .ensures) (c .if4 .taken)))
+    sym (laws.sets-any _ _ _ _ _ (c8 .past .ensures) (c7 .place-at .ensures) (search needs) (c5 .place-at2 .ensures)
+    (search needs) (c3 .if3 .left) (c .before .before .past2 .ensures) (c .before .place-at3 .ensures) (c .if4 .taken)))
     (λ c.
     let c3 = c .before .before .before in
     let c5 = c3 .before .before in
     let c7 = c5 .before .before in
     let c8 = c7 .before in
-    laws.sets-is _ _ _ _ _ (c8 .past .ensures) (c7 .place-at .ensures) (search needs) (c5 .place-at2 .ensures) (search needs) (c3 .if3 .left) (c .before .before .past2 .ensures) (c .before .place-at3 .ensures) (c .if4 .left)))
+    laws.sets-is _ _ _ _ _ (c8 .past .ensures) (c7 .place-at .ensures) (search needs) (c5 .place-at2 .ensures) (search needs)
+    (c3 .if3 .left) (c .before .before .past2 .ensures) (c .before .place-at3 .ensures) (c .if4 .left)))

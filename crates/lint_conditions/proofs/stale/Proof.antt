@@ -25,4 +25,5 @@ stale-spec =
     (λ c.
     let c3 = c .before .before .before in
     let c4 = c3 .before in
-    laws.stale-at _ _ (c4 .past .ensures) (c3 .place-at .ensures) (c .before .before .past2 .ensures) (c .before .past3 .ensures) (c .number-at .ensures)))
+    laws.stale-at _ _ (c4 .past .ensures) (c3 .place-at .ensures) (c .before .before .past2 .ensures)
+    (c .before .past3 .ensures) (c .number-at .ensures)))

@@ -25,4 +25,5 @@ tier-spec =
     (λ c.
     let c3 = c .before .before .before in
     let c4 = c3 .before in
-    laws.tier-at _ _ (c4 .past .ensures) (c3 .place-at .ensures) (c .before .before .past2 .ensures) (c .before .past3 .ensures) (c .byte-at .ensures)))
+    laws.tier-at _ _ (c4 .past .ensures) (c3 .place-at .ensures) (c .before .before .past2 .ensures)
+    (c .before .past3 .ensures) (c .byte-at .ensures)))

@@ -16,11 +16,14 @@ inserted-spec =
     (λ c κs. search needs)
     (λ c κs. search needs)
     (λ c κs.
-    let c15 = c .before .before .before .before .before .before .before .before .before .before .before .before .before .before .before in
+    let c15 = c .before .before .before .before .before .before .before .before .before .before .before .before .before
+    .before .before in
     let c22 = c15 .before .before .before .before .before .before .before in
     laws.given-few _ _ (c15 .given-of .ensures) (c22 .pre))
     (λ c κs.
-    let c28 = c .before .before .before .before .before .before .before .before .before .before .before .before .before .before .before .before .before .before .before .before .before .before .before .before .before .before .before .before in
+    let c28 = c .before .before .before .before .before .before .before .before .before .before .before .before .before
+    .before .before .before .before .before .before .before .before .before .before .before .before .before .before
+    .before in
     c28 .pre .rules)
     (λ c. search needs)
     (λ c. search needs)

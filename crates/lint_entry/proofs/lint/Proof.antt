@@ -16,7 +16,8 @@ lint-spec =
     (λ c. search needs)
     (λ c κs. search needs)
     (λ c. search needs)
-    (λ c κs. core.accepted-bounds _ _ (c .before .before .before .before .accept .ensures) (c .before .before .enum-told .given .1))
+    (λ c κs. core.accepted-bounds _ _ (c .before .before .before .before .accept .ensures)
+    (c .before .before .enum-told .given .1))
     (λ c.
     let c4 = c .before .before .before .before in
     core.refused-answers _ _ (c4 .accept .ensures) (c .before .before .status .given .1) (c .refused .ensures) _ _)

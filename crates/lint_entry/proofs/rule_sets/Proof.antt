@@ -21,8 +21,12 @@ use Rattle.lint_walk.proofs.rule_walk.Reads as rule-walk-reads
 abbrev Inv-loop : tie.InvT-loop
 Inv-loop s entities rules n many reads₀ writes₀ i₀ reads writes i =
     (z y : Walked) →
-    (readSets s (record { count = many; starts = entities; end = z }) (record { count = n; starts = rules; end = y }) ≡ fillM (λ k. readsM s (record { count = many; starts = entities; end = z }) (getD rules k 0) (walkM s (getD rules k 0))) (n - i) i reads)
-    × (writeSets s (record { count = many; starts = entities; end = z }) (record { count = n; starts = rules; end = y }) ≡ fillM (λ k. writesM s (record { count = many; starts = entities; end = z }) (walkM s (getD rules k 0))) (n - i) i writes)
+    (readSets s (record { count = many; starts = entities; end = z }) (record { count = n; starts = rules; end = y })
+    ≡ fillM (λ k. readsM s (record { count = many; starts = entities; end = z }) (getD rules k 0)
+    (walkM s (getD rules k 0))) (n - i) i reads)
+    × (writeSets s (record { count = many; starts = entities; end = z }) (record { count = n; starts = rules; end = y })
+    ≡ fillM (λ k. writesM s (record { count = many; starts = entities; end = z }) (walkM s (getD rules k 0))) (n - i)
+    i writes)
 
 abbrev μ-loop : tie.MeasureT-loop
 μ-loop s entities rules n many reads₀ writes₀ i₀ reads writes i = n - i
@@ -38,7 +42,10 @@ rule-sets-spec =
     (λ c. search needs)
     (λ c. search needs)
     (λ c κs. search needs)
-    (λ c κs. (c .before .before .before .before .before .before .before .before .pre .0, sizes.sized _ _ (c .before .rule-walk .ensures) .0))
+    (λ c κs. (
+      c .before .before .before .before .before .before .before .before .pre .0,
+      sizes.sized _ _ (c .before .rule-walk .ensures) .0,
+    ))
     (λ c. search needs)
     (λ c. search needs)
     (λ c κs.
@@ -53,5 +60,14 @@ rule-sets-spec =
     let c4 = c .before .before .before .before in
     let c7 = c4 .before .before .before in
     let c8 = c7 .before in
-    λ z y. (c8 .loop .inv z y .0 ∙ entry.fill-more _ _ _ _ (c7 .loop-test .taken) (laws.read-is _ _ _ (c4 .rule-walk .ensures) (c .before .before .reads .ensures)), c8 .loop .inv z y .1 ∙ entry.fill-more _ _ _ _ (c7 .loop-test .taken) (laws.write-is _ _ _ (c4 .rule-walk .ensures) (c .writes .ensures))))
-    (λ c. (sym (c .before .loop .inv _ _ .0 ∙ entry.fill-end _ _ _ _ (c .loop-test .left)), sym (c .before .loop .inv _ _ .1 ∙ entry.fill-end _ _ _ _ (c .loop-test .left)))))
+    λ z y. (
+      c8 .loop .inv z y .0 ∙ entry.fill-more _ _ _ _ (c7 .loop-test .taken)
+          (laws.read-is _ _ _ (c4 .rule-walk .ensures) (c .before .before .reads .ensures)),
+      c8 .loop .inv z y .1
+          ∙ entry.fill-more _ _ _ _ (c7 .loop-test .taken)
+          (laws.write-is _ _ _ (c4 .rule-walk .ensures) (c .writes .ensures)),
+    ))
+    (λ c. (
+      sym (c .before .loop .inv _ _ .0 ∙ entry.fill-end _ _ _ _ (c .loop-test .left)),
+      sym (c .before .loop .inv _ _ .1 ∙ entry.fill-end _ _ _ _ (c .loop-test .left)),
+    )))

@@ -19,4 +19,5 @@ told-spec =
     let c5 = c .before .before .before .before .before in
     let c10 = c5 .before .before .before .before .before in
     let c15 = c10 .before .before .before .before .before in
-    laws.told-is _ _ _ _ (c15 .first-sets .ensures) (c10 .rule-sets .ensures .0) (c10 .rule-sets .ensures .1) (c5 .undeclared-names .ensures)))
+    laws.told-is _ _ _ _ (c15 .first-sets .ensures) (c10 .rule-sets .ensures .0) (c10 .rule-sets .ensures .1)
+    (c5 .undeclared-names .ensures)))

@@ -16,4 +16,5 @@ at-action-spec =
     tie.close
     (tie.spec (λ c κs. search needs) (λ c κs. search needs) (λ c κs. search needs) (λ c κs. search needs) (λ c.
     let c3 = c .before .before .before in
-    c .finding .ensures ∙ laws.action-is _ _ _ _ _ _ (c3 .number-at .ensures) (c .before .before .past .ensures) (c .before .number-at2 .ensures)))
+    c .finding .ensures ∙ laws.action-is _ _ _ _ _ _ (c3 .number-at .ensures) (c .before .before .past .ensures)
+    (c .before .number-at2 .ensures)))

@@ -15,7 +15,10 @@ use Rattle.lint_findings.proofs.choice_findings.Reads as choice-finding
 use Rattle.lint_walk.proofs.kind_at.Reads as kind-at-reads
 
 abbrev Inv-loop : tie.InvT-loop
-Inv-loop s a list count findings₀ out₀ k₀ findings out k = ((i : List ℕ) → pushes (branchesItems s a (walkBy list count)) (board findings₀ i out₀) ≡ pushes (items-numbersM (branchesAt s a (walkBy list count)) (count - k) k) (board findings i out)) × (length findings ≡ length findings₀)
+Inv-loop s a list count findings₀ out₀ k₀ findings out k =
+    ((i : List ℕ) → pushes (branchesItems s a (walkBy list count)) (board findings₀ i out₀)
+    ≡ pushes (items-numbersM (branchesAt s a (walkBy list count)) (count - k) k) (board findings i out))
+    × (length findings ≡ length findings₀)
 
 abbrev μ-loop : tie.MeasureT-loop
 μ-loop s a list count findings₀ out₀ k₀ findings out k = count - k
@@ -37,13 +40,19 @@ branch-findings-spec =
     let c4 = c .before .before .before .before in
     let c5 = c4 .before in
     let c7 = c5 .before .before in
-    let c8 = c7 .before in
-    ((λ i. c8 .loop .inv .0 i ∙ laws.numbers-more _ _ _ _ (c7 .loop-test .taken) (laws.at-choice _ _ _ _ (c5 .kind-at .ensures) _ (c4 .if1 .taken) (c .before .before .choice-findings .ensures i))), search needs))
+    let c8 = c7 .before in (
+      (λ i. c8 .loop .inv .0 i ∙ laws.numbers-more _ _ _ _ (c7 .loop-test .taken)
+          (laws.at-choice _ _ _ _ (c5 .kind-at .ensures) _ (c4 .if1 .taken) (c .before .before .choice-findings .ensures i))),
+      search needs,
+    ))
     (λ c. search needs)
     (λ c. search needs)
     (λ c.
     let c3 = c .before .before .before in
-    let c4 = c3 .before in
-    ((λ i. c4 .loop .inv .0 i ∙ laws.numbers-more _ _ _ _ (c3 .loop-test .taken) (laws.at-other _ _ _ _ (c .before .kind-at .ensures) _ (c .if1 .left))), search needs))
+    let c4 = c3 .before in (
+      (λ i. c4 .loop .inv .0 i ∙ laws.numbers-more _ _ _ _ (c3 .loop-test .taken)
+          (laws.at-other _ _ _ _ (c .before .kind-at .ensures) _ (c .if1 .left))),
+      search needs,
+    ))
     (λ c. search needs)
     (λ c. λ i. sym (c .before .loop .inv .0 i ∙ laws.numbers-end _ _ _ _ (c .loop-test .left))))

@@ -22,7 +22,11 @@ use Rattle.lint_walk.proofs.place_at.Reads as place-at-reads
 use Rattle.lint_walk.proofs.predicates_end.Reads as predicates-end-reads
 
 abbrev Inv-loop : tie.InvT-loop
-Inv-loop s at findings₀ words start left₀ p₀ out₀ findings left p out = ((i : List ℕ) → pushes (items-partsM (λ q. onlyIf (contradictoryM s q) (finding words)) (λ q. listEnd s (predicatesEnd s q)) left₀ p₀) (board findings₀ i out₀) ≡ pushes (items-partsM (λ q. onlyIf (contradictoryM s q) (finding words)) (λ q. listEnd s (predicatesEnd s q)) left p) (board findings i out)) × (length findings ≡ length findings₀)
+Inv-loop s at findings₀ words start left₀ p₀ out₀ findings left p out =
+    ((i : List ℕ) →
+    pushes (items-partsM (λ q. onlyIf (contradictoryM s q) (finding words)) (λ q. listEnd s (predicatesEnd s q)) left₀ p₀)
+    (board findings₀ i out₀) ≡ pushes (items-partsM (λ q. onlyIf (contradictoryM s q) (finding words))
+    (λ q. listEnd s (predicatesEnd s q)) left p) (board findings i out)) × (length findings ≡ length findings₀)
 
 abbrev μ-loop : tie.MeasureT-loop
 μ-loop s at findings₀ words start left₀ p₀ out₀ findings left p out = left
@@ -48,11 +52,16 @@ choice-findings-spec =
     let c4 = c .before .before .before .before in
     let c5 = c4 .before in
     let c7 = c5 .before .before in
-    let c8 = c7 .before in
-    ((λ i. c8 .loop .inv .0 i ∙ laws.parts-more _ _ _ _ _ (c7 .loop-test .taken) (laws.with-finding _ (c5 .contradictory .ensures) refl (c4 .push-if .ensures i)) (c .list-end .ensures ∙ ap (listEnd _) (c .before .predicates-end .ensures))), search needs))
+    let c8 = c7 .before in (
+      (λ i. c8 .loop .inv .0 i ∙ laws.parts-more _ _ _ _ _ (c7 .loop-test .taken)
+          (laws.with-finding _ (c5 .contradictory .ensures) refl (c4 .push-if .ensures i))
+          (c .list-end .ensures ∙ ap (listEnd _) (c .before .predicates-end .ensures))),
+      search needs,
+    ))
     (λ c. search needs)
     (λ c.
     let c3 = c .before .before .before in
     let c4 = c3 .before in
     let c5 = c4 .before in
-    λ i. sym (laws.branch-is _ _ _ _ (c5 .at-action .ensures) (c4 .past .ensures) (c3 .place-at .ensures) (c .before .before .past2 .ensures) ∙ c .before .loop .inv .0 i ∙ laws.parts-end _ _ _ _ _ (c .loop-test .left))))
+    λ i. sym (laws.branch-is _ _ _ _ (c5 .at-action .ensures) (c4 .past .ensures) (c3 .place-at .ensures)
+    (c .before .before .past2 .ensures) ∙ c .before .loop .inv .0 i ∙ laws.parts-end _ _ _ _ _ (c .loop-test .left))))

@@ -27,4 +27,5 @@ first-findings-spec =
     let c4 = c3 .before in
     let c8 = c4 .before .before .before .before in
     let c12 = c8 .before .before .before .before in
-    λ i. laws.first-is _ _ _ _ _ _ (c12 .own-findings .ensures i) (c8 .branch-findings .ensures i) (laws.with-finding _ (c4 .many .ensures) (c3 .finding .ensures) (c .before .before .push-if .ensures i))))
+    λ i. laws.first-is _ _ _ _ _ _ (c12 .own-findings .ensures i) (c8 .branch-findings .ensures i)
+    (laws.with-finding _ (c4 .many .ensures) (c3 .finding .ensures) (c .before .before .push-if .ensures i))))

@@ -16,7 +16,11 @@ use Rattle.lint_findings.proofs.finding.Reads as finding-reads
 use Rattle.lint_findings.proofs.stale_here.Reads as stale-here-reads
 
 abbrev Inv-loop : tie.InvT-loop
-Inv-loop s a entities extent reads findings₀ count line column out₀ k₀ findings out k = ((i : List ℕ) → pushes (freshItems s a (sectionOf entities extent) reads) (board findings₀ i out₀) ≡ pushes (items-numbersM (λ k. onlyIf (staleHereM s (sectionOf entities extent) reads k) (finding (aboutM a 6 1 k (a .line) (a .column)))) (count - k) k) (board findings i out)) × (length findings ≡ length findings₀)
+Inv-loop s a entities extent reads findings₀ count line column out₀ k₀ findings out k =
+    ((i : List ℕ) → pushes (freshItems s a (sectionOf entities extent) reads) (board findings₀ i out₀)
+    ≡ pushes (items-numbersM (λ k. onlyIf (staleHereM s (sectionOf entities extent) reads k)
+    (finding (aboutM a 6 1 k (a .line) (a .column)))) (count - k) k) (board findings i out))
+    × (length findings ≡ length findings₀)
 
 abbrev μ-loop : tie.MeasureT-loop
 μ-loop s a entities extent reads findings₀ count line column out₀ k₀ findings out k = count - k
@@ -39,7 +43,10 @@ fresh-findings-spec =
     let c3 = c .before .before .before in
     let c5 = c3 .before .before in
     let c6 = c5 .before in
-    let c7 = c6 .before in
-    ((λ i. c7 .loop .inv .0 i ∙ laws.numbers-more _ _ _ _ (c6 .loop-test .taken) (laws.with-finding _ (c5 .stale-here .ensures) (c3 .finding .ensures) (c .before .before .push-if .ensures i))), search needs))
+    let c7 = c6 .before in (
+      (λ i. c7 .loop .inv .0 i ∙ laws.numbers-more _ _ _ _ (c6 .loop-test .taken)
+          (laws.with-finding _ (c5 .stale-here .ensures) (c3 .finding .ensures) (c .before .before .push-if .ensures i))),
+      search needs,
+    ))
     (λ c. search needs)
     (λ c. λ i. sym (c .before .loop .inv .0 i ∙ laws.numbers-end _ _ _ _ (c .loop-test .left))))

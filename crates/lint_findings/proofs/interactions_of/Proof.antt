@@ -16,7 +16,12 @@ use Rattle.lint_areas.proofs.interact_if.Reads as interact-if-reads
 use Rattle.lint_conditions.proofs.leads.Reads as leads-reads
 
 abbrev Inv-loop : tie.InvT-loop
-Inv-loop s from rules star x v e interactions₀ count out₀ k₀ interactions out k = ((f : List ℕ) → pushes (items-numbersM (λ k. onlyIf (leadsM s star x v (getD rules k 0)) (interaction (from ∷ k ∷ e ∷ []))) (count - 0) 0) (board f interactions₀ out₀) ≡ pushes (items-numbersM (λ k. onlyIf (leadsM s star x v (getD rules k 0)) (interaction (from ∷ k ∷ e ∷ []))) (count - k) k) (board f interactions out)) × (length interactions ≡ length interactions₀)
+Inv-loop s from rules star x v e interactions₀ count out₀ k₀ interactions out k =
+    ((f : List ℕ) →
+    pushes (items-numbersM (λ k. onlyIf (leadsM s star x v (getD rules k 0)) (interaction (from ∷ k ∷ e ∷ []))) (count - 0)
+    0) (board f interactions₀ out₀) ≡ pushes (items-numbersM
+    (λ k. onlyIf (leadsM s star x v (getD rules k 0)) (interaction (from ∷ k ∷ e ∷ []))) (count - k) k)
+    (board f interactions out)) × (length interactions ≡ length interactions₀)
 
 abbrev μ-loop : tie.MeasureT-loop
 μ-loop s from rules star x v e interactions₀ count out₀ k₀ interactions out k = count - k
@@ -39,7 +44,11 @@ interactions-of-spec =
     (λ c.
     let c4 = c .before .before .before .before in
     let c6 = c4 .before .before in
-    let c7 = c6 .before in
-    ((λ f. c7 .loop .inv .0 f ∙ laws.numbers-more _ _ _ _ (c6 .loop-test .taken) (laws.with-interaction _ _ (c4 .leads .ensures) (c .before .before .interact-if .ensures f))), search needs))
+    let c7 = c6 .before in (
+      (λ f. c7 .loop .inv .0 f ∙ laws.numbers-more _ _ _ _ (c6 .loop-test .taken)
+          (laws.with-interaction _ _ (c4 .leads .ensures) (c .before .before .interact-if .ensures f))),
+      search needs,
+    ))
     (λ c. search needs)
-    (λ c. λ f. sym (laws.interact-is _ _ (sectionOf _ _) _ _ _ _ _ ∙ c .before .loop .inv .0 f ∙ laws.numbers-end _ _ _ _ (c .loop-test .left))))
+    (λ c. λ f. sym (laws.interact-is _ _ (sectionOf _ _) _ _ _ _ _ ∙ c .before .loop .inv .0 f
+    ∙ laws.numbers-end _ _ _ _ (c .loop-test .left))))

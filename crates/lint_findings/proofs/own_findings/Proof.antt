@@ -40,4 +40,8 @@ own-findings-spec =
     let c15 = c14 .before in
     let c17 = c15 .before .before in
     let c18 = c17 .before in
-    λ i. laws.own-is _ _ _ _ _ _ (laws.with-finding _ (c17 .contradictory .ensures ∙ ap (contradictoryM _) (c18 .conditions-at .ensures)) (c15 .finding .ensures) (c14 .push-if .ensures i)) (laws.with-finding _ (c11 .mismatched .ensures) (c9 .finding2 .ensures) (c8 .push-if2 .ensures i)) (laws.with-finding _ (c5 .delayed .ensures) (c3 .finding3 .ensures) (c .before .before .push-if3 .ensures i))))
+    λ i. laws.own-is _ _ _ _ _ _ (laws.with-finding _
+    (c17 .contradictory .ensures ∙ ap (contradictoryM _) (c18 .conditions-at .ensures)) (c15 .finding .ensures)
+    (c14 .push-if .ensures i)) (laws.with-finding _ (c11 .mismatched .ensures) (c9 .finding2 .ensures)
+    (c8 .push-if2 .ensures i)) (laws.with-finding _ (c5 .delayed .ensures) (c3 .finding3 .ensures)
+    (c .before .before .push-if3 .ensures i))))

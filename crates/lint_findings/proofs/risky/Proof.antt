@@ -12,4 +12,6 @@ use Rattle.lint_conditions.proofs.unguarded.Reads as unguarded-reads
 pub risky-spec : {M : Type 1} → statement M
 risky-spec =
     tie.close
-    (tie.spec (λ c. search needs) (λ c. search needs) (λ c κs. search needs) (λ c. sym (laws.risky-low _ _ _ _ _ (c .before .tier .ensures) (c .if1 .taken))) (λ c κs. search needs) (λ c. c .unguarded .ensures ∙ laws.risky-is _ _ _ _ _ (c .before .before .tier .ensures) (c .before .if1 .left)))
+    (tie.spec (λ c. search needs) (λ c. search needs) (λ c κs. search needs)
+    (λ c. sym (laws.risky-low _ _ _ _ _ (c .before .tier .ensures) (c .if1 .taken))) (λ c κs. search needs)
+    (λ c. c .unguarded .ensures ∙ laws.risky-is _ _ _ _ _ (c .before .before .tier .ensures) (c .before .if1 .left)))

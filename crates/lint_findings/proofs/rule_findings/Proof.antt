@@ -22,4 +22,5 @@ rule-findings-spec =
     let c4 = c .before .before .before .before in
     let c9 = c4 .before .before .before .before .before in
     let c13 = c9 .before .before .before .before in
-    laws.rule-is _ _ _ _ _ _ _ _ _ (c13 .first-findings .ensures _) (c9 .fresh-findings .ensures _) (c4 .writes-findings .ensures)))
+    laws.rule-is _ _ _ _ _ _ _ _ _ (c13 .first-findings .ensures _) (c9 .fresh-findings .ensures _)
+    (c4 .writes-findings .ensures)))

@@ -14,4 +14,5 @@ stale-here-spec =
     tie.close
     (tie.spec (λ c κs. search needs) (λ c. search needs) (λ c. search needs) (λ c κs. search needs) (λ c.
     let c3 = c .before .before .before in
-    c .stale .ensures ∙ laws.stale-yes _ _ _ _ (c3 .has .ensures) (c .before .before .if1 .taken)) (λ c. sym (laws.stale-no _ _ _ _ (c .before .has .ensures) (c .if1 .left))))
+    c .stale .ensures ∙ laws.stale-yes _ _ _ _ (c3 .has .ensures) (c .before .before .if1 .taken))
+    (λ c. sym (laws.stale-no _ _ _ _ (c .before .has .ensures) (c .if1 .left))))

@@ -11,6 +11,8 @@ use Rattle.lint_walk.proofs.place_at.Reads as place-at-reads
 
 pub value-spec : {M : Type 1} → statement M
 value-spec =
-    tie.close (tie.spec (λ c κs. search needs) (λ c. laws.value-star _ _ _ (c .before .kind-at .ensures) (c .if1 .taken)) (λ c κs. search needs) (λ c κs. search needs) (λ c.
+    tie.close (tie.spec (λ c κs. search needs) (λ c. laws.value-star _ _ _ (c .before .kind-at .ensures) (c .if1 .taken))
+    (λ c κs. search needs) (λ c κs. search needs) (λ c.
     let c3 = c .before .before .before in
-    laws.value-set _ _ _ (c3 .kind-at .ensures) (c .before .before .if1 .left) (c .before .past .ensures) (c .place-at .ensures)))
+    laws.value-set _ _ _ (c3 .kind-at .ensures) (c .before .before .if1 .left) (c .before .past .ensures)
+    (c .place-at .ensures)))

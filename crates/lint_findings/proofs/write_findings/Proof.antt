@@ -30,7 +30,8 @@ write-findings-spec =
     let c5 = c4 .before in
     let c6 = c5 .before in
     let c7 = c6 .before in
-    laws.write-undeclared _ _ _ _ _ _ (c7 .kind-at .ensures) (c6 .if1 .left) (c5 .past .ensures) (c4 .place-at .ensures) (c .before .first-of .ensures .0) (c .if2 .taken))
+    laws.write-undeclared _ _ _ _ _ _ (c7 .kind-at .ensures) (c6 .if1 .left) (c5 .past .ensures) (c4 .place-at .ensures)
+    (c .before .first-of .ensures .0) (c .if2 .taken))
     (λ c κs. search needs)
     (λ c. search needs)
     (λ c κs. search needs)
@@ -38,7 +39,8 @@ write-findings-spec =
     (λ c κs. search needs)
     (λ c. search needs)
     (λ c κs.
-    let c19 = c .before .before .before .before .before .before .before .before .before .before .before .before .before .before .before .before .before .before .before in
+    let c19 = c .before .before .before .before .before .before .before .before .before .before .before .before .before
+    .before .before .before .before .before .before in
     c19 .pre .2)
     (λ c. search needs)
     (λ c. search needs)
@@ -53,4 +55,7 @@ write-findings-spec =
     let c16 = c15 .before in
     let c17 = c16 .before in
     let c18 = c17 .before in
-    laws.write-is _ _ _ _ _ _ (c18 .kind-at .ensures) (c17 .if1 .left) (c16 .past .ensures) (c15 .place-at .ensures) (c12 .first-of .ensures .0) (c11 .if2 .left) (c10 .value .ensures) (laws.with-finding _ (c8 .risky .ensures) (c9 .at-action .ensures) (c6 .push-if .ensures _)) (c .before .before .interactions-of .ensures _)))
+    laws.write-is _ _ _ _ _ _ (c18 .kind-at .ensures) (c17 .if1 .left) (c16 .past .ensures) (c15 .place-at .ensures)
+    (c12 .first-of .ensures .0) (c11 .if2 .left) (c10 .value .ensures)
+    (laws.with-finding _ (c8 .risky .ensures) (c9 .at-action .ensures) (c6 .push-if .ensures _))
+    (c .before .before .interactions-of .ensures _)))

@@ -14,7 +14,12 @@ use Rattle.lint_findings.proofs.writes_findings.Lts as lts
 use Rattle.lint_findings.proofs.write_findings.Reads as write-findings-reads
 
 abbrev Inv-loop : tie.InvT-loop
-Inv-loop s entities invariants rules given a list count findings₀ interactions₀ out₀ k₀ findings interactions out k = (pushes (writesItems s (namesBy entities invariants given) (sectionOf rules (given .rules)) a (walkBy list count)) (board findings₀ interactions₀ out₀) ≡ pushes (items-numbersM (λ k. writeItems s (namesBy entities invariants given) (sectionOf rules (given .rules)) a (getD list k 0)) (count - k) k) (board findings interactions out)) × ((length findings ≡ length findings₀) × (length interactions ≡ length interactions₀))
+Inv-loop s entities invariants rules given a list count findings₀ interactions₀ out₀ k₀ findings interactions out k =
+    (pushes (writesItems s (namesBy entities invariants given) (sectionOf rules (given .rules)) a (walkBy list count))
+    (board findings₀ interactions₀ out₀) ≡ pushes (items-numbersM
+    (λ k. writeItems s (namesBy entities invariants given) (sectionOf rules (given .rules)) a (getD list k 0)) (count - k) k)
+    (board findings interactions out)) × ((length findings ≡ length findings₀)
+    × (length interactions ≡ length interactions₀))
 
 abbrev μ-loop : tie.MeasureT-loop
 μ-loop s entities invariants rules given a list count findings₀ interactions₀ out₀ k₀ findings interactions out k = count - k

@@ -16,4 +16,5 @@ put-component-spec =
     (λ c.
     let c6 = c .before .before .before .before .before .before in
     let c10 = c6 .before .before .before .before in
-    show.is (laws.component-is _) (show.both (c10 .put .ensures) (show.both (c6 .put-members .ensures) (c .before .before .put-byte .ensures)))))
+    show.is (laws.component-is _) (show.both (c10 .put .ensures)
+    (show.both (c6 .put-members .ensures) (c .before .before .put-byte .ensures)))))

@@ -26,4 +26,7 @@ put-counts-spec =
     let c19 = c15 .before .before .before .before in
     let c24 = c19 .before .before .before .before .before in
     let c28 = c24 .before .before .before .before in
-    show.is (laws.counts-are _ _ _) (show.both (c28 .put .ensures) (show.both (c24 .put-number .ensures) (show.both (c19 .put2 .ensures) (show.both (c15 .put-number2 .ensures) (show.both (c10 .put3 .ensures) (show.both (c6 .put-number3 .ensures) (c .before .before .put-byte .ensures)))))))))
+    show.is (laws.counts-are _ _ _) (show.both (c28 .put .ensures)
+    (show.both (c24 .put-number .ensures) (show.both (c19 .put2 .ensures)
+    (show.both (c15 .put-number2 .ensures) (show.both (c10 .put3 .ensures)
+    (show.both (c6 .put-number3 .ensures) (c .before .before .put-byte .ensures)))))))))

@@ -23,4 +23,6 @@ put-finding-spec =
     let c7 = c6 .before in
     let c11 = c7 .before .before .before .before in
     let c15 = c11 .before .before .before .before in
-    show.is (laws.finding-is _ _ _ _ _ (c15 .wide .ensures) (c7 .note-of .ensures)) (show.both (c11 .put-kind .ensures _ _) (show.both (c6 .put-message .ensures) (c .before .before .put-places .ensures)))))
+    show.is (laws.finding-is _ _ _ _ _ (c15 .wide .ensures) (c7 .note-of .ensures))
+    (show.both (c11 .put-kind .ensures _ _) (show.both (c6 .put-message .ensures)
+    (c .before .before .put-places .ensures)))))

@@ -20,7 +20,8 @@ put-finding-at-spec =
     (λ c. search needs)
     (λ c κs.
     let c6 = c .before .before .before .before .before .before in
-    laws.fourteen (c6 .args .a .now) (14 * c6 .args .k) (14 * c6 .args .k + 14) refl (omega (arith, c .before .before .if1 .left)))
+    laws.fourteen (c6 .args .a .now) (14 * c6 .args .k) (14 * c6 .args .k + 14) refl
+    (omega (arith, c .before .before .if1 .left)))
     (λ c. search needs)
     (λ c.
     let c5 = c .before .before .before .before .before in

@@ -30,4 +30,5 @@ put-interaction-at-spec =
     let c6 = c4 .before .before in
     let c8 = c6 .before .before in
     let c10 = c8 .before .before in
-    show.is (laws.interaction-there _ _ _ _ _ _ _ (c10 .if1 .left) (c8 .wide .ensures) (c6 .wide2 .ensures) (c4 .wide3 .ensures)) (c .before .before .put-interaction .ensures)))
+    show.is (laws.interaction-there _ _ _ _ _ _ _ (c10 .if1 .left) (c8 .wide .ensures) (c6 .wide2 .ensures)
+    (c4 .wide3 .ensures)) (c .before .before .put-interaction .ensures)))

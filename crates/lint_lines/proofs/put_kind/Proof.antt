@@ -24,4 +24,7 @@ put-kind-spec =
     let c18 = c14 .before .before .before .before in
     let c22 = c18 .before .before .before .before in
     let c26 = c22 .before .before .before .before in
-    show.is (laws.kind-is _ _ _) (show.both (c26 .put .ensures) (show.both (c22 .put-code .ensures x t) (show.both (c18 .put-byte .ensures) (show.both (c14 .put-certainty .ensures) (show.both (c10 .put-byte2 .ensures) (show.both (c6 .put-tier .ensures) (c .before .before .put-byte3 .ensures)))))))))
+    show.is (laws.kind-is _ _ _) (show.both (c26 .put .ensures)
+    (show.both (c22 .put-code .ensures x t) (show.both (c18 .put-byte .ensures)
+    (show.both (c14 .put-certainty .ensures) (show.both (c10 .put-byte2 .ensures)
+    (show.both (c6 .put-tier .ensures) (c .before .before .put-byte3 .ensures)))))))))

@@ -16,4 +16,5 @@ put-place-spec =
     (λ c. search needs)
     (λ c.
     let c6 = c .before .before .before .before .before .before in
-    show.is (ap (λ (l : Text). 32 ∷ l) (laws.placed-is _ _)) (show.both (c6 .put-byte .ensures) (c .before .before .put-source .ensures))))
+    show.is (ap (λ (l : Text). 32 ∷ l) (laws.placed-is _ _))
+    (show.both (c6 .put-byte .ensures) (c .before .before .put-source .ensures))))

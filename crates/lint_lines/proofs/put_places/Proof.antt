@@ -22,4 +22,6 @@ put-places-spec =
     let c10 = c6 .before .before .before .before in
     let c15 = c10 .before .before .before .before .before in
     let c20 = c15 .before .before .before .before .before in
-    show.is (laws.places-are _ _) (show.both (c20 .put .ensures) (show.both (c15 .put-members .ensures) (show.both (c10 .put2 .ensures) (show.both (c6 .put-sources .ensures) (c .before .before .put-byte .ensures)))))))
+    show.is (laws.places-are _ _) (show.both (c20 .put .ensures)
+    (show.both (c15 .put-members .ensures) (show.both (c10 .put2 .ensures)
+    (show.both (c6 .put-sources .ensures) (c .before .before .put-byte .ensures)))))))

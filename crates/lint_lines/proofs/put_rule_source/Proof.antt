@@ -26,5 +26,7 @@ put-rule-source-spec =
     let c8 = c7 .before in
     let c9 = c8 .before in
     let c10 = c9 .before in
-    show.is (laws.rule-placed _ _ _ _ _ _ _ _ (c8 .start-at .ensures) (c7 .source-at .ensures) (c6 .number-at .ensures) (c5 .past .ensures) (c4 .number-at2 .ensures) ∙ words.chosen _ _ (sym (c10 .has .ensures) ∙ c9 .if1 .taken)) (c .before .before .put-place .ensures))
+    show.is (laws.rule-placed _ _ _ _ _ _ _ _ (c8 .start-at .ensures) (c7 .source-at .ensures) (c6 .number-at .ensures)
+    (c5 .past .ensures) (c4 .number-at2 .ensures) ∙ words.chosen _ _ (sym (c10 .has .ensures) ∙ c9 .if1 .taken))
+    (c .before .before .put-place .ensures))
     (λ c. show.is (words.not-chosen _ _ (sym (c .before .has .ensures) ∙ c .if1 .left)) (show.nothing _ _)))

@@ -12,7 +12,8 @@ put-sources-spec =
     (λ c. search needs)
     (λ c κs. search needs)
     (λ c. search needs)
-    (λ c. show.is (laws.cycle-sources _ _ _ (c .before .before .before .before .before .if1 .taken)) (c .before .before .put-rule-sources .ensures))
+    (λ c. show.is (laws.cycle-sources _ _ _ (c .before .before .before .before .before .if1 .taken))
+    (c .before .before .put-rule-sources .ensures))
     (λ c κs. search needs)
     (λ c. search needs)
     (λ c. search needs)
@@ -26,7 +27,8 @@ put-sources-spec =
     let c14 = c8 .before .before .before .before .before .before in
     let c16 = c14 .before .before in
     let c17 = c16 .before in
-    show.is (laws.two-sources _ _ _ (c17 .if1 .left) (c16 .if2 .taken)) (show.both (c14 .put-byte .ensures) (show.both (c8 .put-place .ensures) (c .before .before .put-place2 .ensures))))
+    show.is (laws.two-sources _ _ _ (c17 .if1 .left) (c16 .if2 .taken))
+    (show.both (c14 .put-byte .ensures) (show.both (c8 .put-place .ensures) (c .before .before .put-place2 .ensures))))
     (λ c κs. search needs)
     (λ c. search needs)
     (λ c. search needs)
@@ -36,4 +38,5 @@ put-sources-spec =
     let c8 = c .before .before .before .before .before .before .before .before in
     let c10 = c8 .before .before in
     let c11 = c10 .before in
-    show.is (laws.one-source _ _ _ (c11 .if1 .left) (c10 .if2 .left)) (show.both (c8 .put-byte2 .ensures) (c .before .before .put-place3 .ensures))))
+    show.is (laws.one-source _ _ _ (c11 .if1 .left) (c10 .if2 .left))
+    (show.both (c8 .put-byte2 .ensures) (c .before .before .put-place3 .ensures))))

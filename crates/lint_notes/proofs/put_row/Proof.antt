@@ -36,4 +36,6 @@ put-row-spec =
     let c6 = c5 .before in
     let c7 = c6 .before in
     let c9 = c7 .before .before in
-    laws.row-is _ _ _ (c9 .conditions-at .ensures) (c7 .place-at .ensures) (c6 .triggers-at .ensures) (c5 .capped .ensures) (c4 .capped2 .ensures) (c3 .predicates-end .ensures) (c .before .before .capped3 .ensures) (c .before .past .ensures) (c .capped4 .ensures)))
+    laws.row-is _ _ _ (c9 .conditions-at .ensures) (c7 .place-at .ensures) (c6 .triggers-at .ensures) (c5 .capped .ensures)
+    (c4 .capped2 .ensures) (c3 .predicates-end .ensures) (c .before .before .capped3 .ensures) (c .before .past .ensures)
+    (c .capped4 .ensures)))

@@ -22,4 +22,5 @@ oppose-spec =
     let c3 = c .before .before .before in
     let c5 = c3 .before .before in
     let c6 = c5 .before in
-    λ i. laws.found-is _ _ _ _ _ _ _ (c6 .first-of .ensures .0) (c5 .if1 .left) (c3 .pair-words .ensures) (c .before .before .push-finding .ensures i)))
+    λ i. laws.found-is _ _ _ _ _ _ _ (c6 .first-of .ensures .0) (c5 .if1 .left) (c3 .pair-words .ensures)
+    (c .before .before .push-finding .ensures i)))

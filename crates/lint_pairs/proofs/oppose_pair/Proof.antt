@@ -17,7 +17,11 @@ use Rattle.lint_pairs.proofs.oppose_pair.Lts as lts
 use Rattle.lint_pairs.proofs.oppose_row.Reads as oppose-row-reads
 
 abbrev Inv-loop : tie.InvT-loop
-Inv-loop s entities invariants given set list m others n findings₀ out₀ k₀ findings out k = ((i : List ℕ) → pushes (pairItems s (namesBy entities invariants given) set (walkBy list m) (walkBy others n)) (board findings₀ i out₀) ≡ pushes (items-numbersM (λ k. rowItems s (namesBy entities invariants given) set (walkBy others n) (getD list k 0)) (m - k) k) (board findings i out)) × (length findings ≡ length findings₀)
+Inv-loop s entities invariants given set list m others n findings₀ out₀ k₀ findings out k =
+    ((i : List ℕ) → pushes (pairItems s (namesBy entities invariants given) set (walkBy list m) (walkBy others n))
+    (board findings₀ i out₀) ≡ pushes (items-numbersM
+    (λ k. rowItems s (namesBy entities invariants given) set (walkBy others n) (getD list k 0)) (m - k) k)
+    (board findings i out)) × (length findings ≡ length findings₀)
 
 abbrev μ-loop : tie.MeasureT-loop
 μ-loop s entities invariants given set list m others n findings₀ out₀ k₀ findings out k = m - k
@@ -36,7 +40,10 @@ oppose-pair-spec =
     (λ c. search needs)
     (λ c.
     let c5 = c .before .before .before .before .before in
-    let c6 = c5 .before in
-    ((λ i. c6 .loop .inv .0 i ∙ items.numbers-more _ _ _ _ (c5 .loop-test .taken) (c .before .before .oppose-row .ensures i)), search needs))
+    let c6 = c5 .before in (
+      (λ i. c6 .loop .inv .0 i ∙ items.numbers-more _ _ _ _ (c5 .loop-test .taken)
+          (c .before .before .oppose-row .ensures i)),
+      search needs,
+    ))
     (λ c. search needs)
     (λ c. λ i. sym (c .before .loop .inv .0 i ∙ items.numbers-end _ _ _ _ (c .loop-test .left))))

@@ -22,7 +22,11 @@ use Rattle.lint_walk.proofs.past.Reads as past-reads
 use Rattle.lint_walk.proofs.place_at.Reads as place-at-reads
 
 abbrev Inv-loop : tie.InvT-loop
-Inv-loop s entities invariants given set at list count findings₀ star x v out₀ k₀ findings out k = ((i : List ℕ) → pushes (rowItems s (namesBy entities invariants given) set (walkBy list count) at) (board findings₀ i out₀) ≡ pushes (items-numbersM (λ k. opposeItems s (namesBy entities invariants given) set at (getD list k 0)) (count - k) k) (board findings i out)) × (length findings ≡ length findings₀)
+Inv-loop s entities invariants given set at list count findings₀ star x v out₀ k₀ findings out k =
+    ((i : List ℕ) → pushes (rowItems s (namesBy entities invariants given) set (walkBy list count) at)
+    (board findings₀ i out₀) ≡ pushes (items-numbersM
+    (λ k. opposeItems s (namesBy entities invariants given) set at (getD list k 0)) (count - k) k) (board findings i out))
+    × (length findings ≡ length findings₀)
 
 abbrev μ-loop : tie.MeasureT-loop
 μ-loop s entities invariants given set at list count findings₀ star x v out₀ k₀ findings out k = count - k
@@ -54,8 +58,12 @@ oppose-row-spec =
     let c10 = c9 .before in
     let c11 = c10 .before in
     let c12 = c11 .before in
-    let c13 = c12 .before in
-    ((λ i. c8 .loop .inv .0 i ∙ items.numbers-more _ _ _ _ (c7 .loop-test .taken) (laws.oppose-yes _ _ _ _ _ (c13 .kind-at .ensures) (c12 .if1 .left) (c11 .past .ensures) (c10 .place-at .ensures) (c9 .value .ensures) _ (c5 .opposing .ensures) (c4 .if2 .taken) (c .before .before .oppose .ensures i))), search needs))
+    let c13 = c12 .before in (
+      (λ i. c8 .loop .inv .0 i ∙ items.numbers-more _ _ _ _ (c7 .loop-test .taken)
+          (laws.oppose-yes _ _ _ _ _ (c13 .kind-at .ensures) (c12 .if1 .left) (c11 .past .ensures) (c10 .place-at .ensures)
+          (c9 .value .ensures) _ (c5 .opposing .ensures) (c4 .if2 .taken) (c .before .before .oppose .ensures i))),
+      search needs,
+    ))
     (λ c. search needs)
     (λ c. search needs)
     (λ c.
@@ -65,7 +73,11 @@ oppose-row-spec =
     let c6 = c5 .before in
     let c7 = c6 .before in
     let c8 = c7 .before in
-    let c9 = c8 .before in
-    ((λ i. c4 .loop .inv .0 i ∙ items.numbers-more _ _ _ _ (c3 .loop-test .taken) (laws.oppose-no _ _ _ _ _ (c9 .kind-at .ensures) (c8 .if1 .left) (c7 .past .ensures) (c6 .place-at .ensures) (c5 .value .ensures) _ (c .before .opposing .ensures) (c .if2 .left))), search needs))
+    let c9 = c8 .before in (
+      (λ i. c4 .loop .inv .0 i ∙ items.numbers-more _ _ _ _ (c3 .loop-test .taken)
+          (laws.oppose-no _ _ _ _ _ (c9 .kind-at .ensures) (c8 .if1 .left) (c7 .past .ensures) (c6 .place-at .ensures)
+          (c5 .value .ensures) _ (c .before .opposing .ensures) (c .if2 .left))),
+      search needs,
+    ))
     (λ c. search needs)
     (λ c. λ i. sym (c .before .loop .inv .0 i ∙ items.numbers-end _ _ _ _ (c .loop-test .left))))

@@ -23,7 +23,8 @@ opposing-spec =
     (λ c.
     let c3 = c .before .before .before in
     let c4 = c3 .before in
-    laws.opposing-is _ _ _ _ _ (c4 .kind-at .ensures) (c3 .if1 .left) (c .before .before .past .ensures) (c .before .place-at .ensures) refl (sym (tests.opposed-other _ _ _ _ _ (c .if2 .taken))))
+    laws.opposing-is _ _ _ _ _ (c4 .kind-at .ensures) (c3 .if1 .left) (c .before .before .past .ensures)
+    (c .before .place-at .ensures) refl (sym (tests.opposed-other _ _ _ _ _ (c .if2 .taken))))
     (λ c κs. search needs)
     (λ c κs. search needs)
     (λ c.
@@ -31,4 +32,5 @@ opposing-spec =
     let c4 = c3 .before in
     let c5 = c4 .before in
     let c6 = c5 .before in
-    laws.opposing-is _ _ _ _ _ (c6 .kind-at .ensures) (c5 .if1 .left) (c4 .past .ensures) (c3 .place-at .ensures) (c .before .value .ensures) (c .opposed .ensures)))
+    laws.opposing-is _ _ _ _ _ (c6 .kind-at .ensures) (c5 .if1 .left) (c4 .past .ensures) (c3 .place-at .ensures)
+    (c .before .value .ensures) (c .opposed .ensures)))

@@ -31,4 +31,6 @@ pair-words-spec =
     let c5 = c4 .before in
     let c6 = c5 .before in
     let c7 = c6 .before in
-    laws.pair-is _ _ _ _ _ _ (c7 .tier .ensures) (c6 .spelled .ensures) (c5 .number-at .ensures) (c4 .past .ensures) (c3 .number-at2 .ensures) (c .before .before .number-at3 .ensures) (c .before .past2 .ensures) (c .number-at4 .ensures)))
+    laws.pair-is _ _ _ _ _ _ (c7 .tier .ensures) (c6 .spelled .ensures) (c5 .number-at .ensures) (c4 .past .ensures)
+    (c3 .number-at2 .ensures) (c .before .before .number-at3 .ensures) (c .before .past2 .ensures)
+    (c .number-at4 .ensures)))

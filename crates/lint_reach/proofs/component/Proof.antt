@@ -31,6 +31,9 @@ component-spec =
     (λ c. search needs)
     (λ c. search needs)
     (λ c.
-    let c3 = c .before .before .before in
-    (c3 .loop .inv .0 ∙ parts.collect-next _ _ _ _ _ _ (c .before .before .loop-test .taken) (c .before .both .ensures) (c .with-if .ensures), omega arith))
+    let c3 = c .before .before .before in (
+      c3 .loop .inv .0 ∙ parts.collect-next _ _ _ _ _ _ (c .before .before .loop-test .taken) (c .before .both .ensures)
+          (c .with-if .ensures),
+      omega arith,
+    ))
     (λ c. sym (c .before .loop .inv .0 ∙ parts.collect-end _ _ _ _ (c .loop-test .left))))

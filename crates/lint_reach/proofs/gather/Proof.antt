@@ -27,6 +27,9 @@ gather-spec =
     (λ c. search needs)
     (λ c. search needs)
     (λ c.
-    let c3 = c .before .before .before in
-    (parts.gathered-more _ _ _ _ _ (c .before .loop-test .taken) (c3 .pre .0) (c .before .before .loop .inv .0) (c .with-component .ensures), omega arith))
+    let c3 = c .before .before .before in (
+      parts.gathered-more _ _ _ _ _ (c .before .loop-test .taken) (c3 .pre .0) (c .before .before .loop .inv .0)
+          (c .with-component .ensures),
+      omega arith,
+    ))
     (λ c. parts.gathered-all _ _ _ _ (c .loop-test .left) (c .before .loop .inv .1) (c .before .loop .inv .0)))

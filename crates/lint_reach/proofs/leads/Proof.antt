@@ -24,5 +24,9 @@ leads-spec =
     (λ c. search needs)
     (λ c. search needs)
     (λ c. search needs)
-    (λ c. let l = c .before .before .loop in (⊎-elim (λ w. w .1 ∙ laws.leads-here _ (l .j) (w .0 .taken)) (λ w. laws.leads-on _ (l .j) (w .0 .left) (w .1 ∙ l .inv .0)) (c .if1 .came), omega arith))
+    (λ c. let l = c .before .before .loop in (
+      ⊎-elim (λ w. w .1 ∙ laws.leads-here _ (l .j) (w .0 .taken))
+          (λ w. laws.leads-on _ (l .j) (w .0 .left) (w .1 ∙ l .inv .0)) (c .if1 .came),
+      omega arith,
+    ))
     (λ c. let l = c .before .loop in l .inv .0 ∙ ap (leadsM _) (omega (arith, l .inv .1, c .loop-test .left))))

@@ -10,4 +10,7 @@ use Rattle.lint_reach.proofs.has.Reads as has-reads
 
 pub starts-spec : {M : Type 1} → statement M
 starts-spec =
-    tie.close (tie.spec (λ c κs. search needs) (λ c. sym (parts.starts-held _ _ _ (sym (c .before .has .ensures) ∙ c .if1 .taken))) (λ c. search needs) (λ c. search needs) (λ c. search needs) (λ c. sym (parts.starts-free _ _ _ (sym (c .before .before .has .ensures) ∙ c .before .if1 .left))))
+    tie.close (tie.spec (λ c κs. search needs) (λ c. sym
+    (parts.starts-held _ _ _ (sym (c .before .has .ensures) ∙ c .if1 .taken))) (λ c. search needs) (λ c. search needs)
+    (λ c. search needs)
+    (λ c. sym (parts.starts-free _ _ _ (sym (c .before .before .has .ensures) ∙ c .before .if1 .left))))

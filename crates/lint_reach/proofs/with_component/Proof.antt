@@ -23,5 +23,6 @@ with-component-spec =
     (λ c.
     let c3 = c .before .before .before in
     let c4 = c3 .before in
-    parts.next-is _ _ _ _ _ _ (sym (c4 .starts .ensures) ∙ c3 .if1 .taken) (c .before .before .component .ensures) (c .union .ensures))
+    parts.next-is _ _ _ _ _ _ (sym (c4 .starts .ensures) ∙ c3 .if1 .taken) (c .before .before .component .ensures)
+    (c .union .ensures))
     (λ c. sym (parts.next-no _ _ _ _ (sym (c .before .starts .ensures) ∙ c .if1 .left))))

@@ -9,4 +9,6 @@ use Rattle.lint_reach.proofs.with_if.Lts as lts
 use Rattle.lint_reach.proofs.with.Reads as with-reads
 
 pub with-if-spec : {M : Type 1} → statement M
-with-if-spec = tie.close (tie.spec (λ c κs. search needs) (λ c. c .with .ensures ∙ sym (parts.with-yes _ _ (c .before .if1 .taken))) (λ c. sym (parts.with-no _ _ (c .if1 .left))))
+with-if-spec =
+    tie.close (tie.spec (λ c κs. search needs) (λ c. c .with .ensures ∙ sym (parts.with-yes _ _ (c .before .if1 .taken)))
+    (λ c. sym (parts.with-no _ _ (c .if1 .left))))

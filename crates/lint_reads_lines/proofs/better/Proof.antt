@@ -14,8 +14,10 @@ better-spec =
     (λ c.
     let c3 = c .before .before .before in
     let c4 = c3 .before in
-    laws.better-less _ _ _ _ _ _ (c4 .name-place .ensures) _ (c3 .if1 .left) (c .before .before .if2 .left) (c .before .name-place2 .ensures) (c .if3 .taken))
+    laws.better-less _ _ _ _ _ _ (c4 .name-place .ensures) _ (c3 .if1 .left) (c .before .before .if2 .left)
+    (c .before .name-place2 .ensures) (c .if3 .taken))
     (λ c.
     let c3 = c .before .before .before in
     let c4 = c3 .before in
-    laws.better-more _ _ _ _ _ _ (c4 .name-place .ensures) _ (c3 .if1 .left) (c .before .before .if2 .left) (c .before .name-place2 .ensures) (c .if3 .left)))
+    laws.better-more _ _ _ _ _ _ (c4 .name-place .ensures) _ (c3 .if1 .left) (c .before .before .if2 .left)
+    (c .before .name-place2 .ensures) (c .if3 .left)))

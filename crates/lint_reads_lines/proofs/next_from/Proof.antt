@@ -12,5 +12,6 @@ next-from-spec =
     (λ c κs. search needs)
     (λ c.
     let c3 = c .before .before .before in
-    laws.next-is _ _ _ _ _ _ (c3 .rule-from .ensures) (c .before .before .if1 .taken) (c .before .name-place .ensures) (c .behind .ensures))
+    laws.next-is _ _ _ _ _ _ (c3 .rule-from .ensures) (c .before .before .if1 .taken) (c .before .name-place .ensures)
+    (c .behind .ensures))
     (λ c. laws.next-none _ _ _ _ (c .before .rule-from .ensures) (c .if1 .left)))

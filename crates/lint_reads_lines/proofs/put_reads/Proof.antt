@@ -14,7 +14,9 @@ use Rattle.lint_reads_lines.proofs.put_reads.Statement.{statement}
 use Rattle.lint_reads_lines.proofs.put_reads.Tie as tie
 
 abbrev Inv-loop : tie.InvT-loop
-Inv-loop out₀ n f entities r i m₀ from₀ left₀ out m from left = words.Part (spaced (each (λ (p : ℕ). quoted (text-at f p)) (ascending 97 0 (read-places f entities r i)))) (spaced (each (λ (p : ℕ). quoted (text-at f p)) (ascending left from (read-places f entities r i)))) out₀ m₀ out m
+Inv-loop out₀ n f entities r i m₀ from₀ left₀ out m from left =
+    words.Part (spaced (each (λ (p : ℕ). quoted (text-at f p)) (ascending 97 0 (read-places f entities r i))))
+    (spaced (each (λ (p : ℕ). quoted (text-at f p)) (ascending left from (read-places f entities r i)))) out₀ m₀ out m
 
 abbrev μ-loop : tie.MeasureT-loop
 μ-loop out₀ n f entities r i m₀ from₀ left₀ out m from left = left
@@ -38,9 +40,12 @@ put-reads-spec =
     let c5 = c3 .before .before in
     let c6 = c5 .before in
     let c7 = c6 .before in
-    words.further (loops.read-next _ _ _ _ _ _ (c6 .loop-test .taken) (c5 .read-from .ensures) (c .behind .ensures)) (c7 .loop .inv) (c3 .put-text-at .ensures))
+    words.further (loops.read-next _ _ _ _ _ _ (c6 .loop-test .taken) (c5 .read-from .ensures) (c .behind .ensures))
+    (c7 .loop .inv) (c3 .put-text-at .ensures))
     (λ c. c .before .loop .inv .written .same ∙ c .before .before .before .before .put-number .ensures .same)
     (λ c.
     let c4 = c .before .before .before .before in
     let c5 = c4 .before in
-    show.is (laws.reads-listed _ _ _ (c5 .reads-count .ensures)) (show.both (c4 .put-number .ensures) (words.finished (loops.read-end _ _ _ _ (c .loop-test .left)) (c .before .loop .inv)))))
+    show.is (laws.reads-listed _ _ _ (c5 .reads-count .ensures))
+    (show.both (c4 .put-number .ensures) (words.finished (loops.read-end _ _ _ _ (c .loop-test .left))
+    (c .before .loop .inv)))))

@@ -20,4 +20,6 @@ put-reads-line-spec =
     let c10 = c6 .before .before .before .before in
     let c14 = c10 .before .before .before .before in
     let c18 = c14 .before .before .before .before in
-    show.is (laws.reads-line-is _ _ _ _) (show.both (c18 .put .ensures) (show.both (c14 .put-name .ensures) (show.both (c10 .put-byte .ensures) (show.both (c6 .put-reads .ensures) (c .before .before .put-byte2 .ensures)))))))
+    show.is (laws.reads-line-is _ _ _ _) (show.both (c18 .put .ensures)
+    (show.both (c14 .put-name .ensures) (show.both (c10 .put-byte .ensures)
+    (show.both (c6 .put-reads .ensures) (c .before .before .put-byte2 .ensures)))))))

@@ -20,4 +20,6 @@ put-text-at-spec =
     let c3 = c .before .before .before in
     let c7 = c3 .before .before .before .before in
     let c9 = c7 .before .before in
-    show.is (ap (λ (l : Text). 32 ∷ l) (laws.quoted-place _ _ _ (c3 .text-start .ensures)) ∙ laws.some-at _ _ (c9 .if1 .left)) (show.both (c7 .put-byte .ensures) (c .before .before .put-quoted-text .ensures))))
+    show.is (ap (λ (l : Text). 32 ∷ l) (laws.quoted-place _ _ _ (c3 .text-start .ensures))
+    ∙ laws.some-at _ _ (c9 .if1 .left)) (show.both (c7 .put-byte .ensures)
+    (c .before .before .put-quoted-text .ensures))))

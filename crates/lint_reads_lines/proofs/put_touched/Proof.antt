@@ -16,11 +16,13 @@ put-touched-spec =
     let c4 = c .before .before .before .before in
     let c5 = c4 .before in
     let c6 = c5 .before in
-    show.is (laws.writes-touched _ _ _ _ _ _ (c6 .rule-from .ensures) (c5 .if1 .left) (c4 .if2 .taken)) (c .before .before .put-writes-line .ensures))
+    show.is (laws.writes-touched _ _ _ _ _ _ (c6 .rule-from .ensures) (c5 .if1 .left) (c4 .if2 .taken))
+    (c .before .before .put-writes-line .ensures))
     (λ c κs. search needs)
     (λ c. search needs)
     (λ c.
     let c4 = c .before .before .before .before in
     let c5 = c4 .before in
     let c6 = c5 .before in
-    show.is (laws.reads-touched _ _ _ _ _ _ (c6 .rule-from .ensures) (c5 .if1 .left) (c4 .if2 .left)) (c .before .before .put-reads-line .ensures)))
+    show.is (laws.reads-touched _ _ _ _ _ _ (c6 .rule-from .ensures) (c5 .if1 .left) (c4 .if2 .left))
+    (c .before .before .put-reads-line .ensures)))

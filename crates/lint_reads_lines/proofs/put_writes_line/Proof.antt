@@ -22,4 +22,7 @@ put-writes-line-spec =
     let c11 = c7 .before .before .before .before in
     let c15 = c11 .before .before .before .before in
     let c19 = c15 .before .before .before .before in
-    show.is (laws.writes-line-is _ _ _ _ _ (c7 .set-at .ensures)) (show.both (c19 .put .ensures) (show.both (c15 .put-name .ensures) (show.both (c11 .put-byte .ensures) (show.both (c6 .put-members .ensures) (c .before .before .put-byte2 .ensures)))))))
+    show.is (laws.writes-line-is _ _ _ _ _ (c7 .set-at .ensures))
+    (show.both (c19 .put .ensures) (show.both (c15 .put-name .ensures)
+    (show.both (c11 .put-byte .ensures) (show.both (c6 .put-members .ensures)
+    (c .before .before .put-byte2 .ensures)))))))

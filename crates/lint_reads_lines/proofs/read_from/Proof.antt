@@ -10,4 +10,5 @@ read-from-spec =
     (λ c κs. search needs)
     (λ c κs. search needs)
     (λ c κs. search needs)
-    (λ c. laws.reads-are _ _ _ _ _ _ _ _ (c .before .before .set-at .ensures) (c .before .member-from .ensures) (c .stranger-from .ensures)))
+    (λ c. laws.reads-are _ _ _ _ _ _ _ _ (c .before .before .set-at .ensures) (c .before .member-from .ensures)
+    (c .stranger-from .ensures)))

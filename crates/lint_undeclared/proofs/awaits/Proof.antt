@@ -31,7 +31,8 @@ awaits-spec =
     (λ c.
     let c3 = c .before .before .before in
     let c4 = c3 .before in
-    sym (c4 .loop .inv ∙ tests.list-here _ _ _ _ (c3 .loop-test .taken) (sym (c .before .awaits-at .ensures) ∙ c .if1 .taken)))
+    sym (c4 .loop .inv ∙ tests.list-here _ _ _ _ (c3 .loop-test .taken)
+    (sym (c .before .awaits-at .ensures) ∙ c .if1 .taken)))
     (λ c. search needs)
     (λ c. search needs)
     (λ c.

@@ -15,7 +15,9 @@ use Rattle.lint_undeclared.proofs.with_strange.Reads as with-strange-re
 use Rattle.lint_walk.proofs.rule_walk.Reads as rule-walk-reads
 
 abbrev Inv-loop : tie.InvT-loop
-Inv-loop s entities declared rules texts i list c v₀ place₀ v place = namesM s (sectionOf entities declared) (walkOf list c) i (texts - 0) 0 v₀ ≡ namesM s (sectionOf entities declared) (walkOf list c) i (texts - place) place v
+Inv-loop s entities declared rules texts i list c v₀ place₀ v place =
+    namesM s (sectionOf entities declared) (walkOf list c) i (texts - 0) 0 v₀
+    ≡ namesM s (sectionOf entities declared) (walkOf list c) i (texts - place) place v
 
 abbrev μ-loop : tie.MeasureT-loop
 μ-loop s entities declared rules texts i list c v₀ place₀ v place = texts - place
@@ -38,11 +40,14 @@ rule-names-spec =
     (λ c.
     let c4 = c .before .before .before .before in
     let c5 = c4 .before in
-    c5 .loop .inv ∙ laws.names-more _ _ _ _ _ _ _ (c4 .loop-test .taken) (laws.name-yes _ _ _ _ _ _ (c .before .before .awaits .ensures) (c .before .if1 .taken) (c .with-strange .ensures)))
+    c5 .loop .inv ∙ laws.names-more _ _ _ _ _ _ _ (c4 .loop-test .taken)
+    (laws.name-yes _ _ _ _ _ _ (c .before .before .awaits .ensures) (c .before .if1 .taken) (c .with-strange .ensures)))
     (λ c. search needs)
     (λ c. search needs)
     (λ c.
     let c3 = c .before .before .before in
     let c4 = c3 .before in
-    c4 .loop .inv ∙ laws.names-more _ _ _ _ _ _ _ (c3 .loop-test .taken) (laws.name-no _ _ _ _ _ _ (c .before .awaits .ensures) (c .if1 .left)))
-    (λ c. sym (laws.rule-is _ _ _ _ _ _ (c .before .before .rule-walk .ensures) ∙ c .before .loop .inv ∙ laws.names-end _ _ _ _ _ _ _ (c .loop-test .left))))
+    c4 .loop .inv ∙ laws.names-more _ _ _ _ _ _ _ (c3 .loop-test .taken)
+    (laws.name-no _ _ _ _ _ _ (c .before .awaits .ensures) (c .if1 .left)))
+    (λ c. sym (laws.rule-is _ _ _ _ _ _ (c .before .before .rule-walk .ensures) ∙ c .before .loop .inv
+    ∙ laws.names-end _ _ _ _ _ _ _ (c .loop-test .left))))

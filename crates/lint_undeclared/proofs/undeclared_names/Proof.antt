@@ -11,7 +11,9 @@ use Rattle.lint_undeclared.proofs.undeclared_names.Lts as lts
 use Rattle.lint_undeclared.proofs.rule_names.Reads as rule-names-reads
 
 abbrev Inv-loop : tie.InvT-loop
-Inv-loop s entities declared rules extent texts count u₀ i₀ u i = undeclaredM s (sectionOf entities declared) (sectionOf rules extent) texts ≡ rulesM s (sectionOf entities declared) (sectionOf rules extent) texts (count - i) i u
+Inv-loop s entities declared rules extent texts count u₀ i₀ u i =
+    undeclaredM s (sectionOf entities declared) (sectionOf rules extent) texts
+    ≡ rulesM s (sectionOf entities declared) (sectionOf rules extent) texts (count - i) i u
 
 abbrev μ-loop : tie.MeasureT-loop
 μ-loop s entities declared rules extent texts count u₀ i₀ u i = count - i
@@ -27,5 +29,6 @@ undeclared-names-spec =
     (λ c κs. search needs)
     (λ c. search needs)
     (λ c. search needs)
-    (λ c. c .before .before .loop .inv ∙ laws.rules-more _ _ _ _ _ _ _ (c .before .loop-test .taken) (c .rule-names .ensures))
+    (λ c. c .before .before .loop .inv ∙ laws.rules-more _ _ _ _ _ _ _ (c .before .loop-test .taken)
+    (c .rule-names .ensures))
     (λ c. sym (c .before .loop .inv ∙ laws.rules-end _ _ _ _ _ _ _ (c .loop-test .left))))

@@ -8,4 +8,5 @@ use Rattle.lint_undeclared.proofs.with_name.Lts as lts
 pub with-name-spec : {M : Type 1} → statement M
 with-name-spec =
     tie.close
-    (tie.spec (λ c. search needs) (λ c. search needs) (λ c. search needs) (λ c. search needs) (λ c. search needs) (λ c. laws.with-place _ _ _ (c .before .before .if1 .taken)) (λ c. laws.with-none _ _ _ (c .if1 .left)))
+    (tie.spec (λ c. search needs) (λ c. search needs) (λ c. search needs) (λ c. search needs) (λ c. search needs)
+    (λ c. laws.with-place _ _ _ (c .before .before .if1 .taken)) (λ c. laws.with-none _ _ _ (c .if1 .left)))

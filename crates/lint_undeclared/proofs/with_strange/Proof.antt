@@ -16,4 +16,5 @@ with-strange-spec =
     (λ c κs. search needs)
     (λ c. laws.read-declared _ (sectionOf _ _) _ _ _ (c .before .first-of .ensures .0) (c .if1 .taken))
     (λ c κs. search needs)
-    (λ c. laws.read-is _ (sectionOf _ _) _ _ _ (c .before .before .first-of .ensures .0) (c .before .if1 .left) (c .with-name .ensures)))
+    (λ c. laws.read-is _ (sectionOf _ _) _ _ _ (c .before .before .first-of .ensures .0) (c .before .if1 .left)
+    (c .with-name .ensures)))

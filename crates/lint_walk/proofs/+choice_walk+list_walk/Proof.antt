@@ -45,13 +45,15 @@ list-walk-below t =
     and 2 list-walk-kinds.ps (falls 2 list-walk-kinds.ps _<_ μ-list-walk t) list-walk.Pre
 
 abbrev choice-walk-Inv-loop : choice-walk-lts.InvT-loop
-choice-walk-Inv-loop s left list₀ i₀ v₀ list i v = repeat i₀ (branchM s (listM left s)) (walkOf list₀ v₀) ≡ repeat i (branchM s (listM left s)) (walkOf list v)
+choice-walk-Inv-loop s left list₀ i₀ v₀ list i v =
+    repeat i₀ (branchM s (listM left s)) (walkOf list₀ v₀) ≡ repeat i (branchM s (listM left s)) (walkOf list v)
 
 abbrev choice-walk-μ-loop : choice-walk-lts.MeasureT-loop
 choice-walk-μ-loop s left list₀ i₀ v₀ list i v = i
 
 abbrev list-walk-Inv-loop : list-walk-lts.InvT-loop
-list-walk-Inv-loop s left list₀ i₀ v₀ list i v = repeat i₀ (actionM s (choiceM s (listM (left - 1) s))) (walkOf list₀ v₀) ≡ repeat i (actionM s (choiceM s (listM (left - 1) s))) (walkOf list v)
+list-walk-Inv-loop s left list₀ i₀ v₀ list i v = repeat i₀ (actionM s (choiceM s (listM (left - 1) s))) (walkOf list₀ v₀)
+    ≡ repeat i (actionM s (choiceM s (listM (left - 1) s))) (walkOf list v)
 
 abbrev list-walk-μ-loop : list-walk-lts.MeasureT-loop
 list-walk-μ-loop s left list₀ i₀ v₀ list i v = i
@@ -85,14 +87,18 @@ pub +choice-walk+list-walk-spec : {M : Type 1} → statement M
     (λ c.
     let c4 = c .before .before .before .before in
     let c5 = c4 .before in
-    c5 .loop .inv ∙ laws.repeat-more _ _ _ (c4 .loop-test .taken) ∙ ap (repeat _ _) (laws.branch-next _ _ _ (c .before .before .predicates-end .ensures) (laws.moved-of _ _ _ (c .before .moved2 .ensures)) (c .list-walk .ensures)))
+    c5 .loop .inv ∙ laws.repeat-more _ _ _ (c4 .loop-test .taken)
+    ∙ ap (repeat _ _) (laws.branch-next _ _ _ (c .before .before .predicates-end .ensures)
+    (laws.moved-of _ _ _ (c .before .moved2 .ensures)) (c .list-walk .ensures)))
     (λ c κs. search needs)
     (λ c.
     let c3 = c .before .before .before in
     let c4 = c3 .before in
     let c5 = c4 .before in
     let c6 = c5 .before in
-    c .list-walk2 .ensures ∙ laws.choice-done _ _ (c6 .place-at .ensures) (c5 .past .ensures) (laws.moved-of _ _ _ (c4 .moved .ensures)) _ (c3 .loop .inv ∙ laws.repeat-none _ _ _ (c .before .before .loop-test .left))))
+    c .list-walk2 .ensures ∙ laws.choice-done _ _ (c6 .place-at .ensures) (c5 .past .ensures)
+    (laws.moved-of _ _ _ (c4 .moved .ensures)) _ (c3 .loop .inv
+    ∙ laws.repeat-none _ _ _ (c .before .before .loop-test .left))))
     λ t. list-walk-lts.spec (
       place-at-reads.Asked,
       place-at-reads.Learnt,
@@ -129,7 +135,9 @@ pub +choice-walk+list-walk-spec : {M : Type 1} → statement M
     let c5 = c4 .before in
     let c6 = c5 .before in
     let c7 = c6 .before in
-    c7 .loop .inv ∙ laws.repeat-more _ _ _ (c6 .loop-test .taken) ∙ ap (repeat _ _) (laws.action-choice _ _ _ (sym (c5 .kind-at .ensures) ∙ c4 .if2 .taken) ∙ ap (choiceM _ (listM _ _)) (sym (c .before .before .entered .ensures)) ∙ sym (c .choice-walk .ensures)))
+    c7 .loop .inv ∙ laws.repeat-more _ _ _ (c6 .loop-test .taken)
+    ∙ ap (repeat _ _) (laws.action-choice _ _ _ (sym (c5 .kind-at .ensures) ∙ c4 .if2 .taken)
+    ∙ ap (choiceM _ (listM _ _)) (sym (c .before .before .entered .ensures)) ∙ sym (c .choice-walk .ensures)))
     (λ c κs. search needs)
     (λ c. search needs)
     (λ c. search needs)
@@ -137,9 +145,12 @@ pub +choice-walk+list-walk-spec : {M : Type 1} → statement M
     let c3 = c .before .before .before in
     let c4 = c3 .before in
     let c5 = c4 .before in
-    c5 .loop .inv ∙ laws.repeat-more _ _ _ (c4 .loop-test .taken) ∙ ap (repeat _ _) (laws.action-simple _ _ _ (λ e. c .before .before .if2 .left (c3 .kind-at .ensures ∙ e)) ∙ sym (c .simple-walk .ensures)))
+    c5 .loop .inv ∙ laws.repeat-more _ _ _ (c4 .loop-test .taken)
+    ∙ ap (repeat _ _) (laws.action-simple _ _ _ (λ e. c .before .before .if2 .left (c3 .kind-at .ensures ∙ e))
+    ∙ sym (c .simple-walk .ensures)))
     (λ c.
     let c3 = c .before .before .before in
     let c4 = c3 .before in
     let c5 = c4 .before in
-    laws.list-done _ _ (c4 .place-at .ensures) (c3 .past .ensures) (laws.moved-of _ _ _ (c .before .before .moved .ensures)) _ (c5 .if1 .left) (c .before .loop .inv ∙ laws.repeat-none _ _ _ (c .loop-test .left)))
+    laws.list-done _ _ (c4 .place-at .ensures) (c3 .past .ensures) (laws.moved-of _ _ _ (c .before .before .moved .ensures))
+    _ (c5 .if1 .left) (c .before .loop .inv ∙ laws.repeat-none _ _ _ (c .loop-test .left)))

@@ -8,6 +8,8 @@ use Rattle.lint_walk.proofs.byte_at.Lts as lts
 use Rattle.model_walk.proofs.u8_at.Reads as u8-at-reads
 
 pub byte-at-spec : {M : Type 1} → statement M
-byte-at-spec = tie.close (tie.spec (λ c κs. search needs) (λ c. search needs) (λ c. search needs) (λ c. sym (laws.byte-is _ _ ∙ laws.value-broken (c .before .before .u8-at .ensures) (c .enum-told .given .1))) (λ c.
+byte-at-spec =
+    tie.close (tie.spec (λ c κs. search needs) (λ c. search needs) (λ c. search needs)
+    (λ c. sym (laws.byte-is _ _ ∙ laws.value-broken (c .before .before .u8-at .ensures) (c .enum-told .given .1))) (λ c.
     let c3 = c .before .before .before in
     sym (laws.byte-is _ _ ∙ laws.value-got (c3 .u8-at .ensures) (c .before .x .given .1))))

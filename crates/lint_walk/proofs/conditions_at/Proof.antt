@@ -21,4 +21,5 @@ conditions-at-spec =
     (λ c κs. search needs)
     (λ c.
     let c3 = c .before .before .before in
-    c .past2 .ensures ∙ laws.conditions-is _ _ _ _ _ (c3 .triggers-at .ensures) (c .before .before .place-at .ensures) (c .before .past .ensures)))
+    c .past2 .ensures ∙ laws.conditions-is _ _ _ _ _ (c3 .triggers-at .ensures) (c .before .before .place-at .ensures)
+    (c .before .past .ensures)))

@@ -9,4 +9,6 @@ use Rattle.lint_walk.proofs.byte_at.Reads as byte-at-reads
 use Rattle.lint_walk.proofs.past.Reads as past-reads
 
 pub kind-at-spec : {M : Type 1} → statement M
-kind-at-spec = tie.close (tie.spec (λ c κs. search needs) (λ c κs. search needs) (λ c. c .byte-at .ensures ∙ laws.kind-is _ _ _ (c .before .past .ensures)))
+kind-at-spec =
+    tie.close (tie.spec (λ c κs. search needs) (λ c κs. search needs)
+    (λ c. c .byte-at .ensures ∙ laws.kind-is _ _ _ (c .before .past .ensures)))

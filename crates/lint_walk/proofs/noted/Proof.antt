@@ -7,4 +7,6 @@ use Rattle.lint_walk.proofs.noted.Reads as reads
 use Rattle.lint_walk.proofs.noted.Lts as lts
 
 pub noted-spec : {M : Type 1} → statement M
-noted-spec = tie.close (tie.spec (λ c. search needs) (λ c. search needs) (λ c. search needs) (λ c. sym (laws.noted-in _ (c .if1 .taken))) (λ c. sym (laws.noted-out _ (c .if1 .left))))
+noted-spec =
+    tie.close (tie.spec (λ c. search needs) (λ c. search needs) (λ c. search needs)
+    (λ c. sym (laws.noted-in _ (c .if1 .taken))) (λ c. sym (laws.noted-out _ (c .if1 .left))))

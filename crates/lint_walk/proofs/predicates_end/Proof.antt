@@ -28,5 +28,6 @@ predicates-end-spec =
     (λ c κs. search needs)
     (λ c. search needs)
     (λ c. search needs)
-    (λ c. c .before .before .loop .inv ∙ laws.repeat-more _ _ _ (c .before .loop-test .taken) ∙ ap (repeat _ _) (sym (c .predicate-end .ensures)))
+    (λ c. c .before .before .loop .inv ∙ laws.repeat-more _ _ _ (c .before .loop-test .taken)
+    ∙ ap (repeat _ _) (sym (c .predicate-end .ensures)))
     (λ c. sym (c .before .loop .inv ∙ laws.repeat-none _ _ _ (c .loop-test .left))))

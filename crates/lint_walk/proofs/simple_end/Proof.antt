@@ -24,4 +24,5 @@ simple-end-spec =
     (λ c.
     let c3 = c .before .before .before in
     let c4 = c3 .before in
-    c .past4 .ensures ∙ sym (laws.simple-else _ _ (c4 .if1 .left) (c3 .if2 .left) (c .before .before .if3 .left) (c .before .if4 .left))))
+    c .past4 .ensures
+    ∙ sym (laws.simple-else _ _ (c4 .if1 .left) (c3 .if2 .left) (c .before .before .if3 .left) (c .before .if4 .left))))

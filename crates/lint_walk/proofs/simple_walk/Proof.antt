@@ -24,4 +24,5 @@ simple-walk-spec =
     let c3 = c .before .before .before in
     let c4 = c3 .before in
     let c5 = c4 .before in
-    laws.moved-of _ _ _ (c .moved .ensures) ∙ laws.simple-is _ _ _ _ _ _ (c5 .kind-at .ensures) (c4 .past .ensures) (c3 .simple-end .ensures) (c .before .noted .ensures)))
+    laws.moved-of _ _ _ (c .moved .ensures) ∙ laws.simple-is _ _ _ _ _ _ (c5 .kind-at .ensures) (c4 .past .ensures)
+    (c3 .simple-end .ensures) (c .before .noted .ensures)))

@@ -76,4 +76,5 @@ put-code-spec =
     let c11 = c10 .before in
     let c12 = c11 .before in
     let c13 = c12 .before in
-    show.is (laws.code-other x t _ (c13 .if1 .left) (c12 .if2 .left) (c11 .if3 .left) (c10 .if4 .left) (c9 .if5 .left) (c8 .if6 .left) (c7 .if7 .left) (c6 .if8 .left) (c5 .if9 .left)) (c .before .before .put10 .ensures)))
+    show.is (laws.code-other x t _ (c13 .if1 .left) (c12 .if2 .left) (c11 .if3 .left) (c10 .if4 .left) (c9 .if5 .left)
+    (c8 .if6 .left) (c7 .if7 .left) (c6 .if8 .left) (c5 .if9 .left)) (c .before .before .put10 .ensures)))

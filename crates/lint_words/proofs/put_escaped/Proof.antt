@@ -30,7 +30,10 @@ put-escaped-spec =
     (λ c.
     let c5 = c .before .before .before .before .before in
     let c6 = c5 .before in
-    let c9 = c6 .before .before .before in
-    (show.is (show.next-escaped (c9 .args .t .now) (c6 .loop .i) _ refl (c5 .loop-test .taken)) (show.both (c6 .loop .inv .0) (c .before .before .put-escaped .ensures)), search needs))
+    let c9 = c6 .before .before .before in (
+      show.is (show.next-escaped (c9 .args .t .now) (c6 .loop .i) _ refl (c5 .loop-test .taken))
+          (show.both (c6 .loop .inv .0) (c .before .before .put-escaped .ensures)),
+      search needs,
+    ))
     (λ c. c .before .loop .inv .0 .same)
     (λ c. show.is (laws.whole-escaped _ _ (c .before .loop .inv .1) (c .loop-test .left)) (c .before .loop .inv .0)))

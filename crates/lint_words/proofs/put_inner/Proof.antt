@@ -26,4 +26,5 @@ put-inner-spec =
     (λ c. search needs)
     (λ c.
     let c5 = c .before .before .before .before .before in
-    show.is (ap (flat escape) (show.part _ _ _ _ _ (c5 .text-len .ensures .0) refl refl)) (c .before .before .put-escaped .ensures)))
+    show.is (ap (flat escape) (show.part _ _ _ _ _ (c5 .text-len .ensures .0) refl refl))
+    (c .before .before .put-escaped .ensures)))

@@ -15,4 +15,5 @@ put-inner-name-spec =
     (λ c.
     let c4 = c .before .before .before .before in
     let c5 = c4 .before in
-    show.is (laws.inner-name _ _ _ _ _ (c5 .name-place .ensures) (c4 .text-start .ensures)) (c .before .before .put-inner .ensures)))
+    show.is (laws.inner-name _ _ _ _ _ (c5 .name-place .ensures) (c4 .text-start .ensures))
+    (c .before .before .put-inner .ensures)))

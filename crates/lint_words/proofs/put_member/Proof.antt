@@ -17,5 +17,6 @@ put-member-spec =
     let c6 = c .before .before .before .before .before .before in
     let c8 = c6 .before .before in
     let c9 = c8 .before in
-    show.is (laws.chosen _ _ (sym (c9 .has .ensures) ∙ c8 .if1 .taken)) (show.both (c6 .put-byte .ensures) (c .before .before .put-name .ensures)))
+    show.is (laws.chosen _ _ (sym (c9 .has .ensures) ∙ c8 .if1 .taken))
+    (show.both (c6 .put-byte .ensures) (c .before .before .put-name .ensures)))
     (λ c. show.is (laws.not-chosen _ _ (sym (c .before .has .ensures) ∙ c .if1 .left)) (show.nothing _ _)))

@@ -13,7 +13,9 @@ use Rattle.lint_words.proofs.put_members.Statement.{statement}
 use Rattle.lint_words.proofs.put_members.Tie as tie
 
 abbrev Inv-loop : tie.InvT-loop
-Inv-loop out₀ n f section set many m₀ i₀ out m i = loops.Part (spaced (each (λ (j : ℕ). quoted (name-of f section j)) (members set))) (spaced (each (λ (j : ℕ). quoted (name-of f section j)) (loops.from-on 32 (holds set) i))) out₀ m₀ out m × (i ≤ 32)
+Inv-loop out₀ n f section set many m₀ i₀ out m i =
+    loops.Part (spaced (each (λ (j : ℕ). quoted (name-of f section j)) (members set)))
+    (spaced (each (λ (j : ℕ). quoted (name-of f section j)) (loops.from-on 32 (holds set) i))) out₀ m₀ out m × (i ≤ 32)
 
 abbrev μ-loop : tie.MeasureT-loop
 μ-loop out₀ n f section set many m₀ i₀ out m i = 32 - i
@@ -33,10 +35,15 @@ put-members-spec =
     (λ c.
     let c4 = c .before .before .before .before in
     let c5 = c4 .before in
-    let c13 = c5 .before .before .before .before .before .before .before .before in
-    (loops.further (loops.turn 32 (holds (c13 .args .set)) _ (c5 .loop .i) (c4 .loop-test .taken)) (c5 .loop .inv .0) (c .before .before .put-member .ensures), search needs))
+    let c13 = c5 .before .before .before .before .before .before .before .before in (
+      loops.further (loops.turn 32 (holds (c13 .args .set)) _ (c5 .loop .i) (c4 .loop-test .taken)) (c5 .loop .inv .0)
+          (c .before .before .put-member .ensures),
+      search needs,
+    ))
     (λ c. c .before .loop .inv .0 .written .same ∙ c .before .before .before .before .put-number .ensures .same)
     (λ c.
     let c4 = c .before .before .before .before in
     let c5 = c4 .before in
-    show.is (laws.names-listed _ _ _ _ (c5 .long .ensures) (search needs)) (show.both (c4 .put-number .ensures) (loops.finished (loops.end 32 _ _ _ (c .loop-test .left)) (c .before .loop .inv .0)))))
+    show.is (laws.names-listed _ _ _ _ (c5 .long .ensures) (search needs))
+    (show.both (c4 .put-number .ensures) (loops.finished (loops.end 32 _ _ _ (c .loop-test .left))
+    (c .before .loop .inv .0)))))

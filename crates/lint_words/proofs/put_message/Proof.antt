@@ -16,4 +16,5 @@ put-message-spec =
     (λ c. c .before .before .put-entity-message .ensures _)
     (λ c κs. search needs)
     (λ c. search needs)
-    (λ c. show.is (laws.message-9 _ _ _ (c .before .before .before .before .if2 .left)) (c .before .before .put-quoted-reason .ensures)))
+    (λ c. show.is (laws.message-9 _ _ _ (c .before .before .before .before .if2 .left))
+    (c .before .before .put-quoted-reason .ensures)))

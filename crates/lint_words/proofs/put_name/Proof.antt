@@ -15,4 +15,5 @@ put-name-spec =
     (λ c.
     let c4 = c .before .before .before .before in
     let c5 = c4 .before in
-    show.is (laws.quoted-name _ _ _ _ _ (c5 .name-place .ensures) (c4 .text-start .ensures)) (c .before .before .put-quoted-text .ensures)))
+    show.is (laws.quoted-name _ _ _ _ _ (c5 .name-place .ensures) (c4 .text-start .ensures))
+    (c .before .before .put-quoted-text .ensures)))

@@ -49,4 +49,6 @@ put-plain-message-spec =
     let c8 = c7 .before in
     let c9 = c8 .before in
     let c11 = c9 .before .before in
-    show.is (laws.message-5 x t ∙ laws.message-at x t _ 5 (laws.is-5 _ (c11 .pre) (c9 .if1 .left) (c8 .if2 .left) (c7 .if3 .left) (c6 .if4 .left) (c5 .if5 .left))) (c .before .before .put-quoted6 .ensures)))
+    show.is (laws.message-5 x t ∙ laws.message-at x t _ 5
+    (laws.is-5 _ (c11 .pre) (c9 .if1 .left) (c8 .if2 .left) (c7 .if3 .left) (c6 .if4 .left) (c5 .if5 .left)))
+    (c .before .before .put-quoted6 .ensures)))

@@ -37,4 +37,5 @@ put-tier-spec =
     let c7 = c6 .before in
     let c8 = c7 .before in
     let c9 = c8 .before in
-    show.is (laws.tier-other _ (c9 .if1 .left) (c8 .if2 .left) (c7 .if3 .left) (c6 .if4 .left) (c5 .if5 .left)) (c .before .before .put6 .ensures)))
+    show.is (laws.tier-other _ (c9 .if1 .left) (c8 .if2 .left) (c7 .if3 .left) (c6 .if4 .left) (c5 .if5 .left))
+    (c .before .before .put6 .ensures)))

@@ -45,13 +45,18 @@ choice-check-below t =
     and 2 choice-check-kinds.ps (falls 2 choice-check-kinds.ps _<_ μ-choice-check t) choice-check.Pre
 
 abbrev actions-check-Inv-loop : actions-check-lts.InvT-loop
-actions-check-Inv-loop s d entities left at n count start i₀ p₀ m₀ i p m = actionsM (declaration d entities) left s at n ≡ timesM i (actionM (declaration d entities) (actionsM (declaration d entities) (left - 1))) s p m
+actions-check-Inv-loop s d entities left at n count start i₀ p₀ m₀ i p m =
+    actionsM (declaration d entities) left s at n ≡ timesM i
+    (actionM (declaration d entities) (actionsM (declaration d entities) (left - 1))) s p m
 
 abbrev actions-check-μ-loop : actions-check-lts.MeasureT-loop
 actions-check-μ-loop s d entities left at n count start i₀ p₀ m₀ i p m = i
 
 abbrev choice-check-Inv-loop : choice-check-lts.InvT-loop
-choice-check-Inv-loop s d entities left at n count start i₀ p₀ m₀ i p m = choiceM (declaration d entities) (actionsM (declaration d entities) left) s at n ≡ (timesM i (branchM (declaration d entities) (actionsM (declaration d entities) left)) ⨾ actionsM (declaration d entities) left) s p m
+choice-check-Inv-loop s d entities left at n count start i₀ p₀ m₀ i p m =
+    choiceM (declaration d entities) (actionsM (declaration d entities) left) s at n
+    ≡ (timesM i (branchM (declaration d entities) (actionsM (declaration d entities) left))
+    ⨾ actionsM (declaration d entities) left) s p m
 
 abbrev choice-check-μ-loop : choice-check-lts.MeasureT-loop
 choice-check-μ-loop s d entities left at n count start i₀ p₀ m₀ i p m = i
@@ -79,7 +84,8 @@ pub +actions-check+choice-check-spec : {M : Type 1} → statement M
     (λ c. search needs)
     (λ c.
     let c3 = c .before .before .before in
-    sym (laws.actions-more _ _ _ _ _ (c3 .if1 .left) ∙ checks.by-broken _ _ _ _ _ (c .before .before .u16-at .ensures) (c .enum-told .given .1)))
+    sym (laws.actions-more _ _ _ _ _ (c3 .if1 .left)
+    ∙ checks.by-broken _ _ _ _ _ (c .before .before .u16-at .ensures) (c .enum-told .given .1)))
     (λ c.
     let c3 = c .before .before .before in
     let c4 = c3 .before in
@@ -90,7 +96,8 @@ pub +actions-check+choice-check-spec : {M : Type 1} → statement M
     (λ c.
     let c3 = c .before .before .before in
     let c4 = c3 .before in
-    sym (c4 .loop .inv ∙ checks.times-more _ _ _ _ _ (c3 .loop-test .taken) ∙ laws.assoc _ _ _ _ _ _ ∙ checks.refused _ _ _ _ _ (c .before .before .head-check .ensures) (c .enum-told2 .given .1)))
+    sym (c4 .loop .inv ∙ checks.times-more _ _ _ _ _ (c3 .loop-test .taken) ∙ laws.assoc _ _ _ _ _ _
+    ∙ checks.refused _ _ _ _ _ (c .before .before .head-check .ensures) (c .enum-told2 .given .1)))
     (λ c κs. search needs)
     (λ c. search needs)
     (λ c. search needs)
@@ -99,7 +106,9 @@ pub +actions-check+choice-check-spec : {M : Type 1} → statement M
     let c6 = c4 .before .before in
     let c7 = c6 .before in
     let c8 = c7 .before in
-    sym (c8 .loop .inv ∙ checks.times-more _ _ _ _ _ (c7 .loop-test .taken) ∙ laws.assoc _ _ _ _ _ _ ∙ checks.to _ _ _ _ _ (c6 .head-check .ensures) (c4 .y .given .1) ∙ laws.by-then _ _ _ _ _ _ ∙ checks.by-broken _ _ _ _ _ (c .before .before .u8-at .ensures) (c .enum-told3 .given .1)))
+    sym (c8 .loop .inv ∙ checks.times-more _ _ _ _ _ (c7 .loop-test .taken) ∙ laws.assoc _ _ _ _ _ _
+    ∙ checks.to _ _ _ _ _ (c6 .head-check .ensures) (c4 .y .given .1) ∙ laws.by-then _ _ _ _ _ _
+    ∙ checks.by-broken _ _ _ _ _ (c .before .before .u8-at .ensures) (c .enum-told3 .given .1)))
     (λ c. search needs)
     (λ c κs. search needs)
     (λ c κs. search needs)
@@ -112,7 +121,13 @@ pub +actions-check+choice-check-spec : {M : Type 1} → statement M
     let c10 = c8 .before .before in
     let c11 = c10 .before in
     let c12 = c11 .before in
-    sym (c12 .loop .inv ∙ checks.times-more _ _ _ _ _ (c11 .loop-test .taken) ∙ laws.assoc _ _ _ _ _ _ ∙ checks.to _ _ _ _ _ (c10 .head-check .ensures) (c8 .y .given .1) ∙ laws.by-then _ _ _ _ _ _ ∙ checks.by-is _ _ _ _ _ (c6 .u8-at .ensures) (c4 .z .given .1) ∙ checks.refused _ _ _ _ _ (⊎-elim (λ w. w .2 ∙ w .1 .ensures ∙ sym (checks.yes-check _ _ _ _ _ (eq-eqb _ _ (w .0 .taken)))) (λ w. w .2 ∙ w .1 .ensures ∙ sym (checks.no-check _ _ _ _ _ (ne-eqb _ _ (w .0 .left)))) (c .before .before .if2 .came)) (c .enum-told4 .given .1)))
+    sym (c12 .loop .inv ∙ checks.times-more _ _ _ _ _ (c11 .loop-test .taken) ∙ laws.assoc _ _ _ _ _ _
+    ∙ checks.to _ _ _ _ _ (c10 .head-check .ensures) (c8 .y .given .1) ∙ laws.by-then _ _ _ _ _ _
+    ∙ checks.by-is _ _ _ _ _ (c6 .u8-at .ensures) (c4 .z .given .1)
+    ∙ checks.refused _ _ _ _ _
+    (⊎-elim (λ w. w .2 ∙ w .1 .ensures ∙ sym (checks.yes-check _ _ _ _ _ (eq-eqb _ _ (w .0 .taken))))
+    (λ w. w .2 ∙ w .1 .ensures ∙ sym (checks.no-check _ _ _ _ _ (ne-eqb _ _ (w .0 .left))))
+    (c .before .before .if2 .came)) (c .enum-told4 .given .1)))
     (λ c. search needs)
     (λ c. search needs)
     (λ c.
@@ -123,7 +138,13 @@ pub +actions-check+choice-check-spec : {M : Type 1} → statement M
     let c11 = c9 .before .before in
     let c12 = c11 .before in
     let c13 = c12 .before in
-    c13 .loop .inv ∙ checks.times-more _ _ _ _ _ (c12 .loop-test .taken) ∙ laws.assoc _ _ _ _ _ _ ∙ checks.to _ _ _ _ _ (c11 .head-check .ensures) (c9 .y .given .1) ∙ laws.by-then _ _ _ _ _ _ ∙ checks.by-is _ _ _ _ _ (c7 .u8-at .ensures) (c5 .z .given .1) ∙ checks.to _ _ _ _ _ (⊎-elim (λ w. w .2 ∙ w .1 .ensures ∙ sym (checks.yes-check _ _ _ _ _ (eq-eqb _ _ (w .0 .taken)))) (λ w. w .2 ∙ w .1 .ensures ∙ sym (checks.no-check _ _ _ _ _ (ne-eqb _ _ (w .0 .left)))) (c3 .if2 .came)) (c .before .r .given .1))
+    c13 .loop .inv ∙ checks.times-more _ _ _ _ _ (c12 .loop-test .taken) ∙ laws.assoc _ _ _ _ _ _
+    ∙ checks.to _ _ _ _ _ (c11 .head-check .ensures) (c9 .y .given .1) ∙ laws.by-then _ _ _ _ _ _
+    ∙ checks.by-is _ _ _ _ _ (c7 .u8-at .ensures) (c5 .z .given .1)
+    ∙ checks.to _ _ _ _ _
+    (⊎-elim (λ w. w .2 ∙ w .1 .ensures ∙ sym (checks.yes-check _ _ _ _ _ (eq-eqb _ _ (w .0 .taken))))
+    (λ w. w .2 ∙ w .1 .ensures ∙ sym (checks.no-check _ _ _ _ _ (ne-eqb _ _ (w .0 .left)))) (c3 .if2 .came))
+    (c .before .r .given .1))
     (λ c. sym (c .before .loop .inv ∙ checks.times-none _ _ _ _ _ (c .loop-test .left)))
     )
     (λ t. choice-check-lts.spec (
@@ -149,7 +170,8 @@ pub +actions-check+choice-check-spec : {M : Type 1} → statement M
     (λ c.
     let c3 = c .before .before .before in
     let c4 = c3 .before in
-    sym (c4 .loop .inv ∙ laws.times-then _ _ _ _ _ _ (c3 .loop-test .taken) ∙ laws.assoc _ _ _ _ _ _ ∙ checks.refused _ _ _ _ _ (c .before .before .predicates-check .ensures) (c .enum-told2 .given .1)))
+    sym (c4 .loop .inv ∙ laws.times-then _ _ _ _ _ _ (c3 .loop-test .taken) ∙ laws.assoc _ _ _ _ _ _
+    ∙ checks.refused _ _ _ _ _ (c .before .before .predicates-check .ensures) (c .enum-told2 .given .1)))
     (λ c κs. search needs)
     (λ c. search needs)
     (λ c. search needs)
@@ -158,7 +180,9 @@ pub +actions-check+choice-check-spec : {M : Type 1} → statement M
     let c6 = c4 .before .before in
     let c7 = c6 .before in
     let c8 = c7 .before in
-    sym (c8 .loop .inv ∙ laws.times-then _ _ _ _ _ _ (c7 .loop-test .taken) ∙ laws.assoc _ _ _ _ _ _ ∙ checks.to _ _ _ _ _ (c6 .predicates-check .ensures) (c4 .y .given .1) ∙ checks.refused _ _ _ _ _ (c .before .before .actions-check .ensures) (c .enum-told3 .given .1)))
+    sym (c8 .loop .inv ∙ laws.times-then _ _ _ _ _ _ (c7 .loop-test .taken) ∙ laws.assoc _ _ _ _ _ _
+    ∙ checks.to _ _ _ _ _ (c6 .predicates-check .ensures) (c4 .y .given .1)
+    ∙ checks.refused _ _ _ _ _ (c .before .before .actions-check .ensures) (c .enum-told3 .given .1)))
     (λ c. search needs)
     (λ c. search needs)
     (λ c.
@@ -167,7 +191,10 @@ pub +actions-check+choice-check-spec : {M : Type 1} → statement M
     let c7 = c5 .before .before in
     let c8 = c7 .before in
     let c9 = c8 .before in
-    c9 .loop .inv ∙ laws.times-then _ _ _ _ _ _ (c8 .loop-test .taken) ∙ laws.assoc _ _ _ _ _ _ ∙ checks.to _ _ _ _ _ (c7 .predicates-check .ensures) (c5 .y .given .1) ∙ checks.to _ _ _ _ _ (c3 .actions-check .ensures) (c .before .z .given .1))
+    c9 .loop .inv ∙ laws.times-then _ _ _ _ _ _ (c8 .loop-test .taken) ∙ laws.assoc _ _ _ _ _ _
+    ∙ checks.to _ _ _ _ _ (c7 .predicates-check .ensures) (c5 .y .given .1)
+    ∙ checks.to _ _ _ _ _ (c3 .actions-check .ensures) (c .before .z .given .1))
     (λ c κs. search needs)
-    (λ c. c .actions-check2 .ensures ∙ sym (c .before .before .loop .inv ∙ laws.none-then _ _ _ _ _ _ (c .before .loop-test .left)))
+    (λ c. c .actions-check2 .ensures ∙ sym (c .before .before .loop .inv
+    ∙ laws.none-then _ _ _ _ _ _ (c .before .loop-test .left)))
     )

@@ -16,17 +16,20 @@ toggle-check-spec =
     (λ c κs. search needs)
     (λ c. search needs)
     (λ c. search needs)
-    (λ c. sym (laws.toggle-is _ _ _ _ ∙ checks.by-broken _ _ _ _ _ (c .before .before .u16-at .ensures) (c .enum-told .given .1)))
+    (λ c. sym (laws.toggle-is _ _ _ _ ∙ checks.by-broken _ _ _ _ _ (c .before .before .u16-at .ensures)
+    (c .enum-told .given .1)))
     (λ c κs. search needs)
     (λ c. search needs)
     (λ c. search needs)
     (λ c.
     let c4 = c .before .before .before .before in
     let c6 = c4 .before .before in
-    sym (laws.toggle-is _ _ _ _ ∙ checks.by-is _ _ _ _ _ (c6 .u16-at .ensures) (c4 .x .given .1) ∙ checks.refused _ _ _ _ _ (c .before .before .value-check .ensures) (c .enum-told2 .given .1)))
+    sym (laws.toggle-is _ _ _ _ ∙ checks.by-is _ _ _ _ _ (c6 .u16-at .ensures) (c4 .x .given .1)
+    ∙ checks.refused _ _ _ _ _ (c .before .before .value-check .ensures) (c .enum-told2 .given .1)))
     (λ c κs. search needs)
     (λ c.
     let c4 = c .before .before .before .before in
     let c6 = c4 .before .before in
     let c8 = c6 .before .before in
-    c .value-check2 .ensures ∙ sym (laws.toggle-is _ _ _ _ ∙ checks.by-is _ _ _ _ _ (c8 .u16-at .ensures) (c6 .x .given .1) ∙ checks.to _ _ _ _ _ (c4 .value-check .ensures) (c .before .before .a .given .1))))
+    c .value-check2 .ensures ∙ sym (laws.toggle-is _ _ _ _ ∙ checks.by-is _ _ _ _ _ (c8 .u16-at .ensures) (c6 .x .given .1)
+    ∙ checks.to _ _ _ _ _ (c4 .value-check .ensures) (c .before .before .a .given .1))))

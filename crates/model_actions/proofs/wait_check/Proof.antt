@@ -17,17 +17,20 @@ wait-check-spec =
     (λ c κs. search needs)
     (λ c. search needs)
     (λ c. search needs)
-    (λ c. sym (laws.wait-is _ _ _ _ ∙ checks.refused _ _ _ _ _ (c .before .before .trigger-check .ensures) (c .enum-told .given .1)))
+    (λ c. sym (laws.wait-is _ _ _ _ ∙ checks.refused _ _ _ _ _ (c .before .before .trigger-check .ensures)
+    (c .enum-told .given .1)))
     (λ c κs. search needs)
     (λ c. search needs)
     (λ c. search needs)
     (λ c.
     let c4 = c .before .before .before .before in
     let c6 = c4 .before .before in
-    sym (laws.wait-is _ _ _ _ ∙ checks.to _ _ _ _ _ (c6 .trigger-check .ensures) (c4 .a .given .1) ∙ checks.refused _ _ _ _ _ (c .before .before .day-check .ensures) (c .enum-told2 .given .1)))
+    sym (laws.wait-is _ _ _ _ ∙ checks.to _ _ _ _ _ (c6 .trigger-check .ensures) (c4 .a .given .1)
+    ∙ checks.refused _ _ _ _ _ (c .before .before .day-check .ensures) (c .enum-told2 .given .1)))
     (λ c κs. search needs)
     (λ c.
     let c4 = c .before .before .before .before in
     let c6 = c4 .before .before in
     let c8 = c6 .before .before in
-    c .skip .ensures ∙ sym (laws.wait-is _ _ _ _ ∙ checks.to _ _ _ _ _ (c8 .trigger-check .ensures) (c6 .a .given .1) ∙ checks.to _ _ _ _ _ (c4 .day-check .ensures) (c .before .before .b .given .1))))
+    c .skip .ensures ∙ sym (laws.wait-is _ _ _ _ ∙ checks.to _ _ _ _ _ (c8 .trigger-check .ensures) (c6 .a .given .1)
+    ∙ checks.to _ _ _ _ _ (c4 .day-check .ensures) (c .before .before .b .given .1))))

@@ -27,17 +27,20 @@ among-spec =
     (λ c.
     let c3 = c .before .before .before in
     let c4 = c3 .before in
-    sym (c4 .loop .inv ∙ laws.among-broken _ _ _ (c .before .before .u16-at .ensures) _ (c3 .loop-test .taken) (c .enum-told .given .1)))
+    sym (c4 .loop .inv ∙ laws.among-broken _ _ _ (c .before .before .u16-at .ensures) _ (c3 .loop-test .taken)
+    (c .enum-told .given .1)))
     (λ c.
     let c4 = c .before .before .before .before in
     let c5 = c4 .before in
     let c6 = c5 .before in
-    sym (c6 .loop .inv ∙ laws.among-here _ _ _ (c4 .u16-at .ensures) _ (c5 .loop-test .taken) (c .before .before .y .given .1) (c .if1 .taken)))
+    sym (c6 .loop .inv ∙ laws.among-here _ _ _ (c4 .u16-at .ensures) _ (c5 .loop-test .taken)
+    (c .before .before .y .given .1) (c .if1 .taken)))
     (λ c. search needs)
     (λ c. search needs)
     (λ c.
     let c4 = c .before .before .before .before in
     let c5 = c4 .before in
     let c6 = c5 .before in
-    c6 .loop .inv ∙ laws.among-later _ _ _ (c4 .u16-at .ensures) _ (c5 .loop-test .taken) (c .before .before .y .given .1) (c .if1 .left))
+    c6 .loop .inv ∙ laws.among-later _ _ _ (c4 .u16-at .ensures) _ (c5 .loop-test .taken) (c .before .before .y .given .1)
+    (c .if1 .left))
     (λ c. sym (c .before .loop .inv ∙ laws.among-end _ _ _ _ (c .loop-test .left))))

@@ -10,8 +10,11 @@ use Rattle.model_walk.proofs.u32_at.Reads as u32-at-reads
 
 pub day-check-spec : {M : Type 1} → statement M
 day-check-spec =
-    tie.close (tie.spec (λ c κs. search needs) (λ c. search needs) (λ c. search needs) (λ c. sym (laws.by-broken _ _ _ _ _ (c .before .before .u32-at .ensures) (c .enum-told .given .1))) (λ c.
+    tie.close (tie.spec (λ c κs. search needs) (λ c. search needs) (λ c. search needs)
+    (λ c. sym (laws.by-broken _ _ _ _ _ (c .before .before .u32-at .ensures) (c .enum-told .given .1))) (λ c.
     let c4 = c .before .before .before .before in
-    sym (laws.by-is _ _ _ _ _ (c4 .u32-at .ensures) (c .before .before .x .given .1) ∙ laws.refuse-yes _ _ _ _ (lt-ltb _ _ (c .if1 .taken)))) (λ c.
+    sym (laws.by-is _ _ _ _ _ (c4 .u32-at .ensures) (c .before .before .x .given .1)
+    ∙ laws.refuse-yes _ _ _ _ (lt-ltb _ _ (c .if1 .taken)))) (λ c.
     let c4 = c .before .before .before .before in
-    sym (laws.by-is _ _ _ _ _ (c4 .u32-at .ensures) (c .before .before .x .given .1) ∙ laws.refuse-no _ _ _ _ (le-ltb _ _ (c .if1 .left)))))
+    sym (laws.by-is _ _ _ _ _ (c4 .u32-at .ensures) (c .before .before .x .given .1)
+    ∙ laws.refuse-no _ _ _ _ (le-ltb _ _ (c .if1 .left)))))

@@ -8,4 +8,7 @@ use Rattle.model_check.proofs.declared_check.Lts as lts
 use Rattle.model_check.proofs.first_of.Reads as first-of-reads
 
 pub declared-check-spec : {M : Type 1} → statement M
-declared-check-spec = tie.close (tie.spec (λ c. search needs) (λ c κs. search needs) (λ c. sym (laws.declared-no _ _ _ _ _ _ (c .before .first-of .ensures .0) (c .if1 .taken))) (λ c. sym (laws.declared-yes _ _ _ _ _ _ (c .before .first-of .ensures .0) (c .if1 .left))))
+declared-check-spec =
+    tie.close (tie.spec (λ c. search needs) (λ c κs. search needs)
+    (λ c. sym (laws.declared-no _ _ _ _ _ _ (c .before .first-of .ensures .0) (c .if1 .taken)))
+    (λ c. sym (laws.declared-yes _ _ _ _ _ _ (c .before .first-of .ensures .0) (c .if1 .left))))

@@ -11,7 +11,8 @@ use Rattle.model_check.proofs.first_of.Lts as lts
 use Rattle.model_check.proofs.place_is.Reads as place-is-reads
 
 abbrev Inv-loop : tie.InvT-loop
-Inv-loop s starts count place end i₀ i = (first-from starts place s count 0 ≡ first-from starts place s (end - i) i) × (i ≤ end)
+Inv-loop s starts count place end i₀ i = (first-from starts place s count 0 ≡ first-from starts place s (end - i) i)
+    × (i ≤ end)
 
 abbrev μ-loop : tie.MeasureT-loop
 μ-loop s starts count place end i₀ i = end - i
@@ -27,11 +28,16 @@ first-of-spec =
     (λ c. search needs)
     (λ c κs. search needs)
     (λ c.
-    let c4 = c .before .before .before .before in
-    (sym (c4 .loop .inv .0 ∙ laws.first-here _ _ _ _ _ (omega arith) (sym (c .before .place-is .ensures) ∙ c .if1 .taken)), omega arith))
+    let c4 = c .before .before .before .before in (
+      sym (c4 .loop .inv .0 ∙ laws.first-here _ _ _ _ _ (omega arith) (sym (c .before .place-is .ensures) ∙ c .if1 .taken)),
+      omega arith,
+    ))
     (λ c. search needs)
     (λ c. search needs)
     (λ c.
-    let c4 = c .before .before .before .before in
-    (c4 .loop .inv .0 ∙ laws.first-later _ _ _ _ _ (omega arith) (sym (c .before .place-is .ensures) ∙ c .if1 .left) ∙ laws.first-same _ _ _ _ (omega arith), omega arith))
+    let c4 = c .before .before .before .before in (
+      c4 .loop .inv .0 ∙ laws.first-later _ _ _ _ _ (omega arith) (sym (c .before .place-is .ensures) ∙ c .if1 .left)
+          ∙ laws.first-same _ _ _ _ (omega arith),
+      omega arith,
+    ))
     (λ c. (sym (c .before .loop .inv .0 ∙ laws.first-end _ _ _ _ _ (omega arith)), omega arith)))

@@ -15,17 +15,20 @@ pair-check-spec =
     (λ c κs. search needs)
     (λ c. search needs)
     (λ c. search needs)
-    (λ c. sym (laws.pair-is _ _ _ _ ∙ laws.by-broken _ _ _ _ _ (c .before .before .u16-at .ensures) (c .enum-told .given .1)))
+    (λ c. sym (laws.pair-is _ _ _ _ ∙ laws.by-broken _ _ _ _ _ (c .before .before .u16-at .ensures)
+    (c .enum-told .given .1)))
     (λ c κs. search needs)
     (λ c. search needs)
     (λ c. search needs)
     (λ c.
     let c4 = c .before .before .before .before in
     let c6 = c4 .before .before in
-    sym (laws.pair-is _ _ _ _ ∙ laws.by-is _ _ _ _ _ (c6 .u16-at .ensures) (c4 .x .given .1) ∙ laws.by-broken _ _ _ _ _ (c .before .before .u16-at2 .ensures) (c .enum-told2 .given .1)))
+    sym (laws.pair-is _ _ _ _ ∙ laws.by-is _ _ _ _ _ (c6 .u16-at .ensures) (c4 .x .given .1)
+    ∙ laws.by-broken _ _ _ _ _ (c .before .before .u16-at2 .ensures) (c .enum-told2 .given .1)))
     (λ c κs. search needs)
     (λ c.
     let c4 = c .before .before .before .before in
     let c6 = c4 .before .before in
     let c8 = c6 .before .before in
-    c .value-check .ensures ∙ sym (laws.pair-is _ _ _ _ ∙ laws.by-is _ _ _ _ _ (c8 .u16-at .ensures) (c6 .x .given .1) ∙ laws.by-is _ _ _ _ _ (c4 .u16-at2 .ensures) (c .before .before .y .given .1))))
+    c .value-check .ensures ∙ sym (laws.pair-is _ _ _ _ ∙ laws.by-is _ _ _ _ _ (c8 .u16-at .ensures) (c6 .x .given .1)
+    ∙ laws.by-is _ _ _ _ _ (c4 .u16-at2 .ensures) (c .before .before .y .given .1))))

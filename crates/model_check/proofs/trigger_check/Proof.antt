@@ -17,14 +17,16 @@ trigger-check-spec =
     (λ c κs. search needs)
     (λ c. search needs)
     (λ c. search needs)
-    (λ c. sym (laws.trigger-is _ _ _ _ ∙ laws.by-broken _ _ _ _ _ (c .before .before .u16-at .ensures) (c .enum-told .given .1)))
+    (λ c. sym (laws.trigger-is _ _ _ _ ∙ laws.by-broken _ _ _ _ _ (c .before .before .u16-at .ensures)
+    (c .enum-told .given .1)))
     (λ c κs. search needs)
     (λ c. search needs)
     (λ c. search needs)
     (λ c.
     let c4 = c .before .before .before .before in
     let c6 = c4 .before .before in
-    sym (laws.trigger-is _ _ _ _ ∙ laws.by-is _ _ _ _ _ (c6 .u16-at .ensures) (c4 .x .given .1) ∙ laws.by-broken _ _ _ _ _ (c .before .before .u16-at2 .ensures) (c .enum-told2 .given .1)))
+    sym (laws.trigger-is _ _ _ _ ∙ laws.by-is _ _ _ _ _ (c6 .u16-at .ensures) (c4 .x .given .1)
+    ∙ laws.by-broken _ _ _ _ _ (c .before .before .u16-at2 .ensures) (c .enum-told2 .given .1)))
     (λ c κs. search needs)
     (λ c. search needs)
     (λ c. search needs)
@@ -33,7 +35,9 @@ trigger-check-spec =
     let c6 = c4 .before .before in
     let c8 = c6 .before .before in
     let c10 = c8 .before .before in
-    sym (laws.trigger-is _ _ _ _ ∙ laws.by-is _ _ _ _ _ (c10 .u16-at .ensures) (c8 .x .given .1) ∙ laws.by-is _ _ _ _ _ (c6 .u16-at2 .ensures) (c4 .y .given .1) ∙ laws.by-broken _ _ _ _ _ (c .before .before .u16-at3 .ensures) (c .enum-told3 .given .1)))
+    sym (laws.trigger-is _ _ _ _ ∙ laws.by-is _ _ _ _ _ (c10 .u16-at .ensures) (c8 .x .given .1)
+    ∙ laws.by-is _ _ _ _ _ (c6 .u16-at2 .ensures) (c4 .y .given .1)
+    ∙ laws.by-broken _ _ _ _ _ (c .before .before .u16-at3 .ensures) (c .enum-told3 .given .1)))
     (λ c κs. search needs)
     (λ c. search needs)
     (λ c. search needs)
@@ -44,7 +48,10 @@ trigger-check-spec =
     let c10 = c8 .before .before in
     let c12 = c10 .before .before in
     let c14 = c12 .before .before in
-    sym (laws.trigger-is _ _ _ _ ∙ laws.by-is _ _ _ _ _ (c14 .u16-at .ensures) (c12 .x .given .1) ∙ laws.by-is _ _ _ _ _ (c10 .u16-at2 .ensures) (c8 .y .given .1) ∙ laws.by-is _ _ _ _ _ (c6 .u16-at3 .ensures) (c4 .z .given .1) ∙ laws.refused _ _ _ _ _ (c .before .before .skip .ensures) (c .enum-told4 .given .1)))
+    sym (laws.trigger-is _ _ _ _ ∙ laws.by-is _ _ _ _ _ (c14 .u16-at .ensures) (c12 .x .given .1)
+    ∙ laws.by-is _ _ _ _ _ (c10 .u16-at2 .ensures) (c8 .y .given .1)
+    ∙ laws.by-is _ _ _ _ _ (c6 .u16-at3 .ensures) (c4 .z .given .1)
+    ∙ laws.refused _ _ _ _ _ (c .before .before .skip .ensures) (c .enum-told4 .given .1)))
     (λ c κs. search needs)
     (λ c. search needs)
     (λ c. search needs)
@@ -57,7 +64,11 @@ trigger-check-spec =
     let c14 = c12 .before .before in
     let c16 = c14 .before .before in
     let c18 = c16 .before .before in
-    sym (laws.trigger-is _ _ _ _ ∙ laws.by-is _ _ _ _ _ (c18 .u16-at .ensures) (c16 .x .given .1) ∙ laws.by-is _ _ _ _ _ (c14 .u16-at2 .ensures) (c12 .y .given .1) ∙ laws.by-is _ _ _ _ _ (c10 .u16-at3 .ensures) (c8 .z .given .1) ∙ laws.to _ _ _ _ _ (c6 .skip .ensures) (c4 .a .given .1) ∙ laws.by-broken _ _ _ _ _ (c .before .before .u16-at4 .ensures) (c .enum-told5 .given .1)))
+    sym (laws.trigger-is _ _ _ _ ∙ laws.by-is _ _ _ _ _ (c18 .u16-at .ensures) (c16 .x .given .1)
+    ∙ laws.by-is _ _ _ _ _ (c14 .u16-at2 .ensures) (c12 .y .given .1)
+    ∙ laws.by-is _ _ _ _ _ (c10 .u16-at3 .ensures) (c8 .z .given .1)
+    ∙ laws.to _ _ _ _ _ (c6 .skip .ensures) (c4 .a .given .1)
+    ∙ laws.by-broken _ _ _ _ _ (c .before .before .u16-at4 .ensures) (c .enum-told5 .given .1)))
     (λ c κs. search needs)
     (λ c.
     let c3 = c .before .before .before in
@@ -70,7 +81,13 @@ trigger-check-spec =
     let c17 = c15 .before .before in
     let c19 = c17 .before .before in
     let c21 = c19 .before .before in
-    c .trigger-of-check .ensures ∙ sym (laws.trigger-is _ _ _ _ ∙ laws.by-is _ _ _ _ _ (c21 .u16-at .ensures) (c19 .x .given .1) ∙ laws.by-is _ _ _ _ _ (c17 .u16-at2 .ensures) (c15 .y .given .1) ∙ laws.by-is _ _ _ _ _ (c13 .u16-at3 .ensures) (c11 .z .given .1) ∙ laws.to _ _ _ _ _ (c9 .skip .ensures) (c7 .a .given .1) ∙ laws.by-is _ _ _ _ _ (c5 .u16-at4 .ensures) (c3 .w .given .1) ∙ laws.yes-check _ _ _ _ _ (eq-eqb _ _ (c .before .if1 .taken))))
+    c .trigger-of-check .ensures ∙ sym (laws.trigger-is _ _ _ _
+    ∙ laws.by-is _ _ _ _ _ (c21 .u16-at .ensures) (c19 .x .given .1)
+    ∙ laws.by-is _ _ _ _ _ (c17 .u16-at2 .ensures) (c15 .y .given .1)
+    ∙ laws.by-is _ _ _ _ _ (c13 .u16-at3 .ensures) (c11 .z .given .1)
+    ∙ laws.to _ _ _ _ _ (c9 .skip .ensures) (c7 .a .given .1)
+    ∙ laws.by-is _ _ _ _ _ (c5 .u16-at4 .ensures) (c3 .w .given .1)
+    ∙ laws.yes-check _ _ _ _ _ (eq-eqb _ _ (c .before .if1 .taken))))
     (λ c.
     let c4 = c .before .before .before .before in
     let c6 = c4 .before .before in
@@ -81,4 +98,9 @@ trigger-check-spec =
     let c16 = c14 .before .before in
     let c18 = c16 .before .before in
     let c20 = c18 .before .before in
-    sym (laws.trigger-is _ _ _ _ ∙ laws.by-is _ _ _ _ _ (c20 .u16-at .ensures) (c18 .x .given .1) ∙ laws.by-is _ _ _ _ _ (c16 .u16-at2 .ensures) (c14 .y .given .1) ∙ laws.by-is _ _ _ _ _ (c12 .u16-at3 .ensures) (c10 .z .given .1) ∙ laws.to _ _ _ _ _ (c8 .skip .ensures) (c6 .a .given .1) ∙ laws.by-is _ _ _ _ _ (c4 .u16-at4 .ensures) (c .before .before .w .given .1) ∙ laws.no-check _ _ _ _ _ (ne-eqb _ _ (c .if1 .left)) ∙ laws.stayed _ _ _)))
+    sym (laws.trigger-is _ _ _ _ ∙ laws.by-is _ _ _ _ _ (c20 .u16-at .ensures) (c18 .x .given .1)
+    ∙ laws.by-is _ _ _ _ _ (c16 .u16-at2 .ensures) (c14 .y .given .1)
+    ∙ laws.by-is _ _ _ _ _ (c12 .u16-at3 .ensures) (c10 .z .given .1)
+    ∙ laws.to _ _ _ _ _ (c8 .skip .ensures) (c6 .a .given .1)
+    ∙ laws.by-is _ _ _ _ _ (c4 .u16-at4 .ensures) (c .before .before .w .given .1)
+    ∙ laws.no-check _ _ _ _ _ (ne-eqb _ _ (c .if1 .left)) ∙ laws.stayed _ _ _)))

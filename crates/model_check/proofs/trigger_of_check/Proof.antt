@@ -15,17 +15,21 @@ trigger-of-check-spec =
     (λ c κs. search needs)
     (λ c. search needs)
     (λ c. search needs)
-    (λ c. sym (laws.trigger-of-is _ _ _ _ _ _ _ ∙ laws.refused _ _ _ _ _ (c .before .before .declared-check .ensures) (c .enum-told .given .1)))
+    (λ c. sym (laws.trigger-of-is _ _ _ _ _ _ _ ∙ laws.refused _ _ _ _ _ (c .before .before .declared-check .ensures)
+    (c .enum-told .given .1)))
     (λ c κs. search needs)
     (λ c. search needs)
     (λ c. search needs)
     (λ c.
     let c4 = c .before .before .before .before in
     let c6 = c4 .before .before in
-    sym (laws.trigger-of-is _ _ _ _ _ _ _ ∙ laws.to _ _ _ _ _ (c6 .declared-check .ensures) (c4 .a .given .1) ∙ laws.refused _ _ _ _ _ (c .before .before .optional-check .ensures) (c .enum-told2 .given .1)))
+    sym (laws.trigger-of-is _ _ _ _ _ _ _ ∙ laws.to _ _ _ _ _ (c6 .declared-check .ensures) (c4 .a .given .1)
+    ∙ laws.refused _ _ _ _ _ (c .before .before .optional-check .ensures) (c .enum-told2 .given .1)))
     (λ c κs. search needs)
     (λ c.
     let c4 = c .before .before .before .before in
     let c6 = c4 .before .before in
     let c8 = c6 .before .before in
-    c .optional-check2 .ensures ∙ sym (laws.trigger-of-is _ _ _ _ _ _ _ ∙ laws.to _ _ _ _ _ (c8 .declared-check .ensures) (c6 .a .given .1) ∙ laws.to _ _ _ _ _ (c4 .optional-check .ensures) (c .before .before .b .given .1))))
+    c .optional-check2 .ensures ∙ sym (laws.trigger-of-is _ _ _ _ _ _ _
+    ∙ laws.to _ _ _ _ _ (c8 .declared-check .ensures) (c6 .a .given .1)
+    ∙ laws.to _ _ _ _ _ (c4 .optional-check .ensures) (c .before .before .b .given .1))))

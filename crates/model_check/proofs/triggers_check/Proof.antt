@@ -9,7 +9,8 @@ use Rattle.model_check.proofs.triggers_check.Lts as lts
 use Rattle.model_check.proofs.trigger_check.Reads as trigger-check-reads
 
 abbrev Inv-loop : tie.InvT-loop
-Inv-loop s d entities count at n left₀ p₀ m₀ left p m = triggersM (declaration d entities) count s at n ≡ timesM left (triggerM (declaration d entities)) s p m
+Inv-loop s d entities count at n left₀ p₀ m₀ left p m =
+    triggersM (declaration d entities) count s at n ≡ timesM left (triggerM (declaration d entities)) s p m
 
 abbrev μ-loop : tie.MeasureT-loop
 μ-loop s d entities count at n left₀ p₀ m₀ left p m = left
@@ -27,12 +28,14 @@ triggers-check-spec =
     (λ c.
     let c3 = c .before .before .before in
     let c4 = c3 .before in
-    sym (c4 .loop .inv ∙ laws.times-more _ _ _ _ _ (c3 .loop-test .taken) ∙ laws.refused _ _ _ _ _ (c .before .before .trigger-check .ensures) (c .enum-told .given .1)))
+    sym (c4 .loop .inv ∙ laws.times-more _ _ _ _ _ (c3 .loop-test .taken)
+    ∙ laws.refused _ _ _ _ _ (c .before .before .trigger-check .ensures) (c .enum-told .given .1)))
     (λ c. search needs)
     (λ c. search needs)
     (λ c.
     let c3 = c .before .before .before in
     let c4 = c3 .before in
     let c5 = c4 .before in
-    c5 .loop .inv ∙ laws.times-more _ _ _ _ _ (c4 .loop-test .taken) ∙ laws.to _ _ _ _ _ (c3 .trigger-check .ensures) (c .before .y .given .1))
+    c5 .loop .inv ∙ laws.times-more _ _ _ _ _ (c4 .loop-test .taken)
+    ∙ laws.to _ _ _ _ _ (c3 .trigger-check .ensures) (c .before .y .given .1))
     (λ c. sym (c .before .loop .inv ∙ laws.times-none _ _ _ _ _ (c .loop-test .left))))

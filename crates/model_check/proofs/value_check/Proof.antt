@@ -9,4 +9,6 @@ use Rattle.model_check.proofs.entity_value_check.Reads as entity-value-
 use Rattle.model_check.proofs.first_of.Reads as first-of-reads
 
 pub value-check-spec : {M : Type 1} → statement M
-value-check-spec = tie.close (tie.spec (λ c κs. search needs) (λ c κs. search needs) (λ c. c .entity-value-check .ensures ∙ sym (laws.value-is _ _ _ _ _ _ _ (c .before .first-of .ensures .0))))
+value-check-spec =
+    tie.close (tie.spec (λ c κs. search needs) (λ c κs. search needs)
+    (λ c. c .entity-value-check .ensures ∙ sym (laws.value-is _ _ _ _ _ _ _ (c .before .first-of .ensures .0))))

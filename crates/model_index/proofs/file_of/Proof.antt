@@ -29,4 +29,6 @@ file-of-spec =
     let c5 = c4 .before in
     let c6 = c5 .before in
     let c8 = c6 .before .before in
-    laws.file-made _ _ _ _ _ _ _ _ (c8 .enum-told .given .1) (c6 .section .ensures) (c5 .section2 .ensures) (c4 .section3 .ensures) (c3 .section4 .ensures) (c .before .before .section5 .ensures) (c .before .section6 .ensures) (c .section7 .ensures)))
+    laws.file-made _ _ _ _ _ _ _ _ (c8 .enum-told .given .1) (c6 .section .ensures) (c5 .section2 .ensures)
+    (c4 .section3 .ensures) (c3 .section4 .ensures) (c .before .before .section5 .ensures) (c .before .section6 .ensures)
+    (c .section7 .ensures)))

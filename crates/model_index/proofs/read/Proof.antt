@@ -25,7 +25,8 @@ read-spec =
     (λ c.
     let c3 = c .before .before .before in
     let c4 = c3 .before in
-    says _ (laws.file-refusal _ _ _ _ _ _ _ _ (c .refusal2 .ensures) ∙ sym (laws.no-version _ (c4 .if1 .left) (c3 .u32-at .ensures) (c .before .enum-told .given .1))))
+    says _ (laws.file-refusal _ _ _ _ _ _ _ _ (c .refusal2 .ensures)
+    ∙ sym (laws.no-version _ (c4 .if1 .left) (c3 .u32-at .ensures) (c .before .enum-told .given .1))))
     (λ c κs. search needs)
     (λ c. search needs)
     (λ c. search needs)
@@ -35,7 +36,9 @@ read-spec =
     let c5 = c3 .before .before in
     let c7 = c5 .before .before in
     let c8 = c7 .before in
-    says _ (laws.file-refusal _ _ _ _ _ _ _ _ (c .refusal3 .ensures) ∙ sym (laws.version-is _ (c8 .if1 .left) (c7 .u32-at .ensures) (c5 .x .given .1) ∙ laws.on-broken _ _ (c3 .texts-at .ensures) (c .before .enum-told2 .given .1))))
+    says _ (laws.file-refusal _ _ _ _ _ _ _ _ (c .refusal3 .ensures)
+    ∙ sym (laws.version-is _ (c8 .if1 .left) (c7 .u32-at .ensures) (c5 .x .given .1)
+    ∙ laws.on-broken _ _ (c3 .texts-at .ensures) (c .before .enum-told2 .given .1))))
     (λ c κs. search needs)
     (λ c κs. search needs)
     (λ c.
@@ -45,4 +48,5 @@ read-spec =
     let c14 = c12 .before .before in
     let c16 = c14 .before .before in
     let c17 = c16 .before in
-    says _ (c .body-at .ensures _ ∙ sym (laws.version-is _ (c17 .if1 .left) (c16 .u32-at .ensures) (c14 .x .given .1) ∙ laws.on-to _ _ (c12 .texts-at .ensures) (c10 .a .given .1) ∙ laws.given-is _ _ (c7 .section-into .ensures)))))
+    says _ (c .body-at .ensures _ ∙ sym (laws.version-is _ (c17 .if1 .left) (c16 .u32-at .ensures) (c14 .x .given .1)
+    ∙ laws.on-to _ _ (c12 .texts-at .ensures) (c10 .a .given .1) ∙ laws.given-is _ _ (c7 .section-into .ensures)))))

@@ -29,14 +29,16 @@ has-spec =
     (λ c.
     let c3 = c .before .before .before in
     let c4 = c3 .before in
-    sym (c4 .loop .inv ∙ laws.among-broken _ _ _ (c .before .before .text-at .ensures) _ (c3 .loop-test .taken) (c .enum-told2 .given .1)))
+    sym (c4 .loop .inv ∙ laws.among-broken _ _ _ (c .before .before .text-at .ensures) _ (c3 .loop-test .taken)
+    (c .enum-told2 .given .1)))
     (λ c κs. search needs)
     (λ c.
     let c3 = c .before .before .before in
     let c5 = c3 .before .before in
     let c6 = c5 .before in
     let c7 = c6 .before in
-    sym (c7 .loop .inv ∙ laws.among-here _ _ _ (c5 .text-at .ensures) (c3 .y .given .1) (c .before .text-is .ensures) _ (c6 .loop-test .taken) (c .if1 .taken)))
+    sym (c7 .loop .inv ∙ laws.among-here _ _ _ (c5 .text-at .ensures) (c3 .y .given .1) (c .before .text-is .ensures) _
+    (c6 .loop-test .taken) (c .if1 .taken)))
     (λ c. search needs)
     (λ c. search needs)
     (λ c.
@@ -44,6 +46,7 @@ has-spec =
     let c5 = c3 .before .before in
     let c6 = c5 .before in
     let c7 = c6 .before in
-    c7 .loop .inv ∙ laws.among-later _ _ _ (c5 .text-at .ensures) (c3 .y .given .1) (c .before .text-is .ensures) _ (c6 .loop-test .taken) (c .if1 .left))
+    c7 .loop .inv ∙ laws.among-later _ _ _ (c5 .text-at .ensures) (c3 .y .given .1) (c .before .text-is .ensures) _
+    (c6 .loop-test .taken) (c .if1 .left))
     (λ c. sym (c .before .loop .inv ∙ laws.among-end _ _ _ _ (c .loop-test .left)))
     )

@@ -19,7 +19,8 @@ place-before-spec =
     (λ c.
     let c4 = c .before .before .before .before in
     let c6 = c4 .before .before in
-    sym (laws.place-none₂ _ _ _ (c6 .u16-at .ensures) (c4 .f .given .1) (c .before .before .u16-at2 .ensures) (c .enum-told2 .given .1)))
+    sym (laws.place-none₂ _ _ _ (c6 .u16-at .ensures) (c4 .f .given .1) (c .before .before .u16-at2 .ensures)
+    (c .enum-told2 .given .1)))
     (λ c.
     let c3 = c .before .before .before in
     let c5 = c3 .before .before in

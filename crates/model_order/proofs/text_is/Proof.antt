@@ -33,11 +33,13 @@ text-is-spec =
     (λ c.
     let c3 = c .before .before .before in
     let c4 = c3 .before in
-    sym (c .before .loop .inv ∙ laws.is-ended _ _ _ (sym (c4 .text-fits .ensures) ∙ not-false _ (c3 .if1 .left)) _ (c .if2 .taken)))
+    sym (c .before .loop .inv ∙ laws.is-ended _ _ _ (sym (c4 .text-fits .ensures) ∙ not-false _ (c3 .if1 .left)) _
+    (c .if2 .taken)))
     (λ c.
     let c4 = c .before .before .before .before in
     let c5 = c4 .before in
-    sym (c .before .before .loop .inv ∙ laws.is-longer _ _ _ (sym (c5 .text-fits .ensures) ∙ not-false _ (c4 .if1 .left)) _ (c .before .if2 .left) (c .if3 .taken)))
+    sym (c .before .before .loop .inv ∙ laws.is-longer _ _ _ (sym (c5 .text-fits .ensures) ∙ not-false _ (c4 .if1 .left)) _
+    (c .before .if2 .left) (c .if3 .taken)))
     (λ c. search needs)
     (λ c.
     let c5 = c .before .before .before .before .before in
@@ -57,7 +59,8 @@ text-is-spec =
     let c5 = c4 .before in
     let c7 = c5 .before .before in
     let c8 = c7 .before in
-    sym (c5 .loop .inv ∙ laws.is-other _ _ _ (sym (c8 .text-fits .ensures) ∙ not-false _ (c7 .if1 .left)) _ (c4 .if2 .left) (c3 .if3 .left) (c .if4 .taken)))
+    sym (c5 .loop .inv ∙ laws.is-other _ _ _ (sym (c8 .text-fits .ensures) ∙ not-false _ (c7 .if1 .left)) _ (c4 .if2 .left)
+    (c3 .if3 .left) (c .if4 .taken)))
     (λ c.
     let c7 = c .before .before .before .before .before .before .before in
     let c8 = c7 .before in
@@ -69,5 +72,6 @@ text-is-spec =
     let c5 = c4 .before in
     let c7 = c5 .before .before in
     let c8 = c7 .before in
-    c5 .loop .inv ∙ laws.is-same _ _ _ (sym (c8 .text-fits .ensures) ∙ not-false _ (c7 .if1 .left)) _ (c4 .if2 .left) (c3 .if3 .left) (c .if4 .left))
+    c5 .loop .inv ∙ laws.is-same _ _ _ (sym (c8 .text-fits .ensures) ∙ not-false _ (c7 .if1 .left)) _ (c4 .if2 .left)
+    (c3 .if3 .left) (c .if4 .left))
     )

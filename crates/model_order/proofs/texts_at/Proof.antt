@@ -18,7 +18,8 @@ texts-at-spec =
     (λ c.
     let c3 = c .before .before .before in
     let c4 = c3 .before in
-    sym (laws.no-off _ _ (sym (c4 .has .ensures) ∙ not-false _ (c3 .if1 .left)) (sym (c .before .has2 .ensures) ∙ not-true _ (c .if2 .taken))))
+    sym (laws.no-off _ _ (sym (c4 .has .ensures) ∙ not-false _ (c3 .if1 .left))
+    (sym (c .before .has2 .ensures) ∙ not-true _ (c .if2 .taken))))
     (λ c. search needs)
     (λ c κs. search needs)
     (λ c.
@@ -26,7 +27,9 @@ texts-at-spec =
     let c4 = c3 .before in
     let c6 = c4 .before .before in
     let c7 = c6 .before in
-    sym (laws.no-unknown _ _ (sym (c7 .has .ensures) ∙ not-false _ (c6 .if1 .left)) (sym (c4 .has2 .ensures) ∙ not-false _ (c3 .if2 .left)) (sym (c .before .has3 .ensures) ∙ not-true _ (c .if3 .taken))))
+    sym (laws.no-unknown _ _ (sym (c7 .has .ensures) ∙ not-false _ (c6 .if1 .left))
+    (sym (c4 .has2 .ensures) ∙ not-false _ (c3 .if2 .left))
+    (sym (c .before .has3 .ensures) ∙ not-true _ (c .if3 .taken))))
     (λ c. search needs)
     (λ c κs. search needs)
     (λ c.
@@ -36,7 +39,9 @@ texts-at-spec =
     let c7 = c6 .before in
     let c9 = c7 .before .before in
     let c10 = c9 .before in
-    sym (laws.no-unavailable _ _ (sym (c10 .has .ensures) ∙ not-false _ (c9 .if1 .left)) (sym (c7 .has2 .ensures) ∙ not-false _ (c6 .if2 .left)) (sym (c4 .has3 .ensures) ∙ not-false _ (c3 .if3 .left)) (sym (c .before .has4 .ensures) ∙ not-true _ (c .if4 .taken))))
+    sym (laws.no-unavailable _ _ (sym (c10 .has .ensures) ∙ not-false _ (c9 .if1 .left))
+    (sym (c7 .has2 .ensures) ∙ not-false _ (c6 .if2 .left)) (sym (c4 .has3 .ensures) ∙ not-false _ (c3 .if3 .left))
+    (sym (c .before .has4 .ensures) ∙ not-true _ (c .if4 .taken))))
     (λ c κs. search needs)
     (λ c.
     let c4 = c .before .before .before .before in
@@ -45,5 +50,8 @@ texts-at-spec =
     let c8 = c7 .before in
     let c10 = c8 .before .before in
     let c11 = c10 .before in
-    c .ascending-at .ensures ∙ sym (laws.all-there _ _ (sym (c11 .has .ensures) ∙ not-false _ (c10 .if1 .left)) (sym (c8 .has2 .ensures) ∙ not-false _ (c7 .if2 .left)) (sym (c5 .has3 .ensures) ∙ not-false _ (c4 .if3 .left)) (sym (c .before .before .has4 .ensures) ∙ not-false _ (c .before .if4 .left))))
+    c .ascending-at .ensures
+    ∙ sym (laws.all-there _ _ (sym (c11 .has .ensures) ∙ not-false _ (c10 .if1 .left))
+    (sym (c8 .has2 .ensures) ∙ not-false _ (c7 .if2 .left)) (sym (c5 .has3 .ensures) ∙ not-false _ (c4 .if3 .left))
+    (sym (c .before .before .has4 .ensures) ∙ not-false _ (c .before .if4 .left))))
     )

@@ -14,9 +14,11 @@ event-at-spec =
     (λ c κs. search needs)
     (λ c. search needs)
     (λ c. search needs)
-    (λ c. sym (laws.event-is _ _ _ _ ∙ walks.broke _ _ _ _ _ (c .before .before .bytes-at .ensures) (c .enum-told .given .1)))
+    (λ c. sym (laws.event-is _ _ _ _ ∙ walks.broke _ _ _ _ _ (c .before .before .bytes-at .ensures)
+    (c .enum-told .given .1)))
     (λ c κs. search needs)
     (λ c.
     let c4 = c .before .before .before .before in
-    c .input-at .ensures ∙ sym (laws.event-is _ _ _ _ ∙ walks.to _ _ _ _ _ (c4 .bytes-at .ensures) (c .before .before .a .given .1)))
+    c .input-at .ensures ∙ sym (laws.event-is _ _ _ _
+    ∙ walks.to _ _ _ _ _ (c4 .bytes-at .ensures) (c .before .before .a .given .1)))
     )

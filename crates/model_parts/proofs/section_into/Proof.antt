@@ -13,7 +13,8 @@ use Rattle.model_parts.proofs.put.Reads as put-reads
 use Rattle.model_walk.proofs.u16_at.Reads as u16-at-reads
 
 abbrev Inv-loop : tie.InvT-loop
-Inv-loop s texts part at notes starts₀ count start i₀ left₀ p₀ n₀ starts i left p n = (sectionM (partM texts part) s at notes ≡ fill left i count (partM texts part) starts s p n) × (i + left ≡ count)
+Inv-loop s texts part at notes starts₀ count start i₀ left₀ p₀ n₀ starts i left p n =
+    (sectionM (partM texts part) s at notes ≡ fill left i count (partM texts part) starts s p n) × (i + left ≡ count)
 
 abbrev μ-loop : tie.MeasureT-loop
 μ-loop s texts part at notes starts₀ count start i₀ left₀ p₀ n₀ starts i left p n = left
@@ -27,7 +28,8 @@ section-into-spec =
     (λ c κs. search needs)
     (λ c. search needs)
     (λ c. search needs)
-    (λ c. sym (laws.section-broken _ _ _ _ (c .before .before .u16-at .ensures) (c .before .before .before .before .pre) (c .enum-told .given .1)))
+    (λ c. sym (laws.section-broken _ _ _ _ (c .before .before .u16-at .ensures) (c .before .before .before .before .pre)
+    (c .enum-told .given .1)))
     (λ c.
     let c3 = c .before .before .before in
     let c5 = c3 .before .before in
@@ -40,7 +42,8 @@ section-into-spec =
     let c3 = c .before .before .before in
     let c5 = c3 .before .before in
     let c6 = c5 .before in
-    sym (c6 .loop .inv .0 ∙ laws.fill-broken _ _ _ _ _ _ _ (c .before .before .part-at .ensures) (c3 .put .ensures) _ (c5 .loop-test .taken) (c .enum-told2 .given .1)))
+    sym (c6 .loop .inv .0 ∙ laws.fill-broken _ _ _ _ _ _ _ (c .before .before .part-at .ensures) (c3 .put .ensures) _
+    (c5 .loop-test .taken) (c .enum-told2 .given .1)))
     (λ c. search needs)
     (λ c. search needs)
     (λ c. search needs)
@@ -48,6 +51,9 @@ section-into-spec =
     let c3 = c .before .before .before in
     let c4 = c3 .before in
     let c6 = c4 .before .before in
-    let c7 = c6 .before in
-    (c7 .loop .inv .0 ∙ laws.fill-more _ _ _ _ _ _ _ (c3 .part-at .ensures) (c4 .put .ensures) _ (c6 .loop-test .taken) (c .before .y .given .1), omega arith))
+    let c7 = c6 .before in (
+      c7 .loop .inv .0 ∙ laws.fill-more _ _ _ _ _ _ _ (c3 .part-at .ensures) (c4 .put .ensures) _ (c6 .loop-test .taken)
+          (c .before .y .given .1),
+      omega arith,
+    ))
     (λ c. sym (c .before .loop .inv .0 ∙ laws.fill-end _ _ _ _ _ _ _ _ (c .loop-test .left))))

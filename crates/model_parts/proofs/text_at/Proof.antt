@@ -32,18 +32,23 @@ text-at-spec =
     (λ c.
     let c3 = c .before .before .before in
     let c4 = c3 .before in
-    sym (c4 .loop .inv ∙ walks.times-more _ _ _ _ _ (c3 .loop-test .taken) ∙ walks.by-then _ _ _ _ _ _ ∙ walks.by-broken _ _ _ _ _ (c .before .before .u8-at2 .ensures) (c .enum-told2 .given .1)))
+    sym (c4 .loop .inv ∙ walks.times-more _ _ _ _ _ (c3 .loop-test .taken) ∙ walks.by-then _ _ _ _ _ _
+    ∙ walks.by-broken _ _ _ _ _ (c .before .before .u8-at2 .ensures) (c .enum-told2 .given .1)))
     (λ c.
     let c4 = c .before .before .before .before in
     let c5 = c4 .before in
     let c6 = c5 .before in
-    sym (c6 .loop .inv ∙ walks.times-more _ _ _ _ _ (c5 .loop-test .taken) ∙ walks.by-then _ _ _ _ _ _ ∙ walks.by-is _ _ _ _ _ (c4 .u8-at2 .ensures) (c .before .before .y .given .1) ∙ walks.stop-then _ _ _ _ (laws.printable-low _ (c .if1 .taken))))
+    sym (c6 .loop .inv ∙ walks.times-more _ _ _ _ _ (c5 .loop-test .taken) ∙ walks.by-then _ _ _ _ _ _
+    ∙ walks.by-is _ _ _ _ _ (c4 .u8-at2 .ensures) (c .before .before .y .given .1)
+    ∙ walks.stop-then _ _ _ _ (laws.printable-low _ (c .if1 .taken))))
     (λ c.
     let c3 = c .before .before .before in
     let c5 = c3 .before .before in
     let c6 = c5 .before in
     let c7 = c6 .before in
-    sym (c7 .loop .inv ∙ walks.times-more _ _ _ _ _ (c6 .loop-test .taken) ∙ walks.by-then _ _ _ _ _ _ ∙ walks.by-is _ _ _ _ _ (c5 .u8-at2 .ensures) (c3 .y .given .1) ∙ walks.stop-then _ _ _ _ (laws.printable-high _ (c .before .if1 .left) (c .if2 .taken))))
+    sym (c7 .loop .inv ∙ walks.times-more _ _ _ _ _ (c6 .loop-test .taken) ∙ walks.by-then _ _ _ _ _ _
+    ∙ walks.by-is _ _ _ _ _ (c5 .u8-at2 .ensures) (c3 .y .given .1)
+    ∙ walks.stop-then _ _ _ _ (laws.printable-high _ (c .before .if1 .left) (c .if2 .taken))))
     (λ c. search needs)
     (λ c. search needs)
     (λ c.
@@ -51,6 +56,8 @@ text-at-spec =
     let c5 = c3 .before .before in
     let c6 = c5 .before in
     let c7 = c6 .before in
-    c7 .loop .inv ∙ walks.times-more _ _ _ _ _ (c6 .loop-test .taken) ∙ walks.by-then _ _ _ _ _ _ ∙ walks.by-is _ _ _ _ _ (c5 .u8-at2 .ensures) (c3 .y .given .1) ∙ walks.stay-then _ _ _ _ (laws.printable-in _ (c .before .if1 .left) (c .if2 .left)))
+    c7 .loop .inv ∙ walks.times-more _ _ _ _ _ (c6 .loop-test .taken) ∙ walks.by-then _ _ _ _ _ _
+    ∙ walks.by-is _ _ _ _ _ (c5 .u8-at2 .ensures) (c3 .y .given .1)
+    ∙ walks.stay-then _ _ _ _ (laws.printable-in _ (c .before .if1 .left) (c .if2 .left)))
     (λ c. sym (c .before .loop .inv ∙ walks.times-none _ _ _ _ _ (c .loop-test .left)))
     )

@@ -27,6 +27,13 @@ copy-spec =
     (λ c. search needs)
     (λ c.
     let c3 = c .before .before .before in
-    let a = c3 .args in let l = c .before .before .loop in (search needs, (simp length-set (l .inv .1 .0), rw (l .inv .1 .1) (laws.copied (a .out .now) (a .s .now) (l .i) (search needs) (omega arith)))))
+    let a = c3 .args in let l = c .before .before .loop in (
+      search needs,
+      (
+        simp length-set (l .inv .1 .0),
+        rw (l .inv .1 .1) (laws.copied (a .out .now) (a .s .now) (l .i) (search needs) (omega arith)),
+      ),
+    ))
     (λ c. search needs)
-    (λ c. let a = c .before .before .args in let l = c .before .loop in l .inv .1 .1 ∙ laws.all (a .out .now) (a .s .now) (l .i) (c .loop-test .left) (l .inv .0)))
+    (λ c. let a = c .before .before .args in let l = c .before .loop in
+    l .inv .1 .1 ∙ laws.all (a .out .now) (a .s .now) (l .i) (c .loop-test .left) (l .inv .0)))

@@ -15,7 +15,8 @@ events-behind-spec =
     (λ c κs. search needs)
     (λ c.
     let c3 = c .before .before .before in
-    c .no-span .ensures ∙ sym (laws.body-is _ _ _ ∙ laws.behind-broken _ _ (c3 .place-at .ensures) (c .before .enum-told .given .1)))
+    c .no-span .ensures
+    ∙ sym (laws.body-is _ _ _ ∙ laws.behind-broken _ _ (c3 .place-at .ensures) (c .before .enum-told .given .1)))
     (λ c κs. search needs)
     (λ c. search needs)
     (λ c. search needs)
@@ -24,22 +25,28 @@ events-behind-spec =
     let c3 = c .before .before .before in
     let c5 = c3 .before .before in
     let c7 = c5 .before .before in
-    c .no-span2 .ensures ∙ sym (laws.body-is _ _ _ ∙ laws.behind-to _ _ (c7 .place-at .ensures) (c5 .a .given .1) ∙ laws.behind-broken _ _ (ap (λ (x : Section). x .end) (c3 .section-at .ensures)) (c .before .enum-told2 .given .1)))
+    c .no-span2 .ensures ∙ sym (laws.body-is _ _ _ ∙ laws.behind-to _ _ (c7 .place-at .ensures) (c5 .a .given .1)
+    ∙ laws.behind-broken _ _ (ap (λ (x : Section). x .end) (c3 .section-at .ensures)) (c .before .enum-told2 .given .1)))
     (λ c κs. search needs)
     (λ c. search needs)
     (λ c. search needs)
     (λ c κs. search needs)
-    (λ c.
-    let c3 = c .before .before .before in
-    let c5 = c3 .before .before in
-    let c7 = c5 .before .before in
-    let c9 = c7 .before .before in
-    let c11 = c9 .before .before in
-    c .no-span3 .ensures ∙ sym (laws.body-is _ _ _ ∙ laws.behind-to _ _ (c11 .place-at .ensures) (c9 .a .given .1) ∙ laws.behind-to _ _ (ap (λ (x : Section). x .end) (c7 .section-at .ensures)) (c5 .b .given .1) ∙ laws.behind-broken _ _ (ap (λ (x : Section). x .end) (c3 .section-at2 .ensures)) (c .before .enum-told3 .given .1)))
     (λ c.
     let c3 = c .before .before .before in
     let c5 = c3 .before .before in
     let c7 = c5 .before .before in
     let c9 = c7 .before .before in
     let c11 = c9 .before .before in
-    sym (laws.body-is _ _ _ ∙ laws.behind-to _ _ (c11 .place-at .ensures) (c9 .a .given .1) ∙ laws.behind-to _ _ (ap (λ (x : Section). x .end) (c7 .section-at .ensures)) (c5 .b .given .1) ∙ laws.behind-to _ _ (ap (λ (x : Section). x .end) (c3 .section-at2 .ensures)) (c .before .d .given .1))))
+    c .no-span3 .ensures ∙ sym (laws.body-is _ _ _ ∙ laws.behind-to _ _ (c11 .place-at .ensures) (c9 .a .given .1)
+    ∙ laws.behind-to _ _ (ap (λ (x : Section). x .end) (c7 .section-at .ensures)) (c5 .b .given .1)
+    ∙ laws.behind-broken _ _ (ap (λ (x : Section). x .end) (c3 .section-at2 .ensures))
+    (c .before .enum-told3 .given .1)))
+    (λ c.
+    let c3 = c .before .before .before in
+    let c5 = c3 .before .before in
+    let c7 = c5 .before .before in
+    let c9 = c7 .before .before in
+    let c11 = c9 .before .before in
+    sym (laws.body-is _ _ _ ∙ laws.behind-to _ _ (c11 .place-at .ensures) (c9 .a .given .1)
+    ∙ laws.behind-to _ _ (ap (λ (x : Section). x .end) (c7 .section-at .ensures)) (c5 .b .given .1)
+    ∙ laws.behind-to _ _ (ap (λ (x : Section). x .end) (c3 .section-at2 .ensures)) (c .before .d .given .1))))

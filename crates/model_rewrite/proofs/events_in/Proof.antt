@@ -14,8 +14,10 @@ events-in-spec =
     (λ c κs. search needs)
     (λ c.
     let c3 = c .before .before .before in
-    c .no-span .ensures ∙ sym (laws.span-is _ (c3 .section-at .ensures) ∙ laws.behind-broken _ _ refl (c .before .enum-told .given .1)))
+    c .no-span .ensures ∙ sym (laws.span-is _ (c3 .section-at .ensures)
+    ∙ laws.behind-broken _ _ refl (c .before .enum-told .given .1)))
     (λ c κs. search needs)
     (λ c.
     let c4 = c .before .before .before .before in
-    c .events-behind .ensures ∙ sym (laws.span-is _ (c4 .section-at .ensures) ∙ laws.behind-to _ _ refl (c .before .before .a .given .1))))
+    c .events-behind .ensures ∙ sym (laws.span-is _ (c4 .section-at .ensures)
+    ∙ laws.behind-to _ _ refl (c .before .before .a .given .1))))

@@ -5,4 +5,5 @@ use Rattle.model_rewrite.proofs.write_count.Tie as tie
 
 pub write-count-spec : {M : Type 1} → statement M
 write-count-spec =
-    tie.close (tie.spec (λ c. search needs) (λ c. search needs) (λ c. search needs) (λ c. search needs) (λ c. search needs) (λ c. laws.two (c .args .out .now) (c .args .n) (search needs)))
+    tie.close (tie.spec (λ c. search needs) (λ c. search needs) (λ c. search needs) (λ c. search needs) (λ c. search needs)
+    (λ c. laws.two (c .args .out .now) (c .args .n) (search needs)))

@@ -28,14 +28,16 @@ any-bad-spec =
     (λ c.
     let c3 = c .before .before .before in
     let c4 = c3 .before in
-    sym (c4 .loop .inv ∙ laws.any-broken _ _ (c .before .before .u16-at .ensures) _ (c3 .loop-test .taken) (c .enum-told .given .1)))
+    sym (c4 .loop .inv ∙ laws.any-broken _ _ (c .before .before .u16-at .ensures) _ (c3 .loop-test .taken)
+    (c .enum-told .given .1)))
     (λ c κs. search needs)
     (λ c.
     let c3 = c .before .before .before in
     let c5 = c3 .before .before in
     let c6 = c5 .before in
     let c7 = c6 .before in
-    sym (c7 .loop .inv ∙ laws.any-here _ _ (c5 .u16-at .ensures) (c3 .x .given .1) _ (c6 .loop-test .taken) (sym (c .before .bad-place .ensures) ∙ c .if1 .taken)))
+    sym (c7 .loop .inv ∙ laws.any-here _ _ (c5 .u16-at .ensures) (c3 .x .given .1) _ (c6 .loop-test .taken)
+    (sym (c .before .bad-place .ensures) ∙ c .if1 .taken)))
     (λ c. search needs)
     (λ c. search needs)
     (λ c.
@@ -43,5 +45,6 @@ any-bad-spec =
     let c5 = c3 .before .before in
     let c6 = c5 .before in
     let c7 = c6 .before in
-    c7 .loop .inv ∙ laws.any-later _ _ (c5 .u16-at .ensures) (c3 .x .given .1) _ (c6 .loop-test .taken) (sym (c .before .bad-place .ensures) ∙ c .if1 .left))
+    c7 .loop .inv ∙ laws.any-later _ _ (c5 .u16-at .ensures) (c3 .x .given .1) _ (c6 .loop-test .taken)
+    (sym (c .before .bad-place .ensures) ∙ c .if1 .left))
     (λ c. sym (c .before .loop .inv ∙ laws.any-end _ _ _ (c .loop-test .left))))

@@ -9,4 +9,8 @@ use Rattle.model_sections.proofs.bad_place.Reads as bad-place-reads
 use Rattle.model_sections.proofs.seen.Reads as seen-reads
 
 pub bad-id-spec : {M : Type 1} → statement M
-bad-id-spec = tie.close (tie.spec (λ c κs. search needs) (λ c. sym (laws.id-bad _ _ _ _ _ (sym (c .before .bad-place .ensures) ∙ c .if1 .taken))) (λ c κs. search needs) (λ c. c .seen .ensures ∙ sym (laws.id-fine _ _ _ _ _ (sym (c .before .before .bad-place .ensures) ∙ c .before .if1 .left))))
+bad-id-spec =
+    tie.close (tie.spec (λ c κs. search needs) (λ c. sym
+    (laws.id-bad _ _ _ _ _ (sym (c .before .bad-place .ensures) ∙ c .if1 .taken))) (λ c κs. search needs)
+    (λ c. c .seen .ensures
+    ∙ sym (laws.id-fine _ _ _ _ _ (sym (c .before .before .bad-place .ensures) ∙ c .before .if1 .left))))

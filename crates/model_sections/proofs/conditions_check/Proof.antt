@@ -16,7 +16,8 @@ conditions-check-spec =
     (λ c. search needs)
     (λ c. search needs)
     (λ c. sym (laws.conditions-broken _ _ _ _ (c .before .before .u16-at .ensures) (c .enum-told .given .1)))
-    (λ c. sym (laws.conditions-none _ _ _ _ (c .before .before .before .before .u16-at .ensures) (c .before .before .x .given .1) (c .if1 .taken)))
+    (λ c. sym (laws.conditions-none _ _ _ _ (c .before .before .before .before .u16-at .ensures)
+    (c .before .before .x .given .1) (c .if1 .taken)))
     (λ c.
     let c3 = c .before .before .before in
     let c5 = c3 .before .before in
@@ -25,4 +26,6 @@ conditions-check-spec =
     (λ c.
     let c4 = c .before .before .before .before in
     let c6 = c4 .before .before in
-    c .predicates-check .ensures ∙ sym (laws.conditions-are _ _ _ _ (c6 .u16-at .ensures) (c4 .x .given .1) (c .before .before .if1 .left) (c .before .if2 .left))))
+    c .predicates-check .ensures
+    ∙ sym (laws.conditions-are _ _ _ _ (c6 .u16-at .ensures) (c4 .x .given .1) (c .before .before .if1 .left)
+    (c .before .if2 .left))))

@@ -28,7 +28,8 @@ doubled-spec =
     (λ c.
     let c3 = c .before .before .before in
     let c4 = c3 .before in
-    sym (c4 .loop .inv ∙ laws.double-broken _ _ (c .before .before .u16-at .ensures) _ (c3 .loop-test .taken) (c .enum-told .given .1)))
+    sym (c4 .loop .inv ∙ laws.double-broken _ _ (c .before .before .u16-at .ensures) _ (c3 .loop-test .taken)
+    (c .enum-told .given .1)))
     (λ c. search needs)
     (λ c κs. search needs)
     (λ c.
@@ -36,7 +37,8 @@ doubled-spec =
     let c5 = c3 .before .before in
     let c6 = c5 .before in
     let c7 = c6 .before in
-    sym (c7 .loop .inv ∙ laws.double-here _ _ (c5 .u16-at .ensures) (c3 .x .given .1) _ (c6 .loop-test .taken) (sym (c .before .among .ensures) ∙ c .if1 .taken)))
+    sym (c7 .loop .inv ∙ laws.double-here _ _ (c5 .u16-at .ensures) (c3 .x .given .1) _ (c6 .loop-test .taken)
+    (sym (c .before .among .ensures) ∙ c .if1 .taken)))
     (λ c. search needs)
     (λ c. search needs)
     (λ c.
@@ -44,5 +46,6 @@ doubled-spec =
     let c5 = c3 .before .before in
     let c6 = c5 .before in
     let c7 = c6 .before in
-    c7 .loop .inv ∙ laws.double-later _ _ (c5 .u16-at .ensures) (c3 .x .given .1) _ (c6 .loop-test .taken) (sym (c .before .among .ensures) ∙ c .if1 .left))
+    c7 .loop .inv ∙ laws.double-later _ _ (c5 .u16-at .ensures) (c3 .x .given .1) _ (c6 .loop-test .taken)
+    (sym (c .before .among .ensures) ∙ c .if1 .left))
     (λ c. sym (c .before .loop .inv ∙ laws.double-end _ _ _ (c .loop-test .left))))

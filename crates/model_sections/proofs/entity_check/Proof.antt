@@ -24,7 +24,8 @@ entity-check-spec =
     (λ c.
     let c4 = c .before .before .before .before in
     let c6 = c4 .before .before in
-    sym (laws.entity-no-count _ _ _ _ (c6 .u16-at .ensures) (c4 .x .given .1) (c .before .before .u16-at2 .ensures) (c .enum-told2 .given .1)))
+    sym (laws.entity-no-count _ _ _ _ (c6 .u16-at .ensures) (c4 .x .given .1) (c .before .before .u16-at2 .ensures)
+    (c .enum-told2 .given .1)))
     (λ c. search needs)
     (λ c. search needs)
     (λ c κs. search needs)
@@ -35,7 +36,8 @@ entity-check-spec =
     let c6 = c4 .before .before in
     let c8 = c6 .before .before in
     let c10 = c8 .before .before in
-    sym (laws.entity-is _ _ _ _ (c10 .u16-at .ensures) (c8 .x .given .1) (c6 .u16-at2 .ensures) (c4 .y .given .1) ∙ checks.refused _ _ _ _ _ (c .before .before .skip .ensures) (c .enum-told3 .given .1)))
+    sym (laws.entity-is _ _ _ _ (c10 .u16-at .ensures) (c8 .x .given .1) (c6 .u16-at2 .ensures) (c4 .y .given .1)
+    ∙ checks.refused _ _ _ _ _ (c .before .before .skip .ensures) (c .enum-told3 .given .1)))
     (λ c κs. search needs)
     (λ c.
     let c4 = c .before .before .before .before in
@@ -43,4 +45,6 @@ entity-check-spec =
     let c8 = c6 .before .before in
     let c10 = c8 .before .before in
     let c12 = c10 .before .before in
-    c .entity-rest-check .ensures ∙ sym (laws.entity-is _ _ _ _ (c12 .u16-at .ensures) (c10 .x .given .1) (c8 .u16-at2 .ensures) (c6 .y .given .1) ∙ checks.to _ _ _ _ _ (c4 .skip .ensures) (c .before .before .a .given .1))))
+    c .entity-rest-check .ensures
+    ∙ sym (laws.entity-is _ _ _ _ (c12 .u16-at .ensures) (c10 .x .given .1) (c8 .u16-at2 .ensures) (c6 .y .given .1)
+    ∙ checks.to _ _ _ _ _ (c4 .skip .ensures) (c .before .before .a .given .1))))

@@ -18,9 +18,12 @@ entity-of-check-spec =
     (λ c κs. search needs)
     (λ c.
     let c3 = c .before .before .before in
-    sym (laws.entity-6 _ _ _ _ _ _ _ _ _ (sym (c3 .stale-bad .ensures) ∙ c .before .before .if1 .left) (sym (c .before .bad-domain .ensures) ∙ c .if2 .taken)))
+    sym (laws.entity-6 _ _ _ _ _ _ _ _ _ (sym (c3 .stale-bad .ensures) ∙ c .before .before .if1 .left)
+    (sym (c .before .bad-domain .ensures) ∙ c .if2 .taken)))
     (λ c κs. search needs)
     (λ c.
     let c3 = c .before .before .before in
     let c4 = c3 .before in
-    c .value-check .ensures ∙ sym (laws.entity-value _ _ _ _ _ _ _ _ _ (sym (c4 .stale-bad .ensures) ∙ c3 .if1 .left) (sym (c .before .before .bad-domain .ensures) ∙ c .before .if2 .left))))
+    c .value-check .ensures
+    ∙ sym (laws.entity-value _ _ _ _ _ _ _ _ _ (sym (c4 .stale-bad .ensures) ∙ c3 .if1 .left)
+    (sym (c .before .before .bad-domain .ensures) ∙ c .before .if2 .left))))

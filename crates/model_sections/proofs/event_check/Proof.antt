@@ -12,6 +12,9 @@ use Rattle.model_sections.proofs.input_check.Reads as input-check-reads
 pub event-check-spec : {M : Type 1} → statement M
 event-check-spec =
     tie.close
-    (tie.spec (λ c κs. search needs) (λ c. search needs) (λ c. search needs) (λ c. sym (laws.event-is _ _ _ _ ∙ checks.refused _ _ _ _ _ (c .before .before .skip .ensures) (c .enum-told .given .1))) (λ c κs. search needs) (λ c.
+    (tie.spec (λ c κs. search needs) (λ c. search needs) (λ c. search needs)
+    (λ c. sym (laws.event-is _ _ _ _ ∙ checks.refused _ _ _ _ _ (c .before .before .skip .ensures)
+    (c .enum-told .given .1))) (λ c κs. search needs) (λ c.
     let c4 = c .before .before .before .before in
-    c .input-check .ensures ∙ sym (laws.event-is _ _ _ _ ∙ checks.to _ _ _ _ _ (c4 .skip .ensures) (c .before .before .a .given .1))))
+    c .input-check .ensures ∙ sym (laws.event-is _ _ _ _
+    ∙ checks.to _ _ _ _ _ (c4 .skip .ensures) (c .before .before .a .given .1))))

@@ -30,15 +30,20 @@ gaps-bad-spec =
     (λ c. search needs)
     (λ c.
     let c5 = c .before .before .before .before .before in
-    sym (c5 .loop .inv .0 ∙ laws.gaps-broken _ _ _ (c .before .before .u32-at .ensures) _ (omega arith) (c .enum-told .given .1)))
+    sym (c5 .loop .inv .0 ∙ laws.gaps-broken _ _ _ (c .before .before .u32-at .ensures) _ (omega arith)
+    (c .enum-told .given .1)))
     (λ c.
     let c4 = c .before .before .before .before in
     let c7 = c4 .before .before .before in
-    sym (c7 .loop .inv .0 ∙ laws.gaps-long _ _ _ (c4 .u32-at .ensures) (c .before .before .x .given .1) _ (omega arith) (c .if1 .taken)))
+    sym (c7 .loop .inv .0 ∙ laws.gaps-long _ _ _ (c4 .u32-at .ensures) (c .before .before .x .given .1) _ (omega arith)
+    (c .if1 .taken)))
     (λ c. search needs)
     (λ c. search needs)
     (λ c.
     let c4 = c .before .before .before .before in
-    let c7 = c4 .before .before .before in
-    (c7 .loop .inv .0 ∙ laws.gaps-next _ _ _ (c4 .u32-at .ensures) (c .before .before .x .given .1) _ (omega arith) (c .if1 .left) ∙ laws.gaps-left _ _ _ (omega arith), omega arith))
+    let c7 = c4 .before .before .before in (
+      c7 .loop .inv .0 ∙ laws.gaps-next _ _ _ (c4 .u32-at .ensures) (c .before .before .x .given .1) _ (omega arith)
+          (c .if1 .left) ∙ laws.gaps-left _ _ _ (omega arith),
+      omega arith,
+    ))
     (λ c. sym (c .before .loop .inv .0 ∙ laws.gaps-end _ _ _ _ (omega arith))))

@@ -17,14 +17,16 @@ guard-check-spec =
     (λ c κs. search needs)
     (λ c. search needs)
     (λ c. search needs)
-    (λ c. sym (laws.guard-is _ _ _ _ ∙ checks.by-broken _ _ _ _ _ (c .before .before .u16-at .ensures) (c .enum-told .given .1)))
+    (λ c. sym (laws.guard-is _ _ _ _ ∙ checks.by-broken _ _ _ _ _ (c .before .before .u16-at .ensures)
+    (c .enum-told .given .1)))
     (λ c κs. search needs)
     (λ c. search needs)
     (λ c. search needs)
     (λ c.
     let c4 = c .before .before .before .before in
     let c6 = c4 .before .before in
-    sym (laws.guard-is _ _ _ _ ∙ checks.by-is _ _ _ _ _ (c6 .u16-at .ensures) (c4 .x .given .1) ∙ checks.by-broken _ _ _ _ _ (c .before .before .u16-at2 .ensures) (c .enum-told2 .given .1)))
+    sym (laws.guard-is _ _ _ _ ∙ checks.by-is _ _ _ _ _ (c6 .u16-at .ensures) (c4 .x .given .1)
+    ∙ checks.by-broken _ _ _ _ _ (c .before .before .u16-at2 .ensures) (c .enum-told2 .given .1)))
     (λ c κs. search needs)
     (λ c. search needs)
     (λ c. search needs)
@@ -33,7 +35,9 @@ guard-check-spec =
     let c6 = c4 .before .before in
     let c8 = c6 .before .before in
     let c10 = c8 .before .before in
-    sym (laws.guard-is _ _ _ _ ∙ checks.by-is _ _ _ _ _ (c10 .u16-at .ensures) (c8 .x .given .1) ∙ checks.by-is _ _ _ _ _ (c6 .u16-at2 .ensures) (c4 .y .given .1) ∙ checks.refused _ _ _ _ _ (c .before .before .conditions-check .ensures) (c .enum-told3 .given .1)))
+    sym (laws.guard-is _ _ _ _ ∙ checks.by-is _ _ _ _ _ (c10 .u16-at .ensures) (c8 .x .given .1)
+    ∙ checks.by-is _ _ _ _ _ (c6 .u16-at2 .ensures) (c4 .y .given .1)
+    ∙ checks.refused _ _ _ _ _ (c .before .before .conditions-check .ensures) (c .enum-told3 .given .1)))
     (λ c κs. search needs)
     (λ c.
     let c4 = c .before .before .before .before in
@@ -41,4 +45,6 @@ guard-check-spec =
     let c8 = c6 .before .before in
     let c10 = c8 .before .before in
     let c12 = c10 .before .before in
-    c .value-check .ensures ∙ sym (laws.guard-is _ _ _ _ ∙ checks.by-is _ _ _ _ _ (c12 .u16-at .ensures) (c10 .x .given .1) ∙ checks.by-is _ _ _ _ _ (c8 .u16-at2 .ensures) (c6 .y .given .1) ∙ checks.to _ _ _ _ _ (c4 .conditions-check .ensures) (c .before .before .a .given .1))))
+    c .value-check .ensures ∙ sym (laws.guard-is _ _ _ _ ∙ checks.by-is _ _ _ _ _ (c12 .u16-at .ensures) (c10 .x .given .1)
+    ∙ checks.by-is _ _ _ _ _ (c8 .u16-at2 .ensures) (c6 .y .given .1)
+    ∙ checks.to _ _ _ _ _ (c4 .conditions-check .ensures) (c .before .before .a .given .1))))

@@ -16,7 +16,8 @@ id-is-spec =
     (λ c κs. search needs)
     (λ c. search needs)
     (λ c. search needs)
-    (λ c. sym (laws.id-broken _ _ _ (c .before .before .before .enum-told .given .1) (c .before .before .u8-at .ensures) (c .enum-told2 .given .1)))
+    (λ c. sym (laws.id-broken _ _ _ (c .before .before .before .enum-told .given .1) (c .before .before .u8-at .ensures)
+    (c .enum-told2 .given .1)))
     (λ c κs. search needs)
     (λ c. search needs)
     (λ c κs. search needs)
@@ -29,7 +30,8 @@ id-is-spec =
     (λ c.
     let c4 = c .before .before .before .before in
     let c5 = c4 .before in
-    c .place-is .ensures ∙ sym (laws.id-behind _ _ _ (c5 .enum-told .given .1) (c4 .u8-at .ensures) (c .before .before .x .given .1)))
+    c .place-is .ensures
+    ∙ sym (laws.id-behind _ _ _ (c5 .enum-told .given .1) (c4 .u8-at .ensures) (c .before .before .x .given .1)))
     (λ c. c .place-is2 .ensures ∙ sym (laws.id-entity _ _ _ (c .before .enum-told3 .given .1)))
     (λ c. c .place-is3 .ensures ∙ sym (laws.id-event _ _ _ (c .before .enum-told4 .given .1)))
     (λ c. c .place-is4 .ensures ∙ sym (laws.id-input _ _ _ (c .before .enum-told5 .given .1)))

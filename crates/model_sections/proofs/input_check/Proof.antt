@@ -17,12 +17,15 @@ input-check-spec =
     (λ c κs. search needs)
     (λ c. search needs)
     (λ c. search needs)
-    (λ c. sym (laws.input-is _ _ _ _ ∙ checks.by-broken _ _ _ _ _ (c .before .before .u8-at .ensures) (c .enum-told .given .1)))
+    (λ c. sym (laws.input-is _ _ _ _ ∙ checks.by-broken _ _ _ _ _ (c .before .before .u8-at .ensures)
+    (c .enum-told .given .1)))
     (λ c κs. search needs)
     (λ c.
     let c3 = c .before .before .before in
     let c5 = c3 .before .before in
-    c .pair-check .ensures ∙ sym (laws.input-is _ _ _ _ ∙ checks.by-is _ _ _ _ _ (c5 .u8-at .ensures) (c3 .x .given .1) ∙ checks.yes-check _ _ _ _ _ (eq-eqb _ _ (c .before .if1 .taken))))
+    c .pair-check .ensures ∙ sym (laws.input-is _ _ _ _ ∙ checks.by-is _ _ _ _ _ (c5 .u8-at .ensures) (c3 .x .given .1)
+    ∙ checks.yes-check _ _ _ _ _ (eq-eqb _ _ (c .before .if1 .taken))))
     (λ c.
     let c4 = c .before .before .before .before in
-    sym (laws.input-is _ _ _ _ ∙ checks.by-is _ _ _ _ _ (c4 .u8-at .ensures) (c .before .before .x .given .1) ∙ checks.no-check _ _ _ _ _ (ne-eqb _ _ (c .if1 .left)) ∙ checks.stayed _ _ _)))
+    sym (laws.input-is _ _ _ _ ∙ checks.by-is _ _ _ _ _ (c4 .u8-at .ensures) (c .before .before .x .given .1)
+    ∙ checks.no-check _ _ _ _ _ (ne-eqb _ _ (c .if1 .left)) ∙ checks.stayed _ _ _)))

@@ -23,4 +23,5 @@ invariant-of-check-spec =
     (λ c κs. search needs)
     (λ c.
     let c3 = c .before .before .before in
-    c .response-check .ensures ∙ sym (laws.invariant-else _ _ _ _ (c3 .if1 .left) (c .before .before .if2 .left) (c .before .if3 .left))))
+    c .response-check .ensures
+    ∙ sym (laws.invariant-else _ _ _ _ (c3 .if1 .left) (c .before .before .if2 .left) (c .before .if3 .left))))

@@ -17,17 +17,21 @@ lists-check-spec =
     (λ c κs. search needs)
     (λ c. search needs)
     (λ c. search needs)
-    (λ c. sym (laws.lists-are _ _ _ _ _ ∙ checks.refused _ _ _ _ _ (c .before .before .triggers-check .ensures) (c .enum-told .given .1)))
+    (λ c. sym (laws.lists-are _ _ _ _ _ ∙ checks.refused _ _ _ _ _ (c .before .before .triggers-check .ensures)
+    (c .enum-told .given .1)))
     (λ c κs. search needs)
     (λ c. search needs)
     (λ c. search needs)
     (λ c.
     let c4 = c .before .before .before .before in
     let c6 = c4 .before .before in
-    sym (laws.lists-are _ _ _ _ _ ∙ checks.to _ _ _ _ _ (c6 .triggers-check .ensures) (c4 .a .given .1) ∙ checks.refused _ _ _ _ _ (c .before .before .predicates-check .ensures) (c .enum-told2 .given .1)))
+    sym (laws.lists-are _ _ _ _ _ ∙ checks.to _ _ _ _ _ (c6 .triggers-check .ensures) (c4 .a .given .1)
+    ∙ checks.refused _ _ _ _ _ (c .before .before .predicates-check .ensures) (c .enum-told2 .given .1)))
     (λ c κs. search needs)
     (λ c.
     let c4 = c .before .before .before .before in
     let c6 = c4 .before .before in
     let c8 = c6 .before .before in
-    c .actions-check .ensures ∙ sym (laws.lists-are _ _ _ _ _ ∙ checks.to _ _ _ _ _ (c8 .triggers-check .ensures) (c6 .a .given .1) ∙ checks.to _ _ _ _ _ (c4 .predicates-check .ensures) (c .before .before .b .given .1))))
+    c .actions-check .ensures ∙ sym (laws.lists-are _ _ _ _ _
+    ∙ checks.to _ _ _ _ _ (c8 .triggers-check .ensures) (c6 .a .given .1)
+    ∙ checks.to _ _ _ _ _ (c4 .predicates-check .ensures) (c .before .before .b .given .1))))

@@ -16,17 +16,21 @@ response-check-spec =
     (λ c κs. search needs)
     (λ c. search needs)
     (λ c. search needs)
-    (λ c. sym (laws.response-is _ _ _ _ ∙ checks.refused _ _ _ _ _ (c .before .before .predicate-check .ensures) (c .enum-told .given .1)))
+    (λ c. sym (laws.response-is _ _ _ _ ∙ checks.refused _ _ _ _ _ (c .before .before .predicate-check .ensures)
+    (c .enum-told .given .1)))
     (λ c κs. search needs)
     (λ c. search needs)
     (λ c. search needs)
     (λ c.
     let c4 = c .before .before .before .before in
     let c6 = c4 .before .before in
-    sym (laws.response-is _ _ _ _ ∙ checks.to _ _ _ _ _ (c6 .predicate-check .ensures) (c4 .a .given .1) ∙ checks.refused _ _ _ _ _ (c .before .before .predicate-check2 .ensures) (c .enum-told2 .given .1)))
+    sym (laws.response-is _ _ _ _ ∙ checks.to _ _ _ _ _ (c6 .predicate-check .ensures) (c4 .a .given .1)
+    ∙ checks.refused _ _ _ _ _ (c .before .before .predicate-check2 .ensures) (c .enum-told2 .given .1)))
     (λ c κs. search needs)
     (λ c.
     let c4 = c .before .before .before .before in
     let c6 = c4 .before .before in
     let c8 = c6 .before .before in
-    c .day-check .ensures ∙ sym (laws.response-is _ _ _ _ ∙ checks.to _ _ _ _ _ (c8 .predicate-check .ensures) (c6 .a .given .1) ∙ checks.to _ _ _ _ _ (c4 .predicate-check2 .ensures) (c .before .before .b .given .1))))
+    c .day-check .ensures ∙ sym (laws.response-is _ _ _ _
+    ∙ checks.to _ _ _ _ _ (c8 .predicate-check .ensures) (c6 .a .given .1)
+    ∙ checks.to _ _ _ _ _ (c4 .predicate-check2 .ensures) (c .before .before .b .given .1))))

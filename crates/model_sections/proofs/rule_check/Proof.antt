@@ -21,9 +21,12 @@ rule-check-spec =
     (λ c.
     let c3 = c .before .before .before in
     let c5 = c3 .before .before in
-    sym (laws.rule-13 _ _ _ _ _ _ (c5 .u16-at .ensures) (c3 .x .given .1) (sym (c .before .bad-id .ensures) ∙ c .if1 .taken)))
+    sym (laws.rule-13 _ _ _ _ _ _ (c5 .u16-at .ensures) (c3 .x .given .1)
+    (sym (c .before .bad-id .ensures) ∙ c .if1 .taken)))
     (λ c κs. search needs)
     (λ c.
     let c4 = c .before .before .before .before in
     let c6 = c4 .before .before in
-    c .rule-of-check .ensures ∙ sym (laws.rule-is _ _ _ _ _ _ (c6 .u16-at .ensures) (c4 .x .given .1) (sym (c .before .before .bad-id .ensures) ∙ c .before .if1 .left))))
+    c .rule-of-check .ensures
+    ∙ sym (laws.rule-is _ _ _ _ _ _ (c6 .u16-at .ensures) (c4 .x .given .1)
+    (sym (c .before .before .bad-id .ensures) ∙ c .before .if1 .left))))

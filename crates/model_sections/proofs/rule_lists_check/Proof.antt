@@ -26,7 +26,8 @@ rule-lists-check-spec =
     (λ c.
     let c4 = c .before .before .before .before in
     let c6 = c4 .before .before in
-    sym (laws.rule-lists-short _ _ _ _ _ (c6 .u16-at .ensures) (c4 .x .given .1) (c .before .before .skip .ensures) (c .enum-told2 .given .1)))
+    sym (laws.rule-lists-short _ _ _ _ _ (c6 .u16-at .ensures) (c4 .x .given .1) (c .before .before .skip .ensures)
+    (c .enum-told2 .given .1)))
     (λ c κs. search needs)
     (λ c. search needs)
     (λ c. search needs)
@@ -35,7 +36,8 @@ rule-lists-check-spec =
     let c6 = c4 .before .before in
     let c8 = c6 .before .before in
     let c10 = c8 .before .before in
-    sym (laws.rule-lists-no-count _ _ _ _ _ (c10 .u16-at .ensures) (c8 .x .given .1) (c6 .skip .ensures) (c4 .a .given .1) (c .before .before .u16-at2 .ensures) (c .enum-told3 .given .1)))
+    sym (laws.rule-lists-no-count _ _ _ _ _ (c10 .u16-at .ensures) (c8 .x .given .1) (c6 .skip .ensures) (c4 .a .given .1)
+    (c .before .before .u16-at2 .ensures) (c .enum-told3 .given .1)))
     (λ c κs. search needs)
     (λ c.
     let c3 = c .before .before .before in
@@ -44,7 +46,8 @@ rule-lists-check-spec =
     let c9 = c7 .before .before in
     let c11 = c9 .before .before in
     let c13 = c11 .before .before in
-    sym (laws.rule-lists-14 _ _ _ _ _ (c13 .u16-at .ensures) (c11 .x .given .1) (c9 .skip .ensures) (c7 .a .given .1) (c5 .u16-at2 .ensures) (c3 .y .given .1) (sym (c .before .bad-counts .ensures) ∙ c .if1 .taken)))
+    sym (laws.rule-lists-14 _ _ _ _ _ (c13 .u16-at .ensures) (c11 .x .given .1) (c9 .skip .ensures) (c7 .a .given .1)
+    (c5 .u16-at2 .ensures) (c3 .y .given .1) (sym (c .before .bad-counts .ensures) ∙ c .if1 .taken)))
     (λ c κs. search needs)
     (λ c.
     let c4 = c .before .before .before .before in
@@ -53,4 +56,6 @@ rule-lists-check-spec =
     let c10 = c8 .before .before in
     let c12 = c10 .before .before in
     let c14 = c12 .before .before in
-    c .lists-check .ensures ∙ sym (laws.rule-lists-are _ _ _ _ _ (c14 .u16-at .ensures) (c12 .x .given .1) (c10 .skip .ensures) (c8 .a .given .1) (c6 .u16-at2 .ensures) (c4 .y .given .1) (sym (c .before .before .bad-counts .ensures) ∙ c .before .if1 .left))))
+    c .lists-check .ensures
+    ∙ sym (laws.rule-lists-are _ _ _ _ _ (c14 .u16-at .ensures) (c12 .x .given .1) (c10 .skip .ensures) (c8 .a .given .1)
+    (c6 .u16-at2 .ensures) (c4 .y .given .1) (sym (c .before .before .bad-counts .ensures) ∙ c .before .if1 .left))))

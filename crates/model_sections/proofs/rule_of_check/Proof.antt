@@ -17,17 +17,20 @@ rule-of-check-spec =
     (λ c κs. search needs)
     (λ c. search needs)
     (λ c. search needs)
-    (λ c. sym (laws.rule-of-is _ _ _ _ ∙ checks.refused _ _ _ _ _ (c .before .before .skip .ensures) (c .enum-told .given .1)))
+    (λ c. sym (laws.rule-of-is _ _ _ _ ∙ checks.refused _ _ _ _ _ (c .before .before .skip .ensures)
+    (c .enum-told .given .1)))
     (λ c κs. search needs)
     (λ c. search needs)
     (λ c. search needs)
     (λ c.
     let c4 = c .before .before .before .before in
     let c6 = c4 .before .before in
-    sym (laws.rule-of-is _ _ _ _ ∙ checks.to _ _ _ _ _ (c6 .skip .ensures) (c4 .a .given .1) ∙ checks.by-broken _ _ _ _ _ (c .before .before .u32-at .ensures) (c .enum-told2 .given .1)))
+    sym (laws.rule-of-is _ _ _ _ ∙ checks.to _ _ _ _ _ (c6 .skip .ensures) (c4 .a .given .1)
+    ∙ checks.by-broken _ _ _ _ _ (c .before .before .u32-at .ensures) (c .enum-told2 .given .1)))
     (λ c κs. search needs)
     (λ c.
     let c4 = c .before .before .before .before in
     let c6 = c4 .before .before in
     let c8 = c6 .before .before in
-    c .rule-lists-check .ensures ∙ sym (laws.rule-of-is _ _ _ _ ∙ checks.to _ _ _ _ _ (c8 .skip .ensures) (c6 .a .given .1) ∙ checks.by-is _ _ _ _ _ (c4 .u32-at .ensures) (c .before .before .x .given .1))))
+    c .rule-lists-check .ensures ∙ sym (laws.rule-of-is _ _ _ _ ∙ checks.to _ _ _ _ _ (c8 .skip .ensures) (c6 .a .given .1)
+    ∙ checks.by-is _ _ _ _ _ (c4 .u32-at .ensures) (c .before .before .x .given .1))))

@@ -12,7 +12,9 @@ use Rattle.model_sections.proofs.section_check.Lts as lts
 use Rattle.model_sections.proofs.part_check.Reads as part-check-reads
 
 abbrev Inv-loop : tie.InvT-loop
-Inv-loop s d entities part starts count n end j₀ m₀ j m = (partsM (declaration d entities) part starts count 0 s n ≡ partsM (declaration d entities) part starts (end - j) j s m) × (j ≤ end)
+Inv-loop s d entities part starts count n end j₀ m₀ j m =
+    (partsM (declaration d entities) part starts count 0 s n ≡ partsM (declaration d entities) part starts (end - j) j s m)
+    × (j ≤ end)
 
 abbrev μ-loop : tie.MeasureT-loop
 μ-loop s d entities part starts count n end j₀ m₀ j m = end - j
@@ -31,11 +33,15 @@ section-check-spec =
     (λ c. search needs)
     (λ c.
     let c5 = c .before .before .before .before .before in
-    sym (c5 .loop .inv .0 ∙ laws.parts-refused _ _ _ _ _ _ (c .before .before .part-check .ensures) _ (omega arith) (c .enum-told .given .1)))
+    sym (c5 .loop .inv .0 ∙ laws.parts-refused _ _ _ _ _ _ (c .before .before .part-check .ensures) _ (omega arith)
+    (c .enum-told .given .1)))
     (λ c. search needs)
     (λ c. search needs)
     (λ c.
     let c3 = c .before .before .before in
-    let c6 = c3 .before .before .before in
-    (c6 .loop .inv .0 ∙ laws.parts-next _ _ _ _ _ _ (c3 .part-check .ensures) _ (omega arith) (c .before .x .given .1) ∙ laws.parts-left _ _ _ _ _ _ (omega arith), omega arith))
+    let c6 = c3 .before .before .before in (
+      c6 .loop .inv .0 ∙ laws.parts-next _ _ _ _ _ _ (c3 .part-check .ensures) _ (omega arith) (c .before .x .given .1)
+          ∙ laws.parts-left _ _ _ _ _ _ (omega arith),
+      omega arith,
+    ))
     (λ c. sym (c .before .loop .inv .0 ∙ laws.parts-end _ _ _ _ _ _ _ (omega arith))))

@@ -30,10 +30,14 @@ seen-spec =
     (λ c.
     let c3 = c .before .before .before in
     let c4 = c3 .before in
-    sym (c4 .loop .inv .0 ∙ laws.seen-here _ _ _ _ _ _ (c3 .loop-test .taken) refl (sym (c .before .id-is .ensures) ∙ c .if1 .taken)))
+    sym (c4 .loop .inv .0 ∙ laws.seen-here _ _ _ _ _ _ (c3 .loop-test .taken) refl
+    (sym (c .before .id-is .ensures) ∙ c .if1 .taken)))
     (λ c. search needs)
     (λ c.
     let c3 = c .before .before .before in
-    let c4 = c3 .before in
-    (c4 .loop .inv .0 ∙ laws.seen-later _ _ _ _ _ _ (c3 .loop-test .taken) refl (sym (c .before .id-is .ensures) ∙ c .if1 .left), omega arith))
+    let c4 = c3 .before in (
+      c4 .loop .inv .0 ∙ laws.seen-later _ _ _ _ _ _ (c3 .loop-test .taken) refl
+          (sym (c .before .id-is .ensures) ∙ c .if1 .left),
+      omega arith,
+    ))
     (λ c. sym (c .before .loop .inv .0 ∙ laws.seen-none _ _ _ _ _ (c .loop-test .left))))

@@ -21,4 +21,5 @@ declared-spec =
     (λ c.
     let c4 = c .before .before .before .before in
     let c6 = c4 .before .before in
-    laws.declared-is _ _ _ (c6 .place-of .ensures) (c4 .place-of2 .ensures) (c .before .before .place-of3 .ensures) (c .place-of4 .ensures)))
+    laws.declared-is _ _ _ (c6 .place-of .ensures) (c4 .place-of2 .ensures) (c .before .before .place-of3 .ensures)
+    (c .place-of4 .ensures)))

@@ -22,7 +22,8 @@ limits-bad-spec =
     (λ c.
     let c4 = c .before .before .before .before in
     let c6 = c4 .before .before in
-    sym (laws.limits-broken _ _ (laws.no-steps _ _ (c6 .u32-at .ensures) (c4 .x .given .1) (c .before .before .u32-at2 .ensures) (c .enum-told2 .given .1))))
+    sym (laws.limits-broken _ _ (laws.no-steps _ _ (c6 .u32-at .ensures) (c4 .x .given .1)
+    (c .before .before .u32-at2 .ensures) (c .enum-told2 .given .1))))
     (λ c κs. search needs)
     (λ c. search needs)
     (λ c. search needs)
@@ -31,7 +32,8 @@ limits-bad-spec =
     let c6 = c4 .before .before in
     let c8 = c6 .before .before in
     let c10 = c8 .before .before in
-    sym (laws.limits-broken _ _ (laws.no-depth _ _ (c10 .u32-at .ensures) (c8 .x .given .1) (c6 .u32-at2 .ensures) (c4 .y .given .1) (c .before .before .u32-at3 .ensures) (c .enum-told3 .given .1))))
+    sym (laws.limits-broken _ _ (laws.no-depth _ _ (c10 .u32-at .ensures) (c8 .x .given .1) (c6 .u32-at2 .ensures)
+    (c4 .y .given .1) (c .before .before .u32-at3 .ensures) (c .enum-told3 .given .1))))
     (λ c κs. search needs)
     (λ c. search needs)
     (λ c. search needs)
@@ -42,7 +44,9 @@ limits-bad-spec =
     let c10 = c8 .before .before in
     let c12 = c10 .before .before in
     let c14 = c12 .before .before in
-    sym (laws.limits-broken _ _ (laws.no-cases _ _ (c14 .u32-at .ensures) (c12 .x .given .1) (c10 .u32-at2 .ensures) (c8 .y .given .1) (c6 .u32-at3 .ensures) (c4 .z .given .1) (c .before .before .u32-at4 .ensures) (c .enum-told4 .given .1))))
+    sym (laws.limits-broken _ _ (laws.no-cases _ _ (c14 .u32-at .ensures) (c12 .x .given .1) (c10 .u32-at2 .ensures)
+    (c8 .y .given .1) (c6 .u32-at3 .ensures) (c4 .z .given .1) (c .before .before .u32-at4 .ensures)
+    (c .enum-told4 .given .1))))
     (λ c κs. search needs)
     (λ c.
     let c4 = c .before .before .before .before in
@@ -52,4 +56,7 @@ limits-bad-spec =
     let c12 = c10 .before .before in
     let c14 = c12 .before .before in
     let c16 = c14 .before .before in
-    c .numbers-bad .ensures ∙ sym (laws.limits-read _ _ (laws.all-limits _ _ (c16 .u32-at .ensures) (c14 .x .given .1) (c12 .u32-at2 .ensures) (c10 .y .given .1) (c8 .u32-at3 .ensures) (c6 .z .given .1) (c4 .u32-at4 .ensures) (c .before .before .w .given .1)))))
+    c .numbers-bad .ensures
+    ∙ sym (laws.limits-read _ _ (laws.all-limits _ _ (c16 .u32-at .ensures) (c14 .x .given .1) (c12 .u32-at2 .ensures)
+    (c10 .y .given .1) (c8 .u32-at3 .ensures) (c6 .z .given .1) (c4 .u32-at4 .ensures)
+    (c .before .before .w .given .1)))))

@@ -20,8 +20,10 @@ orders-check-spec =
     (λ c.
     let c3 = c .before .before .before in
     let c5 = c3 .before .before in
-    sym (laws.orders-9 _ _ _ _ _ (c5 .u32-at .ensures) (c3 .x .given .1) (sym (c .before .seconds-bad .ensures) ∙ c .if1 .taken)))
+    sym (laws.orders-9 _ _ _ _ _ (c5 .u32-at .ensures) (c3 .x .given .1)
+    (sym (c .before .seconds-bad .ensures) ∙ c .if1 .taken)))
     (λ c.
     let c3 = c .before .before .before in
     let c5 = c3 .before .before in
-    sym (laws.orders-right _ _ _ _ _ (c5 .u32-at .ensures) (c3 .x .given .1) (sym (c .before .seconds-bad .ensures) ∙ c .if1 .left))))
+    sym (laws.orders-right _ _ _ _ _ (c5 .u32-at .ensures) (c3 .x .given .1)
+    (sym (c .before .seconds-bad .ensures) ∙ c .if1 .left))))

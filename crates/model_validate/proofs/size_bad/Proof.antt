@@ -6,7 +6,9 @@ use Rattle.model_validate.proofs.size_bad.Reads as reads
 use Rattle.model_validate.proofs.size_bad.Lts as lts
 
 pub size-bad-spec : {M : Type 1} → statement M
-size-bad-spec = tie.close (tie.spec (λ c. sym (laws.size-1 _ _ (c .if1 .taken))) (λ c. sym (laws.size-2 _ _ (c .before .if1 .left) (c .if2 .taken))) (λ c.
+size-bad-spec =
+    tie.close (tie.spec (λ c. sym (laws.size-1 _ _ (c .if1 .taken)))
+    (λ c. sym (laws.size-2 _ _ (c .before .if1 .left) (c .if2 .taken))) (λ c.
     let c3 = c .before .before .before in
     sym (laws.size-3 _ _ (c3 .if1 .left) (c .before .before .if2 .left) (c .if3 .taken))) (λ c.
     let c4 = c .before .before .before .before in

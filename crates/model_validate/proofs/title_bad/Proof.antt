@@ -27,4 +27,5 @@ title-bad-spec =
     (λ c.
     let c5 = c .before .before .before .before .before in
     let c7 = c5 .before .before in
-    sym (laws.title-length _ _ (c7 .u16-at .ensures) (c5 .x .given .1) (c .before .before .if1 .left) (parts.place-length _ _ (c .before .text-start .ensures) (c .text-len .ensures .0)))))
+    sym (laws.title-length _ _ (c7 .u16-at .ensures) (c5 .x .given .1) (c .before .before .if1 .left)
+    (parts.place-length _ _ (c .before .text-start .ensures) (c .text-len .ensures .0)))))

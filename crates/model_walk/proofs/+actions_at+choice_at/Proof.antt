@@ -43,13 +43,16 @@ choice-at-below t =
     and 1 choice-at-kinds.ps (falls 1 choice-at-kinds.ps _<_ μ-choice-at t) choice-at.Pre
 
 abbrev actions-at-Inv-loop : actions-at-lts.InvT-loop
-actions-at-Inv-loop s texts left at notes count start i₀ p₀ n₀ i p n = actionsM texts left s at notes ≡ timesM i (actionM texts (actionsM texts (left - 1))) s p n
+actions-at-Inv-loop s texts left at notes count start i₀ p₀ n₀ i p n =
+    actionsM texts left s at notes ≡ timesM i (actionM texts (actionsM texts (left - 1))) s p n
 
 abbrev actions-at-μ-loop : actions-at-lts.MeasureT-loop
 actions-at-μ-loop s texts left at notes count start i₀ p₀ n₀ i p n = i
 
 abbrev choice-at-Inv-loop : choice-at-lts.InvT-loop
-choice-at-Inv-loop s texts left at notes count start i₀ p₀ n₀ i p n = choiceM texts (actionsM texts left) s at notes ≡ (timesM i (branchM texts (actionsM texts left)) ⨾ actionsM texts left) s p n
+choice-at-Inv-loop s texts left at notes count start i₀ p₀ n₀ i p n =
+    choiceM texts (actionsM texts left) s at notes ≡ (timesM i (branchM texts (actionsM texts left)) ⨾ actionsM texts left)
+    s p n
 
 abbrev choice-at-μ-loop : choice-at-lts.MeasureT-loop
 choice-at-μ-loop s texts left at notes count start i₀ p₀ n₀ i p n = i
@@ -77,7 +80,8 @@ pub +actions-at+choice-at-spec : {M : Type 1} → statement M
     (λ c. search needs)
     (λ c.
     let c3 = c .before .before .before in
-    sym (laws.actions-more _ _ _ _ _ (c3 .if1 .left) ∙ laws.by-broken _ _ _ _ _ (c .before .before .u16-at .ensures) (c .enum-told .given .1)))
+    sym (laws.actions-more _ _ _ _ _ (c3 .if1 .left)
+    ∙ laws.by-broken _ _ _ _ _ (c .before .before .u16-at .ensures) (c .enum-told .given .1)))
     (λ c.
     let c3 = c .before .before .before in
     let c4 = c3 .before in
@@ -88,7 +92,8 @@ pub +actions-at+choice-at-spec : {M : Type 1} → statement M
     (λ c.
     let c3 = c .before .before .before in
     let c4 = c3 .before in
-    sym (c4 .loop .inv ∙ laws.times-more _ _ _ _ _ (c3 .loop-test .taken) ∙ laws.assoc _ _ _ _ _ _ ∙ laws.broke _ _ _ _ _ (c .before .before .bytes-at .ensures) (c .enum-told2 .given .1)))
+    sym (c4 .loop .inv ∙ laws.times-more _ _ _ _ _ (c3 .loop-test .taken) ∙ laws.assoc _ _ _ _ _ _
+    ∙ laws.broke _ _ _ _ _ (c .before .before .bytes-at .ensures) (c .enum-told2 .given .1)))
     (λ c κs. search needs)
     (λ c. search needs)
     (λ c. search needs)
@@ -97,7 +102,9 @@ pub +actions-at+choice-at-spec : {M : Type 1} → statement M
     let c6 = c4 .before .before in
     let c7 = c6 .before in
     let c8 = c7 .before in
-    sym (c8 .loop .inv ∙ laws.times-more _ _ _ _ _ (c7 .loop-test .taken) ∙ laws.assoc _ _ _ _ _ _ ∙ laws.to _ _ _ _ _ (c6 .bytes-at .ensures) (c4 .y .given .1) ∙ laws.by-then _ _ _ _ _ _ ∙ laws.by-broken _ _ _ _ _ (c .before .before .u8-at .ensures) (c .enum-told3 .given .1)))
+    sym (c8 .loop .inv ∙ laws.times-more _ _ _ _ _ (c7 .loop-test .taken) ∙ laws.assoc _ _ _ _ _ _
+    ∙ laws.to _ _ _ _ _ (c6 .bytes-at .ensures) (c4 .y .given .1) ∙ laws.by-then _ _ _ _ _ _
+    ∙ laws.by-broken _ _ _ _ _ (c .before .before .u8-at .ensures) (c .enum-told3 .given .1)))
     (λ c. search needs)
     (λ c κs. search needs)
     (λ c κs. search needs)
@@ -110,7 +117,12 @@ pub +actions-at+choice-at-spec : {M : Type 1} → statement M
     let c10 = c8 .before .before in
     let c11 = c10 .before in
     let c12 = c11 .before in
-    sym (c12 .loop .inv ∙ laws.times-more _ _ _ _ _ (c11 .loop-test .taken) ∙ laws.assoc _ _ _ _ _ _ ∙ laws.to _ _ _ _ _ (c10 .bytes-at .ensures) (c8 .y .given .1) ∙ laws.by-then _ _ _ _ _ _ ∙ laws.by-is _ _ _ _ _ (c6 .u8-at .ensures) (c4 .z .given .1) ∙ laws.broke _ _ _ _ _ (⊎-elim (λ w. w .2 ∙ w .1 .ensures ∙ sym (laws.yes-walk _ _ _ _ _ (eq-eqb _ _ (w .0 .taken)))) (λ w. w .2 ∙ w .1 .ensures ∙ sym (laws.no-walk _ _ _ _ _ (ne-eqb _ _ (w .0 .left)))) (c .before .before .if2 .came)) (c .enum-told4 .given .1)))
+    sym (c12 .loop .inv ∙ laws.times-more _ _ _ _ _ (c11 .loop-test .taken) ∙ laws.assoc _ _ _ _ _ _
+    ∙ laws.to _ _ _ _ _ (c10 .bytes-at .ensures) (c8 .y .given .1) ∙ laws.by-then _ _ _ _ _ _
+    ∙ laws.by-is _ _ _ _ _ (c6 .u8-at .ensures) (c4 .z .given .1)
+    ∙ laws.broke _ _ _ _ _ (⊎-elim (λ w. w .2 ∙ w .1 .ensures ∙ sym (laws.yes-walk _ _ _ _ _ (eq-eqb _ _ (w .0 .taken))))
+    (λ w. w .2 ∙ w .1 .ensures ∙ sym (laws.no-walk _ _ _ _ _ (ne-eqb _ _ (w .0 .left)))) (c .before .before .if2 .came))
+    (c .enum-told4 .given .1)))
     (λ c. search needs)
     (λ c. search needs)
     (λ c.
@@ -121,7 +133,12 @@ pub +actions-at+choice-at-spec : {M : Type 1} → statement M
     let c11 = c9 .before .before in
     let c12 = c11 .before in
     let c13 = c12 .before in
-    c13 .loop .inv ∙ laws.times-more _ _ _ _ _ (c12 .loop-test .taken) ∙ laws.assoc _ _ _ _ _ _ ∙ laws.to _ _ _ _ _ (c11 .bytes-at .ensures) (c9 .y .given .1) ∙ laws.by-then _ _ _ _ _ _ ∙ laws.by-is _ _ _ _ _ (c7 .u8-at .ensures) (c5 .z .given .1) ∙ laws.to _ _ _ _ _ (⊎-elim (λ w. w .2 ∙ w .1 .ensures ∙ sym (laws.yes-walk _ _ _ _ _ (eq-eqb _ _ (w .0 .taken)))) (λ w. w .2 ∙ w .1 .ensures ∙ sym (laws.no-walk _ _ _ _ _ (ne-eqb _ _ (w .0 .left)))) (c3 .if2 .came)) (c .before .r .given .1))
+    c13 .loop .inv ∙ laws.times-more _ _ _ _ _ (c12 .loop-test .taken) ∙ laws.assoc _ _ _ _ _ _
+    ∙ laws.to _ _ _ _ _ (c11 .bytes-at .ensures) (c9 .y .given .1) ∙ laws.by-then _ _ _ _ _ _
+    ∙ laws.by-is _ _ _ _ _ (c7 .u8-at .ensures) (c5 .z .given .1)
+    ∙ laws.to _ _ _ _ _ (⊎-elim (λ w. w .2 ∙ w .1 .ensures ∙ sym (laws.yes-walk _ _ _ _ _ (eq-eqb _ _ (w .0 .taken))))
+    (λ w. w .2 ∙ w .1 .ensures ∙ sym (laws.no-walk _ _ _ _ _ (ne-eqb _ _ (w .0 .left)))) (c3 .if2 .came))
+    (c .before .r .given .1))
     (λ c. sym (c .before .loop .inv ∙ laws.times-none _ _ _ _ _ (c .loop-test .left)))
     )
     (λ t. choice-at-lts.spec (
@@ -147,7 +164,8 @@ pub +actions-at+choice-at-spec : {M : Type 1} → statement M
     (λ c.
     let c3 = c .before .before .before in
     let c4 = c3 .before in
-    sym (c4 .loop .inv ∙ laws.times-then _ _ _ _ _ _ (c3 .loop-test .taken) ∙ laws.assoc _ _ _ _ _ _ ∙ laws.broke _ _ _ _ _ (c .before .before .pieces-at .ensures) (c .enum-told2 .given .1)))
+    sym (c4 .loop .inv ∙ laws.times-then _ _ _ _ _ _ (c3 .loop-test .taken) ∙ laws.assoc _ _ _ _ _ _
+    ∙ laws.broke _ _ _ _ _ (c .before .before .pieces-at .ensures) (c .enum-told2 .given .1)))
     (λ c κs. search needs)
     (λ c. search needs)
     (λ c. search needs)
@@ -156,7 +174,9 @@ pub +actions-at+choice-at-spec : {M : Type 1} → statement M
     let c6 = c4 .before .before in
     let c7 = c6 .before in
     let c8 = c7 .before in
-    sym (c8 .loop .inv ∙ laws.times-then _ _ _ _ _ _ (c7 .loop-test .taken) ∙ laws.assoc _ _ _ _ _ _ ∙ laws.to _ _ _ _ _ (c6 .pieces-at .ensures) (c4 .y .given .1) ∙ laws.broke _ _ _ _ _ (c .before .before .actions-at .ensures) (c .enum-told3 .given .1)))
+    sym (c8 .loop .inv ∙ laws.times-then _ _ _ _ _ _ (c7 .loop-test .taken) ∙ laws.assoc _ _ _ _ _ _
+    ∙ laws.to _ _ _ _ _ (c6 .pieces-at .ensures) (c4 .y .given .1)
+    ∙ laws.broke _ _ _ _ _ (c .before .before .actions-at .ensures) (c .enum-told3 .given .1)))
     (λ c. search needs)
     (λ c. search needs)
     (λ c.
@@ -165,7 +185,10 @@ pub +actions-at+choice-at-spec : {M : Type 1} → statement M
     let c7 = c5 .before .before in
     let c8 = c7 .before in
     let c9 = c8 .before in
-    c9 .loop .inv ∙ laws.times-then _ _ _ _ _ _ (c8 .loop-test .taken) ∙ laws.assoc _ _ _ _ _ _ ∙ laws.to _ _ _ _ _ (c7 .pieces-at .ensures) (c5 .y .given .1) ∙ laws.to _ _ _ _ _ (c3 .actions-at .ensures) (c .before .z .given .1))
+    c9 .loop .inv ∙ laws.times-then _ _ _ _ _ _ (c8 .loop-test .taken) ∙ laws.assoc _ _ _ _ _ _
+    ∙ laws.to _ _ _ _ _ (c7 .pieces-at .ensures) (c5 .y .given .1)
+    ∙ laws.to _ _ _ _ _ (c3 .actions-at .ensures) (c .before .z .given .1))
     (λ c κs. search needs)
-    (λ c. c .actions-at2 .ensures ∙ sym (c .before .before .loop .inv ∙ laws.none-then _ _ _ _ _ _ (c .before .loop-test .left)))
+    (λ c. c .actions-at2 .ensures ∙ sym (c .before .before .loop .inv
+    ∙ laws.none-then _ _ _ _ _ _ (c .before .loop-test .left)))
     )

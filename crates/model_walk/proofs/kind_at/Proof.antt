@@ -15,8 +15,10 @@ kind-at-spec =
     (λ c. sym (laws.by-broken _ _ _ _ _ (c .before .before .u8-at .ensures) (c .enum-told .given .1)))
     (λ c.
     let c4 = c .before .before .before .before in
-    sym (laws.by-is _ _ _ _ _ (c4 .u8-at .ensures) (c .before .before .x .given .1) ∙ laws.stay-if _ _ _ (lt-ltb _ _ (c .if1 .taken))))
+    sym (laws.by-is _ _ _ _ _ (c4 .u8-at .ensures) (c .before .before .x .given .1)
+    ∙ laws.stay-if _ _ _ (lt-ltb _ _ (c .if1 .taken))))
     (λ c.
     let c4 = c .before .before .before .before in
-    sym (laws.by-is _ _ _ _ _ (c4 .u8-at .ensures) (c .before .before .x .given .1) ∙ laws.stop-if _ _ _ (le-ltb _ _ (c .if1 .left))))
+    sym (laws.by-is _ _ _ _ _ (c4 .u8-at .ensures) (c .before .before .x .given .1)
+    ∙ laws.stop-if _ _ _ (le-ltb _ _ (c .if1 .left))))
     )

@@ -15,5 +15,6 @@ note-at-spec =
     (λ c κs. search needs)
     (λ c.
     let c4 = c .before .before .before .before in
-    sym (laws.to _ _ _ _ _ (c4 .place-at .ensures) (c .before .before .x .given .1) ∙ laws.noted-is _ _ _ ∙ laws.to-same (c .more .ensures)))
+    sym (laws.to _ _ _ _ _ (c4 .place-at .ensures) (c .before .before .x .given .1) ∙ laws.noted-is _ _ _
+    ∙ laws.to-same (c .more .ensures)))
     )

@@ -15,13 +15,16 @@ optional-at-spec =
     (λ c. sym (laws.by-broken _ _ _ _ _ (c .before .before .u16-at .ensures) (c .enum-told .given .1)))
     (λ c.
     let c4 = c .before .before .before .before in
-    sym (laws.by-is _ _ _ _ _ (c4 .u16-at .ensures) (c .before .before .x .given .1) ∙ laws.yes-walk _ _ _ _ _ (eq-eqb _ _ (c .if1 .taken)) ∙ laws.stayed _ _ _))
+    sym (laws.by-is _ _ _ _ _ (c4 .u16-at .ensures) (c .before .before .x .given .1)
+    ∙ laws.yes-walk _ _ _ _ _ (eq-eqb _ _ (c .if1 .taken)) ∙ laws.stayed _ _ _))
     (λ c.
     let c3 = c .before .before .before in
     let c5 = c3 .before .before in
-    sym (laws.by-is _ _ _ _ _ (c5 .u16-at .ensures) (c3 .x .given .1) ∙ laws.no-walk _ _ _ _ _ (ne-eqb _ _ (c .before .if1 .left)) ∙ laws.stay-if _ _ _ (lt-ltb _ _ (c .if2 .taken))))
+    sym (laws.by-is _ _ _ _ _ (c5 .u16-at .ensures) (c3 .x .given .1)
+    ∙ laws.no-walk _ _ _ _ _ (ne-eqb _ _ (c .before .if1 .left)) ∙ laws.stay-if _ _ _ (lt-ltb _ _ (c .if2 .taken))))
     (λ c.
     let c3 = c .before .before .before in
     let c5 = c3 .before .before in
-    sym (laws.by-is _ _ _ _ _ (c5 .u16-at .ensures) (c3 .x .given .1) ∙ laws.no-walk _ _ _ _ _ (ne-eqb _ _ (c .before .if1 .left)) ∙ laws.stop-if _ _ _ (le-ltb _ _ (c .if2 .left))))
+    sym (laws.by-is _ _ _ _ _ (c5 .u16-at .ensures) (c3 .x .given .1)
+    ∙ laws.no-walk _ _ _ _ _ (ne-eqb _ _ (c .before .if1 .left)) ∙ laws.stop-if _ _ _ (le-ltb _ _ (c .if2 .left))))
     )

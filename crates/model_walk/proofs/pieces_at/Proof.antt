@@ -6,7 +6,8 @@ use Rattle.model_walk.proofs.pieces_at.Tie as tie
 use Rattle.model_walk.specs.Walk.{piecesM, timesM, pieceM}
 
 abbrev Inv-loop : tie.InvT-loop
-Inv-loop s texts piece at notes count start left₀ p₀ n₀ left p n = piecesM texts piece s at notes ≡ timesM left (pieceM texts piece) s p n
+Inv-loop s texts piece at notes count start left₀ p₀ n₀ left p n =
+    piecesM texts piece s at notes ≡ timesM left (pieceM texts piece) s p n
 
 abbrev μ-loop : tie.MeasureT-loop
 μ-loop s texts piece at notes count start left₀ p₀ n₀ left p n = left
@@ -28,13 +29,15 @@ pieces-at-spec =
     (λ c.
     let c3 = c .before .before .before in
     let c4 = c3 .before in
-    sym (c4 .loop .inv ∙ laws.times-more _ _ _ _ _ (c3 .loop-test .taken) ∙ laws.broke _ _ _ _ _ (c .before .before .piece-at .ensures) (c .enum-told2 .given .1)))
+    sym (c4 .loop .inv ∙ laws.times-more _ _ _ _ _ (c3 .loop-test .taken)
+    ∙ laws.broke _ _ _ _ _ (c .before .before .piece-at .ensures) (c .enum-told2 .given .1)))
     (λ c. search needs)
     (λ c. search needs)
     (λ c.
     let c3 = c .before .before .before in
     let c4 = c3 .before in
     let c5 = c4 .before in
-    c5 .loop .inv ∙ laws.times-more _ _ _ _ _ (c4 .loop-test .taken) ∙ laws.to _ _ _ _ _ (c3 .piece-at .ensures) (c .before .y .given .1))
+    c5 .loop .inv ∙ laws.times-more _ _ _ _ _ (c4 .loop-test .taken)
+    ∙ laws.to _ _ _ _ _ (c3 .piece-at .ensures) (c .before .y .given .1))
     (λ c. sym (c .before .loop .inv ∙ laws.times-none _ _ _ _ _ (c .loop-test .left)))
     )

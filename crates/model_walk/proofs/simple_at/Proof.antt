@@ -24,5 +24,6 @@ simple-at-spec =
     let c3 = c .before .before .before in
     let c4 = c3 .before in
     let c5 = c4 .before in
-    sym (laws.simple-else _ _ _ _ (c5 .if1 .left) (c4 .if2 .left) (c3 .if3 .left) (c .before .before .if4 .left) (c .before .if5 .left) (c .if6 .left)))
+    sym (laws.simple-else _ _ _ _ (c5 .if1 .left) (c4 .if2 .left) (c3 .if3 .left) (c .before .before .if4 .left)
+    (c .before .if5 .left) (c .if6 .left)))
     )

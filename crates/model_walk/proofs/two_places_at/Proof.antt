@@ -13,5 +13,6 @@ two-places-at-spec =
     (λ c. search needs)
     (λ c. sym (laws.broke _ _ _ _ _ (c .before .before .place-at .ensures) (c .enum-told .given .1)))
     (λ c κs. search needs)
-    (λ c. c .place-at2 .ensures ∙ sym (laws.to _ _ _ _ _ (c .before .before .before .before .place-at .ensures) (c .before .before .x .given .1)))
+    (λ c. c .place-at2 .ensures
+    ∙ sym (laws.to _ _ _ _ _ (c .before .before .before .before .place-at .ensures) (c .before .before .x .given .1)))
     )

@@ -28,5 +28,6 @@ print-lent-spec =
     (λ c. search needs)
     (λ c. search needs)
     (λ c.
-    let c15 = c .before .before .before .before .before .before .before .before .before .before .before .before .before .before .before in
+    let c15 = c .before .before .before .before .before .before .before .before .before .before .before .before .before
+    .before .before in
     laws.written-fits (c15 .minimize .ensures) (c15 .minimize .kept .1 .1 .1 .1 .0)))

@@ -26,4 +26,6 @@ put-event-spec =
     let c10 = c6 .before .before .before .before in
     let c14 = c10 .before .before .before .before in
     let c18 = c14 .before .before .before .before in
-    show.is (laws.event-is _) (show.both (c18 .put .ensures) (show.both (c14 .put-number .ensures) (show.both (c10 .put-byte .ensures) (show.both (c6 .put-input .ensures) (c .before .before .put-byte2 .ensures)))))))
+    show.is (laws.event-is _) (show.both (c18 .put .ensures)
+    (show.both (c14 .put-number .ensures) (show.both (c10 .put-byte .ensures)
+    (show.both (c6 .put-input .ensures) (c .before .before .put-byte2 .ensures)))))))

@@ -16,7 +16,8 @@ put-input-spec =
     (λ c. search needs)
     (λ c κs. search needs)
     (λ c. search needs)
-    (λ c. show.is (laws.restarts _ _ _ _ (c .before .before .before .before .before .if1 .taken)) (c .before .before .put .ensures))
+    (λ c. show.is (laws.restarts _ _ _ _ (c .before .before .before .before .before .if1 .taken))
+    (c .before .before .put .ensures))
     (λ c. search needs)
     (λ c κs. search needs)
     (λ c. search needs)
@@ -36,4 +37,6 @@ put-input-spec =
     let c14 = c10 .before .before .before .before in
     let c17 = c14 .before .before .before in
     let c18 = c17 .before in
-    show.is (laws.sets _ _ _ _ (c18 .if1 .left) (c17 .if2 .left)) (show.both (c14 .put3 .ensures) (show.both (c10 .put-place .ensures) (show.both (c6 .put-byte .ensures) (c .before .before .put-place2 .ensures))))))
+    show.is (laws.sets _ _ _ _ (c18 .if1 .left) (c17 .if2 .left))
+    (show.both (c14 .put3 .ensures) (show.both (c10 .put-place .ensures)
+    (show.both (c6 .put-byte .ensures) (c .before .before .put-place2 .ensures))))))

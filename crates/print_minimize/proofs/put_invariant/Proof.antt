@@ -21,4 +21,5 @@ put-invariant-spec =
     (λ c.
     let c6 = c .before .before .before .before .before .before in
     let c10 = c6 .before .before .before .before in
-    show.is (laws.invariant-is _) (show.both (c10 .put .ensures) (show.both (c6 .put-place .ensures) (c .before .before .put-byte .ensures)))))
+    show.is (laws.invariant-is _) (show.both (c10 .put .ensures)
+    (show.both (c6 .put-place .ensures) (c .before .before .put-byte .ensures)))))

@@ -10,4 +10,5 @@ pub print-count-spec : {M : Type 1} → statement M
 print-count-spec = tie.close (tie.spec (λ c κs. search needs) (λ c κs. search needs) (λ c. search needs) (λ c.
     let c4 = c .before .before .before .before in
     let c7 = c4 .before .before .before in
-    show.kept (c7 .args .n) (c .before .before .put-unsupported .ensures) (omega (arith, lengths.number-short (text "unsupported") (c7 .args .count))) (c4 .room .ensures .1)))
+    show.kept (c7 .args .n) (c .before .before .put-unsupported .ensures)
+    (omega (arith, lengths.number-short (text "unsupported") (c7 .args .count))) (c4 .room .ensures .1)))

@@ -26,4 +26,6 @@ print-lent-spec =
     let c6 = c .before .before .before .before .before .before in
     let c11 = c6 .before .before .before .before .before in
     let c17 = c11 .before .before .before .before .before .before in
-    λ many h. c .before .before .print-incomplete .ensures (omega arith) (c6 .print-unknown .ensures (omega arith) (c11 .print-places .ensures (omega arith) (c17 .print-numbers .ensures many h)))))
+    λ many h. c .before .before .print-incomplete .ensures (omega arith)
+    (c6 .print-unknown .ensures (omega arith) (c11 .print-places .ensures (omega arith)
+    (c17 .print-numbers .ensures many h)))))

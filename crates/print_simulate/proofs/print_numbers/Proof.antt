@@ -18,4 +18,6 @@ print-numbers-spec =
     let c10 = c6 .before .before .before .before in
     let c12 = c10 .before .before in
     let c15 = c12 .before .before .before in
-    show.kept (c15 .args .n) (show.both (c10 .put-steps .ensures) (show.both (c6 .put-records .ensures) (c .before .before .put-horizon .ensures))) (lengths.numbers-short (c15 .args .steps) (c15 .args .records) (c15 .args .horizon)) (c12 .room .ensures .1)))
+    show.kept (c15 .args .n) (show.both (c10 .put-steps .ensures)
+    (show.both (c6 .put-records .ensures) (c .before .before .put-horizon .ensures)))
+    (lengths.numbers-short (c15 .args .steps) (c15 .args .records) (c15 .args .horizon)) (c12 .room .ensures .1)))

@@ -27,4 +27,6 @@ put-bounds-spec =
     let c11 = c6 .before .before .before .before .before in
     let c16 = c11 .before .before .before .before .before in
     let c21 = c16 .before .before .before .before .before in
-    show.is (laws.bounds-are _ _ _ _) (show.both (c21 .put-bound .ensures) (show.both (c16 .put-bound2 .ensures) (show.both (c11 .put-bound3 .ensures) (show.both (c6 .put-bound4 .ensures) (c .before .before .put-byte .ensures)))))))
+    show.is (laws.bounds-are _ _ _ _) (show.both (c21 .put-bound .ensures)
+    (show.both (c16 .put-bound2 .ensures) (show.both (c11 .put-bound3 .ensures)
+    (show.both (c6 .put-bound4 .ensures) (c .before .before .put-byte .ensures)))))))

@@ -23,4 +23,6 @@ put-ahead-spec =
     (λ c.
     let c6 = c .before .before .before .before .before .before in
     let c10 = c6 .before .before .before .before in
-    c .before .before .put .ensures ∙ ap (λ (l : List ℕ). written l ((c10 .args .first - 1 + c10 .args .i) * 5) (c10 .args .w .now)) (c6 .take-out .ensures)))
+    c .before .before .put .ensures
+    ∙ ap (λ (l : List ℕ). written l ((c10 .args .first - 1 + c10 .args .i) * 5) (c10 .args .w .now))
+    (c6 .take-out .ensures)))

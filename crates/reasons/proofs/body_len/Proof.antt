@@ -17,5 +17,8 @@ body-len-spec =
     (λ c. search needs)
     (λ c.
     let c3 = c .before .before .before in
-    let c6 = c3 .before .before .before in
-    (rendering.body-length (c6 .args .f .now) (c6 .args .r) _ _ _ (c3 .text-len .ensures .0) (c .before .before .words-len .ensures .0) (c .text-len2 .ensures .0), omega arith)))
+    let c6 = c3 .before .before .before in (
+      rendering.body-length (c6 .args .f .now) (c6 .args .r) _ _ _ (c3 .text-len .ensures .0)
+          (c .before .before .words-len .ensures .0) (c .text-len2 .ensures .0),
+      omega arith,
+    )))

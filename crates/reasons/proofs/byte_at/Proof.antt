@@ -15,7 +15,9 @@ byte-at-spec =
     (λ c.
     let c3 = c .before .before .before in
     let c5 = c3 .before .before in
-    let a = c5 .args in places.got (render (a .f .now) (a .r)) (a .i) (c .before .s .given .0 .0) (sym (c .before .s .given .1) ∙ c3 .byte-of .ensures))
+    let a = c5 .args in places.got (render (a .f .now) (a .r)) (a .i) (c .before .s .given .0 .0)
+    (sym (c .before .s .given .1) ∙ c3 .byte-of .ensures))
     (λ c.
     let c4 = c .before .before .before .before in
-    let a = c4 .args in places.none (render (a .f .now) (a .r)) (a .i) (c .enum-told .given .0 .0) (sym (c .enum-told .given .1) ∙ c .before .before .byte-of .ensures)))
+    let a = c4 .args in places.none (render (a .f .now) (a .r)) (a .i) (c .enum-told .given .0 .0)
+    (sym (c .enum-told .given .1) ∙ c .before .before .byte-of .ensures)))

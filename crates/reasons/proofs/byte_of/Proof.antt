@@ -16,12 +16,15 @@ byte-of-spec =
     let c3 = c .before .before .before in
     let c4 = c3 .before in
     let c7 = c4 .before .before .before in
-    rendering.source-byte (c7 .args .f .now) (c7 .args .r) (c7 .args .i) (c .before .s .given .0 .0) (c4 .if1 .taken) (sym (c .before .s .given .1) ∙ c3 .source-seek .ensures))
+    rendering.source-byte (c7 .args .f .now) (c7 .args .r) (c7 .args .i) (c .before .s .given .0 .0) (c4 .if1 .taken)
+    (sym (c .before .s .given .1) ∙ c3 .source-seek .ensures))
     (λ c.
     let c4 = c .before .before .before .before in
     let c5 = c4 .before in
     let c8 = c5 .before .before .before in
-    c .body-seek .ensures ∙ rendering.past-source (c8 .args .f .now) (c8 .args .r) (c8 .args .i) (c .before .before .s2 .given .0 .0) (c5 .if1 .taken) (sym (c .before .before .s2 .given .1) ∙ c4 .source-seek .ensures))
+    c .body-seek .ensures ∙ rendering.past-source (c8 .args .f .now) (c8 .args .r) (c8 .args .i)
+    (c .before .before .s2 .given .0 .0) (c5 .if1 .taken)
+    (sym (c .before .before .s2 .given .1) ∙ c4 .source-seek .ensures))
     (λ c κs. search needs)
     (λ c.
     let c4 = c .before .before .before .before in

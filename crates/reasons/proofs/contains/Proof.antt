@@ -28,14 +28,18 @@ contains-spec =
     let c3 = c .before .before .before in
     let c4 = c3 .before in
     let c7 = c4 .before .before .before in
-    let a = c7 .args in listing.mem-hit _ _ (c4 .loop .i) _ (listing.next (a .f .now) (a .n) (a .a .now) (c4 .loop .i) (c3 .loop-test .taken)) (c4 .loop .inv) (cc))
+    let a = c7 .args in listing.mem-hit _ _ (c4 .loop .i) _
+    (listing.next (a .f .now) (a .n) (a .a .now) (c4 .loop .i) (c3 .loop-test .taken)) (c4 .loop .inv) (cc))
     (λ c. search needs)
     (λ c. search needs)
     (λ c.
     let c3 = c .before .before .before in
     let c4 = c3 .before in
     let c7 = c4 .before .before .before in
-    let a = c7 .args in listing.mem-on _ _ (c4 .loop .i) _ (listing.next (a .f .now) (a .n) (a .a .now) (c4 .loop .i) (c3 .loop-test .taken)) (c4 .loop .inv) (cc))
+    let a = c7 .args in listing.mem-on _ _ (c4 .loop .i) _
+    (listing.next (a .f .now) (a .n) (a .a .now) (c4 .loop .i) (c3 .loop-test .taken)) (c4 .loop .inv) (cc))
     (λ c.
     let c4 = c .before .before .before .before in
-    let a = c4 .args in sym (c .before .loop .inv ∙ listing.mem-end _ _ (c .before .loop .i) (rw (listing.length-listed (a .f .now) (a .n) (a .a .now)) (c .loop-test .left)))))
+    let a = c4 .args in
+    sym (c .before .loop .inv ∙ listing.mem-end _ _ (c .before .loop .i)
+    (rw (listing.length-listed (a .f .now) (a .n) (a .a .now)) (c .loop-test .left)))))

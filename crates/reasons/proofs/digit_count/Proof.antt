@@ -24,4 +24,11 @@ digit-count-spec =
     (λ c. omega (arith, digits.at-most (c .before .before .args .n)))
     (λ c. search needs)
     (λ c. (omega (arith, digits.length-step (c .before .loop .x) (c .loop-test .taken) (omega arith)), omega arith))
-    (λ c. (omega (arith, digits.length-small (c .before .loop .x) (c .loop-test .left)), omega (arith, digits.length-small (c .before .loop .x) (c .loop-test .left), digits.at-most (c .before .before .args .n)))))
+    (λ c. (
+      omega (arith, digits.length-small (c .before .loop .x) (c .loop-test .left)),
+      omega (
+        arith,
+        digits.length-small (c .before .loop .x) (c .loop-test .left),
+        digits.at-most (c .before .before .args .n),
+      ),
+    )))

@@ -23,4 +23,5 @@ get-spec =
     (λ c. search needs)
     (λ c. search needs)
     (λ c. search needs)
-    (λ c. entries.get-is (c .before .before .before .before .before .args .a .now) (c .before .before .before .before .before .args .i * 5)))
+    (λ c. entries.get-is (c .before .before .before .before .before .args .a .now)
+    (c .before .before .before .before .before .args .i * 5)))

@@ -25,5 +25,6 @@ insert-at-spec =
     let e = c .before .before .put-in .ensures in
     record {
       is = ap (reasons (a .n + 1)) e ∙ entries.put-in (a .n) (a .k) (a .a .now) (a .r) (omega arith) (omega arith);
-      rest = λ i h. ap (λ (l : List ℕ). getD l i 0) e ∙ cleaning.put-behind (a .a .now) (a .k * 5) (a .n * 5) (words-of (a .r)) (omega arith) (omega arith) i h;
+      rest = λ i h. ap (λ (l : List ℕ). getD l i 0) e
+          ∙ cleaning.put-behind (a .a .now) (a .k * 5) (a .n * 5) (words-of (a .r)) (omega arith) (omega arith) i h;
     }))

@@ -16,18 +16,36 @@ insert-sorted-spec =
     (tie.spec
     (λ c κs.
     let c3 = c .before .before .before in
-    let a = c3 .args in omega (arith, listing.length-insert (render (a .f .now) (a .r)) (listed (a .f .now) (a .n) (a .a .now)), listing.length-listed (a .f .now) (a .n) (a .a .now)))
+    let a = c3 .args in
+    omega (
+      arith,
+      listing.length-insert (render (a .f .now) (a .r)) (listed (a .f .now) (a .n) (a .a .now)),
+      listing.length-listed (a .f .now) (a .n) (a .a .now),
+    ))
     (λ c. search needs)
     (λ c. search needs)
     (λ c κs.
     let c4 = c .before .before .before .before in
     let c8 = c4 .before .before .before .before in
-    let a = c8 .args in let k = c .before .before .s .given .0 .0 in let e : c4 .find-spot .result ≡ At k = cc in let g = rw e at (c4 .find-spot .ensures) in (omega (arith, listing.length-listed (a .f .now) (a .n) (a .a .now), g .0), omega (arith, listing.room-insert (render (a .f .now) (a .r)) (listed (a .f .now) (a .n) (a .a .now)) k (g .1), listing.length-listed (a .f .now) (a .n) (a .a .now))))
+    let a = c8 .args in let k = c .before .before .s .given .0 .0 in let e : c4 .find-spot .result ≡ At k = cc in let g =
+    rw e at (c4 .find-spot .ensures) in (
+      omega (arith, listing.length-listed (a .f .now) (a .n) (a .a .now), g .0),
+      omega (
+        arith,
+        listing.room-insert (render (a .f .now) (a .r)) (listed (a .f .now) (a .n) (a .a .now)) k (g .1),
+        listing.length-listed (a .f .now) (a .n) (a .a .now),
+      ),
+    ))
     (λ c.
     let c5 = c .before .before .before .before .before in
     let c7 = c5 .before .before in
     let c11 = c7 .before .before .before .before in
-    let a = c11 .args in let k = c5 .s .given .0 .0 in let e : c7 .find-spot .result ≡ At k = cc in let g = rw e at (c7 .find-spot .ensures) in omega (arith, listing.room-insert (render (a .f .now) (a .r)) (listed (a .f .now) (a .n) (a .a .now)) k (g .1), listing.length-listed (a .f .now) (a .n) (a .a .now)))
+    let a = c11 .args in let k = c5 .s .given .0 .0 in let e : c7 .find-spot .result ≡ At k = cc in let g =
+    rw e at (c7 .find-spot .ensures) in omega (
+      arith,
+      listing.room-insert (render (a .f .now) (a .r)) (listed (a .f .now) (a .n) (a .a .now)) k (g .1),
+      listing.length-listed (a .f .now) (a .n) (a .a .now),
+    ))
     (λ c. search needs)
     (λ c.
     let a = c .before .before .before .before .before .before .args in

@@ -31,7 +31,13 @@ merge-spec =
     (λ c κs.
     let c3 = c .before .before .before in
     let c7 = c3 .before .before .before .before in
-    let a = c7 .args in let l = c3 .loop in let q = rw (← c .get .ensures) at (listing.next (a .f .now) (a .m) (a .b .now) (l .j) (c .before .before .loop-test .taken)) in omega (arith, listing.room-all _ (listed (a .f .now) (l .k) (l .a)) (listed (a .f .now) (a .m) (a .b .now)) (render (a .f .now) (c .get .result)) (l .j) q (l .inv .1 .0)))
+    let a = c7 .args in let l = c3 .loop in let q = rw (← c .get .ensures) at
+    (listing.next (a .f .now) (a .m) (a .b .now) (l .j) (c .before .before .loop-test .taken)) in
+    omega (
+      arith,
+      listing.room-all _ (listed (a .f .now) (l .k) (l .a)) (listed (a .f .now) (a .m) (a .b .now))
+          (render (a .f .now) (c .get .result)) (l .j) q (l .inv .1 .0),
+    ))
     (λ c. search needs)
     (λ c. search needs)
     (λ c.
@@ -39,7 +45,8 @@ merge-spec =
     let c5 = c3 .before .before in
     let c6 = c5 .before in
     let c10 = c6 .before .before .before .before in
-    let a = c10 .args in let l = c6 .loop in let ts = listed (a .f .now) (a .m) (a .b .now) in let q = rw (← c3 .get .ensures) at (listing.next (a .f .now) (a .m) (a .b .now) (l .j) (c5 .loop-test .taken)) in
+    let a = c10 .args in let l = c6 .loop in let ts = listed (a .f .now) (a .m) (a .b .now) in let q =
+    rw (← c3 .get .ensures) at (listing.next (a .f .now) (a .m) (a .b .now) (l .j) (c5 .loop-test .taken)) in
     let i = c .before .before .insert-sorted .ensures in (
       search needs,
       (
@@ -47,7 +54,8 @@ merge-spec =
             ∙ listing.all-on (render (a .f .now) (c3 .get .result)) ts (l .j) _ q _
             ∙ ap (insertAll (drop (l .j + 1) ts)) (sym (i .texts)),
         λ z y. i .clean
-            (subst (Readable (a .f .now)) (sym (c3 .get .ensures)) (cleaning.clean-at (a .f .now) z (l .j) (c5 .loop-test .taken)))
+            (subst (Readable (a .f .now)) (sym (c3 .get .ensures))
+            (cleaning.clean-at (a .f .now) z (l .j) (c5 .loop-test .taken)))
             (l .inv .1 .1 z y),
       ),
     ))
@@ -56,7 +64,8 @@ merge-spec =
     let c5 = c .before .before .before .before .before in
     let a = c5 .args in
     let l = c .before .loop in
-    let t = sym (l .inv .1 .0 ∙ listing.all-end (listed (a .f .now) (a .m) (a .b .now)) _ (l .j) (omega (arith, listing.length-listed (a .f .now) (a .m) (a .b .now)))) in
+    let t = sym (l .inv .1 .0 ∙ listing.all-end (listed (a .f .now) (a .m) (a .b .now)) _ (l .j)
+    (omega (arith, listing.length-listed (a .f .now) (a .m) (a .b .now)))) in
     record {
       many = listing.count-is (a .f .now) (l .k) (l .a) t;
       texts = t;

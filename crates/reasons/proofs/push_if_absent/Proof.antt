@@ -16,19 +16,36 @@ push-if-absent-spec =
     (tie.spec
     (λ c κs.
     let c3 = c .before .before .before in
-    let a = c3 .args in omega (arith, listing.length-push (render (a .f .now) (a .r)) (listed (a .f .now) (a .n) (a .a .now)), listing.length-listed (a .f .now) (a .n) (a .a .now)))
+    let a = c3 .args in
+    omega (
+      arith,
+      listing.length-push (render (a .f .now) (a .r)) (listed (a .f .now) (a .n) (a .a .now)),
+      listing.length-listed (a .f .now) (a .n) (a .a .now),
+    ))
     (λ c. search needs)
     (λ c.
     let a = c .before .before .before .before .before .args in
     listing.grows-none (a .f .now) (sym (listing.push-there _ _ (sym (c .if1 .taken) ∙ c .before .contains .ensures))))
     (λ c κs.
     let c6 = c .before .before .before .before .before .before in
-    let a = c6 .args in omega (arith, listing.room-push (render (a .f .now) (a .r)) (listed (a .f .now) (a .n) (a .a .now)) (sym (c .before .if1 .left) ∙ c .before .before .contains .ensures), listing.length-listed (a .f .now) (a .n) (a .a .now)))
+    let a = c6 .args in
+    omega (
+      arith,
+      listing.room-push (render (a .f .now) (a .r)) (listed (a .f .now) (a .n) (a .a .now))
+          (sym (c .before .if1 .left) ∙ c .before .before .contains .ensures),
+      listing.length-listed (a .f .now) (a .n) (a .a .now),
+    ))
     (λ c.
     let c4 = c .before .before .before .before in
     let c5 = c4 .before in
     let c9 = c5 .before .before .before .before in
-    let a = c9 .args in omega (arith, listing.room-push (render (a .f .now) (a .r)) (listed (a .f .now) (a .n) (a .a .now)) (sym (c4 .if1 .left) ∙ c5 .contains .ensures), listing.length-listed (a .f .now) (a .n) (a .a .now)))
+    let a = c9 .args in
+    omega (
+      arith,
+      listing.room-push (render (a .f .now) (a .r)) (listed (a .f .now) (a .n) (a .a .now))
+          (sym (c4 .if1 .left) ∙ c5 .contains .ensures),
+      listing.length-listed (a .f .now) (a .n) (a .a .now),
+    ))
     (λ c. search needs)
     (λ c.
     let a = c .before .before .before .before .before .before .before .before .before .args in
@@ -36,7 +53,8 @@ push-if-absent-spec =
     (sym (c .before .before .before .before .if1 .left) ∙ c .before .before .before .before .before .contains .ensures) in
     let b = c .before .before .insert-at .last .0 in
     let o = c .before .before .insert-at .ensures in
-    let t = listing.pushed (a .f .now) (a .n) (a .a .now) b (a .r) (o .is ∙ entries.at-end (a .n) (a .a .now) (a .r)) ∙ sym q in
+    let t = listing.pushed (a .f .now) (a .n) (a .a .now) b (a .r) (o .is ∙ entries.at-end (a .n) (a .a .now) (a .r))
+    ∙ sym q in
     record {
       many = listing.count-is (a .f .now) (a .n + 1) b t;
       texts = t;

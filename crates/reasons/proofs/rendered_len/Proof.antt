@@ -16,8 +16,13 @@ rendered-len-spec =
     (λ c. search needs)
     (λ c.
     let c4 = c .before .before .before .before in
-    let c6 = c4 .before .before in
-    (rendering.source-length (c6 .args .f .now) (c6 .args .r) _ _ _ (c .before .before .if1 .taken) (c .before .digit-count .ensures .0) (c .digit-count2 .ensures .0) (c4 .body-len .ensures .0), omega arith))
+    let c6 = c4 .before .before in (
+      rendering.source-length (c6 .args .f .now) (c6 .args .r) _ _ _ (c .before .before .if1 .taken)
+          (c .before .digit-count .ensures .0) (c .digit-count2 .ensures .0) (c4 .body-len .ensures .0),
+      omega arith,
+    ))
     (λ c.
-    let c4 = c .before .before .before .before in
-    (rw (rendering.without (c4 .args .f .now) (c4 .args .r) (c .if1 .left)) (c .before .before .body-len .ensures .0), omega arith)))
+    let c4 = c .before .before .before .before in (
+      rw (rendering.without (c4 .args .f .now) (c4 .args .r) (c .if1 .left)) (c .before .before .body-len .ensures .0),
+      omega arith,
+    )))

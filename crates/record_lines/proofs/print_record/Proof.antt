@@ -16,4 +16,6 @@ print-record-spec =
     let c4 = c .before .before .before .before in
     let c7 = c4 .before .before .before in
     let c9 = c7 .before .before in
-    show.kept (c9 .args .n) (c .before .before .put-record .ensures .written) (lengths.record-short (c9 .args .f .now) (λ i. omega (arith, c7 .shared-slice-known .given i)) (c9 .args .x .now) (c9 .args .k) (c .before .before .put-record .ensures .read)) (c4 .room .ensures .1)))
+    show.kept (c9 .args .n) (c .before .before .put-record .ensures .written)
+    (lengths.record-short (c9 .args .f .now) (λ i. omega (arith, c7 .shared-slice-known .given i)) (c9 .args .x .now)
+    (c9 .args .k) (c .before .before .put-record .ensures .read)) (c4 .room .ensures .1)))

@@ -13,4 +13,5 @@ put-begin-spec =
     (λ c. search needs)
     (λ c κs. search needs)
     (λ c. search needs)
-    (λ c. show.is (numbers.begin-is _ _ (c .before .before .before .before .before .text-start .ensures)) (c .before .before .put-text .ensures)))
+    (λ c. show.is (numbers.begin-is _ _ (c .before .before .before .before .before .text-start .ensures))
+    (c .before .before .put-text .ensures)))

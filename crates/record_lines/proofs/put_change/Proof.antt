@@ -17,9 +17,12 @@ put-change-spec =
     (λ c. search needs)
     (λ c.
     let c9 = c .before .before .before .before .before .before .before .before .before in
-    show.is (laws.no-change (c9 .args .x .now) (texts-of (c9 .args .f .now) (c9 .args .x .now)) (c9 .args .change) (cc)) (c .before .before .put .ensures))
+    show.is (laws.no-change (c9 .args .x .now) (texts-of (c9 .args .f .now) (c9 .args .x .now)) (c9 .args .change) (cc))
+    (c .before .before .put .ensures))
     (λ c. search needs)
     (λ c.
     let c5 = c .before .before .before .before .before in
     let c9 = c5 .before .before .before .before in
-    show.is (laws.some-change (c9 .args .x .now) (texts-of (c9 .args .f .now) (c9 .args .x .now)) (c9 .args .change) (c5 .change .given .0 .0) (c5 .change .given .0 .1 .0) (c5 .change .given .0 .1 .1 .0) (cc)) (c .before .before .put-write .ensures)))
+    show.is (laws.some-change (c9 .args .x .now) (texts-of (c9 .args .f .now) (c9 .args .x .now)) (c9 .args .change)
+    (c5 .change .given .0 .0) (c5 .change .given .0 .1 .0) (c5 .change .given .0 .1 .1 .0) (cc))
+    (c .before .before .put-write .ensures)))

@@ -28,7 +28,9 @@ put-entry-spec =
     let c26 = c22 .before .before .before .before in
     let c30 = c26 .before .before .before .before in
     let c34 = c30 .before .before .before .before in
-    c .before .before .put-byte4 .ensures .same ∙ c6 .put-detail .ensures .same ∙ c10 .put-byte3 .ensures .same ∙ c14 .put-change .ensures .same ∙ c18 .put-byte2 .ensures .same ∙ c22 .put-where .ensures .same ∙ c26 .put-byte .ensures .same ∙ c30 .put-rule .ensures .same ∙ c34 .put-head .ensures .same)
+    c .before .before .put-byte4 .ensures .same ∙ c6 .put-detail .ensures .same ∙ c10 .put-byte3 .ensures .same
+    ∙ c14 .put-change .ensures .same ∙ c18 .put-byte2 .ensures .same ∙ c22 .put-where .ensures .same
+    ∙ c26 .put-byte .ensures .same ∙ c30 .put-rule .ensures .same ∙ c34 .put-head .ensures .same)
     (λ c.
     let c6 = c .before .before .before .before .before .before in
     let c10 = c6 .before .before .before .before in
@@ -39,4 +41,9 @@ put-entry-spec =
     let c30 = c26 .before .before .before .before in
     let c34 = c30 .before .before .before .before in
     let c38 = c34 .before .before .before .before in
-    show.is (laws.record-is (c38 .args .x .now) (texts-of (c38 .args .f .now) (c38 .args .x .now)) _ (c38 .args .r)) (show.both (c34 .put-head .ensures) (show.both (c30 .put-rule .ensures) (show.both (c26 .put-byte .ensures) (show.both (c22 .put-where .ensures) (show.both (c18 .put-byte2 .ensures) (show.both (c14 .put-change .ensures) (show.both (c10 .put-byte3 .ensures) (show.both (c6 .put-detail .ensures) (c .before .before .put-byte4 .ensures)))))))))))
+    show.is (laws.record-is (c38 .args .x .now) (texts-of (c38 .args .f .now) (c38 .args .x .now)) _ (c38 .args .r))
+    (show.both (c34 .put-head .ensures) (show.both (c30 .put-rule .ensures)
+    (show.both (c26 .put-byte .ensures) (show.both (c22 .put-where .ensures)
+    (show.both (c18 .put-byte2 .ensures) (show.both (c14 .put-change .ensures)
+    (show.both (c10 .put-byte3 .ensures) (show.both (c6 .put-detail .ensures)
+    (c .before .before .put-byte4 .ensures)))))))))))

@@ -23,4 +23,7 @@ put-head-spec =
     let c18 = c14 .before .before .before .before in
     let c22 = c18 .before .before .before .before in
     let c26 = c22 .before .before .before .before in
-    show.both (c26 .put .ensures) (show.both (c22 .put-number .ensures) (show.both (c18 .put-byte .ensures) (show.both (c14 .put-number2 .ensures) (show.both (c10 .put-byte2 .ensures) (show.both (c6 .put-name .ensures) (c .before .before .put-byte3 .ensures))))))))
+    show.both (c26 .put .ensures) (show.both (c22 .put-number .ensures)
+    (show.both (c18 .put-byte .ensures) (show.both (c14 .put-number2 .ensures)
+    (show.both (c10 .put-byte2 .ensures) (show.both (c6 .put-name .ensures)
+    (c .before .before .put-byte3 .ensures))))))))

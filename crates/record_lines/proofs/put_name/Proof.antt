@@ -20,4 +20,5 @@ put-name-spec =
     (λ c. search needs)
     (λ c κs. search needs)
     (λ c. search needs)
-    (λ c. show.is (numbers.name-out _ (c .before .before .before .before .before .if1 .left)) (c .before .before .put .ensures)))
+    (λ c. show.is (numbers.name-out _ (c .before .before .before .before .before .if1 .left))
+    (c .before .before .put .ensures)))

@@ -12,4 +12,12 @@ pub put-record-spec : {M : Type 1} → statement M
 put-record-spec = tie.close (tie.spec (λ c κs. search needs) (λ c κs. search needs) (λ c. search needs) (λ c.
     let c4 = c .before .before .before .before in
     let c8 = c4 .before .before .before .before in
-    record { is = λ l d h rep. show.is (ap (λ (r : Record). record-line (c8 .args .k) (record-of (c8 .args .x .now) (texts-of (c8 .args .f .now) (c8 .args .x .now)) r)) (c4 .get-record .ensures .is l d h rep)) (c .before .before .put-entry .ensures); read = c4 .get-record .result; written = c .before .before .put-entry .ensures }))
+    record {
+      is =
+          λ l d h rep. show.is
+          (ap (λ (r : Record). record-line (c8 .args .k)
+          (record-of (c8 .args .x .now) (texts-of (c8 .args .f .now) (c8 .args .x .now)) r))
+          (c4 .get-record .ensures .is l d h rep)) (c .before .before .put-entry .ensures);
+      read = c4 .get-record .result;
+      written = c .before .before .put-entry .ensures;
+    }))

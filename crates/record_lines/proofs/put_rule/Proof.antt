@@ -17,10 +17,12 @@ put-rule-spec =
     (λ c. search needs)
     (λ c.
     let c8 = c .before .before .before .before .before .before .before .before in
-    show.is (laws.no-rule (c8 .args .x .now) (texts-of (c8 .args .f .now) (c8 .args .x .now)) (c8 .args .rule) (cc)) (c .before .before .put-byte .ensures))
+    show.is (laws.no-rule (c8 .args .x .now) (texts-of (c8 .args .f .now) (c8 .args .x .now)) (c8 .args .rule) (cc))
+    (c .before .before .put-byte .ensures))
     (λ c. search needs)
     (λ c.
     let c3 = c .before .before .before in
     let c6 = c3 .before .before .before in
     let c10 = c6 .before .before .before .before in
-    show.is (laws.some-rule (c10 .args .x .now) (texts-of (c10 .args .f .now) (c10 .args .x .now)) (c10 .args .rule) (c6 .rule .given .0 .0) _ (cc) (c3 .id-place .ensures)) (c .before .before .put-place .ensures)))
+    show.is (laws.some-rule (c10 .args .x .now) (texts-of (c10 .args .f .now) (c10 .args .x .now)) (c10 .args .rule)
+    (c6 .rule .given .0 .0) _ (cc) (c3 .id-place .ensures)) (c .before .before .put-place .ensures)))

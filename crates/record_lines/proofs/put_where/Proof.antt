@@ -13,7 +13,8 @@ put-where-spec =
     (λ c. search needs)
     (λ c κs. search needs)
     (λ c. search needs)
-    (λ c. show.is (laws.nowhere (c .before .before .before .before .before .before .before .args .source) (cc)) (c .before .before .put-byte .ensures))
+    (λ c. show.is (laws.nowhere (c .before .before .before .before .before .before .before .args .source) (cc))
+    (c .before .before .put-byte .ensures))
     (λ c. search needs)
     (λ c.
     let c8 = c .before .before .before .before .before .before .before .before in

@@ -18,4 +18,6 @@ put-write-spec =
     let c10 = c6 .before .before .before .before in
     let c14 = c10 .before .before .before .before in
     let c18 = c14 .before .before .before .before in
-    show.both (c18 .put-place .ensures) (show.both (c14 .put-byte .ensures) (show.both (c10 .put-place2 .ensures) (show.both (c6 .put-byte2 .ensures) (c .before .before .put-place3 .ensures))))))
+    show.both (c18 .put-place .ensures) (show.both (c14 .put-byte .ensures)
+    (show.both (c10 .put-place2 .ensures) (show.both (c6 .put-byte2 .ensures)
+    (c .before .before .put-place3 .ensures))))))

@@ -20,7 +20,8 @@ attempt-spec =
     (λ c κs. search needs)
     (λ c κs. search needs)
     (λ c κs.
-    let c26 = c .before .before .before .before .before .before .before .before .before .before .before .before .before .before .before .before .before .before .before .before .before .before .before .before .before .before in
+    let c26 = c .before .before .before .before .before .before .before .before .before .before .before .before .before
+    .before .before .before .before .before .before .before .before .before .before .before .before .before in
     c26 .pre)
     (λ c. search needs)
     (λ c. search needs)
@@ -30,4 +31,5 @@ attempt-spec =
     let c20 = c10 .before .before .before .before .before .before .before .before .before .before in
     let c26 = c20 .before .before .before .before .before .before in
     let c27 = c26 .before in
-    reduction.attempted _ _ (c27 .pre) (λ k. omega (arith, c26 .shared-slice-known .given k)) (c20 .without .ensures) (c10 .check-case .ensures) (c .before .violates .ensures) (c .tried .ensures)))
+    reduction.attempted _ _ (c27 .pre) (λ k. omega (arith, c26 .shared-slice-known .given k)) (c20 .without .ensures)
+    (c10 .check-case .ensures) (c .before .violates .ensures) (c .tried .ensures)))

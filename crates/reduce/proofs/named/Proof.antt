@@ -29,10 +29,16 @@ named-spec =
     (λ c.
     let c3 = c .before .before .before in
     let c4 = c3 .before in
-    sym (laws.among-hit _ _ (c4 .args .n) (c3 .loop .k) (omega (arith, c .before .before .loop-test .taken)) (c .if1 .taken)))
+    sym (laws.among-hit _ _ (c4 .args .n) (c3 .loop .k) (omega (arith, c .before .before .loop-test .taken))
+    (c .if1 .taken)))
     (λ c. search needs)
     (λ c. search needs)
     (λ c.
-    let c3 = c .before .before .before in
-    (laws.among-miss _ _ (c3 .loop .k) (c3 .loop .inv .0) (c .if1 .left), (omega (arith, c .before .before .loop-test .taken), c3 .loop .inv .1 .1)))
-    (λ c. let z : c .before .loop .k ≡ c .before .before .args .n = omega (arith, c .loop-test .left, c .before .loop .inv .1 .0) in sym (c .before .loop .inv .0) ∙ ap (λ (j : ℕ). among (c .before .before .args .violated .now) j (c .before .before .args .target)) z))
+    let c3 = c .before .before .before in (
+      laws.among-miss _ _ (c3 .loop .k) (c3 .loop .inv .0) (c .if1 .left),
+      (omega (arith, c .before .before .loop-test .taken), c3 .loop .inv .1 .1),
+    ))
+    (λ c. let z : c .before .loop .k ≡ c .before .before .args .n =
+    omega (arith, c .loop-test .left, c .before .loop .inv .1 .0) in
+    sym (c .before .loop .inv .0)
+    ∙ ap (λ (j : ℕ). among (c .before .before .args .violated .now) j (c .before .before .args .target)) z))

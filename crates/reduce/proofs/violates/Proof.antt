@@ -17,5 +17,6 @@ violates-spec =
     (λ c κs. search needs)
     (λ c.
     let c3 = c .before .before .before in
-    laws.is-so _ _ _ _ (c3 .is-violation .ensures) (c .before .before .if1 .taken) (c .before .few .ensures .0) (c .named .ensures))
+    laws.is-so _ _ _ _ (c3 .is-violation .ensures) (c .before .before .if1 .taken) (c .before .few .ensures .0)
+    (c .named .ensures))
     (λ c. laws.not-so _ _ _ _ (c .before .is-violation .ensures) (c .if1 .left)))

@@ -22,7 +22,8 @@ run-spec =
     let c10 = c8 .before .before in
     let c15 = c10 .before .before .before .before .before in
     let c16 = c15 .before in
-    entry.given (λ k. omega (arith, c15 .shared-slice-known .given k)) (c8 .prepared .ensures) (c6 .events-of .ensures) (c5 .at-most .ensures .0) (c10 .if1 .left) (c16 .pre))
+    entry.given (λ k. omega (arith, c15 .shared-slice-known .given k)) (c8 .prepared .ensures) (c6 .events-of .ensures)
+    (c5 .at-most .ensures .0) (c10 .if1 .left) (c16 .pre))
     (λ c. search needs)
     (λ c. search needs)
     (λ c. search needs)
@@ -34,4 +35,5 @@ run-spec =
     let c17 = c15 .before .before in
     let c19 = c17 .before .before in
     let c24 = c19 .before .before .before .before .before in
-    entry.run-is (λ k. omega (arith, c24 .shared-slice-known .given k)) (c17 .prepared .ensures) (c15 .events-of .ensures) (c14 .at-most .ensures .0) (c19 .if1 .left) (c8 .first-check .ensures)))
+    entry.run-is (λ k. omega (arith, c24 .shared-slice-known .given k)) (c17 .prepared .ensures) (c15 .events-of .ensures)
+    (c14 .at-most .ensures .0) (c19 .if1 .left) (c8 .first-check .ensures)))

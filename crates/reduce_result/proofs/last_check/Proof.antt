@@ -19,10 +19,12 @@ last-check-spec =
     laws.last-full (c10 .check-of .ensures) (c .before .if1 .taken) (c .refused .ensures) _)
     (λ c κs. search needs)
     (λ c.
-    let c22 = c .before .before .before .before .before .before .before .before .before .before .before .before .before .before .before .before .before .before .before .before .before .before in
+    let c22 = c .before .before .before .before .before .before .before .before .before .before .before .before .before
+    .before .before .before .before .before .before .before .before .before in
     omega (arith, c22 .pre .long))
     (λ c κs.
-    let c23 = c .before .before .before .before .before .before .before .before .before .before .before .before .before .before .before .before .before .before .before .before .before .before .before in
+    let c23 = c .before .before .before .before .before .before .before .before .before .before .before .before .before
+    .before .before .before .before .before .before .before .before .before .before in
     laws.asked-here (c23 .pre .room) (c .before .before .events-in .ensures))
     (λ c κs. search needs)
     (λ c. search needs)
@@ -34,4 +36,5 @@ last-check-spec =
     let c7 = c4 .before .before .before in
     let c8 = c7 .before in
     let c17 = c8 .before .before .before .before .before .before .before .before .before in
-    laws.last-done (c17 .check-of .ensures) (c8 .if1 .left) (c7 .events-in .ensures) (c4 .rewrite .ensures) (c .before .place .ensures)))
+    laws.last-done (c17 .check-of .ensures) (c8 .if1 .left) (c7 .events-in .ensures) (c4 .rewrite .ensures)
+    (c .before .place .ensures)))

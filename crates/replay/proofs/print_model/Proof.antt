@@ -16,7 +16,8 @@ print-model-spec =
     (λ c. search needs)
     (λ c.
     let c5 = c .before .before .before .before .before in
-    let e : c5 .read-model .result ≡ Model (c .before .before .next .given .0 .0) = cc in let g = rw e at (c5 .read-model .ensures) in omega (arith, g))
+    let e : c5 .read-model .result ≡ Model (c .before .before .next .given .0 .0) = cc in let g =
+    rw e at (c5 .read-model .ensures) in omega (arith, g))
     (λ c κs. search needs)
     (λ c. search needs)
     (λ c. search needs)

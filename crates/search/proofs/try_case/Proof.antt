@@ -12,12 +12,18 @@ try-case-spec =
     (λ c. search needs)
     (λ c.
     let c4 = c .before .before .before .before in
-    record { does = λ x vs ps s h. cases.spent-held x vs s h (cases.test-cases x vs s h (c4 .if1 .taken)) (c .before .before .spent .ensures) })
+    record {
+      does = λ x vs ps s h. cases.spent-held x vs s h (cases.test-cases x vs s h (c4 .if1 .taken))
+          (c .before .before .spent .ensures);
+    })
     (λ c κs. search needs)
     (λ c. search needs)
     (λ c.
     let c4 = c .before .before .before .before in
-    record { does = λ x vs ps s h. cases.spent-held x vs s h (cases.test-steps x vs s h (c4 .if2 .taken)) (c .before .before .spent2 .ensures) })
+    record {
+      does = λ x vs ps s h. cases.spent-held x vs s h (cases.test-steps x vs s h (c4 .if2 .taken))
+          (c .before .before .spent2 .ensures);
+    })
     (λ c. search needs)
     (λ c κs. search needs)
     (λ c κs. search needs)
@@ -29,10 +35,14 @@ try-case-spec =
     let c10 = c .before .before .before .before .before .before .before .before .before .before in
     let c21 = c10 .before .before .before .before .before .before .before .before .before .before .before in
     let c23 = c21 .before .before in
-    record { does = λ x vs ps s h. cases.refused-held (c10 .check-case .ensures) x vs ps s h (c23 .if1 .left) (c21 .if2 .left) (c .before .before .refusal .ensures) (c .before .if3 .taken) (c .refused-case .ensures) })
+    record {
+      does = λ x vs ps s h. cases.refused-held (c10 .check-case .ensures) x vs ps s h (c23 .if1 .left)
+          (c21 .if2 .left) (c .before .before .refusal .ensures) (c .before .if3 .taken) (c .refused-case .ensures);
+    })
     (λ c κs. search needs)
     (λ c κs.
-    let c22 = c .before .before .before .before .before .before .before .before .before .before .before .before .before .before .before .before .before .before .before .before .before .before in
+    let c22 = c .before .before .before .before .before .before .before .before .before .before .before .before .before
+    .before .before .before .before .before .before .before .before .before in
     let c24 = c22 .before .before in
     let c32 = c24 .before .before .before .before .before .before .before .before in
     (omega (arith, c24 .if1 .left, c32 .pre .fitted .cases), c22 .if2 .left))
@@ -46,12 +56,20 @@ try-case-spec =
     let c23 = c12 .before .before .before .before .before .before .before .before .before .before .before in
     let c25 = c23 .before .before in
     let c33 = c25 .before .before .before .before .before .before .before .before in
-    record { does = λ x vs ps s h. cases.found-held (c12 .check-case .ensures) x vs ps s h (c25 .if1 .left) (c23 .if2 .left) (c4 .refusal .ensures) (c3 .if3 .left) (c .before .before .violates .ensures) (c .before .if4 .taken) (omega (arith, c33 .pre .events)) (c .found-case .ensures) })
+    record {
+      does = λ x vs ps s h. cases.found-held (c12 .check-case .ensures) x vs ps s h (c25 .if1 .left) (c23 .if2 .left)
+          (c4 .refusal .ensures) (c3 .if3 .left) (c .before .before .violates .ensures) (c .before .if4 .taken)
+          (omega (arith, c33 .pre .events)) (c .found-case .ensures);
+    })
     (λ c κs.
-    let c35 = c .before .before .before .before .before .before .before .before .before .before .before .before .before .before .before .before .before .before .before .before .before .before .before .before .before .before .before .before .before .before .before .before .before .before .before in
+    let c35 = c .before .before .before .before .before .before .before .before .before .before .before .before .before
+    .before .before .before .before .before .before .before .before .before .before .before .before .before .before
+    .before .before .before .before .before .before .before .before in
     c35 .pre .fitted .area)
     (λ c κs.
-    let c28 = c .before .before .before .before .before .before .before .before .before .before .before .before .before .before .before .before .before .before .before .before .before .before .before .before .before .before .before .before in
+    let c28 = c .before .before .before .before .before .before .before .before .before .before .before .before .before
+    .before .before .before .before .before .before .before .before .before .before .before .before .before .before
+    .before in
     let c30 = c28 .before .before in
     let c38 = c30 .before .before .before .before .before .before .before .before in
     (omega (arith, c30 .if1 .left, c38 .pre .fitted .cases), c28 .if2 .left))
@@ -68,4 +86,8 @@ try-case-spec =
     let c18 = c10 .before .before .before .before .before .before .before .before in
     let c29 = c18 .before .before .before .before .before .before .before .before .before .before .before in
     let c31 = c29 .before .before in
-    record { does = λ x vs ps s h. cases.other-held (c18 .check-case .ensures) x vs ps s h (c31 .if1 .left) (c29 .if2 .left) (c10 .refusal .ensures) (c9 .if3 .left) (c8 .violates .ensures) (c7 .if4 .left) (c3 .gather .ensures) (c .other-case .ensures) }))
+    record {
+      does = λ x vs ps s h. cases.other-held (c18 .check-case .ensures) x vs ps s h (c31 .if1 .left) (c29 .if2 .left)
+          (c10 .refusal .ensures) (c9 .if3 .left) (c8 .violates .ensures) (c7 .if4 .left) (c3 .gather .ensures)
+          (c .other-case .ensures);
+    }))

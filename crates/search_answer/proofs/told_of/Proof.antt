@@ -20,4 +20,25 @@ told-of-spec =
     let c3 = c .before .before .before in
     let c4 = c3 .before in
     let c6 = c4 .before .before in
-    record { status-is = c3 .status-of .ensures; cases = refl; «total_steps» = refl; depth = c .before .before .limit .ensures; horizon = refl; «max_cases» = c .before .limit2 .ensures; «max_steps_per_case» = c .limit3 .ensures; alphabet = refl; inputs = refl; gaps = refl; seconds = refl; shortest = refl; events = refl; words = refl; written = refl; check = refl; reasons = laws.told-reasons _ _ (c6 .few .ensures) (c4 .merge .ensures) }))
+    record {
+      status-is = c3 .status-of .ensures;
+      cases = refl;
+      «total_steps» = refl;
+      depth =
+          c .before .before .limit .ensures;
+      horizon = refl;
+      «max_cases» = c .before .limit2 .ensures;
+      «max_steps_per_case» =
+          c .limit3 .ensures;
+      alphabet = refl;
+      inputs = refl;
+      gaps = refl;
+      seconds = refl;
+      shortest = refl;
+      events = refl;
+      words = refl;
+      written = refl;
+      check = refl;
+      reasons =
+          laws.told-reasons _ _ (c6 .few .ensures) (c4 .merge .ensures);
+    }))

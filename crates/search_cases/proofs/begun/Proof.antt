@@ -12,8 +12,18 @@ begun-spec =
     (λ c κs. search needs)
     (λ c κs.
     let c5 = c .before .before .before .before .before in
-    laws.merge-room _ _ _ _ 0 (omega (arith, c .before .before .few .ensures .most)) (omega (arith, c .before .before .few .ensures .most)) (c5 .pre))
+    laws.merge-room _ _ _ _ 0 (omega (arith, c .before .before .few .ensures .most))
+    (omega (arith, c .before .before .few .ensures .most)) (c5 .pre))
     (λ c. search needs)
     (λ c.
     let c5 = c .before .before .before .before .before in
-    record { refused = refl; cases = refl; steps = refl; found = refl; shortest = refl; stopped = refl; reasons = laws.begins-reasons _ _ _ (c5 .few .ensures) (c .before .before .merge .ensures) }))
+    record {
+      refused = refl;
+      cases = refl;
+      steps = refl;
+      found = refl;
+      shortest = refl;
+      stopped = refl;
+      reasons =
+          laws.begins-reasons _ _ _ (c5 .few .ensures) (c .before .before .merge .ensures);
+    }))

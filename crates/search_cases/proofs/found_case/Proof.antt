@@ -20,7 +20,17 @@ add-t6 c = search needs
 returns : tie.Need-returns
 returns c =
     let c4 = c .before .before .before .before in
-    record { refused = refl; cases = refl; steps = λ h. ap (λ (y : ℕ). c4 .args .o .steps + y) (c .before .before .at-most .ensures .same h); reasons = refl; found = refl; shortest = refl; stopped = refl; witness = refl }
+    record {
+      refused = refl;
+      cases = refl;
+      steps = λ h. ap (λ (y : ℕ). c4 .args .o .steps + y)
+          (c .before .before .at-most .ensures .same h);
+      reasons = refl;
+      found = refl;
+      shortest = refl;
+      stopped = refl;
+      witness = refl;
+    }
 
 pub found-case-spec : {M : Type 1} → statement M
 found-case-spec = tie.close (tie.spec add-t4 at-most-requires add-t6 returns)

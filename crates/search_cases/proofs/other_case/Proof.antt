@@ -20,7 +20,18 @@ add-t7 c = search needs
 returns : tie.Need-returns
 returns c =
     let c4 = c .before .before .before .before in
-    record { refused = refl; cases = refl; steps = λ h. ap (λ (y : ℕ). c4 .args .o .steps + y) (c .before .at-most .ensures .same h); reasons = refl; found = refl; shortest = refl; stopped = refl; witness = refl }
+    record {
+      refused = refl;
+      cases = refl;
+      steps = λ h. ap (λ (y : ℕ). c4 .args .o .steps + y)
+          (c .before .at-most .ensures .same h);
+      reasons = refl;
+      found = refl;
+      shortest = refl;
+      stopped = refl;
+      witness =
+          refl;
+    }
 
 pub other-case-spec : {M : Type 1} → statement M
 other-case-spec = tie.close (tie.spec add-t5 at-most-requires add-t7 returns)

@@ -17,4 +17,14 @@ planned-spec =
     (λ c.
     let c3 = c .before .before .before in
     let c4 = c3 .before in
-    record { cells = refl; notes-are = refl; invariants = refl; alphabet = c4 .alphabet-of .ensures; gaps = c3 .gaps-of .ensures; horizon = c .before .before .limit .ensures; cases = subst (λ (y : ℕ). AtMost y 2000 (c .at-most .result)) (c .before .limit2 .ensures) (c .at-most .ensures) }))
+    record {
+      cells = refl;
+      notes-are = refl;
+      invariants = refl;
+      alphabet = c4 .alphabet-of .ensures;
+      gaps =
+          c3 .gaps-of .ensures;
+      horizon = c .before .before .limit .ensures;
+      cases =
+          subst (λ (y : ℕ). AtMost y 2000 (c .at-most .result)) (c .before .limit2 .ensures) (c .at-most .ensures);
+    }))

@@ -29,7 +29,17 @@ returns : tie.Need-returns
 returns c =
     let c4 = c .before .before .before .before in
     let c5 = c4 .before in
-    record { refused = refl; cases = refl; steps = refl; found = refl; shortest = refl; stopped = refl; witness = refl; reasons = laws.spent-reasons _ _ (c5 .few .ensures) (c4 .by-itself .ensures) (c .before .before .insert-sorted .ensures) }
+    record {
+      refused = refl;
+      cases = refl;
+      steps = refl;
+      found = refl;
+      shortest = refl;
+      stopped = refl;
+      witness = refl;
+      reasons = laws.spent-reasons _ _ (c5 .few .ensures) (c4 .by-itself .ensures)
+          (c .before .before .insert-sorted .ensures);
+    }
 
 pub spent-spec : {M : Type 1} → statement M
 spent-spec =

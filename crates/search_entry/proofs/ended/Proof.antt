@@ -15,14 +15,17 @@ ended-spec =
     (λ c.
     let c12 = c .before .before .before .before .before .before .before .before .before .before .before .before in
     let c16 = c12 .before .before .before .before in
-    finish.end-refused (c16 .if1 .taken) (c .refused .ensures) (c12 .clear .ensures .0) (c12 .clear .ensures .1 .0) (c12 .clear .ensures .1 .1))
+    finish.end-refused (c16 .if1 .taken) (c .refused .ensures) (c12 .clear .ensures .0) (c12 .clear .ensures .1 .0)
+    (c12 .clear .ensures .1 .1))
     (λ c κs.
     let c9 = c .before .before .before .before .before .before .before .before .before in
     let c10 = c9 .before in
     let c18 = c10 .before .before .before .before .before .before .before .before in
     finish.writable (c18 .pre) (c10 .if1 .left) (c9 .if2 .taken))
     (λ c κs.
-    let c28 = c .before .before .before .before .before .before .before .before .before .before .before .before .before .before .before .before .before .before .before .before .before .before .before .before .before .before .before .before in
+    let c28 = c .before .before .before .before .before .before .before .before .before .before .before .before .before
+    .before .before .before .before .before .before .before .before .before .before .before .before .before .before
+    .before in
     c28 .pre .area)
     (λ c. search needs)
     (λ c. search needs)
@@ -36,7 +39,8 @@ ended-spec =
     (λ c κs. search needs)
     (λ c κs. search needs)
     (λ c κs.
-    let c25 = c .before .before .before .before .before .before .before .before .before .before .before .before .before .before .before .before .before .before .before .before .before .before .before .before .before in
+    let c25 = c .before .before .before .before .before .before .before .before .before .before .before .before .before
+    .before .before .before .before .before .before .before .before .before .before .before .before in
     c25 .pre .area)
     (λ c. search needs)
     (λ c. search needs)
@@ -45,4 +49,5 @@ ended-spec =
     let c13 = c .before .before .before .before .before .before .before .before .before .before .before .before .before in
     let c17 = c13 .before .before .before .before in
     let c18 = c17 .before in
-    finish.end-none (c18 .if1 .left) (c17 .if2 .left) (c .before .before .no-witness .ensures) (c .told-of2 .ensures _ _ _ _) (c13 .clear2 .ensures .0) (c13 .clear2 .ensures .1 .0) (c13 .clear2 .ensures .1 .1)))
+    finish.end-none (c18 .if1 .left) (c17 .if2 .left) (c .before .before .no-witness .ensures) (c .told-of2 .ensures _ _ _ _)
+    (c13 .clear2 .ensures .0) (c13 .clear2 .ensures .1 .0) (c13 .clear2 .ensures .1 .1)))

@@ -14,5 +14,6 @@ verify-spec =
     (λ c. search needs)
     (λ c. search needs)
     (λ c.
-    let c14 = c .before .before .before .before .before .before .before .before .before .before .before .before .before .before in
+    let c14 = c .before .before .before .before .before .before .before .before .before .before .before .before .before
+    .before in
     laws.verifies-as (c .with-lists .ensures) (c14 .verify-lent .ensures)))

@@ -13,7 +13,8 @@ use Rattle.engine_fields.proofs.at_most.Reads as at-most-reads
 use Rattle.search_inputs.proofs.input_word.Reads as input-word-reads
 
 abbrev Inv-loop : tie.InvT-loop
-Inv-loop s index count words₀ k₀ words k = ((j : ℕ) → j < k → getD words j 0 ≡ input-word s index j) × ((length words ≡ 36) × (k ≤ 36))
+Inv-loop s index count words₀ k₀ words k = ((j : ℕ) → j < k → getD words j 0 ≡ input-word s index j)
+    × ((length words ≡ 36) × (k ≤ 36))
 
 abbrev μ-loop : tie.MeasureT-loop
 μ-loop s index count words₀ k₀ words k = 36 - k
@@ -31,5 +32,19 @@ alphabet-of-spec =
     (λ c. search needs)
     (λ c. search needs)
     (λ c. search needs)
-    (λ c. (table.one-more (input-word _ _) (c .before .before .loop .words) (c .before .before .loop .k) (c .input-word .result) (c .before .before .loop .inv .0) (omega (arith, c .before .before .loop .inv .1 .0, c .before .loop-test .taken)) (c .input-word .ensures), (length-set (c .before .before .loop .words) (c .before .before .loop .k) (c .input-word .result) ∙ c .before .before .loop .inv .1 .0, omega arith)))
-    (λ c. record { count = c .before .before .at-most .ensures .0; long = c .before .loop .inv .1 .0; words = λ k h. c .before .loop .inv .0 k (omega (arith, c .loop-test .left)) }))
+    (λ c. (
+      table.one-more (input-word _ _) (c .before .before .loop .words) (c .before .before .loop .k)
+          (c .input-word .result) (c .before .before .loop .inv .0)
+          (omega (arith, c .before .before .loop .inv .1 .0, c .before .loop-test .taken)) (c .input-word .ensures),
+      (
+        length-set (c .before .before .loop .words) (c .before .before .loop .k) (c .input-word .result)
+            ∙ c .before .before .loop .inv .1 .0,
+        omega arith,
+      ),
+    ))
+    (λ c. record {
+      count = c .before .before .at-most .ensures .0;
+      long = c .before .loop .inv .1 .0;
+      words =
+          λ k h. c .before .loop .inv .0 k (omega (arith, c .loop-test .left));
+    }))

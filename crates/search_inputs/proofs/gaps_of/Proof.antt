@@ -13,7 +13,8 @@ use Rattle.engine_fields.proofs.at_most.Reads as at-most-reads
 use Rattle.search_inputs.proofs.gap_word.Reads as gap-word-reads
 
 abbrev Inv-loop : tie.InvT-loop
-Inv-loop s index count seconds₀ k₀ seconds k = ((j : ℕ) → j < k → getD seconds j 0 ≡ gap-word s index j) × ((length seconds ≡ 4) × (k ≤ 4))
+Inv-loop s index count seconds₀ k₀ seconds k = ((j : ℕ) → j < k → getD seconds j 0 ≡ gap-word s index j)
+    × ((length seconds ≡ 4) × (k ≤ 4))
 
 abbrev μ-loop : tie.MeasureT-loop
 μ-loop s index count seconds₀ k₀ seconds k = 4 - k
@@ -31,5 +32,19 @@ gaps-of-spec =
     (λ c. search needs)
     (λ c. search needs)
     (λ c. search needs)
-    (λ c. (table.one-more (gap-word _ _) (c .before .before .loop .seconds) (c .before .before .loop .k) (c .gap-word .result) (c .before .before .loop .inv .0) (omega (arith, c .before .before .loop .inv .1 .0, c .before .loop-test .taken)) (c .gap-word .ensures), (length-set (c .before .before .loop .seconds) (c .before .before .loop .k) (c .gap-word .result) ∙ c .before .before .loop .inv .1 .0, omega arith)))
-    (λ c. record { count = c .before .before .at-most .ensures .0; long = c .before .loop .inv .1 .0; seconds = λ k h. c .before .loop .inv .0 k (omega (arith, c .loop-test .left)) }))
+    (λ c. (
+      table.one-more (gap-word _ _) (c .before .before .loop .seconds) (c .before .before .loop .k)
+          (c .gap-word .result) (c .before .before .loop .inv .0)
+          (omega (arith, c .before .before .loop .inv .1 .0, c .before .loop-test .taken)) (c .gap-word .ensures),
+      (
+        length-set (c .before .before .loop .seconds) (c .before .before .loop .k) (c .gap-word .result)
+            ∙ c .before .before .loop .inv .1 .0,
+        omega arith,
+      ),
+    ))
+    (λ c. record {
+      count = c .before .before .at-most .ensures .0;
+      long = c .before .loop .inv .1 .0;
+      seconds =
+          λ k h. c .before .loop .inv .0 k (omega (arith, c .loop-test .left));
+    }))

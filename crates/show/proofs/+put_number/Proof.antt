@@ -50,4 +50,5 @@ pub +put-number-spec : {M : Type 1} → statement M
     let c6 = c .before .before .before .before .before .before in
     let c8 = c6 .before .before in
     let c10 = c8 .before .before in
-    laws.is (sym (digits.step (c10 .args .x) (c8 .if1 .left) (omega arith))) (laws.both (c6 .put-number .ensures) (c .before .before .put-byte2 .ensures)))
+    laws.is (sym (digits.step (c10 .args .x) (c8 .if1 .left) (omega arith)))
+    (laws.both (c6 .put-number .ensures) (c .before .before .put-byte2 .ensures)))

@@ -27,7 +27,10 @@ put-spec =
     (λ c.
     let c5 = c .before .before .before .before .before in
     let c6 = c5 .before in
-    let c9 = c6 .before .before .before in
-    (laws.is (laws.next (c9 .args .t .now) (c6 .loop .i) _ refl (c5 .loop-test .taken)) (laws.both (c6 .loop .inv .0) (c .before .before .put-byte .ensures)), search needs))
+    let c9 = c6 .before .before .before in (
+      laws.is (laws.next (c9 .args .t .now) (c6 .loop .i) _ refl (c5 .loop-test .taken))
+          (laws.both (c6 .loop .inv .0) (c .before .before .put-byte .ensures)),
+      search needs,
+    ))
     (λ c. c .before .loop .inv .0 .same)
     (λ c. laws.is (laws.whole _ _ (c .before .loop .inv .1) (c .loop-test .left)) (c .before .loop .inv .0)))

@@ -21,7 +21,8 @@ put-escaped-spec =
     let c6 = c .before .before .before .before .before .before in
     let c8 = c6 .before .before in
     let c9 = c8 .before in
-    laws.is (laws.backslash _ (c9 .if1 .left) (c8 .if2 .taken)) (laws.both (c6 .put-byte3 .ensures) (c .before .before .put-byte4 .ensures)))
+    laws.is (laws.backslash _ (c9 .if1 .left) (c8 .if2 .taken))
+    (laws.both (c6 .put-byte3 .ensures) (c .before .before .put-byte4 .ensures)))
     (λ c κs. search needs)
     (λ c. search needs)
     (λ c.

@@ -30,8 +30,11 @@ put-quoted-spec =
     (λ c.
     let c5 = c .before .before .before .before .before in
     let c6 = c5 .before in
-    let c13 = c6 .before .before .before .before .before .before .before in
-    (laws.is (laws.next-escaped (c13 .args .t .now) (c6 .loop .i) _ refl (c5 .loop-test .taken)) (laws.both (c6 .loop .inv .0) (c .before .before .put-escaped .ensures)), search needs))
+    let c13 = c6 .before .before .before .before .before .before .before in (
+      laws.is (laws.next-escaped (c13 .args .t .now) (c6 .loop .i) _ refl (c5 .loop-test .taken))
+          (laws.both (c6 .loop .inv .0) (c .before .before .put-escaped .ensures)),
+      search needs,
+    ))
     (λ c κs. search needs)
     (λ c.
     let c5 = c .before .before .before .before .before in
@@ -41,4 +44,5 @@ put-quoted-spec =
     let c4 = c .before .before .before .before in
     let c5 = c4 .before in
     let c8 = c5 .before .before .before in
-    laws.is (laws.quoted-is _ _ (c4 .loop-test .left)) (laws.both (c8 .put-byte .ensures) (laws.both (c5 .loop .inv .0) (c .before .before .put-byte2 .ensures)))))
+    laws.is (laws.quoted-is _ _ (c4 .loop-test .left))
+    (laws.both (c8 .put-byte .ensures) (laws.both (c5 .loop .inv .0) (c .before .before .put-byte2 .ensures)))))

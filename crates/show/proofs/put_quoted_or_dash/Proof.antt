@@ -9,7 +9,9 @@ put-quoted-or-dash-spec =
     (tie.spec
     (λ c κs. search needs)
     (λ c. search needs)
-    (λ c. laws.is (laws.is-absent _ _ (c .before .before .before .before .if1 .taken)) (c .before .before .put-byte .ensures))
+    (λ c. laws.is (laws.is-absent _ _ (c .before .before .before .before .if1 .taken))
+    (c .before .before .put-byte .ensures))
     (λ c κs. search needs)
     (λ c. search needs)
-    (λ c. laws.is (laws.is-there _ _ (c .before .before .before .before .if1 .left)) (c .before .before .put-quoted-text .ensures)))
+    (λ c. laws.is (laws.is-there _ _ (c .before .before .before .before .if1 .left))
+    (c .before .before .put-quoted-text .ensures)))

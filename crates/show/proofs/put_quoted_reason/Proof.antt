@@ -12,7 +12,8 @@ use Rattle.show.proofs.put_quoted_reason.Statement.{statement}
 use Rattle.show.proofs.put_quoted_reason.Tie as tie
 
 abbrev Inv-loop : tie.InvT-loop
-Inv-loop out₀ n f r count m₀ i₀ out m i = Written (flat escape (take i (render f r))) out₀ m₀ out m × (i ≤ length (render f r))
+Inv-loop out₀ n f r count m₀ i₀ out m i = Written (flat escape (take i (render f r))) out₀ m₀ out m
+    × (i ≤ length (render f r))
 
 abbrev μ-loop : tie.MeasureT-loop
 μ-loop out₀ n f r count m₀ i₀ out m i = count - i
@@ -33,8 +34,11 @@ put-quoted-reason-spec =
     (λ c.
     let c3 = c .before .before .before in
     let c6 = c3 .before .before .before in
-    let c14 = c6 .before .before .before .before .before .before .before .before in
-    (laws.is (laws.next-escaped (render (c14 .args .f .now) (c14 .args .r)) (c6 .loop .i) _ (c3 .byte-at .ensures) (omega arith)) (laws.both (c6 .loop .inv .0) (c .before .before .put-escaped .ensures)), omega arith))
+    let c14 = c6 .before .before .before .before .before .before .before .before in (
+      laws.is (laws.next-escaped (render (c14 .args .f .now) (c14 .args .r)) (c6 .loop .i) _ (c3 .byte-at .ensures)
+          (omega arith)) (laws.both (c6 .loop .inv .0) (c .before .before .put-escaped .ensures)),
+      omega arith,
+    ))
     (λ c κs. search needs)
     (λ c.
     let c5 = c .before .before .before .before .before in
@@ -43,4 +47,5 @@ put-quoted-reason-spec =
     (λ c.
     let c5 = c .before .before .before .before .before in
     let c8 = c5 .before .before .before in
-    laws.is (laws.quoted-is _ (c5 .loop .i) (omega arith)) (laws.both (c8 .put-byte .ensures) (laws.both (c5 .loop .inv .0) (c .before .before .put-byte2 .ensures)))))
+    laws.is (laws.quoted-is _ (c5 .loop .i) (omega arith))
+    (laws.both (c8 .put-byte .ensures) (laws.both (c5 .loop .inv .0) (c .before .before .put-byte2 .ensures)))))

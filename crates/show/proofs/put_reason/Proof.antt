@@ -29,7 +29,10 @@ put-reason-spec =
     (λ c.
     let c3 = c .before .before .before in
     let c6 = c3 .before .before .before in
-    let c10 = c6 .before .before .before .before in
-    (laws.is (laws.next (render (c10 .args .f .now) (c10 .args .r)) (c6 .loop .i) _ (c3 .byte-at .ensures) (omega arith)) (laws.both (c6 .loop .inv .0) (c .before .before .put-byte .ensures)), omega arith))
+    let c10 = c6 .before .before .before .before in (
+      laws.is (laws.next (render (c10 .args .f .now) (c10 .args .r)) (c6 .loop .i) _ (c3 .byte-at .ensures) (omega arith))
+          (laws.both (c6 .loop .inv .0) (c .before .before .put-byte .ensures)),
+      omega arith,
+    ))
     (λ c. c .before .loop .inv .0 .same)
     (λ c. laws.is (laws.whole _ _ (c .before .loop .inv .1) (omega arith)) (c .before .loop .inv .0)))

@@ -19,6 +19,7 @@ put-source-spec =
     (λ c.
     let c6 = c .before .before .before .before .before .before in
     let c10 = c6 .before .before .before .before in
-    laws.is (laws.source-at _ _ _ (cc)) (laws.both (c10 .put-number .ensures) (laws.both (c6 .put-byte .ensures) (c .before .before .put-number2 .ensures))))
+    laws.is (laws.source-at _ _ _ (cc)) (laws.both (c10 .put-number .ensures)
+    (laws.both (c6 .put-byte .ensures) (c .before .before .put-number2 .ensures))))
     (λ c. search needs)
     (λ c. laws.is (laws.source-absent _ (cc)) (c .before .before .put-byte2 .ensures)))

@@ -21,4 +21,5 @@ put-text-spec =
     omega (arith, c .before .text-len .ensures .0, texts.length-fits (c5 .args .f .now) (c5 .args .at)))
     (λ c κs. search needs)
     (λ c. search needs)
-    (λ c. laws.is (laws.part _ _ _ _ _ (c .before .before .before .before .before .text-len .ensures .0) refl refl) (c .before .before .put .ensures)))
+    (λ c. laws.is (laws.part _ _ _ _ _ (c .before .before .before .before .before .text-len .ensures .0) refl refl)
+    (c .before .before .put .ensures)))

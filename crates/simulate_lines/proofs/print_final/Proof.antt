@@ -17,4 +17,6 @@ print-final-spec =
     let c4 = c .before .before .before .before in
     let c6 = c4 .before .before in
     let c8 = c6 .before .before in
-    show.kept (c8 .args .n) (c .before .before .put-final .ensures) (lengths.final-short (c8 .args .f .now) (λ i. omega (arith, c6 .shared-slice-known .given i)) (c8 .args .x .now) (name (c8 .args .x .now) (c8 .args .e)) (c8 .args .value)) (c4 .room .ensures .1)))
+    show.kept (c8 .args .n) (c .before .before .put-final .ensures)
+    (lengths.final-short (c8 .args .f .now) (λ i. omega (arith, c6 .shared-slice-known .given i)) (c8 .args .x .now)
+    (name (c8 .args .x .now) (c8 .args .e)) (c8 .args .value)) (c4 .room .ensures .1)))

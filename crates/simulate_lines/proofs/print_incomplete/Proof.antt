@@ -14,4 +14,5 @@ print-incomplete-spec =
     (λ c.
     let c4 = c .before .before .before .before in
     let c7 = c4 .before .before .before in
-    show.kept (c7 .args .n) (c .before .before .put-incomplete .ensures) (lengths.incomplete-short (c7 .args .why) (c7 .args .waiting)) (c4 .room .ensures .1)))
+    show.kept (c7 .args .n) (c .before .before .put-incomplete .ensures)
+    (lengths.incomplete-short (c7 .args .why) (c7 .args .waiting)) (c4 .room .ensures .1)))

@@ -23,10 +23,14 @@ print-reason-spec =
     let c6 = c .before .before .before .before .before .before in
     let c9 = c6 .before .before .before in
     let c11 = c9 .before .before in
-    show.kept (c11 .args .n) (c .before .before .put-reason .ensures) (lengths.reason-short (c11 .args .f .now) (λ i. omega (arith, c9 .shared-slice-known .given i)) (text "reason") (reason-of (drop (c11 .args .i * 5) (c11 .args .a .now))) (omega arith)) (c6 .room .ensures .1))
+    show.kept (c11 .args .n) (c .before .before .put-reason .ensures)
+    (lengths.reason-short (c11 .args .f .now) (λ i. omega (arith, c9 .shared-slice-known .given i)) (text "reason")
+    (reason-of (drop (c11 .args .i * 5) (c11 .args .a .now))) (omega arith)) (c6 .room .ensures .1))
     (λ c. search needs)
     (λ c.
     let c6 = c .before .before .before .before .before .before in
     let c9 = c6 .before .before .before in
     let c11 = c9 .before .before in
-    show.kept (c11 .args .n) (c .before .before .put-unknown .ensures) (lengths.reason-short (c11 .args .f .now) (λ i. omega (arith, c9 .shared-slice-known .given i)) (text "sim-unknown") (reason-of (drop (c11 .args .i * 5) (c11 .args .a .now))) (omega arith)) (c6 .room .ensures .1)))
+    show.kept (c11 .args .n) (c .before .before .put-unknown .ensures)
+    (lengths.reason-short (c11 .args .f .now) (λ i. omega (arith, c9 .shared-slice-known .given i)) (text "sim-unknown")
+    (reason-of (drop (c11 .args .i * 5) (c11 .args .a .now))) (omega arith)) (c6 .room .ensures .1)))

@@ -24,4 +24,7 @@ put-final-spec =
     let c15 = c14 .before in
     let c19 = c15 .before .before .before .before in
     let c24 = c19 .before .before .before .before .before in
-    show.is (laws.final-is (texts-of (c24 .args .f .now) (c24 .args .x .now)) _ _ _ (c15 .name-of .ensures)) (show.both (c19 .put .ensures) (show.both (c14 .put-place .ensures) (show.both (c10 .put-byte .ensures) (show.both (c6 .put-place2 .ensures) (c .before .before .put-byte2 .ensures)))))))
+    show.is (laws.final-is (texts-of (c24 .args .f .now) (c24 .args .x .now)) _ _ _ (c15 .name-of .ensures))
+    (show.both (c19 .put .ensures) (show.both (c14 .put-place .ensures)
+    (show.both (c10 .put-byte .ensures) (show.both (c6 .put-place2 .ensures)
+    (c .before .before .put-byte2 .ensures)))))))

@@ -16,6 +16,7 @@ put-incomplete-spec =
     (λ c.
     let c6 = c .before .before .before .before .before .before in
     let c9 = c6 .before .before .before in
-    show.is (laws.left _ _ (c6 .if1 .taken)) (show.both (c9 .put-halted .ensures) (c .before .before .put-text-line .ensures)))
+    show.is (laws.left _ _ (c6 .if1 .taken)) (show.both (c9 .put-halted .ensures)
+    (c .before .before .put-text-line .ensures)))
     (λ c. search needs)
     (λ c. show.is (laws.none-left _ _ (c .if1 .left)) (c .before .before .before .put-halted .ensures)))

@@ -12,4 +12,5 @@ put-reason-spec =
     (λ c. search needs)
     (λ c κs. search needs)
     (λ c. search needs)
-    (λ c. show.is (laws.reason-is _ _ _ _ (c .before .before .before .before .before .get .ensures)) (c .before .before .put-reason-line .ensures)))
+    (λ c. show.is (laws.reason-is _ _ _ _ (c .before .before .before .before .before .get .ensures))
+    (c .before .before .put-reason-line .ensures)))

@@ -17,4 +17,5 @@ put-text-line-spec =
     let c6 = c .before .before .before .before .before .before in
     let c10 = c6 .before .before .before .before in
     let c14 = c10 .before .before .before .before in
-    show.is (laws.text-is _ _) (show.both (c14 .put .ensures) (show.both (c10 .put-byte .ensures) (show.both (c6 .put-quoted .ensures) (c .before .before .put-byte2 .ensures))))))
+    show.is (laws.text-is _ _) (show.both (c14 .put .ensures)
+    (show.both (c10 .put-byte .ensures) (show.both (c6 .put-quoted .ensures) (c .before .before .put-byte2 .ensures))))))

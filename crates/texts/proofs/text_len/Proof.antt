@@ -12,5 +12,11 @@ text-len-spec =
     (λ c κs. search needs)
     (λ c. search needs)
     (λ c. search needs)
-    (λ c. (laws.length-whole _ _ _ (c .before .length-byte .ensures .0) (c .before .before .if1 .left) (c .if2 .taken), search needs))
-    (λ c. (laws.length-cut _ _ _ (c .before .length-byte .ensures .0) (c .before .before .if1 .left) (c .if2 .left), omega arith)))
+    (λ c. (
+      laws.length-whole _ _ _ (c .before .length-byte .ensures .0) (c .before .before .if1 .left) (c .if2 .taken),
+      search needs,
+    ))
+    (λ c. (
+      laws.length-cut _ _ _ (c .before .length-byte .ensures .0) (c .before .before .if1 .left) (c .if2 .left),
+      omega arith,
+    )))

@@ -8,7 +8,8 @@ use Rattle.texts.proofs.text_start.Statement.{statement}
 use Rattle.texts.proofs.text_start.Tie as tie
 
 abbrev Inv-loop : tie.InvT-loop
-Inv-loop f from place at₀ left₀ at left = (startFrom f from place ≡ startFrom f at left) × (at + 256 * left ≤ from + 256 * place)
+Inv-loop f from place at₀ left₀ at left = (startFrom f from place ≡ startFrom f at left)
+    × (at + 256 * left ≤ from + 256 * place)
 
 abbrev μ-loop : tie.MeasureT-loop
 μ-loop f from place at₀ left₀ at left = left
@@ -25,5 +26,9 @@ text-start-spec =
     (λ c. search needs)
     (λ c. search needs)
     (λ c. search needs)
-    (λ c. (c .before .before .loop .inv .0 ∙ laws.start-next _ _ _ _ (c .before .loop-test .taken) (c .length-byte .ensures .0), omega arith))
+    (λ c. (
+      c .before .before .loop .inv .0 ∙ laws.start-next _ _ _ _ (c .before .loop-test .taken)
+          (c .length-byte .ensures .0),
+      omega arith,
+    ))
     (λ c. sym (c .before .loop .inv .0 ∙ laws.start-end _ _ _ (omega arith))))
