@@ -5,6 +5,11 @@ use checker_result::Status;
 use cone_entry::ConeResult;
 use engine_entry::Notes;
 use engine_summary::Summary;
+use layout::EventWords;
+use layout::IncompleteReasons;
+use layout::SimulationReasons;
+use layout::VerdictReasons;
+use layout::Violations;
 use lint_entry::Report;
 use reduce_result::Minimized;
 use search_answer::Found;
@@ -77,7 +82,7 @@ fn flag(b: bool) -> u64
 
 // ---- unsupported
 
-fn lay_notes(out: &mut [u64], head: &[u64; 4], reasons: &[u32; 1500])
+fn lay_notes(out: &mut [u64], head: &[u64; 4], reasons: &SimulationReasons)
     requires { ⌜ 1504 ≤ length (now out) ⌝ }
     ensures { λ _. ⌜ is out ≡ laidNotes (was head) (was reasons) (was out) ⌝ }
 {
@@ -100,7 +105,7 @@ fn lay_simulation(
     at: usize,
     head: &[u64; 8],
     values: &[u32; 32],
-    reasons: &[u32; 1500],
+    reasons: &SimulationReasons,
 )
     requires { ⌜ at + 1540 ≤ length (now out) ⌝ }
     ensures { λ _. ⌜ is out ≡ laidSimulation at (was head) (was values) (was reasons) (was out) ⌝ }
@@ -110,7 +115,7 @@ fn lay_simulation(
     put_words(out, at + 40, reasons);
 }
 
-pub fn put_simulation(out: &mut [u64], at: usize, s: Summary, reasons: &[u32; 1500])
+pub fn put_simulation(out: &mut [u64], at: usize, s: Summary, reasons: &SimulationReasons)
     requires { ⌜ at + 1540 ≤ length (now out) ⌝ }
     ensures { λ _. ⌜ is out ≡ simulationIn at (simulation-of s (was reasons)) (was out) ⌝ }
 {
@@ -145,9 +150,9 @@ fn lay_check(
     out: &mut [u64],
     at: usize,
     head: &[u64; 4],
-    violated: &[u64; 256],
-    unknowns: &[u32; 2000],
-    incompletes: &[u32; 200],
+    violated: &Violations,
+    unknowns: &VerdictReasons,
+    incompletes: &IncompleteReasons,
 )
     requires { ⌜ at + 2460 ≤ length (now out) ⌝ }
     ensures { λ _. ⌜ is out ≡ laidCheck at (was head) (was violated) (was unknowns) (was incompletes) (was out) ⌝ }
@@ -162,10 +167,10 @@ pub fn put_check(
     out: &mut [u64],
     at: usize,
     j: Judgement,
-    reasons: &[u32; 1500],
-    violated: &[u64; 256],
-    unknowns: &[u32; 2000],
-    incompletes: &[u32; 200],
+    reasons: &SimulationReasons,
+    violated: &Violations,
+    unknowns: &VerdictReasons,
+    incompletes: &IncompleteReasons,
 )
     requires { ⌜ at + 4000 ≤ length (now out) ⌝ }
     ensures { λ _. ⌜ is out ≡ checkIn at (result-of j (was violated) (was unknowns) (was incompletes) (was reasons))
@@ -213,7 +218,7 @@ fn lay_search(
     inputs: &[u32; 36],
     seconds: &[u32; 4],
     words: &[u32; 20],
-    told: &[u32; 2000],
+    told: &VerdictReasons,
 )
     requires { ⌜ 2076 ≤ length (now out) ⌝ }
     ensures { λ _. ⌜ is out ≡ laidSearch (was head) (was inputs) (was seconds) (was words) (was told) (was out) ⌝ }
@@ -225,7 +230,7 @@ fn lay_search(
     put_words(out, 76, told);
 }
 
-fn put_searched(out: &mut [u64], v: Searched, told: &[u32; 2000])
+fn put_searched(out: &mut [u64], v: Searched, told: &VerdictReasons)
     requires { ⌜ 2076 ≤ length (now out) ⌝ }
     ensures { λ _. ⌜ is out ≡ searchIn v (was told) (was out) ⌝ }
 {
@@ -257,11 +262,11 @@ fn put_searched(out: &mut [u64], v: Searched, told: &[u32; 2000])
 pub fn put_verification(
     out: &mut [u64],
     v: Searched,
-    told: &[u32; 2000],
-    reasons: &[u32; 1500],
-    violated: &[u64; 256],
-    unknowns: &[u32; 2000],
-    incompletes: &[u32; 200],
+    told: &VerdictReasons,
+    reasons: &SimulationReasons,
+    violated: &Violations,
+    unknowns: &VerdictReasons,
+    incompletes: &IncompleteReasons,
 )
     requires { ⌜ 6076 ≤ length (now out) ⌝ }
     ensures { λ _.
@@ -275,7 +280,7 @@ pub fn put_verification(
 
 // ---- minimize
 
-fn lay_reduction(out: &mut [u64], head: &[u64; 8], words: &[u32; 400])
+fn lay_reduction(out: &mut [u64], head: &[u64; 8], words: &EventWords)
     requires { ⌜ 408 ≤ length (now out) ⌝ }
     ensures { λ _. ⌜ is out ≡ laidReduction (was head) (was words) (was out) ⌝ }
 {

@@ -3,6 +3,8 @@ use checker_judge::Reading;
 use checker_response::Failure;
 use engine_fields::two_at;
 use engine_state::Cells;
+use layout::Positions;
+use layout::Table;
 use records::Where;
 ghost use Rattle.notation.specs.Reference.{was, is};
 ghost use mathlib.Core.Path.{_≡_};
@@ -129,7 +131,7 @@ pub struct Counts {
 // The invariant at a position: its violation goes to `v`, its reasons to `u` and `w`, sorted as rendered.
 fn judge_one(
     f: &[u8],
-    x: &[u32; 436],
+    x: &Table,
     at: usize,
     cells: Cells,
     a: &[u32],
@@ -161,8 +163,8 @@ fn judge_one(
 // So many invariants, at most 32, at their positions.
 pub fn judge_all(
     f: &[u8],
-    x: &[u32; 436],
-    starts: &[usize; 100],
+    x: &Table,
+    starts: &Positions,
     count: u32,
     cells: Cells,
     a: &[u32],

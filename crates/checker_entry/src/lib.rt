@@ -3,6 +3,12 @@ use checker_result::CheckResult;
 use checker_result::Judgement;
 use checker_result::Shared;
 use checker_result::Status;
+use layout::IncompleteReasons;
+use layout::Positions;
+use layout::SimulationReasons;
+use layout::Table;
+use layout::VerdictReasons;
+use layout::Violations;
 use model_index::Index;
 ghost use Rattle.notation.specs.Reference.{was, is};
 ghost use Prim.Native.Nat.{_*_, _≤_};
@@ -18,18 +24,18 @@ ghost use Rattle.engine_entry.specs.Contract.{ground, lent};
 // the reasons of the notes, and then those of the simulation.
 pub fn check_events(
     file: &[u8],
-    table: &[u32; 436],
-    starts: &[usize; 100],
+    table: &Table,
+    starts: &Positions,
     shared: Shared,
     events: &[u32],
     n: usize,
     queue: &mut [u32],
     records: &mut [u32],
     runs: &mut [u32],
-    reasons: &mut [u32; 1500],
-    violated: &mut [u64; 256],
-    unknowns: &mut [u32; 2000],
-    incompletes: &mut [u32; 200],
+    reasons: &mut SimulationReasons,
+    violated: &mut Violations,
+    unknowns: &mut VerdictReasons,
+    incompletes: &mut IncompleteReasons,
 ) -> Judgement
     requires { ⌜ n * 4 ≤ length (now events) ⌝ }
     ensures { λ r. ⌜ Checked (was file) (was starts) (shared .invariants)
@@ -79,18 +85,18 @@ pub fn check_events(
 // The check with the first n events, and its answer.
 pub fn check_settled(
     file: &[u8],
-    table: &[u32; 436],
-    starts: &[usize; 100],
+    table: &Table,
+    starts: &Positions,
     shared: Shared,
     events: &[u32],
     n: usize,
     queue: &mut [u32],
     records: &mut [u32],
     runs: &mut [u32],
-    reasons: &mut [u32; 1500],
-    violated: &mut [u64; 256],
-    unknowns: &mut [u32; 2000],
-    incompletes: &mut [u32; 200],
+    reasons: &mut SimulationReasons,
+    violated: &mut Violations,
+    unknowns: &mut VerdictReasons,
+    incompletes: &mut IncompleteReasons,
 ) -> Judgement
     requires { ⌜ n * 4 ≤ length (now events) ⌝ }
     ensures { λ r. ⌜ Whole (was file) (was starts) (shared .invariants)
@@ -123,10 +129,10 @@ fn run(
     queue: &mut [u32],
     records: &mut [u32],
     runs: &mut [u32],
-    reasons: &mut [u32; 1500],
-    violated: &mut [u64; 256],
-    unknowns: &mut [u32; 2000],
-    incompletes: &mut [u32; 200],
+    reasons: &mut SimulationReasons,
+    violated: &mut Violations,
+    unknowns: &mut VerdictReasons,
+    incompletes: &mut IncompleteReasons,
 ) -> Judgement
     ensures { λ r. ⌜ RunsAs (was file) index (result-of r (is violated) (is unknowns) (is incompletes) (is reasons))
         (lent (was queue) (was records) (was runs)) (lent (is queue) (is records) (is runs)) ⌝ }
@@ -167,10 +173,10 @@ pub fn check_lent(
     queue: &mut [u32],
     records: &mut [u32],
     runs: &mut [u32],
-    reasons: &mut [u32; 1500],
-    violated: &mut [u64; 256],
-    unknowns: &mut [u32; 2000],
-    incompletes: &mut [u32; 200],
+    reasons: &mut SimulationReasons,
+    violated: &mut Violations,
+    unknowns: &mut VerdictReasons,
+    incompletes: &mut IncompleteReasons,
 ) -> Judgement
     ensures { λ r. ⌜ Checks (was file) (result-of r (is violated) (is unknowns) (is incompletes) (is reasons))
         (lent (was queue) (was records) (was runs)) (lent (is queue) (is records) (is runs)) ⌝ }
@@ -200,24 +206,24 @@ pub fn check_lent(
 // The check with the first n events, as one value.
 pub fn check_whole(
     file: &[u8],
-    table: &[u32; 436],
-    starts: &[usize; 100],
+    table: &Table,
+    starts: &Positions,
     shared: Shared,
     events: &[u32],
     n: usize,
     queue: &mut [u32],
     records: &mut [u32],
     runs: &mut [u32],
-    reasons: &mut [u32; 1500],
+    reasons: &mut SimulationReasons,
 ) -> CheckResult
     requires { ⌜ n * 4 ≤ length (now events) ⌝ }
     ensures { λ r. ⌜ Whole (was file) (was starts) (shared .invariants)
         (ground (was table) (shared .cells) (shared .notes) (was reasons)) (was events) n r (was queue) (is queue)
         (was records) (is records) (was runs) (is runs) ⌝ }
 {
-    let mut violated = [0u64; 256];
-    let mut unknowns = [0u32; 2000];
-    let mut incompletes = [0u32; 200];
+    let mut violated = [0u64; layout::VIOLATIONS];
+    let mut unknowns = [0u32; layout::VERDICT_REASONS];
+    let mut incompletes = [0u32; layout::INCOMPLETE_REASONS];
     let j = check_settled(
         file,
         table,
@@ -241,10 +247,10 @@ pub fn check(file: &[u8], queue: &mut [u32], records: &mut [u32], runs: &mut [u3
     ensures { λ r. ⌜ Checks (was file) r (lent (was queue) (was records) (was runs))
         (lent (is queue) (is records) (is runs)) ⌝ }
 {
-    let mut reasons = [0u32; 1500];
-    let mut violated = [0u64; 256];
-    let mut unknowns = [0u32; 2000];
-    let mut incompletes = [0u32; 200];
+    let mut reasons = [0u32; layout::SIMULATION_REASONS];
+    let mut violated = [0u64; layout::VIOLATIONS];
+    let mut unknowns = [0u32; layout::VERDICT_REASONS];
+    let mut incompletes = [0u32; layout::INCOMPLETE_REASONS];
     let j = check_lent(
         file,
         queue,

@@ -22,6 +22,7 @@ use engine_fields::four_at;
 use engine_fields::two_at;
 use engine_state::Cells;
 use engine_state::after;
+use layout::Table;
 use records::Change;
 use records::Record;
 use records::Where;
@@ -73,7 +74,7 @@ fn unsure(b: bool, m: Memory) -> Memory
 // ---- the values after a change
 
 // The entity that a change writes, or 32.
-fn entity_in(x: &[u32; 436], change: Change) -> usize
+fn entity_in(x: &Table, change: Change) -> usize
     ensures { λ r. ⌜ r ≡ entityM (was x) change ⌝ }
 {
     match change {
@@ -111,7 +112,7 @@ fn put(values: &mut [u32; 32], e: usize, value: u32)
 
 // ---- never, guard, transition
 
-fn read_never(f: &[u8], x: &[u32; 436], at: u32, present: &[u32; 32], m: Memory) -> Shown
+fn read_never(f: &[u8], x: &Table, at: u32, present: &[u32; 32], m: Memory) -> Shown
     ensures { λ r. ⌜ r ≡ neverM (was f) (was x) at (was present) m ⌝ }
 {
     let judged = evaluate_all(f, x, present, 0, after(at, 3));
@@ -158,7 +159,7 @@ fn guarded(t: Truth, m: Memory) -> Shown
 }
 
 // A guard reads the values before the record.
-fn read_guard(f: &[u8], x: &[u32; 436], at: u32, before: &[u32; 32], r: Record, m: Memory) -> Shown
+fn read_guard(f: &[u8], x: &Table, at: u32, before: &[u32; 32], r: Record, m: Memory) -> Shown
     ensures { λ s. ⌜ s ≡ guardM (was f) (was x) at (was before) r m ⌝ }
 {
     if is_about(f, at, r) {
@@ -210,7 +211,7 @@ fn after_predicate(f: &[u8], at: u32) -> u32
 }
 
 // The goal is read before the record and after it, the cause after it.
-fn seen_at(f: &[u8], x: &[u32; 436], at: u32, before: &[u32; 32], present: &[u32; 32]) -> Seen
+fn seen_at(f: &[u8], x: &Table, at: u32, before: &[u32; 32], present: &[u32; 32]) -> Seen
     ensures { λ r. ⌜ r ≡ seenM (was f) (was x) at (was before) (was present) ⌝ }
 {
     let p = after(at, 3);
@@ -232,7 +233,7 @@ fn seen_at(f: &[u8], x: &[u32; 436], at: u32, before: &[u32; 32], present: &[u32
 // What a record shows, with the values before it and after it.
 fn read(
     f: &[u8],
-    x: &[u32; 436],
+    x: &Table,
     at: u32,
     before: &[u32; 32],
     present: &[u32; 32],
@@ -364,7 +365,7 @@ fn next_to_read(named: &[bool; 64], wait: Wait, a: &[u32], n: usize, k: usize) -
 // may hold older ones.
 fn next_turn(
     f: &[u8],
-    x: &[u32; 436],
+    x: &Table,
     at: u32,
     before: &mut [u32; 32],
     present: &mut [u32; 32],
@@ -421,7 +422,7 @@ fn unfailed(m: Memory) -> Reading
 
 // The invariant at a position over the first n records of the area, from the values that the simulation started from:
 // the first failing record, or none.
-pub fn judge(f: &[u8], x: &[u32; 436], at: usize, cells: Cells, a: &[u32], n: usize) -> Reading
+pub fn judge(f: &[u8], x: &Table, at: usize, cells: Cells, a: &[u32], n: usize) -> Reading
     requires { ⌜ n * 13 ≤ length (now a) ⌝ }
     ensures { λ r. ⌜ Judges (was f) (was x) at cells (was a) n r ⌝ }
 {

@@ -3,6 +3,12 @@ use checker_collect::Counts;
 use engine_state::Cells;
 use engine_summary::Simulation;
 use engine_summary::Summary;
+use layout::IncompleteReasons;
+use layout::Positions;
+use layout::SimulationReasons;
+use layout::Table;
+use layout::VerdictReasons;
+use layout::Violations;
 ghost use Rattle.notation.specs.Reference.{was, is};
 ghost use mathlib.Core.Path.{_≡_};
 ghost use Prim.Native.Nat.{_+_, _*_, _≤_};
@@ -23,11 +29,11 @@ pub enum Status {
 pub struct CheckResult {
     pub status: Status,
     pub violations: usize,
-    pub violated: [u64; 256],
+    pub violated: Violations,
     pub unknown: usize,
-    pub unknowns: [u32; 2000],
+    pub unknowns: VerdictReasons,
     pub incomplete: usize,
-    pub incompletes: [u32; 200],
+    pub incompletes: IncompleteReasons,
     pub simulation: Simulation,
 }
 
@@ -39,11 +45,11 @@ pub fn refused(number: u32) -> CheckResult
     CheckResult {
         status: Status::Refused(number),
         violations: 0,
-        violated: [0u64; 256],
+        violated: [0u64; layout::VIOLATIONS],
         unknown: 0,
-        unknowns: [0u32; 2000],
+        unknowns: [0u32; layout::VERDICT_REASONS],
         incomplete: 0,
-        incompletes: [0u32; 200],
+        incompletes: [0u32; layout::INCOMPLETE_REASONS],
         simulation,
     }
 }
@@ -125,23 +131,23 @@ pub struct Judgement {
 // The verdict on a simulation whose records stand in the area `a`, and the words of its reasons in `told`.
 pub fn verdict(
     f: &[u8],
-    x: &[u32; 436],
-    starts: &[usize; 100],
+    x: &Table,
+    starts: &Positions,
     shared: Shared,
     a: &[u32],
     s: Summary,
-    told: &[u32; 1500],
-    violated: &mut [u64; 256],
-    unknowns: &mut [u32; 2000],
-    incompletes: &mut [u32; 200],
+    told: &SimulationReasons,
+    violated: &mut Violations,
+    unknowns: &mut VerdictReasons,
+    incompletes: &mut IncompleteReasons,
 ) -> Judgement
     ensures { λ r. ⌜ Judged (was f) (was x) (was starts) shared (was a) s r (was told) (is violated) (is unknowns)
         (is incompletes) ⌝ }
 {
-    let none = [0u64; 256];
+    let none = [0u64; layout::VIOLATIONS];
     *violated = none;
-    *unknowns = [0u32; 2000];
-    *incompletes = [0u32; 200];
+    *unknowns = [0u32; layout::VERDICT_REASONS];
+    *incompletes = [0u32; layout::INCOMPLETE_REASONS];
     let many = engine_summary::few(s.unknown);
     let unknown = reasons::merge(f, unknowns, 0, told, many);
     let stopped = add_stopped(f, incompletes, s.stop_reason);
@@ -181,17 +187,17 @@ pub fn verdict(
 // A refusal is nothing but its number: the lists and the words of the reasons are cleared.
 pub fn refused_judgement(
     number: u32,
-    reasons: &mut [u32; 1500],
-    violated: &mut [u64; 256],
-    unknowns: &mut [u32; 2000],
-    incompletes: &mut [u32; 200],
+    reasons: &mut SimulationReasons,
+    violated: &mut Violations,
+    unknowns: &mut VerdictReasons,
+    incompletes: &mut IncompleteReasons,
 ) -> Judgement
     ensures { λ r. ⌜ result-of r (is violated) (is unknowns) (is incompletes) (is reasons) ≡ no-check number ⌝ }
 {
     let simulation = engine_summary::refused_summary(number, reasons);
-    *violated = [0u64; 256];
-    *unknowns = [0u32; 2000];
-    *incompletes = [0u32; 200];
+    *violated = [0u64; layout::VIOLATIONS];
+    *unknowns = [0u32; layout::VERDICT_REASONS];
+    *incompletes = [0u32; layout::INCOMPLETE_REASONS];
     Judgement {
         status: Status::Refused(number),
         violations: 0,
@@ -204,10 +210,10 @@ pub fn refused_judgement(
 // What a check answers.
 pub fn settled(
     j: Judgement,
-    reasons: &mut [u32; 1500],
-    violated: &mut [u64; 256],
-    unknowns: &mut [u32; 2000],
-    incompletes: &mut [u32; 200],
+    reasons: &mut SimulationReasons,
+    violated: &mut Violations,
+    unknowns: &mut VerdictReasons,
+    incompletes: &mut IncompleteReasons,
 ) -> Judgement
     ensures { λ r. ⌜ Answered (result-of j (was violated) (was unknowns) (was incompletes) (was reasons))
         (result-of r (is violated) (is unknowns) (is incompletes) (is reasons)) ⌝ }
@@ -223,10 +229,10 @@ pub fn settled(
 
 pub fn with_lists(
     j: Judgement,
-    reasons: &[u32; 1500],
-    violations: &[u64; 256],
-    unknown: &[u32; 2000],
-    incomplete: &[u32; 200],
+    reasons: &SimulationReasons,
+    violations: &Violations,
+    unknown: &VerdictReasons,
+    incomplete: &IncompleteReasons,
 ) -> CheckResult
     ensures { λ r. ⌜ r ≡ result-of j (was violations) (was unknown) (was incomplete) (was reasons) ⌝ }
 {

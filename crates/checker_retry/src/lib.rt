@@ -3,6 +3,12 @@
 use checker_result::Judgement;
 use checker_result::Shared;
 use checker_result::Status;
+use layout::IncompleteReasons;
+use layout::Positions;
+use layout::SimulationReasons;
+use layout::Table;
+use layout::VerdictReasons;
+use layout::Violations;
 ghost use Rattle.notation.specs.Reference.{was, is};
 ghost use mathlib.Core.Path.{_≡_};
 ghost use Prim.Native.Nat.{_*_, _≤_};
@@ -36,19 +42,19 @@ fn part(n: usize, most: usize) -> usize
 // In the part. `notes` holds the reasons of the notes.
 fn check_part(
     file: &[u8],
-    table: &[u32; 436],
-    starts: &[usize; 100],
-    notes: &[u32; 1500],
+    table: &Table,
+    starts: &Positions,
+    notes: &SimulationReasons,
     shared: Shared,
     events: &[u32],
     n: usize,
     queue: &mut [u32],
     records: &mut [u32],
     runs: &mut [u32],
-    reasons: &mut [u32; 1500],
-    violated: &mut [u64; 256],
-    unknowns: &mut [u32; 2000],
-    incompletes: &mut [u32; 200],
+    reasons: &mut SimulationReasons,
+    violated: &mut Violations,
+    unknowns: &mut VerdictReasons,
+    incompletes: &mut IncompleteReasons,
 ) -> Judgement
     requires { ⌜ n * 4 ≤ length (now events) ⌝ }
     ensures { λ r. ⌜ Parted (was file) (was starts) (shared .invariants)
@@ -79,19 +85,19 @@ fn check_part(
 
 pub fn check_case(
     file: &[u8],
-    table: &[u32; 436],
-    starts: &[usize; 100],
-    notes: &[u32; 1500],
+    table: &Table,
+    starts: &Positions,
+    notes: &SimulationReasons,
     shared: Shared,
     events: &[u32],
     n: usize,
     queue: &mut [u32],
     records: &mut [u32],
     runs: &mut [u32],
-    reasons: &mut [u32; 1500],
-    violated: &mut [u64; 256],
-    unknowns: &mut [u32; 2000],
-    incompletes: &mut [u32; 200],
+    reasons: &mut SimulationReasons,
+    violated: &mut Violations,
+    unknowns: &mut VerdictReasons,
+    incompletes: &mut IncompleteReasons,
 ) -> Judgement
     requires { ⌜ n * 4 ≤ length (now events) ⌝ }
     ensures { λ r. ⌜ Cased (was file) (was starts) (shared .invariants)

@@ -257,7 +257,7 @@ module _ (inE inA : Text → Bool) where
                 (strip (process (i .at) rules (i .work) (with-queue l s)))
                 ≡ some (strip ((loop rules h n (k + 1) (process (i .at) rules (i .work) (with-queue l s))) .engine))
             rest = ih (k + 1) (process (i .at) rules (i .work) (with-queue l s))
-                (Good.process-good inE inA (i .at) rules (i .work) (with-queue l s) good (unfold with-queue in g)) e
+                (Scoped.process-good inE inA (i .at) rules (i .work) (with-queue l s) good (unfold with-queue in g)) e
 
             side : Case (View.cone-work inE inA (i .work))
                 → cone-loop (keep (View.cone-rule inE inA) rules) h (suc n) (strip s) ≡ some

@@ -52,7 +52,7 @@ fn rule_sets(s: &[u8], entities: Section, rules: Section) -> Touched
     let mut i: usize = 0;
     while i < n {
         let at = rules.starts[i];
-        let mut list = [0usize; 512];
+        let mut list = [0usize; layout::ACTION_POSITIONS];
         let c = lint_walk::rule_walk(s, at, &mut list);
         let count = c.count;
         writes[i] = lint_access::writes(s, &entities.starts, many, &list, count);

@@ -100,8 +100,8 @@ begun-tidy : (areas : Areas) (origin : Moment) (cells : List Cell) (notes : List
     → Tidy 0 (begun areas origin cells notes events)
 unfolding begun log append fair headed boundary absent
 begun-tidy areas origin cells notes events =
-    Tidy.t-adds 0 (flat (expiry 0) cells) _ (all-late (flat (expiry 0) cells))
-    (Tidy.t-adds 0 (each event-item events) _ (all-late (each event-item events))
+    TimeOrder.t-adds 0 (flat (expiry 0) cells) _ (all-late (flat (expiry 0) cells))
+    (TimeOrder.t-adds 0 (each event-item events) _ (all-late (each event-item events))
     (record { due = tt; told = (omega arith, omega arith); begins = refl; plain = (refl, tt) }))
 
 -- the loop of a model, with given cells and events
@@ -145,7 +145,7 @@ records areas m cells events e = subst (Records h) (sym (trace-is areas m cells 
     t : Trace
     t = record { at = h; kind = Kind.horizon; automation = none; source = none; change = none }
 
-    k : Tidy.Told h l
+    k : TimeOrder.Told h l
     k = unfold run-of in (tidy-loop (m .rules) h (m .scenario .limits .max-steps) 0 0
         (begun areas (m .start) cells (unsupported (m .rules)) events)
         (begun-tidy areas (m .start) cells (unsupported (m .rules)) events)
@@ -170,7 +170,7 @@ module _ (inE inA : Text → Bool) where
       → Every (Steps.good-run inE inA) ((begun areas origin cells notes events) .runs)
   unfolding begun log append
   begun-good areas origin cells notes events =
-      Good.g-adds inE inA (flat (expiry 0) cells) _ (Good.g-adds inE inA (each event-item events) _ tt)
+      Scoped.g-adds inE inA (flat (expiry 0) cells) _ (Scoped.g-adds inE inA (each event-item events) _ tt)
 
   begun-like : (areas areas′ : Areas) (origin origin′ : Moment) (cells cells′ : List Cell) (notes notes′ : List Text)
       (events events′ : List Event) → origin ≡ origin′

@@ -1,5 +1,7 @@
 // What the cone is closed over: the declared entities that invariants name, and those that an automation reads or
 // toggles, as sets of their numbers in the file.
+use layout::ActionPositions;
+use layout::Positions;
 use model_parts::Section;
 ghost use Rattle.notation.specs.Reference.{was};
 ghost use mathlib.Core.Path.{_≡_};
@@ -11,7 +13,7 @@ ghost use Rattle.cone_sets.specs.Sets.{add-namedM, namedM, add-toggleM, 
 // ---- invariants
 
 // What the invariant at a position names.
-fn add_named(s: &[u8], entities: &[usize; 100], many: u32, set: u32, at: usize) -> u32
+fn add_named(s: &[u8], entities: &Positions, many: u32, set: u32, at: usize) -> u32
     requires { ⌜ many ≤ 32 ⌝ }
     ensures { λ r. ⌜ r ≡ add-namedM (was s) (sectionBy (was entities) many) at set ⌝ }
 {
@@ -32,7 +34,7 @@ fn add_named(s: &[u8], entities: &[usize; 100], many: u32, set: u32, at: usize) 
 }
 
 // What all invariants name.
-pub fn named(s: &[u8], entities: &[usize; 100], many: u32, invariants: Section) -> u32
+pub fn named(s: &[u8], entities: &Positions, many: u32, invariants: Section) -> u32
     requires { ⌜ (many ≤ 32) × (invariants .count ≤ 32) ⌝ }
     ensures { λ r. ⌜ r ≡ namedM (was s) (sectionBy (was entities) many) invariants ⌝ }
 {
@@ -49,7 +51,7 @@ pub fn named(s: &[u8], entities: &[usize; 100], many: u32, invariants: Section) 
 // ---- automations
 
 // A toggle's entity.
-fn add_toggle(s: &[u8], entities: &[usize; 100], many: u32, set: u32, at: usize) -> u32
+fn add_toggle(s: &[u8], entities: &Positions, many: u32, set: u32, at: usize) -> u32
     requires { ⌜ many ≤ 32 ⌝ }
     ensures { λ r. ⌜ r ≡ add-toggleM (was s) (sectionBy (was entities) many) at set ⌝ }
 {
@@ -63,10 +65,10 @@ fn add_toggle(s: &[u8], entities: &[usize; 100], many: u32, set: u32, at: usize)
 // What the automation at a position reads or toggles; its actions are the first `count` of `list`.
 pub fn needs(
     s: &[u8],
-    entities: &[usize; 100],
+    entities: &Positions,
     many: u32,
     at: usize,
-    list: &[usize; 512],
+    list: &ActionPositions,
     count: usize,
 ) -> u32
     requires { ⌜ (many ≤ 32) × (count ≤ 512) ⌝ }

@@ -16,6 +16,7 @@ use engine_state::uncertain;
 use engine_trigger::finish;
 use engine_trigger::with_phase;
 use engine_update::update;
+use layout::Table;
 use queue::Work;
 use records::Rule;
 use records::Where;
@@ -44,7 +45,7 @@ ghost use Rattle.engine_actions.specs.Perform.{
 };
 
 fn write(
-    x: &[u32; 436],
+    x: &Table,
     q: &mut [u32],
     a: &mut [u32],
     values: &mut [u32; 32],
@@ -67,7 +68,7 @@ fn write(
     let w = Setting {
         entity,
         value,
-        kind: 2,
+        kind: records::ACTION,
         rule,
         source,
     };
@@ -75,7 +76,7 @@ fn write(
 }
 
 pub fn set(
-    x: &[u32; 436],
+    x: &Table,
     q: &mut [u32],
     a: &mut [u32],
     values: &mut [u32; 32],
@@ -93,18 +94,18 @@ pub fn set(
     next_step(q, s1, run, s1.now)
 }
 
-fn toggled(x: &[u32; 436], v: u32) -> u32
+fn toggled(x: &Table, v: u32) -> u32
     ensures { λ r. ⌜ r ≡ toggledM (was x) v ⌝ }
 {
-    if v == x[4] {
-        return x[5];
+    if v == x[layout::ON] {
+        return x[layout::OFF];
     }
-    x[4]
+    x[layout::ON]
 }
 
 pub fn flip(
     f: &[u8],
-    x: &[u32; 436],
+    x: &Table,
     q: &mut [u32],
     a: &mut [u32],
     u: &mut [u32],
@@ -138,7 +139,7 @@ pub fn delay(q: &mut [u32], a: &mut [u32], st: State, run: Run, s: Source, secon
     requires { ⌜ Fits-qa st (now q) (now a) ⌝ }
     ensures { λ t. ⌜ Does (delayM run s seconds) st t (by q) (by a) kept still ⌝ }
 {
-    let s1 = log_action(a, st, 15, seconds, s, run);
+    let s1 = log_action(a, st, records::DELAY, seconds, s, run);
     let second = after(s1.now, seconds);
     next_step(q, s1, run, second)
 }
@@ -146,7 +147,7 @@ pub fn delay(q: &mut [u32], a: &mut [u32], st: State, run: Run, s: Source, secon
 // The run ends for a reason.
 fn unclear(
     f: &[u8],
-    x: &[u32; 436],
+    x: &Table,
     q: &mut [u32],
     a: &mut [u32],
     r: &mut [u32],
@@ -167,7 +168,7 @@ fn unclear(
 
 fn tested(
     f: &[u8],
-    x: &[u32; 436],
+    x: &Table,
     q: &mut [u32],
     a: &mut [u32],
     r: &mut [u32],
@@ -189,7 +190,7 @@ fn tested(
 
 pub fn condition(
     f: &[u8],
-    x: &[u32; 436],
+    x: &Table,
     q: &mut [u32],
     a: &mut [u32],
     r: &mut [u32],
@@ -207,7 +208,7 @@ pub fn condition(
 {
     let t = engine_evaluate::evaluate(f, x, values, st.now, at);
     let detail = engine_evaluate::number_of(t);
-    let s1 = log_action(a, st, 11, detail, s, run);
+    let s1 = log_action(a, st, records::CONDITION, detail, s, run);
     tested(f, x, q, a, r, u, s1, k, run, t)
 }
 
@@ -227,13 +228,13 @@ fn take_list(
 {
     let longer = engine_evaluate::with_list(f, run, at);
     runs::put_run(r, k, longer);
-    let s1 = log_action(a, st, 8, 0, s, run);
+    let s1 = log_action(a, st, records::CHOOSE, 0, s, run);
     next_step(q, s1, run, s1.now)
 }
 
 pub fn choose(
     f: &[u8],
-    x: &[u32; 436],
+    x: &Table,
     q: &mut [u32],
     a: &mut [u32],
     r: &mut [u32],
@@ -272,7 +273,7 @@ pub fn begin_wait(
     requires { ⌜ (k < st .«live_runs») × Fits st (now q) (now a) (now r) (now u) ⌝ }
     ensures { λ t. ⌜ Does (begin-waitM (was f) k run s at) st t (by q) (by a) (by r) (told (was f) (was u) (is u)) ⌝ }
 {
-    if two_at(f, at as usize + 14) != 65535 {
+    if two_at(f, at as usize + 14) != layout::NO_PLACE {
         let why = engine_fields::by_itself(reasons::WAIT);
         let s0 = uncertain(f, u, st, why);
         return finish(q, a, r, s0, k);
@@ -293,7 +294,7 @@ pub fn begin_wait(
         sequence: run.sequence,
     };
     let s1 = add(q, st, deadline, work);
-    log_action(a, s1, 16, seconds, s, run)
+    log_action(a, s1, records::WAIT, seconds, s, run)
 }
 
 pub fn give_up(
@@ -313,6 +314,6 @@ pub fn give_up(
 {
     let why = engine_fields::note_reason(f, reason);
     let s1 = uncertain(f, u, st, why);
-    let s2 = log_action(a, s1, 18, reason, s, run);
+    let s2 = log_action(a, s1, records::UNKNOWN, reason, s, run);
     finish(q, a, r, s2, k)
 }

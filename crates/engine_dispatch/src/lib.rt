@@ -14,6 +14,7 @@ use engine_handlers::time_out;
 use engine_state::Move;
 use engine_state::State;
 use engine_trigger::finish;
+use layout::Table;
 use queue::Work;
 use runs::Found;
 use runs::Phase;
@@ -28,7 +29,7 @@ ghost use Rattle.engine_dispatch.specs.Dispatch.{processM};
 
 fn perform(
     f: &[u8],
-    x: &[u32; 436],
+    x: &Table,
     q: &mut [u32],
     a: &mut [u32],
     r: &mut [u32],
@@ -61,7 +62,7 @@ fn perform(
 // The run's next action, or its end.
 fn go_on(
     f: &[u8],
-    x: &[u32; 436],
+    x: &Table,
     q: &mut [u32],
     a: &mut [u32],
     r: &mut [u32],
@@ -118,7 +119,7 @@ fn is_going(run: Run) -> bool
 
 fn resume(
     f: &[u8],
-    x: &[u32; 436],
+    x: &Table,
     q: &mut [u32],
     a: &mut [u32],
     r: &mut [u32],
@@ -147,7 +148,7 @@ fn resume(
 // An item of the queue is worked off.
 pub fn process(
     f: &[u8],
-    x: &[u32; 436],
+    x: &Table,
     q: &mut [u32],
     a: &mut [u32],
     r: &mut [u32],

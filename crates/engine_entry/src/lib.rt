@@ -2,6 +2,8 @@
 use engine_state::Cells;
 use engine_summary::Simulation;
 use engine_summary::Summary;
+use layout::SimulationReasons;
+use layout::Table;
 use model_index::Index;
 use model_index::Status;
 ghost use Rattle.notation.specs.Reference.{was, is};
@@ -17,19 +19,18 @@ ghost use Rattle.engine_entry.specs.Contracts.{Ran, RunsAs};
 
 // The table, the values at the start, and how many reasons the automations' notes give.
 pub struct Base {
-    pub table: [u32; 436],
+    pub table: Table,
     pub cells: Cells,
     pub count: usize,
 }
 
 // The reasons of the notes go to `reasons`, five words each.
-pub fn prepared(file: &[u8], index: Index, reasons: &mut [u32; 1500]) -> Base
+pub fn prepared(file: &[u8], index: Index, reasons: &mut SimulationReasons) -> Base
     ensures { λ b. ⌜ Grounds (was file) index (ground (b .table) (b .cells) (b .count) (is reasons)) ⌝ }
 {
-    let t = engine_table::table_of(file, index);
-    let table = t.words;
+    let table = engine_table::table_of(file, index);
     let cells = engine_inputs::cells_of(file, index);
-    *reasons = [0u32; 1500];
+    *reasons = [0u32; layout::SIMULATION_REASONS];
     let count = engine_unsupported::unsupported(file, &table, reasons);
     Base {
         table,
@@ -44,7 +45,7 @@ pub fn prepared(file: &[u8], index: Index, reasons: &mut [u32; 1500]) -> Base
 pub struct Notes {
     pub refused: u32,
     pub count: usize,
-    pub reasons: [u32; 1500],
+    pub reasons: SimulationReasons,
 }
 
 fn refused_notes(number: u32) -> Notes
@@ -53,7 +54,7 @@ fn refused_notes(number: u32) -> Notes
     Notes {
         refused: number,
         count: 0,
-        reasons: [0u32; 1500],
+        reasons: [0u32; layout::SIMULATION_REASONS],
     }
 }
 
@@ -66,7 +67,7 @@ pub fn unsupported(file: &[u8]) -> Notes
     match status {
         Status::Refused(number) => refused_notes(number),
         Status::Read => {
-            let mut reasons = [0u32; 1500];
+            let mut reasons = [0u32; layout::SIMULATION_REASONS];
             let b = prepared(file, x.index, &mut reasons);
             Notes {
                 refused: 0,
@@ -83,7 +84,7 @@ pub fn unsupported(file: &[u8]) -> Notes
 // the reasons of the notes, so many, and then those of the simulation.
 pub fn run_events(
     file: &[u8],
-    table: &[u32; 436],
+    table: &Table,
     cells: Cells,
     notes: usize,
     events: &[u32],
@@ -91,7 +92,7 @@ pub fn run_events(
     queue: &mut [u32],
     records: &mut [u32],
     runs: &mut [u32],
-    reasons: &mut [u32; 1500],
+    reasons: &mut SimulationReasons,
 ) -> Summary
     requires { ⌜ n * 4 ≤ length (now events) ⌝ }
     ensures { λ s. ⌜ Ran (was file) (ground (was table) cells notes (was reasons)) (was events) n
@@ -121,7 +122,7 @@ fn run(
     queue: &mut [u32],
     records: &mut [u32],
     runs: &mut [u32],
-    reasons: &mut [u32; 1500],
+    reasons: &mut SimulationReasons,
 ) -> Summary
     ensures { λ s. ⌜ RunsAs (was file) index (simulation-of s (is reasons)) (lent (was queue) (was records) (was runs))
         (lent (is queue) (is records) (is runs)) ⌝ }
@@ -153,7 +154,7 @@ pub fn simulate_lent(
     queue: &mut [u32],
     records: &mut [u32],
     runs: &mut [u32],
-    reasons: &mut [u32; 1500],
+    reasons: &mut SimulationReasons,
 ) -> Summary
     ensures { λ s. ⌜ Simulates (was file) (simulation-of s (is reasons)) (lent (was queue) (was records) (was runs))
         (lent (is queue) (is records) (is runs)) ⌝ }
@@ -171,7 +172,7 @@ pub fn simulate(file: &[u8], queue: &mut [u32], records: &mut [u32], runs: &mut 
     ensures { λ s. ⌜ Simulates (was file) s (lent (was queue) (was records) (was runs))
         (lent (is queue) (is records) (is runs)) ⌝ }
 {
-    let mut reasons = [0u32; 1500];
+    let mut reasons = [0u32; layout::SIMULATION_REASONS];
     let s = simulate_lent(file, queue, records, runs, &mut reasons);
     engine_summary::with_reasons(s, &reasons)
 }

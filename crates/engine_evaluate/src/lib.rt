@@ -5,6 +5,7 @@ use engine_fields::four_at;
 use engine_fields::two_at;
 use engine_state::Move;
 use engine_state::after;
+use layout::Table;
 use model_walk::Walked;
 use runs::Place;
 use runs::Run;
@@ -68,16 +69,16 @@ fn both(a: Truth, b: Truth) -> Truth
 }
 
 // Whether a value is `unknown` or `unavailable`.
-pub fn undecided(x: &[u32; 436], v: u32) -> bool
+pub fn undecided(x: &Table, v: u32) -> bool
     ensures { λ r. ⌜ r ≡ undecidedM (was x) v ⌝ }
 {
-    if v == x[6] {
+    if v == x[layout::UNKNOWN] {
         return true;
     }
-    v == x[7]
+    v == x[layout::UNAVAILABLE]
 }
 
-fn against(x: &[u32; 436], present: u32, v: u32) -> Truth
+fn against(x: &Table, present: u32, v: u32) -> Truth
     ensures { λ r. ⌜ r ≡ againstM (was x) present v ⌝ }
 {
     if present == v {
@@ -90,7 +91,7 @@ fn against(x: &[u32; 436], present: u32, v: u32) -> Truth
 }
 
 // The predicate at a position, at a second.
-pub fn evaluate(f: &[u8], x: &[u32; 436], values: &[u32; 32], second: u32, at: u32) -> Truth
+pub fn evaluate(f: &[u8], x: &Table, values: &[u32; 32], second: u32, at: u32) -> Truth
     ensures { λ r. ⌜ r ≡ evaluateM (was f) (was x) (was values) second at ⌝ }
 {
     let kind = byte_at(f, at as usize);
@@ -119,7 +120,7 @@ pub fn predicate_size(f: &[u8], at: u32) -> u32
 }
 
 // The predicates in the list at a position.
-pub fn evaluate_all(f: &[u8], x: &[u32; 436], values: &[u32; 32], second: u32, at: u32) -> Judged
+pub fn evaluate_all(f: &[u8], x: &Table, values: &[u32; 32], second: u32, at: u32) -> Judged
     ensures { λ r. ⌜ r ≡ allM (was f) (was x) (was values) second at ⌝ }
 {
     let mut left = two_at(f, at as usize);
@@ -137,7 +138,7 @@ pub fn evaluate_all(f: &[u8], x: &[u32; 436], values: &[u32; 32], second: u32, a
 fn admits(p: u32, v: u32) -> bool
     ensures { λ r. ⌜ r ≡ admitsM p v ⌝ }
 {
-    if p == 65535 {
+    if p == layout::NO_PLACE {
         return true;
     }
     p == v
@@ -147,7 +148,7 @@ fn admits(p: u32, v: u32) -> bool
 pub fn matches(f: &[u8], at: u32, m: Move) -> bool
     ensures { λ r. ⌜ r ≡ matchesM (was f) m at ⌝ }
 {
-    if two_at(f, at as usize + 14) != 65535 {
+    if two_at(f, at as usize + 14) != layout::NO_PLACE {
         return false;
     }
     if two_at(f, at as usize) != m.entity {
@@ -195,7 +196,7 @@ pub enum Branch {
     Skip(u32),
 }
 
-fn branch_at(f: &[u8], x: &[u32; 436], values: &[u32; 32], second: u32, at: u32) -> Branch
+fn branch_at(f: &[u8], x: &Table, values: &[u32; 32], second: u32, at: u32) -> Branch
     ensures { λ r. ⌜ r ≡ branchM (was f) (was x) (was values) second at ⌝ }
 {
     let judged = evaluate_all(f, x, values, second, at);
@@ -205,14 +206,14 @@ fn branch_at(f: &[u8], x: &[u32; 436], values: &[u32; 32], second: u32, at: u32)
         Truth::Yes => Branch::Take(next),
         Truth::Unknown => Branch::Unclear,
         Truth::No => {
-            let w = model_walk::actions_at(f, x[9], 17, next as usize, 0);
+            let w = model_walk::actions_at(f, x[layout::TEXT_COUNT], 17, next as usize, 0);
             Branch::Skip(end_of(w, next))
         }
     }
 }
 
 // The list that the choice at a position takes.
-pub fn select(f: &[u8], x: &[u32; 436], values: &[u32; 32], second: u32, at: u32) -> Branch
+pub fn select(f: &[u8], x: &Table, values: &[u32; 32], second: u32, at: u32) -> Branch
     ensures { λ r. ⌜ r ≡ selectM (was f) (was x) (was values) second at ⌝ }
 {
     let mut left = two_at(f, at as usize);
@@ -287,7 +288,7 @@ fn effect_at(f: &[u8], kind: u32, at: u32) -> Effect
 }
 
 // The position after an effect of this kind.
-fn after_effect(f: &[u8], x: &[u32; 436], kind: u32, at: u32) -> u32
+fn after_effect(f: &[u8], x: &Table, kind: u32, at: u32) -> u32
     ensures { λ r. ⌜ r ≡ afterM (was f) (was x) kind at ⌝ }
 {
     if kind == 1 {
@@ -297,7 +298,7 @@ fn after_effect(f: &[u8], x: &[u32; 436], kind: u32, at: u32) -> u32
         return after(at, predicate_size(f, at));
     }
     if kind == 4 {
-        let w = model_walk::choice_at(f, x[9], 17, at as usize, 0);
+        let w = model_walk::choice_at(f, x[layout::TEXT_COUNT], 17, at as usize, 0);
         return end_of(w, at);
     }
     if kind == 5 {
@@ -310,7 +311,7 @@ fn after_effect(f: &[u8], x: &[u32; 436], kind: u32, at: u32) -> u32
 }
 
 // The action at a position.
-pub fn action_at(f: &[u8], x: &[u32; 436], at: u32) -> Action
+pub fn action_at(f: &[u8], x: &Table, at: u32) -> Action
     ensures { λ r. ⌜ r ≡ actionM (was f) (was x) at ⌝ }
 {
     let kind = byte_at(f, at as usize + 8);

@@ -3,6 +3,7 @@
 // 10 weekday and 11 second of second 0; from 16 on names, from 48 on expiry, from 80 on automations of 8 words; the rest is
 // zeros.
 // An automation: 0 id, 1 mode, 2 max, and the positions of 3 triggers, 4 conditions, 5 actions, 6 source, 7 notes.
+use layout::Table;
 use reasons::Reason;
 use runs::Place;
 ghost use Rattle.notation.specs.Reference.{was};
@@ -91,7 +92,7 @@ pub fn at_most(n: u32, most: usize) -> usize
 }
 
 // The name of an entity.
-pub fn name_of(x: &[u32; 436], e: usize) -> u32
+pub fn name_of(x: &Table, e: usize) -> u32
     requires { ⌜ e < 32 ⌝ }
     ensures { λ r. ⌜ r ≡ name (was x) e ⌝ }
 {
@@ -99,7 +100,7 @@ pub fn name_of(x: &[u32; 436], e: usize) -> u32
 }
 
 // After how many seconds an entity's value is stale; 4294967295 for never.
-pub fn stale_of(x: &[u32; 436], e: usize) -> u32
+pub fn stale_of(x: &Table, e: usize) -> u32
     requires { ⌜ e < 32 ⌝ }
     ensures { λ r. ⌜ r ≡ stale (was x) e ⌝ }
 {
@@ -107,7 +108,7 @@ pub fn stale_of(x: &[u32; 436], e: usize) -> u32
 }
 
 // A word of an automation.
-pub fn rule_word(x: &[u32; 436], i: usize, k: usize) -> u32
+pub fn rule_word(x: &Table, i: usize, k: usize) -> u32
     requires { ⌜ (i < 32) × (k < 8) ⌝ }
     ensures { λ r. ⌜ r ≡ word (was x) i k ⌝ }
 {
@@ -115,10 +116,10 @@ pub fn rule_word(x: &[u32; 436], i: usize, k: usize) -> u32
 }
 
 // The entity with this name, or 32.
-pub fn entity_of(x: &[u32; 436], id: u32) -> usize
+pub fn entity_of(x: &Table, id: u32) -> usize
     ensures { λ r. ⌜ r ≡ entityOf (was x) id ⌝ }
 {
-    let n = at_most(x[0], 32);
+    let n = at_most(x[layout::ENTITY_COUNT], 32);
     let mut e: usize = 0;
     while e < n {
         if name_of(x, e) == id {
@@ -142,13 +143,13 @@ pub fn text_position(f: &[u8], place: u32) -> u32
 }
 
 // A reason about an automation.
-pub fn about_rule(f: &[u8], x: &[u32; 436], i: usize, kind: u32) -> Reason
+pub fn about_rule(f: &[u8], x: &Table, i: usize, kind: u32) -> Reason
     requires { ⌜ i < 32 ⌝ }
     ensures { λ r. ⌜ r ≡ aboutRule (was f) (was x) i kind ⌝ }
 {
     Reason {
         kind,
-        first: text_position(f, rule_word(x, i, 0)),
+        first: text_position(f, rule_word(x, i, layout::ID)),
         second: reasons::ABSENT,
         line: 0,
         column: 0,

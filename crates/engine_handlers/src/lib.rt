@@ -8,6 +8,7 @@ use engine_state::next_step;
 use engine_trigger::finish;
 use engine_trigger::with_phase;
 use engine_update::update;
+use layout::Table;
 use records::Rule;
 use records::Where;
 use runs::Found;
@@ -36,12 +37,12 @@ fn wait_over(
     }
     let s = w.source;
     if w.continue_on_timeout {
-        let s1 = log_action(a, st, 17, 1, s, run);
+        let s1 = log_action(a, st, records::TIMEOUT, 1, s, run);
         let going = with_phase(run, Phase::Going);
         runs::put_run(r, k, going);
         return next_step(q, s1, run, s1.now);
     }
-    let s2 = log_action(a, st, 17, 0, s, run);
+    let s2 = log_action(a, st, records::TIMEOUT, 0, s, run);
     finish(q, a, r, s2, k)
 }
 
@@ -69,7 +70,7 @@ pub fn time_out(
 }
 
 fn expire(
-    x: &[u32; 436],
+    x: &Table,
     q: &mut [u32],
     a: &mut [u32],
     values: &mut [u32; 32],
@@ -81,13 +82,13 @@ fn expire(
 {
     let from = values[e];
     let entity = engine_fields::name_of(x, e);
-    let to = x[6];
+    let to = x[layout::UNKNOWN];
     let m = Move { entity, from, to };
     values[e] = to;
     let w = Setting {
         entity,
         value: to,
-        kind: 3,
+        kind: records::STALE,
         rule: Rule::NoRule,
         source: Where::Nowhere,
     };
@@ -96,7 +97,7 @@ fn expire(
 }
 
 pub fn go_stale(
-    x: &[u32; 436],
+    x: &Table,
     q: &mut [u32],
     a: &mut [u32],
     values: &mut [u32; 32],
@@ -116,7 +117,7 @@ pub fn go_stale(
     if versions[e] != version {
         return st;
     }
-    if values[e] == x[6] {
+    if values[e] == x[layout::UNKNOWN] {
         return st;
     }
     expire(x, q, a, values, st, e)
@@ -130,11 +131,11 @@ pub fn drop_all(a: &mut [u32], r: &mut [u32], st: State) -> State
     let n = st.live_runs;
     areas::clear(r, 0, n * 28);
     let s1 = engine_state::with_active(st, 0);
-    engine_state::log_plain(a, s1, 4)
+    engine_state::log_plain(a, s1, records::RESTART)
 }
 
 pub fn external(
-    x: &[u32; 436],
+    x: &Table,
     q: &mut [u32],
     a: &mut [u32],
     values: &mut [u32; 32],
@@ -149,7 +150,7 @@ pub fn external(
     let w = Setting {
         entity,
         value,
-        kind: 1,
+        kind: records::EXTERNAL,
         rule: Rule::NoRule,
         source: Where::Nowhere,
     };

@@ -1,5 +1,7 @@
 // What a simulation begins with: the model's events as words, and the values that its entities start with.
 use engine_state::Cells;
+use layout::EventWords;
+use layout::Positions;
 use model_index::Index;
 ghost use Rattle.notation.specs.Reference.{was};
 ghost use mathlib.Core.Path.{_≡_};
@@ -16,7 +18,7 @@ ghost use Rattle.engine_inputs.specs.Inputs.{
 
 // Events of four words: a second, a kind, an entity and a value.
 pub struct Events {
-    pub words: [u32; 400],
+    pub words: EventWords,
 }
 
 // A word of the input at a position. Only an input that sets has places.
@@ -49,7 +51,7 @@ fn event_part(s: &[u8], p: usize, j: usize) -> u32
 }
 
 // The k-th word of the events that stand at these positions.
-fn event_word(s: &[u8], starts: &[usize; 100], k: usize) -> u32
+fn event_word(s: &[u8], starts: &Positions, k: usize) -> u32
     requires { ⌜ k < 400 ⌝ }
     ensures { λ r. ⌜ r ≡ event-from (was s) (was starts) k ⌝ }
 {
@@ -64,7 +66,7 @@ pub fn events_of(s: &[u8], index: Index) -> Events
     let events = index.events;
     let starts = events.starts;
     let n = engine_fields::at_most(events.count, 100);
-    let mut words = [0u32; 400];
+    let mut words = [0u32; layout::EVENT_WORDS];
     let mut k: usize = 0;
     while k < n * 4 {
         words[k] = event_word(s, &starts, k);
@@ -83,7 +85,7 @@ fn initial_at(s: &[u8], p: usize) -> u32
 }
 
 // The e-th of so many entities that stand at these positions.
-fn value_word(s: &[u8], starts: &[usize; 100], count: u32, e: usize) -> u32
+fn value_word(s: &[u8], starts: &Positions, count: u32, e: usize) -> u32
     requires { ⌜ e < 32 ⌝ }
     ensures { λ r. ⌜ r ≡ value-from (was s) (was starts) count e ⌝ }
 {

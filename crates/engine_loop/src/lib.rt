@@ -1,6 +1,7 @@
 // The loop of a simulation, from a table, events and starting values.
 use engine_state::State;
 use engine_state::log_plain;
+use layout::Table;
 use queue::Taken;
 ghost use Rattle.notation.specs.Reference.{was, is};
 ghost use Prim.Native.Nat.{_*_, _≤_};
@@ -14,7 +15,7 @@ ghost use Rattle.engine_state.specs.Machine.{put-now};
 // The next item is taken and worked off.
 fn turn(
     f: &[u8],
-    x: &[u32; 436],
+    x: &Table,
     q: &mut [u32],
     a: &mut [u32],
     r: &mut [u32],
@@ -49,7 +50,7 @@ pub struct Ended {
 
 pub fn run_loop(
     f: &[u8],
-    x: &[u32; 436],
+    x: &Table,
     q: &mut [u32],
     a: &mut [u32],
     r: &mut [u32],
@@ -64,14 +65,14 @@ pub fn run_loop(
         (is values) (was versions) (is versions) (was sequences) (is sequences) ⌝ }
 {
     let mut s = st;
-    let mut left = x[3];
+    let mut left = x[layout::MAX_STEPS];
     let mut stop_reason = engine_schedule::why_stop(x, q, s, left);
     while stop_reason == 4 {
         s = turn(f, x, q, a, r, u, values, versions, sequences, s);
         left -= 1;
         stop_reason = engine_schedule::why_stop(x, q, s, left);
     }
-    let steps = x[3] - left;
+    let steps = x[layout::MAX_STEPS] - left;
     Ended {
         state: s,
         steps,
@@ -81,12 +82,12 @@ pub fn run_loop(
 
 // ---- after the loop
 
-fn horizon_reached(x: &[u32; 436], a: &mut [u32], st: State) -> State
+fn horizon_reached(x: &Table, a: &mut [u32], st: State) -> State
     requires { ⌜ st .records * 13 ≤ length (now a) ⌝ }
     ensures { λ r. ⌜ Does (horizonM (was x)) st r kept (by a) kept still ⌝ }
 {
-    let s = at_now(st, x[2]);
-    log_plain(a, s, 9)
+    let s = at_now(st, x[layout::HORIZON]);
+    log_plain(a, s, records::HORIZON)
 }
 
 fn at_now(st: State, second: u32) -> State
@@ -98,7 +99,7 @@ fn at_now(st: State, second: u32) -> State
 }
 
 // A simulation that reached the horizon with no run left says so.
-pub fn closed(x: &[u32; 436], a: &mut [u32], d: Ended) -> Ended
+pub fn closed(x: &Table, a: &mut [u32], d: Ended) -> Ended
     requires { ⌜ d .state .records * 13 ≤ length (now a) ⌝ }
     ensures { λ e. ⌜ Closes (was x) d e (was a) (is a) ⌝ }
 {

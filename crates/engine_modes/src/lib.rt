@@ -3,6 +3,7 @@ use engine_fields::rule_word;
 use engine_state::State;
 use engine_state::log_rule;
 use engine_state::next_step;
+use layout::Table;
 use runs::Phase;
 use runs::Run;
 ghost use Rattle.notation.specs.Reference.{was};
@@ -12,7 +13,7 @@ ghost use Rattle.engine_state.specs.Steps.{Moves, kept, still, Fits-ar, Fits-qa
 ghost use Rattle.engine_modes.specs.Modes.{newRun, begin-nowM, begin-laterM, stop-startM, decideM, carry-outM};
 
 // A run of the i-th automation, where so many runs were made.
-fn new_run(f: &[u8], x: &[u32; 436], sequences: &[u32; 32], made: u32, i: usize, later: bool) -> Run
+fn new_run(f: &[u8], x: &Table, sequences: &[u32; 32], made: u32, i: usize, later: bool) -> Run
     requires { ⌜ i < 32 ⌝ }
     ensures { λ r. ⌜ r ≡ newRun (was f) (was x) i later made (was sequences) ⌝ }
 {
@@ -27,12 +28,12 @@ fn new_run(f: &[u8], x: &[u32; 436], sequences: &[u32; 32], made: u32, i: usize,
         depth: 0,
         places: [0u32; 17],
     };
-    engine_evaluate::with_list(f, run, rule_word(x, i, 5))
+    engine_evaluate::with_list(f, run, rule_word(x, i, layout::ACTIONS))
 }
 
 fn begin_now(
     f: &[u8],
-    x: &[u32; 436],
+    x: &Table,
     q: &mut [u32],
     a: &mut [u32],
     r: &mut [u32],
@@ -45,13 +46,13 @@ fn begin_now(
 {
     let run = new_run(f, x, sequences, st.runs_created, i, false);
     let s1 = engine_state::add_run(r, sequences, st, i, run);
-    let s2 = log_rule(a, s1, 12, run.number, run.automation);
+    let s2 = log_rule(a, s1, records::START, run.number, run.automation);
     next_step(q, s2, run, s2.now)
 }
 
 fn begin_later(
     f: &[u8],
-    x: &[u32; 436],
+    x: &Table,
     a: &mut [u32],
     r: &mut [u32],
     sequences: &mut [u32; 32],
@@ -63,7 +64,7 @@ fn begin_later(
 {
     let run = new_run(f, x, sequences, st.runs_created, i, true);
     let s1 = engine_state::add_run(r, sequences, st, i, run);
-    log_rule(a, s1, 13, run.number, run.automation)
+    log_rule(a, s1, records::QUEUED, run.number, run.automation)
 }
 
 pub enum Decision {
@@ -102,7 +103,7 @@ fn decide(mode: u32, max: u32, running: usize) -> Decision
 // The automation's runs are dropped, and one begins.
 fn stop_and_start(
     f: &[u8],
-    x: &[u32; 436],
+    x: &Table,
     q: &mut [u32],
     a: &mut [u32],
     r: &mut [u32],
@@ -115,14 +116,14 @@ fn stop_and_start(
 {
     let left = runs::drop_runs(r, st.live_runs, i as u32);
     let s1 = engine_state::with_active(st, left);
-    let s2 = log_rule(a, s1, 5, 0, i as u32);
+    let s2 = log_rule(a, s1, records::CANCEL, 0, i as u32);
     begin_now(f, x, q, a, r, sequences, s2, i)
 }
 
 // The automation is to run.
 pub fn carry_out(
     f: &[u8],
-    x: &[u32; 436],
+    x: &Table,
     q: &mut [u32],
     a: &mut [u32],
     r: &mut [u32],
@@ -134,10 +135,14 @@ pub fn carry_out(
     ensures { λ s. ⌜ Moves (carry-outM (was f) (was x) i) st s (by q) (by a) (by r) still kept kept (by sequences) ⌝ }
 {
     let running = runs::count_runs(r, st.live_runs, i as u32);
-    let d = decide(rule_word(x, i, 1), rule_word(x, i, 2), running);
+    let d = decide(
+        rule_word(x, i, layout::MODE),
+        rule_word(x, i, layout::MAX),
+        running,
+    );
     match d {
-        Decision::AlreadyRunning => log_rule(a, st, 6, 0, i as u32),
-        Decision::MaxReached => log_rule(a, st, 7, 0, i as u32),
+        Decision::AlreadyRunning => log_rule(a, st, records::SINGLE_RUNNING, 0, i as u32),
+        Decision::MaxReached => log_rule(a, st, records::MAX_REACHED, 0, i as u32),
         Decision::Start => begin_now(f, x, q, a, r, sequences, st, i),
         Decision::StopAndStart => stop_and_start(f, x, q, a, r, sequences, st, i),
         Decision::WaitInLine => begin_later(f, x, a, r, sequences, st, i),

@@ -54,7 +54,7 @@ fn id_note(f: &[u8], id: u32, note: u32) -> Reason
 fn note_of(f: &[u8], id: u32, note: u32) -> Reason
     ensures { λ r. ⌜ r ≡ noteOf (was f) id note ⌝ }
 {
-    if id == 65535 {
+    if id == layout::NO_PLACE {
         return engine_fields::note_reason(f, note);
     }
     id_note(f, id, note)
@@ -75,7 +75,7 @@ fn add_note(f: &[u8], u: &mut [u32], id: u32, note: u32, n: usize) -> usize
     requires { ⌜ 1500 ≤ length (now u) ⌝ }
     ensures { λ k. ⌜ Makes (add-noteM (was f) id note) (was f) n (was u) k (is u) ⌝ }
 {
-    if note == 65535 {
+    if note == layout::NO_PLACE {
         return n;
     }
     let r = note_of(f, id, note);

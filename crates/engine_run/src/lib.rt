@@ -2,6 +2,7 @@
 use engine_loop::Ended;
 use engine_state::Cells;
 use engine_state::State;
+use layout::Table;
 ghost use Rattle.notation.specs.Reference.{was, is};
 ghost use mathlib.Core.Path.{_≡_};
 ghost use Prim.Native.Nat.{_+_, _*_, _≤_, _<_};
@@ -12,7 +13,7 @@ ghost use Rattle.engine_run.specs.Run.{Clears, Wholly, start-of, refusal
 // All of the loop, with what begins and what closes it.
 fn run_all(
     f: &[u8],
-    x: &[u32; 436],
+    x: &Table,
     events: &[u32],
     count: usize,
     q: &mut [u32],
@@ -110,7 +111,7 @@ fn clear_runs(r: &mut [u32], n: usize)
 // After it queue and runs are cleared, and the records too if an area was full.
 pub fn simulated(
     f: &[u8],
-    x: &[u32; 436],
+    x: &Table,
     events: &[u32],
     count: usize,
     cells: Cells,

@@ -3,6 +3,7 @@ use engine_fields::at_most;
 use engine_state::State;
 use engine_state::add;
 use engine_state::log_plain;
+use layout::Table;
 use queue::Taken;
 use queue::Work;
 ghost use Rattle.notation.specs.Reference.{was};
@@ -22,7 +23,7 @@ pub enum Next {
 }
 
 // Whether the next item is taken: not after the horizon, and not where records or items are too many.
-fn next_of(x: &[u32; 436], q: &[u32], st: State) -> Next
+fn next_of(x: &Table, q: &[u32], st: State) -> Next
     requires { ⌜ Fits-q st (now q) ⌝ }
     ensures { λ r. ⌜ Seen (nextM (was x)) (was q) st r ⌝ }
 {
@@ -36,7 +37,7 @@ fn next_of(x: &[u32; 436], q: &[u32], st: State) -> Next
     if 20000 < st.items {
         return Next::Space;
     }
-    if x[2] < it.second {
+    if x[layout::HORIZON] < it.second {
         return Next::Stop;
     }
     Next::Take
@@ -44,7 +45,7 @@ fn next_of(x: &[u32; 436], q: &[u32], st: State) -> Next
 
 // 4 where the loop takes the next item, or why it ends: 0 nothing left before the horizon, 1 space, 2 steps, 3 an area is
 // full.
-pub fn why_stop(x: &[u32; 436], q: &[u32], st: State, left: u32) -> u32
+pub fn why_stop(x: &Table, q: &[u32], st: State, left: u32) -> u32
     requires { ⌜ Fits-q st (now q) ⌝ }
     ensures { λ r. ⌜ Why (was x) left (was q) st r ⌝ }
 {
@@ -113,12 +114,12 @@ fn add_events(events: &[u32], count: usize, q: &mut [u32], st: State) -> State
     s
 }
 
-fn add_expiries(x: &[u32; 436], q: &mut [u32], versions: &[u32; 32], st: State) -> State
+fn add_expiries(x: &Table, q: &mut [u32], versions: &[u32; 32], st: State) -> State
     requires { ⌜ Fits-q st (now q) ⌝ }
     ensures { λ r. ⌜ Moves (add-expiriesM (was x)) st r (by q) kept kept still kept (goes (was versions) (was versions))
         kept ⌝ }
 {
-    let n = at_most(x[0], 32);
+    let n = at_most(x[layout::ENTITY_COUNT], 32);
     let mut s = st;
     let mut e: usize = 0;
     while e < n {
@@ -129,7 +130,7 @@ fn add_expiries(x: &[u32; 436], q: &mut [u32], versions: &[u32; 32], st: State) 
 }
 
 pub fn begun(
-    x: &[u32; 436],
+    x: &Table,
     events: &[u32],
     count: usize,
     q: &mut [u32],
@@ -141,7 +142,7 @@ pub fn begun(
     ensures { λ r. ⌜ Moves (begunM (was x) (was events) count) st r (by q) (by a) kept still kept
         (goes (was versions) (was versions)) kept ⌝ }
 {
-    let s1 = log_plain(a, st, 0);
+    let s1 = log_plain(a, st, records::INITIAL);
     let s2 = add_events(events, count, q, s1);
     add_expiries(x, q, versions, s2)
 }

@@ -1,4 +1,5 @@
 // The answer of `simulate`, from what a run tells.
+use layout::SimulationReasons;
 ghost use Rattle.notation.specs.Reference.{was, is};
 ghost use mathlib.Core.Path.{_≡_};
 ghost use Prim.Native.Nat.{_*_, _≤_};
@@ -17,7 +18,7 @@ pub struct Simulation {
     pub horizon: u32,
     pub values: [u32; 32],
     pub unknown: usize,
-    pub reasons: [u32; 1500],
+    pub reasons: SimulationReasons,
     pub stop_reason: u32,
     pub runs_left: bool,
 }
@@ -32,7 +33,7 @@ pub fn refused(number: u32) -> Simulation
         horizon: 0,
         values: [0u32; 32],
         unknown: 0,
-        reasons: [0u32; 1500],
+        reasons: [0u32; layout::SIMULATION_REASONS],
         stop_reason: 0,
         runs_left: false,
     }
@@ -89,10 +90,10 @@ pub fn summed(s: engine_run::Simulation, entities: usize, horizon: u32) -> Summa
 }
 
 // A refusal is nothing but its number; the words of the reasons are cleared.
-pub fn refused_summary(number: u32, words: &mut [u32; 1500]) -> Summary
+pub fn refused_summary(number: u32, words: &mut SimulationReasons) -> Summary
     ensures { λ r. ⌜ simulation-of r (is words) ≡ no-simulation number ⌝ }
 {
-    *words = [0u32; 1500];
+    *words = [0u32; layout::SIMULATION_REASONS];
     Summary {
         refused: number,
         steps: 0,
@@ -106,7 +107,7 @@ pub fn refused_summary(number: u32, words: &mut [u32; 1500]) -> Summary
 }
 
 // What a simulation answers.
-pub fn settled(b: Summary, words: &mut [u32; 1500]) -> Summary
+pub fn settled(b: Summary, words: &mut SimulationReasons) -> Summary
     ensures { λ r. ⌜ Answered (simulation-of b (was words)) (simulation-of r (is words)) ⌝ }
 {
     if b.refused != 0 {
@@ -116,7 +117,7 @@ pub fn settled(b: Summary, words: &mut [u32; 1500]) -> Summary
 }
 
 // The answer as one value, with the words of its reasons.
-pub fn with_reasons(b: Summary, words: &[u32; 1500]) -> Simulation
+pub fn with_reasons(b: Summary, words: &SimulationReasons) -> Simulation
     ensures { λ r. ⌜ r ≡ simulation-of b (was words) ⌝ }
 {
     let values = b.values;

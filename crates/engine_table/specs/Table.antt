@@ -1,4 +1,4 @@
--- The table that the engine goes by: what each of its 436 words is, from the file s and its index.
+-- The table that the engine goes by: what each of its 336 words is, from the file s and its index.
 use Prim.Native.Nat.{ℕ, _+_, _-_, _*_, _/_, _%_, _<_}
 use mathlib.Core.Path.{_≡_}
 use mathlib.Core.List.{List}
@@ -91,7 +91,7 @@ table-word s i k =
     if ltb k 16 then head-word s i k else part-word (i .texts .count) s (i .entities .starts) (i .rules .starts) k
 
 pub record Headed (s : List ℕ) (i : Index) (x : List ℕ) : Type 0 where
-  pub long : length x ≡ 436
+  pub long : length x ≡ 336
   pub words : (k : ℕ) → k < 16 → getD x k 0 ≡ head-word s i k
 
 -- the table of the index, up to the last automation

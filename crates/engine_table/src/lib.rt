@@ -1,4 +1,6 @@
-// The table that the engine goes by: 436 words of the file and its index.
+// The table that the engine goes by: words of the file and its index (crate layout).
+use layout::Positions;
+use layout::Table;
 use model_index::Index;
 use model_walk::Piece;
 use model_walk::Walked;
@@ -22,10 +24,6 @@ ghost use Rattle.engine_table.specs.Table.{
   Headed,
   TableOf,
 };
-
-pub struct Table {
-    pub words: [u32; 436],
-}
 
 // Where a walk ended.
 fn end_of(w: Walked, at: usize) -> usize
@@ -77,25 +75,25 @@ fn rule_word(s: &[u8], texts: u32, p: usize, k: usize) -> u32
     requires { ⌜ p ≤ 4294967295 ⌝ }
     ensures { λ r. ⌜ r ≡ rule-word texts (was s) p k ⌝ }
 {
-    if k == 0 {
+    if k == layout::ID {
         return engine_fields::two_at(s, p);
     }
-    if k == 1 {
+    if k == layout::MODE {
         return engine_fields::byte_at(s, p + 2);
     }
-    if k == 2 {
+    if k == layout::MAX {
         return engine_fields::four_at(s, p + 3);
     }
-    if k == 3 {
+    if k == layout::TRIGGERS {
         return engine_fields::capped(p + 7);
     }
-    if k == 4 {
+    if k == layout::CONDITIONS {
         return engine_fields::capped(conditions_at(s, p));
     }
-    if k == 5 {
+    if k == layout::ACTIONS {
         return engine_fields::capped(actions_at(s, texts, p));
     }
-    if k == 6 {
+    if k == layout::SOURCE {
         return engine_fields::capped(source_at(s, texts, p));
     }
     notes_word(s, texts, p)
@@ -139,41 +137,41 @@ fn head_word(s: &[u8], index: Index, k: usize) -> u32
     if k < 2 {
         return count_word(index, k);
     }
-    if k == 2 {
+    if k == layout::HORIZON {
         return number_at(s, index.limits, 0);
     }
-    if k == 3 {
+    if k == layout::MAX_STEPS {
         return number_at(s, index.limits, 4);
     }
     if k < 8 {
         return fixed_word(s, index, k);
     }
-    if k == 10 {
+    if k == layout::START_WEEKDAY {
         return start_word(s, index, 0);
     }
-    if k == 11 {
+    if k == layout::START_SECOND {
         return start_word(s, index, 4);
     }
     count_word(index, k)
 }
 
-// The counts: 0 entities, 1 automations, 8 events, 9 texts.
+// The counts: entities, automations, events, texts.
 fn count_word(index: Index, k: usize) -> u32
     ensures { λ r. ⌜ r ≡ count-word index k ⌝ }
 {
-    if k == 0 {
+    if k == layout::ENTITY_COUNT {
         let entities = index.entities;
         return entities.count;
     }
-    if k == 1 {
+    if k == layout::AUTOMATION_COUNT {
         let rules = index.rules;
         return rules.count;
     }
-    if k == 8 {
+    if k == layout::EVENT_COUNT {
         let events = index.events;
         return events.count;
     }
-    if k == 9 {
+    if k == layout::TEXT_COUNT {
         let texts = index.texts;
         return texts.count;
     }
@@ -186,51 +184,52 @@ fn fixed_word(s: &[u8], index: Index, k: usize) -> u32
 {
     let texts = index.texts;
     let count = texts.count;
-    if k == 4 {
+    if k == layout::ON {
         return model_order::place_of(s, b"on", count);
     }
-    if k == 5 {
+    if k == layout::OFF {
         return model_order::place_of(s, b"off", count);
     }
-    if k == 6 {
+    if k == layout::UNKNOWN {
         return model_order::place_of(s, b"unknown", count);
     }
     model_order::place_of(s, b"unavailable", count)
 }
 
 // The words of entities and automations that stand at these positions.
-fn part_word(s: &[u8], texts: u32, names: &[usize; 100], rules: &[usize; 100], k: usize) -> u32
+fn part_word(s: &[u8], texts: u32, names: &Positions, rules: &Positions, k: usize) -> u32
     requires { ⌜ (16 ≤ k) × (k < 336) ⌝ }
     ensures { λ r. ⌜ r ≡ part-word texts (was s) (was names) (was rules) k ⌝ }
 {
-    if k < 48 {
-        let p = engine_fields::capped(names[k - 16]) as usize;
+    if k < layout::ENTITY_STALE {
+        let p = engine_fields::capped(names[k - layout::HEAD_WORDS]) as usize;
         return engine_fields::two_at(s, p);
     }
-    if k < 80 {
-        let q = engine_fields::capped(names[k - 48]) as usize;
+    if k < layout::AUTOMATIONS {
+        let q = engine_fields::capped(names[k - layout::ENTITY_STALE]) as usize;
         return stale_at(s, q);
     }
-    let t = engine_fields::capped(rules[(k - 80) / 8]) as usize;
-    rule_word(s, texts, t, (k - 80) % 8)
+    let word = k - layout::AUTOMATIONS;
+    let t = engine_fields::capped(rules[word / layout::AUTOMATION_WORDS]) as usize;
+    rule_word(s, texts, t, word % layout::AUTOMATION_WORDS)
 }
 
 // A table with its first 16 words.
 fn headed(s: &[u8], index: Index) -> Table
-    ensures { λ r. ⌜ Headed (was s) index (r .words) ⌝ }
+    ensures { λ r. ⌜ Headed (was s) index r ⌝ }
 {
-    let mut words = [0u32; 436];
+    let mut words = [0u32; layout::TABLE];
     let mut k: usize = 0;
-    while k < 16 {
+    while k < layout::HEAD_WORDS {
         words[k] = head_word(s, index, k);
         k += 1;
     }
-    Table { words }
+    words
 }
 
 // The table of a file and its index, up to the last automation; then zeros.
 pub fn table_of(s: &[u8], index: Index) -> Table
-    ensures { λ r. ⌜ TableOf (was s) index (r .words) ⌝ }
+    ensures { λ r. ⌜ TableOf (was s) index r ⌝ }
 {
     let entities = index.entities;
     let names = entities.starts;
@@ -239,12 +238,11 @@ pub fn table_of(s: &[u8], index: Index) -> Table
     let texts = index.texts;
     let count = texts.count;
     let n = engine_fields::at_most(automations.count, 32);
-    let t = headed(s, index);
-    let mut words = t.words;
-    let mut k: usize = 16;
-    while k < 80 + n * 8 {
+    let mut words = headed(s, index);
+    let mut k = layout::HEAD_WORDS;
+    while k < layout::AUTOMATIONS + n * layout::AUTOMATION_WORDS {
         words[k] = part_word(s, count, &names, &rules, k);
         k += 1;
     }
-    Table { words }
+    words
 }

@@ -7,6 +7,7 @@ use engine_state::Told;
 use engine_state::log;
 use engine_state::log_rule;
 use engine_state::next_step;
+use layout::Table;
 use records::Change;
 use records::Rule;
 use records::Where;
@@ -71,7 +72,7 @@ pub fn finish(q: &mut [u32], a: &mut [u32], r: &mut [u32], st: State, k: usize) 
     let run = runs::run_at(r, k);
     runs::take_run(r, n, k);
     let s1 = engine_state::with_active(st, n - 1);
-    let s2 = log_rule(a, s1, 14, run.number, run.automation);
+    let s2 = log_rule(a, s1, records::COMPLETE, run.number, run.automation);
     release(q, r, s2, run.automation)
 }
 
@@ -112,7 +113,7 @@ fn wake(f: &[u8], q: &mut [u32], r: &mut [u32], st: State, m: Move) -> State
 // The automation was triggered, and its conditions have this verdict.
 fn admit(
     f: &[u8],
-    x: &[u32; 436],
+    x: &Table,
     q: &mut [u32],
     a: &mut [u32],
     r: &mut [u32],
@@ -128,7 +129,7 @@ fn admit(
 {
     match t {
         Truth::Yes => {
-            let notes = rule_word(x, i, 7);
+            let notes = rule_word(x, i, layout::NOTES);
             if engine_fields::two_at(f, notes as usize) == 0 {
                 return engine_modes::carry_out(f, x, q, a, r, sequences, st, i);
             }
@@ -142,18 +143,21 @@ fn admit(
     }
 }
 
-fn log_trigger(f: &[u8], x: &[u32; 436], a: &mut [u32], st: State, i: usize, t: Truth) -> State
+fn log_trigger(f: &[u8], x: &Table, a: &mut [u32], st: State, i: usize, t: Truth) -> State
     requires { ⌜ (i < 32) × (st .records * 13 ≤ length (now a)) ⌝ }
     ensures { λ s. ⌜ Does (log-triggerM (was f) (was x) i t) st s kept (by a) kept still ⌝ }
 {
-    let at = rule_word(x, i, 6) as usize;
+    let at = rule_word(x, i, layout::SOURCE) as usize;
     let line = engine_fields::four_at(f, at);
     let column = engine_fields::four_at(f, at + 4);
     let detail = engine_evaluate::number_of(t);
     log(
         a,
         st,
-        Told { kind: 10, detail },
+        Told {
+            kind: records::TRIGGER,
+            detail,
+        },
         Rule::Of(i as u32),
         Where::From { line, column },
         Change::NoChange,
@@ -163,7 +167,7 @@ fn log_trigger(f: &[u8], x: &[u32; 436], a: &mut [u32], st: State, i: usize, t: 
 // An automation sees a change.
 fn offer(
     f: &[u8],
-    x: &[u32; 436],
+    x: &Table,
     q: &mut [u32],
     a: &mut [u32],
     r: &mut [u32],
@@ -178,8 +182,14 @@ fn offer(
     ensures { λ s. ⌜ Moves (offerM (was f) (was x) m i) st s (by q) (by a) (by r) (told (was f) (was u) (is u))
         (goes (was values) (was values)) kept (by sequences) ⌝ }
 {
-    if engine_evaluate::any_matches(f, rule_word(x, i, 3), m) {
-        let judged = engine_evaluate::evaluate_all(f, x, values, st.now, rule_word(x, i, 4));
+    if engine_evaluate::any_matches(f, rule_word(x, i, layout::TRIGGERS), m) {
+        let judged = engine_evaluate::evaluate_all(
+            f,
+            x,
+            values,
+            st.now,
+            rule_word(x, i, layout::CONDITIONS),
+        );
         let t = judged.truth;
         let s1 = log_trigger(f, x, a, st, i, t);
         return admit(f, x, q, a, r, u, sequences, s1, i, t);
@@ -190,7 +200,7 @@ fn offer(
 // A change wakes runs and sets off automations.
 pub fn trigger(
     f: &[u8],
-    x: &[u32; 436],
+    x: &Table,
     q: &mut [u32],
     a: &mut [u32],
     r: &mut [u32],
@@ -204,7 +214,7 @@ pub fn trigger(
     ensures { λ s. ⌜ Moves (triggerM (was f) (was x) m) st s (by q) (by a) (by r) (told (was f) (was u) (is u))
         (goes (was values) (was values)) kept (by sequences) ⌝ }
 {
-    let n = engine_fields::at_most(x[1], 32);
+    let n = engine_fields::at_most(x[layout::AUTOMATION_COUNT], 32);
     let mut s = wake(f, q, r, st, m);
     let mut i: usize = 0;
     while i < n {

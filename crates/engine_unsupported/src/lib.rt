@@ -3,6 +3,7 @@
 // 300.
 use engine_notes::Noted;
 use engine_notes::Part;
+use layout::Table;
 use model_walk::Num;
 use reasons::Reason;
 ghost use Rattle.notation.specs.Reference.{was, is};
@@ -103,7 +104,7 @@ fn wait_note(f: &[u8], u: &mut [u32], at: usize, n: usize) -> Noted
     requires { ⌜ 1500 ≤ length (now u) ⌝ }
     ensures { λ r. ⌜ Lists waitM (was f) at n (was u) r (is u) ⌝ }
 {
-    let d = engine_notes::trigger_note(f, u, 65535, at, n);
+    let d = engine_notes::trigger_note(f, u, layout::NO_PLACE, at, n);
     let k = d.count;
     let p = d.next;
     let q = engine_notes::skip(f, 5, p);
@@ -118,7 +119,7 @@ fn simple_note(f: &[u8], u: &mut [u32], h: Head, n: usize) -> Noted
     let kind = h.kind;
     let at = h.next;
     if kind == 3 {
-        return engine_notes::predicate_note(f, u, 65535, at, n);
+        return engine_notes::predicate_note(f, u, layout::NO_PLACE, at, n);
     }
     if kind == 5 {
         return wait_note(f, u, at, n);
@@ -185,7 +186,7 @@ fn choice_notes(f: &[u8], u: &mut [u32], left: usize, at: usize, n: usize) -> No
     let mut p = start;
     let mut k = n;
     while 0 < i {
-        let d = engine_notes::part_notes(f, u, Part::Predicate, 65535, p, k);
+        let d = engine_notes::part_notes(f, u, Part::Predicate, layout::NO_PLACE, p, k);
         let e = actions_notes(f, u, left, d.next, d.count);
         p = e.next;
         k = e.count;
@@ -197,14 +198,14 @@ fn choice_notes(f: &[u8], u: &mut [u32], left: usize, at: usize, n: usize) -> No
 // ---- automations
 
 // The notes of the i-th automation, of its triggers and of its conditions: they stand behind its identifier.
-fn own_notes(f: &[u8], x: &[u32; 436], u: &mut [u32], i: usize, n: usize) -> usize
+fn own_notes(f: &[u8], x: &Table, u: &mut [u32], i: usize, n: usize) -> usize
     requires { ⌜ (1500 ≤ length (now u)) × (i < 32) ⌝ }
     ensures { λ k. ⌜ Makes (ownM (was f) (was x) i) (was f) n (was u) k (is u) ⌝ }
 {
-    let id = engine_fields::rule_word(x, i, 0);
-    let notes = engine_fields::rule_word(x, i, 7) as usize;
-    let triggers = engine_fields::rule_word(x, i, 3) as usize;
-    let conditions = engine_fields::rule_word(x, i, 4) as usize;
+    let id = engine_fields::rule_word(x, i, layout::ID);
+    let notes = engine_fields::rule_word(x, i, layout::NOTES) as usize;
+    let triggers = engine_fields::rule_word(x, i, layout::TRIGGERS) as usize;
+    let conditions = engine_fields::rule_word(x, i, layout::CONDITIONS) as usize;
     let a = engine_notes::part_notes(f, u, Part::Note, id, notes, n);
     let b = engine_notes::part_notes(f, u, Part::Trigger, id, triggers, a.count);
     let c = engine_notes::part_notes(f, u, Part::Predicate, id, conditions, b.count);
@@ -212,11 +213,11 @@ fn own_notes(f: &[u8], x: &[u32; 436], u: &mut [u32], i: usize, n: usize) -> usi
 }
 
 // All notes of the i-th automation.
-pub fn rule_notes(f: &[u8], x: &[u32; 436], u: &mut [u32], i: usize, n: usize) -> usize
+pub fn rule_notes(f: &[u8], x: &Table, u: &mut [u32], i: usize, n: usize) -> usize
     requires { ⌜ (1500 ≤ length (now u)) × (i < 32) ⌝ }
     ensures { λ k. ⌜ Makes (ruleM (was f) (was x) i) (was f) n (was u) k (is u) ⌝ }
 {
-    let actions = engine_fields::rule_word(x, i, 5) as usize;
+    let actions = engine_fields::rule_word(x, i, layout::ACTIONS) as usize;
     let k = own_notes(f, x, u, i, n);
     let d = actions_notes(f, u, 18, actions, k);
     d.count
@@ -224,11 +225,11 @@ pub fn rule_notes(f: &[u8], x: &[u32; 436], u: &mut [u32], i: usize, n: usize) -
 
 // The notes of the automations as reasons, sorted as rendered, each once; the answer is how many there are. The area comes
 // with zeros.
-pub fn unsupported(f: &[u8], x: &[u32; 436], u: &mut [u32]) -> usize
+pub fn unsupported(f: &[u8], x: &Table, u: &mut [u32]) -> usize
     requires { ⌜ (1500 ≤ length (now u)) × ((i : ℕ) → getD (now u) i 0 ≡ 0) ⌝ }
     ensures { λ k. ⌜ Holds (was f) (unsupportedM (was f) (was x)) k (is u) ⌝ }
 {
-    let rules = engine_fields::at_most(x[1], 32);
+    let rules = engine_fields::at_most(x[layout::AUTOMATION_COUNT], 32);
     let mut k: usize = 0;
     let mut i: usize = 0;
     while i < rules {

@@ -5,6 +5,7 @@ use engine_state::Setting;
 use engine_state::State;
 use engine_state::add;
 use engine_state::after;
+use layout::Table;
 use queue::Work;
 ghost use Rattle.notation.specs.Reference.{was};
 ghost use Prim.Native.Nat.{_<_};
@@ -12,7 +13,7 @@ ghost use Rattle.engine_state.specs.Steps.{Moves, Does, goes, kept, still, Fits
 ghost use Rattle.engine_update.specs.Update.{expiryM, changedM, updateM};
 
 // The entity's value will be stale.
-pub fn expiry(x: &[u32; 436], q: &mut [u32], versions: &[u32; 32], st: State, e: usize) -> State
+pub fn expiry(x: &Table, q: &mut [u32], versions: &[u32; 32], st: State, e: usize) -> State
     requires { ⌜ (e < 32) × Fits-q st (now q) ⌝ }
     ensures { λ r. ⌜ Moves (expiryM (was x) e) st r (by q) kept kept still kept (goes (was versions) (was versions)) kept ⌝ }
 {
@@ -48,7 +49,7 @@ pub fn changed(q: &mut [u32], st: State, m: Move) -> State
 
 // A write, and what follows from it.
 pub fn update(
-    x: &[u32; 436],
+    x: &Table,
     q: &mut [u32],
     a: &mut [u32],
     values: &mut [u32; 32],

@@ -1,6 +1,7 @@
 // Windows of the day: whether the window at a position of the file is open at a second of the simulation.
 use engine_fields::byte_at;
 use engine_fields::four_at;
+use layout::Table;
 ghost use Rattle.notation.specs.Reference.{was};
 ghost use mathlib.Core.Path.{_≡_};
 ghost use Prim.Native.Nat.{_<_};
@@ -67,11 +68,11 @@ fn second_after(weekday: u32, second: u32, n: u32) -> u32
 }
 
 // The window at a position, so many seconds after the table's start.
-pub fn open_at(f: &[u8], x: &[u32; 436], n: u32, at: u32) -> bool
+pub fn open_at(f: &[u8], x: &Table, n: u32, at: u32) -> bool
     ensures { λ r. ⌜ r ≡ openM (was f) (was x) n at ⌝ }
 {
-    let weekday = weekday_after(x[10], x[11], n);
-    let second = second_after(x[10], x[11], n);
+    let weekday = weekday_after(x[layout::START_WEEKDAY], x[layout::START_SECOND], n);
+    let second = second_after(x[layout::START_WEEKDAY], x[layout::START_SECOND], n);
     let p = at as usize;
     is_open(
         byte_at(f, p + 1),

@@ -1,5 +1,7 @@
 // What an automation reads and writes: sets of declared entities, by their number in the file. The positions of the model's
 // `many` entities are lent.
+use layout::ActionPositions;
+use layout::Positions;
 ghost use Rattle.notation.specs.Reference.{was};
 ghost use mathlib.Core.Path.{_≡_};
 ghost use Prim.Native.Nat.{_≤_, _<_, _+_};
@@ -21,7 +23,7 @@ ghost use Rattle.lint_access.specs.Sets.{
 // ---- one entity
 
 // The set with the entity that has this name, if it is declared.
-pub fn add_entity(s: &[u8], entities: &[usize; 100], many: u32, set: u32, place: u32) -> u32
+pub fn add_entity(s: &[u8], entities: &Positions, many: u32, set: u32, place: u32) -> u32
     requires { ⌜ many ≤ 32 ⌝ }
     ensures { λ r. ⌜ r ≡ add-entityM (was s) (sectionBy (was entities) many) place set ⌝ }
 {
@@ -33,7 +35,7 @@ pub fn add_entity(s: &[u8], entities: &[usize; 100], many: u32, set: u32, place:
     set
 }
 
-pub fn add_predicate(s: &[u8], entities: &[usize; 100], many: u32, set: u32, at: usize) -> u32
+pub fn add_predicate(s: &[u8], entities: &Positions, many: u32, set: u32, at: usize) -> u32
     requires { ⌜ many ≤ 32 ⌝ }
     ensures { λ r. ⌜ r ≡ add-predicateM (was s) (sectionBy (was entities) many) at set ⌝ }
 {
@@ -47,7 +49,7 @@ pub fn add_predicate(s: &[u8], entities: &[usize; 100], many: u32, set: u32, at:
 // ---- lists
 
 // A count, and as many predicates.
-pub fn add_predicates(s: &[u8], entities: &[usize; 100], many: u32, set: u32, at: usize) -> u32
+pub fn add_predicates(s: &[u8], entities: &Positions, many: u32, set: u32, at: usize) -> u32
     requires { ⌜ many ≤ 32 ⌝ }
     ensures { λ r. ⌜ r ≡ add-predicatesM (was s) (sectionBy (was entities) many) at set ⌝ }
 {
@@ -63,11 +65,11 @@ pub fn add_predicates(s: &[u8], entities: &[usize; 100], many: u32, set: u32, at
 }
 
 // A trigger with a note isn't read.
-fn add_trigger(s: &[u8], entities: &[usize; 100], many: u32, set: u32, at: usize) -> u32
+fn add_trigger(s: &[u8], entities: &Positions, many: u32, set: u32, at: usize) -> u32
     requires { ⌜ many ≤ 32 ⌝ }
     ensures { λ r. ⌜ r ≡ add-triggerM (was s) (sectionBy (was entities) many) at set ⌝ }
 {
-    if lint_walk::place_at(s, lint_walk::past(s, at, 14)) == 65535 {
+    if lint_walk::place_at(s, lint_walk::past(s, at, 14)) == layout::NO_PLACE {
         let place = lint_walk::place_at(s, at);
         return add_entity(s, entities, many, set, place);
     }
@@ -75,7 +77,7 @@ fn add_trigger(s: &[u8], entities: &[usize; 100], many: u32, set: u32, at: usize
 }
 
 // A count, and as many triggers.
-fn add_triggers(s: &[u8], entities: &[usize; 100], many: u32, set: u32, at: usize) -> u32
+fn add_triggers(s: &[u8], entities: &Positions, many: u32, set: u32, at: usize) -> u32
     requires { ⌜ many ≤ 32 ⌝ }
     ensures { λ r. ⌜ r ≡ add-triggersM (was s) (sectionBy (was entities) many) at set ⌝ }
 {
@@ -91,7 +93,7 @@ fn add_triggers(s: &[u8], entities: &[usize; 100], many: u32, set: u32, at: usiz
 }
 
 // A count, and as many branches: the entities of their conditions.
-fn add_branches(s: &[u8], entities: &[usize; 100], many: u32, set: u32, at: usize) -> u32
+fn add_branches(s: &[u8], entities: &Positions, many: u32, set: u32, at: usize) -> u32
     requires { ⌜ many ≤ 32 ⌝ }
     ensures { λ r. ⌜ r ≡ add-branchesM (was s) (sectionBy (was entities) many) at set ⌝ }
 {
@@ -109,7 +111,7 @@ fn add_branches(s: &[u8], entities: &[usize; 100], many: u32, set: u32, at: usiz
 // ---- actions
 
 // What an action reads: a condition, the conditions of a choice, a wait's entity.
-fn add_reads(s: &[u8], entities: &[usize; 100], many: u32, set: u32, at: usize) -> u32
+fn add_reads(s: &[u8], entities: &Positions, many: u32, set: u32, at: usize) -> u32
     requires { ⌜ many ≤ 32 ⌝ }
     ensures { λ r. ⌜ r ≡ add-readsM (was s) (sectionBy (was entities) many) at set ⌝ }
 {
@@ -128,7 +130,7 @@ fn add_reads(s: &[u8], entities: &[usize; 100], many: u32, set: u32, at: usize) 
 }
 
 // What an action writes: a set's or a toggle's entity.
-fn add_write(s: &[u8], entities: &[usize; 100], many: u32, set: u32, at: usize) -> u32
+fn add_write(s: &[u8], entities: &Positions, many: u32, set: u32, at: usize) -> u32
     requires { ⌜ many ≤ 32 ⌝ }
     ensures { λ r. ⌜ r ≡ add-writeM (was s) (sectionBy (was entities) many) at set ⌝ }
 {
@@ -144,10 +146,10 @@ fn add_write(s: &[u8], entities: &[usize; 100], many: u32, set: u32, at: usize) 
 // The declared entities that it reads.
 pub fn reads(
     s: &[u8],
-    entities: &[usize; 100],
+    entities: &Positions,
     many: u32,
     at: usize,
-    list: &[usize; 512],
+    list: &ActionPositions,
     count: usize,
 ) -> u32
     requires { ⌜ (many ≤ 32) × (count ≤ 512) ⌝ }
@@ -165,9 +167,9 @@ pub fn reads(
 // The entities that it writes.
 pub fn writes(
     s: &[u8],
-    entities: &[usize; 100],
+    entities: &Positions,
     many: u32,
-    list: &[usize; 512],
+    list: &ActionPositions,
     count: usize,
 ) -> u32
     requires { ⌜ (many ≤ 32) × (count ≤ 512) ⌝ }

@@ -1,4 +1,6 @@
 // The entries of all automations, in the order in which Rust adds them.
+use layout::ActionPositions;
+use layout::Positions;
 use lint_areas::Out;
 use lint_conditions::Given;
 use lint_findings::About;
@@ -34,7 +36,7 @@ ghost use Rattle.lint_collect.specs.Collect.{
 // The automation with the number i, whose source stands at a position, and the set of what it writes.
 fn about(
     s: &[u8],
-    entities: &[usize; 100],
+    entities: &Positions,
     extent: Extent,
     i: usize,
     source: usize,
@@ -57,9 +59,9 @@ fn about(
 // The entries of the i-th automation.
 fn rule_entries(
     s: &[u8],
-    entities: &[usize; 100],
-    invariants: &[usize; 100],
-    rules: &[usize; 100],
+    entities: &Positions,
+    invariants: &Positions,
+    rules: &Positions,
     given: Given,
     i: usize,
     findings: &mut [u32],
@@ -72,7 +74,7 @@ fn rule_entries(
         (board (was findings) (was interactions) o) ⌝ }
 {
     let at = rules[i];
-    let mut list = [0usize; 512];
+    let mut list = [0usize; layout::ACTION_POSITIONS];
     let c = lint_walk::rule_walk(s, at, &mut list);
     let count = c.count;
     let extent = given.entities;
@@ -101,9 +103,9 @@ fn rule_entries(
 // The entries of all automations.
 pub fn rules_entries(
     s: &[u8],
-    entities: &[usize; 100],
-    invariants: &[usize; 100],
-    rules: &[usize; 100],
+    entities: &Positions,
+    invariants: &Positions,
+    rules: &Positions,
     given: Given,
     findings: &mut [u32],
     interactions: &mut [u32],
@@ -140,12 +142,12 @@ pub fn rules_entries(
 // The i-th automation's actions, the first `count` of `list`, against those of the j-th.
 fn pair_entries(
     s: &[u8],
-    entities: &[usize; 100],
-    invariants: &[usize; 100],
-    rules: &[usize; 100],
+    entities: &Positions,
+    invariants: &Positions,
+    rules: &Positions,
     given: Given,
     i: usize,
-    list: &[usize; 512],
+    list: &ActionPositions,
     count: usize,
     j: usize,
     findings: &mut [u32],
@@ -157,7 +159,7 @@ fn pair_entries(
         (pairAt (was s) (namesBy (was entities) (was invariants) given) (sectionOf (was rules) (given .rules)) i
         (walkBy (was list) count) j) (board (was findings) k o)) ⌝ }
 {
-    let mut others = [0usize; 512];
+    let mut others = [0usize; layout::ACTION_POSITIONS];
     let c = lint_walk::rule_walk(s, rules[j], &mut others);
     let set = lint_reach::with(lint_reach::with(0, i), j);
     lint_pairs::oppose_pair(
@@ -178,9 +180,9 @@ fn pair_entries(
 // The i-th automation against each later one.
 fn later_entries(
     s: &[u8],
-    entities: &[usize; 100],
-    invariants: &[usize; 100],
-    rules: &[usize; 100],
+    entities: &Positions,
+    invariants: &Positions,
+    rules: &Positions,
     given: Given,
     i: usize,
     findings: &mut [u32],
@@ -198,7 +200,7 @@ fn later_entries(
     if count <= j {
         return o;
     }
-    let mut list = [0usize; 512];
+    let mut list = [0usize; layout::ACTION_POSITIONS];
     let c = lint_walk::rule_walk(s, rules[i], &mut list);
     let m = c.count;
     let mut out = o;
@@ -224,9 +226,9 @@ fn later_entries(
 // Each automation against each later one.
 pub fn opposing_entries(
     s: &[u8],
-    entities: &[usize; 100],
-    invariants: &[usize; 100],
-    rules: &[usize; 100],
+    entities: &Positions,
+    invariants: &Positions,
+    rules: &Positions,
     given: Given,
     findings: &mut [u32],
     o: Out,
@@ -251,7 +253,7 @@ pub fn opposing_entries(
 // ---- reach
 
 // Whether a write among the first `count` actions of `list` can set off the automation at a position.
-fn leads_to(s: &[u8], star: u32, list: &[usize; 512], count: usize, at: usize) -> bool
+fn leads_to(s: &[u8], star: u32, list: &ActionPositions, count: usize, at: usize) -> bool
     requires { ⌜ count ≤ 512 ⌝ }
     ensures { λ r. ⌜ r ≡ leadsToM (was s) star (walkBy (was list) count) at ⌝ }
 {
@@ -281,9 +283,9 @@ fn action_leads(s: &[u8], star: u32, action: usize, at: usize) -> bool
 fn reach_row(
     s: &[u8],
     star: u32,
-    rules: &[usize; 100],
+    rules: &Positions,
     extent: Extent,
-    list: &[usize; 512],
+    list: &ActionPositions,
     count: usize,
 ) -> [bool; 32]
     requires { ⌜ (extent .count ≤ 32) × (count ≤ 512) ⌝ }
@@ -300,7 +302,7 @@ fn reach_row(
 }
 
 // Which automations lead to which.
-pub fn edges(s: &[u8], star: u32, rules: &[usize; 100], extent: Extent) -> [[bool; 32]; 32]
+pub fn edges(s: &[u8], star: u32, rules: &Positions, extent: Extent) -> [[bool; 32]; 32]
     requires { ⌜ extent .count ≤ 32 ⌝ }
     ensures { λ r. ⌜ r ≡ edgesM (was s) star (sectionOf (was rules) extent) ⌝ }
 {
@@ -308,7 +310,7 @@ pub fn edges(s: &[u8], star: u32, rules: &[usize; 100], extent: Extent) -> [[boo
     let mut start = [[false; 32]; 32];
     let mut i: usize = 0;
     while i < count {
-        let mut list = [0usize; 512];
+        let mut list = [0usize; layout::ACTION_POSITIONS];
         let c = lint_walk::rule_walk(s, rules[i], &mut list);
         start[i] = reach_row(s, star, rules, extent, &list, c.count);
         i += 1;
@@ -317,7 +319,7 @@ pub fn edges(s: &[u8], star: u32, rules: &[usize; 100], extent: Extent) -> [[boo
 }
 
 // The components of the automations that lead to each other.
-pub fn find_components(s: &[u8], star: u32, rules: &[usize; 100], extent: Extent) -> Components
+pub fn find_components(s: &[u8], star: u32, rules: &Positions, extent: Extent) -> Components
     requires { ⌜ extent .count ≤ 32 ⌝ }
     ensures { λ r. ⌜ Cycles (edgesM (was s) star (sectionOf (was rules) extent)) (extent .count) r ⌝ }
 {
@@ -327,13 +329,7 @@ pub fn find_components(s: &[u8], star: u32, rules: &[usize; 100], extent: Extent
 // ---- cycles
 
 // The entities that the automations of a set write.
-fn cycle_writes(
-    s: &[u8],
-    entities: &[usize; 100],
-    rules: &[usize; 100],
-    given: Given,
-    set: u32,
-) -> u32
+fn cycle_writes(s: &[u8], entities: &Positions, rules: &Positions, given: Given, set: u32) -> u32
     requires { ⌜ (given .entities .count ≤ 32) × (given .rules .count ≤ 32) ⌝ }
     ensures { λ r. ⌜ r ≡ cycleWritesM (was s) (sectionOf (was entities) (given .entities))
         (sectionOf (was rules) (given .rules)) set ⌝ }
@@ -346,7 +342,7 @@ fn cycle_writes(
     let mut i: usize = 0;
     while i < count {
         if lint_reach::has(set, i) {
-            let mut list = [0usize; 512];
+            let mut list = [0usize; layout::ACTION_POSITIONS];
             let c = lint_walk::rule_walk(s, rules[i], &mut list);
             let more = lint_access::writes(s, entities, many, &list, c.count);
             writes = lint_reach::union(writes, more);
@@ -361,8 +357,8 @@ fn cycle_writes(
 // The words of a trigger_cycle; its sources are those of its automations.
 fn cycle_words(
     s: &[u8],
-    entities: &[usize; 100],
-    rules: &[usize; 100],
+    entities: &Positions,
+    rules: &Positions,
     given: Given,
     set: u32,
 ) -> [u32; 14]
@@ -378,8 +374,8 @@ fn cycle_words(
 // A finding for each component.
 pub fn cycle_entries(
     s: &[u8],
-    entities: &[usize; 100],
-    rules: &[usize; 100],
+    entities: &Positions,
+    rules: &Positions,
     given: Given,
     found: Components,
     findings: &mut [u32],
@@ -416,9 +412,9 @@ pub struct Linted {
 // The entries of all automations, of all pairs and of all cycles.
 pub fn entries(
     s: &[u8],
-    entities: &[usize; 100],
-    invariants: &[usize; 100],
-    rules: &[usize; 100],
+    entities: &Positions,
+    invariants: &Positions,
+    rules: &Positions,
     given: Given,
     findings: &mut [u32],
     interactions: &mut [u32],

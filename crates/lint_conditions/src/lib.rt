@@ -1,4 +1,6 @@
 // The tests of lint, on places in the file.
+use layout::ActionPositions;
+use layout::Positions;
 use model_parts::Extent;
 use model_parts::Section;
 ghost use Rattle.notation.specs.Reference.{was};
@@ -111,11 +113,11 @@ pub fn contradictory(s: &[u8], at: usize) -> bool
 fn mismatch(s: &[u8], conditions: usize, at: usize) -> bool
     ensures { λ r. ⌜ r ≡ mismatchM (was s) conditions at ⌝ }
 {
-    if lint_walk::place_at(s, lint_walk::past(s, at, 14)) != 65535 {
+    if lint_walk::place_at(s, lint_walk::past(s, at, 14)) != layout::NO_PLACE {
         return false;
     }
     let to = lint_walk::place_at(s, lint_walk::past(s, at, 4));
-    if to == 65535 {
+    if to == layout::NO_PLACE {
         return false;
     }
     let x = lint_walk::place_at(s, at);
@@ -145,7 +147,7 @@ pub fn mismatched(s: &[u8], at: usize) -> bool
 fn sets_off(s: &[u8], star: u32, x: u32, v: u32, at: usize) -> bool
     ensures { λ r. ⌜ r ≡ setsOffM (was s) star x v at ⌝ }
 {
-    if lint_walk::place_at(s, lint_walk::past(s, at, 14)) != 65535 {
+    if lint_walk::place_at(s, lint_walk::past(s, at, 14)) != layout::NO_PLACE {
         return false;
     }
     if lint_walk::place_at(s, at) != x {
@@ -155,7 +157,7 @@ fn sets_off(s: &[u8], star: u32, x: u32, v: u32, at: usize) -> bool
         return true;
     }
     let to = lint_walk::place_at(s, lint_walk::past(s, at, 4));
-    if to == 65535 {
+    if to == layout::NO_PLACE {
         return true;
     }
     to == v
@@ -181,7 +183,7 @@ pub fn leads(s: &[u8], star: u32, x: u32, v: u32, at: usize) -> bool
 // ---- actions
 
 // Whether one of the first `count` actions of `list` is a delay.
-pub fn delays(s: &[u8], list: &[usize; 512], count: usize) -> bool
+pub fn delays(s: &[u8], list: &ActionPositions, count: usize) -> bool
     requires { ⌜ count ≤ 512 ⌝ }
     ensures { λ r. ⌜ r ≡ delaysM (was s) (walkBy (was list) count) ⌝ }
 {
@@ -223,7 +225,7 @@ fn guard(s: &[u8], x: u32, v: u32, at: usize) -> bool
     lint_walk::place_at(s, lint_walk::past(s, at, 5)) == v
 }
 
-fn guarded(s: &[u8], invariants: &[usize; 100], extent: Extent, x: u32, v: u32) -> bool
+fn guarded(s: &[u8], invariants: &Positions, extent: Extent, x: u32, v: u32) -> bool
     requires { ⌜ extent .count ≤ 32 ⌝ }
     ensures { λ r. ⌜ r ≡ guardedM (was s) (sectionOf (was invariants) extent) x v ⌝ }
 {
@@ -241,8 +243,8 @@ fn guarded(s: &[u8], invariants: &[usize; 100], extent: Extent, x: u32, v: u32) 
 // Whether a write of v to x has a value that no guard is about; a toggle has two.
 pub fn unguarded(
     s: &[u8],
-    entities: &[usize; 100],
-    invariants: &[usize; 100],
+    entities: &Positions,
+    invariants: &Positions,
     given: Given,
     x: u32,
     v: u32,
@@ -296,7 +298,7 @@ fn greater(a: u32, b: u32) -> u32
 }
 
 // The highest tier among the entities of a set.
-pub fn highest(s: &[u8], entities: &[usize; 100], extent: Extent, set: u32) -> u32
+pub fn highest(s: &[u8], entities: &Positions, extent: Extent, set: u32) -> u32
     requires { ⌜ extent .count ≤ 32 ⌝ }
     ensures { λ r. ⌜ r ≡ highestM (was s) (sectionOf (was entities) extent) set ⌝ }
 {

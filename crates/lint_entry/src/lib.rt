@@ -1,5 +1,6 @@
 // The entry `lint`: the findings and interactions of a model file in two lent areas, and with the answer the components of
 // trigger cycles, and what each automation reads and writes.
+use layout::Positions;
 use lint_areas::Out;
 use lint_collect::Linted;
 use lint_conditions::Given;
@@ -79,9 +80,9 @@ pub struct Touched {
 
 fn rule_sets(
     s: &[u8],
-    entities: &[usize; 100],
+    entities: &Positions,
     declared: Extent,
-    rules: &[usize; 100],
+    rules: &Positions,
     extent: Extent,
 ) -> Touched
     requires { ⌜ (declared .count ≤ 32) × (extent .count ≤ 32) ⌝ }
@@ -95,7 +96,7 @@ fn rule_sets(
     let mut i: usize = 0;
     while i < n {
         let at = rules[i];
-        let mut list = [0usize; 512];
+        let mut list = [0usize; layout::ACTION_POSITIONS];
         let c = lint_walk::rule_walk(s, at, &mut list);
         let count = c.count;
         reads[i] = lint_access::reads(s, entities, many, at, &list, count);

@@ -1,4 +1,6 @@
 // The findings and interactions of each automation, in the order in which Rust adds them.
+use layout::ActionPositions;
+use layout::Positions;
 use lint_areas::Out;
 use lint_conditions::Given;
 use model_parts::Extent;
@@ -71,7 +73,7 @@ fn at_action(s: &[u8], a: About, code: u32, certainty: u32, entity: u32, at: usi
 
 // ---- conditions, triggers, delays
 
-fn delayed(s: &[u8], list: &[usize; 512], count: usize, writes: u32) -> bool
+fn delayed(s: &[u8], list: &ActionPositions, count: usize, writes: u32) -> bool
     requires { ⌜ count ≤ 512 ⌝ }
     ensures { λ r. ⌜ r ≡ delayedM (was s) (walkBy (was list) count) writes ⌝ }
 {
@@ -85,7 +87,7 @@ fn own_findings(
     s: &[u8],
     a: About,
     at: usize,
-    list: &[usize; 512],
+    list: &ActionPositions,
     count: usize,
     writes: u32,
     findings: &mut [u32],
@@ -129,7 +131,7 @@ fn choice_findings(s: &[u8], a: About, at: usize, findings: &mut [u32], o: Out) 
 fn branch_findings(
     s: &[u8],
     a: About,
-    list: &[usize; 512],
+    list: &ActionPositions,
     count: usize,
     findings: &mut [u32],
     o: Out,
@@ -155,7 +157,7 @@ fn branch_findings(
 
 // ---- entities that are read
 
-fn stale_here(s: &[u8], entities: &[usize; 100], extent: Extent, reads: u32, k: usize) -> bool
+fn stale_here(s: &[u8], entities: &Positions, extent: Extent, reads: u32, k: usize) -> bool
     requires { ⌜ k < 32 ⌝ }
     ensures { λ r. ⌜ r ≡ staleHereM (was s) (sectionOf (was entities) extent) reads k ⌝ }
 {
@@ -168,7 +170,7 @@ fn stale_here(s: &[u8], entities: &[usize; 100], extent: Extent, reads: u32, k: 
 fn fresh_findings(
     s: &[u8],
     a: About,
-    entities: &[usize; 100],
+    entities: &Positions,
     extent: Extent,
     reads: u32,
     findings: &mut [u32],
@@ -212,8 +214,8 @@ pub fn value(s: &[u8], star: u32, at: usize) -> u32
 // Whether a write of v to the entity x, whose number is e, needs a guard and has none.
 fn risky(
     s: &[u8],
-    entities: &[usize; 100],
-    invariants: &[usize; 100],
+    entities: &Positions,
+    invariants: &Positions,
     given: Given,
     x: u32,
     v: u32,
@@ -232,7 +234,7 @@ fn risky(
 fn interactions_of(
     s: &[u8],
     from: u32,
-    rules: &[usize; 100],
+    rules: &Positions,
     extent: Extent,
     star: u32,
     x: u32,
@@ -260,9 +262,9 @@ fn interactions_of(
 // What the action at a position writes: its guard, and the automations that it can set off.
 fn write_findings(
     s: &[u8],
-    entities: &[usize; 100],
-    invariants: &[usize; 100],
-    rules: &[usize; 100],
+    entities: &Positions,
+    invariants: &Positions,
+    rules: &Positions,
     given: Given,
     a: About,
     at: usize,
@@ -305,12 +307,12 @@ fn write_findings(
 
 fn writes_findings(
     s: &[u8],
-    entities: &[usize; 100],
-    invariants: &[usize; 100],
-    rules: &[usize; 100],
+    entities: &Positions,
+    invariants: &Positions,
+    rules: &Positions,
     given: Given,
     a: About,
-    list: &[usize; 512],
+    list: &ActionPositions,
     count: usize,
     findings: &mut [u32],
     interactions: &mut [u32],
@@ -349,7 +351,7 @@ fn first_findings(
     s: &[u8],
     a: About,
     at: usize,
-    list: &[usize; 512],
+    list: &ActionPositions,
     count: usize,
     writes: u32,
     findings: &mut [u32],
@@ -376,13 +378,13 @@ fn first_findings(
 // and writes.
 pub fn rule_findings(
     s: &[u8],
-    entities: &[usize; 100],
-    invariants: &[usize; 100],
-    rules: &[usize; 100],
+    entities: &Positions,
+    invariants: &Positions,
+    rules: &Positions,
     given: Given,
     a: About,
     at: usize,
-    list: &[usize; 512],
+    list: &ActionPositions,
     count: usize,
     reads: u32,
     writes: u32,

@@ -37,7 +37,7 @@ actions-is s p e = rw e
 
 pub row-is : (s : List ℕ) (p q : ℕ) {a k t b c l d n e : ℕ} → k ≡ conditionsM s p → a ≡ placeM s p → t ≡ triggersM s p →
     b ≡ cap t → c ≡ cap k → l ≡ predicatesEnd s k → d ≡ cap l → n ≡ past s q 8 → e ≡ cap n →
-    RowOf s p q (set (set (set (set (set (replicate 436 0) 80 a) 83 b) 84 c) 85 d) 87 e)
+    RowOf s p q (set (set (set (set (set (replicate 336 0) 80 a) 83 b) 84 c) 85 d) 87 e)
 row-is s p q z₁ z₂ z₃ z₄ z₅ z₆ z₇ z₈ z₉ = record {
   id = z₂;
   triggers = z₄ ∙ ap cap z₃;

@@ -1,4 +1,6 @@
 // The notes of each automation as findings: unsupported.
+use layout::SimulationReasons;
+use layout::Table;
 use lint_areas::Out;
 use model_parts::Section;
 ghost use Rattle.notation.specs.Reference.{was, is};
@@ -11,16 +13,26 @@ ghost use Rattle.lint_notes.specs.Notes.{noteM, noteItems, RowOf, Few, N
 // ---- where the notes of an automation stand
 
 // The first row of a table is the automation's: its identifier, and where its triggers, conditions, actions and notes stand.
-fn put_row(s: &[u8], at: usize, source: usize, words: &mut [u32; 436])
+fn put_row(s: &[u8], at: usize, source: usize, words: &mut Table)
     ensures { λ _. ⌜ RowOf (was s) at source (is words) ⌝ }
 {
     let conditions = lint_walk::conditions_at(s, at);
-    *words = [0u32; 436];
-    words[80] = lint_walk::place_at(s, at);
-    words[83] = engine_fields::capped(lint_walk::triggers_at(s, at));
-    words[84] = engine_fields::capped(conditions);
-    words[85] = engine_fields::capped(lint_walk::predicates_end(s, conditions));
-    words[87] = engine_fields::capped(lint_walk::past(s, source, 8));
+    *words = [0u32; layout::TABLE];
+    words[layout::AUTOMATIONS + layout::ID] = lint_walk::place_at(s, at);
+    words[layout::AUTOMATIONS + layout::TRIGGERS] = engine_fields::capped(lint_walk::triggers_at(
+        s,
+        at,
+    ));
+    words[layout::AUTOMATIONS + layout::CONDITIONS] = engine_fields::capped(conditions);
+    words[layout::AUTOMATIONS + layout::ACTIONS] = engine_fields::capped(lint_walk::predicates_end(
+        s,
+        conditions,
+    ));
+    words[layout::AUTOMATIONS + layout::NOTES] = engine_fields::capped(lint_walk::past(
+        s,
+        source,
+        8,
+    ));
 }
 
 // At most 300.
@@ -36,7 +48,7 @@ fn few(n: usize) -> usize
 // ---- findings
 
 // The words of a finding about the automation of a set, with the j-th reason.
-fn note_words(set: u32, line: u32, column: u32, reasons: &[u32; 1500], j: usize) -> [u32; 14]
+fn note_words(set: u32, line: u32, column: u32, reasons: &SimulationReasons, j: usize) -> [u32; 14]
     requires { ⌜ j < 300 ⌝ }
     ensures { λ w. ⌜ w ≡ noteM set line column (was reasons) j ⌝ }
 {
@@ -64,7 +76,7 @@ fn note_findings(
     set: u32,
     line: u32,
     column: u32,
-    reasons: &[u32; 1500],
+    reasons: &SimulationReasons,
     count: usize,
     findings: &mut [u32],
     o: Out,
@@ -84,20 +96,13 @@ fn note_findings(
 }
 
 // The notes of the i-th automation, which stands at a position; the row is lent.
-fn rule_notes(
-    s: &[u8],
-    at: usize,
-    i: usize,
-    words: &mut [u32; 436],
-    findings: &mut [u32],
-    o: Out,
-) -> Out
+fn rule_notes(s: &[u8], at: usize, i: usize, words: &mut Table, findings: &mut [u32], o: Out) -> Out
     requires { ⌜ i < 32 ⌝ }
     ensures { λ r. ⌜ ((k : List ℕ) → NotesAt (was s) at i (board (was findings) k o) (board (is findings) k r)) ⌝ }
 {
     let source = lint_walk::source_at(s, at);
     put_row(s, at, source, words);
-    let mut reasons = [0u32; 1500];
+    let mut reasons = [0u32; layout::SIMULATION_REASONS];
     let count = few(engine_unsupported::rule_notes(s, words, &mut reasons, 0, 0));
     let line = lint_walk::number_at(s, source);
     let column = lint_walk::number_at(s, lint_walk::past(s, source, 4));
@@ -119,7 +124,7 @@ pub fn notes(s: &[u8], rules: Section, findings: &mut [u32], o: Out) -> Out
         ⌜ ((k : List ℕ) → AllNotes (was s) rules (rules .count) 0 (board (was findings) k o) (board (is findings) k r)) ⌝ }
 {
     let count = rules.count as usize;
-    let mut words = [0u32; 436];
+    let mut words = [0u32; layout::TABLE];
     let mut out = o;
     let mut i: usize = 0;
     while i < count {

@@ -1,4 +1,6 @@
 // The findings of pairs of automations: writes of two automations against each other, in the order in which Rust adds them.
+use layout::ActionPositions;
+use layout::Positions;
 use lint_areas::Out;
 use lint_conditions::Given;
 use model_parts::Extent;
@@ -24,7 +26,7 @@ fn spelled(tier: u32) -> u32
 // The words of opposing writes at two positions, to the entity with the number e.
 fn pair_words(
     s: &[u8],
-    entities: &[usize; 100],
+    entities: &Positions,
     extent: Extent,
     set: u32,
     e: usize,
@@ -74,7 +76,7 @@ fn opposing(s: &[u8], star: u32, x: u32, v: u32, other: usize) -> bool
 // Two writes against each other, at two positions, the first of them to the entity x: a finding if it is declared.
 fn oppose(
     s: &[u8],
-    entities: &[usize; 100],
+    entities: &Positions,
     extent: Extent,
     set: u32,
     x: u32,
@@ -103,12 +105,12 @@ fn oppose(
 // The action at a position against each of another automation, the first `count` of `list`.
 fn oppose_row(
     s: &[u8],
-    entities: &[usize; 100],
-    invariants: &[usize; 100],
+    entities: &Positions,
+    invariants: &Positions,
     given: Given,
     set: u32,
     at: usize,
-    list: &[usize; 512],
+    list: &ActionPositions,
     count: usize,
     findings: &mut [u32],
     o: Out,
@@ -152,13 +154,13 @@ fn oppose_row(
 // Each action of one automation against each of another: the first m of one list, the first n of the other.
 pub fn oppose_pair(
     s: &[u8],
-    entities: &[usize; 100],
-    invariants: &[usize; 100],
+    entities: &Positions,
+    invariants: &Positions,
     given: Given,
     set: u32,
-    list: &[usize; 512],
+    list: &ActionPositions,
     m: usize,
-    others: &[usize; 512],
+    others: &ActionPositions,
     n: usize,
     findings: &mut [u32],
     o: Out,

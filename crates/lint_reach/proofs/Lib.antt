@@ -1,5 +1,5 @@
 pub mod Laws
 pub mod Closure
 pub mod Bits
-pub mod Components
+pub mod ComponentLaws
 pub mod Equals

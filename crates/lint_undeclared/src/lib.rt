@@ -1,4 +1,6 @@
 // The undeclared names that automations read: the entities of waits whose triggers have notes. A model has at most 64.
+use layout::ActionPositions;
+use layout::Positions;
 use model_parts::Extent;
 ghost use Rattle.notation.specs.Reference.{was};
 ghost use mathlib.Core.Path.{_≡_};
@@ -18,7 +20,7 @@ fn awaits_at(s: &[u8], place: u32, at: usize) -> bool
 }
 
 // Whether one of the first `count` actions of `list` does.
-fn awaits(s: &[u8], list: &[usize; 512], count: usize, place: u32) -> bool
+fn awaits(s: &[u8], list: &ActionPositions, count: usize, place: u32) -> bool
     requires { ⌜ count ≤ 512 ⌝ }
     ensures { λ r. ⌜ r ≡ awaitsM (was s) (walkBy (was list) count) place ⌝ }
 {
@@ -60,7 +62,7 @@ fn with_name(u: Undeclared, reader: u32, place: u32) -> Undeclared
 // With the name at a place, which the i-th automation reads, if no entity has it.
 fn with_strange(
     s: &[u8],
-    entities: &[usize; 100],
+    entities: &Positions,
     declared: Extent,
     i: u32,
     place: u32,
@@ -79,9 +81,9 @@ fn with_strange(
 // With the names that the i-th automation reads, of so many texts.
 fn rule_names(
     s: &[u8],
-    entities: &[usize; 100],
+    entities: &Positions,
     declared: Extent,
-    rules: &[usize; 100],
+    rules: &Positions,
     extent: Extent,
     texts: u32,
     i: usize,
@@ -90,7 +92,7 @@ fn rule_names(
     requires { ⌜ (declared .count ≤ 32) × (i < 32) ⌝ }
     ensures { λ r. ⌜ r ≡ ruleM (was s) (sectionOf (was entities) declared) (sectionOf (was rules) extent) texts i u ⌝ }
 {
-    let mut list = [0usize; 512];
+    let mut list = [0usize; layout::ACTION_POSITIONS];
     let c = lint_walk::rule_walk(s, rules[i], &mut list);
     let mut v = u;
     let mut place: u32 = 0;
@@ -108,9 +110,9 @@ fn rule_names(
 // The undeclared names that each automation reads, ascending.
 pub fn undeclared_names(
     s: &[u8],
-    entities: &[usize; 100],
+    entities: &Positions,
     declared: Extent,
-    rules: &[usize; 100],
+    rules: &Positions,
     extent: Extent,
     texts: u32,
 ) -> Undeclared

@@ -1,5 +1,6 @@
 // Reading of an accepted model file by position: numbers, where parts end, and an automation's actions in the order of
 // Rust's walk. The file was read before, so that what is looked for is there; past the end of the file numbers are 0.
+use layout::ActionPositions;
 use model_walk::Num;
 ghost use Rattle.notation.specs.Reference.{was, is};
 ghost use mathlib.Core.Path.{_≡_};
@@ -152,7 +153,7 @@ fn actions_at(s: &[u8], at: usize) -> usize
 
 // The positions of the actions so far, the first `count` of `list`, and the position that is next: what contracts speak of.
 pub struct Walk {
-    pub list: [usize; 512],
+    pub list: ActionPositions,
     pub count: usize,
     pub next: usize,
 }
@@ -173,7 +174,7 @@ fn moved(c: Cursor, next: usize) -> Cursor
 }
 
 // One action more, at the position that is next.
-fn noted(list: &mut [usize; 512], c: Cursor) -> Cursor
+fn noted(list: &mut ActionPositions, c: Cursor) -> Cursor
     ensures { λ r. ⌜ walkOf (is list) r ≡ notedM (walkOf (was list) c) ⌝ }
 {
     let count = c.count;
@@ -188,14 +189,14 @@ fn noted(list: &mut [usize; 512], c: Cursor) -> Cursor
 }
 
 // The action that is next is a choice: its branches are next.
-fn entered(s: &[u8], list: &mut [usize; 512], c: Cursor) -> Cursor
+fn entered(s: &[u8], list: &mut ActionPositions, c: Cursor) -> Cursor
     ensures { λ r. ⌜ walkOf (is list) r ≡ enteredM (was s) (walkOf (was list) c) ⌝ }
 {
     moved(noted(list, c), past(s, c.next, 9))
 }
 
 // The action that is next holds no list.
-fn simple_walk(s: &[u8], list: &mut [usize; 512], c: Cursor) -> Cursor
+fn simple_walk(s: &[u8], list: &mut ActionPositions, c: Cursor) -> Cursor
     ensures { λ r. ⌜ walkOf (is list) r ≡ simpleM (was s) (walkOf (was list) c) ⌝ }
 {
     let kind = kind_at(s, c.next);
@@ -204,7 +205,7 @@ fn simple_walk(s: &[u8], list: &mut [usize; 512], c: Cursor) -> Cursor
 }
 
 // A list of actions in which lists stand at most `left` deep, itself counted.
-fn list_walk(s: &[u8], left: usize, list: &mut [usize; 512], c: Cursor) -> Cursor
+fn list_walk(s: &[u8], left: usize, list: &mut ActionPositions, c: Cursor) -> Cursor
     ensures { λ r. ⌜ walkOf (is list) r ≡ listM left (was s) (walkOf (was list) c) ⌝ }
 {
     if left == 0 {
@@ -226,7 +227,7 @@ fn list_walk(s: &[u8], left: usize, list: &mut [usize; 512], c: Cursor) -> Curso
 }
 
 // The branches of a choice and its default; its lists stand at most `left` deep.
-fn choice_walk(s: &[u8], left: usize, list: &mut [usize; 512], c: Cursor) -> Cursor
+fn choice_walk(s: &[u8], left: usize, list: &mut ActionPositions, c: Cursor) -> Cursor
     ensures { λ r. ⌜ walkOf (is list) r ≡ choiceM (was s) (listM left (was s)) (walkOf (was list) c) ⌝ }
 {
     let mut i = place_at(s, c.next);
@@ -239,7 +240,7 @@ fn choice_walk(s: &[u8], left: usize, list: &mut [usize; 512], c: Cursor) -> Cur
 }
 
 // The actions of the automation at a position, into a list of zeros; its source is next.
-pub fn rule_walk(s: &[u8], at: usize, list: &mut [usize; 512]) -> Cursor
+pub fn rule_walk(s: &[u8], at: usize, list: &mut ActionPositions) -> Cursor
     requires { ⌜ now list ≡ replicate 512 0 ⌝ }
     ensures { λ r. ⌜ walkOf (is list) r ≡ walkM (was s) at ⌝ }
 {
@@ -254,7 +255,7 @@ pub fn rule_walk(s: &[u8], at: usize, list: &mut [usize; 512]) -> Cursor
 pub fn list_end(s: &[u8], at: usize) -> usize
     ensures { λ r. ⌜ r ≡ listEnd (was s) at ⌝ }
 {
-    let mut list = [0usize; 512];
+    let mut list = [0usize; layout::ACTION_POSITIONS];
     let start = Cursor { count: 0, next: at };
     list_walk(s, 18, &mut list, start).next
 }

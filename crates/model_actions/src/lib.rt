@@ -1,5 +1,6 @@
 // Checks of actions and of lists of actions in a model file: what `validate` tests of each, in its order.
 // As in `model_check`, a check that finds the file rules broken says 30.
+use layout::Positions;
 use model_check::Checked;
 use model_check::Declared;
 use model_walk::Num;
@@ -9,7 +10,7 @@ ghost use Prim.Native.Nat.{_≤_};
 ghost use Rattle.model_check.specs.Checks.{declaration, _⨾_, skipM};
 ghost use Rattle.model_actions.specs.Actions.{toggleM, waitM, countM, simpleM, choiceM, actionsM};
 
-fn toggle_check(s: &[u8], d: Declared, entities: &[usize; 100], at: usize, n: u32) -> Checked
+fn toggle_check(s: &[u8], d: Declared, entities: &Positions, at: usize, n: u32) -> Checked
     requires { ⌜ d .count ≤ 100 ⌝ }
     ensures { λ r. ⌜ r ≡ toggleM (declaration d (was entities)) (was s) at n ⌝ }
 {
@@ -24,7 +25,7 @@ fn toggle_check(s: &[u8], d: Declared, entities: &[usize; 100], at: usize, n: u3
     model_check::value_check(s, d, entities, entity, d.off, q, m)
 }
 
-fn wait_check(s: &[u8], d: Declared, entities: &[usize; 100], at: usize, n: u32) -> Checked
+fn wait_check(s: &[u8], d: Declared, entities: &Positions, at: usize, n: u32) -> Checked
     requires { ⌜ d .count ≤ 100 ⌝ }
     ensures { λ r. ⌜ r ≡ waitM (declaration d (was entities)) (was s) at n ⌝ }
 {
@@ -43,7 +44,7 @@ fn wait_check(s: &[u8], d: Declared, entities: &[usize; 100], at: usize, n: u32)
 fn simple_check(
     s: &[u8],
     d: Declared,
-    entities: &[usize; 100],
+    entities: &Positions,
     kind: u32,
     at: usize,
     n: u32,
@@ -83,7 +84,7 @@ fn head_check(s: &[u8], at: usize, n: u32) -> Checked
 pub fn actions_check(
     s: &[u8],
     d: Declared,
-    entities: &[usize; 100],
+    entities: &Positions,
     left: usize,
     at: usize,
     n: u32,
@@ -129,7 +130,7 @@ pub fn actions_check(
 pub fn choice_check(
     s: &[u8],
     d: Declared,
-    entities: &[usize; 100],
+    entities: &Positions,
     left: usize,
     at: usize,
     n: u32,

@@ -1,5 +1,6 @@
 // Checks of places, values, predicates and triggers in a model file: what `validate` tests of each, in its order.
 // The file was read before, so that what is looked for is there; a check that finds the file rules broken says 30.
+use layout::Positions;
 use model_parts::Section;
 use model_walk::Num;
 ghost use Rattle.notation.specs.Reference.{was};
@@ -117,7 +118,7 @@ fn listed_at(s: &[u8], at: usize, place: u32) -> bool
 }
 
 // The number of the first of so many positions that holds this place, or the count.
-pub fn first_of(s: &[u8], starts: &[usize; 100], count: u32, place: u32) -> usize
+pub fn first_of(s: &[u8], starts: &Positions, count: u32, place: u32) -> usize
     requires { ⌜ count ≤ 100 ⌝ }
     ensures { λ r. ⌜ (r ≡ first-from (was starts) place (was s) count 0) × (r ≤ count) ⌝ }
 {
@@ -148,7 +149,7 @@ pub fn number_of(s: &[u8], section: Section, place: u32) -> usize
 fn entity_value_check(
     s: &[u8],
     d: Declared,
-    entities: &[usize; 100],
+    entities: &Positions,
     i: usize,
     value: u32,
     at: usize,
@@ -180,7 +181,7 @@ fn entity_value_check(
 pub fn value_check(
     s: &[u8],
     d: Declared,
-    entities: &[usize; 100],
+    entities: &Positions,
     entity: u32,
     value: u32,
     at: usize,
@@ -194,7 +195,7 @@ pub fn value_check(
 }
 
 // An entity and a value.
-pub fn pair_check(s: &[u8], d: Declared, entities: &[usize; 100], at: usize, n: u32) -> Checked
+pub fn pair_check(s: &[u8], d: Declared, entities: &Positions, at: usize, n: u32) -> Checked
     requires { ⌜ d .count ≤ 100 ⌝ }
     ensures { λ r. ⌜ r ≡ pairM (declaration d (was entities)) (was s) at n ⌝ }
 {
@@ -256,7 +257,7 @@ fn window_check(s: &[u8], at: usize, n: u32) -> Checked
 pub fn predicate_check(
     s: &[u8],
     d: Declared,
-    entities: &[usize; 100],
+    entities: &Positions,
     banned: u32,
     at: usize,
     n: u32,
@@ -284,7 +285,7 @@ pub fn predicate_check(
 pub fn predicates_check(
     s: &[u8],
     d: Declared,
-    entities: &[usize; 100],
+    entities: &Positions,
     banned: u32,
     at: usize,
     n: u32,
@@ -316,7 +317,7 @@ pub fn predicates_check(
 fn declared_check(
     s: &[u8],
     d: Declared,
-    entities: &[usize; 100],
+    entities: &Positions,
     entity: u32,
     at: usize,
     n: u32,
@@ -335,7 +336,7 @@ fn declared_check(
 fn optional_check(
     s: &[u8],
     d: Declared,
-    entities: &[usize; 100],
+    entities: &Positions,
     entity: u32,
     value: u32,
     at: usize,
@@ -344,7 +345,7 @@ fn optional_check(
     requires { ⌜ d .count ≤ 100 ⌝ }
     ensures { λ r. ⌜ r ≡ optionalM (declaration d (was entities)) entity value (was s) at n ⌝ }
 {
-    if value == 65535 {
+    if value == layout::NO_PLACE {
         return Checked::To(at, n);
     }
     value_check(s, d, entities, entity, value, at, n)
@@ -354,7 +355,7 @@ fn optional_check(
 fn trigger_of_check(
     s: &[u8],
     d: Declared,
-    entities: &[usize; 100],
+    entities: &Positions,
     entity: u32,
     from: u32,
     to: u32,
@@ -375,7 +376,7 @@ fn trigger_of_check(
     optional_check(s, d, entities, entity, to, q, l)
 }
 
-pub fn trigger_check(s: &[u8], d: Declared, entities: &[usize; 100], at: usize, n: u32) -> Checked
+pub fn trigger_check(s: &[u8], d: Declared, entities: &Positions, at: usize, n: u32) -> Checked
     requires { ⌜ d .count ≤ 100 ⌝ }
     ensures { λ r. ⌜ r ≡ triggerM (declaration d (was entities)) (was s) at n ⌝ }
 {
@@ -399,7 +400,7 @@ pub fn trigger_check(s: &[u8], d: Declared, entities: &[usize; 100], at: usize, 
     let Num::Is(note, next) = w else {
         return Checked::Refused(30);
     };
-    if note == 65535 {
+    if note == layout::NO_PLACE {
         return trigger_of_check(s, d, entities, entity, from, to, next, m);
     }
     Checked::To(next, m)
@@ -409,7 +410,7 @@ pub fn trigger_check(s: &[u8], d: Declared, entities: &[usize; 100], at: usize, 
 pub fn triggers_check(
     s: &[u8],
     d: Declared,
-    entities: &[usize; 100],
+    entities: &Positions,
     count: u32,
     at: usize,
     n: u32,

@@ -1,4 +1,5 @@
 // The reader of a model file: its index, or 30 or 31.
+use layout::Positions;
 use model_parts::Extent;
 use model_parts::Part;
 use model_parts::Section;
@@ -63,7 +64,7 @@ fn no_section() -> Section
 {
     Section {
         count: 0,
-        starts: [0usize; 100],
+        starts: [0usize; layout::POSITIONS],
         end: Walked::Broken,
     }
 }
@@ -118,7 +119,7 @@ pub fn refusal(number: u32) -> Outline
 }
 
 // A section from its extent and its positions.
-fn section(x: Extent, starts: &[usize; 100]) -> Section
+fn section(x: Extent, starts: &Positions) -> Section
     ensures { λ r. ⌜ r ≡ section x (was starts) ⌝ }
 {
     let end = x.end;
@@ -132,13 +133,13 @@ fn section(x: Extent, starts: &[usize; 100]) -> Section
 // The file of an outline and its positions.
 pub fn file_of(
     x: Outline,
-    texts: &[usize; 100],
-    entities: &[usize; 100],
-    events: &[usize; 100],
-    invariants: &[usize; 100],
-    alphabet: &[usize; 100],
-    gaps: &[usize; 100],
-    rules: &[usize; 100],
+    texts: &Positions,
+    entities: &Positions,
+    events: &Positions,
+    invariants: &Positions,
+    alphabet: &Positions,
+    gaps: &Positions,
+    rules: &Positions,
 ) -> File
     ensures { λ r. ⌜ r ≡ file-of x (was texts) (was entities) (was events) (was invariants) (was alphabet) (was gaps)
         (was rules) ⌝ }
@@ -170,9 +171,9 @@ fn rest_at(
     front: Front,
     at: usize,
     notes: u32,
-    alphabet: &mut [usize; 100],
-    gaps: &mut [usize; 100],
-    rules: &mut [usize; 100],
+    alphabet: &mut Positions,
+    gaps: &mut Positions,
+    rules: &mut Positions,
 ) -> Outline
     requires { ⌜ Zeros (now alphabet) (now gaps) (now rules) ⌝ }
     ensures { λ r.
@@ -225,12 +226,12 @@ fn body_at(
     version: u32,
     texts: Extent,
     at: usize,
-    entities: &mut [usize; 100],
-    events: &mut [usize; 100],
-    invariants: &mut [usize; 100],
-    alphabet: &mut [usize; 100],
-    gaps: &mut [usize; 100],
-    rules: &mut [usize; 100],
+    entities: &mut Positions,
+    events: &mut Positions,
+    invariants: &mut Positions,
+    alphabet: &mut Positions,
+    gaps: &mut Positions,
+    rules: &mut Positions,
 ) -> Outline
     requires { ⌜ Zeros (now entities) (now events) (now invariants) × Zeros (now alphabet) (now gaps) (now rules) ⌝ }
     ensures { λ r.
@@ -271,13 +272,13 @@ fn body_at(
 // The outline and the positions of the model that the file decodes to, or 30 or 31. The arrays are all zeros before.
 pub fn read(
     s: &[u8],
-    texts: &mut [usize; 100],
-    entities: &mut [usize; 100],
-    events: &mut [usize; 100],
-    invariants: &mut [usize; 100],
-    alphabet: &mut [usize; 100],
-    gaps: &mut [usize; 100],
-    rules: &mut [usize; 100],
+    texts: &mut Positions,
+    entities: &mut Positions,
+    events: &mut Positions,
+    invariants: &mut Positions,
+    alphabet: &mut Positions,
+    gaps: &mut Positions,
+    rules: &mut Positions,
 ) -> Outline
     requires { ⌜ (now texts ≡ no-starts) × (Zeros (now entities) (now events) (now invariants)
         × Zeros (now alphabet) (now gaps) (now rules)) ⌝ }

@@ -1,4 +1,5 @@
 // Walks over the parts that stand in a section of a model file, and a section: its count, and where its parts start.
+use layout::Positions;
 use model_walk::Num;
 use model_walk::Piece;
 use model_walk::Walked;
@@ -34,7 +35,7 @@ pub enum Part {
 // The count of a section's parts, the positions of the first 100 of them, then zeros; and where it ends.
 pub struct Section {
     pub count: u32,
-    pub starts: [usize; 100],
+    pub starts: Positions,
     pub end: Walked,
 }
 
@@ -216,7 +217,7 @@ pub fn part_at(s: &[u8], texts: u32, part: Part, at: usize, notes: u32) -> Walke
 }
 
 // The position of the i-th part, if there is room for it.
-fn put(starts: &mut [usize; 100], i: usize, at: usize)
+fn put(starts: &mut Positions, i: usize, at: usize)
     ensures { λ _. ⌜ is starts ≡ put i at (was starts) ⌝ }
 {
     if i < 100 {
@@ -231,7 +232,7 @@ pub fn section_into(
     part: Part,
     at: usize,
     notes: u32,
-    starts: &mut [usize; 100],
+    starts: &mut Positions,
 ) -> Extent
     requires { ⌜ now starts ≡ no-starts ⌝ }
     ensures { λ r. ⌜ section r (is starts) ≡ sectionM (partM texts part) (was s) at notes ⌝ }
@@ -270,7 +271,7 @@ pub fn section_into(
 pub fn section_at(s: &[u8], texts: u32, part: Part, at: usize, notes: u32) -> Section
     ensures { λ r. ⌜ r ≡ sectionM (partM texts part) (was s) at notes ⌝ }
 {
-    let mut starts = [0usize; 100];
+    let mut starts = [0usize; layout::POSITIONS];
     let x = section_into(s, texts, part, at, notes, &mut starts);
     let end = x.end;
     Section {

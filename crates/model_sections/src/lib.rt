@@ -1,4 +1,5 @@
 // Checks of the parts of a section: what `validate` tests of entities, events, the alphabet, invariants and automations.
+use layout::Positions;
 use model_check::Checked;
 use model_check::Declared;
 use model_walk::Num;
@@ -131,7 +132,7 @@ fn stale_bad(seconds: u32) -> bool
 fn entity_of_check(
     s: &[u8],
     d: Declared,
-    entities: &[usize; 100],
+    entities: &Positions,
     name: u32,
     count: u32,
     domain: usize,
@@ -156,7 +157,7 @@ fn entity_of_check(
 fn entity_rest_check(
     s: &[u8],
     d: Declared,
-    entities: &[usize; 100],
+    entities: &Positions,
     name: u32,
     count: u32,
     domain: usize,
@@ -181,7 +182,7 @@ fn entity_rest_check(
     entity_of_check(s, d, entities, name, count, domain, value, stale, next, m)
 }
 
-fn entity_check(s: &[u8], d: Declared, entities: &[usize; 100], at: usize, n: u32) -> Checked
+fn entity_check(s: &[u8], d: Declared, entities: &Positions, at: usize, n: u32) -> Checked
     requires { ⌜ d .count ≤ 100 ⌝ }
     ensures { λ r. ⌜ r ≡ entityM (declaration d (was entities)) (was s) at n ⌝ }
 {
@@ -202,7 +203,7 @@ fn entity_check(s: &[u8], d: Declared, entities: &[usize; 100], at: usize, n: u3
 
 // ---- events and the alphabet
 
-fn input_check(s: &[u8], d: Declared, entities: &[usize; 100], at: usize, n: u32) -> Checked
+fn input_check(s: &[u8], d: Declared, entities: &Positions, at: usize, n: u32) -> Checked
     requires { ⌜ d .count ≤ 100 ⌝ }
     ensures { λ r. ⌜ r ≡ inputM (declaration d (was entities)) (was s) at n ⌝ }
 {
@@ -216,7 +217,7 @@ fn input_check(s: &[u8], d: Declared, entities: &[usize; 100], at: usize, n: u32
     Checked::To(p, n)
 }
 
-fn event_check(s: &[u8], d: Declared, entities: &[usize; 100], at: usize, n: u32) -> Checked
+fn event_check(s: &[u8], d: Declared, entities: &Positions, at: usize, n: u32) -> Checked
     requires { ⌜ d .count ≤ 100 ⌝ }
     ensures { λ r. ⌜ r ≡ eventM (declaration d (was entities)) (was s) at n ⌝ }
 {
@@ -228,7 +229,7 @@ fn event_check(s: &[u8], d: Declared, entities: &[usize; 100], at: usize, n: u32
 }
 
 // Whether an event passes the horizon or is earlier than the one before it.
-pub fn seconds_bad(s: &[u8], events: &[usize; 100], count: u32, horizon: u32) -> bool
+pub fn seconds_bad(s: &[u8], events: &Positions, count: u32, horizon: u32) -> bool
     requires { ⌜ count ≤ 100 ⌝ }
     ensures { λ r. ⌜ r ≡ seconds-bad horizon (was events) (was s) count 0 0 ⌝ }
 {
@@ -253,7 +254,7 @@ pub fn seconds_bad(s: &[u8], events: &[usize; 100], count: u32, horizon: u32) ->
     false
 }
 
-pub fn gaps_bad(s: &[u8], gaps: &[usize; 100], count: u32) -> bool
+pub fn gaps_bad(s: &[u8], gaps: &Positions, count: u32) -> bool
     requires { ⌜ count ≤ 100 ⌝ }
     ensures { λ r. ⌜ r ≡ gaps-bad (was gaps) (was s) count 0 ⌝ }
 {
@@ -295,7 +296,7 @@ fn id_is(s: &[u8], part: Part, at: usize, place: u32) -> bool
 }
 
 // Whether a part before the j-th has this identifier.
-fn seen(s: &[u8], part: Part, starts: &[usize; 100], j: usize, place: u32) -> bool
+fn seen(s: &[u8], part: Part, starts: &Positions, j: usize, place: u32) -> bool
     requires { ⌜ j ≤ 100 ⌝ }
     ensures { λ r. ⌜ r ≡ seen part (was starts) (was s) j place ⌝ }
 {
@@ -310,7 +311,7 @@ fn seen(s: &[u8], part: Part, starts: &[usize; 100], j: usize, place: u32) -> bo
     false
 }
 
-fn bad_id(s: &[u8], part: Part, starts: &[usize; 100], j: usize, place: u32) -> bool
+fn bad_id(s: &[u8], part: Part, starts: &Positions, j: usize, place: u32) -> bool
     requires { ⌜ j ≤ 100 ⌝ }
     ensures { λ r. ⌜ r ≡ bad-id part (was starts) j (was s) place ⌝ }
 {
@@ -323,7 +324,7 @@ fn bad_id(s: &[u8], part: Part, starts: &[usize; 100], j: usize, place: u32) -> 
 // ---- invariants
 
 // At least one predicate and at most 32.
-fn conditions_check(s: &[u8], d: Declared, entities: &[usize; 100], at: usize, n: u32) -> Checked
+fn conditions_check(s: &[u8], d: Declared, entities: &Positions, at: usize, n: u32) -> Checked
     requires { ⌜ d .count ≤ 100 ⌝ }
     ensures { λ r. ⌜ r ≡ conditionsM (declaration d (was entities)) (was s) at n ⌝ }
 {
@@ -340,7 +341,7 @@ fn conditions_check(s: &[u8], d: Declared, entities: &[usize; 100], at: usize, n
     model_check::predicates_check(s, d, entities, 51, at, n)
 }
 
-fn guard_check(s: &[u8], d: Declared, entities: &[usize; 100], at: usize, n: u32) -> Checked
+fn guard_check(s: &[u8], d: Declared, entities: &Positions, at: usize, n: u32) -> Checked
     requires { ⌜ d .count ≤ 100 ⌝ }
     ensures { λ r. ⌜ r ≡ guardM (declaration d (was entities)) (was s) at n ⌝ }
 {
@@ -359,7 +360,7 @@ fn guard_check(s: &[u8], d: Declared, entities: &[usize; 100], at: usize, n: u32
     model_check::value_check(s, d, entities, entity, value, t, m)
 }
 
-fn transition_check(s: &[u8], d: Declared, entities: &[usize; 100], at: usize, n: u32) -> Checked
+fn transition_check(s: &[u8], d: Declared, entities: &Positions, at: usize, n: u32) -> Checked
     requires { ⌜ d .count ≤ 100 ⌝ }
     ensures { λ r. ⌜ r ≡ transitionM (declaration d (was entities)) (was s) at n ⌝ }
 {
@@ -382,7 +383,7 @@ fn transition_check(s: &[u8], d: Declared, entities: &[usize; 100], at: usize, n
     model_check::value_check(s, d, entities, entity, to, u, m)
 }
 
-fn response_check(s: &[u8], d: Declared, entities: &[usize; 100], at: usize, n: u32) -> Checked
+fn response_check(s: &[u8], d: Declared, entities: &Positions, at: usize, n: u32) -> Checked
     requires { ⌜ d .count ≤ 100 ⌝ }
     ensures { λ r. ⌜ r ≡ responseM (declaration d (was entities)) (was s) at n ⌝ }
 {
@@ -401,7 +402,7 @@ fn response_check(s: &[u8], d: Declared, entities: &[usize; 100], at: usize, n: 
 fn invariant_of_check(
     s: &[u8],
     d: Declared,
-    entities: &[usize; 100],
+    entities: &Positions,
     kind: u32,
     at: usize,
     n: u32,
@@ -424,8 +425,8 @@ fn invariant_of_check(
 fn invariant_check(
     s: &[u8],
     d: Declared,
-    entities: &[usize; 100],
-    starts: &[usize; 100],
+    entities: &Positions,
+    starts: &Positions,
     j: usize,
     at: usize,
     n: u32,
@@ -471,7 +472,7 @@ fn bad_counts(max: u32, triggers: u32, conditions: u32) -> bool
 fn lists_check(
     s: &[u8],
     d: Declared,
-    entities: &[usize; 100],
+    entities: &Positions,
     triggers: u32,
     at: usize,
     n: u32,
@@ -494,7 +495,7 @@ fn lists_check(
 fn rule_lists_check(
     s: &[u8],
     d: Declared,
-    entities: &[usize; 100],
+    entities: &Positions,
     max: u32,
     at: usize,
     n: u32,
@@ -521,7 +522,7 @@ fn rule_lists_check(
 }
 
 // What follows an automation's identifier.
-fn rule_of_check(s: &[u8], d: Declared, entities: &[usize; 100], at: usize, n: u32) -> Checked
+fn rule_of_check(s: &[u8], d: Declared, entities: &Positions, at: usize, n: u32) -> Checked
     requires { ⌜ d .count ≤ 100 ⌝ }
     ensures { λ r. ⌜ r ≡ rule-ofM (declaration d (was entities)) (was s) at n ⌝ }
 {
@@ -539,8 +540,8 @@ fn rule_of_check(s: &[u8], d: Declared, entities: &[usize; 100], at: usize, n: u
 fn rule_check(
     s: &[u8],
     d: Declared,
-    entities: &[usize; 100],
-    starts: &[usize; 100],
+    entities: &Positions,
+    starts: &Positions,
     j: usize,
     at: usize,
     n: u32,
@@ -564,9 +565,9 @@ fn rule_check(
 fn part_check(
     s: &[u8],
     d: Declared,
-    entities: &[usize; 100],
+    entities: &Positions,
     part: Part,
-    starts: &[usize; 100],
+    starts: &Positions,
     j: usize,
     at: usize,
     n: u32,
@@ -586,9 +587,9 @@ fn part_check(
 pub fn section_check(
     s: &[u8],
     d: Declared,
-    entities: &[usize; 100],
+    entities: &Positions,
     part: Part,
-    starts: &[usize; 100],
+    starts: &Positions,
     count: u32,
     n: u32,
 ) -> Checked

@@ -1,4 +1,5 @@
 // `validate`: the refusals 1 to 19, 50 and 51 of a model file that was read, in the order of Rust's `validate`.
+use layout::Positions;
 use model_check::Checked;
 use model_check::Declared;
 use model_index::File;
@@ -154,7 +155,7 @@ fn start_bad(s: &[u8], end: Walked) -> bool
     86399 < second
 }
 
-fn alphabet_bad(s: &[u8], numbers: Numbers, gaps: &[usize; 100]) -> bool
+fn alphabet_bad(s: &[u8], numbers: Numbers, gaps: &Positions) -> bool
     ensures { λ r. ⌜ r ≡ alphabet-bad (was s) numbers (was gaps) ⌝ }
 {
     if 12 < numbers.alphabet {
@@ -171,7 +172,7 @@ fn alphabet_bad(s: &[u8], numbers: Numbers, gaps: &[usize; 100]) -> bool
 
 // ---- the model
 
-fn orders_check(s: &[u8], numbers: Numbers, events: &[usize; 100], at: usize, n: u32) -> Checked
+fn orders_check(s: &[u8], numbers: Numbers, events: &Positions, at: usize, n: u32) -> Checked
     requires { ⌜ numbers .events ≤ 100 ⌝ }
     ensures { λ r. ⌜ r ≡ ordersM numbers (was events) (was s) at n ⌝ }
 {
@@ -190,11 +191,11 @@ fn sections_check(
     s: &[u8],
     d: Declared,
     numbers: Numbers,
-    entities: &[usize; 100],
-    events: &[usize; 100],
-    invariants: &[usize; 100],
-    alphabet: &[usize; 100],
-    rules: &[usize; 100],
+    entities: &Positions,
+    events: &Positions,
+    invariants: &Positions,
+    alphabet: &Positions,
+    rules: &Positions,
 ) -> Checked
     requires { ⌜ Small (d .count) numbers ⌝ }
     ensures { λ r. ⌜ r ≡ sectionsM (declaration d (was entities)) numbers (was events) (was invariants) (was alphabet)
@@ -230,12 +231,12 @@ fn whole_check(
     s: &[u8],
     d: Declared,
     numbers: Numbers,
-    entities: &[usize; 100],
-    events: &[usize; 100],
-    invariants: &[usize; 100],
-    alphabet: &[usize; 100],
-    gaps: &[usize; 100],
-    rules: &[usize; 100],
+    entities: &Positions,
+    events: &Positions,
+    invariants: &Positions,
+    alphabet: &Positions,
+    gaps: &Positions,
+    rules: &Positions,
 ) -> Checked
     ensures { λ r. ⌜ r ≡ modelM (declaration d (was entities)) numbers (was events) (was invariants) (was alphabet)
         (was gaps) (was rules) (was s) ⌝ }
@@ -278,13 +279,13 @@ fn declared(s: &[u8], texts: u32, entities: u32) -> Declared
 // are all zeros before.
 fn examine(
     s: &[u8],
-    texts: &mut [usize; 100],
-    entities: &mut [usize; 100],
-    events: &mut [usize; 100],
-    invariants: &mut [usize; 100],
-    alphabet: &mut [usize; 100],
-    gaps: &mut [usize; 100],
-    rules: &mut [usize; 100],
+    texts: &mut Positions,
+    entities: &mut Positions,
+    events: &mut Positions,
+    invariants: &mut Positions,
+    alphabet: &mut Positions,
+    gaps: &mut Positions,
+    rules: &mut Positions,
 ) -> Outline
     requires { ⌜ (now texts ≡ no-starts) × (Zeros (now entities) (now events) (now invariants)
         × Zeros (now alphabet) (now gaps) (now rules)) ⌝ }
@@ -343,13 +344,13 @@ fn examine(
 pub fn accept(s: &[u8]) -> File
     ensures { λ r. ⌜ Says (was s) r (accepted (was s)) ⌝ }
 {
-    let mut texts = [0usize; 100];
-    let mut entities = [0usize; 100];
-    let mut events = [0usize; 100];
-    let mut invariants = [0usize; 100];
-    let mut alphabet = [0usize; 100];
-    let mut gaps = [0usize; 100];
-    let mut rules = [0usize; 100];
+    let mut texts = [0usize; layout::POSITIONS];
+    let mut entities = [0usize; layout::POSITIONS];
+    let mut events = [0usize; layout::POSITIONS];
+    let mut invariants = [0usize; layout::POSITIONS];
+    let mut alphabet = [0usize; layout::POSITIONS];
+    let mut gaps = [0usize; layout::POSITIONS];
+    let mut rules = [0usize; layout::POSITIONS];
     let x = examine(
         s,
         &mut texts,
@@ -376,13 +377,13 @@ pub fn accept(s: &[u8]) -> File
 pub fn validate(file: &[u8]) -> Validity
     ensures { λ r. ⌜ r ≡ validated (was file) ⌝ }
 {
-    let mut texts = [0usize; 100];
-    let mut entities = [0usize; 100];
-    let mut events = [0usize; 100];
-    let mut invariants = [0usize; 100];
-    let mut alphabet = [0usize; 100];
-    let mut gaps = [0usize; 100];
-    let mut rules = [0usize; 100];
+    let mut texts = [0usize; layout::POSITIONS];
+    let mut entities = [0usize; layout::POSITIONS];
+    let mut events = [0usize; layout::POSITIONS];
+    let mut invariants = [0usize; layout::POSITIONS];
+    let mut alphabet = [0usize; layout::POSITIONS];
+    let mut gaps = [0usize; layout::POSITIONS];
+    let mut rules = [0usize; layout::POSITIONS];
     let x = examine(
         file,
         &mut texts,

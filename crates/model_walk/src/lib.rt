@@ -148,7 +148,7 @@ fn optional_at(s: &[u8], texts: u32, at: usize, notes: u32) -> Walked
     let Num::Is(place, next) = x else {
         return Walked::Broken;
     };
-    if place == 65535 {
+    if place == layout::NO_PLACE {
         return Walked::To(next, notes);
     }
     if place < texts {
@@ -164,7 +164,7 @@ fn optional_note_at(s: &[u8], texts: u32, at: usize, notes: u32) -> Walked
     let Num::Is(place, next) = x else {
         return Walked::Broken;
     };
-    if place == 65535 {
+    if place == layout::NO_PLACE {
         return Walked::To(next, notes);
     }
     if place < texts {

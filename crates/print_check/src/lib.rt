@@ -5,7 +5,11 @@ use check_lines::Form;
 use checker_result::CheckResult;
 use checker_result::Status;
 use engine_summary::Simulation;
-use engine_table::Table;
+use layout::IncompleteReasons;
+use layout::SimulationReasons;
+use layout::Table;
+use layout::VerdictReasons;
+use layout::Violations;
 use simulate_lines::Word;
 ghost use Rattle.notation.specs.Reference.{was, is};
 ghost use Prim.Native.Nat.{_≤_};
@@ -37,7 +41,7 @@ fn print_violations(
     n: usize,
     form: Form,
     file: &[u8],
-    violated: &[u64; 256],
+    violated: &Violations,
     count: usize,
 ) -> usize {
     check_lines::print_violations(out, n, form, file, violated, count)
@@ -48,7 +52,7 @@ fn print_unknown(
     n: usize,
     form: Form,
     file: &[u8],
-    reasons: &[u32; 2000],
+    reasons: &VerdictReasons,
     count: usize,
 ) -> usize {
     check_lines::print_reasons(out, n, form, b"unknown", file, reasons, count)
@@ -59,7 +63,7 @@ fn print_incomplete(
     n: usize,
     form: Form,
     file: &[u8],
-    reasons: &[u32; 200],
+    reasons: &IncompleteReasons,
     count: usize,
 ) -> usize {
     check_lines::print_reasons(out, n, form, b"incomplete", file, reasons, count)
@@ -88,7 +92,7 @@ fn print_sim_unknown(
     out: &mut [u8],
     n: usize,
     file: &[u8],
-    reasons: &[u32; 1500],
+    reasons: &SimulationReasons,
     count: usize,
 ) -> usize {
     simulate_lines::print_reasons(out, n, Word::SimUnknown, file, reasons, count)
@@ -96,8 +100,7 @@ fn print_sim_unknown(
 
 // The lines of the simulation, whose records stand in the area `a`.
 fn print_simulation(out: &mut [u8], n: usize, file: &[u8], a: &[u32], s: Simulation) -> usize {
-    let t = table(file);
-    let words = t.words;
+    let words = table(file);
     let values = s.values;
     let reasons = s.reasons;
     let i = record_lines::print_records(out, n, file, &words, a, s.records);

@@ -1,7 +1,9 @@
 // The answers of `unsupported` and `simulate`, printed line by line through a lent area of bytes.
 // No contract can say what is printed; the lines are those of `simulate_lines` and `record_lines`, and their order is the
 // order of the calls here. None is lost if `out` has room for the longest one (`Kept`).
-use engine_table::Table;
+
+use layout::SimulationReasons;
+use layout::Table;
 use simulate_lines::Word;
 ghost use Rattle.notation.specs.Reference.{was, is};
 ghost use Prim.Native.Nat.{_≤_};
@@ -57,8 +59,7 @@ fn print_places(
 ) -> usize
     ensures { λ m. ⌜ Kept (was out) n (is out) m ⌝ }
 {
-    let t = table(file);
-    let words = t.words;
+    let words = table(file);
     let m = record_lines::print_records(out, n, file, &words, a, records);
     simulate_lines::print_finals(out, m, file, &words, values)
 }
@@ -76,7 +77,7 @@ fn print_unknown(
     out: &mut [u8],
     n: usize,
     file: &[u8],
-    reasons: &[u32; 1500],
+    reasons: &SimulationReasons,
     count: usize,
 ) -> usize
     ensures { λ m. ⌜ Kept (was out) n (is out) m ⌝ }

@@ -1,6 +1,7 @@
 // The answer of `verify`, printed line by line through a lent area of bytes.
 // No contract can say what is printed; the order of the lines is the order of the calls here.
 use check_lines::Form;
+use layout::VerdictReasons;
 use print_minimize::Printed;
 use search_answer::Found;
 use search_answer::Verification;
@@ -106,7 +107,7 @@ fn print_gaps(out: &mut [u8], n: usize, gaps: &[u32], count: usize) -> usize {
     m
 }
 
-fn print_told(out: &mut [u8], n: usize, file: &[u8], told: &[u32; 2000], count: usize) -> usize {
+fn print_told(out: &mut [u8], n: usize, file: &[u8], told: &VerdictReasons, count: usize) -> usize {
     simulate_lines::print_reasons(out, n, Word::Reason, file, told, count)
 }
 

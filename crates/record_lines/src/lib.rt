@@ -1,5 +1,6 @@
 // The lines of the records of `simulate`, written behind the first n bytes of a lent area as the writers of `show` do.
 // x is the table of the file f (crate `engine_table`); texts are named by their places.
+use layout::Table;
 use records::Change;
 use records::Record;
 use records::Rule;
@@ -44,13 +45,13 @@ fn word_at(x: &[u32], k: usize) -> u32
 }
 
 // The place of an automation's identifier.
-fn id_place(x: &[u32; 436], i: u32) -> u32
+fn id_place(x: &Table, i: u32) -> u32
     ensures { λ r. ⌜ r ≡ word (was x) i 0 ⌝ }
 {
     word_at(x, 80 + i as usize * 8)
 }
 
-fn put_rule(out: &mut [u8], n: usize, f: &[u8], x: &[u32; 436], rule: Rule) -> usize
+fn put_rule(out: &mut [u8], n: usize, f: &[u8], x: &Table, rule: Rule) -> usize
     ensures { λ m. ⌜ Written (quoted-if (rule-of (was x) (texts-of (was f) (was x)) rule)) (was out) n (is out) m ⌝ }
 {
     match rule {
@@ -68,7 +69,7 @@ fn put_where(out: &mut [u8], n: usize, source: Where) -> usize
     }
 }
 
-fn put_write(out: &mut [u8], n: usize, f: &[u8], x: &[u32; 436], e: u32, b: u32, a: u32) -> usize
+fn put_write(out: &mut [u8], n: usize, f: &[u8], x: &Table, e: u32, b: u32, a: u32) -> usize
     ensures { λ m.
         ⌜ Written (quoted
         (text-of (was f) (was x)
@@ -82,7 +83,7 @@ fn put_write(out: &mut [u8], n: usize, f: &[u8], x: &[u32; 436], e: u32, b: u32,
     put_place(out, l, f, x, a)
 }
 
-fn put_change(out: &mut [u8], n: usize, f: &[u8], x: &[u32; 436], change: Change) -> usize
+fn put_change(out: &mut [u8], n: usize, f: &[u8], x: &Table, change: Change) -> usize
     ensures { λ m. ⌜ Written (changed (change-of (was x) (texts-of (was f) (was x)) change)) (was out) n (is out) m ⌝ }
 {
     match change {
@@ -162,7 +163,7 @@ fn put_end(out: &mut [u8], n: usize, kind: u32, number: u32) -> usize
 }
 
 // A record's detail, quoted.
-fn put_detail(out: &mut [u8], n: usize, f: &[u8], x: &[u32; 436], kind: u32, number: u32) -> usize
+fn put_detail(out: &mut [u8], n: usize, f: &[u8], x: &Table, kind: u32, number: u32) -> usize
     ensures { λ m. ⌜ Written (quoted (detail (kind-of (was x) (texts-of (was f) (was x)) kind number))) (was out) n (is out)
         m ⌝ }
 {
@@ -191,7 +192,7 @@ fn put_head(out: &mut [u8], n: usize, k: usize, second: u32, kind: u32) -> usize
     show::put_byte(out, g, 32)
 }
 
-fn put_entry(out: &mut [u8], n: usize, f: &[u8], x: &[u32; 436], k: usize, r: Record) -> usize
+fn put_entry(out: &mut [u8], n: usize, f: &[u8], x: &Table, k: usize, r: Record) -> usize
     ensures { λ m. ⌜ Written (record-line k (record-of (was x) (texts-of (was f) (was x)) r)) (was out) n (is out) m ⌝ }
 {
     let rule = r.rule;
@@ -209,7 +210,7 @@ fn put_entry(out: &mut [u8], n: usize, f: &[u8], x: &[u32; 436], k: usize, r: Re
 }
 
 // The record at k of the record area.
-pub fn put_record(out: &mut [u8], n: usize, f: &[u8], x: &[u32; 436], a: &[u32], k: usize) -> usize
+pub fn put_record(out: &mut [u8], n: usize, f: &[u8], x: &Table, a: &[u32], k: usize) -> usize
     requires { ⌜ k * 13 + 13 ≤ length (now a) ⌝ }
     ensures { λ m. ⌜ RecordPut (was f) (was x) (was a) k (was out) n (is out) m ⌝ }
 {
@@ -221,7 +222,7 @@ pub fn put_record(out: &mut [u8], n: usize, f: &[u8], x: &[u32; 436], a: &[u32],
 // The answer is where the next text goes; whoever printed last flushes. No line is cut if `out` has room for the longest
 // one.
 
-fn print_record(out: &mut [u8], n: usize, f: &[u8], x: &[u32; 436], a: &[u32], k: usize) -> usize
+fn print_record(out: &mut [u8], n: usize, f: &[u8], x: &Table, a: &[u32], k: usize) -> usize
     requires { ⌜ k * 13 + 13 ≤ length (now a) ⌝ }
     ensures { λ m. ⌜ Kept (was out) n (is out) m ⌝ }
 {
@@ -234,7 +235,7 @@ pub fn print_records(
     out: &mut [u8],
     n: usize,
     f: &[u8],
-    x: &[u32; 436],
+    x: &Table,
     a: &[u32],
     count: usize,
 ) -> usize

@@ -4,6 +4,13 @@ use checker_result::Shared;
 use checker_result::Status;
 use engine_entry::Base;
 use engine_inputs::Events;
+use layout::EventWords;
+use layout::IncompleteReasons;
+use layout::Positions;
+use layout::SimulationReasons;
+use layout::Table;
+use layout::VerdictReasons;
+use layout::Violations;
 use model_index::Index;
 ghost use Rattle.notation.specs.Reference.{was};
 ghost use mathlib.Core.Path.{_≡_};
@@ -29,13 +36,13 @@ ghost use Rattle.reduce.specs.Contracts.{
 pub struct Reduced {
     pub refused: u32,
     pub count: usize,
-    pub words: [u32; 400],
+    pub words: EventWords,
     pub attempts: u32,
     pub reached: usize,
 }
 
 // The first `count` events without the one at a place.
-fn without(words: [u32; 400], count: usize, place: usize) -> Events
+fn without(words: EventWords, count: usize, place: usize) -> Events
     requires { ⌜ (place < count) × ((count ≤ 100) × (length words ≡ 400)) ⌝ }
     ensures { λ r. ⌜ Without words count place (r .words) ⌝ }
 {
@@ -45,7 +52,7 @@ fn without(words: [u32; 400], count: usize, place: usize) -> Events
 }
 
 // One of the first n violations, eight numbers each, is of the target.
-fn named(violated: &[u64; 256], n: usize, target: u64) -> bool
+fn named(violated: &Violations, n: usize, target: u64) -> bool
     requires { ⌜ n ≤ 32 ⌝ }
     ensures { λ r. ⌜ r ≡ among (was violated) n target ⌝ }
 {
@@ -82,7 +89,7 @@ fn few(n: usize) -> usize
 }
 
 // The check is a violation, of the target too.
-fn violates(j: Judgement, violated: &[u64; 256], target: u64) -> bool
+fn violates(j: Judgement, violated: &Violations, target: u64) -> bool
     ensures { λ r. ⌜ r ≡ violatesM (j .status) (j .violations) (was violated) target ⌝ }
 {
     let status = j.status;
@@ -144,19 +151,19 @@ fn tried(r: Reduced, w: Events, number: u32, stays: bool) -> Reduced
 // The check of the events without the one at the place reached. `notes` holds the reasons of the notes.
 fn attempt(
     file: &[u8],
-    table: &[u32; 436],
-    starts: &[usize; 100],
-    notes: &[u32; 1500],
+    table: &Table,
+    starts: &Positions,
+    notes: &SimulationReasons,
     shared: Shared,
     target: u64,
     r: Reduced,
     queue: &mut [u32],
     records: &mut [u32],
     runs: &mut [u32],
-    reasons: &mut [u32; 1500],
-    violated: &mut [u64; 256],
-    unknowns: &mut [u32; 2000],
-    incompletes: &mut [u32; 200],
+    reasons: &mut SimulationReasons,
+    violated: &mut Violations,
+    unknowns: &mut VerdictReasons,
+    incompletes: &mut IncompleteReasons,
 ) -> Reduced
     requires { ⌜ Open r ⌝ }
     ensures { λ e. ⌜ Attempted (was file) (was starts) (shared .invariants)
@@ -193,7 +200,7 @@ pub fn reduce_events(
     file: &[u8],
     index: Index,
     b: Base,
-    notes: &[u32; 1500],
+    notes: &SimulationReasons,
     target: u64,
     events: Events,
     n: usize,
@@ -214,10 +221,10 @@ pub fn reduce_events(
         notes: b.count,
         invariants: invariants.count,
     };
-    let mut reasons = [0u32; 1500];
-    let mut violated = [0u64; 256];
-    let mut unknowns = [0u32; 2000];
-    let mut incompletes = [0u32; 200];
+    let mut reasons = [0u32; layout::SIMULATION_REASONS];
+    let mut violated = [0u64; layout::VIOLATIONS];
+    let mut unknowns = [0u32; layout::VERDICT_REASONS];
+    let mut incompletes = [0u32; layout::INCOMPLETE_REASONS];
     let words = events.words;
     let mut r = Reduced {
         refused: 0,

@@ -1,6 +1,7 @@
 // The entry `minimize`: a violating model with fewer events, written as a model file.
 use engine_entry::Base;
 use engine_inputs::Events;
+use layout::SimulationReasons;
 use model_index::Index;
 use reduce_result::Minimized;
 ghost use Rattle.notation.specs.Reference.{was, is};
@@ -13,7 +14,7 @@ fn reduction(
     file: &[u8],
     index: Index,
     b: Base,
-    notes: &[u32; 1500],
+    notes: &SimulationReasons,
     target: u64,
     events: Events,
     n: usize,
@@ -63,7 +64,7 @@ fn first_check(
     file: &[u8],
     index: Index,
     b: Base,
-    notes: &[u32; 1500],
+    notes: &SimulationReasons,
     events: Events,
     n: usize,
     queue: &mut [u32],
@@ -119,7 +120,7 @@ fn run(
     if output.len() < file.len() + 45 {
         return reduce_result::refused(44);
     }
-    let mut notes = [0u32; 1500];
+    let mut notes = [0u32; layout::SIMULATION_REASONS];
     let b = engine_entry::prepared(file, index, &mut notes);
     let table = b.table;
     let events = engine_inputs::events_of(file, index);

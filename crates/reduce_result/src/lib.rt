@@ -2,6 +2,8 @@
 use checker_result::CheckResult;
 use checker_result::Shared;
 use engine_entry::Base;
+use layout::EventWords;
+use layout::SimulationReasons;
 use model_index::Index;
 use reduce::Reduced;
 ghost use Rattle.notation.specs.Reference.{was, is};
@@ -22,7 +24,7 @@ pub struct Minimized {
     pub attempts: u32,
     pub deletion_minimal: bool,
     pub events: usize,
-    pub words: [u32; 400],
+    pub words: EventWords,
     pub written: usize,
     pub check: CheckResult,
 }
@@ -38,7 +40,7 @@ pub fn refused(number: u32) -> Minimized
         attempts: 0,
         deletion_minimal: false,
         events: 0,
-        words: [0u32; 400],
+        words: [0u32; layout::EVENT_WORDS],
         written: 0,
         check,
     }
@@ -67,7 +69,7 @@ pub fn check_of(
     file: &[u8],
     index: Index,
     b: Base,
-    notes: &[u32; 1500],
+    notes: &SimulationReasons,
     words: &[u32],
     n: usize,
     queue: &mut [u32],
@@ -108,7 +110,7 @@ pub fn last_check(
     file: &[u8],
     index: Index,
     b: Base,
-    notes: &[u32; 1500],
+    notes: &SimulationReasons,
     target: u64,
     original_events: usize,
     r: Reduced,

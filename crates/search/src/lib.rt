@@ -1,4 +1,10 @@
 // The bounded search for a violation: each list of events up to a depth, by depth, from the alphabet and the gaps.
+use layout::IncompleteReasons;
+use layout::Positions;
+use layout::SimulationReasons;
+use layout::Table;
+use layout::VerdictReasons;
+use layout::Violations;
 use search_cases::Plan;
 use search_cases::Search;
 use search_inputs::Placed;
@@ -14,9 +20,9 @@ ghost use Rattle.search.specs.Contracts.{Tries, Visits, Deepens};
 // The check with the events placed so far, unless the budget is spent.
 fn try_case(
     file: &[u8],
-    table: &[u32; 436],
-    starts: &[usize; 100],
-    notes: &[u32; 1500],
+    table: &Table,
+    starts: &Positions,
+    notes: &SimulationReasons,
     p: Plan,
     placed: Placed,
     o: Search,
@@ -24,10 +30,10 @@ fn try_case(
     records: &mut [u32],
     runs: &mut [u32],
     w: &mut [u32],
-    reasons: &mut [u32; 1500],
-    violated: &mut [u64; 256],
-    unknowns: &mut [u32; 2000],
-    incompletes: &mut [u32; 200],
+    reasons: &mut SimulationReasons,
+    violated: &mut Violations,
+    unknowns: &mut VerdictReasons,
+    incompletes: &mut IncompleteReasons,
 ) -> Search
     requires { ⌜ Shaped p placed 0 (length (now w)) ⌝ }
     ensures { λ r. ⌜ Tries (was file) (entire p (was table) (was starts) (was notes)) placed o (was w) r (is w)
@@ -84,9 +90,9 @@ fn try_case(
 // `remaining` more events are placed, and then the case is checked.
 fn visit(
     file: &[u8],
-    table: &[u32; 436],
-    starts: &[usize; 100],
-    notes: &[u32; 1500],
+    table: &Table,
+    starts: &Positions,
+    notes: &SimulationReasons,
     p: Plan,
     remaining: usize,
     placed: Placed,
@@ -95,10 +101,10 @@ fn visit(
     records: &mut [u32],
     runs: &mut [u32],
     w: &mut [u32],
-    reasons: &mut [u32; 1500],
-    violated: &mut [u64; 256],
-    unknowns: &mut [u32; 2000],
-    incompletes: &mut [u32; 200],
+    reasons: &mut SimulationReasons,
+    violated: &mut Violations,
+    unknowns: &mut VerdictReasons,
+    incompletes: &mut IncompleteReasons,
 ) -> Search
     requires { ⌜ Shaped p placed remaining (length (now w)) ⌝ }
     ensures { λ r. ⌜ Visits (was file) (entire p (was table) (was starts) (was notes)) remaining placed o (was w) r (is w)
@@ -162,9 +168,9 @@ fn visit(
 // The depths from 0 to `depth`.
 fn deepen(
     file: &[u8],
-    table: &[u32; 436],
-    starts: &[usize; 100],
-    notes: &[u32; 1500],
+    table: &Table,
+    starts: &Positions,
+    notes: &SimulationReasons,
     p: Plan,
     depth: usize,
     o: Search,
@@ -172,10 +178,10 @@ fn deepen(
     records: &mut [u32],
     runs: &mut [u32],
     w: &mut [u32],
-    reasons: &mut [u32; 1500],
-    violated: &mut [u64; 256],
-    unknowns: &mut [u32; 2000],
-    incompletes: &mut [u32; 200],
+    reasons: &mut SimulationReasons,
+    violated: &mut Violations,
+    unknowns: &mut VerdictReasons,
+    incompletes: &mut IncompleteReasons,
 ) -> Search
     requires { ⌜ (depth ≤ 5) × Fitted p (length (now w)) ⌝ }
     ensures { λ r. ⌜ Deepens (was file) (entire p (was table) (was starts) (was notes)) depth o (was w) r (is w)
@@ -214,9 +220,9 @@ fn deepen(
 // The same, with the arrays that each check writes.
 pub fn search_depths(
     file: &[u8],
-    table: &[u32; 436],
-    starts: &[usize; 100],
-    notes: &[u32; 1500],
+    table: &Table,
+    starts: &Positions,
+    notes: &SimulationReasons,
     p: Plan,
     depth: usize,
     o: Search,
@@ -229,10 +235,10 @@ pub fn search_depths(
     ensures { λ r. ⌜ Deepens (was file) (entire p (was table) (was starts) (was notes)) depth o (was w) r (is w)
         (length (was queue)) (length (was records)) (length (was runs)) ⌝ }
 {
-    let mut reasons = [0u32; 1500];
-    let mut violated = [0u64; 256];
-    let mut unknowns = [0u32; 2000];
-    let mut incompletes = [0u32; 200];
+    let mut reasons = [0u32; layout::SIMULATION_REASONS];
+    let mut violated = [0u64; layout::VIOLATIONS];
+    let mut unknowns = [0u32; layout::VERDICT_REASONS];
+    let mut incompletes = [0u32; layout::INCOMPLETE_REASONS];
     deepen(
         file,
         table,

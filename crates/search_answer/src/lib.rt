@@ -1,6 +1,10 @@
 // The answer of `verify`, from a search and its witness.
 use checker_result::CheckResult;
 use checker_result::Judgement;
+use layout::IncompleteReasons;
+use layout::SimulationReasons;
+use layout::VerdictReasons;
+use layout::Violations;
 use search_cases::Plan;
 use search_cases::Search;
 ghost use Rattle.notation.specs.Reference.{was, is};
@@ -35,7 +39,7 @@ pub struct Verification {
     pub gaps: usize,
     pub seconds: [u32; 4],
     pub reasons: usize,
-    pub told: [u32; 2000],
+    pub told: VerdictReasons,
     pub shortest: bool,
     pub events: usize,
     pub words: [u32; 20],
@@ -67,17 +71,17 @@ pub struct Searched {
 // A refusal is nothing but its number; all lists are cleared.
 pub fn refused(
     number: u32,
-    told: &mut [u32; 2000],
-    reasons: &mut [u32; 1500],
-    violated: &mut [u64; 256],
-    unknowns: &mut [u32; 2000],
-    incompletes: &mut [u32; 200],
+    told: &mut VerdictReasons,
+    reasons: &mut SimulationReasons,
+    violated: &mut Violations,
+    unknowns: &mut VerdictReasons,
+    incompletes: &mut IncompleteReasons,
 ) -> Searched
     ensures { λ r. ⌜ whole-of r (is told) (is violated) (is unknowns) (is incompletes) (is reasons)
         ≡ no-verification number ⌝ }
 {
     let check = checker_result::refused_judgement(0, reasons, violated, unknowns, incompletes);
-    *told = [0u32; 2000];
+    *told = [0u32; layout::VERDICT_REASONS];
     Searched {
         status: Found::Refused(number),
         cases: 0,
@@ -110,10 +114,10 @@ pub struct Witness {
 }
 
 pub fn no_witness(
-    reasons: &mut [u32; 1500],
-    violated: &mut [u64; 256],
-    unknowns: &mut [u32; 2000],
-    incompletes: &mut [u32; 200],
+    reasons: &mut SimulationReasons,
+    violated: &mut Violations,
+    unknowns: &mut VerdictReasons,
+    incompletes: &mut IncompleteReasons,
 ) -> Witness
     ensures { λ r. ⌜ with-check r (result-of (r .check) (is violated) (is unknowns) (is incompletes) (is reasons))
         ≡ without ⌝ }
@@ -149,7 +153,7 @@ pub fn told_of(
     o: Search,
     w: &[u32],
     x: Witness,
-    told: &mut [u32; 2000],
+    told: &mut VerdictReasons,
 ) -> Searched
     requires { ⌜ length (now w) ≡ 4000 ⌝ }
     ensures { λ r.
@@ -162,7 +166,7 @@ pub fn told_of(
     let seconds = gaps.seconds;
     let words = x.words;
     let check = x.check;
-    *told = [0u32; 2000];
+    *told = [0u32; layout::VERDICT_REASONS];
     let many = search_cases::few(o.reasons, 400);
     let reasons = reasons::merge(file, told, 0, w, many);
     let status = status_of(o.found, reasons);
@@ -200,11 +204,11 @@ pub fn clear(queue: &mut [u32], records: &mut [u32], runs: &mut [u32])
 
 pub fn with_lists(
     x: Searched,
-    list: &[u32; 2000],
-    reasons: &[u32; 1500],
-    violated: &[u64; 256],
-    unknowns: &[u32; 2000],
-    incompletes: &[u32; 200],
+    list: &VerdictReasons,
+    reasons: &SimulationReasons,
+    violated: &Violations,
+    unknowns: &VerdictReasons,
+    incompletes: &IncompleteReasons,
 ) -> Verification
     ensures { λ r. ⌜ r ≡ whole-of x (was list) (was violated) (was unknowns) (was incompletes) (was reasons) ⌝ }
 {

@@ -2,6 +2,9 @@
 use checker_result::Shared;
 use checker_result::Status;
 use engine_state::Cells;
+use layout::IncompleteReasons;
+use layout::SimulationReasons;
+use layout::VerdictReasons;
 use model_index::Index;
 use search_inputs::Alphabet;
 use search_inputs::Gaps;
@@ -190,9 +193,9 @@ pub fn gather(
     w: &mut [u32],
     n: usize,
     unknown: usize,
-    unknowns: &[u32; 2000],
+    unknowns: &VerdictReasons,
     incomplete: usize,
-    incompletes: &[u32; 200],
+    incompletes: &IncompleteReasons,
 ) -> usize
     requires { ⌜ length (now w) ≡ 4000 ⌝ }
     ensures { λ r. ⌜ Gathers (was f) n unknown (was unknowns) incomplete (was incompletes) (was w) r (is w) ⌝ }
@@ -247,7 +250,7 @@ pub fn next_events(p: Plan, placed: Placed, k: usize) -> Placed
 }
 
 // Before the first case: the reasons of the automations' notes, so many.
-pub fn begun(f: &[u8], notes: &[u32; 1500], n: usize, w: &mut [u32]) -> Search
+pub fn begun(f: &[u8], notes: &SimulationReasons, n: usize, w: &mut [u32]) -> Search
     requires { ⌜ length (now w) ≡ 4000 ⌝ }
     ensures { λ r. ⌜ Begins (was f) n (was notes) (was w) r (is w) ⌝ }
 {

@@ -1,4 +1,10 @@
 // The entry `verify`: the bounded search, its witness and the witness's file.
+use layout::IncompleteReasons;
+use layout::Positions;
+use layout::SimulationReasons;
+use layout::Table;
+use layout::VerdictReasons;
+use layout::Violations;
 use model_index::Index;
 use search_answer::Searched;
 use search_answer::Verification;
@@ -23,18 +29,18 @@ ghost use Rattle.search_entry.specs.Contracts.{Writable, Writes, Reached
 // witness's simulation.
 fn witness_of(
     file: &[u8],
-    table: &[u32; 436],
-    starts: &[usize; 100],
+    table: &Table,
+    starts: &Positions,
     p: Plan,
     placed: Placed,
     queue: &mut [u32],
     records: &mut [u32],
     runs: &mut [u32],
     output: &mut [u8],
-    reasons: &mut [u32; 1500],
-    violated: &mut [u64; 256],
-    unknowns: &mut [u32; 2000],
-    incompletes: &mut [u32; 200],
+    reasons: &mut SimulationReasons,
+    violated: &mut Violations,
+    unknowns: &mut VerdictReasons,
+    incompletes: &mut IncompleteReasons,
 ) -> Witness
     requires { ⌜ Writable (now file) (entire p (now table) (now starts) (now reasons)) placed (length (now queue))
         (length (now records)) (length (now runs)) (length (now output)) ⌝ }
@@ -76,8 +82,8 @@ fn witness_of(
 fn ended(
     file: &[u8],
     limits: usize,
-    table: &[u32; 436],
-    starts: &[usize; 100],
+    table: &Table,
+    starts: &Positions,
     p: Plan,
     o: Search,
     w: &[u32],
@@ -85,11 +91,11 @@ fn ended(
     records: &mut [u32],
     runs: &mut [u32],
     output: &mut [u8],
-    told: &mut [u32; 2000],
-    reasons: &mut [u32; 1500],
-    violated: &mut [u64; 256],
-    unknowns: &mut [u32; 2000],
-    incompletes: &mut [u32; 200],
+    told: &mut VerdictReasons,
+    reasons: &mut SimulationReasons,
+    violated: &mut Violations,
+    unknowns: &mut VerdictReasons,
+    incompletes: &mut IncompleteReasons,
 ) -> Searched
     requires { ⌜ Reached (now file) (entire p (now table) (now starts) (now reasons)) o (now w) (length (now queue))
         (length (now records)) (length (now runs)) (length (now output)) ⌝ }
@@ -133,11 +139,11 @@ fn run(
     records: &mut [u32],
     runs: &mut [u32],
     output: &mut [u8],
-    told: &mut [u32; 2000],
-    reasons: &mut [u32; 1500],
-    violated: &mut [u64; 256],
-    unknowns: &mut [u32; 2000],
-    incompletes: &mut [u32; 200],
+    told: &mut VerdictReasons,
+    reasons: &mut SimulationReasons,
+    violated: &mut Violations,
+    unknowns: &mut VerdictReasons,
+    incompletes: &mut IncompleteReasons,
 ) -> Searched
     requires { ⌜ (Accepted (now file) index) × (length (now file) + 45 ≤ length (now output)) ⌝ }
     ensures { λ r. ⌜ Runs (was file) index (whole-of r (is told) (is violated) (is unknowns) (is incompletes) (is reasons))
@@ -195,11 +201,11 @@ fn admitted(
     records: &mut [u32],
     runs: &mut [u32],
     output: &mut [u8],
-    told: &mut [u32; 2000],
-    reasons: &mut [u32; 1500],
-    violated: &mut [u64; 256],
-    unknowns: &mut [u32; 2000],
-    incompletes: &mut [u32; 200],
+    told: &mut VerdictReasons,
+    reasons: &mut SimulationReasons,
+    violated: &mut Violations,
+    unknowns: &mut VerdictReasons,
+    incompletes: &mut IncompleteReasons,
 ) -> Searched
     requires { ⌜ Accepted (now file) index ⌝ }
     ensures { λ r. ⌜ Admits (was file) index (whole-of r (is told) (is violated) (is unknowns) (is incompletes) (is reasons))
@@ -237,11 +243,11 @@ pub fn verify_lent(
     records: &mut [u32],
     runs: &mut [u32],
     output: &mut [u8],
-    told: &mut [u32; 2000],
-    reasons: &mut [u32; 1500],
-    violated: &mut [u64; 256],
-    unknowns: &mut [u32; 2000],
-    incompletes: &mut [u32; 200],
+    told: &mut VerdictReasons,
+    reasons: &mut SimulationReasons,
+    violated: &mut Violations,
+    unknowns: &mut VerdictReasons,
+    incompletes: &mut IncompleteReasons,
 ) -> Searched
     ensures { λ r. ⌜ Verifies (was file) (whole-of r (is told) (is violated) (is unknowns) (is incompletes) (is reasons))
         (lent (was queue) (was records) (was runs)) (lent (is queue) (is records) (is runs)) (was output) (is output) ⌝ }
@@ -281,11 +287,11 @@ pub fn verify(
     ensures { λ r. ⌜ Verifies (was file) r (lent (was queue) (was records) (was runs))
         (lent (is queue) (is records) (is runs)) (was output) (is output) ⌝ }
 {
-    let mut told = [0u32; 2000];
-    let mut reasons = [0u32; 1500];
-    let mut violated = [0u64; 256];
-    let mut unknowns = [0u32; 2000];
-    let mut incompletes = [0u32; 200];
+    let mut told = [0u32; layout::VERDICT_REASONS];
+    let mut reasons = [0u32; layout::SIMULATION_REASONS];
+    let mut violated = [0u64; layout::VIOLATIONS];
+    let mut unknowns = [0u32; layout::VERDICT_REASONS];
+    let mut incompletes = [0u32; layout::INCOMPLETE_REASONS];
     let x = verify_lent(
         file,
         queue,

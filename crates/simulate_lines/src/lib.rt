@@ -1,6 +1,7 @@
 // The lines of `unsupported` and `simulate` besides the records: numbers, reasons, why a simulation is incomplete, and the
 // entities' values at the end. They are written behind the first n bytes of a lent area as the writers of `show` do. x is
 // the table of the file f (crate `engine_table`); texts are named by their places.
+use layout::Table;
 use reasons::Reason;
 ghost use Rattle.notation.specs.Reference.{was, is};
 ghost use Prim.Native.Nat.{_+_, _*_, _≤_, _<_};
@@ -138,10 +139,10 @@ pub fn put_incomplete(out: &mut [u8], n: usize, why: u32, waiting: bool) -> usiz
 // ---- texts by place
 
 // The text at a place, quoted; the empty text for a place past the last.
-pub fn put_place(out: &mut [u8], n: usize, f: &[u8], x: &[u32; 436], place: u32) -> usize
+pub fn put_place(out: &mut [u8], n: usize, f: &[u8], x: &Table, place: u32) -> usize
     ensures { λ m. ⌜ Written (quoted (text-of (was f) (was x) place)) (was out) n (is out) m ⌝ }
 {
-    if x[9] <= place {
+    if x[layout::TEXT_COUNT] <= place {
         return show::put(out, n, b"\"\"");
     }
     let at = texts::text_start(f, 6, place);
@@ -149,7 +150,7 @@ pub fn put_place(out: &mut [u8], n: usize, f: &[u8], x: &[u32; 436], place: u32)
 }
 
 // The value of an entity at the end.
-pub fn put_final(out: &mut [u8], n: usize, f: &[u8], x: &[u32; 436], e: usize, value: u32) -> usize
+pub fn put_final(out: &mut [u8], n: usize, f: &[u8], x: &Table, e: usize, value: u32) -> usize
     requires { ⌜ e < 32 ⌝ }
     ensures { λ m. ⌜ Written (final-line (text-of (was f) (was x) (name (was x) e)) (text-of (was f) (was x) value))
         (was out) n (is out) m ⌝ }
@@ -216,7 +217,7 @@ pub fn print_reasons(
     m
 }
 
-fn print_final(out: &mut [u8], n: usize, f: &[u8], x: &[u32; 436], e: usize, value: u32) -> usize
+fn print_final(out: &mut [u8], n: usize, f: &[u8], x: &Table, e: usize, value: u32) -> usize
     requires { ⌜ e < 32 ⌝ }
     ensures { λ m. ⌜ Kept (was out) n (is out) m ⌝ }
 {
@@ -225,10 +226,10 @@ fn print_final(out: &mut [u8], n: usize, f: &[u8], x: &[u32; 436], e: usize, val
 }
 
 // The entities' values at the end, by the places of their texts.
-pub fn print_finals(out: &mut [u8], n: usize, f: &[u8], x: &[u32; 436], values: &[u32; 32]) -> usize
+pub fn print_finals(out: &mut [u8], n: usize, f: &[u8], x: &Table, values: &[u32; 32]) -> usize
     ensures { λ m. ⌜ Kept (was out) n (is out) m ⌝ }
 {
-    let many = engine_fields::at_most(x[0], 32);
+    let many = engine_fields::at_most(x[layout::ENTITY_COUNT], 32);
     let mut m = n;
     let mut e: usize = 0;
     while e < many {

@@ -13,7 +13,7 @@ use Rattle.engine_table.proofs.head_word.Reads as head-word-reads
 
 abbrev Inv-loop : tie.InvT-loop
 Inv-loop s index words₀ k₀ words k = ((j : ℕ) → j < k → getD words j 0 ≡ head-word s index j)
-    × ((length words ≡ 436) × (k ≤ 16))
+    × ((length words ≡ 336) × (k ≤ 16))
 
 abbrev μ-loop : tie.MeasureT-loop
 μ-loop s index words₀ k₀ words k = 16 - k
@@ -24,7 +24,7 @@ headed-spec =
     (tie.spec
     Inv-loop
     μ-loop
-    (λ c. (λ j h. absurd (omega arith), (length-replicate {A = ℕ} 436 0, omega arith)))
+    (λ c. (λ j h. absurd (omega arith), (length-replicate {A = ℕ} 336 0, omega arith)))
     (λ c κs. search needs)
     (λ c. search needs)
     (λ c. search needs)

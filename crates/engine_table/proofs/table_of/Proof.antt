@@ -15,7 +15,7 @@ use Rattle.engine_table.proofs.part_word.Reads as part-word-reads
 abbrev Inv-loop : tie.InvT-loop
 Inv-loop s names rules count n words₀ k₀ words k =
     ((j : ℕ) → j < k → getD words j 0 ≡ laws.so-far count s names rules words₀ j)
-    × ((length words ≡ 436) × ((16 ≤ k) × (k ≤ 80 + n * 8)))
+    × ((length words ≡ 336) × ((16 ≤ k) × (k ≤ 80 + n * 8)))
 
 abbrev μ-loop : tie.MeasureT-loop
 μ-loop s names rules count n words₀ k₀ words k = 80 + n * 8 - k

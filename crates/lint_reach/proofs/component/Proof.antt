@@ -2,7 +2,7 @@ use borrow.Author.Needs.{needs}
 use mathlib.Core.Path.{_≡_, sym, _∙_}
 use native.Mathlib.Omega.{arith}
 use Rattle.lint_reach.proofs.Bits as bits
-use Rattle.lint_reach.proofs.Components as parts
+use Rattle.lint_reach.proofs.ComponentLaws as parts
 use Rattle.lint_reach.specs.Sets.{collect}
 use Rattle.lint_reach.specs.Cycles.{componentM, bothM}
 use Prim.Native.Nat.{_-_, _≤_}

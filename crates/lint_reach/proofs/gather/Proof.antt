@@ -1,8 +1,8 @@
 use borrow.Author.Needs.{needs}
 use native.Mathlib.Omega.{arith}
 use Rattle.lint_reach.proofs.Bits as bits
-use Rattle.lint_reach.proofs.Components as parts
-use Rattle.lint_reach.proofs.Components.{Gathered}
+use Rattle.lint_reach.proofs.ComponentLaws as parts
+use Rattle.lint_reach.proofs.ComponentLaws.{Gathered}
 use Prim.Native.Nat.{_-_, _≤_}
 use Rattle.lint_reach.proofs.gather.Statement.{statement}
 use Rattle.lint_reach.proofs.gather.Tie as tie

@@ -1,5 +1,5 @@
 use Rattle.lint_reach.proofs.Bits as bits
-use Rattle.lint_reach.proofs.Components as parts
+use Rattle.lint_reach.proofs.ComponentLaws as parts
 use borrow.Author.Needs.{needs}
 use Rattle.lint_reach.proofs.with.Statement.{statement}
 use Rattle.lint_reach.proofs.with.Tie as tie
