@@ -2,7 +2,6 @@
 ghost use Rattle.notation.specs.Reference.{was};
 ghost use mathlib.Core.Path.{_≡_};
 ghost use Prim.Native.Nat.{_≤_};
-ghost use lib.ListN.{length};
 ghost use Rattle.arguments.specs.Number.{with-digit, number-of};
 
 // A number with a digit behind it, or the most if it is more.

@@ -15,7 +15,7 @@ use Rattle.engine_spec.specs.Memory.{entries}
 use Rattle.engine_spec.specs.Records.{Areas}
 use Rattle.engine_spec.specs.Words.{source-words, texts-in, entry-words, sizes}
 use Rattle.engine_spec.proofs.Distinct.{answer-eq, refused-answer}
-use Rattle.engine_fields.specs.Fields.{atMost}
+use Rattle.bounds.specs.Bounds.{atMost}
 use Rattle.checker_spec.specs.Check.{Violation, Status, Check, check, all-check}
 use Rattle.checker_spec.specs.Judge.{prohibited-state}
 use Rattle.checker_result.specs.declared.CheckResult.{CheckResult}

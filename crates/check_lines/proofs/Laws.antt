@@ -14,7 +14,7 @@ use Rattle.texts.proofs.Ordering.{lt-or-ge}
 use Rattle.reasons.specs.declared.Reason.{Reason}
 use Rattle.reasons.specs.Reasons.{render, placed}
 use Rattle.reasons.proofs.Digits as digits
-use Rattle.engine_fields.specs.Fields.{atMost}
+use Rattle.bounds.specs.Bounds.{atMost}
 use Rattle.checker_spec.specs.Judge.{message, deadline-missed}
 use Rattle.show.specs.Lines.{newline, escape, quoted, dash, all-lines}
 use Rattle.show.proofs.Laws as show

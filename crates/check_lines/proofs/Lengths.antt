@@ -11,7 +11,7 @@ use Rattle.reasons.specs.declared.Reason.{Reason}
 use Rattle.reasons.specs.Reasons.{render, placed}
 use Rattle.reasons.proofs.Digits as digits
 use Rattle.model_spec.specs.Model.{Source}
-use Rattle.engine_fields.specs.Fields.{atMost}
+use Rattle.bounds.specs.Bounds.{atMost}
 use Rattle.checker_spec.specs.Judge.{
   Failure,
   prohibited-state,

@@ -8,7 +8,7 @@ use Rattle.texts.specs.Lists.{if_then_else_}
 use Rattle.texts.specs.Texts.{Text}
 use Rattle.texts.specs.Places.{textAt, startFrom}
 use Rattle.model_spec.specs.Model.{Source}
-use Rattle.engine_fields.specs.Fields.{atMost}
+use Rattle.bounds.specs.Bounds.{atMost}
 use Rattle.checker_spec.specs.Judge.{Failure, prohibited-state, guard-violated, forbidden-transition, deadline-missed}
 use Rattle.checker_spec.specs.Check.{Violation}
 use Rattle.check_lines.specs.declared.Violated.{Violated}

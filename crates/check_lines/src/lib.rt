@@ -1,14 +1,11 @@
 // The lines of `check`, written behind the first n bytes of a lent area as the writers of `show` do. f is the model file.
 // A violation comes as eight numbers, a reason as five words.
-use reasons::Reason;
 ghost use Rattle.notation.specs.Reference.{was, is};
 ghost use mathlib.Core.Path.{_≡_};
-ghost use mathlib.Core.List.{[], _∷_, _++_};
 ghost use Prim.Native.Nat.{_+_, _*_, _≤_};
 ghost use lib.ListN.{length, drop};
 ghost use Rattle.reasons.specs.Reasons.{render};
 ghost use Rattle.reasons.specs.Lists.{reason-of};
-ghost use Rattle.engine_fields.specs.Fields.{atMost};
 ghost use Rattle.record_lines.specs.Lines.{placed-if};
 ghost use Rattle.checker_spec.specs.Judge.{message, deadline-missed};
 ghost use Rattle.show.specs.Lines.{quoted};
@@ -50,27 +47,17 @@ pub fn violated_at(a: &[u64], k: usize) -> Violated
 
 // ---- the parts of a violation's line
 
-// A number as a place, or the last place if it is more.
-fn place_of(number: u64) -> u32
-    ensures { λ r. ⌜ r ≡ atMost number 65535 ⌝ }
-{
-    if number <= 65535 {
-        return number as u32;
-    }
-    65535
-}
-
 fn put_identifier(out: &mut [u8], n: usize, f: &[u8], place: u64) -> usize
     ensures { λ m. ⌜ Written (text-at (was f) place) (was out) n (is out) m ⌝ }
 {
-    let at = texts::text_start(f, 6, place_of(place));
+    let at = texts::text_start(f, 6, bounds::place_of(place));
     show::put_text(out, n, f, at)
 }
 
 fn put_quoted_identifier(out: &mut [u8], n: usize, f: &[u8], place: u64) -> usize
     ensures { λ m. ⌜ Written (quoted (text-at (was f) place)) (was out) n (is out) m ⌝ }
 {
-    let at = texts::text_start(f, 6, place_of(place));
+    let at = texts::text_start(f, 6, bounds::place_of(place));
     show::put_quoted_text(out, n, f, at)
 }
 
@@ -191,29 +178,16 @@ pub fn put_full_reason(
 // ---- printing: lines behind the first n bytes of `out`, which goes to standard output first where a line may not fit.
 // The answer is where the next text goes; whoever printed last flushes.
 
-// No line is longer, however its texts are escaped (proofs/Lengths: bare-short, full-short and so on).
-const LINE: usize = 4096;
-
 // Bare texts, or quoted texts and messages.
 pub enum Form {
     Bare,
     Full,
 }
 
-// n, or the most if it is more.
-fn at_most(n: usize, most: usize) -> usize
-    ensures { λ r. ⌜ r ≤ most ⌝ }
-{
-    if most < n {
-        return most;
-    }
-    n
-}
-
 fn print_violated(out: &mut [u8], n: usize, form: Form, f: &[u8], a: &[u64], k: usize) -> usize
     requires { ⌜ k * 8 + 8 ≤ length (now a) ⌝ }
 {
-    let m = show::room(out, n, LINE);
+    let m = show::room(out, n, show::LINE);
     let v = violated_at(a, k);
     match form {
         Form::Bare => put_bare_violated(out, m, f, v),
@@ -230,7 +204,7 @@ pub fn print_violations(
     a: &[u64],
     count: usize,
 ) -> usize {
-    let many = at_most(count, a.len() / 8);
+    let many = bounds::min_usize(count, a.len() / 8);
     let mut m = n;
     let mut k: usize = 0;
     while k < many {
@@ -251,7 +225,7 @@ fn print_reason(
 ) -> usize
     requires { ⌜ i * 5 + 5 ≤ length (now a) ⌝ }
 {
-    let m = show::room(out, n, LINE);
+    let m = show::room(out, n, show::LINE);
     match form {
         Form::Bare => put_bare_reason(out, m, word, f, a, i),
         Form::Full => put_full_reason(out, m, word, f, a, i),
@@ -268,7 +242,7 @@ pub fn print_reasons(
     a: &[u32],
     count: usize,
 ) -> usize {
-    let many = at_most(count, a.len() / 5);
+    let many = bounds::min_usize(count, a.len() / 5);
     let mut m = n;
     let mut i: usize = 0;
     while i < many {

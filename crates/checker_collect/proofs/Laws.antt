@@ -19,7 +19,8 @@ use Rattle.reasons.specs.Readable.{AllReadable}
 use Rattle.reasons.specs.Lists.{listed, insertAll, Holds, Grows}
 use Rattle.reasons.proofs.Listing as listing
 use Rattle.reasons.proofs.Listing.{grown}
-use Rattle.engine_fields.specs.Fields.{two, cap, atMost}
+use Rattle.bounds.specs.Bounds.{atMost}
+use Rattle.engine_fields.specs.Fields.{two, cap}
 use Rattle.engine_state.specs.declared.Cells.{Cells}
 use Rattle.checker_judge.specs.declared.Reading.{Reading}
 use Rattle.checker_response.specs.declared.Memory.{Memory}

@@ -12,7 +12,8 @@ use Rattle.records.specs.declared.Record.{Record}
 use Rattle.records.specs.declared.Where.{Where}
 use Rattle.records.specs.declared.Where.the-variants.{Nowhere, From}
 use Rattle.reasons.specs.Lists.{insertAll, Holds}
-use Rattle.engine_fields.specs.Fields.{two, cap, atMost}
+use Rattle.bounds.specs.Bounds.{atMost}
+use Rattle.engine_fields.specs.Fields.{two, cap}
 use Rattle.engine_state.specs.declared.Cells.{Cells}
 use Rattle.checker_response.specs.declared.Failure.{Failure}
 use Rattle.checker_response.specs.declared.Failure.the-variants.{

@@ -179,7 +179,7 @@ pub fn judge_all(
     ensures { λ t. ⌜ GathersAll (was f) (was x) (was starts) count cells (was a) n s t (was v) (is v) (was u) (is u) (was w)
         (is w) ⌝ }
 {
-    let many = engine_fields::at_most(count, 32);
+    let many = bounds::at_most(count, 32);
     let mut t = s;
     let mut k: usize = 0;
     while k < many {

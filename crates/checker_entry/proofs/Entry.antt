@@ -20,12 +20,13 @@ use Rattle.engine_spec.specs.Memory.{Lent, entries, zeros, all-zeros, lent-afte
 use Rattle.engine_spec.specs.Records.{Areas}
 use Rattle.engine_spec.specs.Words.{words-in, entry-words}
 use Rattle.engine_spec.proofs.Memory.{refusals}
-use Rattle.engine_fields.specs.Fields.{atMost}
+use Rattle.bounds.specs.Bounds.{atMost}
 use Rattle.engine_refinement.specs.Meaning.{Tabled}
 use Rattle.engine_refinement.specs.Events.{EventAt}
 use Rattle.engine_inputs.specs.Inputs.{EventsOf}
 use Rattle.engine_inputs.proofs.Refines.{event-here}
-use Rattle.engine_entry.specs.Contract.{Ground, Grounds, lent}
+use Rattle.engine_entry.specs.Contract.{lent}
+use Rattle.engine_entry.specs.Prepared.{Prepared, PreparedFrom}
 use Rattle.engine_entry.proofs.Refines.{tb, queue-clear, runs-clear}
 use Rattle.engine_entry.proofs.Entry.{events-count}
 use Rattle.checker_spec.specs.Check as check
@@ -37,7 +38,7 @@ use Rattle.checker_entry.specs.Contracts.{Checked, Whole, RunsAs}
 use Rattle.checker_entry.proofs.Refines.{Promise, answers, refuses, promise, whole-shows, whole-refused}
 
 module _ (f : List ℕ) (i : Index) (m : Model) (acc : accepted f ≡ answer m) (o : Indexed f i m)
-    (bytes : (k : ℕ) → getD f k 0 < 256) (g : Ground) (gr : Grounds f i g) where
+    (bytes : (k : ℕ) → getD f k 0 < 256) (g : Prepared) (gr : PreparedFrom f i g) where
   abbrev x : List ℕ
   x = g .table
 
@@ -63,7 +64,7 @@ module _ (f : List ℕ) (i : Index) (m : Model) (acc : accepted f ≡ answer m) 
     abbrev sizes : Areas
     sizes = record { queue = length q / 5; records = length a / 13; runs = length u / 28 }
 
-    evs : (j : ℕ) → j < length events → EventAt f x (o .ts) m t v j (getD events j none-such)
+    evs : (j : ℕ) → j < length events → EventAt f x (o .ts) m v j (getD events j none-such)
     evs j h = event-here f x i m acc o t v ev none-such j h
 
     abbrev after : Answer check.Check → Lent
@@ -91,7 +92,7 @@ module _ (f : List ℕ) (i : Index) (m : Model) (acc : accepted f ≡ answer m) 
 
 -- ---- the entry
 
-pub run-is : (f : List ℕ) (i : Index) → ((k : ℕ) → getD f k 0 < 256) → (g : Ground) → Grounds f i g → {v : List ℕ} →
+pub run-is : (f : List ℕ) (i : Index) → ((k : ℕ) → getD f k 0 < 256) → (g : Prepared) → PreparedFrom f i g → {v : List ℕ} →
     EventsOf f i v →
     {n : ℕ} → n ≡ atMost (getD (g .table) 8 0) 100 → {r : CheckResult} {q q' a a' u u' : List ℕ} →
     Whole f (i .invariants .starts) (i .invariants .count) g v n r q q' a a' u u' →

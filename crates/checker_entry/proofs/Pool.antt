@@ -22,7 +22,8 @@ use Rattle.engine_refinement.specs.Meaning.{pool-of}
 use Rattle.engine_refinement.specs.Events.{Among, EventAt}
 use Rattle.engine_refinement.proofs.Pool.{mem-left, mem-right, among-to}
 use Rattle.engine_refinement.proofs.Simulated.{static-among}
-use Rattle.engine_entry.specs.Contract.{Ground, Grounds, incomplete-of}
+use Rattle.engine_entry.specs.Contract.{incomplete-of}
+use Rattle.engine_entry.specs.Prepared.{Prepared, PreparedFrom}
 use Rattle.engine_entry.proofs.Refines.{tb}
 use Rattle.engine_entry.proofs.RunEvents as simulator
 use Rattle.engine_spec.specs.Unsupported.{unsupported}
@@ -176,7 +177,7 @@ module _ (m : Model) (cells : List Cell) (sim : engine.Simulation) where
 -- ---- of an accepted file
 
 module _ (f : List ℕ) (i : Index) (m : Model) (acc : accepted f ≡ answer m) (o : Indexed f i m)
-    (bytes : (k : ℕ) → getD f k 0 < 256) (g : Ground) (gr : Grounds f i g) where
+    (bytes : (k : ℕ) → getD f k 0 < 256) (g : Prepared) (gr : PreparedFrom f i g) where
   pub few-in-pool : length (check-pool m) ≤ 399
   unfolding check-pool
   few-in-pool =
@@ -191,7 +192,7 @@ module _ (f : List ℕ) (i : Index) (m : Model) (acc : accepted f ≡ answer m) 
       )
 
   module _ (v : List ℕ) (d : Event) (vs : List Event)
-      (evs : (j : ℕ) → j < length vs → EventAt f (g .table) (o .ts) m (tb f i m acc o bytes g gr) v j (getD vs j d)) {n : ℕ}
+      (evs : (j : ℕ) → j < length vs → EventAt f (g .table) (o .ts) m v j (getD vs j d)) {n : ℕ}
       (many : n ≡ length vs) {r : CheckResult} {q q' a a' u u' : List ℕ}
       (ch : Checked f (i .invariants .starts) (i .invariants .count) g v n r q q' a a' u u') where
     -- whatever the events: the reasons of the check are among the list

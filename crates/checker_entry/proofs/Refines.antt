@@ -37,7 +37,8 @@ use Rattle.engine_spec.specs.Simulate.{simulated}
 use Rattle.engine_spec.specs.Words.{words-in}
 use Rattle.engine_spec.proofs.Closed.{records-fit}
 use Rattle.engine_spec.proofs.Lists.{Each, Case, is-true, is-false, case}
-use Rattle.engine_fields.specs.Fields.{atMost, alone}
+use Rattle.bounds.specs.Bounds.{atMost}
+use Rattle.engine_fields.specs.Fields.{alone}
 use Rattle.engine_refinement.specs.Meaning.{cells-of, record-of, Tabled}
 use Rattle.engine_refinement.proofs.Accepted.{accepted-lawful}
 use Rattle.engine_refinement.proofs.Lists.{each-imp}
@@ -49,7 +50,8 @@ use Rattle.engine_refinement.proofs.Evaluate.{Valued}
 use Rattle.engine_inputs.proofs.Refines.{start-valued, start-cells-are}
 use Rattle.engine_summary.specs.declared.Simulation.{Simulation}
 use Rattle.engine_summary.specs.Summary.{no-simulation}
-use Rattle.engine_entry.specs.Contract.{Ground, Grounds, incomplete-of, Shows}
+use Rattle.engine_entry.specs.Contract.{incomplete-of, Shows}
+use Rattle.engine_entry.specs.Prepared.{Prepared, PreparedFrom}
 use Rattle.engine_entry.proofs.Refines.{tb}
 use Rattle.engine_entry.proofs.RunEvents.{texts-here, records-here}
 use Rattle.engine_entry.proofs.RunEvents as simulator
@@ -120,7 +122,7 @@ status-same vs us ws t a b c = rw (a, b, c) (by us vs ws)
 -- ---- of an accepted file
 
 module _ (f : List ℕ) (i : Index) (m : Model) (acc : accepted f ≡ answer m) (o : Indexed f i m)
-    (bytes : (k : ℕ) → getD f k 0 < 256) (g : Ground) (gr : Grounds f i g) where
+    (bytes : (k : ℕ) → getD f k 0 < 256) (g : Prepared) (gr : PreparedFrom f i g) where
   abbrev x : List ℕ
   x = g .table
 
@@ -243,7 +245,7 @@ module _ (f : List ℕ) (i : Index) (m : Model) (acc : accepted f ≡ answer m) 
   -- ---- a check with the events vs, given as words
 
   module _ (v : List ℕ) (d : Event) (vs : List Event)
-      (evs : (j : ℕ) → j < length vs → EventAt f x (o .ts) m t v j (getD vs j d)) {n : ℕ} (many : n ≡ length vs)
+      (evs : (j : ℕ) → j < length vs → EventAt f x (o .ts) m v j (getD vs j d)) {n : ℕ} (many : n ≡ length vs)
       {r : CheckResult} {q q' a a' u u' : List ℕ} (ch : Checked f (i .invariants .starts) (i .invariants .count)
       g v n r q q' a a' u u') where
     abbrev sizes : Areas
@@ -302,7 +304,7 @@ module _ (f : List ℕ) (i : Index) (m : Model) (acc : accepted f ≡ answer m) 
 
 -- ---- the check as one answer
 
-module _ {f starts : List ℕ} {many : ℕ} {g : Ground} {v : List ℕ} {n : ℕ} {r : CheckResult} {q q' a a' u u' : List ℕ}
+module _ {f starts : List ℕ} {many : ℕ} {g : Prepared} {v : List ℕ} {n : ℕ} {r : CheckResult} {q q' a a' u u' : List ℕ}
     (wh : Whole f starts many g v n r q q' a a' u u') where
   pub whole-shows : (c : check.Check) → said.Shows f (wh .result) c → said.Shows f r c
   whole-shows c k = subst (λ (y : CheckResult). said.Shows f y c) (sym (wh .answered .done (k .simulation .accepted))) k

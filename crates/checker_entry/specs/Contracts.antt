@@ -8,7 +8,7 @@ use Rattle.model_spec.specs.Validate.{accepted}
 use Rattle.model_index.specs.declared.Index.{Index}
 use Rattle.model_index.specs.Indexed.{Indexed}
 use Rattle.engine_spec.specs.Memory.{Lent}
-use Rattle.engine_entry.specs.Contract.{Ground}
+use Rattle.engine_entry.specs.Prepared.{Prepared}
 use Rattle.engine_entry.specs.Contracts.{Ran}
 use Rattle.checker_result.specs.declared.Status.the-variants as status
 use Rattle.checker_result.specs.declared.CheckResult.{CheckResult}
@@ -21,14 +21,14 @@ pub record Sized (r : CheckResult) : Type 0 where
   pub few-incomplete : r .incomplete ≤ 40
 
 -- a simulation, and the verdict on it unless an area was full
-pub record Checked (f starts : List ℕ) (many : ℕ) (g : Ground) (events : List ℕ) (n : ℕ) (r : CheckResult)
+pub record Checked (f starts : List ℕ) (many : ℕ) (g : Prepared) (events : List ℕ) (n : ℕ) (r : CheckResult)
     (q q' a a' u u' : List ℕ) : Type 0 where
   pub sized : Sized r
   pub ran : Ran f g events n (r .simulation) q q' a a' u u'
   pub done : r .simulation .refused ≡ 0 → Verdict f (g .table) starts many (g .cells) a' r
   pub full : (r .simulation .refused ≡ 0 → ⊥) → r .status ≡ status.Refused (r .simulation .refused)
 
-pub record Whole (f starts : List ℕ) (many : ℕ) (g : Ground) (events : List ℕ) (n : ℕ) (r : CheckResult)
+pub record Whole (f starts : List ℕ) (many : ℕ) (g : Prepared) (events : List ℕ) (n : ℕ) (r : CheckResult)
     (q q' a a' u u' : List ℕ) : Type 0 where
   pub result : CheckResult
   pub checked : Checked f starts many g events n result q q' a a' u u'

@@ -16,7 +16,8 @@ ghost use lib.ListN.{length};
 ghost use Rattle.checker_result.specs.Result.{result-of};
 ghost use Rattle.checker_entry.specs.Contract.{Checks};
 ghost use Rattle.checker_entry.specs.Contracts.{Checked, Whole, RunsAs};
-ghost use Rattle.engine_entry.specs.Contract.{ground, lent};
+ghost use Rattle.engine_entry.specs.Contract.{lent};
+ghost use Rattle.engine_entry.specs.Prepared.{prepared-of};
 
 // ---- a check, its lists in lent arrays
 
@@ -39,7 +40,7 @@ pub fn check_events(
 ) -> Judgement
     requires { ⌜ n * 4 ≤ length (now events) ⌝ }
     ensures { λ r. ⌜ Checked (was file) (was starts) (shared .invariants)
-        (ground (was table) (shared .cells) (shared .notes) (was reasons)) (was events) n
+        (prepared-of (was table) (shared .cells) (shared .notes) (was reasons)) (was events) n
         (result-of r (is violated) (is unknowns) (is incompletes) (is reasons)) (was queue) (is queue) (was records)
         (is records) (was runs) (is runs) ⌝ }
 {
@@ -100,7 +101,7 @@ pub fn check_settled(
 ) -> Judgement
     requires { ⌜ n * 4 ≤ length (now events) ⌝ }
     ensures { λ r. ⌜ Whole (was file) (was starts) (shared .invariants)
-        (ground (was table) (shared .cells) (shared .notes) (was reasons)) (was events) n
+        (prepared-of (was table) (shared .cells) (shared .notes) (was reasons)) (was events) n
         (result-of r (is violated) (is unknowns) (is incompletes) (is reasons)) (was queue) (is queue) (was records)
         (is records) (was runs) (is runs) ⌝ }
 {
@@ -149,7 +150,7 @@ fn run(
     };
     let v = engine_inputs::events_of(file, index);
     let events = v.words;
-    let n = engine_fields::at_most(table[8], 100);
+    let n = bounds::at_most(table[8], 100);
     check_settled(
         file,
         &table,
@@ -218,7 +219,7 @@ pub fn check_whole(
 ) -> CheckResult
     requires { ⌜ n * 4 ≤ length (now events) ⌝ }
     ensures { λ r. ⌜ Whole (was file) (was starts) (shared .invariants)
-        (ground (was table) (shared .cells) (shared .notes) (was reasons)) (was events) n r (was queue) (is queue)
+        (prepared-of (was table) (shared .cells) (shared .notes) (was reasons)) (was events) n r (was queue) (is queue)
         (was records) (is records) (was runs) (is runs) ⌝ }
 {
     let mut violated = [0u64; layout::VIOLATIONS];

@@ -2,11 +2,12 @@
 -- new after one that was read.
 use Prim.Native.Nat.{ℕ, _+_}
 use mathlib.Core.Path.{_≡_, refl, sym}
-use mathlib.Core.Bool.{Bool, true, false, _&&_, _||_, false≢true}
+use mathlib.Core.Bool.{Bool, true, false, _||_, false≢true}
 use mathlib.Core.List.{List}
 use lib.Dec.{eqb}
 use lib.ListN.{getD}
 use borrow.Author.Tests.{ne-eqb}
+use Rattle.texts.proofs.Bool.{and-false, or-again, or-false}
 use Rattle.texts.specs.Lists.{if_then_else_}
 use Rattle.model_walk.proofs.Found.{Case, is-true, is-false, case}
 use Rattle.records.specs.declared.Change.{Change}
@@ -67,19 +68,6 @@ use Rattle.checker_judge.proofs.Named.{
   apart,
 }
 
-or-none : (a : Bool) → a || false ≡ a
-or-none true = refl
-or-none false = refl
-
-and-none : (a : Bool) → a && false ≡ false
-and-none true = refl
-and-none false = refl
-
-or-again : (a b : Bool) → (a || b) || b ≡ a || b
-or-again true b = refl
-or-again false true = refl
-or-again false false = refl
-
 -- the record, as if it changed nothing
 abbrev pub unchanged : Record → Record
 unchanged r = record {
@@ -119,7 +107,7 @@ module _ (s : Seen) (now : ℕ) (end : Bool) (m : Memory) (idle : m .wait ≡ No
 
   remembered : memoryM s now end m NoWait ≡ m
   unfolding memoryM overdueM beyondM
-  remembered = rw (known, idle, and-none end, or-none (m .unclear), or-none (m .beyond), ← held) refl
+  remembered = rw (known, idle, and-false end, or-false (m .unclear), or-false (m .beyond), ← held) refl
 
   pub nothing-happens : respondedM s now end m ≡ nothing-new m
   unfolding respondedM
@@ -248,7 +236,7 @@ module _ (f x : List ℕ) (at : ℕ) where
       by : Kind → pendingM (readM f x at bs ps r m .memory .wait) ≡ false → (q : Record) → q .change ≡ NoChange
           → readM f x at ps ps q (readM f x at bs ps r m .memory) ≡ nothing-new (readM f x at bs ps r m .memory)
       by (never a) idle q same = rw a (never-again ps m (rw a at h))
-      by (guard a b) idle q same = rw (a, b) (unfold guardM aboutM writesM in (rw (same, and-none (eqb (q .kind) 2))))
+      by (guard a b) idle q same = rw (a, b) (unfold guardM aboutM writesM in (rw (same, and-false (eqb (q .kind) 2))))
       by (transition a b c) idle q same = rw (a, b, c) (unfold transitionM passesM failsM in (rw same))
       by (response a b c) idle q same =
           rw (a, b, c) (response-again bs ps (r .second) (q .second) (eqb (r .kind) 9) (eqb (q .kind) 9) m

@@ -1,12 +1,13 @@
 -- One record, for the invariant that stands at a position: what it shows on places is what Judge says of it.
 use mathlib.Core.Path.{_≡_, refl, sym, ap, _∙_, subst}
-use mathlib.Core.Bool.{Bool, true, false, _&&_, _||_, false≢true}
+use mathlib.Core.Bool.{Bool, true, false, _&&_, false≢true}
 use mathlib.Core.List.{List, [], _∷_}
 use Prim.Native.Nat.{ℕ, zero, suc, _+_, _≤_, _<_}
 use native.Mathlib.Omega.{arith}
 use lib.Dec.{eqb}
 use lib.ListN.{length, getD}
 use borrow.Author.Tests.{eqb-true}
+use Rattle.texts.proofs.Bool.{or-false}
 use Rattle.texts.specs.Lists.{if_then_else_, present-and}
 use Rattle.texts.specs.Texts.{Text, text, eqT, all-texts}
 use Rattle.model_spec.specs.Model.{Moment, Predicate, Invariant, never, guard, transition, response, Model, midnight}
@@ -92,10 +93,6 @@ never-is : (t : Truth) (v : kleene.Truth) (m : Memory) → truth-of t ≡ v →
 unfolding shown-of memory-of unsureM
 never-is t v m e =
     rw (← e, ← yes-is t, ← unknown-is t, fails-is (yesM t) ProhibitedState judge.prohibited-state refl)
-
-or-false : (b : Bool) → (b || false) ≡ b
-or-false true = refl
-or-false false = refl
 
 guard-is : (about : Bool) (t : Truth) (v : kleene.Truth) (m : Memory) → truth-of t ≡ v →
     shown-of (if about then guardedM t m else record { failure = NoFailure; memory = m })

@@ -6,7 +6,8 @@ use mathlib.Core.List.{List, [], _∷_, map}
 use native.Mathlib.Omega.{arith}
 use lib.ListN.{length, replicate, length-replicate}
 use borrow.Author.Tests.{eq-eqb, ne-eqb}
-use Rattle.texts.specs.Texts.{Text, insertT}
+use Rattle.bounds.specs.Bounds.{AtMost}
+use Rattle.texts.specs.Texts.{insertT}
 use Rattle.areas.proofs.Laws as areas
 use Rattle.reasons.specs.Kinds as kinds
 use Rattle.reasons.specs.Kinds.{NoText}
@@ -22,7 +23,6 @@ use Rattle.engine_fields.proofs.Readable.{alone-readable}
 use Rattle.engine_summary.specs.declared.Simulation.{Simulation}
 use Rattle.engine_summary.specs.declared.Summary.{Summary}
 use Rattle.engine_summary.specs.Summary.{no-simulation, simulation-of}
-use Rattle.engine_summary.specs.Summaries.{Few}
 use Rattle.checker_collect.specs.declared.Counts.{Counts}
 use Rattle.checker_collect.specs.Collect.{brokenM, GathersAll}
 use Rattle.checker_collect.proofs.Laws.{all-many}
@@ -134,7 +134,7 @@ module _ (f : List ℕ) (m : ℕ) (b a : List ℕ) where
   merged-most h e = omega (arith, h, e .many, merged-few)
 
 module _ {f x starts : List ℕ} {h : Shared} {a : List ℕ} (s : Summary) {told : List ℕ} where
-  pub judged-is : {many : ℕ} → Few (s .unknown) many → {u₁ : List ℕ} {k : ℕ} →
+  pub judged-is : {many : ℕ} → AtMost (s .unknown) 300 many → {u₁ : List ℕ} {k : ℕ} →
       Grows f (Clean f many told) (insertAll (listed f many told) (listed f 0 (replicate 2000 0))) 0 (replicate 2000 0)
       k u₁ →
       {w₁ w₂ : List ℕ} {j i : ℕ} → Starts f (s .«stop_reason») (replicate 200 0) j w₁ → Ends f (s .«runs_left») j w₁ i w₂ →

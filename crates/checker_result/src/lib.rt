@@ -9,6 +9,7 @@ use layout::SimulationReasons;
 use layout::Table;
 use layout::VerdictReasons;
 use layout::Violations;
+ghost use Rattle.checker_result.specs.Statuses.{refusalM, is-refusedM, is-violationM};
 ghost use Rattle.notation.specs.Reference.{was, is};
 ghost use mathlib.Core.Path.{_≡_};
 ghost use Prim.Native.Nat.{_+_, _*_, _≤_};
@@ -148,7 +149,7 @@ pub fn verdict(
     *violated = none;
     *unknowns = [0u32; layout::VERDICT_REASONS];
     *incompletes = [0u32; layout::INCOMPLETE_REASONS];
-    let many = engine_summary::few(s.unknown);
+    let many = bounds::min_usize(s.unknown, 300);
     let unknown = reasons::merge(f, unknowns, 0, told, many);
     let stopped = add_stopped(f, incompletes, s.stop_reason);
     let incomplete = add_waiting(f, incompletes, stopped, s.runs_left);
@@ -251,5 +252,44 @@ pub fn with_lists(
         incomplete: j.incomplete,
         incompletes,
         simulation,
+    }
+}
+
+// ---- questions about a status
+
+// The refusal's number, or 0.
+pub fn refusal_of(status: Status) -> u32
+    ensures { λ r. ⌜ r ≡ refusalM status ⌝ }
+{
+    match status {
+        Status::Refused(number) => number,
+        Status::Unknown => 0,
+        Status::Violation => 0,
+        Status::Incomplete => 0,
+        Status::NoViolationInTrace => 0,
+    }
+}
+
+pub fn is_refused(status: Status) -> bool
+    ensures { λ r. ⌜ r ≡ is-refusedM status ⌝ }
+{
+    match status {
+        Status::Refused(_) => true,
+        Status::Unknown => false,
+        Status::Violation => false,
+        Status::Incomplete => false,
+        Status::NoViolationInTrace => false,
+    }
+}
+
+pub fn is_violation(status: Status) -> bool
+    ensures { λ r. ⌜ r ≡ is-violationM status ⌝ }
+{
+    match status {
+        Status::Refused(_) => false,
+        Status::Unknown => false,
+        Status::Violation => true,
+        Status::Incomplete => false,
+        Status::NoViolationInTrace => false,
     }
 }

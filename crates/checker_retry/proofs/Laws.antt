@@ -6,6 +6,7 @@ use mathlib.Core.List.{List}
 use native.Mathlib.Omega.{arith}
 use lib.ListN.{length, getD, take}
 use lib.Seq.{length-take-le}
+use Rattle.checker_result.specs.Statuses.{is-refusedM}
 use Rattle.model_spec.specs.Answer.{Answer, answer, refused, _>>=_}
 use Rattle.model_spec.specs.Model.{Event, Model}
 use Rattle.model_spec.specs.Validate.{accepted}
@@ -17,14 +18,13 @@ use Rattle.engine_spec.specs.Simulate.{Simulation, simulated}
 use Rattle.engine_monotone.specs.Larger.{Larger}
 use Rattle.engine_monotone.proofs.Larger.{same-in-larger}
 use Rattle.engine_refinement.specs.Events.{EventAt}
-use Rattle.engine_entry.specs.Contract.{Ground, Grounds}
-use Rattle.engine_entry.proofs.Refines.{tb}
+use Rattle.engine_entry.specs.Prepared.{Prepared, PreparedFrom}
 use Rattle.checker_spec.specs.Check.{Check, judged, checked}
 use Rattle.checker_result.specs.declared.CheckResult.{CheckResult}
 use Rattle.checker_entry.specs.Contracts.{Checked}
 use Rattle.checker_entry.proofs.Pool.{in-pool}
 use Rattle.checker_entry.proofs.Refines as promised
-use Rattle.checker_retry.specs.Retry.{refusedM, sizes, Tells, answers, refuses, Cased, Parted}
+use Rattle.checker_retry.specs.Retry.{sizes, Tells, answers, refuses, Cased, Parted}
 
 -- a check that isn't refused is the same in larger areas
 checked-larger : (a b : Areas) → Larger a b → (m : Model) (cells : List Cell) (vs : List Event) (c : Check) →
@@ -41,11 +41,11 @@ checked-larger a b l m cells vs c e = by (simulated a m cells vs) refl e
 part-larger : (k q l a j u : ℕ) → k ≤ q → l ≤ a → j ≤ u → Larger (sizes k l j) (sizes q a u)
 part-larger k q l a j u x y z = record { queue = omega arith; records = omega arith; runs = omega arith }
 
-module _ {f : List ℕ} {i : Index} {g : Ground} {v : List ℕ} {n : ℕ} {r : CheckResult} {q q' a a' u u' : List ℕ}
+module _ {f : List ℕ} {i : Index} {g : Prepared} {v : List ℕ} {n : ℕ} {r : CheckResult} {q q' a a' u u' : List ℕ}
     (ch : Checked f (i .invariants .starts) (i .invariants .count) g v n r q q' a a' u u')
-    (m : Model) (acc : accepted f ≡ answer m) (o : Indexed f i m) (bytes : (k : ℕ) → getD f k 0 < 256) (gr : Grounds f i g)
+    (m : Model) (acc : accepted f ≡ answer m) (o : Indexed f i m) (bytes : (k : ℕ) → getD f k 0 < 256) (gr : PreparedFrom f i g)
     (d : Event) (vs : List Event)
-    (evs : (j : ℕ) → j < length vs → EventAt f (g .table) (o .ts) m (tb f i m acc o bytes g gr) v j (getD vs j d))
+    (evs : (j : ℕ) → j < length vs → EventAt f (g .table) (o .ts) m v j (getD vs j d))
     (many : n ≡ length vs) where
   abbrev cells : List Cell
   cells = initial-cells (m .scenario .entities)
@@ -61,7 +61,7 @@ module _ {f : List ℕ} {i : Index} {g : Ground} {v : List ℕ} {n : ℕ} {r : C
           let p = in-pool f i m acc o bytes g gr v d vs evs many ch c e in answers c e k (p .unknown) (p .incomplete)
       by (promised.refuses j lo hi e k z) = refuses j lo hi e k
 
-  in-part : refusedM (r .status) ≡ false → (q₁ a₁ u₁ : ℕ) →
+  in-part : is-refusedM (r .status) ≡ false → (q₁ a₁ u₁ : ℕ) →
       Larger (sizes (length q) (length a) (length u)) (sizes q₁ a₁ u₁) →
       Tells f m r (checked (sizes q₁ a₁ u₁) m cells vs)
   in-part ok q₁ a₁ u₁ l = by (promised.promise f i m acc o bytes g gr v d vs evs many ch)
@@ -72,12 +72,12 @@ module _ {f : List ℕ} {i : Index} {g : Ground} {v : List ℕ} {n : ℕ} {r : C
           answers c (checked-larger (sizes (length q) (length a) (length u)) (sizes q₁ a₁ u₁) l m cells vs c e) k
           (p .unknown) (p .incomplete)
       by (promised.refuses j lo hi e k z) =
-          let t : refusedM (r .status) ≡ true = ap refusedM (k .status-is) in
+          let t : is-refusedM (r .status) ≡ true = ap is-refusedM (k .status-is) in
           let w : true ≡ false = sym t ∙ ok in
           let y : _≡_ {A = ℕ} 0 1 = cc in
           absurd (omega arith)
 
-module _ {f starts : List ℕ} {many : ℕ} {g : Ground} {v : List ℕ} {n : ℕ} {r : CheckResult} {q q' a a' u u' : List ℕ}
+module _ {f starts : List ℕ} {many : ℕ} {g : Prepared} {v : List ℕ} {n : ℕ} {r : CheckResult} {q q' a a' u u' : List ℕ}
     (ch : Checked f starts many g v n r q q' a a' u u') where
   -- the invariants are those of the index
   at-index : (i : Index) → starts ≡ i .invariants .starts → many ≡ i .invariants .count →

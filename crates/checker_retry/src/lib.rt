@@ -2,7 +2,6 @@
 // if that part is too small. What isn't refused in the part is the same in all of them.
 use checker_result::Judgement;
 use checker_result::Shared;
-use checker_result::Status;
 use layout::IncompleteReasons;
 use layout::Positions;
 use layout::SimulationReasons;
@@ -10,34 +9,11 @@ use layout::Table;
 use layout::VerdictReasons;
 use layout::Violations;
 ghost use Rattle.notation.specs.Reference.{was, is};
-ghost use mathlib.Core.Path.{_≡_};
 ghost use Prim.Native.Nat.{_*_, _≤_};
 ghost use lib.ListN.{length};
-ghost use Rattle.engine_entry.specs.Contract.{ground};
+ghost use Rattle.engine_entry.specs.Prepared.{prepared-of};
 ghost use Rattle.checker_result.specs.Result.{result-of};
-ghost use Rattle.checker_retry.specs.Retry.{refusedM, Part, Parted, Cased};
-
-fn is_refused(status: Status) -> bool
-    ensures { λ r. ⌜ r ≡ refusedM status ⌝ }
-{
-    match status {
-        Status::Refused(_) => true,
-        Status::Unknown => false,
-        Status::Violation => false,
-        Status::Incomplete => false,
-        Status::NoViolationInTrace => false,
-    }
-}
-
-// So many words, or all if there are fewer.
-fn part(n: usize, most: usize) -> usize
-    ensures { λ r. ⌜ Part n most r ⌝ }
-{
-    if most < n {
-        return most;
-    }
-    n
-}
+ghost use Rattle.checker_retry.specs.Retry.{Parted, Cased};
 
 // In the part. `notes` holds the reasons of the notes.
 fn check_part(
@@ -58,13 +34,13 @@ fn check_part(
 ) -> Judgement
     requires { ⌜ n * 4 ≤ length (now events) ⌝ }
     ensures { λ r. ⌜ Parted (was file) (was starts) (shared .invariants)
-        (ground (was table) (shared .cells) (shared .notes) (was notes)) (was events) n
+        (prepared-of (was table) (shared .cells) (shared .notes) (was notes)) (was events) n
         (result-of r (is violated) (is unknowns) (is incompletes) (is reasons)) (length (was queue)) (length (was records))
         (length (was runs)) ⌝ }
 {
-    let items = part(queue.len(), 640);
-    let lines = part(records.len(), 3328);
-    let rows = part(runs.len(), 896);
+    let items = bounds::min_usize(queue.len(), 640);
+    let lines = bounds::min_usize(records.len(), 3328);
+    let rows = bounds::min_usize(runs.len(), 896);
     *reasons = *notes;
     checker_entry::check_events(
         file,
@@ -101,7 +77,7 @@ pub fn check_case(
 ) -> Judgement
     requires { ⌜ n * 4 ≤ length (now events) ⌝ }
     ensures { λ r. ⌜ Cased (was file) (was starts) (shared .invariants)
-        (ground (was table) (shared .cells) (shared .notes) (was notes)) (was events) n
+        (prepared-of (was table) (shared .cells) (shared .notes) (was notes)) (was events) n
         (result-of r (is violated) (is unknowns) (is incompletes) (is reasons)) (length (was queue)) (length (was records))
         (length (was runs)) ⌝ }
 {
@@ -122,7 +98,7 @@ pub fn check_case(
         incompletes,
     );
     let status = c.status;
-    if is_refused(status) {
+    if checker_result::is_refused(status) {
         *reasons = *notes;
         return checker_entry::check_events(
             file,

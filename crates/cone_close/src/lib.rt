@@ -1,8 +1,7 @@
 // The cone, closed over sets: entities and automations by their numbers in the file, as bits. In each round the first
 // automation that isn't in yet and writes one of the entities comes in, and with it what it needs.
 ghost use mathlib.Core.Path.{_≡_};
-ghost use Prim.Native.Nat.{_≤_, _<_, _+_};
-ghost use lib.ListN.{length};
+ghost use Prim.Native.Nat.{_≤_, _<_};
 ghost use Rattle.cone_close.specs.Rounds.{addsM, firstM, roundM, closedM};
 
 // The entities and the automations that are in.

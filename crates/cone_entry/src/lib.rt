@@ -1,14 +1,11 @@
 // The entry `cone`: the entities and the automations of a model file on which its invariants depend.
-use cone_close::ConeSets;
-use cone_names::ConeNames;
 use model_index::Index;
 use model_index::Status;
 use model_parts::Extent;
 use model_parts::Section;
 ghost use Rattle.notation.specs.Reference.{was};
 ghost use mathlib.Core.Path.{_≡_};
-ghost use Prim.Native.Nat.{_≤_, _<_, _+_};
-ghost use lib.ListN.{length};
+ghost use Prim.Native.Nat.{_≤_, _<_};
 ghost use Rattle.cone_entry.specs.Contract.{no-cone, Answers};
 ghost use Rattle.cone_entry.specs.Contracts.{Touches, Bounds, Tells};
 

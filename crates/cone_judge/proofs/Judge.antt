@@ -7,6 +7,7 @@ use mathlib.Core.Option.{Option, none, some}
 use mathlib.Core.Path.{_≡_, refl, sym, ap, _∙_, subst}
 use native.Mathlib.Omega.{arith}
 use lib.Dec.{ltb}
+use Rattle.texts.proofs.Bool.{or-false}
 use Rattle.texts.specs.Lists.{if_then_else_, absent, present-and, all, keep, flat}
 use Rattle.texts.specs.Texts.{Text, text, eqT}
 use Rattle.model_spec.specs.Model.{Predicate, Invariant, never, guard, transition, response, midnight}
@@ -150,10 +151,6 @@ shown-response w g g₀ within t m =
 
 abbrev quiet : Memory → Shown
 quiet m = record { failure = none; memory = m }
-
-or-false : (b : Bool) → b || false ≡ b
-or-false true = refl
-or-false false = refl
 
 or-true : (b : Bool) → b || true ≡ true
 or-true true = refl

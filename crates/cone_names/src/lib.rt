@@ -1,8 +1,7 @@
 // The undeclared names in the cone: those that one of its automations reads, as places among the texts, ascending.
 use lint_undeclared::Undeclared;
 ghost use mathlib.Core.Path.{_≡_};
-ghost use Prim.Native.Nat.{_≤_, _<_, _+_};
-ghost use lib.ListN.{length};
+ghost use Prim.Native.Nat.{_<_, _+_};
 ghost use Rattle.cone_names.specs.Undeclared.{readM, wantedM, withM, nameM, namesM};
 
 // Whether the j-th of the names is the one at a place, and its reader is among the automations.

@@ -14,6 +14,7 @@ use lib.Pow.{pow-lt}
 use lib.Dec.{eqb}
 use lib.ListN.{length, getD}
 use borrow.Author.Tests.{lt-ltb, le-ltb, eq-eqb, ne-eqb}
+use Rattle.texts.proofs.Bool.{or-false}
 use Rattle.texts.specs.Lists.{if_then_else_, any, keep, each, flat}
 use Rattle.texts.specs.Texts.{Text, memT, sortedT}
 use Rattle.model_spec.specs.Model.{Effect, toggle, delay, condition, choose, wait, Automation, Model}
@@ -87,10 +88,6 @@ any-places f g zero i h = refl
 any-places f g (suc n) i h =
     ap (λ (b : Bool). b || any f (places n (i + 1))) (h i (omega arith) (omega arith))
     ∙ ap (λ (b : Bool). g i || b) (any-places f g n (i + 1) (λ j a b. h j (omega arith) (omega arith)))
-
-or-false : (b : Bool) → (b || false) ≡ b
-or-false true = refl
-or-false false = refl
 
 or-comm : (a b : Bool) → (a || b) ≡ (b || a)
 or-comm true true = refl

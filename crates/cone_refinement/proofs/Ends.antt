@@ -1,11 +1,12 @@
 -- The sets of the answer: those of the definition's lists, entities and automations by their numbers in the file.
-use mathlib.Core.Path.{_≡_, refl, sym, ap, _∙_}
-use mathlib.Core.Bool.{Bool, true, false, _&&_}
+use mathlib.Core.Path.{_≡_, sym, ap, _∙_}
+use mathlib.Core.Bool.{Bool, _&&_}
 use mathlib.Core.List.{List, [], _++_, append-nil}
 use Prim.Native.Nat.{ℕ, _+_, _-_, _<_}
 use native.Mathlib.Omega.{arith}
 use native.Mathlib.Nat.{zero-add}
 use lib.ListN.{length, getD}
+use Rattle.texts.proofs.Bool.{and-left}
 use Rattle.engine_spec.proofs.Bounds.{length-each}
 use Rattle.texts.specs.Lists.{keep, each}
 use Rattle.texts.specs.Texts.{Text, memT, sortedT}
@@ -29,10 +30,6 @@ use Rattle.lint_refinement.proofs.ById.{set-is}
 use Rattle.lint_refinement.proofs.Undeclared.{keep-texts, places-below}
 use Rattle.cone_close.specs.declared.ConeSets.{ConeSets}
 use Rattle.cone_refinement.proofs.Closing.{Kept}
-
-and-left : (a b : Bool) → (a && b) ≡ true → a ≡ true
-and-left true b k = refl
-and-left false b k = k
 
 module _ {s : List ℕ} {d : Names} {rs : Section} {ts : List Text} {m : Model} (st : Stage s d rs ts m)
     (l ins : List Text) (c : ConeSets) (h : Kept st l ins c) where

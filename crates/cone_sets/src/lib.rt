@@ -5,7 +5,7 @@ use layout::Positions;
 use model_parts::Section;
 ghost use Rattle.notation.specs.Reference.{was};
 ghost use mathlib.Core.Path.{_≡_};
-ghost use Prim.Native.Nat.{_≤_, _<_, _+_};
+ghost use Prim.Native.Nat.{_≤_, _<_};
 ghost use Rattle.lint_walk.specs.Walks.{walkBy};
 ghost use Rattle.lint_access.specs.Sets.{sectionBy};
 ghost use Rattle.cone_sets.specs.Sets.{add-namedM, namedM, add-toggleM, needsM};

@@ -10,7 +10,8 @@ use Rattle.runs.specs.declared.Run.{Run}
 use Rattle.runs.specs.declared.Source.{Source}
 use Rattle.reasons.specs.Kinds as kinds
 use Rattle.reasons.specs.declared.Reason.{Reason}
-use Rattle.engine_fields.specs.Fields.{two, four, atMost, entityOf, aboutRule, alone, noteReason}
+use Rattle.bounds.specs.Bounds.{atMost}
+use Rattle.engine_fields.specs.Fields.{two, four, entityOf, aboutRule, alone, noteReason}
 use Rattle.engine_evaluate.specs.Evaluate.{numberM, undecidedM, evaluateM, selectM}
 use Rattle.engine_evaluate.specs.declared.Truth.{Truth}
 use Rattle.engine_evaluate.specs.declared.Branch.{Branch}

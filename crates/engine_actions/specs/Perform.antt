@@ -17,7 +17,8 @@ use Rattle.runs.specs.declared.Phase.{Phase}
 use Rattle.runs.specs.declared.Phase.the-variants.{Going, Waiting}
 use Rattle.runs.specs.declared.Found.{Found}
 use Rattle.runs.specs.declared.Found.the-variants.{At, Nothing}
-use Rattle.engine_fields.specs.Fields.{two, four, atMost, entityOf, aboutRule, alone, noteReason}
+use Rattle.bounds.specs.Bounds.{atMost}
+use Rattle.engine_fields.specs.Fields.{two, four, entityOf, aboutRule, alone, noteReason}
 use Rattle.engine_evaluate.specs.Evaluate.{numberM, undecidedM, evaluateM, selectM}
 use Rattle.engine_evaluate.specs.Actions.{actionM, listM, topM, steppedM}
 use Rattle.engine_evaluate.specs.declared.Truth.{Truth}

@@ -1,8 +1,8 @@
 // What a run's next action does.
+use bounds::at_most;
 use engine_evaluate::Branch;
 use engine_evaluate::Truth;
 use engine_fields::about_rule;
-use engine_fields::at_most;
 use engine_fields::entity_of;
 use engine_fields::four_at;
 use engine_fields::two_at;

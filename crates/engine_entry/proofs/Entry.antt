@@ -23,7 +23,7 @@ use Rattle.engine_spec.specs.Simulate.{simulated, simulate, unsupported-of}
 use Rattle.engine_spec.specs.Unsupported.{unsupported}
 use Rattle.engine_spec.specs.Words.{words-in, entry-words, simulate-memory}
 use Rattle.engine_spec.proofs.Memory.{refusals}
-use Rattle.engine_fields.specs.Fields.{atMost}
+use Rattle.bounds.specs.Bounds.{atMost}
 use Rattle.reasons.proofs.Listing.{reported}
 use Rattle.engine_refinement.specs.Meaning.{Tabled}
 use Rattle.engine_refinement.proofs.Accepted.{accepted-lawful}
@@ -36,7 +36,8 @@ use Rattle.engine_inputs.proofs.Refines.{event-here}
 use Rattle.engine_entry.specs.declared.Notes.{Notes}
 use Rattle.engine_summary.specs.declared.Simulation.{Simulation}
 use Rattle.engine_summary.specs.Summary.{no-simulation}
-use Rattle.engine_entry.specs.Contract.{Ground, Grounds, no-notes, NotesSay, Shows, Says, lent, Simulates}
+use Rattle.engine_entry.specs.Contract.{no-notes, NotesSay, Shows, Says, lent, Simulates}
+use Rattle.engine_entry.specs.Prepared.{Prepared, PreparedFrom}
 use Rattle.engine_summary.specs.Summaries.{Answered}
 use Rattle.engine_entry.specs.Contracts.{Ran, RunsAs}
 use Rattle.engine_entry.proofs.Refines.{tb, notes-held, queue-clear, runs-clear}
@@ -45,7 +46,7 @@ use Rattle.engine_entry.proofs.RunEvents.{records-here, Promise, answer
 -- ---- unsupported
 
 module _ (f : List ℕ) (x : File) (says : indexed.Says f x (accepted f)) where
-  pub notes-read : ((k : ℕ) → getD f k 0 < 256) → x .status ≡ status.Read → (g : Ground) → Grounds f (x .index) g →
+  pub notes-read : ((k : ℕ) → getD f k 0 < 256) → x .status ≡ status.Read → (g : Prepared) → PreparedFrom f (x .index) g →
       NotesSay f (record { refused = 0; count = g .count; reasons = g .reasons }) (unsupported-of f)
   notes-read bytes e g gr =
       let a = accept-read f x says e in
@@ -67,7 +68,7 @@ module _ (f : List ℕ) (x : File) (says : indexed.Says f x (accepted f)) where
 -- ---- a model's simulation
 
 module _ (f : List ℕ) (i : Index) (m : Model) (acc : accepted f ≡ answer m) (o : Indexed f i m)
-    (bytes : (k : ℕ) → getD f k 0 < 256) (g : Ground) (gr : Grounds f i g) where
+    (bytes : (k : ℕ) → getD f k 0 < 256) (g : Prepared) (gr : PreparedFrom f i g) where
   abbrev x : List ℕ
   x = g .table
 
@@ -98,7 +99,7 @@ module _ (f : List ℕ) (i : Index) (m : Model) (acc : accepted f ≡ answer m) 
     abbrev sizes : Areas
     sizes = record { queue = length q / 5; records = length a / 13; runs = length r / 28 }
 
-    evs : (j : ℕ) → j < length events → EventAt f x (o .ts) m t v j (getD events j none-such)
+    evs : (j : ℕ) → j < length events → EventAt f x (o .ts) m v j (getD events j none-such)
     evs j h = event-here f x i m acc o t v ev none-such j h
 
     abbrev after : Answer engine.Simulation → Lent
@@ -131,7 +132,7 @@ module _ (f : List ℕ) (i : Index) (m : Model) (acc : accepted f ≡ answer m) 
 
 -- ---- the entry
 
-pub run-is : (f : List ℕ) (i : Index) → ((k : ℕ) → getD f k 0 < 256) → (g : Ground) → Grounds f i g → {v : List ℕ} →
+pub run-is : (f : List ℕ) (i : Index) → ((k : ℕ) → getD f k 0 < 256) → (g : Prepared) → PreparedFrom f i g → {v : List ℕ} →
     EventsOf f i v →
     {n : ℕ} → n ≡ atMost (getD (g .table) 8 0) 100 → {s ans : Simulation} {q q' a a' r r' : List ℕ} →
     Ran f g v n s q q' a a' r r' → Answered s ans →

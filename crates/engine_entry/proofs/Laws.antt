@@ -3,13 +3,14 @@ use Prim.Native.Nat.{ℕ}
 use mathlib.Core.Path.{_≡_, sym, subst}
 use mathlib.Core.List.{List}
 use lib.ListN.{length, getD}
-use Rattle.engine_fields.specs.Fields.{atMost}
+use Rattle.bounds.specs.Bounds.{AtMost, atMost}
 use Rattle.engine_run.specs.Run as run
 use Rattle.engine_run.specs.declared.Simulation.{Simulation as Run}
 use Rattle.engine_summary.specs.declared.Simulation.{Simulation}
 use Rattle.engine_spec.specs.Memory.{Lent}
-use Rattle.engine_entry.specs.Contract.{Ground, Simulates}
-use Rattle.engine_summary.specs.Summaries.{Few, ShownAs}
+use Rattle.engine_entry.specs.Contract.{Simulates}
+use Rattle.engine_entry.specs.Prepared.{Prepared}
+use Rattle.engine_summary.specs.Summaries.{ShownAs}
 use Rattle.engine_entry.specs.Contracts.{Ran}
 
 -- ---- the answer
@@ -20,8 +21,8 @@ simulates-as {f} {r} {s} {before} {after} e h = subst (λ (y : Simulation). Simu
 
 -- ---- a run
 
-pub ran-so : {f : List ℕ} {g : Ground} {events : List ℕ} {n count : ℕ} {s : Run} {q q' a a' r r' u : List ℕ} →
-    Few (g .count) count →
+pub ran-so : {f : List ℕ} {g : Prepared} {events : List ℕ} {n count : ℕ} {s : Run} {q q' a a' r r' u : List ℕ} →
+    AtMost (g .count) 300 count →
     run.Simulates f (g .table) events n (g .cells) count s q q' a a' r r' (g .reasons) u → length u ≡ length (g .reasons) →
     {k : ℕ} → k ≡ atMost (getD (g .table) 0 0) 32 →
     {ans : Simulation} → ShownAs s k (getD (g .table) 2 0) u ans → Ran f g events n ans q q' a a' r r'

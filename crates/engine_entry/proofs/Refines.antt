@@ -8,6 +8,7 @@ use native.Mathlib.Omega.{arith}
 use lib.Dec.{eqb}
 use lib.ListN.{length, getD, replicate, length-append, length-replicate}
 use borrow.Author.Tests.{eq-eqb, ne-eqb}
+use Rattle.bounds.specs.Bounds.{AtMost}
 use Rattle.texts.specs.Lists.{if_then_else_, each, flat}
 use Rattle.texts.specs.Texts.{Text}
 use Rattle.model_spec.specs.Answer.{answer, refused}
@@ -43,15 +44,15 @@ use Rattle.engine_table.proofs.Refines.{model-table}
 use Rattle.engine_inputs.proofs.Refines.{start-valued, start-cells-are}
 use Rattle.engine_unsupported.specs.Rows.{RulesAt}
 use Rattle.engine_unsupported.proofs.Refines.{unsupported-agrees}
-use Rattle.engine_entry.specs.Contract.{Ground, Grounds, incomplete-of}
+use Rattle.engine_entry.specs.Contract.{incomplete-of}
+use Rattle.engine_entry.specs.Prepared.{Prepared, PreparedFrom}
 use Rattle.engine_entry.specs.Contracts.{Ran}
 use Rattle.engine_summary.specs.declared.Simulation.{Simulation}
-use Rattle.engine_summary.specs.Summaries.{Few}
 use Rattle.engine_summary.proofs.Laws.{zeros}
 use Rattle.engine_entry.proofs.Numbers.{area-numbers}
 
 module _ (f : List ℕ) (i : Index) (m : Model) (acc : accepted f ≡ answer m) (o : Indexed f i m)
-    (bytes : (k : ℕ) → getD f k 0 < 256) (g : Ground) (gr : Grounds f i g) where
+    (bytes : (k : ℕ) → getD f k 0 < 256) (g : Prepared) (gr : PreparedFrom f i g) where
   abbrev x : List ℕ
   x = g .table
 
@@ -103,7 +104,7 @@ module _ (f : List ℕ) (i : Index) (m : Model) (acc : accepted f ≡ answer m) 
     length-append notes (unsupported-wait ∷ flat rule-pool (m .rules)),
   )
 
-  pub held-as : {count : ℕ} → Few (g .count) count → Holds f notes count (g .reasons)
+  pub held-as : {count : ℕ} → AtMost (g .count) 300 count → Holds f notes count (g .reasons)
   held-as few = subst (λ (j : ℕ). Holds f notes j (g .reasons)) (sym (few .same few-notes)) notes-held
 
   -- after a run the areas of queue and runs are zeros
@@ -139,7 +140,7 @@ module _ (f : List ℕ) (i : Index) (m : Model) (acc : accepted f ≡ answer m) 
 
   -- ---- a run with the events vs, given as words
 
-  module _ (l : List ℕ) (d : Event) (vs : List Event) (evs : (k : ℕ) → k < length vs → EventAt f x ts m tb l k (getD vs k d))
+  module _ (l : List ℕ) (d : Event) (vs : List Event) (evs : (k : ℕ) → k < length vs → EventAt f x ts m l k (getD vs k d))
       (s : Run) (q q' a a' r r' u' : List ℕ) where
     abbrev sizes : Areas
     sizes = record { queue = length q / 5; records = length a / 13; runs = length r / 28 }
@@ -227,7 +228,7 @@ module _ (f : List ℕ) (i : Index) (m : Model) (acc : accepted f ≡ answer m) 
               ∙ ap (λ (t : List Text). reasons-of (p .«stop_reason») ++ t) (left-as (length (p .last .runs)));
         }
 
-    pub ran : {n count : ℕ} → n ≡ length vs → Few (g .count) count →
+    pub ran : {n count : ℕ} → n ≡ length vs → AtMost (g .count) 300 count →
         run.Simulates f x l n (g .cells) count s q q' a a' r r' (g .reasons) u' → Outcome
     ran {n} {count} many few does = by halted
       where

@@ -22,7 +22,7 @@ use Rattle.engine_spec.specs.Records.{Trace, Areas}
 use Rattle.engine_spec.specs.Simulate as engine
 use Rattle.engine_spec.specs.Simulate.{simulated}
 use Rattle.engine_spec.specs.Words.{trace-words, texts-in, words-in}
-use Rattle.engine_fields.specs.Fields.{atMost}
+use Rattle.bounds.specs.Bounds.{atMost}
 use Rattle.engine_run.specs.Run.{refusalM}
 use Rattle.engine_run.specs.declared.Simulation.{Simulation as Run}
 use Rattle.engine_refinement.specs.Meaning.{record-of, cells-of, pool-of, Tabled}
@@ -35,14 +35,15 @@ use Rattle.engine_refinement.proofs.Simulated.{EventAt}
 use Rattle.engine_refinement.proofs.Evaluate.{entities-are}
 use Rattle.engine_refinement.proofs.Words.{record-area}
 use Rattle.engine_summary.specs.declared.Simulation.{Simulation}
-use Rattle.engine_entry.specs.Contract.{Ground, Grounds, incomplete-of, values-of, Shows}
+use Rattle.engine_entry.specs.Contract.{incomplete-of, values-of, Shows}
+use Rattle.engine_entry.specs.Prepared.{Prepared, PreparedFrom}
 use Rattle.engine_summary.specs.Summaries.{Firsts}
 use Rattle.engine_entry.specs.Contracts.{Ran}
 use Rattle.engine_entry.proofs.Refines.{tb, Done, Outcome, done, full, ran}
 use Rattle.engine_entry.proofs.Final.{values-are}
 
 module _ (f : List ℕ) (i : Index) (m : Model) (acc : accepted f ≡ answer m) (o : Indexed f i m)
-    (bytes : (k : ℕ) → getD f k 0 < 256) (g : Ground) (gr : Grounds f i g) where
+    (bytes : (k : ℕ) → getD f k 0 < 256) (g : Prepared) (gr : PreparedFrom f i g) where
   abbrev x : List ℕ
   x = g .table
 
@@ -77,7 +78,7 @@ module _ (f : List ℕ) (i : Index) (m : Model) (acc : accepted f ≡ answer m) 
 
   -- with the events vs, given as words
   module _ (v : List ℕ) (d : Event) (vs : List Event)
-      (evs : (j : ℕ) → j < length vs → EventAt f x (o .ts) m t v j (getD vs j d)) {n : ℕ} (many : n ≡ length vs)
+      (evs : (j : ℕ) → j < length vs → EventAt f x (o .ts) m v j (getD vs j d)) {n : ℕ} (many : n ≡ length vs)
       {ans : Simulation} {q q' a a' r r' : List ℕ} (ran-so : Ran f g v n ans q q' a a' r r') where
     abbrev sizes : Areas
     sizes = record { queue = length q / 5; records = length a / 13; runs = length r / 28 }

@@ -9,17 +9,12 @@ use lib.ListN.{length, replicate}
 use Rattle.texts.specs.Lists.{if_then_else_, each}
 use Rattle.texts.specs.Texts.{Text}
 use Rattle.model_spec.specs.Answer.{Answer, answer, refused}
-use Rattle.model_index.specs.declared.Index.{Index}
-use Rattle.reasons.specs.Lists.{Reported, Holds}
+use Rattle.reasons.specs.Lists.{Reported}
 use Rattle.engine_spec.specs.Memory.{Lent, entries}
 use Rattle.engine_spec.specs.Reasons.{space-spent, steps-spent, runs-left}
 use Rattle.engine_spec.specs.Simulate as engine
 use Rattle.model_spec.specs.Rewrite.{place-of}
 use Rattle.engine_spec.specs.Words.{texts-in, entry-words, simulate-memory}
-use Rattle.engine_unsupported.specs.Listing.{unsupportedM}
-use Rattle.engine_state.specs.declared.Cells.{Cells}
-use Rattle.engine_table.specs.Table.{TableOf}
-use Rattle.engine_inputs.specs.Inputs.{CellsOf}
 use Rattle.engine_entry.specs.declared.Notes.{Notes}
 use Rattle.engine_summary.specs.declared.Simulation.{Simulation}
 use Rattle.engine_summary.specs.Summary.{no-simulation}
@@ -69,20 +64,3 @@ lent q a r = record { queue = q; records = a; runs = r }
 pub record Simulates (f : List ℕ) (r : Simulation) (before after : Lent) : Type 0 where
   pub says : Says f r (engine.simulate (entries entry-words before) f)
   pub memory : after ≡ simulate-memory f before
-
--- ---- what the simulations of one model share, from the file and its index
-
--- the table, the values at the start, and the reasons of the notes
-pub record Ground : Type 0 where
-  pub table : List ℕ
-  pub cells : Cells
-  pub count : ℕ
-  pub reasons : List ℕ
-
-abbrev pub ground : (table : List ℕ) → Cells → (count : ℕ) → (reasons : List ℕ) → Ground
-ground x c n w = record { table = x; cells = c; count = n; reasons = w }
-
-pub record Grounds (f : List ℕ) (i : Index) (g : Ground) : Type 0 where
-  pub table : TableOf f i (g .table)
-  pub cells : CellsOf f i (g .cells)
-  pub reasons : Holds f (unsupportedM f (g .table)) (g .count) (g .reasons)

@@ -12,7 +12,8 @@ ghost use Prim.Native.Nat.{_*_, _≤_};
 ghost use lib.ListN.{length};
 ghost use Rattle.engine_spec.specs.Simulate.{unsupported-of};
 ghost use Rattle.engine_summary.specs.Summary.{simulation-of};
-ghost use Rattle.engine_entry.specs.Contract.{ground, Grounds, no-notes, NotesSay, lent, Simulates};
+ghost use Rattle.engine_entry.specs.Contract.{no-notes, NotesSay, lent, Simulates};
+ghost use Rattle.engine_entry.specs.Prepared.{prepared-of, PreparedFrom};
 ghost use Rattle.engine_entry.specs.Contracts.{Ran, RunsAs};
 
 // ---- what the simulations of one model share
@@ -26,7 +27,7 @@ pub struct Base {
 
 // The reasons of the notes go to `reasons`, five words each.
 pub fn prepared(file: &[u8], index: Index, reasons: &mut SimulationReasons) -> Base
-    ensures { λ b. ⌜ Grounds (was file) index (ground (b .table) (b .cells) (b .count) (is reasons)) ⌝ }
+    ensures { λ b. ⌜ PreparedFrom (was file) index (prepared-of (b .table) (b .cells) (b .count) (is reasons)) ⌝ }
 {
     let table = engine_table::table_of(file, index);
     let cells = engine_inputs::cells_of(file, index);
@@ -95,10 +96,10 @@ pub fn run_events(
     reasons: &mut SimulationReasons,
 ) -> Summary
     requires { ⌜ n * 4 ≤ length (now events) ⌝ }
-    ensures { λ s. ⌜ Ran (was file) (ground (was table) cells notes (was reasons)) (was events) n
+    ensures { λ s. ⌜ Ran (was file) (prepared-of (was table) cells notes (was reasons)) (was events) n
         (simulation-of s (is reasons)) (was queue) (is queue) (was records) (is records) (was runs) (is runs) ⌝ }
 {
-    let count = engine_summary::few(notes);
+    let count = bounds::min_usize(notes, 300);
     let s = engine_run::simulated(
         file,
         table,
@@ -111,7 +112,7 @@ pub fn run_events(
         runs,
         reasons,
     );
-    let entities = engine_fields::at_most(table[0], 32);
+    let entities = bounds::at_most(table[0], 32);
     engine_summary::summed(s, entities, table[2])
 }
 
@@ -132,7 +133,7 @@ fn run(
     let cells = b.cells;
     let v = engine_inputs::events_of(file, index);
     let events = v.words;
-    let n = engine_fields::at_most(table[8], 100);
+    let n = bounds::at_most(table[8], 100);
     let s = run_events(
         file,
         &table,

@@ -12,9 +12,7 @@ use runs::Run;
 use runs::Source;
 ghost use Rattle.notation.specs.Reference.{was};
 ghost use mathlib.Core.Path.{_≡_};
-ghost use Prim.Native.Nat.{_+_, _*_, _≤_, _<_};
-ghost use lib.ListN.{getD};
-ghost use Rattle.engine_fields.specs.Fields.{two, four};
+ghost use Prim.Native.Nat.{_+_, _<_};
 ghost use Rattle.engine_evaluate.specs.Evaluate.{
   numberM,
   bothM,

@@ -3,26 +3,12 @@ use Prim.Native.Nat.{ℕ, zero, suc, _+_, _-_, _*_, _≤_, _<_}
 use mathlib.Core.Path.{_≡_, refl, sym, _∙_, ap}
 use mathlib.Core.List.{List, [], _∷_}
 use lib.ListN.{length, getD}
-use borrow.Author.Tests.{eq-eqb, ne-eqb, lt-ltb, le-ltb, le-leb, lt-leb}
+use borrow.Author.Tests.{eq-eqb, ne-eqb, lt-ltb, le-ltb}
 use native.Mathlib.Omega.{arith}
 use Rattle.texts.specs.Places.{startFrom}
 use Rattle.runs.specs.Runs.{placeWord}
-use Rattle.engine_fields.specs.Fields.{
-  two,
-  four,
-  cap,
-  atMost,
-  name,
-  word,
-  entities,
-  entityFrom,
-  entityOf,
-  textPosition,
-  aboutRule,
-  alone,
-  noteReason,
-  listWord,
-}
+use Rattle.bounds.specs.Bounds.{atMost}
+use Rattle.engine_fields.specs.Fields.{two, four, cap, name, word, entities, entityFrom, entityOf, textPosition, aboutRule, alone, noteReason, listWord}
 use Rattle.reasons.specs.Kinds as kinds
 use Rattle.reasons.specs.Readable.{text-count}
 
@@ -63,14 +49,6 @@ word-far p n w e h = rw (lt-ltb 32767 p h) e
 pub word-near : (p n w : ℕ) → w ≡ placeWord (record { position = p; left = n }) → p ≤ 32767 → w ≡ listWord p n
 unfolding listWord
 word-near p n w e h = rw (le-ltb 32767 p h) e
-
-pub most-yes : (n m : ℕ) → n ≤ m → n ≡ atMost n m
-unfolding atMost
-most-yes n m h = rw (le-leb n m h)
-
-pub most-no : (n m : ℕ) → m < n → m ≡ atMost n m
-unfolding atMost
-most-no n m h = rw (lt-leb n m h)
 
 -- ---- the entity with a name
 

@@ -2,9 +2,10 @@
 use Prim.Native.Nat.{ℕ, zero, suc, _+_, _*_}
 use mathlib.Core.Bool.{true, false}
 use mathlib.Core.List.{List}
-use lib.Dec.{ltb, leb, eqb}
+use lib.Dec.{ltb, eqb}
 use lib.ListN.{getD}
 use Rattle.texts.specs.Lists.{if_then_else_}
+use Rattle.bounds.specs.Bounds.{atMost}
 use Rattle.texts.specs.Places.{startFrom}
 use Rattle.runs.specs.Runs.{placeWord}
 use Rattle.reasons.specs.Kinds as kinds
@@ -26,9 +27,6 @@ cap p = if ltb 4294967295 p then 4294967295 else p
 unfoldable pub listWord : (position left : ℕ) → ℕ
 listWord p n = if ltb 32767 p then placeWord (record { position = 32767; left = n })
     else placeWord (record { position = p; left = n })
-
-unfoldable pub atMost : ℕ → (most : ℕ) → ℕ
-atMost n most = if leb n most then n else most
 
 -- ---- the table
 

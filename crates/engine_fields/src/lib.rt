@@ -8,23 +8,9 @@ use reasons::Reason;
 use runs::Place;
 ghost use Rattle.notation.specs.Reference.{was};
 ghost use mathlib.Core.Path.{_≡_};
-ghost use Prim.Native.Nat.{_+_, _*_, _≤_, _<_};
+ghost use Prim.Native.Nat.{_+_, _*_, _<_};
 ghost use lib.ListN.{getD};
-ghost use Rattle.engine_fields.specs.Fields.{
-  two,
-  four,
-  cap,
-  atMost,
-  name,
-  stale,
-  word,
-  entityOf,
-  textPosition,
-  aboutRule,
-  alone,
-  noteReason,
-  listWord,
-};
+ghost use Rattle.engine_fields.specs.Fields.{two, four, cap, name, stale, word, entityOf, textPosition, aboutRule, alone, noteReason, listWord};
 
 // ---- the file
 
@@ -82,15 +68,6 @@ pub fn list_word(position: u32, left: u32) -> u32
 
 // ---- the table
 
-pub fn at_most(n: u32, most: usize) -> usize
-    ensures { λ r. ⌜ (r ≡ atMost n most) × (r ≤ most) ⌝ }
-{
-    if n as usize <= most {
-        return n as usize;
-    }
-    most
-}
-
 // The name of an entity.
 pub fn name_of(x: &Table, e: usize) -> u32
     requires { ⌜ e < 32 ⌝ }
@@ -119,7 +96,7 @@ pub fn rule_word(x: &Table, i: usize, k: usize) -> u32
 pub fn entity_of(x: &Table, id: u32) -> usize
     ensures { λ r. ⌜ r ≡ entityOf (was x) id ⌝ }
 {
-    let n = at_most(x[layout::ENTITY_COUNT], 32);
+    let n = bounds::at_most(x[layout::ENTITY_COUNT], 32);
     let mut e: usize = 0;
     while e < n {
         if name_of(x, e) == id {

@@ -24,7 +24,8 @@ use Rattle.model_index.specs.declared.Index.{Index}
 use Rattle.model_index.specs.Indexed.{Indexed}
 use Rattle.engine_spec.specs.Cells.{initial-cells}
 use Rattle.engine_spec.proofs.Lists.{Each, each-split}
-use Rattle.engine_fields.specs.Fields.{two, four, cap, atMost}
+use Rattle.bounds.specs.Bounds.{atMost}
+use Rattle.engine_fields.specs.Fields.{two, four, cap}
 use Rattle.engine_fields.proofs.Laws.{most-yes}
 use Rattle.engine_state.specs.declared.Cells.{Cells}
 use Rattle.engine_refinement.specs.Meaning.{cells-of, Tabled}
@@ -342,7 +343,7 @@ module _ (f x : List ℕ) (i : Index) (m : Model) (acc : accepted f ≡ answer m
         words-here = event-words-here ts l d events 400 events-are k h
             (lists.each-getD (λ (v : Event). Fine ts (v .input)) events k d h (events-fine f i m acc o places))
 
-        pub event-here : EventAt f x ts m tb l k v
+        pub event-here : EventAt f x ts m l k v
         event-here =
             event-at f x ts m tb l k v
             (lists.each-getD (λ (v : Event). check-input es (v .input) ≡ accept) events k d h (events-accepted f m acc))

@@ -5,7 +5,8 @@ use mathlib.Core.List.{List}
 use lib.Dec.{ltb, eqb}
 use lib.ListN.{length, getD, replicate}
 use Rattle.texts.specs.Lists.{if_then_else_}
-use Rattle.engine_fields.specs.Fields.{two, four, cap, atMost}
+use Rattle.bounds.specs.Bounds.{atMost}
+use Rattle.engine_fields.specs.Fields.{two, four, cap}
 use Rattle.model_index.specs.declared.Index.{Index}
 use Rattle.engine_state.specs.declared.Cells.{Cells}
 

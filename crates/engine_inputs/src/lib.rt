@@ -65,7 +65,7 @@ pub fn events_of(s: &[u8], index: Index) -> Events
 {
     let events = index.events;
     let starts = events.starts;
-    let n = engine_fields::at_most(events.count, 100);
+    let n = bounds::at_most(events.count, 100);
     let mut words = [0u32; layout::EVENT_WORDS];
     let mut k: usize = 0;
     while k < n * 4 {

@@ -480,7 +480,7 @@ module _ (f x : List ℕ) (ts : List Text) (mo : Model) (tb : Tabled f x ts mo) 
 
   -- an item writes once at most, or begins at most 32 runs
   pub process-is : {now room : ℕ} {m : Machine} {e : Engine} → L now (room + 32) m e → (w : QWork) →
-      GoodWork f x ts mo tb w → S now room (processM f x w m) (process now (mo .rules) (work-of x ts w) e)
+      GoodWork f x ts mo w → S now room (processM f x w m) (process now (mo .rules) (work-of x ts w) e)
   unfolding processM process work-of externalM
   process-is l (queue.Set a v) h =
       update-is f x ts mo tb (weaker f x ts mo tb (omega arith) l) (setting a v 1 NoRule Nowhere) (h .0 .0)

@@ -53,7 +53,7 @@ module _ (f x : List ℕ) (ts : List Text) (mo : Model) (tb : Tabled f x ts mo) 
   I = item-of x ts
 
   abbrev Good : QItem → Type 0
-  Good i = GoodWork f x ts mo tb (i .work)
+  Good i = GoodWork f x ts mo (i .work)
 
   abbrev horizon : ℕ
   horizon = mo .scenario .limits .horizon

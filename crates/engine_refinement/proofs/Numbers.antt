@@ -10,7 +10,8 @@ use Rattle.model_spec.specs.Model.{Source}
 use Rattle.model_spec.specs.File.{got, u8, u16, u32, source}
 use Rattle.model_walk.proofs.Laws.{u8-in, u16-in, u32-in}
 use Rattle.model_walk.proofs.Found.{u8-wide, u16-wide, u32-wide, bound, given}
-use Rattle.engine_fields.specs.Fields.{two, four, cap, atMost}
+use Rattle.bounds.specs.Bounds.{atMost}
+use Rattle.engine_fields.specs.Fields.{two, four, cap}
 use Rattle.engine_state.specs.Machine.{later, more}
 
 module _ (f : List ℕ) (p : ℕ) {v q : ℕ} where

@@ -111,7 +111,7 @@ module _ (f x : List ℕ) (ts : List Text) (mo : Model) (tb : Tabled f x ts mo) 
 
   -- a simulation, from its beginning to its answer
   pub simulated-is : (m : Machine) (areas : Areas) (cells : List Cell) → Beginning f x ts mo tb m areas cells →
-      (l : List ℕ) (d : Event) (vs : List Event) → ((i : ℕ) → i < length vs → EventAt f x ts mo tb l i (getD vs i d)) →
+      (l : List ℕ) (d : Event) (vs : List Event) → ((i : ℕ) → i < length vs → EventAt f x ts mo l i (getD vs i d)) →
       Answered (closedM x (loopM f x (getD x 3 0) (begunM x l (length vs) m))) (simulated areas mo cells vs)
   simulated-is m areas cells b l d vs evs = result-is areas cells vs _ (ended-is f x ts mo tb m areas cells b l d vs evs)
 
@@ -150,7 +150,7 @@ module _ (f x : List ℕ) (ts : List Text) (mo : Model) (tb : Tabled f x ts mo) 
       ∙ ap (λ (j : ℕ). cells-from x ts vs ns j 0) (sym (entities-are f x ts mo tb))
 
   event-good : (k e v : ℕ) (i : Input) → check-input (mo .scenario .entities) i ≡ accept → InputWords ts k e v i →
-      (work-of x ts (eventM k e v) ≡ Work.external i) × GoodWork f x ts mo tb (eventM k e v)
+      (work-of x ts (eventM k e v) ≡ Work.external i) × GoodWork f x ts mo (eventM k e v)
   unfolding eventM work-of check-input
   event-good k e v (Input.set a b) c w =
       let z = w .0 in
@@ -167,6 +167,6 @@ module _ (f x : List ℕ) (ts : List Text) (mo : Model) (tb : Tabled f x ts mo) 
   pub event-at : (l : List ℕ) (i : ℕ) (v : Event) → check-input (mo .scenario .entities) (v .input) ≡ accept →
       getD l (i * 4) 0 ≡ v .at →
       InputWords ts (getD l (i * 4 + 1) 0) (getD l (i * 4 + 2) 0) (getD l (i * 4 + 3) 0) (v .input) →
-      EventAt f x ts mo tb l i v
+      EventAt f x ts mo l i v
   event-at l i v c s w = let g = event-good (getD l (i * 4 + 1) 0) (getD l (i * 4 + 2) 0) (getD l (i * 4 + 3) 0) (v .input)
       c w in record { second = s; work = g .0; good = g .1 }

@@ -255,7 +255,7 @@ module _ (f x : List ℕ) (ts : List Text) (mo : Model) (tb : Tabled f x ts mo) 
 
   declared-from : (id : ℕ) → id < length ts → (l : List Entity) (o : ℕ) →
       ((d : Entity) (k : ℕ) → k < length l → Column x ts (o + k) (getD l k d)) → o + length l ≤ length es →
-      (d : Entity) → find (named (T id)) l ≡ some d → Declared f x ts mo tb id
+      (d : Entity) → find (named (T id)) l ≡ some d → Declared f x ts mo id
   unfolding find named
   declared-from id h [] o g b d e = let z : _≡_ {A = ℕ} 0 1 = cc in absurd (omega arith)
   declared-from id h (y ∷ l) o g b d e =
@@ -266,8 +266,8 @@ module _ (f x : List ℕ) (ts : List Text) (mo : Model) (tb : Tabled f x ts mo) 
       first : Column x ts o y
       first = let z : o + 0 ≡ o = omega arith in subst (λ (n : ℕ). Column x ts n y) z (g y 0 (omega arith))
 
-      cases : Case (eqT (y .name) (T id)) → (find (named (T id)) l ≡ some d → Declared f x ts mo tb id) →
-          Declared f x ts mo tb id
+      cases : Case (eqT (y .name) (T id)) → (find (named (T id)) l ≡ some d → Declared f x ts mo id) →
+          Declared f x ts mo id
       cases (is-true c) ih = (
         o,
         (
@@ -278,7 +278,7 @@ module _ (f x : List ℕ) (ts : List Text) (mo : Model) (tb : Tabled f x ts mo) 
       )
       cases (is-false c) ih = ih (rw c at e)
 
-  pub declared : (id : ℕ) → id < length ts → Known es pl (T id) → Declared f x ts mo tb id
+  pub declared : (id : ℕ) → id < length ts → Known es pl (T id) → Declared f x ts mo id
   declared id h k =
       declared-from id h es 0
       (λ d i o. let z : i ≡ 0 + i = omega arith in subst (λ (n : ℕ). Column x ts n (getD es i d)) z (tb .columns d i o))
@@ -365,7 +365,7 @@ module _ (f x : List ℕ) (ts : List Text) (mo : Model) (tb : Tabled f x ts mo) 
 
     -- the run's automation is one of the model's
     module _ (low : r .automation < rules) where
-      set-is : {room : ℕ} {m : Machine} {e : Engine} → L now (suc room) m e → (a v : ℕ) → Declared f x ts mo tb a →
+      set-is : {room : ℕ} {m : Machine} {e : Engine} → L now (suc room) m e → (a v : ℕ) → Declared f x ts mo a →
           v < length ts →
           S now room (setM x r s a v m) (add (next-step now (R r)) (write now (T a) (T v) src (R r) e))
       unfolding setM

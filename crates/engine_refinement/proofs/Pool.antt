@@ -3,11 +3,12 @@
 use mathlib.Core.Path.{_≡_, refl, ap, subst}
 use mathlib.Core.List.{List, [], _∷_, _++_, append-nil}
 use mathlib.Core.Bool.{Bool, true, false, _||_}
-use Prim.Native.Nat.{ℕ, zero, suc, _+_, _*_, _≤_, _<_}
+use Prim.Native.Nat.{ℕ, zero, suc, _+_, _≤_, _<_}
 use native.Mathlib.Omega.{arith}
 use lib.ListN.{length, getD}
 use lib.Dec.{eqb}
 use borrow.Author.Tests.{lt-ltb}
+use Rattle.texts.proofs.Bool.{or-left, or-right}
 use Rattle.texts.specs.Lists.{any, flat}
 use Rattle.texts.specs.Texts.{Text, text, eqT, memT}
 use Rattle.texts.specs.Places.{textAt, startFrom}
@@ -32,18 +33,10 @@ use Rattle.engine_refinement.specs.Events.{Among}
 use Rattle.engine_refinement.proofs.Numbers.{cap-is}
 use Rattle.engine_refinement.proofs.Relation.{no-rule, id-in}
 
-or-true : (a b : Bool) → b ≡ true → (a || b) ≡ true
-or-true true b h = refl
-or-true false b h = h
-
 pub mem-right : (t : Text) (l m : List Text) → memT t m ≡ true → memT t (l ++ m) ≡ true
 unfolding memT any
 mem-right t [] m h = h
-mem-right t (y ∷ l) m h = or-true (eqT t y) _ (mem-right t l m h)
-
-or-first : (a b : Bool) → a ≡ true → (a || b) ≡ true
-or-first true b h = refl
-or-first false b h = let z : _≡_ {A = ℕ} 0 1 = cc in absurd (omega arith)
+mem-right t (y ∷ l) m h = or-right (eqT t y) _ (mem-right t l m h)
 
 or-both : (a b c : Bool) → (a || b) ≡ true → (b ≡ true → c ≡ true) → (a || c) ≡ true
 or-both true b c h g = refl
@@ -61,7 +54,7 @@ among-to (t ∷ k) l m g h = (g t (h .0), among-to k l m g (h .1))
 pub among-self : (l : List Text) → Among l l
 unfolding memT any
 among-self [] = tt
-among-self (t ∷ l) = (or-first (eqT t t) _ (eqT-same t), among-to l l (t ∷ l) (λ y h. or-true (eqT y t) _ h) (among-self l))
+among-self (t ∷ l) = (or-left (eqT t t) _ (eqT-same t), among-to l l (t ∷ l) (λ y h. or-right (eqT y t) _ h) (among-self l))
 
 in-flat : (d : Automation) (l : List Automation) (i : ℕ) → i < length l → Among (flat rule-pool l) (rule-pool (getD l i d))
 unfolding flat
@@ -77,7 +70,7 @@ pub wait-in : (mo : Model) → memT unsupported-wait (pool-of mo) ≡ true
 unfolding pool-of memT any
 wait-in mo =
     mem-right unsupported-wait (unsupported (mo .rules)) (unsupported-wait ∷ flat rule-pool (mo .rules))
-    (or-first (eqT unsupported-wait unsupported-wait) _ (eqT-same unsupported-wait))
+    (or-left (eqT unsupported-wait unsupported-wait) _ (eqT-same unsupported-wait))
 
 pub rule-in : (mo : Model) (i : ℕ) → i < length (mo .rules) → Among (pool-of mo) (rule-pool (getD (mo .rules) i no-rule))
 unfolding pool-of memT any
@@ -85,7 +78,7 @@ rule-in mo i h =
     among-to (rule-pool (getD (mo .rules) i no-rule)) (flat rule-pool (mo .rules))
     (unsupported (mo .rules) ++ unsupported-wait ∷ flat rule-pool (mo .rules))
     (λ t g. mem-right t (unsupported (mo .rules)) (unsupported-wait ∷ flat rule-pool (mo .rules))
-    (or-true (eqT t unsupported-wait) _ g))
+    (or-right (eqT t unsupported-wait) _ g))
     (in-flat no-rule (mo .rules) i h)
 
 -- the reasons of the automation with the identifier t

@@ -146,7 +146,7 @@ module _ (f x : List ℕ) (ts : List Text) (mo : Model) (tb : Tabled f x ts mo) 
 
   pub record Queued (l : List QItem) (q : List Item) : Type 0 where
     pub is : q ≡ each (item-of x ts) l
-    pub good : Each (λ (i : QItem). GoodWork f x ts mo tb (i .work)) l
+    pub good : Each (λ (i : QItem). GoodWork f x ts mo (i .work)) l
 
   pub record Recorded (l : List Record) (tr : List Trace) : Type 0 where
     pub is : tr ≡ each (record-of x ts) l
@@ -242,7 +242,7 @@ module _ (f x : List ℕ) (ts : List Text) (mo : Model) (tb : Tabled f x ts mo) 
 
   -- ---- an item more
 
-  pub add-is : {now s : ℕ} {m : Machine} {e : Engine} → Live now s m e → (t : ℕ) (w : QWork) → GoodWork f x ts mo tb w →
+  pub add-is : {now s : ℕ} {m : Machine} {e : Engine} → Live now s m e → (t : ℕ) (w : QWork) → GoodWork f x ts mo w →
       Sim now s (addM t w m) (add (item-of x ts (item t w)) e)
   unfolding add
   add-is {now} {s} {m} {e} l t w g = cases (case (ltb (length (m .queue)) (m .queueSize)))
@@ -263,7 +263,7 @@ module _ (f x : List ℕ) (ts : List Text) (mo : Model) (tb : Tabled f x ts mo) 
               is = ap (λ (q : List Item). q ++ item-of x ts (item t w) ∷ []) (l .queue .is)
                   ∙ sym (lists.each-one (item-of x ts) (m .queue) (item t w));
               good =
-                  lists.each-more (λ (i : QItem). GoodWork f x ts mo tb (i .work)) (m .queue) (item t w) (l .queue .good) g;
+                  lists.each-more (λ (i : QItem). GoodWork f x ts mo (i .work)) (m .queue) (item t w) (l .queue .good) g;
             };
             records = l .records;
             runs = l .runs;

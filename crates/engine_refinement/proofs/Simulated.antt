@@ -181,7 +181,7 @@ module _ (f x : List ℕ) (ts : List Text) (mo : Model) (tb : Tabled f x ts mo) 
 
   -- ---- the events
 
-  event-is : {m : Machine} {e : Engine} → L 0 most m e → (l : List ℕ) (i : ℕ) (v : Event) → EventAt f x ts mo tb l i v →
+  event-is : {m : Machine} {e : Engine} → L 0 most m e → (l : List ℕ) (i : ℕ) (v : Event) → EventAt f x ts mo l i v →
       S 0 most (add-eventM l i m) (add (event-item v) e)
   unfolding add-eventM event-item item-of
   event-is {m} {e} l k i v a =
@@ -193,7 +193,7 @@ module _ (f x : List ℕ) (ts : List Text) (mo : Model) (tb : Tabled f x ts mo) 
   add-event-stuck l i n m z p = s-add n z _ _ m p
 
   events-are : (l : List ℕ) (d : Event) (vs : List Event) →
-      ((i : ℕ) → i < length vs → EventAt f x ts mo tb l i (getD vs i d)) →
+      ((i : ℕ) → i < length vs → EventAt f x ts mo l i (getD vs i d)) →
       (n : ℕ) → n ≤ length vs → {m : Machine} {e : Engine} → S 0 most m e →
       S 0 most (add-eventsM l n m) (adds (each event-item (take n vs)) e)
   unfolding add-eventsM each adds through
@@ -306,7 +306,7 @@ module _ (f x : List ℕ) (ts : List Text) (mo : Model) (tb : Tabled f x ts mo) 
       record { values = b .values ∙ a .values; versions = b .versions ∙ a .versions }
 
   module _ (m : Machine) (areas : Areas) (cells : List Cell) (b : Beginning m areas cells) (l : List ℕ) (d : Event)
-      (vs : List Event) (evs : (i : ℕ) → i < length vs → EventAt f x ts mo tb l i (getD vs i d)) where
+      (vs : List Event) (evs : (i : ℕ) → i < length vs → EventAt f x ts mo l i (getD vs i d)) where
     first-record : S 0 most (log-plainM 0 m) (log 0 Kind.initial none none none (empty areas cells))
     first-record =
         log-plain-is f x ts mo tb (start-is m areas cells b) 0 Kind.initial initial
@@ -487,7 +487,7 @@ module _ (f x : List ℕ) (ts : List Text) (mo : Model) (tb : Tabled f x ts mo) 
 
   -- ---- a whole simulation: from its beginning, with the events vs given as words
   pub ended-is : (m : Machine) (areas : Areas) (cells : List Cell) → Beginning m areas cells →
-      (l : List ℕ) (d : Event) (vs : List Event) → ((i : ℕ) → i < length vs → EventAt f x ts mo tb l i (getD vs i d)) →
+      (l : List ℕ) (d : Event) (vs : List Event) → ((i : ℕ) → i < length vs → EventAt f x ts mo l i (getD vs i d)) →
       Result (closedM x (loopM f x (getD x 3 0) (begunM x l (length vs) m))) (ended areas mo cells vs)
       (mo .scenario .limits .max-steps)
   unfolding ended

@@ -12,13 +12,13 @@ use Rattle.engine_spec.specs.Each.{Each}
 use Rattle.engine_spec.specs.Records.{Work}
 use Rattle.engine_fields.specs.Fields.{name}
 use Rattle.engine_schedule.specs.Events.{eventM}
-use Rattle.engine_refinement.specs.Meaning.{work-of, Tabled}
+use Rattle.engine_refinement.specs.Meaning.{work-of}
 
 -- each text stands in the pool
 abbrev pub Among : List Text → List Text → Type 0
 Among pool = Each (λ (t : Text). memT t pool ≡ true)
 
-module _ (f x : List ℕ) (ts : List Text) (mo : Model) (tb : Tabled f x ts mo) where
+module _ (f x : List ℕ) (ts : List Text) (mo : Model) where
   -- the entity with this name is declared
   abbrev pub Declared : ℕ → Type 0
   Declared e = (j : ℕ) × ((j < length (mo .scenario .entities)) × (name x j ≡ e))

@@ -5,7 +5,7 @@ use engine_state::State;
 use layout::Table;
 ghost use Rattle.notation.specs.Reference.{was, is};
 ghost use mathlib.Core.Path.{_≡_};
-ghost use Prim.Native.Nat.{_+_, _*_, _≤_, _<_};
+ghost use Prim.Native.Nat.{_+_, _*_, _≤_};
 ghost use lib.ListN.{length};
 ghost use Rattle.engine_state.specs.Steps.{Fits};
 ghost use Rattle.engine_run.specs.Run.{Clears, Wholly, start-of, refusalM, answer-endedM, Simulates};
@@ -41,7 +41,7 @@ fn start(first: usize, reasons: usize) -> State
     State {
         now: 0,
         items: 0,
-        first,
+        queue_start: first,
         records: 0,
         live_runs: 0,
         reasons,

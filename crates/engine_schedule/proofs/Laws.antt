@@ -12,7 +12,8 @@ use Rattle.queue.specs.Queue as queue
 use Rattle.queue.specs.declared.Item.{Item}
 use Rattle.queue.specs.declared.Taken.{Taken}
 use Rattle.queue.specs.declared.Taken.the-variants.{One, Nothing}
-use Rattle.engine_fields.specs.Fields.{entities, atMost}
+use Rattle.bounds.specs.Bounds.{atMost}
+use Rattle.engine_fields.specs.Fields.{entities}
 use Rattle.engine_state.specs.declared.State.{State}
 use Rattle.engine_state.specs.Machine.{Machine, Content, entire, machine}
 use Rattle.engine_state.specs.Steps.{Held}

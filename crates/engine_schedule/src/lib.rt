@@ -1,5 +1,5 @@
 // What stands in the queue before the loop, and whether its next item is taken.
-use engine_fields::at_most;
+use bounds::at_most;
 use engine_state::State;
 use engine_state::add;
 use engine_state::log_plain;

@@ -15,6 +15,7 @@ use mathlib.Core.List.{
   List·Permᴰ·trans,
   Perm,
 }
+use Rattle.texts.proofs.Bool.{and-false}
 use Rattle.texts.specs.Lists.{any, all, each}
 use Rattle.model_spec.specs.Model.{Moment, Predicate}
 use Rattle.engine_spec.specs.Cells.{Cell}
@@ -136,10 +137,6 @@ Settles (t ∷ l) (b ∷ bs) = May t b × Settles l bs
 and-true : (b : Bool) → b && true ≡ b
 and-true true = refl
 and-true false = refl
-
-and-false : (b : Bool) → b && false ≡ false
-and-false true = refl
-and-false false = refl
 
 some-way : (t : Truth) → (b : Bool) × May t b
 some-way Yes = (true, refl)

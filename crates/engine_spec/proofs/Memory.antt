@@ -2,10 +2,11 @@
 -- One law for every entry that is lent the three areas.
 use Prim.Native.Nat.{ℕ, _≤_}
 use mathlib.Core.Path.{_≡_, refl}
-use mathlib.Core.Bool.{Bool, true, false, _&&_}
+use mathlib.Core.Bool.{true, false}
 use mathlib.Core.List.{List}
 use native.Mathlib.Omega.{arith}
 use lib.Dec.{leb, eqb}
+use Rattle.texts.proofs.Bool.{and-false}
 use Rattle.model_spec.specs.Answer.{refused}
 use Rattle.engine_spec.specs.Records.{Trace}
 use Rattle.engine_spec.specs.Memory.{Lent, all-zeros, begins, lent-after}
@@ -17,10 +18,6 @@ eqb-no m n h = by (case (eqb m n))
     by : Case (eqb m n) → eqb m n ≡ false
     by (is-true e) = absurd (h (eqb-eq m n e))
     by (is-false e) = e
-
-and-false : (b : Bool) → b && false ≡ false
-and-false true = refl
-and-false false = refl
 
 low : (n : ℕ) → (n ≡ 21 → ⊥) → n ≤ 40 → begins n ≡ false
 unfolding begins

@@ -1,10 +1,11 @@
 -- An accepted invariant has no window: its predicates have the same truth at every moment.
 use Prim.Native.Nat.{ℕ}
 use mathlib.Core.Path.{_≡_, refl}
-use mathlib.Core.Bool.{Bool, true, false, _&&_, _||_}
+use mathlib.Core.Bool.{true, _||_}
 use mathlib.Core.List.{List, [], _∷_}
 use lib.Dec.{ltb}
 use lib.ListN.{length}
+use Rattle.texts.proofs.Bool.{and-both}
 use Rattle.texts.specs.Lists.{is-empty, all}
 use Rattle.texts.specs.Texts.{Text, memT}
 use Rattle.model_spec.specs.Answer.{answer, accept, _and_, _when_, each-accepted}
@@ -33,10 +34,6 @@ use Rattle.model_spec.specs.Validate.{
 }
 use Rattle.engine_spec.proofs.Validated.{refused-answer, and-first, and-inv, accepted-passed}
 
-both : (a b : Bool) → a ≡ true → b ≡ true → a && b ≡ true
-both true b h k = k
-both false b h k = h
-
 module _ (declared : List Entity) where
   no-window-of : (p : Predicate) → check-stated declared p ≡ accept → no-window p ≡ true
   unfolding check-stated no-window is-window _and_ _when_
@@ -48,7 +45,7 @@ module _ (declared : List Entity) where
   unfolding each-accepted all
   no-windows-of [] e = refl
   no-windows-of (p ∷ ps) e =
-      both (no-window p) (all no-window ps) (no-window-of p (and-first _ _ tt e)) (no-windows-of ps (and-inv _ _ tt e))
+      and-both (no-window p) (all no-window ps) (no-window-of p (and-first _ _ tt e)) (no-windows-of ps (and-inv _ _ tt e))
 
   windowless-of : (i : Invariant) → check-invariant declared i ≡ accept → windowless-invariant i ≡ true
   unfolding check-invariant check-conditions windowless-invariant
@@ -58,7 +55,7 @@ module _ (declared : List Entity) where
       (and-first (11 when (is-empty ps || ltb 32 (length ps)) and each-accepted (check-stated declared) ps) _ tt e))
   windowless-of (transition i x f t) e = refl
   windowless-of (response i p q n) e =
-      both (no-window p) (no-window q) (no-window-of p (and-first (check-stated declared p) _ tt e))
+      and-both (no-window p) (no-window q) (no-window-of p (and-first (check-stated declared p) _ tt e))
       (no-window-of q (and-first (check-stated declared q) _ tt (and-inv (check-stated declared p) _ tt e)))
 
   all-windowless : (ids : List Text) (is : List Invariant) → check-invariants declared ids is ≡ accept
@@ -67,7 +64,7 @@ module _ (declared : List Entity) where
   all-windowless ids [] e = refl
   all-windowless ids (i ∷ is) e =
       let f = and-inv (10 when (bad-length (id-of i) || memT (id-of i) ids)) _ tt e in
-      both (windowless-invariant i) (all windowless-invariant is)
+      and-both (windowless-invariant i) (all windowless-invariant is)
       (windowless-of i (and-first (check-invariant declared i) _ tt f))
       (all-windowless (id-of i ∷ ids) is (and-inv (check-invariant declared i) _ tt f))
 

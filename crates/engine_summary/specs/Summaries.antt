@@ -9,11 +9,6 @@ use Rattle.engine_summary.specs.declared.Summary.{Summary}
 use Rattle.engine_summary.specs.Summary.{no-simulation, simulation-of}
 use Rattle.engine_run.specs.declared.Simulation.{Simulation as Run}
 
--- at most 300
-pub record Few (n r : ℕ) : Type 0 where
-  pub most : r ≤ 300
-  pub same : n ≤ 300 → r ≡ n
-
 -- the first n of 32 values, then zeros
 pub record Firsts (vs : List ℕ) (n : ℕ) (r : List ℕ) : Type 0 where
   pub long : length r ≡ 32

@@ -2,9 +2,9 @@
 use layout::SimulationReasons;
 ghost use Rattle.notation.specs.Reference.{was, is};
 ghost use mathlib.Core.Path.{_≡_};
-ghost use Prim.Native.Nat.{_*_, _≤_};
+ghost use Prim.Native.Nat.{_≤_};
 ghost use Rattle.engine_summary.specs.Summary.{no-simulation, simulation-of};
-ghost use Rattle.engine_summary.specs.Summaries.{Few, Firsts, Summed, Answered};
+ghost use Rattle.engine_summary.specs.Summaries.{Firsts, Summed, Answered};
 
 // ---- simulate
 
@@ -133,14 +133,4 @@ pub fn with_reasons(b: Summary, words: &SimulationReasons) -> Simulation
         stop_reason: b.stop_reason,
         runs_left: b.runs_left,
     }
-}
-
-// At most 300.
-pub fn few(n: usize) -> usize
-    ensures { λ r. ⌜ Few n r ⌝ }
-{
-    if 300 < n {
-        return 300;
-    }
-    n
 }

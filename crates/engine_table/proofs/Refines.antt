@@ -79,7 +79,8 @@ use Rattle.model_order.specs.Order.{place-from, Fixed}
 use Rattle.model_order.proofs.Places.{fixed-at, fixed-texts}
 use Rattle.model_index.specs.declared.Index.{Index}
 use Rattle.model_index.specs.Indexed.{Indexed}
-use Rattle.engine_fields.specs.Fields.{two, four, cap, atMost, name, stale, word}
+use Rattle.bounds.specs.Bounds.{atMost}
+use Rattle.engine_fields.specs.Fields.{two, four, cap, name, stale, word}
 use Rattle.engine_fields.proofs.Laws.{most-yes}
 use Rattle.engine_window.specs.Window.{startM}
 use Rattle.engine_refinement.specs.Meaning.{stale-of, mode-number, Tabled}

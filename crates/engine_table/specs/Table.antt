@@ -12,7 +12,8 @@ use Rattle.model_walk.specs.declared.Piece.the-variants as piece
 use Rattle.model_walk.specs.Walk.{piecesM, actionsM}
 use Rattle.model_order.specs.Order.{place-from}
 use Rattle.model_index.specs.declared.Index.{Index}
-use Rattle.engine_fields.specs.Fields.{two, four, cap, atMost}
+use Rattle.bounds.specs.Bounds.{atMost}
+use Rattle.engine_fields.specs.Fields.{two, four, cap}
 
 -- where a walk ended; a file that was read has all its parts
 unfoldable pub end-of : Walked → (at : ℕ) → ℕ

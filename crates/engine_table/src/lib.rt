@@ -7,7 +7,6 @@ use model_walk::Walked;
 ghost use Rattle.notation.specs.Reference.{was};
 ghost use mathlib.Core.Path.{_≡_};
 ghost use Prim.Native.Nat.{_+_, _*_, _≤_, _<_};
-ghost use lib.ListN.{length, getD};
 ghost use Rattle.engine_fields.specs.Fields.{four, cap};
 ghost use Rattle.engine_table.specs.Table.{
   end-of,
@@ -237,7 +236,7 @@ pub fn table_of(s: &[u8], index: Index) -> Table
     let rules = automations.starts;
     let texts = index.texts;
     let count = texts.count;
-    let n = engine_fields::at_most(automations.count, 32);
+    let n = bounds::at_most(automations.count, 32);
     let mut words = headed(s, index);
     let mut k = layout::HEAD_WORDS;
     while k < layout::AUTOMATIONS + n * layout::AUTOMATION_WORDS {

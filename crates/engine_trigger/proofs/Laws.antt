@@ -18,7 +18,8 @@ use Rattle.runs.specs.declared.Phase.the-variants.{Going, Waiting}
 use Rattle.runs.specs.declared.Found.{Found}
 use Rattle.reasons.specs.Kinds as kinds
 use Rattle.reasons.specs.declared.Reason.{Reason}
-use Rattle.engine_fields.specs.Fields.{two, word, rules, atMost, aboutRule}
+use Rattle.bounds.specs.Bounds.{atMost}
+use Rattle.engine_fields.specs.Fields.{two, word, rules, aboutRule}
 use Rattle.engine_state.specs.Changes.{uncertainM}
 use Rattle.engine_evaluate.specs.Evaluate.{matchesM, anyM, allM}
 use Rattle.engine_evaluate.specs.declared.Truth.{Truth}

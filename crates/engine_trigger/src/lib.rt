@@ -214,7 +214,7 @@ pub fn trigger(
     ensures { λ s. ⌜ Moves (triggerM (was f) (was x) m) st s (by q) (by a) (by r) (told (was f) (was u) (is u))
         (goes (was values) (was values)) kept (by sequences) ⌝ }
 {
-    let n = engine_fields::at_most(x[layout::AUTOMATION_COUNT], 32);
+    let n = bounds::at_most(x[layout::AUTOMATION_COUNT], 32);
     let mut s = wake(f, q, r, st, m);
     let mut i: usize = 0;
     while i < n {

@@ -13,7 +13,8 @@ use Rattle.reasons.specs.declared.Reason.{Reason}
 use Rattle.reasons.specs.Reasons.{render}
 use Rattle.reasons.specs.Readable.{Readable, HasText}
 use Rattle.reasons.specs.Lists.{reasons, listed}
-use Rattle.engine_fields.specs.Fields.{word, rules, atMost, textPosition}
+use Rattle.bounds.specs.Bounds.{atMost}
+use Rattle.engine_fields.specs.Fields.{word, rules, textPosition}
 use Rattle.engine_fields.proofs.Readable.{position-stands}
 use Rattle.engine_unsupported.specs.declared.Head.{Head}
 use Rattle.engine_notes.specs.declared.Part.the-variants as part

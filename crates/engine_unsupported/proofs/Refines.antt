@@ -38,7 +38,8 @@ use Rattle.reasons.specs.Kinds as kinds
 use Rattle.reasons.specs.Reasons.{words, body, render}
 use Rattle.reasons.specs.Readable.{text-count}
 use Rattle.reasons.specs.Reasons as reasons
-use Rattle.engine_fields.specs.Fields.{word, atMost, rules}
+use Rattle.bounds.specs.Bounds.{atMost}
+use Rattle.engine_fields.specs.Fields.{word, rules}
 use Rattle.engine_fields.proofs.Laws.{most-yes}
 use Rattle.engine_unsupported.specs.Rows.{RuleAt, RulesAt}
 use Rattle.engine_unsupported.specs.declared.Head.{Head}

@@ -229,7 +229,7 @@ pub fn unsupported(f: &[u8], x: &Table, u: &mut [u32]) -> usize
     requires { ⌜ (1500 ≤ length (now u)) × ((i : ℕ) → getD (now u) i 0 ≡ 0) ⌝ }
     ensures { λ k. ⌜ Holds (was f) (unsupportedM (was f) (was x)) k (is u) ⌝ }
 {
-    let rules = engine_fields::at_most(x[layout::AUTOMATION_COUNT], 32);
+    let rules = bounds::at_most(x[layout::AUTOMATION_COUNT], 32);
     let mut k: usize = 0;
     let mut i: usize = 0;
     while i < rules {

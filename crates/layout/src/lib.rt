@@ -99,3 +99,12 @@ pub type IncompleteReasons = [u32; INCOMPLETE_REASONS];
 pub const VIOLATIONS: usize = 256;
 
 pub type Violations = [u64; VIOLATIONS];
+
+// ---- areas that the programs lend
+
+// Areas of so many entries are never too small; a queue of 20,543 would do.
+pub const QUEUE: usize = 20544;
+
+pub const RECORDS: usize = 10096;
+
+pub const RUNS: usize = 512;

@@ -11,6 +11,7 @@ use native.Mathlib.Decide.{decLt}
 use lib.Dec.{eqb, ltb}
 use lib.ListN.{length, getD}
 use borrow.Author.Tests.{lt-ltb, le-ltb, eq-eqb, ne-eqb, eqb-true}
+use Rattle.texts.proofs.Bool.{or-false}
 use Rattle.engine_spec.proofs.Bounds.{length-each}
 use Rattle.texts.specs.Lists.{if_then_else_, absent, listed, keep, each, flat}
 use Rattle.texts.specs.Texts.{Text, eqT, memT, sortedT}
@@ -129,10 +130,6 @@ pub record Grounds (s : List ℕ) (e : Section) (ts : List Text) (es : List Enti
   pub few : length es ≤ 32
   pub stand : Stand (entity ts) s (e .starts) es
   pub rising : Rising (each (λ e. e .name) es)
-
-or-false : (b : Bool) → (b || false) ≡ b
-or-false true = refl
-or-false false = refl
 
 no-entity : Entity
 no-entity = record { name = []; domain = []; initial = []; tier = observational; stale-after = none }

@@ -41,10 +41,6 @@ above-more p (over-one q f) = over-one (trans p q) (above-more p f)
 
 -- ---- members
 
-or-true : (b : Bool) → (b || true) ≡ true
-or-true true = refl
-or-true false = refl
-
 pub mem-cons : (t x : Text) (l : List Text) → memT t (x ∷ l) ≡ (eqT t x || memT t l)
 unfolding memT any
 mem-cons t x l = refl

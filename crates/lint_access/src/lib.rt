@@ -4,7 +4,7 @@ use layout::ActionPositions;
 use layout::Positions;
 ghost use Rattle.notation.specs.Reference.{was};
 ghost use mathlib.Core.Path.{_≡_};
-ghost use Prim.Native.Nat.{_≤_, _<_, _+_};
+ghost use Prim.Native.Nat.{_≤_, _<_};
 ghost use Rattle.lint_walk.specs.Walks.{walkBy};
 ghost use Rattle.lint_access.specs.Sets.{
   sectionBy,

@@ -8,6 +8,7 @@ use native.Mathlib.Omega.{arith}
 use native.Mathlib.Decide.{decLt}
 use lib.ListN.{length, getD, set, replicate, length-set, length-replicate, getD-replicate, List·getD-eq-default}
 use lib.Seq.{getD-set-same, getD-set-other}
+use Rattle.texts.proofs.Bool.{never}
 use Rattle.model_parts.specs.declared.Section.{Section}
 use Rattle.lint_reach.specs.Steps.{Square, cell}
 use Rattle.lint_reach.specs.Paths.{Full}
@@ -38,9 +39,6 @@ module _ {A : Type 0} (f : ℕ → A) (d : A) where
         let e : j ≡ k = omega arith in
         fill-out n (k + 1) (set l k (f k)) j (inl (omega arith)) ∙ rw e (getD-set-same l k (f k) d (rw e at c))
   ]
-
-never : {C : Type 0} {b : Bool} → b ≡ true → b ≡ false → C
-never p q = let w : _≡_ {A = ℕ} 0 1 = cc in absurd (omega arith)
 
 blank-cell : (j : ℕ) → getD (replicate 32 false) j false ≡ false
 blank-cell j = elim (decLt j 32) [

@@ -9,7 +9,7 @@ use model_parts::Extent;
 ghost use Rattle.notation.specs.Reference.{was, is};
 ghost use mathlib.Core.Path.{_≡_};
 ghost use mathlib.Core.List.{List};
-ghost use Prim.Native.Nat.{ℕ, _≤_, _<_, _+_, _-_};
+ghost use Prim.Native.Nat.{ℕ, _≤_, _<_, _+_};
 ghost use Rattle.lint_reach.specs.Cycles.{Cycles};
 ghost use Rattle.lint_areas.specs.Areas.{board, pushes};
 ghost use Rattle.lint_walk.specs.Walks.{walkBy};

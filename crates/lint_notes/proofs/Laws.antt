@@ -5,6 +5,7 @@ use Prim.Native.Nat.{ℕ, suc, _+_, _*_, _-_, _^_, _≤_, _<_}
 use native.Mathlib.Omega.{arith}
 use lib.Bits.{bitOr}
 use lib.ListN.{getD, set, replicate}
+use Rattle.bounds.specs.Bounds.{AtMost}
 use Rattle.model_parts.specs.declared.Section.{Section}
 use Rattle.texts.specs.Texts.{Text}
 use Rattle.reasons.specs.Readable.{HasText}
@@ -17,7 +18,7 @@ use Rattle.lint_walk.specs.Walks.{walkM}
 use Rattle.lint_areas.specs.Areas.{finding, Board, pushes}
 use Rattle.lint_findings.specs.Entries.{items-numbersM}
 use Rattle.lint_findings.proofs.Laws.{numbers-start}
-use Rattle.lint_notes.specs.Notes.{noteM, noteItems, RowOf, Few, RuleNotes, NotesAt, AllNotes, no-notes, more-notes}
+use Rattle.lint_notes.specs.Notes.{noteM, noteItems, RowOf, RuleNotes, NotesAt, AllNotes, no-notes, more-notes}
 
 pub words-is : (set line column : ℕ) (u : List ℕ) (j k : ℕ) → k ≡ 5 * j →
     (9 ∷ 2 ∷ 5 ∷ 0 ∷ set ∷ line ∷ column ∷ 0 ∷ 0 ∷ getD u k 0 ∷ getD u (k + 1) 0 ∷ getD u (k + 2) 0 ∷ getD u (k + 3)
@@ -56,7 +57,7 @@ none-clean f n = clean-zeros f (zeros n)
 
 pub rule-is : (s : List ℕ) (i : ℕ) {at w : ℕ} {row : List ℕ} (u : List ℕ) {n k line q column x : ℕ} (b : Board)
     {c : Board} {l : List Text} →
-    w ≡ walkM s at .next → RowOf s at w row → l ≡ [] → listed s n u ≡ ruleM s row 0 l → (HasText s → Clean s n u) → Few n k →
+    w ≡ walkM s at .next → RowOf s at w row → l ≡ [] → listed s n u ≡ ruleM s row 0 l → (HasText s → Clean s n u) → AtMost n 300 k →
     line ≡ numberM s w → q ≡ past s w 4 → column ≡ numberM s q → x ≡ bitOr 0 (2 ^ i) →
     c ≡ pushes (noteItems x line column u k) b → NotesAt s at i b c
 rule-is s i {at} {w} {row} u {n} {k} {line} {q} {column} {x} b e₀ f₀ z g v h l m o p j rules y =

@@ -1,9 +1,10 @@
 -- The notes of each automation as findings, on places.
-use Prim.Native.Nat.{ℕ, zero, suc, _+_, _*_, _^_, _≤_}
+use Prim.Native.Nat.{ℕ, zero, suc, _+_, _*_, _^_}
 use mathlib.Core.Path.{_≡_}
 use mathlib.Core.List.{List, [], _∷_}
 use lib.Bits.{bitOr}
 use lib.ListN.{getD}
+use Rattle.bounds.specs.Bounds.{AtMost}
 use Rattle.model_parts.specs.declared.Section.{Section}
 use Rattle.reasons.specs.Readable.{HasText}
 use Rattle.reasons.specs.Lists.{listed, Clean}
@@ -31,11 +32,6 @@ pub record RowOf (s : List ℕ) (p q : ℕ) (x : List ℕ) : Type 0 where
   pub actions : word x 0 5 ≡ cap (actionsM s p)
   pub notes : word x 0 7 ≡ cap (past s q 8)
 
--- at most 300
-pub record Few (n r : ℕ) : Type 0 where
-  pub most : r ≤ 300
-  pub same : n ≤ 300 → r ≡ n
-
 -- the findings of the i-th automation's notes, whose reasons the listing gives, make c of b
 pub record RuleNotes (s : List ℕ) (rules : Section) (i : ℕ) (b c : Board) : Type 0 where
   pub row : List ℕ
@@ -45,7 +41,7 @@ pub record RuleNotes (s : List ℕ) (rules : Section) (i : ℕ) (b c : Board) : 
   pub is-row : RowOf s (getD (rules .starts) i 0) (walkM s (getD (rules .starts) i 0) .next) row
   pub are-reasons : listed s many reasons ≡ ruleM s row 0 []
   pub clean : HasText s → Clean s many reasons
-  pub counts : Few many count
+  pub counts : AtMost many 300 count
   pub inserted : c ≡ pushes (noteItems (bitOr 0 (2 ^ i)) (numberM s (walkM s (getD (rules .starts) i 0) .next))
       (numberM s (past s (walkM s (getD (rules .starts) i 0) .next) 4)) reasons count) b
 

@@ -6,9 +6,9 @@ use model_parts::Section;
 ghost use Rattle.notation.specs.Reference.{was, is};
 ghost use mathlib.Core.Path.{_≡_};
 ghost use mathlib.Core.List.{List};
-ghost use Prim.Native.Nat.{ℕ, _≤_, _<_, _+_, _*_, _-_};
+ghost use Prim.Native.Nat.{ℕ, _≤_, _<_, _+_, _*_};
 ghost use Rattle.lint_areas.specs.Areas.{board, pushes};
-ghost use Rattle.lint_notes.specs.Notes.{noteM, noteItems, RowOf, Few, NotesAt, AllNotes};
+ghost use Rattle.lint_notes.specs.Notes.{noteM, noteItems, RowOf, NotesAt, AllNotes};
 
 // ---- where the notes of an automation stand
 
@@ -33,16 +33,6 @@ fn put_row(s: &[u8], at: usize, source: usize, words: &mut Table)
         source,
         8,
     ));
-}
-
-// At most 300.
-fn few(n: usize) -> usize
-    ensures { λ r. ⌜ Few n r ⌝ }
-{
-    if 300 < n {
-        return 300;
-    }
-    n
 }
 
 // ---- findings
@@ -103,7 +93,10 @@ fn rule_notes(s: &[u8], at: usize, i: usize, words: &mut Table, findings: &mut [
     let source = lint_walk::source_at(s, at);
     put_row(s, at, source, words);
     let mut reasons = [0u32; layout::SIMULATION_REASONS];
-    let count = few(engine_unsupported::rule_notes(s, words, &mut reasons, 0, 0));
+    let count = bounds::min_usize(
+        engine_unsupported::rule_notes(s, words, &mut reasons, 0, 0),
+        300,
+    );
     let line = lint_walk::number_at(s, source);
     let column = lint_walk::number_at(s, lint_walk::past(s, source, 4));
     note_findings(

@@ -13,6 +13,7 @@ use lib.Dec.{eqb}
 use lib.ListN.{length}
 use lib.Count.{ones, ones-step}
 use borrow.Author.Tests.{eq-eqb, ne-eqb}
+use Rattle.texts.proofs.Bool.{or-false}
 use Rattle.texts.specs.Lists.{if_then_else_, keep}
 use Rattle.lint_spec.specs.Reach.{places}
 use Rattle.lint_reach.specs.Sets.{holds, members, withM, collect}
@@ -106,10 +107,6 @@ holds-none j =
     rw e
 
 -- ---- all that pass a test
-
-or-false : (b : Bool) → (b || false) ≡ b
-or-false true = refl
-or-false false = refl
 
 module _ (f : ℕ → Bool) where
   -- one step's places

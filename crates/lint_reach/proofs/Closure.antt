@@ -1,6 +1,6 @@
 -- `closed` is reach by one or more steps.
 use mathlib.Core.Path.{_≡_, refl, sym, ap, _∙_}
-use mathlib.Core.Bool.{Bool, true, false, true≢false}
+use mathlib.Core.Bool.{Bool, true, false}
 use mathlib.Core.Logic.{_⊎_, inl, inr, ⊎-elim}
 use mathlib.Core.List.{List, []}
 use Prim.Native.Nat.{ℕ, zero, suc, _+_, _≤_, _<_}
@@ -10,6 +10,7 @@ use lib.ListN.{length, getD, set, length-set, List·getD-eq-default}
 use lib.Dec.{eqb, ltb}
 use lib.Seq.{getD-set-same, getD-set-other}
 use borrow.Author.Tests.{eqb-true, eqb-false, ltb-true, ltb-false}
+use Rattle.texts.proofs.Bool.{never}
 use Rattle.lint_reach.specs.Steps.{Square, cell, put, steps, step-rowM, step-cellM, step-passM, closed}
 use Rattle.lint_reach.specs.Paths.{Full, Reaches, edge, joined}
 use Rattle.lint_reach.proofs.Laws.{when-true, when-false}
@@ -94,9 +95,6 @@ record Stage (x : Square) (k : ℕ) (y : Square) : Type 0 where
 -- the rows below i are done
 Rows : Square → ℕ → ℕ → Square → Type 0
 Rows x k i y = (a b : ℕ) → a < i → cell x a k ≡ true → cell x k b ≡ true → cell y a b ≡ true
-
-never : {C : Type 0} {b : Bool} → b ≡ true → b ≡ false → C
-never p q = absurd (true≢false (sym p ∙ q))
 
 pub below : {C : Type 0} (a i : ℕ) → a < i + 1 → (a < i → C) → (a ≡ i → C) → C
 below a i h f g = same? a i g (λ n. f (omega (arith, n)))

@@ -12,6 +12,7 @@ use lib.Bits.{bitOr}
 use lib.Dec.{eqb}
 use lib.ListN.{length, getD, take, List·getD-eq-default}
 use borrow.Author.Tests.{eq-eqb, ne-eqb}
+use Rattle.texts.proofs.Bool.{never}
 use Rattle.texts.specs.Lists.{if_then_else_, any, keep, each, through}
 use Rattle.lint_spec.specs.Reach.{places, square, by-way-of, closure, component, components-from}
 use Rattle.lint_spec.specs.Reach as lint
@@ -117,9 +118,6 @@ any-inside f (suc n) i j h k = cases (three i j) (λ a b. any-inside f n (i + 1)
 pub record Sized (n : ℕ) (sq : Square) : Type 0 where
   pub rows : length sq ≡ n
   pub columns : (i : ℕ) → i < n → length (getD sq i []) ≡ n
-
-never : {C : Type 0} {b : Bool} → b ≡ true → b ≡ false → C
-never p q = let w : _≡_ {A = ℕ} 0 1 = cc in absurd (omega arith)
 
 module _ (n : ℕ) (sq : Square) (z : Sized n sq) where
   in-row : (i j : ℕ) → cell sq i j ≡ true → i < n

@@ -12,6 +12,7 @@ use lib.Dec.{eqb, ltb}
 use lib.ListN.{length, getD, take}
 use lib.Seq.{getD-take, length-take-le}
 use borrow.Author.Tests.{lt-ltb, le-ltb}
+use Rattle.texts.proofs.Bool.{or-false}
 use Rattle.engine_spec.proofs.Bounds.{length-each}
 use Rattle.texts.specs.Lists.{if_then_else_, any, listed, keep, each, flat, through}
 use Rattle.texts.specs.Texts.{Text, memT}
@@ -87,10 +88,6 @@ use Rattle.lint_refinement.proofs.FileFacts.{
 use Rattle.lint_refinement.proofs.Rules.{es, names, ids, Agrees, Writes, writes, others, write-at, writes-held}
 
 -- ---- lists
-
-or-no : (b : Bool) → (b || false) ≡ b
-or-no true = refl
-or-no false = refl
 
 any-append : {A : Type 0} (p : A → Bool) (l m : List A) → any p (l ++ m) ≡ (any p l || any p m)
 unfolding any
@@ -271,7 +268,7 @@ module _ {s : List ℕ} {d : Names} {rs : Section} {ts : List Text} {m : Model} 
           ap (λ (x : ℕ). leadsM s (d .star) x (valueM s (d .star) p) (rule-start st j)) (f .at-entity)
           ∙ leads-agrees s ts (st .grounds .same) (d .star) (f .x) (valueM s (d .star) p) (rule-start st j) w (rule-of st j)
           (f .is-in) (f .is-entity) (record { stars = f .valued .stars; equals = f .valued .equals }) (rule-at st j h)
-          ∙ sym (or-no (any (sets-off w) (rule-of st j .triggers))))
+          ∙ sym (or-false (any (sets-off w) (rule-of st j .triggers))))
       cases none (others b) = rw (lt-ltb 1 (kindM s p) b)
 
   leads-agree : (i j : ℕ) → i < n → j < n → leadsToM s (d .star) (walkM s (rule-start st i)) (rule-start st j)
@@ -313,7 +310,7 @@ module _ {s : List ℕ} {d : Names} {rs : Section} {ts : List Text} {m : Model} 
       holds (cycleWritesFrom s (d .entities) rs set k i x) j
       ≡ (holds x j || memT (nameAt (es st) j) (flat writes-of (rules-at (keep (holds set) (places k i)))))
   unfolding cycleWritesFrom places keep each flat
-  writes-from set zero i x j h b = sym (ap (λ (c : Bool). holds x j || c) (mem-none (nameAt (es st) j)) ∙ or-no (holds x j))
+  writes-from set zero i x j h b = sym (ap (λ (c : Bool). holds x j || c) (mem-none (nameAt (es st) j)) ∙ or-false (holds x j))
   writes-from set (suc k) i x j h b = cases (case (holds set i)) (λ y. writes-from set k (i + 1) y j (omega arith) b)
     where
       W : ℕ

@@ -10,6 +10,7 @@ use native.Mathlib.Decide.{decLt}
 use lib.Dec.{eqb}
 use lib.ListN.{length, getD}
 use borrow.Author.Tests.{lt-ltb, le-ltb, eq-eqb, eqb-true}
+use Rattle.texts.proofs.Bool.{or-false, or-left, or-right}
 use Rattle.texts.specs.Lists.{if_then_else_, absent, listed, present-and, find, each, flat, through}
 use Rattle.texts.specs.Texts.{Text, eqT, memT}
 use Rattle.texts.proofs.Ordering.{not-both, eq-is, is-eq, eq-sym}
@@ -49,18 +50,6 @@ top-same h g d t = record {
   reached = ⊎-elim (λ z. inl z) (λ k. inr (k .0, (k .1 .0, (sym (d (k .0) (k .1 .0)) ∙ k .1 .1 .0, k .1 .1 .1))))
       (t .reached);
 }
-
-or-left : (a b : Bool) → a ≡ true → (a || b) ≡ true
-or-left true b h = refl
-or-left false b h = absurd (not-both refl h)
-
-or-right : (a b : Bool) → b ≡ true → (a || b) ≡ true
-or-right true b h = refl
-or-right false b h = h
-
-or-no : (b : Bool) → (b || false) ≡ b
-or-no true = refl
-or-no false = refl
 
 -- one number more
 top-more : (n : ℕ) (R : ℕ → ℕ) (h : ℕ → Bool) (i M : ℕ) → i < n → Top n R h M →
@@ -239,7 +228,7 @@ module _ (s : List ℕ) (e : Section) (ts : List Text) (sc : Scenario) (g : Grou
       (through (λ t n. greater n (rank t)) (flat (λ x. listed (tier-of sc x)) l) best)
   unfolding through flat listed
   list-top [] h best t = top-same h (λ k. h k || memT (nameAt es k) [])
-      (λ k l. sym (ap (λ (b : Bool). h k || b) (mem-none (nameAt es k)) ∙ or-no (h k))) t
+      (λ k l. sym (ap (λ (b : Bool). h k || b) (mem-none (nameAt es k)) ∙ or-false (h k))) t
   list-top (x ∷ l) h best t = cases (look es x) (λ h best t. list-top l h best t)
     where
       Goal : List Tier → Type 0

@@ -10,6 +10,7 @@ use lib.Dec.{eqb, leb}
 use lib.ListN.{length, getD}
 use lib.Seq.{getD-take}
 use borrow.Author.Tests.{le-leb, lt-leb}
+use Rattle.texts.proofs.Bool.{or-false}
 use Rattle.engine_spec.proofs.Bounds.{length-each}
 use Rattle.texts.specs.Lists.{if_then_else_, absent, any, keep, each, flat}
 use Rattle.texts.specs.Texts.{Text, eqT, memT}
@@ -65,10 +66,6 @@ use Rattle.lint_refinement.proofs.Rules.{es, names}
 use Rattle.lint_refinement.proofs.Cycled.{any-flat, any-over}
 
 -- ---- lists
-
-or-no : (b : Bool) → (b || false) ≡ b
-or-no true = refl
-or-no false = refl
 
 pub keep-append : {A : Type 0} (p : A → Bool) (l m : List A) → keep p (l ++ m) ≡ keep p l ++ keep p m
 unfolding keep
@@ -200,7 +197,7 @@ module _ {s : List ℕ} {d : Names} {rs : Section} {ts : List Text} {m : Model} 
           ∙ eq-sym (T (i .x)) x
           ∙ ap (eqT x) (sym (i .is-entity))
           ∙ sym (mem-cons x (u .entity) [] ∙ ap (λ (b : Bool). eqT x (u .entity) || b) (mem-none x)
-          ∙ or-no (eqT x (u .entity))))
+          ∙ or-false (eqT x (u .entity))))
       cases (Effect.unknown y) (unknown-at x′ k i l o) z = rw k (sym (mem-none x))
 
   -- ---- the i-th automation
@@ -231,7 +228,7 @@ module _ {s : List ℕ} {d : Names} {rs : Section} {ts : List Text} {m : Model} 
         ∙ ap (λ (b : Bool). b || memT x l₂) (trigger-not x n (r .triggers) (legal .triggers)))
         ∙ ap (λ (b : Bool). memT x l₂ || b) (flat-not x predicate-reads (FineP (es st)) (predicate-not x n) (r .conditions)
         (legal .conditions))
-        ∙ or-no (memT x l₂)
+        ∙ or-false (memT x l₂)
         ∙ any-flat (eqT x) (λ a. effect-reads (a .effect)) acts
 
     awaits-is : (t : ℕ) → t < length ts → Strange (T t) → awaitsM s w t ≡ memT (T t) (reads-of r)
@@ -284,7 +281,7 @@ module _ {s : List ℕ} {d : Names} {rs : Section} {ts : List Text} {m : Model} 
             (λ l g. flat-not x predicate-reads (FineP (es st)) (predicate-not x n) l g) (conditions-of bs) z) e)
         cases (wait u y c) (wait-at t′ y′ z′ r k i o) z e =
             let q : eqT x (u .entity) ≡ true = sym (mem-cons x (u .entity) []
-            ∙ ap (λ (b : Bool). eqT x (u .entity) || b) (mem-none x) ∙ or-no (eqT x (u .entity))) ∙ e in
+            ∙ ap (λ (b : Bool). eqT x (u .entity) || b) (mem-none x) ∙ or-false (eqT x (u .entity))) ∙ e in
             ap (λ (y : Text). memT y ts) (eq-is x (u .entity) q ∙ i .is-entity) ∙ mem-at ts (i .x) (i .is-in)
         cases (Effect.unknown y) (unknown-at x′ k i l o) z e = absurd (not-both (mem-none x) e)
 

@@ -4,7 +4,7 @@ use layout::Positions;
 use model_parts::Extent;
 ghost use Rattle.notation.specs.Reference.{was};
 ghost use mathlib.Core.Path.{_≡_};
-ghost use Prim.Native.Nat.{_≤_, _<_, _+_, _-_};
+ghost use Prim.Native.Nat.{_≤_, _<_, _+_};
 ghost use Rattle.lint_walk.specs.Walks.{walkBy};
 ghost use Rattle.lint_conditions.specs.Context.{sectionOf};
 ghost use Rattle.lint_undeclared.specs.Undeclared.{awaitM, awaitsM, withM, readM, ruleM, undeclaredM};

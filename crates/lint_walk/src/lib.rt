@@ -4,7 +4,7 @@ use layout::ActionPositions;
 use model_walk::Num;
 ghost use Rattle.notation.specs.Reference.{was, is};
 ghost use mathlib.Core.Path.{_≡_};
-ghost use Prim.Native.Nat.{_+_, _≤_, _<_};
+ghost use Prim.Native.Nat.{_+_, _<_};
 ghost use lib.ListN.{replicate};
 ghost use Rattle.lint_walk.specs.Raw.{
   byteM,

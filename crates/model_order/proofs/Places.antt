@@ -11,6 +11,7 @@ use lib.ListN.{length, getD, take, drop}
 use lib.Seq.{drop-cons}
 use lib.Dec.{ltb, eqb}
 use borrow.Author.Tests.{lt-ltb, le-ltb, eq-eqb, ne-eqb}
+use Rattle.texts.proofs.Bool.{and-left}
 use Rattle.texts.specs.Lists.{if_then_else_, all, any}
 use Rattle.texts.specs.Texts.{Text, text, eqT, ltT, memT}
 use Rattle.texts.specs.Places.{textAt, startFrom, textsFrom}
@@ -48,10 +49,6 @@ case false = is-false refl
 
 -- ---- places compare as texts do
 
-and-first : (a b : Bool) → (a && b) ≡ true → a ≡ true
-and-first true b h = refl
-and-first false b h = h
-
 and-second : (a b : Bool) → (a && b) ≡ true → b ≡ true
 and-second true b h = h
 and-second false b h = absurd (not-both refl h)
@@ -64,8 +61,8 @@ tail-ascends t (u ∷ l) h = and-second (ltT t u) _ h
 head-before : (t : Text) (l : List Text) → ascending (t ∷ l) ≡ true → (j : ℕ) → j < length l → Before t (getD l j [])
 unfolding ascending
 head-before t [] h j k = absurd (not-suc-le-zero k)
-head-before t (u ∷ l) h zero k = lt-is t u (and-first (ltT t u) _ h)
-head-before t (u ∷ l) h (suc j) k = trans (lt-is t u (and-first (ltT t u) _ h))
+head-before t (u ∷ l) h zero k = lt-is t u (and-left (ltT t u) _ h)
+head-before t (u ∷ l) h (suc j) k = trans (lt-is t u (and-left (ltT t u) _ h))
     (head-before u l (and-second (ltT t u) _ h) j (le-of-suc-le-suc k))
 
 -- the text at the lower place comes before the text at the higher
@@ -248,7 +245,7 @@ section s p {ts} {next} e = elim (decLt (length s) (p + 2)) [
 -- the section of texts stands at position 4, and the first text at position 6
 module _ (s : List ℕ) {ts : List Text} {next : ℕ} (e : texts s 4 ≡ got ts next) where
   pub texts-ascend : ascending ts ≡ true
-  texts-ascend = and-first (ascending ts) _ (section s 4 e .tested)
+  texts-ascend = and-left (ascending ts) _ (section s 4 e .tested)
 
   pub fixed-there : has-fixed ts ≡ true
   fixed-there = and-second (ascending ts) _ (section s 4 e .tested)
@@ -277,10 +274,10 @@ module _ (s : List ℕ) {ts : List Text} {next : ℕ} (e : texts s 4 ≡ got ts 
   fixed-texts =
       let a : (memT (text "on") ts && memT (text "off") ts && memT (text "unknown") ts && memT (text "unavailable") ts)
       ≡ true = fixed-there in
-      let b = and-first (memT (text "on") ts && memT (text "off") ts && memT (text "unknown") ts) _ a in
-      let c = and-first (memT (text "on") ts && memT (text "off") ts) _ b in
+      let b = and-left (memT (text "on") ts && memT (text "off") ts && memT (text "unknown") ts) _ a in
+      let c = and-left (memT (text "on") ts && memT (text "off") ts) _ b in
       record {
-        on = and-first (memT (text "on") ts) _ c;
+        on = and-left (memT (text "on") ts) _ c;
         off = and-second (memT (text "on") ts) _ c;
         unknown = and-second (memT (text "on") ts && memT (text "off") ts) _ b;
         unavailable = and-second (memT (text "on") ts && memT (text "off") ts && memT (text "unknown") ts) _ a;

@@ -2,85 +2,20 @@
 use mathlib.Core.Path.{_≡_, refl, sym, ap, _∙_}
 use mathlib.Core.List.{List, [], _∷_, _++_}
 use mathlib.Core.Bool.{Bool, true, false, _&&_}
-use mathlib.Core.Option.{Option, none, some}
-use Prim.Native.Nat.{ℕ, zero, suc, _+_, _-_, _≤_, _<_}
+use Prim.Native.Nat.{ℕ, zero, suc, _+_, _-_}
 use native.Mathlib.Omega.{arith}
 use lib.ListN.{length, getD, length-append}
 use lib.Dec.{ltb, eqb}
-use borrow.Author.Tests.{le-ltb, ne-eqb}
+use borrow.Author.Tests.{le-ltb}
 use Rattle.texts.specs.Lists.{if_then_else_, all, flat}
 use Rattle.texts.specs.Texts.{Text}
-use Rattle.model_spec.specs.Model.{
-  Predicate,
-  Trigger,
-  Entity,
-  Input,
-  reload,
-  Event,
-  Invariant,
-  never,
-  guard,
-  transition,
-  response,
-  Automation,
-}
+use Rattle.model_spec.specs.Model.{Predicate, Trigger, Input, reload, Invariant, never, guard, transition, response, Automation}
 use Rattle.model_spec.specs.Notes.{of-predicate, of-trigger, of-actions, of-invariant, of-rule}
-use Rattle.model_spec.specs.File.{
-  Got,
-  got,
-  broken,
-  Reader,
-  _>>=_,
-  give,
-  refuse,
-  require,
-  u8,
-  u16,
-  u32,
-  times,
-  counted,
-  kinds,
-  number?,
-  printable,
-  one-text,
-  source,
-  tier,
-  mode,
-  place,
-  predicate,
-  trigger,
-  entity,
-  input,
-  event,
-  invariant,
-  actions,
-  automation,
-}
+use Rattle.model_spec.specs.File.{Got, got, broken, Reader, _>>=_, give, refuse, require, u8, u32, times, counted, kinds, number?, printable, one-text, source, tier, mode, place, predicate, trigger, entity, input, event, invariant, actions, automation}
 use Rattle.model_walk.specs.declared.Walked.{Walked}
 use Rattle.model_walk.specs.declared.Walked.the-variants as walked
 use Rattle.model_walk.specs.declared.Piece.the-variants as piece
-use Rattle.model_walk.specs.Walk.{
-  capped,
-  seen,
-  Walk,
-  and-then,
-  _⨾_,
-  by,
-  stop,
-  stay,
-  staying,
-  bytesM,
-  timesM,
-  countedM,
-  kindM,
-  placeM,
-  noteM,
-  predicateM,
-  triggerM,
-  pieceM,
-  piecesM,
-  actionsM,
-}
+use Rattle.model_walk.specs.Walk.{capped, seen, Walk, and-then, _⨾_, stop, stay, staying, bytesM, timesM, countedM, kindM, placeM, noteM, predicateM, triggerM, pieceM, piecesM, actionsM}
 use Rattle.model_walk.proofs.Laws as walks
 use Rattle.model_walk.proofs.Refines.{
   Runs,

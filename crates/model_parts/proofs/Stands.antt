@@ -1,15 +1,12 @@
 -- A section: it ends where its walk ends, and its positions are those of its parts.
 use mathlib.Core.Path.{_≡_, refl, sym, ap, _∙_, subst}
 use mathlib.Core.List.{List, [], _∷_}
-use mathlib.Core.Bool.{Bool, true, false}
-use Prim.Native.Nat.{ℕ, zero, suc, _+_, _-_, _≤_, _<_}
+use Prim.Native.Nat.{ℕ, zero, suc, _+_, _-_, _<_}
 use native.Mathlib.Omega.{arith}
 use native.Mathlib.Decide.{decLt}
-use lib.ListN.{length, getD, set, length-set, length-replicate}
+use lib.ListN.{length, getD, length-set, length-replicate}
 use lib.Seq.{getD-set-same, getD-set-other}
-use borrow.Author.Tests.{lt-ltb, le-ltb}
-use Rattle.texts.specs.Lists.{if_then_else_}
-use Rattle.model_spec.specs.File.{Got, got, broken, Reader, _>>=_, give, u16, times, counted}
+use Rattle.model_spec.specs.File.{Got, got, broken, Reader, _>>=_, give, u16, times}
 use Rattle.model_walk.specs.declared.Walked.{Walked}
 use Rattle.model_walk.specs.declared.Walked.the-variants as walked
 use Rattle.model_walk.specs.Walk.{capped, seen, Walk, and-then, _⨾_, by, stay, timesM, countedM}

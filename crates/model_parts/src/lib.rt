@@ -5,7 +5,6 @@ use model_walk::Piece;
 use model_walk::Walked;
 ghost use Rattle.notation.specs.Reference.{was, is};
 ghost use mathlib.Core.Path.{_≡_};
-ghost use Rattle.model_walk.specs.Walk.{_⨾_, by, timesM, bytesM};
 ghost use Rattle.model_parts.specs.Parts.{
   textM,
   entityM,

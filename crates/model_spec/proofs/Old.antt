@@ -8,6 +8,7 @@ use native.Mathlib.Omega.{arith}
 use lib.Dec.{ltb}
 use lib.ListN.{length, getD}
 use borrow.Author.Tests.{ltb-false}
+use Rattle.texts.proofs.Bool.{and-both, and-left, and-right, or-false}
 use Rattle.texts.specs.Lists.{if_then_else_, _▸_, is-empty, all, each}
 use Rattle.texts.specs.Texts.{Text, memT}
 use Rattle.model_spec.specs.Answer as answers
@@ -181,10 +182,6 @@ end-zeros {A} {B} P z r f h s p b q l e =
 
 -- ---- lists and kinds
 
-and-true : (a b : Bool) → a ≡ true → b ≡ true → a && b ≡ true
-and-true true b h k = k
-and-true false b h k = h
-
 abbrev Passes : {A : Type 0} → (A → Bool) → A → Type 0
 Passes t a = t a ≡ true
 
@@ -194,7 +191,7 @@ unfolding times all
 k-times r r′ t f zero = k-give (Passes (all t)) [] refl
 k-times r r′ t f (suc n) =
     k-bind _ _ _ _ f λ x h. k-bind _ _ _ _ (k-times r r′ t f n) λ xs k.
-    k-give (Passes (all t)) (x ∷ xs) (and-true (t x) (all t xs) h k)
+    k-give (Passes (all t)) (x ∷ xs) (and-both (t x) (all t xs) h k)
 
 k-counted : {A : Type 0} (r r′ : Reader A) (t : A → Bool) → Keeps r r′ (Passes t)
     → Keeps (counted r) (counted r′) (Passes (all t))
@@ -249,7 +246,7 @@ module _ (ts : List Text) where
           k-bind _ _ _ _ (k-same (place ts)) λ i _.
               k-bind _ _ _ _ k-predicate λ p h.
               k-bind _ _ _ _ k-predicate λ q k.
-              k-bind _ _ _ _ (k-same u32) λ n _. k-give _ _ (and-true (no-window p) (no-window q) h k),
+              k-bind _ _ _ _ (k-same u32) λ n _. k-give _ _ (and-both (no-window p) (no-window q) h k),
           tt,
         ),
       ),
@@ -262,8 +259,8 @@ module _ (ts : List Text) where
     k-branches zero = k-give _ _ refl
     k-branches (suc n) =
         k-bind _ _ _ _ k-predicates λ ps h. k-bind _ _ _ _ f λ as′ k. k-bind _ _ _ _ (k-branches n) λ bs g.
-        k-give _ _ (and-true (all no-window ps) (windowless-actions as′ && windowless-branches bs) h
-        (and-true (windowless-actions as′) (windowless-branches bs) k g))
+        k-give _ _ (and-both (all no-window ps) (windowless-actions as′ && windowless-branches bs) h
+        (and-both (windowless-actions as′) (windowless-branches bs) k g))
 
     k-effect : Keeps (old.effect ts inner) (effect ts inner′) (Passes windowless-effect)
     unfolding old.effect effect windowless-effect
@@ -279,7 +276,7 @@ module _ (ts : List Text) where
               k-bind _ _ _ _ (k-same u16) λ n _.
                   k-bind _ _ _ _ (k-branches n) λ bs h.
                   k-bind _ _ _ _ f λ d k.
-                  k-give _ _ (and-true (windowless-branches bs) (windowless-actions d) h k),
+                  k-give _ _ (and-both (windowless-branches bs) (windowless-actions d) h k),
               (
                 k-bind _ _ _ _ (k-same (trigger ts)) λ t _.
                     k-bind _ _ _ _ (k-same u32) λ n _. k-bind _ _ _ _ (k-same flag) λ c _. k-give _ _ refl,
@@ -296,7 +293,7 @@ module _ (ts : List Text) where
     k-actions-of zero = k-give _ _ refl
     k-actions-of (suc n) =
         k-bind _ _ _ _ (k-same source) λ s _. k-bind _ _ _ _ k-effect λ e h. k-bind _ _ _ _ (k-actions-of n) λ r k.
-        k-give _ _ (and-true (windowless-effect e) (windowless-actions r) h k)
+        k-give _ _ (and-both (windowless-effect e) (windowless-actions r) h k)
 
   k-actions : (left : ℕ) → Keeps (old.actions ts left) (actions ts left) (Passes windowless-actions)
   unfolding old.actions actions
@@ -314,7 +311,7 @@ module _ (ts : List Text) where
       k-bind _ _ _ _ (k-actions 18) λ as′ k.
       k-bind _ _ _ _ (k-same source) λ s _.
       k-bind _ _ _ _ (k-same (counted (place ts))) λ ns _.
-      k-give _ _ (and-true (all no-window ps) (windowless-actions as′) h k)
+      k-give _ _ (and-both (all no-window ps) (windowless-actions as′) h k)
 
 -- ---- the file
 
@@ -334,7 +331,7 @@ k-model =
     end-bind _ _ _ _ (k-same limits) λ ls _.
     end-bind _ _ _ _ (k-counted _ _ windowless-rule (k-automation (h .texts))) λ rs w.
     end-zeros Plain midnight start (made h evs is al gs ls rs)
-    (record { starts = refl; no-windows = and-true (all windowless-invariant is) (all windowless-rule rs) u w })
+    (record { starts = refl; no-windows = and-both (all windowless-invariant is) (all windowless-rule rs) u w })
 
 never-answer : {A : Type 0} {n : ℕ} {a : A} → refused n ≡ answer a → ⊥
 never-answer e = let z : _≡_ {A = ℕ} 0 1 = cc in omega arith
@@ -369,14 +366,6 @@ old-reads file m e = by (ltb 32768 (length file)) e
 
 -- ---- the checks
 
-and-l : (a b : Bool) → a && b ≡ true → a ≡ true
-and-l true b e = refl
-and-l false b e = e
-
-and-r : (a b : Bool) → a && b ≡ true → b ≡ true
-and-r true b e = e
-and-r false b e = absurd (false≢true e)
-
 module _ (declared : List Entity) where
   same-stated : (p : Predicate) → no-window p ≡ true → check-stated declared p ≡ check-predicate declared p
   unfolding check-stated no-window is-window _and_ _when_
@@ -389,8 +378,8 @@ module _ (declared : List Entity) where
   unfolding each-accepted all
   same-conditions [] h = refl
   same-conditions (p ∷ ps) h =
-      λ i. same-stated p (and-l (no-window p) (all no-window ps) h) i
-      and same-conditions ps (and-r (no-window p) (all no-window ps) h) i
+      λ i. same-stated p (and-left (no-window p) (all no-window ps) h) i
+      and same-conditions ps (and-right (no-window p) (all no-window ps) h) i
 
   same-invariant : (i : Invariant) → windowless-invariant i ≡ true
       → check-invariant declared i ≡ old.check-invariant declared i
@@ -402,8 +391,8 @@ module _ (declared : List Entity) where
       (same-conditions ps h)
   same-invariant (transition i x f t) h = refl
   same-invariant (response i p q n) h =
-      λ j. same-stated p (and-l (no-window p) (no-window q) h) j
-      and same-stated q (and-r (no-window p) (no-window q) h) j
+      λ j. same-stated p (and-left (no-window p) (no-window q) h) j
+      and same-stated q (and-right (no-window p) (no-window q) h) j
       and 12 when ltb day n
 
   same-invariants : (ids : List Text) (is : List Invariant) → all windowless-invariant is ≡ true
@@ -412,12 +401,8 @@ module _ (declared : List Entity) where
   same-invariants ids [] h = refl
   same-invariants ids (i ∷ is) h =
       λ j. 10 when (bad-length (id-of i) || memT (id-of i) ids)
-      and same-invariant i (and-l (windowless-invariant i) (all windowless-invariant is) h) j
-      and same-invariants (id-of i ∷ ids) is (and-r (windowless-invariant i) (all windowless-invariant is) h) j
-
-or-false : (b : Bool) → b || false ≡ b
-or-false true = refl
-or-false false = refl
+      and same-invariant i (and-left (windowless-invariant i) (all windowless-invariant is) h) j
+      and same-invariants (id-of i ∷ ids) is (and-right (windowless-invariant i) (all windowless-invariant is) h) j
 
 -- an old model is accepted or refused as it was
 pub old-validates : (m : Model) → Plain m → validate m ≡ old.validate m
@@ -429,7 +414,7 @@ old-validates m h =
     ∙ (unfold bad-start in (or-false (bad-limits (s .limits)))) in
     let i = same-invariants (s .entities) [] (s .invariants)
     (unfold windowless in
-    (and-l (all windowless-invariant (s .invariants)) (all windowless-rule (m .rules)) (h .no-windows))) in
+    (and-left (all windowless-invariant (s .invariants)) (all windowless-rule (m .rules)) (h .no-windows))) in
     λ j.
     1 when bad-title s
     and 2 when bad-size m

@@ -16,8 +16,8 @@ use Rattle.reasons.proofs.Listing as listing
 use Rattle.model_spec.specs.Model.{Source, Model}
 use Rattle.model_spec.specs.Rewrite.{place-of}
 use Rattle.engine_spec.specs.Words.{source-words, texts-in}
-use Rattle.engine_fields.specs.Fields.{atMost}
-use Rattle.engine_fields.proofs.Laws as reads
+use Rattle.bounds.specs.Bounds.{atMost}
+use Rattle.bounds.proofs.Laws as bounds
 use Rattle.engine_refinement.specs.Meaning.{Tabled}
 use Rattle.engine_refinement.proofs.Words.{text-place}
 use Rattle.checker_spec.specs.Judge.{Failure, prohibited-state, guard-violated, forbidden-transition, deadline-missed}
@@ -70,7 +70,7 @@ module _ (f x : List ℕ) (ts : List Text) (m : Model) (tb : Tabled f x ts m) wh
       let p : place-of (v .invariant) ts ≡ n .place =
       ap (λ (t : Text). place-of t ts) (n .is) ∙ text-place f x ts m tb (n .place) (n .among) in
       let q : atMost (n .place) 65535 ≡ n .place = sym
-      (reads.most-yes (n .place) 65535 (omega (arith, n .among, tb .few-texts))) in
+      (bounds.most-yes (n .place) 65535 (omega (arith, n .among, tb .few-texts))) in
       rw (p, q) (tb .text-at (n .place) (n .among) ∙ sym (n .is))
 
   said : (v : check.Violation) → Named ts v → violation-of f (violated-of (violation-words ts v)) ≡ v

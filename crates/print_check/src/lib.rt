@@ -16,13 +16,6 @@ ghost use Prim.Native.Nat.{_≤_};
 ghost use Rattle.show.specs.Writing.{Written};
 ghost use Rattle.print_check.specs.Answer.{first-line};
 
-// Areas of so many entries are never too small.
-pub const QUEUE: usize = 20544;
-
-pub const RECORDS: usize = 10096;
-
-pub const RUNS: usize = 512;
-
 // The status, or the refusal.
 pub fn put_status(out: &mut [u8], n: usize, status: Status) -> usize
     ensures { λ m. ⌜ Written (first-line status) (was out) n (is out) m ⌝ }

@@ -6,7 +6,6 @@ ghost use Rattle.notation.specs.Reference.{was, is};
 ghost use mathlib.Core.Path.{_≡_};
 ghost use Prim.Native.Nat.{_+_, _*_, _≤_};
 ghost use lib.ListN.{length};
-ghost use Rattle.simulate_lines.specs.Lines.{number-line};
 ghost use Rattle.show.specs.Lines.{quoted};
 ghost use Rattle.show.specs.Writing.{Written};
 ghost use Rattle.print_minimize.specs.Lines.{
@@ -18,9 +17,6 @@ ghost use Rattle.print_minimize.specs.Lines.{
   answer-line,
   invariant-line,
 };
-
-// No line is longer.
-const LINE: usize = 4096;
 
 // Where the next text goes, and how many bytes of the lent output are the new file.
 pub struct Printed {
@@ -52,16 +48,6 @@ pub fn put_input(out: &mut [u8], n: usize, file: &[u8], kind: u32, entity: u32, 
     let b = put_place(out, a, file, entity);
     let c = show::put_byte(out, b, 32);
     put_place(out, c, file, value)
-}
-
-// A word and a number.
-pub fn put_number_line(out: &mut [u8], n: usize, word: &[u8], number: u64) -> usize
-    ensures { λ m. ⌜ Written (number-line (was word) number) (was out) n (is out) m ⌝ }
-{
-    let a = show::put(out, n, word);
-    let b = show::put_byte(out, a, 32);
-    let c = show::put_number(out, b, number);
-    show::put_byte(out, c, 10)
 }
 
 // A word and `yes` or `no`.
@@ -99,7 +85,7 @@ fn put_event(
 fn print_event(out: &mut [u8], n: usize, file: &[u8], events: &[u32], k: usize) -> usize
     requires { ⌜ k * 4 + 4 ≤ length (now events) ⌝ }
 {
-    let m = show::room(out, n, LINE);
+    let m = show::room(out, n, show::LINE);
     let at = k * 4;
     let second = events[at];
     let kind = events[at + 1];
@@ -108,19 +94,9 @@ fn print_event(out: &mut [u8], n: usize, file: &[u8], events: &[u32], k: usize) 
     put_event(out, m, file, second, kind, entity, value)
 }
 
-// n, or the most if it is more.
-pub fn at_most(n: usize, most: usize) -> usize
-    ensures { λ r. ⌜ r ≤ most ⌝ }
-{
-    if most < n {
-        return most;
-    }
-    n
-}
-
 // The first `count` events, or as many as there is room for.
 pub fn print_events(out: &mut [u8], n: usize, file: &[u8], events: &[u32], count: usize) -> usize {
-    let many = at_most(count, events.len() / 4);
+    let many = bounds::min_usize(count, events.len() / 4);
     let mut m = n;
     let mut k: usize = 0;
     while k < many {
@@ -141,18 +117,18 @@ fn put_invariant(out: &mut [u8], n: usize, file: &[u8], place: u32) -> usize
 }
 
 fn print_numbers(out: &mut [u8], n: usize, file: &[u8], r: Minimized) -> usize {
-    let m = show::room(out, n, LINE);
+    let m = show::room(out, n, show::LINE);
     let a = put_invariant(out, m, file, r.invariant);
-    let b = put_number_line(out, a, b"original_events", r.original_events as u64);
-    let c = put_number_line(out, b, b"attempts", r.attempts as u64);
+    let b = show::put_number_line(out, a, b"original_events", r.original_events as u64);
+    let c = show::put_number_line(out, b, b"attempts", r.attempts as u64);
     let d = put_answer_line(out, c, b"deletion_minimal", r.deletion_minimal);
-    put_number_line(out, d, b"reduced", r.events as u64)
+    show::put_number_line(out, d, b"reduced", r.events as u64)
 }
 
 // The new file's length, and what the lines of its check are headed by.
 pub fn print_file(out: &mut [u8], n: usize, written: usize, word: &[u8]) -> usize {
-    let m = show::room(out, n, LINE);
-    let a = put_number_line(out, m, b"file", written as u64);
+    let m = show::room(out, n, show::LINE);
+    let a = show::put_number_line(out, m, b"file", written as u64);
     show::put(out, a, word)
 }
 
@@ -168,7 +144,7 @@ fn print_reduced(out: &mut [u8], n: usize, file: &[u8], a: &[u32], r: Minimized)
 pub fn print_refused(out: &mut [u8], n: usize, number: u32) -> Printed
     ensures { λ p. ⌜ p .written ≡ 0 ⌝ }
 {
-    let m = show::room(out, n, LINE);
+    let m = show::room(out, n, show::LINE);
     let next = show::put_refused(out, m, number);
     Printed { next, written: 0 }
 }

@@ -9,24 +9,17 @@ ghost use Rattle.notation.specs.Reference.{was, is};
 ghost use Prim.Native.Nat.{_≤_};
 ghost use Rattle.show.specs.Writing.{Kept};
 
-// Areas of so many entries are never too small.
-pub const QUEUE: usize = 20544;
-
-pub const RECORDS: usize = 10096;
-
-pub const RUNS: usize = 512;
-
 fn print_refused(out: &mut [u8], n: usize, number: u32) -> usize
     ensures { λ m. ⌜ Kept (was out) n (is out) m ⌝ }
 {
-    let m = show::room(out, n, simulate_lines::LINE);
+    let m = show::room(out, n, show::LINE);
     show::put_refused(out, m, number)
 }
 
 fn print_count(out: &mut [u8], n: usize, count: usize) -> usize
     ensures { λ m. ⌜ Kept (was out) n (is out) m ⌝ }
 {
-    let m = show::room(out, n, simulate_lines::LINE);
+    let m = show::room(out, n, show::LINE);
     simulate_lines::put_unsupported(out, m, count)
 }
 
@@ -67,7 +60,7 @@ fn print_places(
 fn print_numbers(out: &mut [u8], n: usize, steps: u32, records: usize, horizon: u32) -> usize
     ensures { λ m. ⌜ Kept (was out) n (is out) m ⌝ }
 {
-    let m = show::room(out, n, simulate_lines::LINE);
+    let m = show::room(out, n, show::LINE);
     let a = simulate_lines::put_steps(out, m, steps);
     let b = simulate_lines::put_records(out, a, records);
     simulate_lines::put_horizon(out, b, horizon)

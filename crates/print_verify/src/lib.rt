@@ -12,9 +12,6 @@ ghost use lib.ListN.{length};
 ghost use Rattle.show.specs.Writing.{Written};
 ghost use Rattle.print_verify.specs.Lines.{first-line, bound, bounds-line};
 
-// No line is longer.
-const LINE: usize = 4096;
-
 // The status, or the refusal.
 fn put_found(out: &mut [u8], n: usize, status: Found) -> usize
     ensures { λ m. ⌜ Written (first-line status) (was out) n (is out) m ⌝ }
@@ -48,11 +45,11 @@ fn put_bounds(out: &mut [u8], n: usize, depth: u32, horizon: u32, cases: u32, st
 }
 
 fn print_counts(out: &mut [u8], n: usize, v: Verification) -> usize {
-    let m = show::room(out, n, LINE);
+    let m = show::room(out, n, show::LINE);
     let status = v.status;
     let a = put_found(out, m, status);
-    let b = print_minimize::put_number_line(out, a, b"cases", v.cases as u64);
-    let c = print_minimize::put_number_line(out, b, b"total_steps", v.total_steps as u64);
+    let b = show::put_number_line(out, a, b"cases", v.cases as u64);
+    let c = show::put_number_line(out, b, b"total_steps", v.total_steps as u64);
     let d = print_minimize::put_answer_line(out, c, b"shortest_by_event_count", v.shortest);
     put_bounds(
         out,
@@ -68,7 +65,7 @@ fn print_counts(out: &mut [u8], n: usize, v: Verification) -> usize {
 fn print_input(out: &mut [u8], n: usize, file: &[u8], inputs: &[u32], k: usize) -> usize
     requires { ⌜ k * 3 + 3 ≤ length (now inputs) ⌝ }
 {
-    let m = show::room(out, n, LINE);
+    let m = show::room(out, n, show::LINE);
     let at = k * 3;
     let kind = inputs[at];
     let entity = inputs[at + 1];
@@ -80,7 +77,7 @@ fn print_input(out: &mut [u8], n: usize, file: &[u8], inputs: &[u32], k: usize) 
 
 // The first `count` inputs, or as many as there is room for.
 fn print_inputs(out: &mut [u8], n: usize, file: &[u8], inputs: &[u32], count: usize) -> usize {
-    let many = print_minimize::at_most(count, inputs.len() / 3);
+    let many = bounds::min_usize(count, inputs.len() / 3);
     let mut m = n;
     let mut k: usize = 0;
     while k < many {
@@ -91,13 +88,13 @@ fn print_inputs(out: &mut [u8], n: usize, file: &[u8], inputs: &[u32], count: us
 }
 
 fn print_gap(out: &mut [u8], n: usize, gap: u32) -> usize {
-    let m = show::room(out, n, LINE);
-    print_minimize::put_number_line(out, m, b"gap", gap as u64)
+    let m = show::room(out, n, show::LINE);
+    show::put_number_line(out, m, b"gap", gap as u64)
 }
 
 // The first `count` gaps, or as many as there is room for.
 fn print_gaps(out: &mut [u8], n: usize, gaps: &[u32], count: usize) -> usize {
-    let many = print_minimize::at_most(count, gaps.len());
+    let many = bounds::min_usize(count, gaps.len());
     let mut m = n;
     let mut k: usize = 0;
     while k < many {
@@ -123,13 +120,13 @@ fn print_search(out: &mut [u8], n: usize, file: &[u8], v: Verification) -> usize
 }
 
 fn print_no_witness(out: &mut [u8], n: usize) -> usize {
-    let m = show::room(out, n, LINE);
+    let m = show::room(out, n, show::LINE);
     show::put(out, m, b"witness none\n")
 }
 
 fn print_count(out: &mut [u8], n: usize, count: usize) -> usize {
-    let m = show::room(out, n, LINE);
-    print_minimize::put_number_line(out, m, b"witness", count as u64)
+    let m = show::room(out, n, show::LINE);
+    show::put_number_line(out, m, b"witness", count as u64)
 }
 
 fn print_witness(out: &mut [u8], n: usize, file: &[u8], a: &[u32], v: Verification) -> usize {

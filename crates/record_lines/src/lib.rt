@@ -6,8 +6,6 @@ use records::Record;
 use records::Rule;
 use records::Where;
 use show::Source;
-use simulate_lines::LINE;
-use simulate_lines::at_most;
 use simulate_lines::put_place;
 ghost use Rattle.notation.specs.Reference.{was, is};
 ghost use mathlib.Core.Path.{_≡_};
@@ -226,7 +224,7 @@ fn print_record(out: &mut [u8], n: usize, f: &[u8], x: &Table, a: &[u32], k: usi
     requires { ⌜ k * 13 + 13 ≤ length (now a) ⌝ }
     ensures { λ m. ⌜ Kept (was out) n (is out) m ⌝ }
 {
-    let m = show::room(out, n, LINE);
+    let m = show::room(out, n, show::LINE);
     put_record(out, m, f, x, a, k)
 }
 
@@ -241,7 +239,7 @@ pub fn print_records(
 ) -> usize
     ensures { λ m. ⌜ Kept (was out) n (is out) m ⌝ }
 {
-    let many = at_most(count, a.len() / 13);
+    let many = bounds::min_usize(count, a.len() / 13);
     let mut m = n;
     let mut k: usize = 0;
     while k < many {

@@ -1,7 +1,7 @@
 -- Laws for the small functions.
-use Prim.Native.Nat.{ℕ, zero, suc, _+_, _-_, _*_, _≤_, _<_}
+use Prim.Native.Nat.{ℕ, zero, suc, _+_, _-_, _*_, _<_}
 use mathlib.Core.Path.{_≡_, refl, sym, ap, _∙_}
-use mathlib.Core.Bool.{Bool, true, false, _||_}
+use mathlib.Core.Bool.{Bool, true, false}
 use mathlib.Core.List.{List}
 use native.Mathlib.Decide.{decLt}
 use native.Mathlib.Numerals.{add-one}
@@ -9,16 +9,15 @@ use native.Mathlib.Omega.{arith}
 use lib.Dec.{ltb}
 use lib.ListN.{getD}
 use borrow.Author.Tests.{lt-ltb, le-ltb, eq-eqb, ne-eqb}
+use Rattle.texts.proofs.Bool.{never, or-true}
+use Rattle.checker_result.specs.Statuses.{is-violationM}
+use Rattle.bounds.specs.Bounds.{atMost}
 use Rattle.checker_result.specs.declared.Status.{Status}
 use Rattle.checker_result.specs.declared.Status.the-variants as status
 use Rattle.reduce.specs.declared.Reduced.{Reduced}
-use Rattle.reduce.specs.Contracts.{among, is-violation, fewM, violatesM, Stops, passed, GoesOn, Tried}
+use Rattle.reduce.specs.Contracts.{among, violatesM, Stops, passed, GoesOn, Tried}
 
 -- ---- the target among the violations
-
-or-true : (b : Bool) → (b || true) ≡ true
-or-true true = refl
-or-true false = refl
 
 module _ (l : List ℕ) (t : ℕ) where
   pub among-none : among l 0 t ≡ false
@@ -41,41 +40,12 @@ module _ (l : List ℕ) (t : ℕ) where
 
 -- ---- a check that violates the target
 
-pub few-most : (n : ℕ) → 32 < n → 32 ≡ fewM n
-unfolding fewM
-few-most n h = rw (lt-ltb 32 n h)
-
-pub few-all : (n : ℕ) → n ≤ 32 → n ≡ fewM n
-unfolding fewM
-few-all n h = rw (le-ltb 32 n h)
-
-module _ (s : Status) where
-  pub is-refused : (n : ℕ) → s ≡ status.Refused n → false ≡ is-violation s
-  unfolding is-violation
-  is-refused n e = rw e
-
-  pub is-unknown : s ≡ status.Unknown → false ≡ is-violation s
-  unfolding is-violation
-  is-unknown e = rw e
-
-  pub is-one : s ≡ status.Violation → true ≡ is-violation s
-  unfolding is-violation
-  is-one e = rw e
-
-  pub is-incomplete : s ≡ status.Incomplete → false ≡ is-violation s
-  unfolding is-violation
-  is-incomplete e = rw e
-
-  pub is-none : s ≡ status.NoViolationInTrace → false ≡ is-violation s
-  unfolding is-violation
-  is-none e = rw e
-
 module _ (s : Status) (v : ℕ) (l : List ℕ) (t : ℕ) where
-  pub not-so : {b : Bool} → b ≡ is-violation s → b ≡ false → false ≡ violatesM s v l t
+  pub not-so : {b : Bool} → b ≡ is-violationM s → b ≡ false → false ≡ violatesM s v l t
   unfolding violatesM
   not-so e z = rw (← e, z)
 
-  pub is-so : {b : Bool} → b ≡ is-violation s → b ≡ true → {n : ℕ} → n ≡ fewM v → {r : Bool}
+  pub is-so : {b : Bool} → b ≡ is-violationM s → b ≡ true → {n : ℕ} → n ≡ atMost v 32 → {r : Bool}
       → r ≡ among l n t →
       r ≡ violatesM s v l t
   unfolding violatesM
@@ -103,9 +73,6 @@ module _ (r : Reduced) where
   ]
 
 -- ---- after an attempt
-
-never : {A : Type 0} {b : Bool} → b ≡ true → b ≡ false → A
-never e k = let y : true ≡ false = sym e ∙ k in let z : _≡_ {A = ℕ} 0 1 = cc in absurd (omega arith)
 
 module _ {r : Reduced} {w : List ℕ} {n : ℕ} {b : Bool} where
   pub tried-full : (n ≡ 0 → ⊥) →

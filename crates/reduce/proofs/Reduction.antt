@@ -19,7 +19,7 @@ use Rattle.engine_spec.proofs.Lists.{Case, is-true, is-false, case}
 use Rattle.engine_refinement.specs.Meaning.{Tabled}
 use Rattle.engine_refinement.specs.Events.{EventAt}
 use Rattle.engine_inputs.specs.declared.Events.{Events}
-use Rattle.engine_entry.specs.Contract.{Ground, Grounds}
+use Rattle.engine_entry.specs.Prepared.{Prepared, PreparedFrom}
 use Rattle.engine_entry.proofs.Refines.{tb}
 use Rattle.engine_entry.proofs.RunEvents.{texts-here}
 use Rattle.checker_spec.specs.Check.{Check, checked}
@@ -96,7 +96,7 @@ module _ (areas : Areas) (m : Model) (cells : List Cell) (target : Text) (vs : L
 none-such : Event
 none-such = record { at = 0; input = Input.restart }
 
-module _ {f starts : List ℕ} {many : ℕ} {g : Ground} (target : ℕ) (r : Reduced) (open-so : Open r)
+module _ {f starts : List ℕ} {many : ℕ} {g : Prepared} (target : ℕ) (r : Reduced) (open-so : Open r)
     (bytes : (k : ℕ) → getD f k 0 < 256) {w : List ℕ}
     (without : Without (r .words) (r .count) (r .reached) w) {c : CheckResult} {q a u : ℕ}
     (ch : Cased f starts many g w (r .count - 1) c q a u) where
@@ -105,7 +105,7 @@ module _ {f starts : List ℕ} {many : ℕ} {g : Ground} (target : ℕ) (r : Red
 
   -- the definition's turn that this attempt is
   module _ (i : Index) (es : starts ≡ i .invariants .starts) (em : many ≡ i .invariants .count) (m : Model)
-      (acc : accepted f ≡ answer m) (o : Indexed f i m) (gr : Grounds f i g)
+      (acc : accepted f ≡ answer m) (o : Indexed f i m) (gr : PreparedFrom f i g)
       (inside : target < length (o .ts)) (vs : List Event) (left : Left m (o .ts) (r .words) (r .count) vs) where
     abbrev x : List ℕ
     x = g .table
@@ -129,7 +129,7 @@ module _ {f starts : List ℕ} {many : ℕ} {g : Ground} (target : ℕ) (r : Red
     left-rest = left-without (o .ts) m (r .words) (r .count) (r .reached) (open-so .inside) (open-so .few)
         w without vs left
 
-    evs : (j : ℕ) → j < length rest → EventAt f x (o .ts) m t w j (getD rest j none-such)
+    evs : (j : ℕ) → j < length rest → EventAt f x (o .ts) m w j (getD rest j none-such)
     evs j h = left-at f x i m acc o t w (r .count - 1) rest left-rest none-such j h
 
     abbrev Promised : Type 0
@@ -238,7 +238,7 @@ module _ {f starts : List ℕ} {many : ℕ} {g : Ground} (target : ℕ) (r : Red
 
 -- ---- the loop, begun with the first n events in the words s, and areas q, a and u
 
-pub record Looped (f starts : List ℕ) (many : ℕ) (g : Ground) (target : ℕ) (s : List ℕ) (n : ℕ) (r : Reduced) (more : Bool)
+pub record Looped (f starts : List ℕ) (many : ℕ) (g : Prepared) (target : ℕ) (s : List ℕ) (n : ℕ) (r : Reduced) (more : Bool)
     (q q' a a' u u' : List ℕ) : Type 0 where
   pub goes : GoesOn r more
   pub attempts : r .attempts ≤ 200
@@ -248,7 +248,7 @@ pub record Looped (f starts : List ℕ) (many : ℕ) (g : Ground) (target : ℕ)
   pub records : length a' ≡ length a
   pub runs : length u' ≡ length u
   pub does : (i : Index) → starts ≡ i .invariants .starts → many ≡ i .invariants .count
-      → (m : Model) → accepted f ≡ answer m → (o : Indexed f i m) → Grounds f i g → target < length (o .ts)
+      → (m : Model) → accepted f ≡ answer m → (o : Indexed f i m) → PreparedFrom f i g → target < length (o .ts)
       → (vs : List Event) →
       Left m (o .ts) s n vs →
       Goes (sizes (length q) (length a) (length u)) m (o .ts) target r
@@ -276,7 +276,7 @@ ends areas m ts target r x h (passed k p) (going d vs left y) =
     done d vs left (y ∙ passed-is areas m (initial-cells (m .scenario .entities)) (getD ts target []) vs (r .attempts)
     (r .reached) (200 - r .attempts) (omega (arith, left .many)))
 
-module _ {f starts : List ℕ} {many : ℕ} {g : Ground} {target : ℕ} {n : ℕ} {q a u : List ℕ} where
+module _ {f starts : List ℕ} {many : ℕ} {g : Prepared} {target : ℕ} {n : ℕ} {q a u : List ℕ} where
   pub loop-start : {e : Events} → Begun e n → {b : Bool}
       → GoesOn (record { refused = 0; count = n; words = e .words; attempts = 0; reached = 0 }) b →
       Looped f starts many g target (e .words) n (record {
@@ -325,7 +325,7 @@ module _ {f starts : List ℕ} {many : ℕ} {g : Ground} {target : ℕ} {n : ℕ
               (l .does i es em m acc o gr inside vs left) (λ ws left-ws. k' .does i es em m acc o gr inside ws left-ws);
         }
 
-pub loop-end : {f : List ℕ} {i : Index} {g : Ground} {target n : ℕ} {e : Events} {r : Reduced} {b : Bool}
+pub loop-end : {f : List ℕ} {i : Index} {g : Prepared} {target n : ℕ} {e : Events} {r : Reduced} {b : Bool}
     {q q' a a' u u' : List ℕ}
     → Looped f (i .invariants .starts) (i .invariants .count) g target (e .words) n r b q q' a a' u u' → b ≡ false →
     Reduces f i g target e n r (length q) (length a) (length u)

@@ -8,7 +8,9 @@ use native.Mathlib.Omega.{arith}
 use lib.Dec.{eqb}
 use lib.ListN.{length, getD, take, length-append}
 use lib.Seq.{take-suc, take-all}
-use borrow.Author.Tests.{le-ltb}
+use borrow.Author.Tests.{le-leb}
+use Rattle.checker_result.specs.Statuses.{is-violationM}
+use Rattle.bounds.specs.Bounds.{atMost}
 use Rattle.texts.specs.Lists.{is-empty, any, flat}
 use Rattle.texts.specs.Texts.{Text, eqT}
 use Rattle.areas.specs.Areas.{area}
@@ -45,7 +47,7 @@ use Rattle.checker_spec.specs.Minimize.{violates}
 use Rattle.checker_result.specs.declared.CheckResult.{CheckResult}
 use Rattle.checker_entry.specs.Contract.{status-as, failure-words, violation-words, Shows}
 use Rattle.checker_entry.proofs.Judged.{named}
-use Rattle.reduce.specs.Contracts.{among, is-violation, fewM, violatesM}
+use Rattle.reduce.specs.Contracts.{among, violatesM}
 
 -- ---- lists
 
@@ -213,8 +215,8 @@ module _ (f x : List ℕ) (i : Index) (m : Model) (acc : accepted f ≡ answer m
       ∙ place-same (y .invariant) (each-getD (λ (v : Violation). In ts (v .invariant)) vs k none-such g h) target l in
       rw (among-is vs h target l k (omega arith), e, take-suc vs k none-such g) (sym (any-end p (take k vs) y))
 
-  status-same : (s : Status) → is-violation (status-as s) ≡ check.is-violation s
-  unfolding is-violation check.is-violation
+  status-same : (s : Status) → is-violationM (status-as s) ≡ check.is-violation s
+  unfolding check.is-violation
   status-same Status.unknown = refl
   status-same Status.violation = refl
   status-same Status.incomplete = refl
@@ -226,7 +228,7 @@ module _ (f x : List ℕ) (i : Index) (m : Model) (acc : accepted f ≡ answer m
 
     pub violates-is : (target : ℕ) → target < length ts →
         violatesM (r .status) (r .violations) (r .violated) target ≡ violates (getD ts target []) c
-    unfolding violatesM violates fewM
+    unfolding violatesM violates atMost
     violates-is target l =
         let n = length (c .violations) in
         rw (
@@ -234,14 +236,14 @@ module _ (f x : List ℕ) (i : Index) (m : Model) (acc : accepted f ≡ answer m
           status-same (c .status),
           violated-here,
           shows .violations,
-          le-ltb 32 n (fair .few-violations),
+          le-leb n 32 (fair .few-violations),
           among-is (c .violations) (fair .identified) target l n (omega arith),
           take-all n (c .violations) (omega arith),
         )
 
     -- the code and the definition tell a violation
-    pub violation-is : is-violation (r .status) ≡ check.is-violation (c .status)
-    violation-is = ap is-violation (shows .status-is) ∙ status-same (c .status)
+    pub violation-is : is-violationM (r .status) ≡ check.is-violation (c .status)
+    violation-is = ap is-violationM (shows .status-is) ∙ status-same (c .status)
 
     -- the first number is the place of the first violation's identifier
     pub record Target (t : Text) : Type 0 where

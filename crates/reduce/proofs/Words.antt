@@ -17,7 +17,6 @@ use Rattle.model_spec.specs.Rewrite.{place-of}
 use Rattle.model_spec.specs.Validate.{check-input, accepted}
 use Rattle.model_index.specs.declared.Index.{Index}
 use Rattle.model_index.specs.Indexed.{Indexed}
-use Rattle.engine_spec.proofs.Lists.{Each}
 use Rattle.engine_refinement.specs.Meaning.{Tabled}
 use Rattle.engine_refinement.proofs.Lists.{each-getD}
 use Rattle.engine_refinement.proofs.Outcome.{event-at}
@@ -75,7 +74,7 @@ module _ (f x : List ℕ) (i : Index) (m : Model) (acc : accepted f ≡ answer m
     (tb : Tabled f x (o .ts) m) where
   -- as the simulator reads them
   pub left-at : (w : List ℕ) (n : ℕ) (vs : List Event) → Left m (o .ts) w n vs → (d : Event) (k : ℕ) → k < length vs →
-      EventAt f x (o .ts) m tb w k (getD vs k d)
+      EventAt f x (o .ts) m w k (getD vs k d)
   left-at w n vs l d k h =
       let e = left-words f i m acc o (text-place f x (o .ts) m tb) w n vs l d k h in
       event-at f x (o .ts) m tb w k (getD vs k d)

@@ -3,9 +3,10 @@ use Prim.Native.Nat.{ℕ, zero, suc, _+_, _-_, _*_, _≤_, _<_}
 use mathlib.Core.Path.{_≡_}
 use mathlib.Core.Bool.{Bool, true, false, _&&_, _||_}
 use mathlib.Core.List.{List, []}
-use lib.Dec.{ltb, eqb}
+use lib.Dec.{eqb}
 use lib.ListN.{length, getD}
-use Rattle.texts.specs.Lists.{if_then_else_}
+use Rattle.checker_result.specs.Statuses.{is-violationM}
+use Rattle.bounds.specs.Bounds.{atMost}
 use Rattle.texts.specs.Texts.{Text}
 use Rattle.areas.specs.Areas.{closed}
 use Rattle.model_spec.specs.Answer.{Answer, answer, refused}
@@ -17,7 +18,7 @@ use Rattle.engine_spec.specs.Cells.{initial-cells}
 pub use Rattle.engine_spec.specs.Words.{sizes}
 use Rattle.engine_spec.specs.Records.{Areas}
 use Rattle.engine_inputs.specs.declared.Events.{Events}
-use Rattle.engine_entry.specs.Contract.{Ground, Grounds}
+use Rattle.engine_entry.specs.Prepared.{Prepared, PreparedFrom}
 use Rattle.checker_spec.specs.Minimize.{reduce}
 use Rattle.checker_spec.specs.Minimize as minimize
 use Rattle.checker_result.specs.declared.Status.{Status}
@@ -38,19 +39,8 @@ unfoldable pub among : List ℕ → (n target : ℕ) → Bool
 among l zero t = false
 among l (suc n) t = among l n t || eqb (getD l (n * 8) 0) t
 
-unfoldable pub is-violation : Status → Bool
-is-violation (status.Refused n) = false
-is-violation status.Unknown = false
-is-violation status.Violation = true
-is-violation status.Incomplete = false
-is-violation status.NoViolationInTrace = false
-
--- no model has more invariants
-unfoldable pub fewM : ℕ → ℕ
-fewM n = if ltb 32 n then 32 else n
-
 unfoldable pub violatesM : Status → (violations : ℕ) → (violated : List ℕ) → (target : ℕ) → Bool
-violatesM s n l t = is-violation s && among l (fewM n) t
+violatesM s n l t = is-violationM s && among l (atMost n 32) t
 
 -- ---- when the reduction stops
 
@@ -105,12 +95,12 @@ pub record Tried (r : Reduced) (w : List ℕ) (number : ℕ) (stays : Bool) (e :
       e ≡ record { refused = 0; count = r .count; words = r .words; attempts = r .attempts + 1; reached = r .reached + 1 }
 
 -- q, a and u are how many words the areas have; so many invariants are at their positions
-pub record Attempted (f starts : List ℕ) (many : ℕ) (g : Ground) (target : ℕ) (r e : Reduced) (q a u : ℕ) : Type 0 where
+pub record Attempted (f starts : List ℕ) (many : ℕ) (g : Prepared) (target : ℕ) (r e : Reduced) (q a u : ℕ) : Type 0 where
   pub attempts : e .attempts ≡ r .attempts + 1
   pub few : e .count ≤ r .count
   pub long : length (e .words) ≡ 400
   pub does : (i : Index) → starts ≡ i .invariants .starts → many ≡ i .invariants .count
-      → (m : Model) → accepted f ≡ answer m → (o : Indexed f i m) → Grounds f i g → target < length (o .ts)
+      → (m : Model) → accepted f ≡ answer m → (o : Indexed f i m) → PreparedFrom f i g → target < length (o .ts)
       → (vs : List Event) →
       Left m (o .ts) (r .words) (r .count) vs →
       Goes (sizes q a u) m (o .ts) target e (from (sizes q a u) m (o .ts) target (r .attempts) (r .reached) vs)
@@ -121,10 +111,10 @@ pub record Begun (e : Events) (n : ℕ) : Type 0 where
   pub long : length (e .words) ≡ 400
 
 -- after it
-pub record Reduces (f : List ℕ) (i : Index) (g : Ground) (target : ℕ) (e : Events) (n : ℕ) (r : Reduced)
+pub record Reduces (f : List ℕ) (i : Index) (g : Prepared) (target : ℕ) (e : Events) (n : ℕ) (r : Reduced)
     (q a u : ℕ) : Type 0 where
   pub few : r .count ≤ 100
   pub long : length (r .words) ≡ 400
-  pub does : (m : Model) → accepted f ≡ answer m → (o : Indexed f i m) → Grounds f i g → target < length (o .ts)
+  pub does : (m : Model) → accepted f ≡ answer m → (o : Indexed f i m) → PreparedFrom f i g → target < length (o .ts)
       → (vs : List Event) →
       Left m (o .ts) (e .words) n vs → Ends (sizes q a u) m (o .ts) target r (from (sizes q a u) m (o .ts) target 0 0 vs)

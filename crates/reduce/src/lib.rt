@@ -1,7 +1,6 @@
 // The reduction of a violating model's events: each is left out in turn, for good if the violation stays.
 use checker_result::Judgement;
 use checker_result::Shared;
-use checker_result::Status;
 use engine_entry::Base;
 use engine_inputs::Events;
 use layout::EventWords;
@@ -16,20 +15,8 @@ ghost use Rattle.notation.specs.Reference.{was};
 ghost use mathlib.Core.Path.{_≡_};
 ghost use Prim.Native.Nat.{_*_, _≤_, _<_};
 ghost use lib.ListN.{length};
-ghost use Rattle.engine_entry.specs.Contract.{ground};
-ghost use Rattle.reduce.specs.Contracts.{
-  Without,
-  among,
-  is-violation,
-  fewM,
-  violatesM,
-  GoesOn,
-  Open,
-  Tried,
-  Attempted,
-  Begun,
-  Reduces,
-};
+ghost use Rattle.engine_entry.specs.Prepared.{prepared-of};
+ghost use Rattle.reduce.specs.Contracts.{Without, among, violatesM, GoesOn, Open, Tried, Attempted, Begun, Reduces};
 
 // `refused` is 0, or 41 to 43 where a check was refused. The first `count` events in `words`, four words each, are left;
 // so many candidates were checked, and the place reached.
@@ -66,35 +53,13 @@ fn named(violated: &Violations, n: usize, target: u64) -> bool
     false
 }
 
-pub fn is_violation(status: Status) -> bool
-    ensures { λ r. ⌜ r ≡ is-violation status ⌝ }
-{
-    match status {
-        Status::Refused(_) => false,
-        Status::Unknown => false,
-        Status::Violation => true,
-        Status::Incomplete => false,
-        Status::NoViolationInTrace => false,
-    }
-}
-
-// At most 32.
-fn few(n: usize) -> usize
-    ensures { λ r. ⌜ (r ≡ fewM n) × (r ≤ 32) ⌝ }
-{
-    if 32 < n {
-        return 32;
-    }
-    n
-}
-
 // The check is a violation, of the target too.
 fn violates(j: Judgement, violated: &Violations, target: u64) -> bool
     ensures { λ r. ⌜ r ≡ violatesM (j .status) (j .violations) (was violated) target ⌝ }
 {
     let status = j.status;
-    if is_violation(status) {
-        let n = few(j.violations);
+    if checker_result::is_violation(status) {
+        let n = bounds::min_usize(j.violations, 32);
         return named(violated, n, target);
     }
     false
@@ -167,7 +132,7 @@ fn attempt(
 ) -> Reduced
     requires { ⌜ Open r ⌝ }
     ensures { λ e. ⌜ Attempted (was file) (was starts) (shared .invariants)
-        (ground (was table) (shared .cells) (shared .notes) (was notes)) target r e (length (was queue))
+        (prepared-of (was table) (shared .cells) (shared .notes) (was notes)) target r e (length (was queue))
         (length (was records)) (length (was runs)) ⌝ }
 {
     let words = r.words;
@@ -209,7 +174,7 @@ pub fn reduce_events(
     runs: &mut [u32],
 ) -> Reduced
     requires { ⌜ Begun events n ⌝ }
-    ensures { λ r. ⌜ Reduces (was file) index (ground (b .table) (b .cells) (b .count) (was notes)) target events n r
+    ensures { λ r. ⌜ Reduces (was file) index (prepared-of (b .table) (b .cells) (b .count) (was notes)) target events n r
         (length (was queue)) (length (was records)) (length (was runs)) ⌝ }
 {
     let table = b.table;

@@ -21,11 +21,12 @@ use Rattle.engine_spec.specs.Memory.{Lent, entries, zeros, all-zeros, lent-afte
 use Rattle.engine_spec.specs.Records.{Areas}
 use Rattle.engine_spec.specs.Words.{words-in, entry-words}
 use Rattle.engine_spec.proofs.Memory.{refusals}
-use Rattle.engine_fields.specs.Fields.{atMost}
+use Rattle.bounds.specs.Bounds.{atMost}
 use Rattle.engine_inputs.specs.declared.Events.{Events}
 use Rattle.engine_inputs.specs.Inputs.{EventsOf}
 use Rattle.engine_refinement.proofs.Accepted.{accepted-lawful}
-use Rattle.engine_entry.specs.Contract.{Ground, Grounds, lent}
+use Rattle.engine_entry.specs.Contract.{lent}
+use Rattle.engine_entry.specs.Prepared.{Prepared, PreparedFrom}
 use Rattle.engine_entry.proofs.Refines.{tb}
 use Rattle.engine_entry.proofs.Entry.{events-count}
 use Rattle.checker_spec.specs.Minimize.{minimized, minimize}
@@ -58,7 +59,7 @@ module _ (f : List ℕ) (i : Index) (m : Model) (acc : accepted f ≡ answer m) 
   unfolding minimize short-of-room _>>=_ _and_ _when_
   long-law areas n h = rw (acc, le-ltb n (length f + 45) h)
 
-  own : (ix : Indexed f i m) → ((k : ℕ) → getD f k 0 < 256) → (g : Ground) → Grounds f i g → {e : Events}
+  own : (ix : Indexed f i m) → ((k : ℕ) → getD f k 0 < 256) → (g : Prepared) → PreparedFrom f i g → {e : Events}
       → EventsOf f i (e .words) →
       {n : ℕ} → n ≡ atMost (getD (g .table) 8 0) 100 → Left m (ix .ts) (e .words) n (m .scenario .events)
   own ix bytes g gr {e = e} ev many =
@@ -79,7 +80,7 @@ run-short f i {r} is before o h m acc ix =
       output = sym (ap (λ (x : Answer checker.Minimized). output-after f x o) law);
     }
 
-module _ {f : List ℕ} {i : Index} (bytes : (k : ℕ) → getD f k 0 < 256) {g : Ground} (gr : Grounds f i g) {e : Events}
+module _ {f : List ℕ} {i : Index} (bytes : (k : ℕ) → getD f k 0 < 256) {g : Prepared} (gr : PreparedFrom f i g) {e : Events}
     (ev : EventsOf f i (e .words)) {n : ℕ} (many : n ≡ atMost (getD (g .table) 8 0) 100) {o : List ℕ}
     (long : length f + 45 ≤ length o) where
   -- what the first check asks for
@@ -88,7 +89,7 @@ module _ {f : List ℕ} {i : Index} (bytes : (k : ℕ) → getD f k 0 < 256) {g 
       let left = own f i (a .m) (a .is-model) (a .index) bytes g gr {e = e} ev many in
       record {
         model = a;
-        ground = gr;
+        prepared = gr;
         begun = record {
           few = omega (arith, left .many, accepted-lawful f (a .m) (a .is-model) .few-events);
           long = ev .long;

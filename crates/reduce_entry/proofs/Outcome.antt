@@ -7,6 +7,8 @@ use mathlib.Core.Logic.{inl, inr}
 use native.Mathlib.Omega.{arith}
 use lib.Dec.{eqb}
 use lib.ListN.{length, getD, drop, replicate}
+use Rattle.areas.specs.Areas.{Cleared}
+use Rattle.checker_result.specs.Statuses.{is-violationM}
 use Rattle.texts.specs.Texts.{Text}
 use Rattle.areas.specs.Areas.{area}
 use Rattle.model_spec.specs.Answer.{Answer, answer, refused, _>>=_, _and_, _when_}
@@ -24,7 +26,7 @@ use Rattle.engine_refinement.specs.Meaning.{Tabled}
 use Rattle.engine_refinement.specs.Events.{EventAt}
 use Rattle.engine_refinement.proofs.Words.{text-place}
 use Rattle.engine_inputs.specs.declared.Events.{Events}
-use Rattle.engine_entry.specs.Contract.{Ground, Grounds}
+use Rattle.engine_entry.specs.Prepared.{Prepared, PreparedFrom}
 use Rattle.engine_entry.proofs.Refines.{tb, queue-clear, runs-clear}
 use Rattle.engine_entry.proofs.RunEvents.{texts-here}
 use Rattle.checker_spec.specs.Check.{Check, checked, Violation}
@@ -39,14 +41,14 @@ use Rattle.checker_entry.proofs.Refines.{Promise, promise}
 use Rattle.reduce.specs.declared.Reduced.{Reduced}
 use Rattle.model_spec.specs.Events.{event-words}
 use Rattle.reduce.specs.Events.{Left}
-use Rattle.reduce.specs.Contracts.{is-violation, sizes, from, Ends, Reduces}
+use Rattle.reduce.specs.Contracts.{sizes, from, Ends, Reduces}
 use Rattle.reduce.specs.Contracts as parts
 use Rattle.reduce.proofs.Violations.{none-such, Fair, checked-fair, violation-is, Target, target-is}
 use Rattle.reduce.proofs.Words.{left-at}
 use Rattle.reduce_result.specs.declared.Minimized.{Minimized}
 use Rattle.reduce_result.specs.Result.{no-reduction}
 use Rattle.reduce_entry.specs.Contract.{Shows}
-use Rattle.reduce_result.specs.Last.{Cleared, Ready, Repeats, Finished}
+use Rattle.reduce_result.specs.Last.{Ready, Repeats, Finished}
 use Rattle.reduce_entry.specs.Contracts.{Outcome, answers, refuses, reduced-to, Given, Aimed, ReducesTo, ReducesAll}
 use Rattle.reduce_entry.proofs.File.{file-is, file-fits}
 
@@ -125,11 +127,11 @@ same-sizes q r a b u v (eq, (ea, eu)) = rw (eq, ea, eu)
 -- ---- the reduction, with the last check
 
 -- what the last check asks for
-pub ready : {f : List ℕ} {i : Index} {g : Ground} {target : ℕ} {e : Events} {n : ℕ} {x : Reduced} {q a u : ℕ}
+pub ready : {f : List ℕ} {i : Index} {g : Prepared} {target : ℕ} {e : Events} {n : ℕ} {x : Reduced} {q a u : ℕ}
     → Reduces f i g target e n x q a u →
     {o : List ℕ} → Aimed f i g target e n o → x .refused ≡ 0 → Ready f x o
 ready {f} {i} {g} {target} {e} {n} {x} {q} {a} {u} red {o} am z =
-    by (red .does m acc ix (am .given .ground) (am .target-in) (m .scenario .events) (am .given .left))
+    by (red .does m acc ix (am .given .prepared) (am .target-in) (m .scenario .events) (am .given .left))
   where
     m : Model
     m = am .given .model .m
@@ -149,7 +151,7 @@ ready {f} {i} {g} {target} {e} {n} {x} {q} {a} {u} red {o} am z =
       long = red .long;
     }
 
-module _ {f : List ℕ} {i : Index} {g : Ground} {target : ℕ} {e : Events} {n : ℕ} {x : Reduced} (q a u : List ℕ)
+module _ {f : List ℕ} {i : Index} {g : Prepared} {target : ℕ} {e : Events} {n : ℕ} {x : Reduced} (q a u : List ℕ)
     (red : Reduces f i g target e n x (length q) (length a) (length u)) where
   -- a check of a candidate was refused
   pub reduction-full : (x .refused ≡ 0 → ⊥) → {r : Minimized} → r ≡ no-reduction (x .refused)
@@ -175,7 +177,7 @@ module _ {f : List ℕ} {i : Index} {g : Ground} {target : ℕ} {e : Events} {n 
     abbrev areas : Areas
     areas = sizes (length q) (length a) (length u)
 
-    module _ (m : Model) (acc : accepted f ≡ answer m) (ix : Indexed f i m) (gr : Grounds f i g)
+    module _ (m : Model) (acc : accepted f ≡ answer m) (ix : Indexed f i m) (gr : PreparedFrom f i g)
         (inside : target < length (ix .ts)) (vs : List Event) (left : Left m (ix .ts) (e .words) n vs) where
       queue-is : q' ≡ replicate (length q) 0
       queue-is = queue-clear f i m acc ix bytes g gr (fin .checks .ran) ∙ ap (λ (k : ℕ). replicate k 0) (long .0)
@@ -195,7 +197,7 @@ module _ {f : List ℕ} {i : Index} {g : Ground} {target : ℕ} {e : Events} {n 
       module _ (ws : List Event) (kept : Left m (ix .ts) (x .words) (x .count) ws)
           (y : reduce areas m (initial-cells (m .scenario .entities)) name 200 0 0 vs
           ≡ answer (record { events = ws; attempts = x .attempts; reached = x .reached })) where
-        evs : (j : ℕ) → j < length ws → EventAt f (g .table) (ix .ts) m t (x .words) j (getD ws j no-event)
+        evs : (j : ℕ) → j < length ws → EventAt f (g .table) (ix .ts) m (x .words) j (getD ws j no-event)
         evs j h = left-at f (g .table) i m acc ix t (x .words) (x .count) ws kept no-event j h
 
         abbrev final : Check → checker.Minimized
@@ -260,18 +262,18 @@ module _ {f : List ℕ} {i : Index} {g : Ground} {target : ℕ} {e : Events} {n 
 
 -- ---- the first check
 
-module _ {f : List ℕ} (i : Index) {g : Ground} {e : Events} {n : ℕ}
+module _ {f : List ℕ} (i : Index) {g : Prepared} {e : Events} {n : ℕ}
     (bytes : (k : ℕ) → getD f k 0 < 256) {c : CheckResult} {q q₁ a a₁ u u₁ : List ℕ}
     (ch : Checked f (i .invariants .starts) (i .invariants .count) g (e .words) n c q q₁ a a₁ u u₁) where
   abbrev first-sizes : Areas
   first-sizes = sizes (length q) (length a) (length u)
 
-  module _ (m : Model) (acc : accepted f ≡ answer m) (ix : Indexed f i m) (gr : Grounds f i g) (vs : List Event)
+  module _ (m : Model) (acc : accepted f ≡ answer m) (ix : Indexed f i m) (gr : PreparedFrom f i g) (vs : List Event)
       (left : Left m (ix .ts) (e .words) n vs) where
     abbrev first-table : Tabled f (g .table) (ix .ts) m
     first-table = tb f i m acc ix bytes g gr
 
-    first-evs : (j : ℕ) → j < length vs → EventAt f (g .table) (ix .ts) m first-table (e .words) j (getD vs j no-event)
+    first-evs : (j : ℕ) → j < length vs → EventAt f (g .table) (ix .ts) m (e .words) j (getD vs j no-event)
     first-evs j h = left-at f (g .table) i m acc ix first-table (e .words) n vs left no-event j h
 
     abbrev First : Type 0
@@ -286,7 +288,7 @@ module _ {f : List ℕ} (i : Index) {g : Ground} {e : Events} {n : ℕ}
 
     violation-here : (d : Check) → checked first-sizes m (initial-cells (m .scenario .entities)) vs ≡ answer d
         → shown.Shows f c d →
-        is-violation (c .status) ≡ check.is-violation (d .status)
+        is-violationM (c .status) ≡ check.is-violation (d .status)
     violation-here d y s = violation-is f (g .table) i m acc ix first-table (texts-here f i m acc ix bytes g gr) c d s
         (fair d y)
 
@@ -311,7 +313,7 @@ module _ {f : List ℕ} (i : Index) {g : Ground} {e : Events} {n : ℕ}
           refuses j (inr (lo, hi)) (not-first first-sizes m [] vs j k) (is ∙ ap no-reduction (none .number))
           (queue-clear f i m acc ix bytes g gr (ch .ran)) w (runs-clear f i m acc ix bytes g gr (ch .ran)) refl
 
-  module _ (z : c .simulation .refused ≡ 0) {b : Bool} (is-b : b ≡ is-violation (c .status)) where
+  module _ (z : c .simulation .refused ≡ 0) {b : Bool} (is-b : b ≡ is-violationM (c .status)) where
     -- it isn't a violation
     pub first-other : b ≡ false → {r : Minimized} → r ≡ no-reduction 21 → {q' a' u' : List ℕ} → Cleared q₁ q' a₁ a' u₁ u' →
         length q₁ ≡ length q → length a₁ ≡ length a → length u₁ ≡ length u → (o : List ℕ)
@@ -342,8 +344,8 @@ module _ {f : List ℕ} (i : Index) {g : Ground} {e : Events} {n : ℕ}
           ix : Indexed f i m
           ix = gi .model .index
 
-          gr : Grounds f i g
-          gr = gi .ground
+          gr : PreparedFrom f i g
+          gr = gi .prepared
 
           by : First m acc ix gr (m .scenario .events) (gi .left) → Aimed f i g (getD (c .violated) 0 0) e n o
           by (promised.answers d k s w) =

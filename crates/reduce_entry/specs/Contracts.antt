@@ -7,7 +7,7 @@ use lib.Dec.{eqb}
 use lib.ListN.{length, getD, drop, replicate}
 use Rattle.texts.specs.Texts.{Text}
 use Rattle.areas.specs.Areas.{area}
-use Rattle.model_spec.specs.Answer.{Answer, answer, refused, _>>=_}
+use Rattle.model_spec.specs.Answer.{Answer, answer, refused}
 use Rattle.model_spec.specs.Model.{Event, Model}
 use Rattle.model_spec.specs.Validate.{accepted}
 use Rattle.model_index.specs.declared.Index.{Index}
@@ -17,7 +17,7 @@ use Rattle.engine_spec.specs.Memory.{Lent}
 use Rattle.engine_spec.specs.Records.{Areas}
 use Rattle.engine_spec.specs.Words.{words-in}
 use Rattle.engine_inputs.specs.declared.Events.{Events}
-use Rattle.engine_entry.specs.Contract.{Ground, Grounds}
+use Rattle.engine_entry.specs.Prepared.{Prepared, PreparedFrom}
 use Rattle.checker_spec.specs.Check.{checked}
 use Rattle.checker_spec.specs.Minimize.{reduce, minimized, reduced-file}
 use Rattle.checker_spec.specs.Minimize as checker
@@ -61,28 +61,28 @@ pub record Accepted (f : List ℕ) (i : Index) : Type 0 where
   pub index : Indexed f i m
 
 -- its events, and room for a file
-pub record Given (f : List ℕ) (i : Index) (g : Ground) (e : Events) (n : ℕ) (o : List ℕ) : Type 0 where
+pub record Given (f : List ℕ) (i : Index) (g : Prepared) (e : Events) (n : ℕ) (o : List ℕ) : Type 0 where
   pub model : Accepted f i
-  pub ground : Grounds f i g
+  pub prepared-of : PreparedFrom f i g
   pub begun : Begun e n
   pub left : Left (model .m) (model .index .ts) (e .words) n (model .m .scenario .events)
   pub room : length f ≤ length o
 
-pub record Aimed (f : List ℕ) (i : Index) (g : Ground) (target : ℕ) (e : Events) (n : ℕ) (o : List ℕ) : Type 0 where
+pub record Aimed (f : List ℕ) (i : Index) (g : Prepared) (target : ℕ) (e : Events) (n : ℕ) (o : List ℕ) : Type 0 where
   pub given : Given f i g e n o
   pub target-in : target < length (given .model .index .ts)
 
-abbrev pub ReducesTo : (f : List ℕ) (i : Index) (g : Ground) (target : ℕ) (e : Events) (n : ℕ) (r : Minimized)
+abbrev pub ReducesTo : (f : List ℕ) (i : Index) (g : Prepared) (target : ℕ) (e : Events) (n : ℕ) (r : Minimized)
     (q q' a a' u u' o o' : List ℕ) → Type 0
 ReducesTo f i g target e n r q q' a a' u u' o o' = (m : Model) → accepted f ≡ answer m → (x : Indexed f i m)
-    → Grounds f i g → target < length (x .ts) → (vs : List Event) →
+    → PreparedFrom f i g → target < length (x .ts) → (vs : List Event) →
     Left m (x .ts) (e .words) n vs →
     Outcome f (reduced-to (sizes (length q) (length a) (length u)) m (getD (x .ts) target []) vs) r (length q)
     (length a) (length u) q' a' u' o o'
 
-abbrev pub ReducesAll : (f : List ℕ) (i : Index) (g : Ground) (e : Events) (n : ℕ) (r : Minimized)
+abbrev pub ReducesAll : (f : List ℕ) (i : Index) (g : Prepared) (e : Events) (n : ℕ) (r : Minimized)
     (q q' a a' u u' o o' : List ℕ) → Type 0
-ReducesAll f i g e n r q q' a a' u u' o o' = (m : Model) → accepted f ≡ answer m → (x : Indexed f i m) → Grounds f i g
+ReducesAll f i g e n r q q' a a' u u' o o' = (m : Model) → accepted f ≡ answer m → (x : Indexed f i m) → PreparedFrom f i g
     → (vs : List Event) →
     Left m (x .ts) (e .words) n vs →
     Outcome f (minimized (sizes (length q) (length a) (length u)) m (initial-cells (m .scenario .entities)) vs) r

@@ -5,7 +5,8 @@ use layout::SimulationReasons;
 use model_index::Index;
 use reduce_result::Minimized;
 ghost use Rattle.notation.specs.Reference.{was, is};
-ghost use Rattle.engine_entry.specs.Contract.{ground, lent};
+ghost use Rattle.engine_entry.specs.Contract.{lent};
+ghost use Rattle.engine_entry.specs.Prepared.{prepared-of};
 ghost use Rattle.reduce_entry.specs.Contract.{Minimizes};
 ghost use Rattle.reduce_entry.specs.Contracts.{Accepted, Given, Aimed, ReducesTo, ReducesAll, RunsAs};
 
@@ -23,9 +24,9 @@ fn reduction(
     runs: &mut [u32],
     output: &mut [u8],
 ) -> Minimized
-    requires { ⌜ Aimed (now file) index (ground (b .table) (b .cells) (b .count) (now notes)) target events n
+    requires { ⌜ Aimed (now file) index (prepared-of (b .table) (b .cells) (b .count) (now notes)) target events n
         (now output) ⌝ }
-    ensures { λ e. ⌜ ReducesTo (was file) index (ground (b .table) (b .cells) (b .count) (was notes)) target events n e
+    ensures { λ e. ⌜ ReducesTo (was file) index (prepared-of (b .table) (b .cells) (b .count) (was notes)) target events n e
         (was queue) (is queue) (was records) (is records) (was runs) (is runs) (was output) (is output) ⌝ }
 {
     let r = reduce::reduce_events(
@@ -41,7 +42,7 @@ fn reduction(
         runs,
     );
     if r.refused != 0 {
-        reduce_result::clear(queue, records, runs);
+        areas::clear_three(queue, records, runs);
         return reduce_result::refused(r.refused);
     }
     reduce_result::last_check(
@@ -72,8 +73,8 @@ fn first_check(
     runs: &mut [u32],
     output: &mut [u8],
 ) -> Minimized
-    requires { ⌜ Given (now file) index (ground (b .table) (b .cells) (b .count) (now notes)) events n (now output) ⌝ }
-    ensures { λ e. ⌜ ReducesAll (was file) index (ground (b .table) (b .cells) (b .count) (was notes)) events n e (was queue)
+    requires { ⌜ Given (now file) index (prepared-of (b .table) (b .cells) (b .count) (now notes)) events n (now output) ⌝ }
+    ensures { λ e. ⌜ ReducesAll (was file) index (prepared-of (b .table) (b .cells) (b .count) (was notes)) events n e (was queue)
         (is queue) (was records) (is records) (was runs) (is runs) (was output) (is output) ⌝ }
 {
     let words = events.words;
@@ -84,7 +85,7 @@ fn first_check(
     }
     let status = c.status;
     let violated = c.violated;
-    if reduce::is_violation(status) {
+    if checker_result::is_violation(status) {
         let target = violated[0];
         return reduction(
             file,
@@ -100,7 +101,7 @@ fn first_check(
             output,
         );
     }
-    reduce_result::clear(queue, records, runs);
+    areas::clear_three(queue, records, runs);
     reduce_result::refused(21)
 }
 
@@ -124,7 +125,7 @@ fn run(
     let b = engine_entry::prepared(file, index, &mut notes);
     let table = b.table;
     let events = engine_inputs::events_of(file, index);
-    let n = engine_fields::at_most(table[8], 100);
+    let n = bounds::at_most(table[8], 100);
     first_check(
         file,
         index,

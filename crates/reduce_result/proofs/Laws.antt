@@ -9,7 +9,7 @@ use Rattle.model_rewrite.specs.declared.Span.{Span}
 use Rattle.model_rewrite.specs.Span.{spanM}
 use Rattle.model_rewrite.specs.Written.{file-with, Room, Wrote}
 use Rattle.model_index.specs.declared.Index.{Index}
-use Rattle.engine_entry.specs.Contract.{Ground}
+use Rattle.engine_entry.specs.Prepared.{Prepared}
 use Rattle.checker_result.specs.declared.CheckResult.{CheckResult}
 use Rattle.checker_result.specs.Result.{no-check}
 use Rattle.checker_entry.specs.Contracts.{Whole}
@@ -40,7 +40,7 @@ refused-is n e = rw e
 pub asked-here : {f l o : List ℕ} {n : ℕ} → Room f (spanM f) l n o → {s : Span} → s ≡ spanM f → Room f s l n o
 asked-here {f} {l} {o} {n} r e = subst (λ (s : Span). Room f s l n o) (sym e) r
 
-module _ {f : List ℕ} {i : Index} {g : Ground} {target n : ℕ} {x : Reduced} {c : CheckResult} {q q' a a' u u' : List ℕ}
+module _ {f : List ℕ} {i : Index} {g : Prepared} {target n : ℕ} {x : Reduced} {c : CheckResult} {q q' a a' u u' : List ℕ}
     (wh : Whole f (i .invariants .starts) (i .invariants .count) g (x .words) (x .count) c q q' a a' u u') where
   pub last-full : {r : Minimized} → (c .simulation .refused ≡ 0 → ⊥) → r ≡ no-reduction (c .simulation .refused)
       → (o : List ℕ) →

@@ -3,24 +3,18 @@ use Prim.Native.Nat.{ℕ, _≤_}
 use mathlib.Core.Path.{_≡_}
 use mathlib.Core.List.{List}
 use lib.Dec.{eqb}
-use lib.ListN.{length, replicate}
+use lib.ListN.{length}
 use Rattle.model_spec.specs.Answer.{refused}
 use Rattle.model_spec.specs.Validate.{accepted}
 use Rattle.model_index.specs.declared.Index.{Index}
 use Rattle.model_rewrite.specs.Span.{spanM}
 use Rattle.model_rewrite.specs.Written.{file-with, Room, Wrote}
-use Rattle.engine_entry.specs.Contract.{Ground}
+use Rattle.engine_entry.specs.Prepared.{Prepared}
 use Rattle.checker_result.specs.declared.CheckResult.{CheckResult}
 use Rattle.checker_entry.specs.Contracts.{Checked}
 use Rattle.reduce.specs.declared.Reduced.{Reduced}
 use Rattle.reduce_result.specs.declared.Minimized.{Minimized}
 use Rattle.reduce_result.specs.Result.{no-reduction}
-
--- the three areas as zeros
-pub record Cleared (q q' a a' u u' : List ℕ) : Type 0 where
-  pub queue : q' ≡ replicate (length q) 0
-  pub records : a' ≡ replicate (length a) 0
-  pub runs : u' ≡ replicate (length u) 0
 
 -- a place as a word
 abbrev pub Placed : (n r : ℕ) → Type 0
@@ -49,7 +43,7 @@ pub record Refused (number : ℕ) (r : Minimized) (o o' : List ℕ) : Type 0 whe
   pub answer-is : r ≡ no-reduction number
   pub output : o' ≡ o
 
-pub record Finished (f : List ℕ) (i : Index) (g : Ground) (target n : ℕ) (x : Reduced) (r : Minimized)
+pub record Finished (f : List ℕ) (i : Index) (g : Prepared) (target n : ℕ) (x : Reduced) (r : Minimized)
     (q q' a a' u u' o o' : List ℕ) : Type 0 where
   pub check : CheckResult
   pub checks : Checked f (i .invariants .starts) (i .invariants .count) g (x .words) (x .count) check q q' a a' u u'

@@ -10,10 +10,10 @@ ghost use Rattle.notation.specs.Reference.{was, is};
 ghost use mathlib.Core.Path.{_≡_};
 ghost use Prim.Native.Nat.{_*_, _≤_};
 ghost use lib.ListN.{length};
-ghost use Rattle.engine_entry.specs.Contract.{ground};
+ghost use Rattle.engine_entry.specs.Prepared.{prepared-of};
 ghost use Rattle.checker_entry.specs.Contracts.{Whole};
 ghost use Rattle.reduce_result.specs.Result.{no-reduction};
-ghost use Rattle.reduce_result.specs.Last.{Cleared, Placed, Ready, Finished};
+ghost use Rattle.reduce_result.specs.Last.{Ready, Finished};
 
 // `refused` is 0 or the refusal's number; then the rest is 0. `invariant` is the place of the identifier among the texts,
 // the first `events` events in `words` are left, four words each, and so many bytes are `written` to the output.
@@ -46,24 +46,6 @@ pub fn refused(number: u32) -> Minimized
     }
 }
 
-pub fn clear(queue: &mut [u32], records: &mut [u32], runs: &mut [u32])
-    ensures { λ _. ⌜ Cleared (was queue) (is queue) (was records) (is records) (was runs) (is runs) ⌝ }
-{
-    areas::clear_all(queue);
-    areas::clear_all(records);
-    areas::clear_all(runs);
-}
-
-// A place among the texts as a word.
-fn place(n: u64) -> u32
-    ensures { λ r. ⌜ Placed n r ⌝ }
-{
-    if 65535 < n {
-        return 65535;
-    }
-    n as u32
-}
-
 // The check of the first n of the events that stand in four words each. `notes` holds the reasons of the notes.
 pub fn check_of(
     file: &[u8],
@@ -78,7 +60,7 @@ pub fn check_of(
 ) -> CheckResult
     requires { ⌜ n * 4 ≤ length (now words) ⌝ }
     ensures { λ r. ⌜ Whole (was file) (index .invariants .starts) (index .invariants .count)
-        (ground (b .table) (b .cells) (b .count) (was notes)) (was words) n r (was queue) (is queue) (was records)
+        (prepared-of (b .table) (b .cells) (b .count) (was notes)) (was words) n r (was queue) (is queue) (was records)
         (is records) (was runs) (is runs) ⌝ }
 {
     let table = b.table;
@@ -120,7 +102,7 @@ pub fn last_check(
     output: &mut [u8],
 ) -> Minimized
     requires { ⌜ Ready (now file) r (now output) ⌝ }
-    ensures { λ e. ⌜ Finished (was file) index (ground (b .table) (b .cells) (b .count) (was notes)) target originals r e
+    ensures { λ e. ⌜ Finished (was file) index (prepared-of (b .table) (b .cells) (b .count) (was notes)) target «original_events» r e
         (was queue) (is queue) (was records) (is records) (was runs) (is runs) (was output) (is output) ⌝ }
 {
     let words = r.words;
@@ -131,14 +113,14 @@ pub fn last_check(
     }
     let span = model_rewrite::events_in(file);
     let written = model_rewrite::rewrite(file, span, &words, r.count, output);
-    let invariant = place(target);
-    let minimal = r.reached == r.count;
+    let invariant = bounds::place_of(target);
+    let deletion_minimal = r.reached == r.count;
     Minimized {
         refused: 0,
         invariant,
-        originals,
+        original_events,
         attempts: r.attempts,
-        minimal,
+        deletion_minimal,
         events: r.count,
         words,
         written,

@@ -84,20 +84,20 @@ fn sizes_of(s: &[u8]) -> Sizes {
 
 // The lines of `verify` and of `minimize`; their files aren't kept.
 fn print_verify(out: &mut [u8], n: usize, file: &[u8], sizes: Sizes) -> usize {
-    let queue = engine_fields::at_most(sizes.first, print_check::QUEUE);
-    let records = engine_fields::at_most(sizes.second, print_check::RECORDS);
-    let runs = engine_fields::at_most(sizes.third, print_check::RUNS);
-    let size = engine_fields::at_most(sizes.output, 32814);
+    let queue = bounds::at_most(sizes.first, layout::QUEUE);
+    let records = bounds::at_most(sizes.second, layout::RECORDS);
+    let runs = bounds::at_most(sizes.third, layout::RUNS);
+    let size = bounds::at_most(sizes.output, 32814);
     let mut output = [0u8; 32814];
     let p = print_verify::print_verify(out, n, file, queue, records, runs, &mut output[0..size]);
     p.next
 }
 
 fn print_minimize(out: &mut [u8], n: usize, file: &[u8], sizes: Sizes) -> usize {
-    let queue = engine_fields::at_most(sizes.first, print_check::QUEUE);
-    let records = engine_fields::at_most(sizes.second, print_check::RECORDS);
-    let runs = engine_fields::at_most(sizes.third, print_check::RUNS);
-    let size = engine_fields::at_most(sizes.output, 32814);
+    let queue = bounds::at_most(sizes.first, layout::QUEUE);
+    let records = bounds::at_most(sizes.second, layout::RECORDS);
+    let runs = bounds::at_most(sizes.third, layout::RUNS);
+    let size = bounds::at_most(sizes.output, 32814);
     let mut output = [0u8; 32814];
     let p = print_minimize::print_minimize(
         out,
@@ -112,22 +112,22 @@ fn print_minimize(out: &mut [u8], n: usize, file: &[u8], sizes: Sizes) -> usize 
 }
 
 fn print_simulate(out: &mut [u8], n: usize, file: &[u8], sizes: Sizes) -> usize {
-    let queue = engine_fields::at_most(sizes.first, print_simulate::QUEUE);
-    let records = engine_fields::at_most(sizes.second, print_simulate::RECORDS);
-    let runs = engine_fields::at_most(sizes.third, print_simulate::RUNS);
+    let queue = bounds::at_most(sizes.first, layout::QUEUE);
+    let records = bounds::at_most(sizes.second, layout::RECORDS);
+    let runs = bounds::at_most(sizes.third, layout::RUNS);
     print_simulate::print_simulate(out, n, file, queue, records, runs)
 }
 
 fn print_full_check(out: &mut [u8], n: usize, file: &[u8], sizes: Sizes) -> usize {
-    let queue = engine_fields::at_most(sizes.first, print_check::QUEUE);
-    let records = engine_fields::at_most(sizes.second, print_check::RECORDS);
-    let runs = engine_fields::at_most(sizes.third, print_check::RUNS);
+    let queue = bounds::at_most(sizes.first, layout::QUEUE);
+    let records = bounds::at_most(sizes.second, layout::RECORDS);
+    let runs = bounds::at_most(sizes.third, layout::RUNS);
     print_check::print_full_check(out, n, file, queue, records, runs)
 }
 
 fn print_lint(out: &mut [u8], n: usize, file: &[u8], sizes: Sizes) -> usize {
-    let findings = engine_fields::at_most(sizes.first, print_lint::FINDINGS);
-    let interactions = engine_fields::at_most(sizes.second, print_lint::INTERACTIONS);
+    let findings = bounds::at_most(sizes.first, print_lint::FINDINGS);
+    let interactions = bounds::at_most(sizes.second, print_lint::INTERACTIONS);
     print_lint::print_lint(out, n, file, findings, interactions)
 }
 

@@ -8,6 +8,7 @@ use native.Mathlib.Omega.{arith}
 use lib.Dec.{leb}
 use lib.ListN.{length, getD}
 use borrow.Author.Tests.{le-leb, lt-leb}
+use Rattle.checker_result.specs.Statuses.{refusalM, is-violationM}
 use Rattle.texts.specs.Lists.{is-empty}
 use Rattle.texts.specs.Texts.{Text, text, insertT, sortedT}
 use Rattle.reasons.specs.Kinds as kinds
@@ -38,7 +39,7 @@ use Rattle.search_inputs.specs.declared.Placed.{Placed}
 use Rattle.engine_inputs.proofs.Refines.{Fine}
 use Rattle.search_inputs.proofs.Refines.{fine-here, input-accepted, event-at-here}
 use Rattle.search_cases.specs.declared.Search.{Search}
-use Rattle.search_cases.specs.Contracts.{refusalM, violatesM, refusedM, Spends, Found, Other, Gathers}
+use Rattle.search_cases.specs.Contracts.{refusedM, Spends, Found, Other, Gathers}
 use Rattle.search.specs.Meaning.{
   none-such,
   cells-of,
@@ -63,16 +64,16 @@ module _ {f : List ℕ} {p : Entire} {q a u : ℕ} (x : Setting f p q a u) where
   abbrev spent-text : Text
   spent-text = text "search budget exhausted"
 
-  abbrev pub table : Tabled f (p .ground .table) (x .indexed .ts) m
-  table = tb f (x .index) m (x .is-accepted) (x .indexed) (x .bytes) (p .ground) (x .grounds)
+  abbrev pub table : Tabled f (p .prepared .table) (x .indexed .ts) m
+  table = tb f (x .index) m (x .is-accepted) (x .indexed) (x .bytes) (p .prepared) (x .prepared-from)
 
   pub spent-is : render f (alone kinds.search-spent) ≡ spent-text
   unfolding render body alone words
-  spent-is = rw (no-text f (p .ground .table) (x .indexed .ts) m table) refl
+  spent-is = rw (no-text f (p .prepared .table) (x .indexed .ts) m table) refl
 
   pub pool-few : length (search-pool m) ≤ 400
   unfolding search-pool
-  pool-few = omega (arith, few-in-pool f (x .index) m (x .is-accepted) (x .indexed) (x .bytes) (p .ground) (x .grounds))
+  pool-few = omega (arith, few-in-pool f (x .index) m (x .is-accepted) (x .indexed) (x .bytes) (p .prepared) (x .prepared-from))
 
   pub widen : (l : List Text) → Among (check-pool m) l → Among (search-pool m) l
   unfolding search-pool
@@ -176,11 +177,11 @@ module _ {f : List ℕ} {p : Entire} {q a u : ℕ} (x : Setting f p q a u) where
   -- ---- the events of a check
 
   pub events-at : (vs : List Event) {placed : Placed} → PlacedAs (x .indexed .ts) m vs placed → (j : ℕ) → j < length vs →
-      EventAt f (p .ground .table) (x .indexed .ts) m table (placed .words) j (getD vs j none-such)
+      EventAt f (p .prepared .table) (x .indexed .ts) m (placed .words) j (getD vs j none-such)
   events-at vs {placed} ps j h =
       let c = ps .chosen j h in
       event-at-here f (x .index) m (x .is-accepted) (x .indexed) (placed .words) none-such vs (ps .words) j h
-      (p .ground .table) table
+      (p .prepared .table) table
       (subst (Fine (x .indexed .ts)) (sym (c .is))
       (fine-here f (x .index) m (x .is-accepted) (x .indexed) Input.restart (c .place) (c .inside)))
       (subst (λ (i : Input). check-input (m .scenario .entities) i ≡ accept) (sym (c .is))
@@ -194,7 +195,7 @@ refusal-none check.Status.violation = refl
 refusal-none check.Status.incomplete = refl
 refusal-none check.no-violation-in-trace = refl
 
-violates-as : (y : check.Status) → violatesM (status-as y) ≡ is-violation y
+violates-as : (y : check.Status) → is-violationM (status-as y) ≡ is-violation y
 unfolding is-violation
 violates-as check.Status.unknown = refl
 violates-as check.Status.violation = refl
@@ -233,7 +234,7 @@ module _ (vs : List Event) (b : Check) (s : verify.Search) where
   after-other e = rw e
 
 module _ {f : List ℕ} {p : Entire} {q a u : ℕ} {placed : Placed} {c : CheckResult}
-    (ch : Cased f (p .starts) (p .invariants) (p .ground) (placed .words) (placed .count) c q a u)
+    (ch : Cased f (p .starts) (p .invariants) (p .prepared) (placed .words) (placed .count) c q a u)
     (x : Setting f p q a u) (vs : List Event) (ps : PlacedAs (x .indexed .ts) (x .m) vs placed)
     (s : verify.Search) {o : Search} {w : List ℕ} (h : Held x s o w) (lc : o .cases < p .cases)
     (ls : o .steps < 200000) where
@@ -248,7 +249,7 @@ module _ {f : List ℕ} {p : Entire} {q a u : ℕ} {placed : Placed} {c : CheckR
 
   promised : Promised
   promised = ch .does (x .index) (x .starts-are) (x .invariants-are) (x .m) (x .is-accepted) (x .indexed) (x .bytes)
-      (x .grounds) none-such vs (events-at x vs ps)
+      (x .prepared-from) none-such vs (events-at x vs ps)
       (ps .count)
 
   answer-so : (b : Check) → plain ≡ answer b → here ≡ answer (after-case vs b s)
@@ -289,7 +290,7 @@ module _ {f : List ℕ} {p : Entire} {q a u : ℕ} {placed : Placed} {c : CheckR
             stopped = ap (λ (t : Search). t .stopped) g;
           })
 
-  pub found-held : {n : ℕ} {v : Bool} {r : Search} → n ≡ refusalM (c .status) → n ≡ 0 → v ≡ violatesM (c .status)
+  pub found-held : {n : ℕ} {v : Bool} {r : Search} → n ≡ refusalM (c .status) → n ≡ 0 → v ≡ is-violationM (c .status)
       → v ≡ true →
       placed .count ≤ 5 → Found o placed (c .simulation .steps) r → Outcome x here r w
   found-held {n} {v} {r} e z d t five g = by promised
@@ -297,7 +298,7 @@ module _ {f : List ℕ} {p : Entire} {q a u : ℕ} {placed : Placed} {c : CheckR
       by : Promised → Outcome x here r w
       by (answers b y k ku ki) =
           let violated : is-violation (b .status) ≡ true = sym (violates-as (b .status))
-          ∙ sym (ap violatesM (k .status-is)) ∙ sym d ∙ t in
+          ∙ sym (ap is-violationM (k .status-is)) ∙ sym d ∙ t in
           subst (λ (t : Answer verify.Search). Outcome x t r w)
           (sym (answer-so b y ∙ ap answer (after-violation vs b s violated)))
           (record {
@@ -318,7 +319,7 @@ module _ {f : List ℕ} {p : Entire} {q a u : ℕ} {placed : Placed} {c : CheckR
       by (refuses j lo hi y k) = absurd (omega (arith, e, z, refusal-so j k, lo))
 
   pub other-held : {n : ℕ} {v : Bool} {count : ℕ} {r : Search} {w' : List ℕ} → n ≡ refusalM (c .status) → n ≡ 0
-      → v ≡ violatesM (c .status) → v ≡ false →
+      → v ≡ is-violationM (c .status) → v ≡ false →
       Gathers f (o .reasons) (c .unknown) (c .unknowns) (c .incomplete) (c .incompletes) w count w' →
       Other o count (c .simulation .steps) r → Outcome x here r w'
   other-held {n} {v} {count} {r} {w'} e z d t told g = by promised
@@ -326,7 +327,7 @@ module _ {f : List ℕ} {p : Entire} {q a u : ℕ} {placed : Placed} {c : CheckR
       by : Promised → Outcome x here r w'
       by (answers b y k ku ki) =
           let fine-so : is-violation (b .status) ≡ false = sym (violates-as (b .status))
-          ∙ sym (ap violatesM (k .status-is)) ∙ sym d ∙ t in
+          ∙ sym (ap is-violationM (k .status-is)) ∙ sym d ∙ t in
           let sized = ch .sized in
           let au = widen x (b .unknown) ku in
           let ai = widen x (b .incomplete) ki in

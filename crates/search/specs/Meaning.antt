@@ -18,7 +18,7 @@ use Rattle.engine_spec.specs.Cells.{Cell, initial-cells}
 use Rattle.engine_spec.specs.Records.{Areas}
 pub use Rattle.engine_spec.specs.Words.{sizes}
 use Rattle.engine_refinement.specs.Events.{Among}
-use Rattle.engine_entry.specs.Contract.{Ground, ground, Grounds}
+use Rattle.engine_entry.specs.Prepared.{Prepared, prepared-of, PreparedFrom}
 use Rattle.checker_spec.specs.Check.{checked}
 use Rattle.checker_spec.specs.Verify as verify
 use Rattle.checker_entry.specs.Pool.{check-pool}
@@ -43,7 +43,7 @@ search-pool m = text "search budget exhausted" ∷ check-pool m
 -- ---- a plan with the arrays that are lent beside it
 
 pub record Entire : Type 0 where
-  pub ground : Ground
+  pub prepared-of : Prepared
   pub starts : List ℕ
   pub invariants : ℕ
   pub alphabet : Alphabet
@@ -53,7 +53,7 @@ pub record Entire : Type 0 where
 
 abbrev pub entire : Plan → (table starts notes : List ℕ) → Entire
 entire p x s w = record {
-  ground = ground x (p .shared .cells) (p .shared .notes) w;
+  prepared = prepared-of x (p .shared .cells) (p .shared .notes) w;
   starts = s;
   invariants = p .shared .invariants;
   alphabet = p .alphabet;
@@ -72,7 +72,7 @@ pub record Setting (f : List ℕ) (p : Entire) (q a u : ℕ) : Type 0 where
   pub invariants-are : p .invariants ≡ index .invariants .count
   pub indexed : Indexed f index m
   pub bytes : (k : ℕ) → getD f k 0 < 256
-  pub grounds : Grounds f index (p .ground)
+  pub prepared-from : PreparedFrom f index (p .prepared)
   pub inputs : p .alphabet .count ≡ length (m .scenario .alphabet)
   pub words : p .alphabet .words ≡ area (input-words (indexed .ts)) 36 (m .scenario .alphabet)
   pub gaps : p .gaps .count ≡ length (m .scenario .gaps)

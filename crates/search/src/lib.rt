@@ -9,7 +9,7 @@ use search_cases::Plan;
 use search_cases::Search;
 use search_inputs::Placed;
 ghost use Rattle.notation.specs.Reference.{was, is};
-ghost use Prim.Native.Nat.{_+_, _*_, _≤_, _<_};
+ghost use Prim.Native.Nat.{_*_, _≤_, _<_};
 ghost use lib.ListN.{length};
 ghost use Rattle.search_cases.specs.Contracts.{Fitted, Shaped};
 ghost use Rattle.search.specs.Meaning.{entire};
@@ -66,11 +66,11 @@ fn try_case(
     );
     let status = c.status;
     let simulation = c.simulation;
-    let number = search_cases::refusal(status);
+    let number = checker_result::refusal_of(status);
     if number != 0 {
         return search_cases::refused_case(o, number);
     }
-    if search_cases::violates(status) {
+    if checker_result::is_violation(status) {
         return search_cases::found_case(o, placed, simulation.steps);
     }
     let count = search_cases::gather(

@@ -6,6 +6,7 @@ use mathlib.Core.List.{List, []}
 use native.Mathlib.Omega.{arith}
 use lib.ListN.{length, replicate}
 use borrow.Author.Tests.{eq-eqb, ne-eqb}
+use Rattle.bounds.specs.Bounds.{AtMost}
 use Rattle.reasons.specs.Readable.{HasText}
 use Rattle.reasons.specs.Lists.{reasons, listed, insertAll, Clean, Holds, Grows}
 use Rattle.reasons.proofs.Listing as listing
@@ -14,7 +15,6 @@ use Rattle.reasons.proofs.Cleaning.{zeros, holds-zeros}
 use Rattle.checker_collect.proofs.Laws.{all-many}
 use Rattle.checker_result.specs.declared.CheckResult.{CheckResult}
 use Rattle.checker_result.specs.Result.{no-check, result-of}
-use Rattle.search_cases.specs.Contracts.{AtMost}
 use Rattle.search_answer.specs.declared.Found.the-variants as found
 use Rattle.search_answer.specs.declared.Searched.{Searched}
 use Rattle.search_answer.specs.Result.{whole-of, unverified, no-verification}

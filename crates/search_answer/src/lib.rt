@@ -11,7 +11,7 @@ ghost use Rattle.notation.specs.Reference.{was, is};
 ghost use mathlib.Core.Path.{_≡_};
 ghost use mathlib.Core.List.{List};
 ghost use Prim.Native.Nat.{ℕ};
-ghost use lib.ListN.{length, replicate};
+ghost use lib.ListN.{length};
 ghost use Rattle.checker_result.specs.Result.{result-of};
 ghost use Rattle.search_answer.specs.Result.{whole-of, no-verification};
 ghost use Rattle.search_answer.specs.Answer.{statusM, with-check, without, Told};
@@ -167,7 +167,7 @@ pub fn told_of(
     let words = x.words;
     let check = x.check;
     *told = [0u32; layout::VERDICT_REASONS];
-    let many = search_cases::few(o.reasons, 400);
+    let many = bounds::min_usize(o.reasons, 400);
     let reasons = reasons::merge(file, told, 0, w, many);
     let status = status_of(o.found, reasons);
     Searched {
@@ -189,15 +189,6 @@ pub fn told_of(
         written: x.written,
         check,
     }
-}
-
-pub fn clear(queue: &mut [u32], records: &mut [u32], runs: &mut [u32])
-    ensures { λ _. ⌜ (is queue ≡ replicate (length (was queue)) 0)
-        × ((is records ≡ replicate (length (was records)) 0) × (is runs ≡ replicate (length (was runs)) 0)) ⌝ }
-{
-    areas::clear_all(queue);
-    areas::clear_all(records);
-    areas::clear_all(runs);
 }
 
 // ---- the answer as one value

@@ -5,6 +5,7 @@ use mathlib.Core.List.{List}
 use native.Mathlib.Omega.{arith}
 use native.Mathlib.Nat.{mul-zero, mul-le-mul, mod-lt, div-lt-iff-lt-mul}
 use lib.ListN.{length, getD}
+use Rattle.bounds.specs.Bounds.{AtMost}
 use Rattle.texts.specs.Texts.{Text, insertT}
 use Rattle.reasons.specs.Kinds as kinds
 use Rattle.reasons.specs.Readable.{Readable}
@@ -20,7 +21,7 @@ use Rattle.search_inputs.specs.declared.Gaps.{Gaps}
 use Rattle.search_inputs.specs.declared.Placed.{Placed}
 use Rattle.search_inputs.specs.Inputs.{lastM, Placing}
 use Rattle.search_cases.specs.declared.Plan.{Plan}
-use Rattle.search_cases.specs.Contracts.{AtMost, limitM, Fitted, Gathers, nextAt, Nexts}
+use Rattle.search_cases.specs.Contracts.{limitM, Fitted, Gathers, nextAt, Nexts}
 
 pub limit-is : (f : List ℕ) (at k : ℕ) {p r : ℕ} → p ≡ cap at → r ≡ four f (p + k) → r ≡ limitM f at k
 unfolding limitM

@@ -1,10 +1,11 @@
 -- What the parts of the search give, as the code does it.
 use Prim.Native.Nat.{ℕ, _+_, _/_, _%_, _≤_}
 use mathlib.Core.Path.{_≡_}
-use mathlib.Core.Bool.{Bool, true, false}
-use mathlib.Core.List.{List, []}
+use mathlib.Core.Bool.{true, false}
+use mathlib.Core.List.{List}
 use lib.Dec.{eqb}
 use lib.ListN.{length, getD}
+use Rattle.bounds.specs.Bounds.{AtMost}
 use Rattle.texts.specs.Texts.{insertT}
 use Rattle.reasons.specs.Kinds as kinds
 use Rattle.reasons.specs.Lists.{listed, insertAll, Clean, Grows}
@@ -12,7 +13,6 @@ use Rattle.reasons.specs.Reasons.{render}
 use Rattle.model_index.specs.declared.Index.{Index}
 use Rattle.engine_fields.specs.Fields.{four, cap, alone}
 use Rattle.engine_state.specs.declared.Cells.{Cells}
-use Rattle.checker_result.specs.declared.Status.{Status}
 use Rattle.checker_result.specs.declared.Status.the-variants as status
 use Rattle.search_inputs.specs.declared.Alphabet.{Alphabet}
 use Rattle.search_inputs.specs.declared.Gaps.{Gaps}
@@ -20,10 +20,6 @@ use Rattle.search_inputs.specs.declared.Placed.{Placed}
 use Rattle.search_inputs.specs.Inputs.{AlphabetOf, GapsOf, lastM, Placing}
 use Rattle.search_cases.specs.declared.Plan.{Plan}
 use Rattle.search_cases.specs.declared.Search.{Search}
-
-pub record AtMost (n m r : ℕ) : Type 0 where
-  pub most : r ≤ m
-  pub same : n ≤ m → r ≡ n
 
 -- ---- what a search goes by
 
@@ -54,20 +50,6 @@ pub record Shaped (p : Plan) (placed : Placed) (remaining room : ℕ) : Type 0 w
   pub events : placed .count + remaining ≤ 5
 
 -- ---- a case
-
-abbrev pub refusalM : Status → ℕ
-refusalM (status.Refused n) = n
-refusalM status.Unknown = 0
-refusalM status.Violation = 0
-refusalM status.Incomplete = 0
-refusalM status.NoViolationInTrace = 0
-
-abbrev pub violatesM : Status → Bool
-violatesM (status.Refused n) = false
-violatesM status.Unknown = false
-violatesM status.Violation = true
-violatesM status.Incomplete = false
-violatesM status.NoViolationInTrace = false
 
 abbrev pub refusedM : Search → (number : ℕ) → Search
 refusedM o n = record {

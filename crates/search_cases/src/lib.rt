@@ -1,6 +1,5 @@
 // What a search goes by, and what each of its cases adds to it.
 use checker_result::Shared;
-use checker_result::Status;
 use engine_state::Cells;
 use layout::IncompleteReasons;
 use layout::SimulationReasons;
@@ -14,21 +13,7 @@ ghost use mathlib.Core.Path.{_≡_};
 ghost use Prim.Native.Nat.{_+_, _*_, _≤_, _<_};
 ghost use lib.ListN.{length};
 ghost use Rattle.engine_fields.specs.Fields.{cap};
-ghost use Rattle.search_cases.specs.Contracts.{
-  AtMost,
-  limitM,
-  Plans,
-  Shaped,
-  refusalM,
-  violatesM,
-  refusedM,
-  Spends,
-  Found,
-  Other,
-  Gathers,
-  Nexts,
-  Begins,
-};
+ghost use Rattle.search_cases.specs.Contracts.{limitM, Plans, Shaped, refusedM, Spends, Found, Other, Gathers, Nexts, Begins};
 
 // What all cases share beside the arrays that are lent: the start, what is chosen from, the horizon and the most cases.
 pub struct Plan {
@@ -54,24 +39,6 @@ pub struct Search {
 
 // ---- numbers with a bound
 
-fn at_most(n: u32, most: u32) -> u32
-    ensures { λ r. ⌜ AtMost n most r ⌝ }
-{
-    if most < n {
-        return most;
-    }
-    n
-}
-
-pub fn few(n: usize, most: usize) -> usize
-    ensures { λ r. ⌜ AtMost n most r ⌝ }
-{
-    if most < n {
-        return most;
-    }
-    n
-}
-
 // ---- what a search goes by
 
 // A limit of the model.
@@ -96,7 +63,7 @@ pub fn planned(file: &[u8], index: Index, cells: Cells, notes: usize) -> Plan
     let alphabet = search_inputs::alphabet_of(file, index);
     let gaps = search_inputs::gaps_of(file, index);
     let horizon = limit(file, index.limits, 0);
-    let cases = at_most(limit(file, index.limits, 12), 2000);
+    let cases = bounds::min_u32(limit(file, index.limits, 12), 2000);
     Plan {
         shared,
         alphabet,
@@ -107,30 +74,6 @@ pub fn planned(file: &[u8], index: Index, cells: Cells, notes: usize) -> Plan
 }
 
 // ---- a case
-
-pub fn refusal(status: Status) -> u32
-    ensures { λ r. ⌜ r ≡ refusalM status ⌝ }
-{
-    match status {
-        Status::Refused(number) => number,
-        Status::Unknown => 0,
-        Status::Violation => 0,
-        Status::Incomplete => 0,
-        Status::NoViolationInTrace => 0,
-    }
-}
-
-pub fn violates(status: Status) -> bool
-    ensures { λ r. ⌜ r ≡ violatesM status ⌝ }
-{
-    match status {
-        Status::Refused(_) => false,
-        Status::Unknown => false,
-        Status::Violation => true,
-        Status::Incomplete => false,
-        Status::NoViolationInTrace => false,
-    }
-}
 
 // A case was refused.
 pub fn refused_case(o: Search, number: u32) -> Search
@@ -155,7 +98,7 @@ pub fn spent(f: &[u8], o: Search, w: &mut [u32]) -> Search
     ensures { λ r. ⌜ Spends (was f) o (was w) r (is w) ⌝ }
 {
     let witness = o.witness;
-    let n = few(o.reasons, 400);
+    let n = bounds::min_usize(o.reasons, 400);
     let why = engine_fields::by_itself(reasons::SEARCH_SPENT);
     let count = reasons::insert_sorted(f, w, n, why);
     Search {
@@ -178,7 +121,7 @@ pub fn found_case(o: Search, placed: Placed, steps: u32) -> Search
     Search {
         refused: o.refused,
         cases: o.cases + 1,
-        steps: o.steps + at_most(steps, 10000),
+        steps: o.steps + bounds::min_u32(steps, 10000),
         reasons: o.reasons,
         found: true,
         shortest: o.reasons == 0,
@@ -200,11 +143,11 @@ pub fn gather(
     requires { ⌜ length (now w) ≡ 4000 ⌝ }
     ensures { λ r. ⌜ Gathers (was f) n unknown (was unknowns) incomplete (was incompletes) (was w) r (is w) ⌝ }
 {
-    let k = few(n, 400);
-    let many = few(unknown, 400);
+    let k = bounds::min_usize(n, 400);
+    let many = bounds::min_usize(unknown, 400);
     let first = reasons::merge(f, w, k, unknowns, many);
-    let j = few(first, 400);
-    let more = few(incomplete, 40);
+    let j = bounds::min_usize(first, 400);
+    let more = bounds::min_usize(incomplete, 40);
     reasons::merge(f, w, j, incompletes, more)
 }
 
@@ -217,7 +160,7 @@ pub fn other_case(o: Search, count: usize, steps: u32) -> Search
     Search {
         refused: o.refused,
         cases: o.cases + 1,
-        steps: o.steps + at_most(steps, 10000),
+        steps: o.steps + bounds::min_u32(steps, 10000),
         reasons: count,
         found: o.found,
         shortest: o.shortest,
@@ -254,7 +197,7 @@ pub fn begun(f: &[u8], notes: &SimulationReasons, n: usize, w: &mut [u32]) -> Se
     requires { ⌜ length (now w) ≡ 4000 ⌝ }
     ensures { λ r. ⌜ Begins (was f) n (was notes) (was w) r (is w) ⌝ }
 {
-    let many = few(n, 300);
+    let many = bounds::min_usize(n, 300);
     let count = reasons::merge(f, w, 0, notes, many);
     Search {
         refused: 0,

@@ -22,10 +22,10 @@ use Rattle.engine_spec.specs.Memory.{Lent, entries, zeros, all-zeros, lent-afte
 use Rattle.engine_spec.specs.Records.{Areas}
 use Rattle.engine_spec.specs.Words.{words-in, entry-words}
 use Rattle.engine_spec.proofs.Memory.{refusals}
-use Rattle.engine_fields.specs.Fields.{atMost}
+use Rattle.bounds.specs.Bounds.{atMost}
 use Rattle.engine_state.specs.declared.Cells.{Cells}
 use Rattle.engine_refinement.proofs.Numbers.{most-is}
-use Rattle.engine_entry.specs.Contract.{ground, Grounds}
+use Rattle.engine_entry.specs.Prepared.{prepared-of, PreparedFrom}
 use Rattle.checker_spec.specs.Verify as verify
 use Rattle.checker_spec.specs.Verify.{searched, verified, short-of-room}
 use Rattle.search_inputs.proofs.Lawful.{accepted-searchable}
@@ -43,7 +43,7 @@ use Rattle.search_entry.proofs.Start.{limits-are, setting, start-of, st
 -- ---- the search
 
 module _ {f : List ℕ} {i : Index} (bytes : (k : ℕ) → getD f k 0 < 256) (p : Plan) {x notes : List ℕ} {c : Cells} {n : ℕ}
-    (gr : Grounds f i (ground x c n notes)) (pl : Plans f i c n p)
+    (gr : PreparedFrom f i (prepared-of x c n notes)) (pl : Plans f i c n p)
     {start : Search} {w₀ : List ℕ} (b : Begins f (p .shared .notes) notes (replicate 4000 0) start w₀)
     {depth : ℕ} (few : depth ≡ atMost (limitM f (i .limits) 8) 5) {q a u : ℕ} {o : Search} {w : List ℕ}
     (d : Deepens f (entire p x (i .invariants .starts) notes) depth start w₀ o w q a u) where

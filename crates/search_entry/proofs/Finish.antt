@@ -50,7 +50,7 @@ status-none (t ∷ l) {n} e = rw (ne-eqb n 0 (λ z. absurd (omega (arith, e, z))
 
 module _ {f : List ℕ} {at : ℕ} {p : Entire} {q a u : ℕ} (x : Setting f p q a u) (here : x .index .limits ≡ at) where
   texts-are : texts-in f ≡ x .indexed .ts
-  texts-are = texts-here f (x .index) (x .m) (x .is-accepted) (x .indexed) (x .bytes) (p .ground) (x .grounds)
+  texts-are = texts-here f (x .index) (x .m) (x .is-accepted) (x .indexed) (x .bytes) (p .prepared) (x .prepared-from)
 
   module _ (s : verify.Search) {o : Search} {w : List ℕ} (h : Held x s o w) {y : WithCheck} {r : Verification}
       (t : Told f at (p .alphabet) (p .gaps) (p .horizon) o w y r) where
@@ -79,7 +79,7 @@ module _ {f : List ℕ} {at : ℕ} {p : Entire} {q a u : ℕ} (x : Setting f p q
               (sym texts-are);
           gaps = t .gaps ∙ x .gaps;
           seconds = t .seconds ∙ x .seconds;
-          reasons = reported (has-text f (p .ground .table) (x .indexed .ts) (x .m) (table x)) reasons-are;
+          reasons = reported (has-text f (p .prepared .table) (x .indexed .ts) (x .m) (table x)) reasons-are;
           shortest = t .shortest ∙ h .shortest;
           witness = k;
         }

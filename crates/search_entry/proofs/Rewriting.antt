@@ -68,26 +68,26 @@ module _ {f : List ℕ} {p : Entire} {placed : Placed} {q a u o : ℕ} (h : Writ
       (omega (arith, five)) (omega (arith, few-events f (x .m) (decoded x) (h .events) (h .few), h .room, l))
 
 pub writes-so : {f : List ℕ} {p : Entire} (placed : Placed) {c : CheckResult} {q q' a a' u u' : List ℕ} →
-    Whole f (p .starts) (p .invariants) (p .ground) (placed .words) (placed .count) c q q' a a' u u' → {s : Span} →
+    Whole f (p .starts) (p .invariants) (p .prepared) (placed .words) (placed .count) c q q' a a' u u' → {s : Span} →
     s ≡ spanM f →
     {n : ℕ} {out out' : List ℕ} → Wrote (file-with f s (placed .words) (placed .count)) n out out' →
     Writes f p placed (record { events = placed .count; words = placed .words; written = n; check = c }) (length q)
     (length a) (length u) (lent q' a' u') out out'
 writes-so {f} {p} placed {c} {q} {q'} {a} {a'} {u} {u'} wh {s} e {n} {out} {out'} wr = record {
   does = λ x vs ps b y. by x vs ps b y
-      (promise f (x .index) (x .m) (x .is-accepted) (x .indexed) (x .bytes) (p .ground) (x .grounds)
+      (promise f (x .index) (x .m) (x .is-accepted) (x .indexed) (x .bytes) (p .prepared) (x .prepared-from)
       (placed .words) none-such vs (events-at x vs ps) (ps .count) (ch x));
 }
   where
     ch : (x : Setting f p (length q) (length a) (length u)) →
-        Checked f (x .index .invariants .starts) (x .index .invariants .count) (p .ground) (placed .words) (placed .count)
+        Checked f (x .index .invariants .starts) (x .index .invariants .count) (p .prepared) (placed .words) (placed .count)
         (wh .result) q q' a a' u u'
     ch x = rw (x .starts-are, x .invariants-are) at (wh .checked)
 
     by : (x : Setting f p (length q) (length a) (length u)) (vs : List Event)
         (ps : PlacedAs (x .indexed .ts) (x .m) vs placed) (b : Check) →
         checked (sizes (length q) (length a) (length u)) (x .m) (cells-of (x .m)) vs ≡ answer b →
-        Promise f (x .index) (x .m) (x .is-accepted) (x .indexed) (x .bytes) (p .ground) (x .grounds)
+        Promise f (x .index) (x .m) (x .is-accepted) (x .indexed) (x .bytes) (p .prepared) (x .prepared-from)
         (placed .words) none-such vs (events-at x vs ps) (ps .count) (ch x) →
         Written f vs b placed (record { events = placed .count; words = placed .words; written = n; check = c })
         (length q) (length a) (length u) (lent q' a' u') out out'
@@ -99,10 +99,10 @@ writes-so {f} {p} placed {c} {q} {q'} {a} {a'} {u} {u'} wh {s} e {n} {out} {out'
           written = told f (x .m) (x .index) (decoded x) (x .indexed) (placed .words) none-such vs
               (words-at x vs placed ps) e (ps .count) wr;
           check = subst (said.Shows f c) same (whole-shows wh d k);
-          queue = queue-clear f (x .index) (x .m) (x .is-accepted) (x .indexed) (x .bytes) (p .ground) (x .grounds)
+          queue = queue-clear f (x .index) (x .m) (x .is-accepted) (x .indexed) (x .bytes) (p .prepared) (x .prepared-from)
               (wh .checked .ran);
           records = subst (λ (i : Check). a' ≡ area (words-in f) (length a) (i .simulation .trace)) same l;
-          runs = runs-clear f (x .index) (x .m) (x .is-accepted) (x .indexed) (x .bytes) (p .ground) (x .grounds)
+          runs = runs-clear f (x .index) (x .m) (x .is-accepted) (x .indexed) (x .bytes) (p .prepared) (x .prepared-from)
               (wh .checked .ran);
         }
     by x vs ps b y (refuses j lo hi z k l) = absurd (no (sym z ∙ y))

@@ -26,7 +26,7 @@ use Rattle.engine_state.specs.declared.Cells.{Cells}
 use Rattle.engine_refinement.specs.Meaning.{rule-pool, pool-of}
 use Rattle.engine_refinement.proofs.Accepted.{accepted-lawful, accepted-small}
 use Rattle.engine_refinement.proofs.Numbers.{four-is, cap-is, most-is}
-use Rattle.engine_entry.specs.Contract.{ground, Grounds}
+use Rattle.engine_entry.specs.Prepared.{prepared-of, PreparedFrom}
 use Rattle.engine_entry.proofs.Refines.{tb, notes-held}
 use Rattle.checker_spec.specs.Verify as verify
 use Rattle.checker_entry.proofs.Pool.{notes-among}
@@ -76,7 +76,7 @@ module _ (f : List ℕ) (i : Index) (m : Model) (acc : accepted f ≡ answer m) 
     pub few : Searchable m
     few = accepted-searchable f m acc
 
-    abbrev pub setting : (bytes : (k : ℕ) → getD f k 0 < 256) (x w : List ℕ) → Grounds f i (ground x c n w) → (q a u : ℕ)
+    abbrev pub setting : (bytes : (k : ℕ) → getD f k 0 < 256) (x w : List ℕ) → PreparedFrom f i (prepared-of x c n w) → (q a u : ℕ)
         → Setting f (entire p x (i .invariants .starts) w) q a u
     setting bytes x w gr q a u = record {
       m = m;
@@ -86,8 +86,8 @@ module _ (f : List ℕ) (i : Index) (m : Model) (acc : accepted f ≡ answer m) 
       invariants-are = h .invariants;
       indexed = o;
       bytes = bytes;
-      grounds = subst (λ (k : Cells). Grounds f i (ground x k (p .shared .notes) w)) (sym (h .cells))
-          (subst (λ (k : ℕ). Grounds f i (ground x c k w)) (sym (h .notes-are)) gr);
+      prepared-from = subst (λ (k : Cells). PreparedFrom f i (prepared-of x k (p .shared .notes) w)) (sym (h .cells))
+          (subst (λ (k : ℕ). PreparedFrom f i (prepared-of x c k w)) (sym (h .notes-are)) gr);
       inputs = h .alphabet .count ∙ most-is (i .alphabet .count) 12
           (omega (arith, o .alphabet .counts, few .few-inputs)) ∙ o .alphabet .counts;
       words = alphabet-is f i m acc o (p .alphabet) (h .alphabet);
@@ -135,20 +135,20 @@ start-of m = record {
 }
 
 module _ {f : List ℕ} {p : Entire} {q a u : ℕ} (x : Setting f p q a u) where
-  few-notes : p .ground .count ≤ 300
+  few-notes : p .prepared .count ≤ 300
   unfolding pool-of
   few-notes =
       omega (
         arith,
-        notes-held f (x .index) (x .m) (x .is-accepted) (x .indexed) (x .bytes) (p .ground)
-            (x .grounds) .many,
-        tb f (x .index) (x .m) (x .is-accepted) (x .indexed) (x .bytes) (p .ground)
-            (x .grounds) .few-reasons,
+        notes-held f (x .index) (x .m) (x .is-accepted) (x .indexed) (x .bytes) (p .prepared)
+            (x .prepared-from) .many,
+        tb f (x .index) (x .m) (x .is-accepted) (x .indexed) (x .bytes) (p .prepared)
+            (x .prepared-from) .few-reasons,
         length-append (unsupported (x .m .rules))
             (unsupported-wait ∷ flat rule-pool (x .m .rules)),
       )
 
-  pub start-held : {o : Search} {w : List ℕ} → Begins f (p .ground .count) (p .ground .reasons) (replicate 4000 0) o w →
+  pub start-held : {o : Search} {w : List ℕ} → Begins f (p .prepared .count) (p .prepared .reasons) (replicate 4000 0) o w →
       Held x (start-of (x .m)) o w
   start-held {o} {w} b = record {
     fine = b .refused;
@@ -157,10 +157,10 @@ module _ {f : List ℕ} {p : Entire} {q a u : ℕ} (x : Setting f p q a u) where
     reasons =
         subst (λ (l : List Text). Holds f l (o .reasons) w)
         (ap (λ (l : List Text). insertAll l [])
-        (notes-held f (x .index) (x .m) (x .is-accepted) (x .indexed) (x .bytes) (p .ground) (x .grounds) .texts)
+        (notes-held f (x .index) (x .m) (x .is-accepted) (x .indexed) (x .bytes) (p .prepared) (x .prepared-from) .texts)
         ∙ one-by-one (unsupported (x .m .rules)))
-        (grown f (insertAll (listed f (p .ground .count) (p .ground .reasons))) (b .reasons few-notes)
-        (notes-held f (x .index) (x .m) (x .is-accepted) (x .indexed) (x .bytes) (p .ground) (x .grounds) .clean)
+        (grown f (insertAll (listed f (p .prepared .count) (p .prepared .reasons))) (b .reasons few-notes)
+        (notes-held f (x .index) (x .m) (x .is-accepted) (x .indexed) (x .bytes) (p .prepared) (x .prepared-from) .clean)
         (holds-zeros f (zeros 4000)));
     within = widen x (unsupported (x .m .rules))
         (notes-among (x .m) (cells-of (x .m))

@@ -104,7 +104,7 @@ fn ended(
         (length (was records)) (length (was runs)) (lent (is queue) (is records) (is runs)) (was output) (is output) ⌝ }
 {
     if o.refused != 0 {
-        search_answer::clear(queue, records, runs);
+        areas::clear_three(queue, records, runs);
         return search_answer::refused(o.refused, told, reasons, violated, unknowns, incompletes);
     }
     if o.found {
@@ -126,7 +126,7 @@ fn ended(
         );
         return search_answer::told_of(file, limits, p, o, w, x, told);
     }
-    search_answer::clear(queue, records, runs);
+    areas::clear_three(queue, records, runs);
     let x = search_answer::no_witness(reasons, violated, unknowns, incompletes);
     search_answer::told_of(file, limits, p, o, w, x, told)
 }
@@ -159,7 +159,7 @@ fn run(
     let p = search_cases::planned(file, index, cells, b.count);
     let shared = p.shared;
     let start = search_cases::begun(file, reasons, shared.notes, &mut w);
-    let depth = engine_fields::at_most(search_cases::limit(file, index.limits, 8), 5);
+    let depth = bounds::at_most(search_cases::limit(file, index.limits, 8), 5);
     let o = search::search_depths(
         file,
         &table,

@@ -148,7 +148,7 @@ module _ (f : List ℕ) (i : Index) (m : Model) (acc : accepted f ≡ answer m) 
 
   pub event-at-here : (l : List ℕ) (d : Event) (vs : List Event) → l ≡ area (event-words ts) 20 vs →
       (j : ℕ) → j < length vs → (x : List ℕ) (tb : Tabled f x ts m) → Fine ts (getD vs j d .input) →
-      check-input (m .scenario .entities) (getD vs j d .input) ≡ accept → EventAt f x ts m tb l j (getD vs j d)
+      check-input (m .scenario .entities) (getD vs j d .input) ≡ accept → EventAt f x ts m l j (getD vs j d)
   event-at-here l d vs e j h x tb w c =
       let y = event-words-here ts l d vs 20 e j h w in
       event-at f x ts m tb l j (getD vs j d) c (y .second) (y .input)

@@ -7,7 +7,8 @@ use lib.ListN.{length, getD}
 use Rattle.texts.specs.Lists.{if_then_else_}
 use Rattle.areas.specs.Areas.{written}
 use Rattle.model_index.specs.declared.Index.{Index}
-use Rattle.engine_fields.specs.Fields.{four, cap, atMost}
+use Rattle.bounds.specs.Bounds.{atMost}
+use Rattle.engine_fields.specs.Fields.{four, cap}
 use Rattle.engine_inputs.specs.Inputs.{input-part}
 use Rattle.search_inputs.specs.declared.Alphabet.{Alphabet}
 use Rattle.search_inputs.specs.declared.Gaps.{Gaps}

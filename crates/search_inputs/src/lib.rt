@@ -44,7 +44,7 @@ pub fn alphabet_of(s: &[u8], index: Index) -> Alphabet
     ensures { λ r. ⌜ AlphabetOf (was s) index r ⌝ }
 {
     let alphabet = index.alphabet;
-    let count = engine_fields::at_most(alphabet.count, 12);
+    let count = bounds::at_most(alphabet.count, 12);
     let mut words = [0u32; 36];
     let mut k: usize = 0;
     while k < 36 {
@@ -74,7 +74,7 @@ pub fn gaps_of(s: &[u8], index: Index) -> Gaps
     ensures { λ r. ⌜ GapsOf (was s) index r ⌝ }
 {
     let gaps = index.gaps;
-    let count = engine_fields::at_most(gaps.count, 4);
+    let count = bounds::at_most(gaps.count, 4);
     let mut seconds = [0u32; 4];
     let mut k: usize = 0;
     while k < 4 {

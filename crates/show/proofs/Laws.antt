@@ -25,7 +25,7 @@ use Rattle.show.specs.Lines.{
   escape,
   quoted,
   dash,
-  quoted-or-dash,
+  number-line,
   source,
   accepted-line,
   refused-line,
@@ -177,15 +177,11 @@ no-text f at h = sym (texts.absent f at h)
 pub no-text-quoted : (f : List ℕ) (at : ℕ) → length f ≤ at → 34 ∷ 34 ∷ [] ≡ quoted (textAt f at)
 no-text-quoted f at h = rw (texts.absent f at h) (sym quoted-none)
 
-pub is-absent : (f : List ℕ) (at : ℕ) → at ≡ 4294967295 → dash ≡ quoted-or-dash f at
-unfolding quoted-or-dash
-is-absent f at e = rw (eq-eqb at 4294967295 e)
-
-pub is-there : (f : List ℕ) (at : ℕ) → (at ≡ 4294967295 → ⊥) → quoted (textAt f at) ≡ quoted-or-dash f at
-unfolding quoted-or-dash
-is-there f at e = rw (ne-eqb at 4294967295 e)
-
 -- ---- sources and lines
+
+pub number-is : (w : Text) (n : ℕ) → w ++ (32 ∷ (decimal n ++ newline)) ≡ number-line w n
+unfolding number-line
+number-is w n = refl
 
 pub source-at : (s : Source) (line column : ℕ) → s ≡ At line column → decimal line ++ (58 ∷ decimal column) ≡ source s
 unfolding source placed

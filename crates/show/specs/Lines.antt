@@ -25,16 +25,16 @@ quoted t = 34 ∷ (flat escape t ++ (34 ∷ []))
 abbrev pub dash : Text
 dash = 45 ∷ []
 
--- the text at a position of the model file, quoted, or `-` for the position of none
-unfoldable pub quoted-or-dash : (file : List ℕ) (at : ℕ) → Text
-quoted-or-dash f at = if eqb at 4294967295 then dash else quoted (textAt f at)
-
 -- LINE:COLUMN, or `-`
 unfoldable pub source : Source → Text
 source (At line column) = placed line column
 source Absent = dash
 
 -- ---- lines
+
+-- a word and a number: `steps 5`
+unfoldable pub number-line : (word : Text) → ℕ → Text
+number-line w n = w ++ (32 ∷ (decimal n ++ newline))
 
 unfoldable pub accepted-line : Text
 accepted-line = text "accepted" ++ newline
@@ -49,5 +49,5 @@ model-line k = text "model " ++ (decimal k ++ newline)
 
 -- opens the file, for proofs by computation
 unfoldable pub all-lines : Unit {0}
-unfolding escape quoted quoted-or-dash source accepted-line refused-line model-line
+unfolding escape quoted source number-line accepted-line refused-line model-line
 all-lines = tt

@@ -10,13 +10,13 @@ ghost use Rattle.texts.specs.Texts.{decimal};
 ghost use Rattle.texts.specs.Places.{textAt};
 ghost use Rattle.reasons.specs.Reasons.{render};
 ghost use Rattle.show.specs.Writing.{Written};
-ghost use Rattle.show.specs.Lines.{escape, quoted, quoted-or-dash, source, accepted-line, refused-line, model-line};
+ghost use Rattle.show.specs.Lines.{escape, quoted, source, number-line, accepted-line, refused-line, model-line};
 
 // The answer of a writer whose text doesn't fit.
 pub const FULL: usize = 18446744073709551615;
 
-// The position of a text that is not there.
-pub const ABSENT: u32 = 4294967295;
+// No line of the programs is longer, however its texts are escaped, but for those of lint.
+pub const LINE: usize = 4096;
 
 // Where a thing stands in the user's file.
 pub enum Source {
@@ -111,16 +111,6 @@ pub fn put_quoted_text(out: &mut [u8], n: usize, f: &[u8], at: usize) -> usize
     put_quoted(out, n, &f[from..end])
 }
 
-// The text at a position, quoted, or `-` for ABSENT.
-pub fn put_quoted_or_dash(out: &mut [u8], n: usize, f: &[u8], at: u32) -> usize
-    ensures { λ m. ⌜ Written (quoted-or-dash (was f) at) (was out) n (is out) m ⌝ }
-{
-    if at == ABSENT {
-        return put_byte(out, n, 45);
-    }
-    put_quoted_text(out, n, f, at as usize)
-}
-
 // A reason as it is rendered.
 pub fn put_reason(out: &mut [u8], n: usize, f: &[u8], r: Reason) -> usize
     ensures { λ m. ⌜ Written (render (was f) r) (was out) n (is out) m ⌝ }
@@ -163,6 +153,16 @@ pub fn put_source(out: &mut [u8], n: usize, s: Source) -> usize
 }
 
 // ---- lines
+
+// A word and a number.
+pub fn put_number_line(out: &mut [u8], n: usize, word: &[u8], number: u64) -> usize
+    ensures { λ m. ⌜ Written (number-line (was word) number) (was out) n (is out) m ⌝ }
+{
+    let a = put(out, n, word);
+    let b = put_byte(out, a, 32);
+    let c = put_number(out, b, number);
+    put_byte(out, c, 10)
+}
 
 pub fn put_accepted(out: &mut [u8], n: usize) -> usize
     ensures { λ m. ⌜ Written accepted-line (was out) n (is out) m ⌝ }

@@ -5,9 +5,9 @@
 fn main() {
     let mut file = [0u8; 32769];
     let n = io::read_full(0, &mut file);
-    let queue = arguments::area_entries(1, print_check::QUEUE);
-    let records = arguments::area_entries(2, print_check::RECORDS);
-    let runs = arguments::area_entries(3, print_check::RUNS);
+    let queue = arguments::area_entries(1, layout::QUEUE);
+    let records = arguments::area_entries(2, layout::RECORDS);
+    let runs = arguments::area_entries(3, layout::RUNS);
     let mut output = [0u8; 32814];
     let mut out = io::large_buffer();
     let p = print_verify::print_verify(&mut out, 0, &file[..n], queue, records, runs, &mut output);

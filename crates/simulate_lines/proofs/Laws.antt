@@ -12,7 +12,6 @@ use Rattle.reasons.specs.Reasons.{render}
 use Rattle.engine_spec.specs.Reasons.{space-spent, steps-spent, runs-left}
 use Rattle.show.specs.Lines.{newline, quoted}
 use Rattle.simulate_lines.specs.Lines.{
-  number-line,
   text-line,
   sim-incomplete-line,
   halted,
@@ -22,10 +21,6 @@ use Rattle.simulate_lines.specs.Lines.{
 }
 
 -- ---- words with a number or a text
-
-pub number-is : (w : Text) (n : ℕ) → w ++ (32 ∷ (decimal n ++ newline)) ≡ number-line w n
-unfolding number-line
-number-is w n = refl
 
 pub text-is : (w t : Text) → w ++ (32 ∷ (quoted t ++ newline)) ≡ text-line w t
 unfolding text-line

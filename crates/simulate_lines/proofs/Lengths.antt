@@ -18,11 +18,10 @@ use Rattle.reasons.specs.Reasons.{words-file, words, placed, body, render}
 use Rattle.reasons.proofs.Digits as digits
 use Rattle.reasons.proofs.Forms.{starts, start-is}
 use Rattle.engine_spec.specs.Reasons.{space-spent, steps-spent, runs-left, all-reasons}
-use Rattle.show.specs.Lines.{newline, quoted}
+use Rattle.show.specs.Lines.{number-line, newline, quoted}
 use Rattle.show.specs.Lines as lines
 use Rattle.show.proofs.Laws as show
 use Rattle.simulate_lines.specs.Lines.{
-  number-line,
   steps-line,
   records-line,
   horizon-line,

@@ -7,12 +7,7 @@ use lib.Dec.{eqb}
 use Rattle.texts.specs.Lists.{if_then_else_, flat}
 use Rattle.texts.specs.Texts.{Text, text, decimal}
 use Rattle.engine_spec.specs.Reasons.{space-spent, steps-spent, runs-left}
-use Rattle.show.specs.Lines.{newline, quoted}
-
--- ---- a word and a number: `steps 12`
-
-unfoldable pub number-line : (word : Text) → ℕ → Text
-number-line w n = w ++ (32 ∷ (decimal n ++ newline))
+use Rattle.show.specs.Lines.{number-line, newline, quoted}
 
 abbrev pub steps-line : ℕ → Text
 steps-line = number-line (text "steps")

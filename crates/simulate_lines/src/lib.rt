@@ -12,7 +12,6 @@ ghost use Rattle.engine_fields.specs.Fields.{name};
 ghost use Rattle.show.specs.Lines.{quoted};
 ghost use Rattle.show.specs.Writing.{Written, Kept};
 ghost use Rattle.simulate_lines.specs.Lines.{
-  number-line,
   text-line,
   steps-line,
   records-line,
@@ -29,37 +28,28 @@ ghost use Rattle.simulate_lines.specs.FileTexts.{text-of};
 
 // ---- a word and a number
 
-fn put_number_line(out: &mut [u8], n: usize, word: &[u8], number: u64) -> usize
-    ensures { λ m. ⌜ Written (number-line (was word) number) (was out) n (is out) m ⌝ }
-{
-    let a = show::put(out, n, word);
-    let b = show::put_byte(out, a, 32);
-    let c = show::put_number(out, b, number);
-    show::put_byte(out, c, 10)
-}
-
 pub fn put_steps(out: &mut [u8], n: usize, steps: u32) -> usize
     ensures { λ m. ⌜ Written (steps-line steps) (was out) n (is out) m ⌝ }
 {
-    put_number_line(out, n, b"steps", steps as u64)
+    show::put_number_line(out, n, b"steps", steps as u64)
 }
 
 pub fn put_records(out: &mut [u8], n: usize, records: usize) -> usize
     ensures { λ m. ⌜ Written (records-line records) (was out) n (is out) m ⌝ }
 {
-    put_number_line(out, n, b"records", records as u64)
+    show::put_number_line(out, n, b"records", records as u64)
 }
 
 pub fn put_horizon(out: &mut [u8], n: usize, horizon: u32) -> usize
     ensures { λ m. ⌜ Written (horizon-line horizon) (was out) n (is out) m ⌝ }
 {
-    put_number_line(out, n, b"horizon", horizon as u64)
+    show::put_number_line(out, n, b"horizon", horizon as u64)
 }
 
 pub fn put_unsupported(out: &mut [u8], n: usize, count: usize) -> usize
     ensures { λ m. ⌜ Written (unsupported-line count) (was out) n (is out) m ⌝ }
 {
-    put_number_line(out, n, b"unsupported", count as u64)
+    show::put_number_line(out, n, b"unsupported", count as u64)
 }
 
 // ---- a word and a reason
@@ -166,33 +156,20 @@ pub fn put_final(out: &mut [u8], n: usize, f: &[u8], x: &Table, e: usize, value:
 // The answer is where the next text goes; whoever printed last flushes. No line is cut if `out` has room for the longest
 // one.
 
-// No line is longer, here or in `record_lines`, however its texts are escaped (proofs/Lengths).
-pub const LINE: usize = 4096;
-
 // Which line a reason gets.
 pub enum Word {
     Reason,
     SimUnknown,
 }
 
-// n, or the most if it is more.
-pub fn at_most(n: usize, most: usize) -> usize
-    ensures { λ r. ⌜ r ≤ most ⌝ }
-{
-    if most < n {
-        return most;
-    }
-    n
-}
-
 fn print_reason(out: &mut [u8], n: usize, word: Word, f: &[u8], a: &[u32], i: usize) -> usize
     requires { ⌜ i * 5 + 5 ≤ length (now a) ⌝ }
     ensures { λ m. ⌜ Kept (was out) n (is out) m ⌝ }
 {
-    let m = show::room(out, n, LINE);
+    let free = show::room(out, n, show::LINE);
     match word {
-        Word::Reason => put_reason(out, m, f, a, i),
-        Word::SimUnknown => put_unknown(out, m, f, a, i),
+        Word::Reason => put_reason(out, free, f, a, i),
+        Word::SimUnknown => put_unknown(out, free, f, a, i),
     }
 }
 
@@ -207,7 +184,7 @@ pub fn print_reasons(
 ) -> usize
     ensures { λ m. ⌜ Kept (was out) n (is out) m ⌝ }
 {
-    let many = at_most(count, a.len() / 5);
+    let many = bounds::min_usize(count, a.len() / 5);
     let mut m = n;
     let mut i: usize = 0;
     while i < many {
@@ -221,7 +198,7 @@ fn print_final(out: &mut [u8], n: usize, f: &[u8], x: &Table, e: usize, value: u
     requires { ⌜ e < 32 ⌝ }
     ensures { λ m. ⌜ Kept (was out) n (is out) m ⌝ }
 {
-    let m = show::room(out, n, LINE);
+    let m = show::room(out, n, show::LINE);
     put_final(out, m, f, x, e, value)
 }
 
@@ -229,7 +206,7 @@ fn print_final(out: &mut [u8], n: usize, f: &[u8], x: &Table, e: usize, value: u
 pub fn print_finals(out: &mut [u8], n: usize, f: &[u8], x: &Table, values: &[u32; 32]) -> usize
     ensures { λ m. ⌜ Kept (was out) n (is out) m ⌝ }
 {
-    let many = engine_fields::at_most(x[layout::ENTITY_COUNT], 32);
+    let many = bounds::at_most(x[layout::ENTITY_COUNT], 32);
     let mut m = n;
     let mut e: usize = 0;
     while e < many {
@@ -242,6 +219,6 @@ pub fn print_finals(out: &mut [u8], n: usize, f: &[u8], x: &Table, values: &[u32
 pub fn print_incomplete(out: &mut [u8], n: usize, why: u32, waiting: bool) -> usize
     ensures { λ m. ⌜ Kept (was out) n (is out) m ⌝ }
 {
-    let m = show::room(out, n, LINE);
+    let m = show::room(out, n, show::LINE);
     put_incomplete(out, m, why, waiting)
 }

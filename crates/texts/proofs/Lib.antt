@@ -1,3 +1,4 @@
+pub mod Bool
 pub mod Laws
 pub mod Ordering
 pub mod FromIndex

@@ -10,7 +10,7 @@ use Rattle.checker_collect.proofs.judge_all.Tie as tie
 use Rattle.checker_collect.proofs.judge_all.Reads as reads
 use Rattle.checker_collect.proofs.judge_all.Lts as lts
 use Rattle.checker_collect.proofs.judge_one.Reads as judge-one-reads
-use Rattle.engine_fields.proofs.at_most.Reads as at-most-reads
+use Rattle.bounds.proofs.at_most.Reads as at-most-reads
 
 abbrev Inv-loop : tie.InvT-loop
 Inv-loop f x starts count cells a n v₀ u₀ w₀ many t₀ k₀ v u w t k =

@@ -9,7 +9,7 @@ verdict-spec =
     tie.close
     (tie.spec
     (λ c κs. search needs)
-    (λ c κs. laws.merge-room _ _ _ _ (c .before .before .few .ensures .most) (search needs) (search needs))
+    (λ c κs. laws.merge-room _ _ _ _ (c .before .before .min-usize .ensures .most) (search needs) (search needs))
     (λ c κs. search needs)
     (λ c κs. search needs)
     (λ c κs. search needs)
@@ -24,7 +24,7 @@ verdict-spec =
           omega (
             arith,
             laws.merged-most _ _ _ _
-                (c .before .before .before .before .before .before .before .before .before .before .before .before .few .ensures
+                (c .before .before .before .before .before .before .before .before .before .before .before .before .min-usize .ensures
                 .most) (c .before .before .before .before .before .before .before .before .before .merge .ensures),
           ),
           omega (arith, c5 .add-waiting .ensures .most, c7 .add-stopped .ensures .most),
@@ -38,5 +38,5 @@ verdict-spec =
     let c9 = c7 .before .before in
     let c11 = c9 .before .before in
     let c14 = c11 .before .before .before in
-    laws.judged-is _ (c14 .few .ensures) (c11 .merge .ensures) (c9 .add-stopped .ensures) (c7 .add-waiting .ensures)
+    laws.judged-is _ (c14 .min-usize .ensures) (c11 .merge .ensures) (c9 .add-stopped .ensures) (c7 .add-waiting .ensures)
     (c6 .fitting .ensures) (c .before .judge-all .ensures) (c .status-of .ensures)))

@@ -7,7 +7,7 @@ use Rattle.checker_retry.proofs.check_case.Tie as tie
 use Rattle.checker_retry.proofs.check_case.Reads as reads
 use Rattle.checker_retry.proofs.check_case.Lts as lts
 use Rattle.checker_retry.proofs.check_part.Reads as check-part-reads
-use Rattle.checker_retry.proofs.is_refused.Reads as is-refused-reads
+use Rattle.checker_result.proofs.is_refused.Reads as is-refused-reads
 use Rattle.checker_entry.proofs.check_events.Reads as check-events-reads
 
 pub check-case-spec : {M : Type 1} → statement M

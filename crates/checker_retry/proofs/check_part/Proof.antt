@@ -4,7 +4,7 @@ use Rattle.checker_retry.proofs.check_part.Statement.{statement}
 use Rattle.checker_retry.proofs.check_part.Tie as tie
 use Rattle.checker_retry.proofs.check_part.Reads as reads
 use Rattle.checker_retry.proofs.check_part.Lts as lts
-use Rattle.checker_retry.proofs.part.Reads as part-reads
+use Rattle.bounds.proofs.min_usize.Reads as min-usize-reads
 use Rattle.checker_entry.proofs.check_events.Reads as check-events-reads
 
 pub check-part-spec : {M : Type 1} → statement M
@@ -15,11 +15,11 @@ check-part-spec =
     (λ c κs. search needs)
     (λ c κs. search needs)
     (λ c. search needs)
-    (λ c. laws.prefix _ _ (c .before .before .before .before .part .ensures .inside))
+    (λ c. laws.prefix _ _ (c .before .before .before .before .min-usize .ensures .inside))
     (λ c. search needs)
-    (λ c. laws.prefix _ _ (c .before .before .before .before .part2 .ensures .inside))
+    (λ c. laws.prefix _ _ (c .before .before .before .before .min-usize2 .ensures .inside))
     (λ c. search needs)
-    (λ c. laws.prefix _ _ (c .before .before .before .before .part3 .ensures .inside))
+    (λ c. laws.prefix _ _ (c .before .before .before .before .min-usize3 .ensures .inside))
     (λ c κs. search needs)
     (λ c. search needs)
     (λ c. search needs)
@@ -29,5 +29,5 @@ check-part-spec =
     let c15 = c6 .before .before .before .before .before .before .before .before .before in
     let c16 = c15 .before in
     let c17 = c16 .before in
-    laws.partly (c6 .check-events .ensures) _ _ _ (laws.shorter _ _ (c17 .part .ensures .inside))
-    (laws.shorter _ _ (c16 .part2 .ensures .inside)) (laws.shorter _ _ (c15 .part3 .ensures .inside))))
+    laws.partly (c6 .check-events .ensures) _ _ _ (laws.shorter _ _ (c17 .min-usize .ensures .inside))
+    (laws.shorter _ _ (c16 .min-usize2 .ensures .inside)) (laws.shorter _ _ (c15 .min-usize3 .ensures .inside))))

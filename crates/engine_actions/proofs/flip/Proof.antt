@@ -16,7 +16,7 @@ use Rattle.engine_actions.proofs.flip.Lts as lts
 use Rattle.engine_actions.proofs.set.Reads as set-reads
 use Rattle.engine_actions.proofs.toggled.Reads as toggled-reads
 use Rattle.engine_fields.proofs.about_rule.Reads as about-rule-reads
-use Rattle.engine_fields.proofs.at_most.Reads as at-most-reads
+use Rattle.bounds.proofs.at_most.Reads as at-most-reads
 use Rattle.engine_fields.proofs.entity_of.Reads as entity-of-reads
 use Rattle.engine_state.proofs.next_step.Reads as next-step-reads
 use Rattle.engine_state.proofs.uncertain.Reads as uncertain-reads

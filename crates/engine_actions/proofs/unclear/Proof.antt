@@ -12,7 +12,7 @@ use Rattle.engine_actions.proofs.unclear.Tie as tie
 use Rattle.engine_actions.proofs.unclear.Reads as reads
 use Rattle.engine_actions.proofs.unclear.Lts as lts
 use Rattle.engine_fields.proofs.about_rule.Reads as about-rule-reads
-use Rattle.engine_fields.proofs.at_most.Reads as at-most-reads
+use Rattle.bounds.proofs.at_most.Reads as at-most-reads
 use Rattle.engine_state.proofs.uncertain.Reads as uncertain-reads
 use Rattle.engine_trigger.proofs.finish.Reads as finish-reads
 

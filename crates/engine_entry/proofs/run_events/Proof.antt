@@ -19,5 +19,5 @@ run-events-spec =
     (λ c.
     let c10 = c .before .before .before .before .before .before .before .before .before .before in
     let c15 = c10 .before .before .before .before .before in
-    laws.ran-so (c15 .few .ensures) (c10 .simulated .ensures) (c10 .simulated .kept .1 .1 .1 .1 .1 .1 .1 .1 .1 .0)
+    laws.ran-so (c15 .min-usize .ensures) (c10 .simulated .ensures) (c10 .simulated .kept .1 .1 .1 .1 .1 .1 .1 .1 .1 .0)
     (c .before .before .at-most .ensures .0) (c .summed .ensures _)))

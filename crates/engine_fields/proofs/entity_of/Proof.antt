@@ -8,7 +8,7 @@ use Rattle.engine_fields.proofs.entity_of.Statement.{statement}
 use Rattle.engine_fields.proofs.entity_of.Tie as tie
 use Rattle.engine_fields.proofs.entity_of.Reads as reads
 use Rattle.engine_fields.proofs.entity_of.Lts as lts
-use Rattle.engine_fields.proofs.at_most.Reads as at-most-reads
+use Rattle.bounds.proofs.at_most.Reads as at-most-reads
 use Rattle.engine_fields.proofs.name_of.Reads as name-of-reads
 
 abbrev Inv-loop : tie.InvT-loop

@@ -8,7 +8,7 @@ use Rattle.engine_table.proofs.table_of.Statement.{statement}
 use Rattle.engine_table.proofs.table_of.Tie as tie
 use Rattle.engine_table.proofs.table_of.Reads as reads
 use Rattle.engine_table.proofs.table_of.Lts as lts
-use Rattle.engine_fields.proofs.at_most.Reads as at-most-reads
+use Rattle.bounds.proofs.at_most.Reads as at-most-reads
 use Rattle.engine_table.proofs.headed.Reads as headed-reads
 use Rattle.engine_table.proofs.part_word.Reads as part-word-reads
 

@@ -14,7 +14,7 @@ use Rattle.engine_trigger.proofs.trigger.Statement.{statement}
 use Rattle.engine_trigger.proofs.trigger.Tie as tie
 use Rattle.engine_trigger.proofs.trigger.Reads as reads
 use Rattle.engine_trigger.proofs.trigger.Lts as lts
-use Rattle.engine_fields.proofs.at_most.Reads as at-most-reads
+use Rattle.bounds.proofs.at_most.Reads as at-most-reads
 use Rattle.engine_trigger.proofs.offer.Reads as offer-reads
 use Rattle.engine_trigger.proofs.wake.Reads as wake-reads
 

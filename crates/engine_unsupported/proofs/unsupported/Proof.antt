@@ -12,7 +12,7 @@ use Rattle.engine_unsupported.proofs.unsupported.Statement.{statement}
 use Rattle.engine_unsupported.proofs.unsupported.Tie as tie
 use Rattle.engine_unsupported.proofs.unsupported.Reads as reads
 use Rattle.engine_unsupported.proofs.unsupported.Lts as lts
-use Rattle.engine_fields.proofs.at_most.Reads as at-most-reads
+use Rattle.bounds.proofs.at_most.Reads as at-most-reads
 use Rattle.engine_unsupported.proofs.rule_notes.Reads as rule-notes-reads
 
 abbrev Inv-loop : tie.InvT-loop

@@ -13,7 +13,7 @@ returns c = λ k.
     let notes = at-notes .rule-notes .ensures in
     laws.rule-is _ _ _ _ (at-row .before .before .source-at .ensures) (at-row .put-row .ensures)
     (laws.none-listed (entry .args .s .now) 1500) (notes .is) (λ t. notes .clean t (laws.none-clean _ 1500))
-    (at-few .few .ensures) (at-with .before .before .before .number-at .ensures) (at-with .before .before .past .ensures)
+    (at-few .min-usize .ensures) (at-with .before .before .before .number-at .ensures) (at-with .before .before .past .ensures)
     (at-with .before .number-at2 .ensures) (at-with .with .ensures) (c .before .before .note-findings .ensures k)
 
 pub rule-notes-spec : {M : Type 1} → statement M

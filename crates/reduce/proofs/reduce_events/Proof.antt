@@ -1,7 +1,7 @@
 use borrow.Author.Needs.{needs}
 use Prim.Native.Nat.{_-_}
 use native.Mathlib.Omega.{arith}
-use Rattle.engine_entry.specs.Contract.{ground}
+use Rattle.engine_entry.specs.Prepared.{prepared-of}
 use Rattle.reduce.proofs.Reduction as reduction
 use Rattle.reduce.proofs.Reduction.{Looped}
 use Rattle.reduce.proofs.reduce_events.Statement.{statement}
@@ -14,7 +14,7 @@ use Rattle.reduce.proofs.goes_on.Reads as goes-on-reads
 abbrev Inv-loop : tie.InvT-loop
 Inv-loop file notes target n queue₀ records₀ runs₀ table starts shared reasons₀ violated₀ unknowns₀ incompletes₀ r₀ more₀
     queue records runs reasons violated unknowns incompletes r more =
-    Looped file starts (shared .invariants) (ground table (shared .cells) (shared .notes) notes) target (r₀ .words)
+    Looped file starts (shared .invariants) (prepared-of table (shared .cells) (shared .notes) notes) target (r₀ .words)
     n r more queue₀ queue records₀ records runs₀ runs
 
 abbrev μ-loop : tie.MeasureT-loop

@@ -69,17 +69,17 @@ first-check-spec =
     let c7 = c .before .before .before .before .before .before .before in
     let c23 = c7 .before .before .before .before .before .before .before .before .before .before .before .before .before
     .before .before .before in
-    omega (arith, c7 .clear .kept .0, c23 .check-of .kept .1 .1 .1 .1 .1 .1 .0))
+    omega (arith, c7 .clear-three .kept .0, c23 .check-of .kept .1 .1 .1 .1 .1 .1 .0))
     (λ c.
     let c7 = c .before .before .before .before .before .before .before in
     let c23 = c7 .before .before .before .before .before .before .before .before .before .before .before .before .before
     .before .before .before in
-    omega (arith, c7 .clear .kept .1 .0, c23 .check-of .kept .1 .1 .1 .1 .1 .1 .1 .0))
+    omega (arith, c7 .clear-three .kept .1 .0, c23 .check-of .kept .1 .1 .1 .1 .1 .1 .1 .0))
     (λ c.
     let c7 = c .before .before .before .before .before .before .before in
     let c23 = c7 .before .before .before .before .before .before .before .before .before .before .before .before .before
     .before .before .before in
-    omega (arith, c7 .clear .kept .1 .1 .0, c23 .check-of .kept .1 .1 .1 .1 .1 .1 .1 .1 .0))
+    omega (arith, c7 .clear-three .kept .1 .1 .0, c23 .check-of .kept .1 .1 .1 .1 .1 .1 .1 .1 .0))
     (λ c.
     let c7 = c .before .before .before .before .before .before .before in
     let c11 = c7 .before .before .before .before in
@@ -89,5 +89,5 @@ first-check-spec =
     let c33 = c23 .before .before .before .before .before .before .before .before .before .before in
     outcome.first-other _ (λ k. omega (arith, c33 .shared-slice-known .given k))
     (whole-done (c23 .check-of .ensures) (c14 .if1 .left)) (c14 .if1 .left) (c12 .is-violation .ensures) (c11 .if2 .left)
-    (c .refused2 .ensures) (c7 .clear .ensures) (c23 .check-of .kept .1 .1 .1 .1 .1 .1 .0)
+    (c .refused2 .ensures) (c7 .clear-three .ensures) (c23 .check-of .kept .1 .1 .1 .1 .1 .1 .0)
     (c23 .check-of .kept .1 .1 .1 .1 .1 .1 .1 .0) (c23 .check-of .kept .1 .1 .1 .1 .1 .1 .1 .1 .0) _))

@@ -20,7 +20,7 @@ reduction-spec =
     let c19 = c11 .before .before .before .before .before .before .before .before in
     let c28 = c19 .before .before .before .before .before .before .before .before .before in
     outcome.reduction-full (c28 .args .queue .now) (c28 .args .records .now) (c28 .args .runs .now)
-    (c19 .reduce-events .ensures) (c11 .if1 .taken) (c .refused .ensures) (c7 .clear .ensures)
+    (c19 .reduce-events .ensures) (c11 .if1 .taken) (c .refused .ensures) (c7 .clear-three .ensures)
     (c19 .reduce-events .kept .1 .1 .1 .1 .1 .1 .1 .0) (c19 .reduce-events .kept .1 .1 .1 .1 .1 .1 .1 .1 .0)
     (c19 .reduce-events .kept .1 .1 .1 .1 .1 .1 .1 .1 .1 .0) _)
     (λ c κs.

@@ -1,5 +1,7 @@
 use borrow.Author.Needs.{needs}
+use mathlib.Core.Path.{_∙_, sym}
 use native.Mathlib.Omega.{arith}
+use Rattle.bounds.proofs.Laws as bounds
 use Rattle.reduce_result.proofs.Laws as laws
 use Rattle.reduce_result.proofs.last_check.Statement.{statement}
 use Rattle.reduce_result.proofs.last_check.Tie as tie
@@ -37,4 +39,4 @@ last-check-spec =
     let c8 = c7 .before in
     let c17 = c8 .before .before .before .before .before .before .before .before .before in
     laws.last-done (c17 .check-of .ensures) (c8 .if1 .left) (c7 .events-in .ensures) (c4 .rewrite .ensures)
-    (c .before .place .ensures)))
+    (λ h. c .before .place-of .ensures ∙ sym (bounds.most-yes _ _ h))))

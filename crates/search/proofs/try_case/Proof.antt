@@ -37,7 +37,7 @@ try-case-spec =
     let c23 = c21 .before .before in
     record {
       does = λ x vs ps s h. cases.refused-held (c10 .check-case .ensures) x vs ps s h (c23 .if1 .left)
-          (c21 .if2 .left) (c .before .before .refusal .ensures) (c .before .if3 .taken) (c .refused-case .ensures);
+          (c21 .if2 .left) (c .before .before .refusal-of .ensures) (c .before .if3 .taken) (c .refused-case .ensures);
     })
     (λ c κs. search needs)
     (λ c κs.
@@ -58,7 +58,7 @@ try-case-spec =
     let c33 = c25 .before .before .before .before .before .before .before .before in
     record {
       does = λ x vs ps s h. cases.found-held (c12 .check-case .ensures) x vs ps s h (c25 .if1 .left) (c23 .if2 .left)
-          (c4 .refusal .ensures) (c3 .if3 .left) (c .before .before .violates .ensures) (c .before .if4 .taken)
+          (c4 .refusal-of .ensures) (c3 .if3 .left) (c .before .before .is-violation .ensures) (c .before .if4 .taken)
           (omega (arith, c33 .pre .events)) (c .found-case .ensures);
     })
     (λ c κs.
@@ -88,6 +88,6 @@ try-case-spec =
     let c31 = c29 .before .before in
     record {
       does = λ x vs ps s h. cases.other-held (c18 .check-case .ensures) x vs ps s h (c31 .if1 .left) (c29 .if2 .left)
-          (c10 .refusal .ensures) (c9 .if3 .left) (c8 .violates .ensures) (c7 .if4 .left) (c3 .gather .ensures)
+          (c10 .refusal-of .ensures) (c9 .if3 .left) (c8 .is-violation .ensures) (c7 .if4 .left) (c3 .gather .ensures)
           (c .other-case .ensures);
     }))

@@ -11,7 +11,7 @@ told-of-spec =
     (λ c κs. search needs)
     (λ c κs.
     let c11 = c .before .before .before .before .before .before .before .before .before .before .before in
-    laws.told-room _ (c11 .args .w .now) _ _ (c .before .few .ensures .most) (c11 .pre) (search needs))
+    laws.told-room _ (c11 .args .w .now) _ _ (c .before .min-usize .ensures .most) (c11 .pre) (search needs))
     (λ c κs. search needs)
     (λ c κs. search needs)
     (λ c κs. search needs)
@@ -40,5 +40,5 @@ told-of-spec =
       written = refl;
       check = refl;
       reasons =
-          laws.told-reasons _ _ (c6 .few .ensures) (c4 .merge .ensures);
+          laws.told-reasons _ _ (c6 .min-usize .ensures) (c4 .merge .ensures);
     }))

@@ -12,8 +12,8 @@ begun-spec =
     (λ c κs. search needs)
     (λ c κs.
     let c5 = c .before .before .before .before .before in
-    laws.merge-room _ _ _ _ 0 (omega (arith, c .before .before .few .ensures .most))
-    (omega (arith, c .before .before .few .ensures .most)) (c5 .pre))
+    laws.merge-room _ _ _ _ 0 (omega (arith, c .before .before .min-usize .ensures .most))
+    (omega (arith, c .before .before .min-usize .ensures .most)) (c5 .pre))
     (λ c. search needs)
     (λ c.
     let c5 = c .before .before .before .before .before in
@@ -25,5 +25,5 @@ begun-spec =
       shortest = refl;
       stopped = refl;
       reasons =
-          laws.begins-reasons _ _ _ (c5 .few .ensures) (c .before .before .merge .ensures);
+          laws.begins-reasons _ _ _ (c5 .min-usize .ensures) (c .before .before .merge .ensures);
     }))

@@ -24,7 +24,7 @@ returns c =
       refused = refl;
       cases = refl;
       steps = λ h. ap (λ (y : ℕ). c4 .args .o .steps + y)
-          (c .before .at-most .ensures .same h);
+          (c .before .min-u32 .ensures .same h);
       reasons = refl;
       found = refl;
       shortest = refl;

@@ -1,7 +1,7 @@
 use Prim.Native.Nat.{ℕ}
 use mathlib.Core.Path.{refl, subst}
-use Rattle.search_cases.specs.Contracts.{AtMost}
 use borrow.Author.Needs.{needs}
+use Rattle.bounds.specs.Bounds.{AtMost}
 use Rattle.search_cases.proofs.planned.Statement.{statement}
 use Rattle.search_cases.proofs.planned.Tie as tie
 
@@ -26,5 +26,5 @@ planned-spec =
           c3 .gaps-of .ensures;
       horizon = c .before .before .limit .ensures;
       cases =
-          subst (λ (y : ℕ). AtMost y 2000 (c .at-most .result)) (c .before .limit2 .ensures) (c .at-most .ensures);
+          subst (λ (y : ℕ). AtMost y 2000 (c .min-u32 .result)) (c .before .limit2 .ensures) (c .min-u32 .ensures);
     }))

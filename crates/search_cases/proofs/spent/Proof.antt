@@ -18,7 +18,7 @@ by-itself-requires c κs = search needs
 insert-sorted-requires : tie.Need-insert-sorted-requires
 insert-sorted-requires c κs =
     let c6 = c .before .before .before .before .before .before in
-    entry.insert-room _ _ _ _ (omega (arith, c .before .before .few .ensures .most, c6 .pre))
+    entry.insert-room _ _ _ _ (omega (arith, c .before .before .min-usize .ensures .most, c6 .pre))
 
 -- src/lib.rt:131:1
 same-length : tie.Need-same-length
@@ -37,7 +37,7 @@ returns c =
       shortest = refl;
       stopped = refl;
       witness = refl;
-      reasons = laws.spent-reasons _ _ (c5 .few .ensures) (c4 .by-itself .ensures)
+      reasons = laws.spent-reasons _ _ (c5 .min-usize .ensures) (c4 .by-itself .ensures)
           (c .before .before .insert-sorted .ensures);
     }
 

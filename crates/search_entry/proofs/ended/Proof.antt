@@ -15,8 +15,8 @@ ended-spec =
     (λ c.
     let c12 = c .before .before .before .before .before .before .before .before .before .before .before .before in
     let c16 = c12 .before .before .before .before in
-    finish.end-refused (c16 .if1 .taken) (c .refused .ensures) (c12 .clear .ensures .0) (c12 .clear .ensures .1 .0)
-    (c12 .clear .ensures .1 .1))
+    finish.end-refused (c16 .if1 .taken) (c .refused .ensures) (c12 .clear-three .ensures .queue) (c12 .clear-three .ensures .records)
+    (c12 .clear-three .ensures .runs))
     (λ c κs.
     let c9 = c .before .before .before .before .before .before .before .before .before in
     let c10 = c9 .before in
@@ -50,4 +50,4 @@ ended-spec =
     let c17 = c13 .before .before .before .before in
     let c18 = c17 .before in
     finish.end-none (c18 .if1 .left) (c17 .if2 .left) (c .before .before .no-witness .ensures) (c .told-of2 .ensures _ _ _ _)
-    (c13 .clear2 .ensures .0) (c13 .clear2 .ensures .1 .0) (c13 .clear2 .ensures .1 .1)))
+    (c13 .clear-three2 .ensures .queue) (c13 .clear-three2 .ensures .records) (c13 .clear-three2 .ensures .runs)))

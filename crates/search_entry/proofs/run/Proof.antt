@@ -4,7 +4,7 @@ use native.Mathlib.Omega.{arith}
 use Prim.Native.Nat.{ℕ}
 use mathlib.Core.Path.{ap, _∙_}
 use lib.ListN.{length-replicate}
-use Rattle.engine_fields.specs.Fields.{atMost}
+use Rattle.bounds.specs.Bounds.{atMost}
 use borrow.Author.Needs.{needs}
 use Rattle.search_entry.proofs.run.Statement.{statement}
 use Rattle.search_entry.proofs.run.Tie as tie

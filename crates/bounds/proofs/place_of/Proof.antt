@@ -1,7 +1,7 @@
 use borrow.Author.Needs.{needs}
-use Rattle.engine_fields.proofs.Laws as reads-laws
-use Rattle.check_lines.proofs.place_of.Statement.{statement}
-use Rattle.check_lines.proofs.place_of.Tie as tie
+use Rattle.bounds.proofs.Laws as reads-laws
+use Rattle.bounds.proofs.place_of.Statement.{statement}
+use Rattle.bounds.proofs.place_of.Tie as tie
 
 pub place-of-spec : {M : Type 1} → statement M
 place-of-spec =
