@@ -62,7 +62,7 @@
 #define FUKHTSEGE_UNSUPPORTED_REASONS 4
 #define FUKHTSEGE_UNSUPPORTED_NUMBERS 1504
 
-/* simulate: 0 steps, 1 records, 2 horizon, 3 unknown, 4 why, 5 waiting (1 or 0), 6 and 7 zeros; then */
+/* simulate: 0 steps, 1 records, 2 horizon, 3 unknown, 4 stop_reason, 5 runs_left (1 or 0), 6 and 7 zeros; then */
 #define FUKHTSEGE_SIMULATE_VALUES 8
 #define FUKHTSEGE_SIMULATE_REASONS 40
 #define FUKHTSEGE_SIMULATE_NUMBERS 1540
@@ -75,8 +75,8 @@
 #define FUKHTSEGE_CHECK_SIMULATION 2460
 #define FUKHTSEGE_CHECK_NUMBERS 4000
 
-/* verify: 0 status, 1 cases, 2 total, 3 depth, 4 horizon, 5 most, 6 steps, 7 alphabet, 8 gaps, 9 reasons, 10 shortest (1 or 0),
- * 11 events, 12 written, 13 to 15 zeros; then. Status: 0 refused, 1 no_counterexample_within_bounds, 2 counterexample,
+/* verify: 0 status, 1 cases, 2 total_steps, 3 depth, 4 horizon, 5 max_cases, 6 max_steps_per_case, 7 alphabet, 8 gaps,
+ * 9 reasons, 10 shortest (1 or 0), 11 events, 12 written, 13 to 15 zeros; then. Status: 0 refused, 1 no_counterexample_within_bounds, 2 counterexample,
  * 3 inconclusive. From FUKHTSEGE_VERIFY_CHECK on stand the numbers of check. */
 #define FUKHTSEGE_VERIFY_INPUTS 16
 #define FUKHTSEGE_VERIFY_SECONDS 52
@@ -85,8 +85,8 @@
 #define FUKHTSEGE_VERIFY_CHECK 2076
 #define FUKHTSEGE_VERIFY_NUMBERS 6076
 
-/* minimize: 0 invariant, 1 originals, 2 attempts, 3 minimal (1 or 0), 4 events, 5 written, 6 and 7 zeros; then. From
- * FUKHTSEGE_MINIMIZE_CHECK on stand the numbers of check. */
+/* minimize: 0 invariant, 1 original_events, 2 attempts, 3 deletion_minimal (1 or 0), 4 events, 5 written, 6 and 7 zeros;
+ * then. From FUKHTSEGE_MINIMIZE_CHECK on stand the numbers of check. */
 #define FUKHTSEGE_MINIMIZE_WORDS 8
 #define FUKHTSEGE_MINIMIZE_CHECK 408
 #define FUKHTSEGE_MINIMIZE_NUMBERS 4408

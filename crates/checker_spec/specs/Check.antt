@@ -5,7 +5,7 @@ use mathlib.Core.List.{List, [], _∷_, _++_}
 use mathlib.Core.Option.{Option, none, some}
 use Rattle.texts.specs.Lists.{if_then_else_, is-empty, flat, all-lists}
 use Rattle.texts.specs.Texts.{Text, text, sortedT, all-texts}
-use Rattle.model_spec.specs.Answer.{Answer, answer, all-answers}
+use Rattle.model_spec.specs.Answer.{Answer, answer, all-answers, _>>=_}
 use Rattle.model_spec.specs.Model.{Source, Event, Invariant, id-of, Model, all-model}
 use Rattle.model_spec.specs.Validate.{accepted, all-checks}
 use Rattle.engine_spec.specs.Cells.{Cell, initial-cells, all-cells}

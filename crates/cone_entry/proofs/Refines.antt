@@ -24,7 +24,7 @@ use Rattle.lint_spec.specs.Words.{ids-set, names-in}
 use Rattle.lint_undeclared.specs.Undeclared.{undeclaredM}
 use Rattle.lint_collect.specs.Collect.{fillM}
 use Rattle.lint_refinement.specs.Context.{namesOf}
-use Rattle.lint_refinement.specs.Numbers.{padded, declared-set, undeclared}
+use Rattle.lint_spec.specs.Numbers.{padded, declared-set, undeclared}
 use Rattle.lint_refinement.proofs.Columns.{names-are, ids-are, bounds, texts-are, ascends, texts-once}
 use Rattle.lint_refinement.proofs.FileFacts.{Stage}
 use Rattle.lint_refinement.proofs.FactsHold.{staged}

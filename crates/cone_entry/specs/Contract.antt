@@ -8,7 +8,7 @@ use Rattle.model_spec.specs.Answer.{Answer, answer, refused}
 use Rattle.model_spec.specs.Rewrite.{place-of}
 use Rattle.engine_spec.specs.Words.{texts-in}
 use Rattle.lint_spec.specs.Words.{ids-set, names-in, ids-in}
-use Rattle.lint_refinement.specs.Numbers.{padded, declared-set, undeclared}
+use Rattle.lint_spec.specs.Numbers.{padded, declared-set, undeclared}
 use Rattle.cone_spec.specs.Cone as definition
 use Rattle.cone_entry.specs.declared.ConeResult.{ConeResult}
 

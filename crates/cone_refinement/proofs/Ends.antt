@@ -21,7 +21,7 @@ use Rattle.lint_access.specs.Names.{nameAt}
 use Rattle.lint_access.proofs.Rising.{rising-sorted, mem-sorted}
 use Rattle.lint_access.proofs.Refines.{Declares, members-below, names-are}
 use Rattle.lint_conditions.specs.declared.Names.{Names}
-use Rattle.lint_refinement.specs.Numbers.{declared-set}
+use Rattle.lint_spec.specs.Numbers.{declared-set}
 use Rattle.lint_refinement.proofs.Lists.{rising-keep, sorted-rising, mem-keep, mem-at, found-at}
 use Rattle.lint_refinement.proofs.Sets.{set-members, places-at}
 use Rattle.lint_refinement.proofs.FileFacts.{Stage, no-rule, each-at}

@@ -27,7 +27,7 @@ use Rattle.lint_conditions.specs.declared.Names.{Names}
 use Rattle.lint_walk.specs.Walks.{walkM}
 use Rattle.lint_undeclared.specs.declared.Undeclared.{Undeclared}
 use Rattle.lint_undeclared.specs.Undeclared.{strangeM, undeclaredM}
-use Rattle.lint_refinement.specs.Numbers.{padded, undeclared}
+use Rattle.lint_spec.specs.Numbers.{padded, undeclared}
 use Rattle.lint_refinement.proofs.Lists.{rising-keep, mem-keep}
 use Rattle.lint_refinement.proofs.Sets.{Once, places-at}
 use Rattle.lint_refinement.proofs.FileFacts.{Stage, rule-of, rule-start, id-number}

@@ -8,7 +8,7 @@ use mathlib.Core.Option.{Option, none, some}
 use lib.ListN.{length}
 use Rattle.texts.specs.Lists.{if_then_else_, any, all, keep, each, flat, all-lists}
 use Rattle.texts.specs.Texts.{Text, memT, sortedT, all-texts}
-use Rattle.model_spec.specs.Answer.{Answer, answer, all-answers}
+use Rattle.model_spec.specs.Answer.{Answer, answer, all-answers, _>>=_}
 use Rattle.model_spec.specs.Model.{Automation, Invariant, never, guard, transition, response, Model}
 use Rattle.model_spec.specs.Validate.{accepted, all-checks}
 use Rattle.lint_spec.specs.Touches.{predicate-reads, reads-of, writes-of, toggles-of, all-touches}

@@ -33,7 +33,7 @@ NotesSay f r (refused n) = r ≡ no-notes n
 -- ---- simulate
 
 -- why the simulation is incomplete: 1, records or items were spent; 2, steps were; runs were left
-unfoldable pub incomplete-of : (why : ℕ) → (waiting : Bool) → List Text
+unfoldable pub incomplete-of : (stopped : ℕ) → (left : Bool) → List Text
 incomplete-of w b =
     (if eqb w 0 then [] else if eqb w 1 then space-spent ∷ [] else steps-spent ∷ [])
     ++ (if b then runs-left ∷ [] else [])

@@ -1,8 +1,4 @@
-// Reads of the model file in place, and of the table of words that the engine goes by.
-// The table: 0 entities, 1 automations, 2 horizon, 3 steps, 4 on, 5 off, 6 unknown, 7 unavailable, 8 events, 9 texts,
-// 10 weekday and 11 second of second 0; from 16 on names, from 48 on expiry, from 80 on automations of 8 words; the rest is
-// zeros.
-// An automation: 0 id, 1 mode, 2 max, and the positions of 3 triggers, 4 conditions, 5 actions, 6 source, 7 notes.
+// Reads of the model file in place, and of the table of words that the engine goes by (crate layout has its words).
 use layout::Table;
 use reasons::Reason;
 use runs::Place;

@@ -1,4 +1,4 @@
-// The work of a simulation besides the runs' actions.
+// Handlers of the queue's items besides a run's actions: an input from outside, a restart, a timeout, a value that expires.
 use engine_fields::entity_of;
 use engine_state::Move;
 use engine_state::Setting;

@@ -14,7 +14,7 @@ ghost use Rattle.engine_state.specs.Steps.{Moves, Does, goes, kept, still, Fits
 ghost use Rattle.engine_schedule.specs.Next.{with-turn, Seen, nextM, Why};
 ghost use Rattle.engine_schedule.specs.Events.{eventM, add-eventM, add-eventsM, add-expiriesM, begunM};
 
-// ---- the loop
+// ---- whether the next item is taken
 
 pub enum Next {
     Stop,

@@ -4,7 +4,7 @@ use mathlib.Core.List.{List}
 use mathlib.Core.Option.{Option, none, some}
 use Rattle.texts.specs.Lists.{_▸_, each, all-lists}
 use Rattle.texts.specs.Texts.{Text}
-use Rattle.model_spec.specs.Answer.{Answer, answer, refused, all-answers}
+use Rattle.model_spec.specs.Answer.{Answer, answer, refused, all-answers, _>>=_}
 use Rattle.model_spec.specs.Model.{Event, Model}
 use Rattle.model_spec.specs.Validate.{accepted, all-checks}
 use Rattle.engine_spec.specs.Cells.{Cell, initial-cells, all-cells}

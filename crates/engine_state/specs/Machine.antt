@@ -18,8 +18,8 @@ more x = if ltb x 4294967295 then x + 1 else x
 unfoldable pub later : ℕ → ℕ → ℕ
 later a b = if leb b (4294967295 - a) then a + b else 4294967295
 
--- `full` is 0 or the number of the first area that overflowed. The sizes are the numbers of entries that the areas have room
--- for. `queue` is in order of insertion, `reasons` are rendered; values are text places, by entity.
+-- `overflow` is 0 or the number of the first area that overflowed. The sizes are the numbers of entries that the areas have
+-- room for. `queue` is in order of insertion, `reasons` are rendered; values are text places, by entity.
 pub record Machine : Type 0 where
   pub now : ℕ
   pub «overflow» : ℕ

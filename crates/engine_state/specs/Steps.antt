@@ -59,7 +59,7 @@ pub data Listing : Type 0 where
   still : Listing
   told : (f b c : List ℕ) → Listing
 
--- the number of entries before and after: the same, or it fits. The queue counts those ahead of `first` too
+-- the number of entries before and after: the same, or it fits. The queue counts those ahead of its start too
 abbrev pub Side : (size : ℕ) → Lent → (m n : ℕ) → Type 0
 Side size kept m n = n ≡ m
 Side size (goes b c) m n = (length c ≡ length b) × (n * size ≤ length c)

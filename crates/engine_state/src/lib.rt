@@ -35,8 +35,8 @@ pub struct Cells {
     pub versions: [u32; 32],
 }
 
-// The queue has `items` entries from the entry `first` of its area on.
-// `full` is 0, or the number of the first area that had no place for an entry: nothing goes in after that.
+// The queue has `items` entries from the entry `queue_start` of its area on.
+// `overflow` is 0, or the number of the first area that had no place for an entry: nothing goes in after that.
 pub struct State {
     pub now: u32,
     pub items: usize,

@@ -6,11 +6,11 @@ ghost use Prim.Native.Nat.{_≤_};
 ghost use Rattle.engine_summary.specs.Summary.{no-simulation, simulation-of};
 ghost use Rattle.engine_summary.specs.Summaries.{Firsts, Summed, Answered};
 
-// ---- simulate
+// ---- the answer
 
 // `refused` is 0 or the refusal's number; then the rest is 0. As many `records` stand in the record area. `values` are the
-// places of the entities' values at the end, `unknown` counts the reasons in `reasons`. `why` is 0, or 1 if records or items
-// were spent, 2 if steps were; `waiting`: runs were left.
+// places of the entities' values at the end, `unknown` counts the reasons in `reasons`. `stop_reason` is 0, or 1 if
+// records or items were spent, 2 if steps were; `runs_left`: runs were left.
 pub struct Simulation {
     pub refused: u32,
     pub steps: u32,

@@ -1,4 +1,4 @@
-// Steps of a simulation: runs that end and wake, and what a change sets off.
+// Triggers: what a change of an entity sets off, runs that it wakes, and what follows the end of a run.
 use engine_evaluate::Truth;
 use engine_fields::rule_word;
 use engine_state::Move;

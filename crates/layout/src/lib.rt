@@ -1,5 +1,5 @@
-// Numbers that several crates go by, each in one place: the table's words, the kinds of records, the sizes of lists.
-// docs/FORMAT.md has those that a caller meets.
+// Numbers that several crates go by, each in one place: the table's words, the sizes of lists and areas. The kinds of
+// records stand in crate records, those of reasons in crate reasons.
 
 // ---- the table that a simulation goes by (crate engine_table)
 

@@ -1,4 +1,4 @@
-// The tests of lint, on places in the file.
+// What lint asks of predicates, triggers, actions, invariants and entities, on places in the file.
 use layout::ActionPositions;
 use layout::Positions;
 use model_parts::Extent;

@@ -50,7 +50,7 @@ use Rattle.lint_undeclared.specs.declared.Undeclared.{Undeclared}
 use Rattle.lint_undeclared.specs.Undeclared.{undeclaredM}
 use Rattle.lint_notes.specs.Notes.{AllNotes}
 use Rattle.lint_refinement.specs.Context.{namesOf}
-use Rattle.lint_refinement.specs.Numbers.{padded, stranger-places, stranger-readers}
+use Rattle.lint_spec.specs.Numbers.{padded, stranger-places, stranger-readers}
 use Rattle.lint_refinement.proofs.Columns.{names-are, ids-are, bounds, texts-are, ascends, texts-once}
 use Rattle.lint_refinement.proofs.Agree.{
   agree-append,
@@ -308,24 +308,24 @@ module _ (s : List ℕ) (i : Index) (bytes : (k : ℕ) → getD s k 0 < 256) (m 
               ∙ fill-padded _ (i .rules .count) (bounds s m acc i o .rules)
               ∙ ap (padded 32) (sym (reads-row st))
               ∙ ap (λ (n : List Text). padded 32
-              (each (λ id. Rattle.lint_refinement.specs.Numbers.declared-set n
-              (Rattle.lint_refinement.specs.Numbers.entities-of (by-id reads-of (m .rules)) id)) (ids st)))
+              (each (λ id. Rattle.lint_spec.specs.Numbers.declared-set n
+              (Rattle.lint_spec.specs.Numbers.entities-of (by-id reads-of (m .rules)) id)) (ids st)))
               (sym (names-are s m acc))
               ∙ ap (λ (n : List Text). padded 32
-              (each (λ id. Rattle.lint_refinement.specs.Numbers.declared-set (names-in s)
-              (Rattle.lint_refinement.specs.Numbers.entities-of (by-id reads-of (m .rules)) id)) n))
+              (each (λ id. Rattle.lint_spec.specs.Numbers.declared-set (names-in s)
+              (Rattle.lint_spec.specs.Numbers.entities-of (by-id reads-of (m .rules)) id)) n))
               (sym (ids-are s m acc));
           writes =
               t .writes
               ∙ fill-padded _ (i .rules .count) (bounds s m acc i o .rules)
               ∙ ap (padded 32) (sym (writes-row st))
               ∙ ap (λ (n : List Text). padded 32
-              (each (λ id. Rattle.lint_refinement.specs.Numbers.declared-set n
-              (Rattle.lint_refinement.specs.Numbers.entities-of (by-id writes-of (m .rules)) id)) (ids st)))
+              (each (λ id. Rattle.lint_spec.specs.Numbers.declared-set n
+              (Rattle.lint_spec.specs.Numbers.entities-of (by-id writes-of (m .rules)) id)) (ids st)))
               (sym (names-are s m acc))
               ∙ ap (λ (n : List Text). padded 32
-              (each (λ id. Rattle.lint_refinement.specs.Numbers.declared-set (names-in s)
-              (Rattle.lint_refinement.specs.Numbers.entities-of (by-id writes-of (m .rules)) id)) n))
+              (each (λ id. Rattle.lint_spec.specs.Numbers.declared-set (names-in s)
+              (Rattle.lint_spec.specs.Numbers.entities-of (by-id writes-of (m .rules)) id)) n))
               (sym (ids-are s m acc));
           undeclared = t .undeclared ∙ ap (λ (u : Undeclared). u .count) undeclared-is;
           names = t .names ∙ ap (λ (u : Undeclared). u .names) undeclared-is;

@@ -9,7 +9,7 @@ use Rattle.engine_spec.specs.Words.{texts-in}
 use Rattle.lint_spec.specs.Lint as definition
 use Rattle.lint_spec.specs.Words.{ids-set, names-in, ids-in}
 use Rattle.lint_spec.specs.Memory.{Lent, Leaves}
-use Rattle.lint_refinement.specs.Numbers.{padded, entities-of, declared-set, stranger-places, stranger-readers}
+use Rattle.lint_spec.specs.Numbers.{padded, entities-of, declared-set, stranger-places, stranger-readers}
 use Rattle.lint_entry.specs.declared.Report.{Report}
 
 unfoldable pub no-lint : (number : ℕ) → Report

@@ -29,7 +29,7 @@ use Rattle.lint_access.specs.Sets.{readsM, writesM}
 use Rattle.lint_access.proofs.Refines.{members-below, reads-inside, writes-inside}
 use Rattle.lint_conditions.specs.declared.Names.{Names}
 use Rattle.lint_collect.specs.Collect.{fillM}
-use Rattle.lint_refinement.specs.Numbers.{
+use Rattle.lint_spec.specs.Numbers.{
   padded,
   entities-of,
   declared-set,

@@ -63,7 +63,7 @@ use Rattle.lint_access.proofs.Rising.{Rising, mem-sorted, rising-sorted, unique
 use Rattle.lint_conditions.specs.declared.Names.{Names}
 use Rattle.lint_undeclared.specs.declared.Undeclared.{Undeclared}
 use Rattle.lint_undeclared.specs.Undeclared.{withM, strangeM, nameM, namesM, ruleM, rulesM, undeclaredM}
-use Rattle.lint_refinement.specs.Numbers.{padded, undeclared}
+use Rattle.lint_spec.specs.Numbers.{padded, undeclared}
 use Rattle.lint_refinement.proofs.Lists.{flat-append, rising-keep, mem-keep, mem-at}
 use Rattle.lint_refinement.proofs.Sets.{Once}
 use Rattle.lint_refinement.proofs.Accepted.{Declared, FineP, FineT, Fine, FineA, Legal}

@@ -57,7 +57,7 @@ use Rattle.lint_access.proofs.Refines.{number-at, number-none}
 use Rattle.lint_access.proofs.Rising.{Rising, mem-cons, mem-none, mem-append, rising-sorted, mem-sorted, unique}
 use Rattle.lint_conditions.specs.declared.Names.{Names}
 use Rattle.lint_undeclared.specs.Undeclared.{awaitM, awaitsM, strangeM}
-use Rattle.lint_refinement.specs.Numbers.{undeclared}
+use Rattle.lint_spec.specs.Numbers.{undeclared}
 use Rattle.lint_refinement.proofs.Lists.{rising-keep, mem-keep, mem-at, not-at, found-at}
 use Rattle.lint_refinement.proofs.Sets.{Once, places-at}
 use Rattle.lint_refinement.proofs.Accepted.{Declared, FineP, FineT, Fine, FineA, Legal}

@@ -4,7 +4,7 @@ use mathlib.Core.List.{List, [], _∷_}
 use mathlib.Core.Option.{Option, none, some}
 use Rattle.texts.specs.Lists.{if_then_else_, each, flat}
 use Rattle.texts.specs.Texts.{Text, ltT}
-use Rattle.model_spec.specs.Answer.{Answer, answer, refused}
+use Rattle.model_spec.specs.Answer.{Answer, answer, refused, _>>=_}
 use Rattle.model_spec.specs.Model.{Automation, Model}
 use Rattle.model_spec.specs.Validate.{accepted}
 use Rattle.lint_spec.specs.Touches.{reads-of, writes-of}

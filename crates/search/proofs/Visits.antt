@@ -23,7 +23,8 @@ use Rattle.checker_spec.specs.Verify.{last-at, unless-stopped}
 use Rattle.search_inputs.specs.declared.Placed.{Placed}
 use Rattle.model_spec.specs.Events.{input-words, event-words}
 use Rattle.model_spec.proofs.Events.{input-size, event-size}
-use Rattle.search_inputs.specs.Inputs.{gap-words, lastM, placing}
+use Rattle.search_inputs.specs.GapWords.{gap-words}
+use Rattle.search_inputs.specs.Inputs.{lastM, placing}
 use Rattle.search_inputs.proofs.Refines.{gap-size}
 use Rattle.search_cases.specs.declared.Search.{Search}
 use Rattle.search_cases.specs.Contracts.{nextAt, Nexts}

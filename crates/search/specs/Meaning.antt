@@ -26,7 +26,7 @@ use Rattle.search_inputs.specs.declared.Alphabet.{Alphabet}
 use Rattle.search_inputs.specs.declared.Gaps.{Gaps}
 use Rattle.search_inputs.specs.declared.Placed.{Placed}
 use Rattle.model_spec.specs.Events.{input-words, event-words}
-use Rattle.search_inputs.specs.Inputs.{gap-words}
+use Rattle.search_inputs.specs.GapWords.{gap-words}
 use Rattle.search_cases.specs.declared.Plan.{Plan}
 use Rattle.search_cases.specs.declared.Search.{Search}
 

@@ -16,7 +16,7 @@ use Rattle.checker_spec.specs.Verify as verify
 use Rattle.checker_result.specs.Result.{no-check}
 use Rattle.checker_entry.specs.Contract as check
 use Rattle.model_spec.specs.Events.{input-words, event-words}
-use Rattle.search_inputs.specs.Inputs.{gap-words}
+use Rattle.search_inputs.specs.GapWords.{gap-words}
 use Rattle.search_answer.specs.declared.Found.{Found}
 use Rattle.search_answer.specs.declared.Found.the-variants as found
 use Rattle.search_answer.specs.declared.Verification.{Verification}

@@ -33,7 +33,8 @@ use Rattle.engine_inputs.specs.Inputs.{input-part}
 use Rattle.engine_inputs.proofs.Refines.{Fine, InputAt, input-at, event-words-here, word-behind}
 use Rattle.search_inputs.specs.declared.Alphabet.{Alphabet}
 use Rattle.search_inputs.specs.declared.Gaps.{Gaps}
-use Rattle.search_inputs.specs.Inputs.{gap-words, input-word, AlphabetOf, gap-word, GapsOf}
+use Rattle.search_inputs.specs.GapWords.{gap-words}
+use Rattle.search_inputs.specs.Inputs.{input-word, AlphabetOf, gap-word, GapsOf}
 use Rattle.search_inputs.proofs.Lawful.{Searchable, accepted-searchable}
 use Rattle.engine_spec.proofs.Lists.{each-split}
 

@@ -14,13 +14,6 @@ use Rattle.search_inputs.specs.declared.Alphabet.{Alphabet}
 use Rattle.search_inputs.specs.declared.Gaps.{Gaps}
 use Rattle.search_inputs.specs.declared.Placed.{Placed}
 
--- ---- by the definition: a gap's one word
-
-unfoldable pub gap-words : ℕ → List ℕ
-gap-words g = g ∷ []
-
--- ---- as the code reads them
-
 unfoldable pub input-word : List ℕ → Index → (k : ℕ) → ℕ
 input-word s i k =
     if ltb (k / 3) (i .alphabet .count) then input-part s (cap (getD (i .alphabet .starts) (k / 3) 0)) (k % 3) else 0

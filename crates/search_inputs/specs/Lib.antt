@@ -1,1 +1,2 @@
+pub mod GapWords
 pub mod Inputs

@@ -1,4 +1,4 @@
--- What the programs print, in document `show-programs.md`'s words: parts of lines, then whole lines with their newlines.
+-- What the programs print: parts of lines, then whole lines with their newlines.
 use Prim.Native.Nat.{ℕ}
 use mathlib.Core.Bool.{_||_}
 use mathlib.Core.List.{List, [], _∷_, _++_}

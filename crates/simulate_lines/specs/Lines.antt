@@ -36,11 +36,11 @@ abbrev pub sim-incomplete-line : Text → Text
 sim-incomplete-line = text-line (text "sim-incomplete")
 
 -- why a simulation is incomplete: by the number of its halt, and if runs were left
-unfoldable pub halted : (why : ℕ) → List Text
+unfoldable pub halted : (stopped : ℕ) → List Text
 halted w = if eqb w 0 then [] else if eqb w 1 then space-spent ∷ [] else steps-spent ∷ []
 
-unfoldable pub incomplete-of : (why : ℕ) → (waiting : Bool) → List Text
-incomplete-of w waiting = halted w ++ (if waiting then runs-left ∷ [] else [])
+unfoldable pub incomplete-of : (stopped : ℕ) → (left : Bool) → List Text
+incomplete-of w left = halted w ++ (if left then runs-left ∷ [] else [])
 
 -- a line for each
 unfoldable pub incomplete-lines : List Text → Text
