@@ -1,6 +1,6 @@
-//! Pairs of models that are alike in invariants, horizon, start and cone: the claim about what lies outside a cone, tried on the
-//! reference. The second model is the first with other things outside: automations taken out, put in or changed, entities put
-//! in or changed, windows put in or taken out, events taken out or put in, other limits of steps, another title.
+//! Pairs of models that are alike in invariants, horizon, start and cone: the claim about what lies outside a cone, tried on
+//! the reference. The second model is the first with other things outside: automations taken out, put in or changed, entities
+//! put in or changed, windows put in or taken out, events taken out or put in, other limits of steps, another title.
 use crate::edit::{action, automation, delay, set_input, source, switch, trigger};
 use crate::generate;
 use crate::models::{Style, model};

@@ -75,7 +75,11 @@ module _ (v : List ℕ) (n id : ℕ) (r : Reading) where
   pushed-none z = record {
     most = omega arith;
     is =
-        λ l e rep. rw (← z) (rep ∙ ap (area brokenM (length v)) (sym (append-nil l)), sym e ∙ ap length (sym (append-nil l)));
+        λ l e rep. rw (← z) (
+          rep ∙ ap (area brokenM (length v)) (sym (append-nil l)),
+          sym e
+              ∙ ap length (sym (append-nil l)),
+        );
   }
 
   pub pushed-one : true ≡ failedM (r .failure) → n * 8 + 8 ≤ length v → {w v' : List ℕ} → w ≡ numbersM id r →

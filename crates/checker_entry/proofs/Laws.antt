@@ -39,7 +39,8 @@ module _ {f x starts w : List ℕ} {h : Shared} {events : List ℕ} {n : ℕ} {s
   }
 
   pub checked-done : s .refused ≡ 0 → {r : Judgement} → Judged f x starts h a' s r told v us ws →
-      Checked f starts (h .invariants) (prepared-of x (h .cells) (h .notes) w) events n (result-of r v us ws told) q q' a a' u u'
+      Checked f starts (h .invariants) (prepared-of x (h .cells) (h .notes) w) events n (result-of r v us ws told)
+      q q' a a' u u'
   checked-done z {r} j =
       let y = j .verdict in
       record {

@@ -9,6 +9,7 @@ use lib.Dec.{eqb}
 use lib.ListN.{length, getD, take, replicate, length-replicate}
 use lib.Seq.{take-all}
 use borrow.Author.Tests.{ne-eqb, eqb-true, eqb-false}
+use Rattle.layout.specs.Sizes.{violation-numbers}
 use Rattle.texts.specs.Lists.{if_then_else_, is-empty, each, flat}
 use Rattle.texts.specs.Texts.{Text, sortedT}
 use Rattle.areas.specs.Areas.{area}
@@ -213,7 +214,8 @@ module _ (f : List ℕ) (i : Index) (m : Model) (acc : accepted f ≡ answer m) 
     unfolding judged
     incompletes-are = rw (take-all (length is) is (omega arith), ← cells-are, ← trace)
 
-    pub verdict-shows : (r : CheckResult) → r .status ≡ statusM (counts r) → r .simulation ≡ s → length (r .violated) ≡ 256 →
+    pub verdict-shows : (r : CheckResult) → r .status ≡ statusM (counts r) → r .simulation ≡ s →
+        length (r .violated) ≡ violation-numbers →
         Keeps f (r .violated) (r .unknowns) (r .incompletes) (counts r) all → said.Shows f r verdict
     unfolding area judged
     verdict-shows r se re long keeps =
@@ -232,10 +234,10 @@ module _ (f : List ℕ) (i : Index) (m : Model) (acc : accepted f ≡ answer m) 
               keeps .violations
               ∙ ap (λ (n : ℕ). areas.words brokenM (all .violations) ++ replicate
               (n - length (areas.words brokenM (all .violations))) 0) long
-              ∙ ap (λ (y : List ℕ). y ++ replicate (256 - length y) 0)
+              ∙ ap (λ (y : List ℕ). y ++ replicate (violation-numbers - length y) 0)
               (e .violations ∙ ap (areas.words (violation-words (o .ts))) violations-are)
               ∙ ap (λ (ts : List Text). areas.words (violation-words ts) (verdict .violations) ++ replicate
-              (256 - length (areas.words (violation-words ts) (verdict .violations))) 0)
+              (violation-numbers - length (areas.words (violation-words ts) (verdict .violations))) 0)
               (sym (texts-here f i m acc o bytes g gr));
           unknown = reported (has-text f x (o .ts) m t) hu;
           incomplete = reported (has-text f x (o .ts) m t) hw;

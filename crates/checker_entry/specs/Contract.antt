@@ -4,6 +4,7 @@ use Prim.Native.Nat.{ℕ}
 use mathlib.Core.Path.{_≡_}
 use mathlib.Core.List.{List, [], _∷_, _++_}
 use lib.ListN.{length}
+use Rattle.layout.specs.Sizes.{violation-numbers}
 use Rattle.texts.specs.Texts.{Text}
 use Rattle.areas.specs.Areas.{area}
 use Rattle.model_spec.specs.Answer.{Answer, answer, refused}
@@ -44,7 +45,7 @@ violation-words ts v =
 pub record Shows (f : List ℕ) (r : CheckResult) (c : check.Check) : Type 0 where
   pub status-is : r .status ≡ status-as (c .status)
   pub violations : r .violations ≡ length (c .violations)
-  pub violated : r .violated ≡ area (violation-words (texts-in f)) 256 (c .violations)
+  pub violated : r .violated ≡ area (violation-words (texts-in f)) violation-numbers (c .violations)
   pub unknown : Reported f (c .unknown) (r .unknown) (r .unknowns)
   pub incomplete : Reported f (c .incomplete) (r .incomplete) (r .incompletes)
   pub simulation : engine.Shows f (r .simulation) (c .simulation)

@@ -2,6 +2,7 @@
 use Prim.Native.Nat.{ℕ, _≤_}
 use mathlib.Core.Path.{_≡_}
 use mathlib.Core.List.{List}
+use Rattle.layout.specs.Sizes.{incomplete-reasons, verdict-reasons}
 use Rattle.model_spec.specs.Answer.{answer}
 use Rattle.model_spec.specs.Model.{Model}
 use Rattle.model_spec.specs.Validate.{accepted}
@@ -17,8 +18,8 @@ use Rattle.checker_result.specs.Verdicts.{Answered, Verdict}
 
 -- how many reasons the answer has at most
 pub record Sized (r : CheckResult) : Type 0 where
-  pub few-unknown : r .unknown ≤ 400
-  pub few-incomplete : r .incomplete ≤ 40
+  pub few-unknown : r .unknown ≤ verdict-reasons
+  pub few-incomplete : r .incomplete ≤ incomplete-reasons
 
 -- a simulation, and the verdict on it unless an area was full
 pub record Checked (f starts : List ℕ) (many : ℕ) (g : Prepared) (events : List ℕ) (n : ℕ) (r : CheckResult)

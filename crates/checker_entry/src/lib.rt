@@ -223,8 +223,8 @@ pub fn check_whole(
         (was records) (is records) (was runs) (is runs) ⌝ }
 {
     let mut violated = [0u64; layout::VIOLATIONS];
-    let mut unknowns = [0u32; layout::VERDICT_REASONS];
-    let mut incompletes = [0u32; layout::INCOMPLETE_REASONS];
+    let mut unknowns = [0u32; layout::VERDICT_REASON_WORDS];
+    let mut incompletes = [0u32; layout::INCOMPLETE_REASON_WORDS];
     let j = check_settled(
         file,
         table,
@@ -248,10 +248,10 @@ pub fn check(file: &[u8], queue: &mut [u32], records: &mut [u32], runs: &mut [u3
     ensures { λ r. ⌜ Checks (was file) r (lent (was queue) (was records) (was runs))
         (lent (is queue) (is records) (is runs)) ⌝ }
 {
-    let mut reasons = [0u32; layout::SIMULATION_REASONS];
+    let mut reasons = [0u32; layout::SIMULATION_REASON_WORDS];
     let mut violated = [0u64; layout::VIOLATIONS];
-    let mut unknowns = [0u32; layout::VERDICT_REASONS];
-    let mut incompletes = [0u32; layout::INCOMPLETE_REASONS];
+    let mut unknowns = [0u32; layout::VERDICT_REASON_WORDS];
+    let mut incompletes = [0u32; layout::INCOMPLETE_REASON_WORDS];
     let j = check_lent(
         file,
         queue,

@@ -6,6 +6,13 @@ use mathlib.Core.List.{List, [], _∷_, map}
 use native.Mathlib.Omega.{arith}
 use lib.ListN.{length, replicate, length-replicate}
 use borrow.Author.Tests.{eq-eqb, ne-eqb}
+use Rattle.layout.specs.Sizes.{
+  incomplete-reason-words,
+  simulation-reason-words,
+  simulation-reasons,
+  verdict-reason-words,
+  violation-numbers,
+}
 use Rattle.bounds.specs.Bounds.{AtMost}
 use Rattle.texts.specs.Texts.{insertT}
 use Rattle.areas.proofs.Laws as areas
@@ -57,11 +64,11 @@ pub refused-is : (n : ℕ) {s : Simulation} → s ≡ no-simulation n →
     record {
       status = status.Refused n;
       violations = 0;
-      violated = replicate 256 0;
+      violated = replicate violation-numbers 0;
       unknown = 0;
-      unknowns = replicate 2000 0;
+      unknowns = replicate verdict-reason-words 0;
       incomplete = 0;
-      incompletes = replicate 200 0;
+      incompletes = replicate incomplete-reason-words 0;
       simulation = s;
     } ≡ no-check n
 unfolding no-check
@@ -125,22 +132,24 @@ module _ (f : List ℕ) (m : ℕ) (b a : List ℕ) where
   unfolding reasons
   merged-few = omega (arith, all-many (listed f m b) [], listing.length-listed f m b)
 
-  pub merge-room : m ≤ 300 → length b ≡ 1500 → length a ≡ 2000 →
+  pub merge-room : m ≤ simulation-reasons → length b ≡ simulation-reason-words → length a ≡ verdict-reason-words →
       (m * 5 ≤ length b) × (length (insertAll (listed f m b) (listed f 0 a)) * 5 ≤ length a)
   merge-room h lb la = (omega (arith, h, lb), omega (arith, h, la, merged-few))
 
-  pub merged-most : m ≤ 300 → {k : ℕ} {R : Type 0} {a' : List ℕ} →
-      Grows f R (insertAll (listed f m b) (listed f 0 a)) 0 a k a' → k ≤ 300
+  pub merged-most : m ≤ simulation-reasons → {k : ℕ} {R : Type 0} {a' : List ℕ} →
+      Grows f R (insertAll (listed f m b) (listed f 0 a)) 0 a k a' → k ≤ simulation-reasons
   merged-most h e = omega (arith, h, e .many, merged-few)
 
 module _ {f x starts : List ℕ} {h : Shared} {a : List ℕ} (s : Summary) {told : List ℕ} where
-  pub judged-is : {many : ℕ} → AtMost (s .unknown) 300 many → {u₁ : List ℕ} {k : ℕ} →
-      Grows f (Clean f many told) (insertAll (listed f many told) (listed f 0 (replicate 2000 0))) 0 (replicate 2000 0)
+  pub judged-is : {many : ℕ} → AtMost (s .unknown) simulation-reasons many → {u₁ : List ℕ} {k : ℕ} →
+      Grows f (Clean f many told) (insertAll (listed f many told) (listed f 0 (replicate verdict-reason-words 0))) 0
+      (replicate verdict-reason-words 0)
       k u₁ →
-      {w₁ w₂ : List ℕ} {j i : ℕ} → Starts f (s .«stop_reason») (replicate 200 0) j w₁ → Ends f (s .«runs_left») j w₁ i w₂ →
+      {w₁ w₂ : List ℕ} {j i : ℕ} → Starts f (s .«stop_reason») (replicate incomplete-reason-words 0) j w₁ →
+      Ends f (s .«runs_left») j w₁ i w₂ →
       {n : ℕ} → Fits (s .records) (length a) n →
       {t : Counts} {v' u₂ w₃ : List ℕ} → GathersAll f x starts (h .invariants) (h .cells) a n
-      (record { violations = 0; unknown = k; incomplete = i }) t (replicate 256 0) v' u₁ u₂ w₂ w₃ →
+      (record { violations = 0; unknown = k; incomplete = i }) t (replicate violation-numbers 0) v' u₁ u₂ w₂ w₃ →
       {y : Status} → y ≡ statusM t →
       Judged f x starts h a s (record {
         status = y;
@@ -155,20 +164,26 @@ module _ {f x starts : List ℕ} {h : Shared} {a : List ℕ} (s : Summary) {told
     simulation = refl;
     verdict = record {
       status-is = e;
-      long = all .long-v ∙ length-replicate {A = ℕ} 256 0;
-      few-unknown = omega (arith, all .most-unknown, merged-most f many told (replicate 2000 0) (few .most) merged);
+      long = all .long-v ∙ length-replicate {A = ℕ} violation-numbers 0;
+      few-unknown = omega (
+        arith,
+        all .most-unknown,
+        merged-most f many told (replicate verdict-reason-words 0) (few .most) merged,
+      );
       few-incomplete = omega (arith, all .most-incomplete, st .most, en .most);
       holds = λ ok clean l long roomy rep. all .does l (long ∙ sym (fi .same roomy)) rep (startM f (simulation-of s told))
           (record {
-            violations = sym (areas.area-none brokenM 256)
-                ∙ ap (λ (q : ℕ). Rattle.areas.specs.Areas.area brokenM q []) (sym (length-replicate {A = ℕ} 256 0));
+            violations = sym (areas.area-none brokenM violation-numbers)
+                ∙ ap (λ (q : ℕ). Rattle.areas.specs.Areas.area brokenM q [])
+                (sym (length-replicate {A = ℕ} violation-numbers 0));
             many = refl;
             unknown = subst (λ (q : ℕ). Holds f (insertAll (listed f q told) []) k u₁) (few .same ok)
                 (grown f (insertAll (listed f many told)) merged
-                (λ h. subst (λ (q : ℕ). Clean f q told) (sym (few .same ok)) (clean h)) (holds-zeros f (zeros 2000)));
+                (λ h. subst (λ (q : ℕ). Clean f q told) (sym (few .same ok)) (clean h))
+                (holds-zeros f (zeros verdict-reason-words)));
             incomplete = grown f (insertAll (map (render f) (leftM (s .«runs_left»)))) (en .grows) (λ h. tt)
                 (grown f (insertAll (map (render f) (stoppedM (s .«stop_reason»)))) (st .grows) (λ h. tt)
-                (holds-zeros f (zeros 200)));
+                (holds-zeros f (zeros incomplete-reason-words)));
           });
     };
   }

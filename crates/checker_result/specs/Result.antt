@@ -2,6 +2,7 @@
 use Prim.Native.Nat.{ℕ}
 use mathlib.Core.List.{List}
 use lib.ListN.{replicate}
+use Rattle.layout.specs.Sizes.{incomplete-reason-words, verdict-reason-words, violation-numbers}
 use Rattle.engine_summary.specs.Summary.{no-simulation, simulation-of}
 use Rattle.checker_result.specs.declared.Status.the-variants as status
 use Rattle.checker_result.specs.declared.CheckResult.{CheckResult}
@@ -11,12 +12,12 @@ unfoldable pub no-check : (number : ℕ) → CheckResult
 no-check n = record {
   status = status.Refused n;
   violations = 0;
-  violated = replicate 256 0;
+  violated = replicate violation-numbers 0;
   unknown = 0;
   unknowns =
-      replicate 2000 0;
+      replicate verdict-reason-words 0;
   incomplete = 0;
-  incompletes = replicate 200 0;
+  incompletes = replicate incomplete-reason-words 0;
   simulation = no-simulation n;
 }
 

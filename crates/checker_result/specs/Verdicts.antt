@@ -5,6 +5,7 @@ use mathlib.Core.Bool.{Bool}
 use mathlib.Core.List.{List, [], _∷_, map}
 use lib.Dec.{eqb}
 use lib.ListN.{length}
+use Rattle.layout.specs.Sizes.{incomplete-reasons, simulation-reasons, verdict-reasons, violation-numbers}
 use Rattle.texts.specs.Lists.{if_then_else_}
 use Rattle.records.specs.Records.{recorded}
 use Rattle.records.specs.declared.Record.{Record}
@@ -69,10 +70,11 @@ counts r = record { violations = r .violations; unknown = r .unknown; incomplete
 -- the verdict on the records in the area a, whatever they are, for so many invariants at their positions
 pub record Verdict (f x starts : List ℕ) (many : ℕ) (c : Cells) (a : List ℕ) (r : CheckResult) : Type 0 where
   pub status-is : r .status ≡ statusM (counts r)
-  pub long : length (r .violated) ≡ 256
-  pub few-unknown : r .unknown ≤ 400
-  pub few-incomplete : r .incomplete ≤ 40
-  pub holds : r .simulation .unknown ≤ 300 → (HasText f → Clean f (r .simulation .unknown) (r .simulation .reasons)) →
+  pub long : length (r .violated) ≡ violation-numbers
+  pub few-unknown : r .unknown ≤ verdict-reasons
+  pub few-incomplete : r .incomplete ≤ incomplete-reasons
+  pub holds : r .simulation .unknown ≤ simulation-reasons →
+      (HasText f → Clean f (r .simulation .unknown) (r .simulation .reasons)) →
       (l : List Record) → length l ≡ r .simulation .records → r .simulation .records * 13 ≤ length a →
       a ≡ recorded (length a) l →
       Keeps f (r .violated) (r .unknowns) (r .incompletes) (counts r)

@@ -48,9 +48,9 @@ pub fn refused(number: u32) -> CheckResult
         violations: 0,
         violated: [0u64; layout::VIOLATIONS],
         unknown: 0,
-        unknowns: [0u32; layout::VERDICT_REASONS],
+        unknowns: [0u32; layout::VERDICT_REASON_WORDS],
         incomplete: 0,
-        incompletes: [0u32; layout::INCOMPLETE_REASONS],
+        incompletes: [0u32; layout::INCOMPLETE_REASON_WORDS],
         simulation,
     }
 }
@@ -147,9 +147,9 @@ pub fn verdict(
 {
     let none = [0u64; layout::VIOLATIONS];
     *violated = none;
-    *unknowns = [0u32; layout::VERDICT_REASONS];
-    *incompletes = [0u32; layout::INCOMPLETE_REASONS];
-    let many = bounds::min_usize(s.unknown, 300);
+    *unknowns = [0u32; layout::VERDICT_REASON_WORDS];
+    *incompletes = [0u32; layout::INCOMPLETE_REASON_WORDS];
+    let many = bounds::min_usize(s.unknown, layout::SIMULATION_REASONS);
     let unknown = reasons::merge(f, unknowns, 0, told, many);
     let stopped = add_stopped(f, incompletes, s.stop_reason);
     let incomplete = add_waiting(f, incompletes, stopped, s.runs_left);
@@ -197,8 +197,8 @@ pub fn refused_judgement(
 {
     let simulation = engine_summary::refused_summary(number, reasons);
     *violated = [0u64; layout::VIOLATIONS];
-    *unknowns = [0u32; layout::VERDICT_REASONS];
-    *incompletes = [0u32; layout::INCOMPLETE_REASONS];
+    *unknowns = [0u32; layout::VERDICT_REASON_WORDS];
+    *incompletes = [0u32; layout::INCOMPLETE_REASON_WORDS];
     Judgement {
         status: Status::Refused(number),
         violations: 0,

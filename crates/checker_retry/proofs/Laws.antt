@@ -43,7 +43,8 @@ part-larger k q l a j u x y z = record { queue = omega arith; records = omega ar
 
 module _ {f : List ℕ} {i : Index} {g : Prepared} {v : List ℕ} {n : ℕ} {r : CheckResult} {q q' a a' u u' : List ℕ}
     (ch : Checked f (i .invariants .starts) (i .invariants .count) g v n r q q' a a' u u')
-    (m : Model) (acc : accepted f ≡ answer m) (o : Indexed f i m) (bytes : (k : ℕ) → getD f k 0 < 256) (gr : PreparedFrom f i g)
+    (m : Model) (acc : accepted f ≡ answer m) (o : Indexed f i m) (bytes : (k : ℕ) → getD f k 0 < 256)
+    (gr : PreparedFrom f i g)
     (d : Event) (vs : List Event)
     (evs : (j : ℕ) → j < length vs → EventAt f (g .table) (o .ts) m v j (getD vs j d))
     (many : n ≡ length vs) where

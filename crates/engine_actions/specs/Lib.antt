@@ -1,1 +1,1 @@
-pub mod Perform
+pub mod Actions

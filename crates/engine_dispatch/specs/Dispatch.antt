@@ -6,7 +6,7 @@ use Rattle.queue.specs.declared.Work.the-variants as work
 use Rattle.engine_state.specs.Machine.{Machine}
 use Rattle.engine_update.specs.Update.{move}
 use Rattle.engine_trigger.specs.Triggers.{triggerM}
-use Rattle.engine_actions.specs.Perform.{resumeM}
+use Rattle.engine_dispatch.specs.Resume.{resumeM}
 use Rattle.engine_handlers.specs.Handlers.{time-outM, go-staleM, drop-allM, externalM}
 
 unfoldable pub processM : (f x : List ℕ) → Work → Machine → Machine

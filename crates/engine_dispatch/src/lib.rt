@@ -24,7 +24,7 @@ ghost use Rattle.notation.specs.Reference.{was, is};
 ghost use mathlib.Core.Path.{_≡_};
 ghost use Prim.Native.Nat.{_<_};
 ghost use Rattle.engine_state.specs.Steps.{Moves, kept, told, Fits, by};
-ghost use Rattle.engine_actions.specs.Perform.{performM, go-onM, goingM, resumeM};
+ghost use Rattle.engine_dispatch.specs.Resume.{performM, go-onM, goingM, resumeM};
 ghost use Rattle.engine_dispatch.specs.Dispatch.{processM};
 
 fn perform(

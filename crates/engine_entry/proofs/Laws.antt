@@ -3,6 +3,7 @@ use Prim.Native.Nat.{ℕ}
 use mathlib.Core.Path.{_≡_, sym, subst}
 use mathlib.Core.List.{List}
 use lib.ListN.{length, getD}
+use Rattle.layout.specs.Sizes.{simulation-reasons}
 use Rattle.bounds.specs.Bounds.{AtMost, atMost}
 use Rattle.engine_run.specs.Run as run
 use Rattle.engine_run.specs.declared.Simulation.{Simulation as Run}
@@ -22,7 +23,7 @@ simulates-as {f} {r} {s} {before} {after} e h = subst (λ (y : Simulation). Simu
 -- ---- a run
 
 pub ran-so : {f : List ℕ} {g : Prepared} {events : List ℕ} {n count : ℕ} {s : Run} {q q' a a' r r' u : List ℕ} →
-    AtMost (g .count) 300 count →
+    AtMost (g .count) simulation-reasons count →
     run.Simulates f (g .table) events n (g .cells) count s q q' a a' r r' (g .reasons) u → length u ≡ length (g .reasons) →
     {k : ℕ} → k ≡ atMost (getD (g .table) 0 0) 32 →
     {ans : Simulation} → ShownAs s k (getD (g .table) 2 0) u ans → Ran f g events n ans q q' a a' r r'

@@ -8,6 +8,7 @@ use native.Mathlib.Omega.{arith}
 use lib.Dec.{eqb}
 use lib.ListN.{length, getD, replicate, length-append, length-replicate}
 use borrow.Author.Tests.{eq-eqb, ne-eqb}
+use Rattle.layout.specs.Sizes.{simulation-reasons}
 use Rattle.bounds.specs.Bounds.{AtMost}
 use Rattle.texts.specs.Lists.{if_then_else_, each, flat}
 use Rattle.texts.specs.Texts.{Text}
@@ -95,7 +96,7 @@ module _ (f : List ℕ) (i : Index) (m : Model) (acc : accepted f ≡ answer m) 
       subst (λ (l : List Text). Holds f l (g .count) (g .reasons)) (unsupported-agrees m rules-at (accepted-notes f m acc))
       (gr .reasons)
 
-  few-notes : g .count ≤ 300
+  few-notes : g .count ≤ simulation-reasons
   unfolding pool-of
   few-notes = omega (
     arith,
@@ -104,7 +105,7 @@ module _ (f : List ℕ) (i : Index) (m : Model) (acc : accepted f ≡ answer m) 
     length-append notes (unsupported-wait ∷ flat rule-pool (m .rules)),
   )
 
-  pub held-as : {count : ℕ} → AtMost (g .count) 300 count → Holds f notes count (g .reasons)
+  pub held-as : {count : ℕ} → AtMost (g .count) simulation-reasons count → Holds f notes count (g .reasons)
   held-as few = subst (λ (j : ℕ). Holds f notes j (g .reasons)) (sym (few .same few-notes)) notes-held
 
   -- after a run the areas of queue and runs are zeros
@@ -162,7 +163,7 @@ module _ (f : List ℕ) (i : Index) (m : Model) (acc : accepted f ≡ answer m) 
       pub final : sim .final-state ≡ each (λ (c : Cell). (c .name, c .value)) (cells-of x ts (s .values) versions)
       pub valued : Valued f x ts m tb (s .values)
       pub unknown : Holds f (sim .unknown) (s .reasons) u'
-      pub few : length (sim .unknown) ≤ 300
+      pub few : length (sim .unknown) ≤ simulation-reasons
       pub among : Among (pool-of m) (sim .unknown)
       pub «stop_reason» : s .«stop_reason» ≤ 2
       pub incomplete : incomplete-of (s .«stop_reason») (s .«runs_left») ≡ sim .incomplete
@@ -228,7 +229,7 @@ module _ (f : List ℕ) (i : Index) (m : Model) (acc : accepted f ≡ answer m) 
               ∙ ap (λ (t : List Text). reasons-of (p .«stop_reason») ++ t) (left-as (length (p .last .runs)));
         }
 
-    pub ran : {n count : ℕ} → n ≡ length vs → AtMost (g .count) 300 count →
+    pub ran : {n count : ℕ} → n ≡ length vs → AtMost (g .count) simulation-reasons count →
         run.Simulates f x l n (g .cells) count s q q' a a' r r' (g .reasons) u' → Outcome
     ran {n} {count} many few does = by halted
       where

@@ -5,6 +5,7 @@ use mathlib.Core.Path.{_≡_, refl, sym, ap, subst, _∙_}
 use mathlib.Core.List.{List}
 use native.Mathlib.Omega.{arith}
 use lib.ListN.{length, getD, replicate}
+use Rattle.layout.specs.Sizes.{simulation-reasons}
 use Rattle.texts.specs.Lists.{each}
 use Rattle.texts.specs.Texts.{Text}
 use Rattle.areas.specs.Areas.{area}
@@ -94,7 +95,7 @@ module _ (f : List ℕ) (i : Index) (m : Model) (acc : accepted f ≡ answer m) 
       pub trace : sim .trace ≡ each (record-of x (o .ts)) records
       pub area-is : a' ≡ area recordWords (length a) records
       pub words : Each (Worded x (o .ts) m) records
-      pub few : length (sim .unknown) ≤ 300
+      pub few : length (sim .unknown) ≤ simulation-reasons
       pub among : Among (pool-of m) (sim .unknown)
 
     pub data Promise : Type 0 where

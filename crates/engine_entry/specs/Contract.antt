@@ -6,6 +6,7 @@ use mathlib.Core.Bool.{Bool}
 use mathlib.Core.List.{List, [], _∷_, _++_}
 use lib.Dec.{eqb}
 use lib.ListN.{length, replicate}
+use Rattle.layout.specs.Sizes.{simulation-reason-words}
 use Rattle.texts.specs.Lists.{if_then_else_, each}
 use Rattle.texts.specs.Texts.{Text}
 use Rattle.model_spec.specs.Answer.{Answer, answer, refused}
@@ -22,7 +23,7 @@ use Rattle.engine_summary.specs.Summary.{no-simulation}
 -- ---- unsupported
 
 unfoldable pub no-notes : (number : ℕ) → Notes
-no-notes n = record { refused = n; count = 0; reasons = replicate 1500 0 }
+no-notes n = record { refused = n; count = 0; reasons = replicate simulation-reason-words 0 }
 
 -- The reasons' renderings are the definition's list, each can be read, and zeros stand behind them. Which of two reasons
 -- with the same rendering stands there is left free.

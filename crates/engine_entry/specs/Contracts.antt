@@ -3,6 +3,7 @@ use Prim.Native.Nat.{ℕ}
 use mathlib.Core.Path.{_≡_}
 use mathlib.Core.List.{List}
 use lib.ListN.{length, getD}
+use Rattle.layout.specs.Sizes.{simulation-reasons}
 use Rattle.bounds.specs.Bounds.{AtMost, atMost}
 use Rattle.model_spec.specs.Answer.{answer}
 use Rattle.model_spec.specs.Model.{Model}
@@ -18,11 +19,12 @@ use Rattle.engine_entry.specs.Prepared.{Prepared}
 use Rattle.engine_summary.specs.Summaries.{ShownAs}
 
 -- a run from the ground g with n events, and its answer
-pub record Ran (f : List ℕ) (g : Prepared) (events : List ℕ) (n : ℕ) (s : Simulation) (q q' a a' r r' : List ℕ) : Type 0 where
+pub record Ran (f : List ℕ) (g : Prepared) (events : List ℕ) (n : ℕ) (s : Simulation)
+    (q q' a a' r r' : List ℕ) : Type 0 where
   pub told : Run
   pub words : List ℕ
   pub count : ℕ
-  pub few : AtMost (g .count) 300 count
+  pub few : AtMost (g .count) simulation-reasons count
   pub does : run.Simulates f (g .table) events n (g .cells) count told q q' a a' r r' (g .reasons) words
   pub long : length words ≡ length (g .reasons)
   pub shown : ShownAs told (atMost (getD (g .table) 0 0) 32) (getD (g .table) 2 0) words s

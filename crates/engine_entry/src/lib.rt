@@ -31,7 +31,7 @@ pub fn prepared(file: &[u8], index: Index, reasons: &mut SimulationReasons) -> B
 {
     let table = engine_table::table_of(file, index);
     let cells = engine_inputs::cells_of(file, index);
-    *reasons = [0u32; layout::SIMULATION_REASONS];
+    *reasons = [0u32; layout::SIMULATION_REASON_WORDS];
     let count = engine_unsupported::unsupported(file, &table, reasons);
     Base {
         table,
@@ -55,7 +55,7 @@ fn refused_notes(number: u32) -> Notes
     Notes {
         refused: number,
         count: 0,
-        reasons: [0u32; layout::SIMULATION_REASONS],
+        reasons: [0u32; layout::SIMULATION_REASON_WORDS],
     }
 }
 
@@ -68,7 +68,7 @@ pub fn unsupported(file: &[u8]) -> Notes
     match status {
         Status::Refused(number) => refused_notes(number),
         Status::Read => {
-            let mut reasons = [0u32; layout::SIMULATION_REASONS];
+            let mut reasons = [0u32; layout::SIMULATION_REASON_WORDS];
             let b = prepared(file, x.index, &mut reasons);
             Notes {
                 refused: 0,
@@ -99,7 +99,7 @@ pub fn run_events(
     ensures { λ s. ⌜ Ran (was file) (prepared-of (was table) cells notes (was reasons)) (was events) n
         (simulation-of s (is reasons)) (was queue) (is queue) (was records) (is records) (was runs) (is runs) ⌝ }
 {
-    let count = bounds::min_usize(notes, 300);
+    let count = bounds::min_usize(notes, layout::SIMULATION_REASONS);
     let s = engine_run::simulated(
         file,
         table,
@@ -173,7 +173,7 @@ pub fn simulate(file: &[u8], queue: &mut [u32], records: &mut [u32], runs: &mut 
     ensures { λ s. ⌜ Simulates (was file) s (lent (was queue) (was records) (was runs))
         (lent (is queue) (is records) (is runs)) ⌝ }
 {
-    let mut reasons = [0u32; layout::SIMULATION_REASONS];
+    let mut reasons = [0u32; layout::SIMULATION_REASON_WORDS];
     let s = simulate_lent(file, queue, records, runs, &mut reasons);
     engine_summary::with_reasons(s, &reasons)
 }

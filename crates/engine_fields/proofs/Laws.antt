@@ -8,7 +8,21 @@ use native.Mathlib.Omega.{arith}
 use Rattle.texts.specs.Places.{startFrom}
 use Rattle.runs.specs.Runs.{placeWord}
 use Rattle.bounds.specs.Bounds.{atMost}
-use Rattle.engine_fields.specs.Fields.{two, four, cap, name, word, entities, entityFrom, entityOf, textPosition, aboutRule, alone, noteReason, listWord}
+use Rattle.engine_fields.specs.Fields.{
+  two,
+  four,
+  cap,
+  name,
+  word,
+  entities,
+  entityFrom,
+  entityOf,
+  textPosition,
+  aboutRule,
+  alone,
+  noteReason,
+  listWord,
+}
 use Rattle.reasons.specs.Kinds as kinds
 use Rattle.reasons.specs.Readable.{text-count}
 

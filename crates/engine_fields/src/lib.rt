@@ -6,7 +6,20 @@ ghost use Rattle.notation.specs.Reference.{was};
 ghost use mathlib.Core.Path.{_≡_};
 ghost use Prim.Native.Nat.{_+_, _*_, _<_};
 ghost use lib.ListN.{getD};
-ghost use Rattle.engine_fields.specs.Fields.{two, four, cap, name, stale, word, entityOf, textPosition, aboutRule, alone, noteReason, listWord};
+ghost use Rattle.engine_fields.specs.Fields.{
+  two,
+  four,
+  cap,
+  name,
+  stale,
+  word,
+  entityOf,
+  textPosition,
+  aboutRule,
+  alone,
+  noteReason,
+  listWord,
+};
 
 // ---- the file
 

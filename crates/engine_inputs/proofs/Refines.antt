@@ -7,6 +7,7 @@ use native.Mathlib.Decide.{decLt}
 use lib.ListN.{length, getD}
 use lib.Seq.{ext-getD, getD-append-add}
 use borrow.Author.Tests.{lt-ltb, ne-eqb}
+use Rattle.layout.specs.Sizes.{event-word-count}
 use Rattle.texts.specs.Lists.{each}
 use Rattle.texts.specs.Texts.{Text}
 use Rattle.areas.specs.Areas.{words, area}
@@ -314,21 +315,23 @@ module _ (f x : List ℕ) (i : Index) (m : Model) (acc : accepted f ≡ answer m
       part-here d k (suc (suc (suc (suc j)))) h g = absurd (omega arith)
 
       -- the model's events, and zeros behind them
-      pub events-are : l ≡ area (event-words ts) 400 events
+      pub events-are : l ≡ area (event-words ts) event-word-count events
       events-are =
-          ext-getD 0 l (area (event-words ts) 400 events)
-          (s .long ∙ sym (areas.area-length (event-words ts) 4 (event-size ts) 400 events (omega (arith, few)))) λ k h.
+          ext-getD 0 l (area (event-words ts) event-word-count events)
+          (s .long ∙ sym (areas.area-length (event-words ts) 4 (event-size ts) event-word-count events
+          (omega (arith, few)))) λ k h.
           elim (decLt (k / 4) (length events)) [
             | yes y ↦
                 let e : k / 4 * 4 + k % 4 ≡ k = omega arith in
                 ap (λ (n : ℕ). getD l n 0) (sym e)
                 ∙ word-at none-such (k / 4) (k % 4) y (omega arith)
                 ∙ part-here none-such (k / 4) (k % 4) y (omega arith)
-                ∙ sym (areas.word-is (event-words ts) 4 (event-size ts) 400 events (k / 4) (k % 4) none-such y (omega arith))
-                ∙ ap (λ (n : ℕ). getD (area (event-words ts) 400 events) n 0) e
+                ∙ sym (areas.word-is (event-words ts) 4 (event-size ts) event-word-count events (k / 4) (k % 4)
+                none-such y (omega arith))
+                ∙ ap (λ (n : ℕ). getD (area (event-words ts) event-word-count events) n 0) e
             | no y ↦
                 s .behind k (omega (arith, y, many))
-                ∙ sym (word-behind (event-words ts) 4 (event-size ts) 400 events k (omega (arith, y)))
+                ∙ sym (word-behind (event-words ts) 4 (event-size ts) event-word-count events k (omega (arith, y)))
           ]
         where
           none-such : Event
@@ -340,7 +343,7 @@ module _ (f x : List ℕ) (i : Index) (m : Model) (acc : accepted f ≡ answer m
 
         -- the event's second and its input, as words
         words-here : EventWords ts l k v
-        words-here = event-words-here ts l d events 400 events-are k h
+        words-here = event-words-here ts l d events event-word-count events-are k h
             (lists.each-getD (λ (v : Event). Fine ts (v .input)) events k d h (events-fine f i m acc o places))
 
         pub event-here : EventAt f x ts m l k v

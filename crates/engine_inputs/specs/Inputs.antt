@@ -4,6 +4,7 @@ use mathlib.Core.Path.{_≡_}
 use mathlib.Core.List.{List}
 use lib.Dec.{ltb, eqb}
 use lib.ListN.{length, getD, replicate}
+use Rattle.layout.specs.Sizes.{event-word-count}
 use Rattle.texts.specs.Lists.{if_then_else_}
 use Rattle.bounds.specs.Bounds.{atMost}
 use Rattle.engine_fields.specs.Fields.{two, four, cap}
@@ -27,7 +28,7 @@ unfoldable pub event-from : List ℕ → (starts : List ℕ) → (k : ℕ) → �
 event-from s l k = event-part s (cap (getD l (k / 4) 0)) (k % 4)
 
 pub record EventsOf (s : List ℕ) (i : Index) (l : List ℕ) : Type 0 where
-  pub long : length l ≡ 400
+  pub long : length l ≡ event-word-count
   pub words : (k : ℕ) → k < atMost (i .events .count) 100 * 4 → getD l k 0 ≡ event-from s (i .events .starts) k
   pub behind : (k : ℕ) → atMost (i .events .count) 100 * 4 ≤ k → getD l k 0 ≡ 0
 

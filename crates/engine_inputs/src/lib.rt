@@ -3,6 +3,7 @@ use engine_state::Cells;
 use layout::EventWords;
 use layout::Positions;
 use model_index::Index;
+ghost use Rattle.layout.specs.Sizes.{event-word-count};
 ghost use Rattle.notation.specs.Reference.{was};
 ghost use mathlib.Core.Path.{_≡_};
 ghost use Prim.Native.Nat.{_≤_, _<_};
@@ -52,7 +53,7 @@ fn event_part(s: &[u8], p: usize, j: usize) -> u32
 
 // The k-th word of the events that stand at these positions.
 fn event_word(s: &[u8], starts: &Positions, k: usize) -> u32
-    requires { ⌜ k < 400 ⌝ }
+    requires { ⌜ k < event-word-count ⌝ }
     ensures { λ r. ⌜ r ≡ event-from (was s) (was starts) k ⌝ }
 {
     let p = engine_fields::capped(starts[k / 4]) as usize;

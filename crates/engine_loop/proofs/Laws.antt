@@ -6,6 +6,7 @@ use mathlib.Core.Option.{Option, none, some}
 use lib.ListN.{length, getD}
 use borrow.Author.Tests.{eq-eqb, ne-eqb}
 use native.Mathlib.Omega.{arith}
+use Rattle.layout.specs.Sizes.{simulation-reason-words}
 use Rattle.queue.specs.Order.{pop, inOrder, leftOf}
 use Rattle.queue.specs.Queue.{secondOf, takenOf, laid, Took}
 use Rattle.queue.proofs.Order.{order-pop, order-length, told}
@@ -126,12 +127,13 @@ pub record Looped (f x : List ℕ) (st s : State) (q q' a a' r r' u u' v v' n n'
       loopM f x (getD x 3 0) (machine (entire st v n c) k) ≡ loopM f x left (go k)
   pub least : left ≤ getD x 3 0
   pub why-is : Why x left q' s why
-  pub room : 1500 ≤ length u'
+  pub room : simulation-reason-words ≤ length u'
 
 pub loop-start : (f x : List ℕ) {st : State} {q a r u v n c : List ℕ} (why : ℕ) →
     Steps (λ k. machine (entire st v n c) k) (entire st v n c) (entire st v n c) (goes q q) (goes a a) (goes r r)
     (steps.told f u u) →
-    Why x (getD x 3 0) q st why → 1500 ≤ length u → Looped f x st st q q a a r r u u v v n n c c (getD x 3 0) why
+    Why x (getD x 3 0) q st why → simulation-reason-words ≤ length u →
+    Looped f x st st q q a a r r u u v v n n c c (getD x 3 0) why
 loop-start f x {st} {v = v} {n = n} {c = c} why d w h =
     record {
       go = λ k. machine (entire st v n c) k;
@@ -152,7 +154,7 @@ module _ {f x : List ℕ} {st s : State} {q q' a a' r r' u u' v v' n n' c c' : L
   pub loop-step : {s' : State} {q'' a'' r'' u'' v'' n'' c'' : List ℕ} {why' : ℕ} → why ≡ 4 →
       Turns (turnM f x) (entire s v' n' c') (entire s' v'' n'' c'') (goes q' q'') (goes a' a'') (goes r' r'')
       (steps.told f u' u'') →
-      Why x (left - 1) q'' s' why' → 1500 ≤ length u'' →
+      Why x (left - 1) q'' s' why' → simulation-reason-words ≤ length u'' →
       Looped f x st s' q q'' a a'' r r'' u u'' v v'' n n'' c c'' (left - 1) why'
   loop-step e d w h = record {
     go = λ k. turnM f x (l .go k);

@@ -8,6 +8,7 @@ use native.Mathlib.Omega.{arith}
 use lib.ListN.{length}
 use lib.Dec.{eqb}
 use borrow.Author.Tests.{lt-ltb, le-ltb, le-leb, lt-leb, eq-eqb, ne-eqb}
+use Rattle.layout.specs.Sizes.{last-simulation-reason, simulation-reason-words}
 use Rattle.texts.specs.Lists.{if_then_else_}
 use Rattle.texts.specs.Texts.{Text, insertT}
 use Rattle.model_spec.specs.File.{Reader, u8, u16}
@@ -132,23 +133,24 @@ note-readable {f} {r} i m e h = by (eqb i 65535) e
     by true g = reads.note-readable m g h
     by false g = rw g id-readable
 
-pub put-fits : (f a : List ℕ) (n : ℕ) (r : Reason) → n ≤ 299 → 1500 ≤ length a →
+pub put-fits : (f a : List ℕ) (n : ℕ) (r : Reason) → n ≤ last-simulation-reason → simulation-reason-words ≤ length a →
     length (insertT (render f r) (listed f n a)) * 5 ≤ length a
 put-fits f a n r h l = omega (arith, one-more (render f r) (listed f n a), length-listed f n a)
 
 module _ (f a : List ℕ) (n : ℕ) (r : Reason) where
-  full-is : 299 < n → listed f n a ≡ insertM (render f r) (listed f n a)
+  full-is : last-simulation-reason < n → listed f n a ≡ insertM (render f r) (listed f n a)
   unfolding insertM
-  full-is h = rw (lt-ltb 299 (length (listed f n a)) (omega (arith, length-listed f n a)))
+  full-is h = rw (lt-ltb last-simulation-reason (length (listed f n a)) (omega (arith, length-listed f n a)))
 
-  in-is : n ≤ 299 → insertT (render f r) (listed f n a) ≡ insertM (render f r) (listed f n a)
+  in-is : n ≤ last-simulation-reason → insertT (render f r) (listed f n a) ≡ insertM (render f r) (listed f n a)
   unfolding insertM
-  in-is h = rw (le-ltb 299 (length (listed f n a)) (omega (arith, length-listed f n a)))
+  in-is h = rw (le-ltb last-simulation-reason (length (listed f n a)) (omega (arith, length-listed f n a)))
 
-  pub put-full : 299 < n → Makes (insertM (render f r)) f n a n a
+  pub put-full : last-simulation-reason < n → Makes (insertM (render f r)) f n a n a
   put-full h = record { is = full-is h; clean = λ t k. k }
 
-  pub put-in : {k : ℕ} {b : List ℕ} → n ≤ 299 → Grows f (Readable f r) (insertT (render f r) (listed f n a)) n a k b →
+  pub put-in : {k : ℕ} {b : List ℕ} → n ≤ last-simulation-reason →
+      Grows f (Readable f r) (insertT (render f r) (listed f n a)) n a k b →
       (HasText f → Readable f r) → Makes (insertM (render f r)) f n a k b
   put-in h e y = record { is = e .texts ∙ in-is h; clean = λ t k. e .clean (y t) k }
 

@@ -6,6 +6,7 @@ use mathlib.Core.Path.{_≡_}
 use mathlib.Core.List.{List}
 use lib.Dec.{ltb, leb, eqb}
 use lib.ListN.{length}
+use Rattle.layout.specs.Sizes.{last-simulation-reason}
 use Rattle.texts.specs.Lists.{if_then_else_}
 use Rattle.texts.specs.Texts.{Text, insertT}
 use Rattle.model_spec.specs.File.{got, broken, Reader, u8, u16}
@@ -83,7 +84,7 @@ noteOf f i m = if eqb i 65535 then noteReason f m else idNote f i m
 
 -- a text among the others, which ascend, while there are fewer than 300
 unfoldable pub insertM : Text → List Text → List Text
-insertM t l = if ltb 299 (length l) then l else insertT t l
+insertM t l = if ltb last-simulation-reason (length l) then l else insertT t l
 
 -- a note, or 65,535 for none
 unfoldable pub add-noteM : List ℕ → (id note : ℕ) → List Text → List Text

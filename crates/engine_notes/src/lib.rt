@@ -2,6 +2,7 @@
 // before, so that what is looked for is there; a part that is not there is passed over. The area has place for 300.
 use model_walk::Num;
 use reasons::Reason;
+ghost use Rattle.layout.specs.Sizes.{simulation-reason-words};
 ghost use Rattle.notation.specs.Reference.{was, is};
 ghost use mathlib.Core.Path.{_≡_};
 ghost use Prim.Native.Nat.{_≤_};
@@ -62,17 +63,17 @@ fn note_of(f: &[u8], id: u32, note: u32) -> Reason
 
 // A reason among the first n, while there is place.
 pub fn put(f: &[u8], u: &mut [u32], n: usize, r: Reason) -> usize
-    requires { ⌜ (1500 ≤ length (now u)) × (HasText (now f) → Readable (now f) r) ⌝ }
+    requires { ⌜ (simulation-reason-words ≤ length (now u)) × (HasText (now f) → Readable (now f) r) ⌝ }
     ensures { λ k. ⌜ Makes (insertM (render (was f) r)) (was f) n (was u) k (is u) ⌝ }
 {
-    if 299 < n {
+    if layout::LAST_SIMULATION_REASON < n {
         return n;
     }
     reasons::insert_sorted(f, u, n, r)
 }
 
 fn add_note(f: &[u8], u: &mut [u32], id: u32, note: u32, n: usize) -> usize
-    requires { ⌜ 1500 ≤ length (now u) ⌝ }
+    requires { ⌜ simulation-reason-words ≤ length (now u) ⌝ }
     ensures { λ k. ⌜ Makes (add-noteM (was f) id note) (was f) n (was u) k (is u) ⌝ }
 {
     if note == layout::NO_PLACE {
@@ -98,7 +99,7 @@ pub fn skip(f: &[u8], size: usize, at: usize) -> usize
 }
 
 fn note_at(f: &[u8], u: &mut [u32], id: u32, at: usize, n: usize) -> Noted
-    requires { ⌜ 1500 ≤ length (now u) ⌝ }
+    requires { ⌜ simulation-reason-words ≤ length (now u) ⌝ }
     ensures { λ r. ⌜ Lists (noteM id) (was f) at n (was u) r (is u) ⌝ }
 {
     let x = model_walk::u16_at(f, at);
@@ -110,7 +111,7 @@ fn note_at(f: &[u8], u: &mut [u32], id: u32, at: usize, n: usize) -> Noted
 }
 
 pub fn trigger_note(f: &[u8], u: &mut [u32], id: u32, at: usize, n: usize) -> Noted
-    requires { ⌜ 1500 ≤ length (now u) ⌝ }
+    requires { ⌜ simulation-reason-words ≤ length (now u) ⌝ }
     ensures { λ r. ⌜ Lists (triggerM id) (was f) at n (was u) r (is u) ⌝ }
 {
     let p = skip(f, 14, at);
@@ -118,7 +119,7 @@ pub fn trigger_note(f: &[u8], u: &mut [u32], id: u32, at: usize, n: usize) -> No
 }
 
 pub fn predicate_note(f: &[u8], u: &mut [u32], id: u32, at: usize, n: usize) -> Noted
-    requires { ⌜ 1500 ≤ length (now u) ⌝ }
+    requires { ⌜ simulation-reason-words ≤ length (now u) ⌝ }
     ensures { λ r. ⌜ Lists (predicateM id) (was f) at n (was u) r (is u) ⌝ }
 {
     let x = model_walk::u8_at(f, at);
@@ -135,7 +136,7 @@ pub fn predicate_note(f: &[u8], u: &mut [u32], id: u32, at: usize, n: usize) -> 
 // ---- lists of them
 
 fn part_note(f: &[u8], u: &mut [u32], part: Part, id: u32, at: usize, n: usize) -> Noted
-    requires { ⌜ 1500 ≤ length (now u) ⌝ }
+    requires { ⌜ simulation-reason-words ≤ length (now u) ⌝ }
     ensures { λ r. ⌜ Lists (partM part id) (was f) at n (was u) r (is u) ⌝ }
 {
     match part {
@@ -147,7 +148,7 @@ fn part_note(f: &[u8], u: &mut [u32], part: Part, id: u32, at: usize, n: usize) 
 
 // A count, and as many parts.
 pub fn part_notes(f: &[u8], u: &mut [u32], part: Part, id: u32, at: usize, n: usize) -> Noted
-    requires { ⌜ 1500 ≤ length (now u) ⌝ }
+    requires { ⌜ simulation-reason-words ≤ length (now u) ⌝ }
     ensures { λ r. ⌜ Lists (partsM part id) (was f) at n (was u) r (is u) ⌝ }
 {
     let x = model_walk::u16_at(f, at);

@@ -8,6 +8,7 @@ use native.Mathlib.Omega.{arith}
 use lib.ListN.{length, length-append}
 use lib.Dec.{ltb, eqb}
 use borrow.Author.Tests.{ltb-false}
+use Rattle.layout.specs.Sizes.{simulation-reasons}
 use Rattle.engine_spec.proofs.Bounds.{length-each}
 use Rattle.texts.specs.Lists.{each, flat}
 use Rattle.texts.specs.Texts.{Text, text, sortedT}
@@ -210,7 +211,7 @@ pub accepted-notes : (file : List ℕ) (m : Model) → accepted file ≡ answer 
 accepted-notes file m e = accepted-few file m e .1
 
 pub accepted-small : (file : List ℕ) (m : Model) → accepted file ≡ answer m →
-    (length file ≤ 32768) × (length (pool-of m) ≤ 300)
+    (length file ≤ 32768) × (length (pool-of m) ≤ simulation-reasons)
 accepted-small file m e = (
   accepted-few file m e .0,
   omega (arith, few-reasons m (accepted-notes file m e) (accepted-lawful file m e .few-automations)),

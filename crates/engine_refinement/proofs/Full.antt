@@ -6,6 +6,7 @@ use Prim.Native.Nat.{ℕ}
 use lib.ListN.{length}
 use lib.Dec.{ltb, eqb}
 use borrow.Author.Tests.{ne-eqb}
+use Rattle.layout.specs.Sizes.{last-simulation-reason}
 use Rattle.texts.specs.Lists.{if_then_else_}
 use Rattle.queue.specs.declared.Work.{Work}
 use Rattle.records.specs.declared.Rule.{Rule}
@@ -64,7 +65,7 @@ use Rattle.engine_trigger.specs.Runs.{
 use Rattle.engine_trigger.specs.Triggers.{admitM, log-triggerM, offer-asM, offerM}
 use Rattle.engine_modes.specs.declared.Decision.{Decision}
 use Rattle.engine_modes.specs.declared.Decision.the-variants.{AlreadyRunning, MaxReached, Start, StopAndStart, WaitInLine}
-use Rattle.engine_actions.specs.Perform.{doubtM, unclearM, testedM}
+use Rattle.engine_actions.specs.Actions.{doubtM, unclearM, testedM}
 
 -- the machine is full with the number n
 pub record Stuck (n : ℕ) (m : Machine) : Type 0 where
@@ -95,7 +96,7 @@ module _ (n : ℕ) (z : n ≡ 0 → ⊥) where
 
   pub s-uncertain : (f : List ℕ) (r : Reason) (m : Machine) → S m → S (uncertainM f r m)
   unfolding uncertainM
-  s-uncertain f r m p = s-if (ltb 299 (length (m .reasons))) _ _ p (record { is = p .is })
+  s-uncertain f r m p = s-if (ltb last-simulation-reason (length (m .reasons))) _ _ p (record { is = p .is })
 
   pub s-log-rule : (k d a : ℕ) (m : Machine) → S m → S (log-ruleM k d a m)
   unfolding log-ruleM

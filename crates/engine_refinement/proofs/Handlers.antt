@@ -60,17 +60,7 @@ use Rattle.engine_state.specs.Changes.{logM, log-actionM}
 use Rattle.engine_update.specs.Update.{cells, move, changedM, setting}
 use Rattle.engine_modes.specs.Modes.{nowM}
 use Rattle.engine_trigger.specs.Runs.{no-run, put-runM, phaseM, finishM}
-use Rattle.engine_actions.specs.Perform.{
-  actM,
-  act-nextM,
-  go-on-runM,
-  go-onM,
-  going-phase,
-  goingM,
-  resume-runM,
-  resume-atM,
-  resumeM,
-}
+use Rattle.engine_dispatch.specs.Resume.{actM, act-nextM, go-on-runM, go-onM, going-phase, goingM, resume-runM, resume-atM, resumeM}
 use Rattle.engine_handlers.specs.Handlers.{
   over-onM,
   over-endM,
@@ -409,7 +399,8 @@ module _ (f x : List ℕ) (ts : List Text) (mo : Model) (tb : Tabled f x ts mo) 
       unfolding expireM expire-toM
       expire-is =
           follow f x ts mo tb (changedM mv) (adds (change-of now X (T old) (T gone)))
-          (log-write-is f x ts mo tb (cells-are f x ts mo tb l (storedM (cells m) j gone) (put X (T gone) 0 (e .cells)) celled
+          (log-write-is f x ts mo tb (cells-are f x ts mo tb l (storedM (cells m) j gone) (put X (T gone) 0 (e .cells))
+          celled
           (l .low)) (setting (name x j) gone 3 NoRule Nowhere) mv Kind.stale staling tt moved)
           (λ y. changed-is f x ts mo tb y mv moved)
           (λ n z p. s-changed n z mv _ p)

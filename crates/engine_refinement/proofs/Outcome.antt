@@ -8,6 +8,7 @@ use native.Mathlib.Omega.{arith}
 use lib.ListN.{length, getD}
 use lib.Dec.{eqb}
 use borrow.Author.Tests.{ne-eqb}
+use Rattle.layout.specs.Sizes.{simulation-reasons}
 use Rattle.texts.specs.Lists.{if_then_else_, each}
 use Rattle.texts.specs.Texts.{Text}
 use Rattle.model_spec.specs.Answer.{Answer, answer, refused, accept}
@@ -62,7 +63,7 @@ module _ (f x : List ℕ) (ts : List Text) (mo : Model) (tb : Tabled f x ts mo) 
   pub record Kept (k : Machine) : Type 0 where
     pub words : Each (Worded x ts mo) (k .records)
     pub valued : Valued f x ts mo tb (k .values)
-    pub few : length (k .reasons) ≤ 300
+    pub few : length (k .reasons) ≤ simulation-reasons
     pub among : Among (pool-of mo) (k .reasons)
 
   -- an answer, or the number of the area that was full

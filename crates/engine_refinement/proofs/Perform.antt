@@ -10,6 +10,7 @@ use lib.ListN.{length, getD, length-set}
 use lib.Seq.{getD-set-same}
 use lib.Dec.{ltb, eqb}
 use borrow.Author.Tests.{le-ltb, eqb-true}
+use Rattle.layout.specs.Sizes.{last-simulation-reason}
 use Rattle.texts.specs.Lists.{if_then_else_, absent, find}
 use Rattle.texts.specs.Texts.{Text, text, eqT, memT}
 use Rattle.model_spec.specs.Model.{
@@ -88,29 +89,10 @@ use Rattle.engine_state.specs.Machine.{Machine, later}
 use Rattle.engine_state.specs.Changes.{logM, uncertainM, log-actionM, next-stepM}
 use Rattle.engine_modes.specs.Modes.{nowM}
 use Rattle.engine_trigger.specs.Runs.{no-run, put-runM, phaseM, finishM}
-use Rattle.engine_actions.specs.Perform as acts
+use Rattle.engine_actions.specs.Actions as acts
 use Rattle.engine_update.specs.Update.{setting}
-use Rattle.engine_actions.specs.Perform.{
-  writtenM,
-  setM,
-  toggledM,
-  doubtM,
-  flip-fromM,
-  flip-atM,
-  flipM,
-  delayM,
-  unclearM,
-  testedM,
-  condition-asM,
-  conditionM,
-  take-listM,
-  chosenM,
-  chooseM,
-  waitingM,
-  begin-waitM,
-  give-upM,
-  performM,
-}
+use Rattle.engine_actions.specs.Actions.{writtenM, setM, toggledM, doubtM, flip-fromM, flip-atM, flipM, delayM, unclearM, testedM, condition-asM, conditionM, take-listM, chosenM, chooseM, waitingM, begin-waitM, give-upM}
+use Rattle.engine_dispatch.specs.Resume.{performM}
 use Rattle.engine_refinement.specs.Meaning.{
   truth-of,
   verdict-of,
@@ -200,7 +182,7 @@ action-runs k d s r m = log-runs _ _ _ _ m
 
 pub uncertain-runs : (f : List ℕ) (r : Reason) (m : Machine) → uncertainM f r m .runs ≡ m .runs
 unfolding uncertainM
-uncertain-runs f r m = by (ltb 299 (length (m .reasons))) _ refl
+uncertain-runs f r m = by (ltb last-simulation-reason (length (m .reasons))) _ refl
   where
     by : (b : Bool) (p : Machine) → p .runs ≡ m .runs → (if b then m else p) .runs ≡ m .runs
     by true p h = refl

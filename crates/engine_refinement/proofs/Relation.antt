@@ -11,6 +11,7 @@ use lib.ListN.{length, getD, set, take, drop, length-set, length-append}
 use lib.Seq.{getD-set-same, getD-set-other}
 use lib.Dec.{ltb, eqb}
 use borrow.Author.Tests.{le-ltb, eq-eqb, ne-eqb, eqb-true, eqb-false, ltb-true, ltb-false, le-leb, lt-leb}
+use Rattle.layout.specs.Sizes.{last-simulation-reason}
 use Rattle.texts.specs.Lists.{if_then_else_, keep, tally, each}
 use Rattle.texts.specs.Texts.{Text, eqT, memT}
 use Rattle.model_spec.specs.Model.{Trigger, single, done, Automation, Model}
@@ -634,16 +635,17 @@ module _ (f x : List ℕ) (ts : List Text) (mo : Model) (tb : Tabled f x ts mo) 
 
   reason-old : (m : Machine) (r : Reason) → memT (render f r) (m .reasons) ≡ true → uncertainM f r m ≡ m
   unfolding uncertainM pushT
-  reason-old m r b = rw b (same (ltb 299 (length (m .reasons))))
+  reason-old m r b = rw b (same (ltb last-simulation-reason (length (m .reasons))))
     where
       same : (c : Bool) → (if c then m else m) ≡ m
       same true = refl
       same false = refl
 
-  reason-new : (m : Machine) (r : Reason) → memT (render f r) (m .reasons) ≡ false → length (m .reasons) ≤ 299 →
+  reason-new : (m : Machine) (r : Reason) → memT (render f r) (m .reasons) ≡ false →
+      length (m .reasons) ≤ last-simulation-reason →
       uncertainM f r m ≡ put-reasons (m .reasons ++ render f r ∷ []) m
   unfolding uncertainM pushT
-  reason-new m r b h = rw (le-ltb 299 (length (m .reasons)) h, b)
+  reason-new m r b h = rw (le-ltb last-simulation-reason (length (m .reasons)) h, b)
 
   pub uncertain-is : {now s : ℕ} {m : Machine} {e : Engine} → Live now s m e → (r : Reason) (t : Text) →
       render f r ≡ t → memT t (pool-of mo) ≡ true → Live now s (uncertainM f r m) (uncertain t e)

@@ -10,6 +10,7 @@ use native.Mathlib.Decide.{decLt}
 use lib.ListN.{length, getD}
 use lib.Dec.{ltb}
 use borrow.Author.Tests.{ltb-false, ne-eqb}
+use Rattle.layout.specs.Sizes.{simulation-reasons}
 use Rattle.texts.specs.Lists.{each, present-and, any}
 use Rattle.texts.specs.Texts.{Text, text, eqT, memT}
 use Rattle.texts.proofs.Ordering.{eq-no}
@@ -289,7 +290,7 @@ tabled f x ts m acc w = record {
   stated = accepted-stated f m acc;
 }
   where
-    small : (length f ≤ 32768) × (length (pool-of m) ≤ 300)
+    small : (length f ≤ 32768) × (length (pool-of m) ≤ simulation-reasons)
     small = accepted-small f m acc
 
     law : Lawful m

@@ -7,6 +7,7 @@ use mathlib.Core.List.{List, [], _∷_, _++_}
 use mathlib.Core.Option.{Option, none, some}
 use lib.Dec.{eqb}
 use lib.ListN.{length, getD}
+use Rattle.layout.specs.Sizes.{simulation-reasons}
 use Rattle.texts.specs.Lists.{if_then_else_, flat, all}
 use Rattle.texts.specs.Texts.{Text, text, eqT}
 use Rattle.texts.specs.Places.{textAt, startFrom}
@@ -291,6 +292,6 @@ pub record Tabled (f x : List ℕ) (ts : List Text) (m : Model) : Type 0 where
       name x i ≡ name x j → i ≡ j
   pub ids-differ : (i j : ℕ) → i < length (m .rules) → j < length (m .rules) → word x i 0 ≡ word x j 0 → i ≡ j
   -- a file has at most 64 notes, so the reasons have room
-  pub few-reasons : length (pool-of m) ≤ 300
+  pub few-reasons : length (pool-of m) ≤ simulation-reasons
   -- no invariant has a window
   pub stated : all windowless-invariant (m .scenario .invariants) ≡ true

@@ -3,6 +3,7 @@ use engine_loop::Ended;
 use engine_state::Cells;
 use engine_state::State;
 use layout::Table;
+ghost use Rattle.layout.specs.Sizes.{simulation-reason-words};
 ghost use Rattle.notation.specs.Reference.{was, is};
 ghost use mathlib.Core.Path.{_≡_};
 ghost use Prim.Native.Nat.{_+_, _*_, _≤_};
@@ -121,7 +122,8 @@ pub fn simulated(
     r: &mut [u32],
     u: &mut [u32],
 ) -> Simulation
-    requires { ⌜ (count * 4 ≤ length (now events)) × ((reasons * 5 ≤ length (now u)) × (1500 ≤ length (now u))) ⌝ }
+    requires { ⌜ (count * 4 ≤ length (now events))
+        × ((reasons * 5 ≤ length (now u)) × (simulation-reason-words ≤ length (now u))) ⌝ }
     ensures { λ s. ⌜ Simulates (was f) (was x) (was events) count cells reasons s (was q) (is q) (was a) (is a) (was r)
         (is r) (was u) (is u) ⌝ }
 {

@@ -42,7 +42,8 @@ module _ (x q : List ℕ) (st : State) (t : Taken) (ens : queue.Next q (st .«qu
     seen-records h =
         record {
           is =
-              λ f a b u v n c k held. rw (le-leb 10000 (length (k .records)) (subst (λ i. 10000 ≤ i) (held .records .many) h)) at
+              λ f a b u v n c k held. rw (le-leb 10000 (length (k .records))
+              (subst (λ i. 10000 ≤ i) (held .records .many) h)) at
               (after-is (One i) e f a b u v n c k held);
         }
 

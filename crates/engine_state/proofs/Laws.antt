@@ -9,6 +9,7 @@ use borrow.Author.Tests.{ltb-true, eq-eqb, ne-eqb, lt-ltb, le-ltb, le-leb, lt-le
 use native.Mathlib.Nat.{le-div-iff-mul-le}
 use native.Mathlib.Omega.{arith}
 use native.Mathlib.Numerals.{add-one}
+use Rattle.layout.specs.Sizes.{last-simulation-reason, simulation-reason-words}
 use Rattle.texts.specs.Lists.{if_then_else_}
 use Rattle.texts.specs.Texts.{Text, memT}
 use Rattle.areas.specs.Areas.{area}
@@ -332,7 +333,8 @@ module _ (st : Entire) (a : List ℕ) (t : Told) (v : Rule) (w : Where) (x : Cha
           many =
               ap (λ n. n + 1) (h .many) ∙ sym (length-one l (entry (st .now) t v w x));
           is =
-              ins .more e l (sym (h .many)) (h .is) ∙ ap (λ n. area records.recordWords n (l ++ entry (st .now) t v w x ∷ []))
+              ins .more e l (sym (h .many)) (h .is)
+              ∙ ap (λ n. area records.recordWords n (l ++ entry (st .now) t v w x ∷ []))
               (sym same);
         }
 
@@ -484,21 +486,22 @@ push-length t l = by (memT t l)
     by true = omega arith
     by false = omega (arith, length-one l t)
 
-pub push-fits : (f u : List ℕ) (n : ℕ) (r : Reason) → n ≤ 299 → 1500 ≤ length u →
+pub push-fits : (f u : List ℕ) (n : ℕ) (r : Reason) → n ≤ last-simulation-reason → simulation-reason-words ≤ length u →
     length (pushT (render f r) (listed f n u)) * 5 ≤ length u
 push-fits f u n r h l = omega (arith, push-length (render f r) (listed f n u), listed-length f n u)
 
 module _ (f u : List ℕ) (x : Reason) (st : Entire) where
-  enough-is : (m : Machine) → ltb 299 (length (m .reasons)) ≡ true → m ≡ uncertainM f x m
+  enough-is : (m : Machine) → ltb last-simulation-reason (length (m .reasons)) ≡ true → m ≡ uncertainM f x m
   unfolding uncertainM
   enough-is m e = rw e
 
-  doubted-is : (m : Machine) → ltb 299 (length (m .reasons)) ≡ false →
+  doubted-is : (m : Machine) → ltb last-simulation-reason (length (m .reasons)) ≡ false →
       put-reasons (pushT (render f x) (m .reasons)) m ≡ uncertainM f x m
   unfolding uncertainM
   doubted-is m e = rw e
 
-  pub enough : st .reasons * 5 ≤ length u → 299 < st .reasons → Turns (uncertainM f x) st st kept kept kept (told f u u)
+  pub enough : st .reasons * 5 ≤ length u → last-simulation-reason < st .reasons →
+      Turns (uncertainM f x) st st kept kept kept (told f u u)
   enough h l = record {
     queue = refl;
     records = refl;
@@ -509,11 +512,13 @@ module _ (f u : List ℕ) (x : Reason) (st : Entire) where
           content = k;
           held = held;
           is =
-              enough-is (machine st k) (ap (λ n. ltb 299 n) (sym (held .reasons .many)) ∙ lt-ltb 299 (st .reasons) l);
+              enough-is (machine st k) (ap (λ n. ltb last-simulation-reason n) (sym (held .reasons .many))
+              ∙ lt-ltb last-simulation-reason (st .reasons) l);
         };
   }
 
-  pub doubted : (b : List ℕ) (n : ℕ) → st .reasons ≤ 299 → 1500 ≤ length u → length b ≡ length u →
+  pub doubted : (b : List ℕ) (n : ℕ) → st .reasons ≤ last-simulation-reason → simulation-reason-words ≤ length u →
+      length b ≡ length u →
       Grows f (Readable f x) (pushT (render f x) (listed f (st .reasons) u)) (st .reasons) u n b →
       (HasText f → Readable f x) →
       Turns (uncertainM f x) st (with-reasons n st) kept kept kept (told f u b)
@@ -532,7 +537,8 @@ module _ (f u : List ℕ) (x : Reason) (st : Entire) where
             reasons =
                 grown f (pushT (render f x)) h t (held .reasons);
           };
-          is = doubted-is (machine st k) (ap (λ n. ltb 299 n) (sym (held .reasons .many)) ∙ le-ltb 299 (st .reasons) l);
+          is = doubted-is (machine st k) (ap (λ n. ltb last-simulation-reason n) (sym (held .reasons .many))
+              ∙ le-ltb last-simulation-reason (st .reasons) l);
         };
   }
 

@@ -3,6 +3,7 @@ use Prim.Native.Nat.{ℕ}
 use mathlib.Core.List.{List, [], _∷_, _++_}
 use lib.Dec.{ltb, eqb}
 use lib.ListN.{length, getD, set}
+use Rattle.layout.specs.Sizes.{last-simulation-reason}
 use Rattle.texts.specs.Lists.{if_then_else_}
 use Rattle.queue.specs.declared.Item.{Item}
 use Rattle.queue.specs.declared.Work.{Work}
@@ -72,7 +73,8 @@ add-runM i r m =
 
 -- a reason more over the file f, unless there are 300
 unfoldable pub uncertainM : List ℕ → Reason → Machine → Machine
-uncertainM f r m = if ltb 299 (length (m .reasons)) then m else put-reasons (pushT (render f r) (m .reasons)) m
+uncertainM f r m = if ltb last-simulation-reason (length (m .reasons)) then m
+    else put-reasons (pushT (render f r) (m .reasons)) m
 
 -- ---- records
 

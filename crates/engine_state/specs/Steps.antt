@@ -5,6 +5,7 @@ use mathlib.Core.List.{List}
 use lib.ListN.{length}
 use denote.Triple.Both.{Both}
 use denote.Ref.{RefT, now}
+use Rattle.layout.specs.Sizes.{simulation-reason-words}
 use Rattle.areas.specs.Areas.{area}
 use Rattle.queue.specs.Queue.{laid}
 use Rattle.queue.specs.declared.Item.{Item}
@@ -136,9 +137,9 @@ Fits-qar st q a r = ((st .«queue_start» + st .items) * 5 ≤ length q)
 
 abbrev pub Fits-qau : State → (q a u : List ℕ) → Type 0
 Fits-qau st q a u = ((st .«queue_start» + st .items) * 5 ≤ length q)
-    × ((st .records * 13 ≤ length a) × ((st .reasons * 5 ≤ length u) × (1500 ≤ length u)))
+    × ((st .records * 13 ≤ length a) × ((st .reasons * 5 ≤ length u) × (simulation-reason-words ≤ length u)))
 
 abbrev pub Fits : State → (q a r u : List ℕ) → Type 0
 Fits st q a r u = ((st .«queue_start» + st .items) * 5 ≤ length q)
     × ((st .records * 13 ≤ length a) × ((st .«live_runs» * 28 ≤ length r)
-    × ((st .reasons * 5 ≤ length u) × (1500 ≤ length u))))
+    × ((st .reasons * 5 ≤ length u) × (simulation-reason-words ≤ length u))))

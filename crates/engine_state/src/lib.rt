@@ -10,6 +10,7 @@ use records::Rule;
 use records::Where;
 use runs::Run;
 use runs::Source;
+ghost use Rattle.layout.specs.Sizes.{simulation-reason-words};
 ghost use Rattle.notation.specs.Reference.{was, is};
 ghost use mathlib.Core.Path.{_≡_};
 ghost use Prim.Native.Nat.{_+_, _*_, _≤_, _<_};
@@ -173,13 +174,13 @@ pub fn add_run(r: &mut [u32], sequences: &mut [u32; 32], st: State, i: usize, ru
 
 // A reason more, unless it is there already or there are 300.
 pub fn uncertain(f: &[u8], u: &mut [u32], st: State, reason: Reason) -> State
-    requires { ⌜ (st .reasons * 5 ≤ length (now u)) × ((1500 ≤ length (now u))
+    requires { ⌜ (st .reasons * 5 ≤ length (now u)) × ((simulation-reason-words ≤ length (now u))
         × (HasText (now f) → Readable (now f) reason)) ⌝ }
     ensures { λ r. ⌜ Does (uncertainM (was f) reason) st r kept kept kept (told (was f) (was u) (is u)) ⌝ }
 {
     let mut s = st;
     let n = s.reasons;
-    if 299 < n {
+    if layout::LAST_SIMULATION_REASON < n {
         return s;
     }
     s.reasons = reasons::push_if_absent(f, u, n, reason);

@@ -3,6 +3,7 @@ use Prim.Native.Nat.{ℕ, _-_}
 use mathlib.Core.Bool.{false}
 use mathlib.Core.List.{List}
 use lib.ListN.{replicate}
+use Rattle.layout.specs.Sizes.{simulation-reason-words}
 use Rattle.model_spec.specs.Answer.{refused}
 use Rattle.engine_summary.specs.declared.Simulation.{Simulation}
 use Rattle.engine_summary.specs.declared.Summary.{Summary}
@@ -18,7 +19,7 @@ no-simulation n = record {
   values = replicate 32 0;
   unknown = 0;
   reasons =
-      replicate 1500 0;
+      replicate simulation-reason-words 0;
   «stop_reason» = 0;
   «runs_left» = false;
 }

@@ -33,7 +33,7 @@ pub fn refused(number: u32) -> Simulation
         horizon: 0,
         values: [0u32; 32],
         unknown: 0,
-        reasons: [0u32; layout::SIMULATION_REASONS],
+        reasons: [0u32; layout::SIMULATION_REASON_WORDS],
         stop_reason: 0,
         runs_left: false,
     }
@@ -93,7 +93,7 @@ pub fn summed(s: engine_run::Simulation, entities: usize, horizon: u32) -> Summa
 pub fn refused_summary(number: u32, words: &mut SimulationReasons) -> Summary
     ensures { λ r. ⌜ simulation-of r (is words) ≡ no-simulation number ⌝ }
 {
-    *words = [0u32; layout::SIMULATION_REASONS];
+    *words = [0u32; layout::SIMULATION_REASON_WORDS];
     Summary {
         refused: number,
         steps: 0,

@@ -5,6 +5,7 @@ use Prim.Native.Nat.{_+_, _≤_}
 use native.Mathlib.Omega.{arith}
 use lib.ListN.{length, length-append}
 use borrow.Author.Tests.{le-ltb}
+use Rattle.layout.specs.Sizes.{last-simulation-reason, simulation-reasons}
 use Rattle.engine_spec.proofs.Bounds.{length-each}
 use Rattle.texts.specs.Lists.{each, flat}
 use Rattle.texts.specs.Texts.{Text, text, insertT, sortedT}
@@ -32,18 +33,18 @@ use Rattle.reasons.proofs.Sorting.{one-by-one}
 use Rattle.engine_notes.specs.Listing.{insertM}
 use Rattle.engine_notes.proofs.Adding.{addAll}
 
-with-place : (t : Text) (l : List Text) → length l ≤ 299 → insertM t l ≡ insertT t l
+with-place : (t : Text) (l : List Text) → length l ≤ last-simulation-reason → insertM t l ≡ insertT t l
 unfolding insertM
-with-place t l h = rw (le-ltb 299 (length l) h)
+with-place t l h = rw (le-ltb last-simulation-reason (length l) h)
 
-add-insert : (ts l : List Text) → length ts + length l ≤ 300 → addAll ts l ≡ insertAll ts l
+add-insert : (ts l : List Text) → length ts + length l ≤ simulation-reasons → addAll ts l ≡ insertAll ts l
 unfolding addAll insertAll
 add-insert [] l h = refl
 add-insert (t ∷ ts) l h =
     ap (addAll ts) (with-place t l (omega arith))
     ∙ add-insert ts (insertT t l) (omega (arith, one-more t l))
 
-pub add-sorted : (ts : List Text) → length ts ≤ 300 → addAll ts [] ≡ sortedT ts
+pub add-sorted : (ts : List Text) → length ts ≤ simulation-reasons → addAll ts [] ≡ sortedT ts
 add-sorted ts h = add-insert ts [] (omega arith) ∙ one-by-one ts
 
 -- ---- lists

@@ -6,6 +6,7 @@ use engine_notes::Part;
 use layout::Table;
 use model_walk::Num;
 use reasons::Reason;
+ghost use Rattle.layout.specs.Sizes.{simulation-reason-words};
 ghost use Rattle.notation.specs.Reference.{was, is};
 ghost use mathlib.Core.Path.{_≡_};
 ghost use Prim.Native.Nat.{ℕ, _≤_, _<_};
@@ -88,7 +89,7 @@ fn source_note(f: &[u8], line: u32, column: u32, note: u32) -> Reason
 
 // The note of an unknown effect stands behind its source.
 fn unknown_note(f: &[u8], u: &mut [u32], line: u32, column: u32, at: usize, n: usize) -> Noted
-    requires { ⌜ 1500 ≤ length (now u) ⌝ }
+    requires { ⌜ simulation-reason-words ≤ length (now u) ⌝ }
     ensures { λ r. ⌜ Lists (unknownM line column) (was f) at n (was u) r (is u) ⌝ }
 {
     let x = model_walk::u16_at(f, at);
@@ -101,7 +102,7 @@ fn unknown_note(f: &[u8], u: &mut [u32], line: u32, column: u32, at: usize, n: u
 }
 
 fn wait_note(f: &[u8], u: &mut [u32], at: usize, n: usize) -> Noted
-    requires { ⌜ 1500 ≤ length (now u) ⌝ }
+    requires { ⌜ simulation-reason-words ≤ length (now u) ⌝ }
     ensures { λ r. ⌜ Lists waitM (was f) at n (was u) r (is u) ⌝ }
 {
     let d = engine_notes::trigger_note(f, u, layout::NO_PLACE, at, n);
@@ -113,7 +114,7 @@ fn wait_note(f: &[u8], u: &mut [u32], at: usize, n: usize) -> Noted
 
 // An effect that holds no list.
 fn simple_note(f: &[u8], u: &mut [u32], h: Head, n: usize) -> Noted
-    requires { ⌜ 1500 ≤ length (now u) ⌝ }
+    requires { ⌜ simulation-reason-words ≤ length (now u) ⌝ }
     ensures { λ r. ⌜ Lists (simpleM h) (was f) (h .next) n (was u) r (is u) ⌝ }
 {
     let kind = h.kind;
@@ -137,7 +138,7 @@ fn simple_note(f: &[u8], u: &mut [u32], h: Head, n: usize) -> Noted
 
 // A list of actions in which lists stand at most `left` deep, itself counted.
 fn actions_notes(f: &[u8], u: &mut [u32], left: usize, at: usize, n: usize) -> Noted
-    requires { ⌜ 1500 ≤ length (now u) ⌝ }
+    requires { ⌜ simulation-reason-words ≤ length (now u) ⌝ }
     ensures { λ r. ⌜ Lists (actionsM left) (was f) at n (was u) r (is u) ⌝ }
 {
     if left == 0 {
@@ -161,7 +162,7 @@ fn actions_notes(f: &[u8], u: &mut [u32], left: usize, at: usize, n: usize) -> N
 
 // An action whose lists stand at most `left` deep.
 fn action_notes(f: &[u8], u: &mut [u32], left: usize, at: usize, n: usize) -> Noted
-    requires { ⌜ 1500 ≤ length (now u) ⌝ }
+    requires { ⌜ simulation-reason-words ≤ length (now u) ⌝ }
     ensures { λ r. ⌜ Lists (actionM (actionsM left)) (was f) at n (was u) r (is u) ⌝ }
 {
     let h = head_at(f, at);
@@ -175,7 +176,7 @@ fn action_notes(f: &[u8], u: &mut [u32], left: usize, at: usize, n: usize) -> No
 
 // The branches of a choice and its default; its lists stand at most `left` deep.
 fn choice_notes(f: &[u8], u: &mut [u32], left: usize, at: usize, n: usize) -> Noted
-    requires { ⌜ 1500 ≤ length (now u) ⌝ }
+    requires { ⌜ simulation-reason-words ≤ length (now u) ⌝ }
     ensures { λ r. ⌜ Lists (choiceM (actionsM left)) (was f) at n (was u) r (is u) ⌝ }
 {
     let x = model_walk::u16_at(f, at);
@@ -199,7 +200,7 @@ fn choice_notes(f: &[u8], u: &mut [u32], left: usize, at: usize, n: usize) -> No
 
 // The notes of the i-th automation, of its triggers and of its conditions: they stand behind its identifier.
 fn own_notes(f: &[u8], x: &Table, u: &mut [u32], i: usize, n: usize) -> usize
-    requires { ⌜ (1500 ≤ length (now u)) × (i < 32) ⌝ }
+    requires { ⌜ (simulation-reason-words ≤ length (now u)) × (i < 32) ⌝ }
     ensures { λ k. ⌜ Makes (ownM (was f) (was x) i) (was f) n (was u) k (is u) ⌝ }
 {
     let id = engine_fields::rule_word(x, i, layout::ID);
@@ -214,7 +215,7 @@ fn own_notes(f: &[u8], x: &Table, u: &mut [u32], i: usize, n: usize) -> usize
 
 // All notes of the i-th automation.
 pub fn rule_notes(f: &[u8], x: &Table, u: &mut [u32], i: usize, n: usize) -> usize
-    requires { ⌜ (1500 ≤ length (now u)) × (i < 32) ⌝ }
+    requires { ⌜ (simulation-reason-words ≤ length (now u)) × (i < 32) ⌝ }
     ensures { λ k. ⌜ Makes (ruleM (was f) (was x) i) (was f) n (was u) k (is u) ⌝ }
 {
     let actions = engine_fields::rule_word(x, i, layout::ACTIONS) as usize;
@@ -226,7 +227,7 @@ pub fn rule_notes(f: &[u8], x: &Table, u: &mut [u32], i: usize, n: usize) -> usi
 // The notes of the automations as reasons, sorted as rendered, each once; the answer is how many there are. The area comes
 // with zeros.
 pub fn unsupported(f: &[u8], x: &Table, u: &mut [u32]) -> usize
-    requires { ⌜ (1500 ≤ length (now u)) × ((i : ℕ) → getD (now u) i 0 ≡ 0) ⌝ }
+    requires { ⌜ (simulation-reason-words ≤ length (now u)) × ((i : ℕ) → getD (now u) i 0 ≡ 0) ⌝ }
     ensures { λ k. ⌜ Holds (was f) (unsupportedM (was f) (was x)) k (is u) ⌝ }
 {
     let rules = bounds::at_most(x[layout::AUTOMATION_COUNT], 32);

@@ -55,7 +55,7 @@ pub extern "C" fn fukhtsege_simulate(
     if answer.len() < 1540 {
         return SHORT_ANSWER;
     }
-    let mut reasons = [0u32; layout::SIMULATION_REASONS];
+    let mut reasons = [0u32; layout::SIMULATION_REASON_WORDS];
     let s = engine_entry::simulate_lent(file, queue, records, runs, &mut reasons);
     c_encoding::put_simulation(answer, 0, s, &reasons);
     s.refused
@@ -77,10 +77,10 @@ pub extern "C" fn fukhtsege_check(
     if answer.len() < 4000 {
         return SHORT_ANSWER;
     }
-    let mut reasons = [0u32; layout::SIMULATION_REASONS];
+    let mut reasons = [0u32; layout::SIMULATION_REASON_WORDS];
     let mut violated = [0u64; layout::VIOLATIONS];
-    let mut unknowns = [0u32; layout::VERDICT_REASONS];
-    let mut incompletes = [0u32; layout::INCOMPLETE_REASONS];
+    let mut unknowns = [0u32; layout::VERDICT_REASON_WORDS];
+    let mut incompletes = [0u32; layout::INCOMPLETE_REASON_WORDS];
     let j = checker_entry::check_lent(
         file,
         queue,
@@ -113,11 +113,11 @@ pub extern "C" fn fukhtsege_verify(
     if answer.len() < 6076 {
         return SHORT_ANSWER;
     }
-    let mut told = [0u32; layout::VERDICT_REASONS];
-    let mut reasons = [0u32; layout::SIMULATION_REASONS];
+    let mut told = [0u32; layout::VERDICT_REASON_WORDS];
+    let mut reasons = [0u32; layout::SIMULATION_REASON_WORDS];
     let mut violated = [0u64; layout::VIOLATIONS];
-    let mut unknowns = [0u32; layout::VERDICT_REASONS];
-    let mut incompletes = [0u32; layout::INCOMPLETE_REASONS];
+    let mut unknowns = [0u32; layout::VERDICT_REASON_WORDS];
+    let mut incompletes = [0u32; layout::INCOMPLETE_REASON_WORDS];
     let v = search_entry::verify_lent(
         file,
         queue,

@@ -64,7 +64,7 @@ pub const NOTES: usize = 7;
 // The place that stands for no text: a trigger's from, to and note may be absent.
 pub const NO_PLACE: u32 = 65535;
 
-// ---- lists
+// ---- lists: how many entries they have, and how many words. `specs/Sizes` has the same numbers for contracts.
 
 // Positions in a file: of a section's first 100 parts, and of an automation's actions.
 pub const POSITIONS: usize = 100;
@@ -80,20 +80,28 @@ pub const EVENT_WORDS: usize = 400;
 
 pub type EventWords = [u32; EVENT_WORDS];
 
-// Reasons of a simulation, five words each: 300 of them.
-pub const SIMULATION_REASONS: usize = 1500;
+// Reasons of a simulation, five words each.
+pub const SIMULATION_REASONS: usize = 300;
 
-pub type SimulationReasons = [u32; SIMULATION_REASONS];
+pub const LAST_SIMULATION_REASON: usize = 299;
 
-// Reasons of a verdict, a check's or a search's: 400 of them.
-pub const VERDICT_REASONS: usize = 2000;
+pub const SIMULATION_REASON_WORDS: usize = 1500;
 
-pub type VerdictReasons = [u32; VERDICT_REASONS];
+pub type SimulationReasons = [u32; SIMULATION_REASON_WORDS];
 
-// Reasons for which a check is incomplete: 40 of them.
-pub const INCOMPLETE_REASONS: usize = 200;
+// Reasons of a verdict, a check's or a search's.
+pub const VERDICT_REASONS: usize = 400;
 
-pub type IncompleteReasons = [u32; INCOMPLETE_REASONS];
+pub const VERDICT_REASON_WORDS: usize = 2000;
+
+pub type VerdictReasons = [u32; VERDICT_REASON_WORDS];
+
+// Reasons for which a check is incomplete.
+pub const INCOMPLETE_REASONS: usize = 40;
+
+pub const INCOMPLETE_REASON_WORDS: usize = 200;
+
+pub type IncompleteReasons = [u32; INCOMPLETE_REASON_WORDS];
 
 // Violations, eight numbers each: one for each of 32 invariants.
 pub const VIOLATIONS: usize = 256;

@@ -5,6 +5,7 @@ use Prim.Native.Nat.{ℕ, suc, _+_, _*_, _-_, _^_, _≤_, _<_}
 use native.Mathlib.Omega.{arith}
 use lib.Bits.{bitOr}
 use lib.ListN.{getD, set, replicate}
+use Rattle.layout.specs.Sizes.{simulation-reasons}
 use Rattle.bounds.specs.Bounds.{AtMost}
 use Rattle.model_parts.specs.declared.Section.{Section}
 use Rattle.texts.specs.Texts.{Text}
@@ -57,7 +58,8 @@ none-clean f n = clean-zeros f (zeros n)
 
 pub rule-is : (s : List ℕ) (i : ℕ) {at w : ℕ} {row : List ℕ} (u : List ℕ) {n k line q column x : ℕ} (b : Board)
     {c : Board} {l : List Text} →
-    w ≡ walkM s at .next → RowOf s at w row → l ≡ [] → listed s n u ≡ ruleM s row 0 l → (HasText s → Clean s n u) → AtMost n 300 k →
+    w ≡ walkM s at .next → RowOf s at w row → l ≡ [] → listed s n u ≡ ruleM s row 0 l → (HasText s → Clean s n u) →
+    AtMost n simulation-reasons k →
     line ≡ numberM s w → q ≡ past s w 4 → column ≡ numberM s q → x ≡ bitOr 0 (2 ^ i) →
     c ≡ pushes (noteItems x line column u k) b → NotesAt s at i b c
 rule-is s i {at} {w} {row} u {n} {k} {line} {q} {column} {x} b e₀ f₀ z g v h l m o p j rules y =

@@ -4,6 +4,7 @@ use mathlib.Core.Path.{_≡_}
 use mathlib.Core.List.{List, [], _∷_}
 use lib.Bits.{bitOr}
 use lib.ListN.{getD}
+use Rattle.layout.specs.Sizes.{simulation-reasons}
 use Rattle.bounds.specs.Bounds.{AtMost}
 use Rattle.model_parts.specs.declared.Section.{Section}
 use Rattle.reasons.specs.Readable.{HasText}
@@ -41,7 +42,7 @@ pub record RuleNotes (s : List ℕ) (rules : Section) (i : ℕ) (b c : Board) : 
   pub is-row : RowOf s (getD (rules .starts) i 0) (walkM s (getD (rules .starts) i 0) .next) row
   pub are-reasons : listed s many reasons ≡ ruleM s row 0 []
   pub clean : HasText s → Clean s many reasons
-  pub counts : AtMost many 300 count
+  pub counts : AtMost many simulation-reasons count
   pub inserted : c ≡ pushes (noteItems (bitOr 0 (2 ^ i)) (numberM s (walkM s (getD (rules .starts) i 0) .next))
       (numberM s (past s (walkM s (getD (rules .starts) i 0) .next) 4)) reasons count) b
 

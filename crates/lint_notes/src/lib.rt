@@ -3,6 +3,7 @@ use layout::SimulationReasons;
 use layout::Table;
 use lint_areas::Out;
 use model_parts::Section;
+ghost use Rattle.layout.specs.Sizes.{simulation-reasons};
 ghost use Rattle.notation.specs.Reference.{was, is};
 ghost use mathlib.Core.Path.{_≡_};
 ghost use mathlib.Core.List.{List};
@@ -39,7 +40,7 @@ fn put_row(s: &[u8], at: usize, source: usize, words: &mut Table)
 
 // The words of a finding about the automation of a set, with the j-th reason.
 fn note_words(set: u32, line: u32, column: u32, reasons: &SimulationReasons, j: usize) -> [u32; 14]
-    requires { ⌜ j < 300 ⌝ }
+    requires { ⌜ j < simulation-reasons ⌝ }
     ensures { λ w. ⌜ w ≡ noteM set line column (was reasons) j ⌝ }
 {
     let k = 5 * j;
@@ -71,7 +72,7 @@ fn note_findings(
     findings: &mut [u32],
     o: Out,
 ) -> Out
-    requires { ⌜ count ≤ 300 ⌝ }
+    requires { ⌜ count ≤ simulation-reasons ⌝ }
     ensures { λ r.
         ⌜ ((k : List ℕ) → board (is findings) k r ≡ pushes (noteItems set line column (was reasons) count)
         (board (was findings) k o)) ⌝ }
@@ -92,10 +93,10 @@ fn rule_notes(s: &[u8], at: usize, i: usize, words: &mut Table, findings: &mut [
 {
     let source = lint_walk::source_at(s, at);
     put_row(s, at, source, words);
-    let mut reasons = [0u32; layout::SIMULATION_REASONS];
+    let mut reasons = [0u32; layout::SIMULATION_REASON_WORDS];
     let count = bounds::min_usize(
         engine_unsupported::rule_notes(s, words, &mut reasons, 0, 0),
-        300,
+        layout::SIMULATION_REASONS,
     );
     let line = lint_walk::number_at(s, source);
     let column = lint_walk::number_at(s, lint_walk::past(s, source, 4));

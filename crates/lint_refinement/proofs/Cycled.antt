@@ -310,7 +310,8 @@ module _ {s : List ℕ} {d : Names} {rs : Section} {ts : List Text} {m : Model} 
       holds (cycleWritesFrom s (d .entities) rs set k i x) j
       ≡ (holds x j || memT (nameAt (es st) j) (flat writes-of (rules-at (keep (holds set) (places k i)))))
   unfolding cycleWritesFrom places keep each flat
-  writes-from set zero i x j h b = sym (ap (λ (c : Bool). holds x j || c) (mem-none (nameAt (es st) j)) ∙ or-false (holds x j))
+  writes-from set zero i x j h b = sym (ap (λ (c : Bool). holds x j || c) (mem-none (nameAt (es st) j))
+      ∙ or-false (holds x j))
   writes-from set (suc k) i x j h b = cases (case (holds set i)) (λ y. writes-from set k (i + 1) y j (omega arith) b)
     where
       W : ℕ

@@ -197,7 +197,8 @@ module _ (file : List ℕ) (names ids : List Text) (ts : List Text) (s : List �
     agree-over l k ps acts m (action {p} {a} {ps = qs} {l = rest} x y) fine =
         let n : getD l k 0 ≡ p = ap (λ (i : ℕ). getD l i 0) (sym (add-zero k)) ∙ m 0 (omega arith) in
         agree-append file names ids (subst (λ (q : ℕ). Agree file names ids (g a) (f q)) (sym n) (h p a x (fine .0)))
-        (agree-over l (k + 1) qs rest (λ i b. ap (λ (o : ℕ). getD l o 0) (omega arith) ∙ m (suc i) (omega arith)) y (fine .1))
+        (agree-over l (k + 1) qs rest (λ i b. ap (λ (o : ℕ). getD l o 0) (omega arith) ∙ m (suc i) (omega arith)) y
+        (fine .1))
 
     pub agree-actions : (w : Walk) (r : Automation) → Walked ts s w r → Legal es r →
         Agree file names ids (flat g (touches.actions-of r)) (items-numbersM (λ k. f (getD (w .list) k 0)) (w .count) 0)

@@ -201,7 +201,8 @@ module _ (s : List ℕ) (d : Declaration) (ts : List Text) (es : List Entity) (g
           cases (suc zero) h =
               let x = bound (place ts) _ h in
               let z = given _ _ _ (x .rest) in
-              laws.simple-1 d s o n refl ∙ toggle-agrees o n (x .value) q (x .first ∙ ap (got (x .value)) (z .1)) ∙ same (z .0)
+              laws.simple-1 d s o n refl ∙ toggle-agrees o n (x .value) q (x .first ∙ ap (got (x .value)) (z .1))
+              ∙ same (z .0)
           cases (suc (suc zero)) h =
               let x = bound u32 _ h in
               let z = given _ _ _ (x .rest) in
@@ -218,7 +219,8 @@ module _ (s : List ℕ) (d : Declaration) (ts : List Text) (es : List Entity) (g
               let a = bound inner _ (b .rest) in
               let z = given _ _ _ (a .rest) in
               by-got s u16 _ o n (c .first)
-              ∙ next s (timesM (c .value) (branchM d check)) check (c .next) n (b .next) q (check-branches es (b .value) dep n)
+              ∙ next s (timesM (c .value) (branchM d check)) check (c .next) n (b .next) q
+              (check-branches es (b .value) dep n)
               (λ m. check-actions es (a .value) (dep + 1) m)
               (branches-agree (c .value) (c .next) n (b .value) (b .next) (b .first))
               (λ m. ih (b .next) m (a .value) q (a .first ∙ ap (got (a .value)) (z .1)))
@@ -250,7 +252,8 @@ module _ (s : List ℕ) (d : Declaration) (ts : List Text) (es : List Entity) (g
           effect ts inner s o ≡ got f q → actionM d check s p n ≡ after q (counting (n + 1) >>= λ m. check-effect es f dep m)
       action-agrees p n {src} {f} {o} {q} a b =
           laws.assoc s p n countM (skipM 8) (by u8 (λ k. if eqb k 4 then choiceM d check else simpleM d k))
-          ∙ next s countM (skipM 8 ⨾ by u8 (λ k. if eqb k 4 then choiceM d check else simpleM d k)) p n p q (counting (n + 1))
+          ∙ next s countM (skipM 8 ⨾ by u8 (λ k. if eqb k 4 then choiceM d check else simpleM d k)) p n p q
+          (counting (n + 1))
           (λ m. check-effect es f dep m)
           (count-agrees p n)
           (λ m. skip-then s 8 _ p m (source-wide s p a) ∙ effect-agrees o m f q b)

@@ -9,13 +9,73 @@ use lib.Dec.{ltb, eqb}
 use borrow.Author.Tests.{le-ltb}
 use Rattle.texts.specs.Lists.{if_then_else_, all, flat}
 use Rattle.texts.specs.Texts.{Text}
-use Rattle.model_spec.specs.Model.{Predicate, Trigger, Input, reload, Invariant, never, guard, transition, response, Automation}
+use Rattle.model_spec.specs.Model.{
+  Predicate,
+  Trigger,
+  Input,
+  reload,
+  Invariant,
+  never,
+  guard,
+  transition,
+  response,
+  Automation,
+}
 use Rattle.model_spec.specs.Notes.{of-predicate, of-trigger, of-actions, of-invariant, of-rule}
-use Rattle.model_spec.specs.File.{Got, got, broken, Reader, _>>=_, give, refuse, require, u8, u32, times, counted, kinds, number?, printable, one-text, source, tier, mode, place, predicate, trigger, entity, input, event, invariant, actions, automation}
+use Rattle.model_spec.specs.File.{
+  Got,
+  got,
+  broken,
+  Reader,
+  _>>=_,
+  give,
+  refuse,
+  require,
+  u8,
+  u32,
+  times,
+  counted,
+  kinds,
+  number?,
+  printable,
+  one-text,
+  source,
+  tier,
+  mode,
+  place,
+  predicate,
+  trigger,
+  entity,
+  input,
+  event,
+  invariant,
+  actions,
+  automation,
+}
 use Rattle.model_walk.specs.declared.Walked.{Walked}
 use Rattle.model_walk.specs.declared.Walked.the-variants as walked
 use Rattle.model_walk.specs.declared.Piece.the-variants as piece
-use Rattle.model_walk.specs.Walk.{capped, seen, Walk, and-then, _⨾_, stop, stay, staying, bytesM, timesM, countedM, kindM, placeM, noteM, predicateM, triggerM, pieceM, piecesM, actionsM}
+use Rattle.model_walk.specs.Walk.{
+  capped,
+  seen,
+  Walk,
+  and-then,
+  _⨾_,
+  stop,
+  stay,
+  staying,
+  bytesM,
+  timesM,
+  countedM,
+  kindM,
+  placeM,
+  noteM,
+  predicateM,
+  triggerM,
+  pieceM,
+  piecesM,
+  actionsM,
+}
 use Rattle.model_walk.proofs.Laws as walks
 use Rattle.model_walk.proofs.Refines.{
   Runs,

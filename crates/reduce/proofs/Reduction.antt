@@ -7,6 +7,7 @@ use native.Mathlib.Omega.{arith}
 use lib.Dec.{eqb}
 use lib.ListN.{length, getD}
 use borrow.Author.Tests.{lt-ltb, le-ltb, eqb-true, eqb-false}
+use Rattle.layout.specs.Sizes.{event-word-count}
 use Rattle.texts.specs.Texts.{Text}
 use Rattle.model_spec.specs.Answer.{Answer, answer, refused, _>>=_}
 use Rattle.model_spec.specs.Model.{Event, Input, Model}
@@ -243,7 +244,7 @@ pub record Looped (f starts : List ℕ) (many : ℕ) (g : Prepared) (target : �
   pub goes : GoesOn r more
   pub attempts : r .attempts ≤ 200
   pub few : r .count ≤ 100
-  pub long : length (r .words) ≡ 400
+  pub long : length (r .words) ≡ event-word-count
   pub queue : length q' ≡ length q
   pub records : length a' ≡ length a
   pub runs : length u' ≡ length u

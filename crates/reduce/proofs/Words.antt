@@ -6,6 +6,7 @@ use native.Mathlib.Numerals.{add-one}
 use native.Mathlib.Omega.{arith}
 use lib.ListN.{length, getD, take, drop}
 use lib.Seq.{take-nil, drop-nil}
+use Rattle.layout.specs.Sizes.{event-word-count}
 use Rattle.texts.specs.Texts.{Text}
 use Rattle.areas.specs.Areas.{area, closed}
 use Rattle.areas.proofs.Laws as areas
@@ -54,8 +55,8 @@ left-without ts m w n i h few r is vs o = record {
   held =
       is .is
       ∙ ap (λ (l : List ℕ). closed l (i * 4) 4 (n * 4)) (o .held)
-      ∙ areas.out-is (event-words ts) 4 (event-size ts) 400 vs n i (sym (o .many)) h (omega arith)
-      ∙ ap (area (event-words ts) 400) (rw (add-one i) (remove-parts i vs));
+      ∙ areas.out-is (event-words ts) 4 (event-size ts) event-word-count vs n i (sym (o .many)) h (omega arith)
+      ∙ ap (area (event-words ts) event-word-count) (rw (add-one i) (remove-parts i vs));
 }
 
 -- ---- of an accepted model
@@ -66,7 +67,7 @@ module _ (f : List ℕ) (i : Index) (m : Model) (acc : accepted f ≡ answer m) 
       (w : List ℕ) (n : ℕ) (vs : List Event) → Left m (o .ts) w n vs → (d : Event) (k : ℕ) → k < length vs →
       EventWords (o .ts) w k (getD vs k d)
   left-words places w n vs l d k h =
-      event-words-here (o .ts) w d vs 400 (l .held) k h
+      event-words-here (o .ts) w d vs event-word-count (l .held) k h
       (each-getD (λ (v : Event). Fine (o .ts) (v .input)) vs k d h
       (some-each (λ (v : Event). Fine (o .ts) (v .input)) (l .some) (events-fine f i m acc o places)))
 

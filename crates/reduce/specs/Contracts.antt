@@ -5,6 +5,7 @@ use mathlib.Core.Bool.{Bool, true, false, _&&_, _||_}
 use mathlib.Core.List.{List, []}
 use lib.Dec.{eqb}
 use lib.ListN.{length, getD}
+use Rattle.layout.specs.Sizes.{event-word-count}
 use Rattle.checker_result.specs.Statuses.{is-violationM}
 use Rattle.bounds.specs.Bounds.{atMost}
 use Rattle.texts.specs.Texts.{Text}
@@ -30,7 +31,7 @@ use Rattle.reduce.specs.Events.{Left}
 
 pub record Without (words : List ℕ) (count place : ℕ) (r : List ℕ) : Type 0 where
   pub is : r ≡ closed words (place * 4) 4 (count * 4)
-  pub long : length r ≡ 400
+  pub long : length r ≡ event-word-count
 
 -- ---- whether a check violates the target, a place among the texts
 
@@ -83,7 +84,7 @@ pub record Open (r : Reduced) : Type 0 where
   pub inside : r .reached < r .count
   pub few : r .count ≤ 100
   pub attempts : r .attempts < 200
-  pub long : length (r .words) ≡ 400
+  pub long : length (r .words) ≡ event-word-count
 
 -- after it: it was refused, the events w are kept, or the place is passed
 pub record Tried (r : Reduced) (w : List ℕ) (number : ℕ) (stays : Bool) (e : Reduced) : Type 0 where
@@ -98,7 +99,7 @@ pub record Tried (r : Reduced) (w : List ℕ) (number : ℕ) (stays : Bool) (e :
 pub record Attempted (f starts : List ℕ) (many : ℕ) (g : Prepared) (target : ℕ) (r e : Reduced) (q a u : ℕ) : Type 0 where
   pub attempts : e .attempts ≡ r .attempts + 1
   pub few : e .count ≤ r .count
-  pub long : length (e .words) ≡ 400
+  pub long : length (e .words) ≡ event-word-count
   pub does : (i : Index) → starts ≡ i .invariants .starts → many ≡ i .invariants .count
       → (m : Model) → accepted f ≡ answer m → (o : Indexed f i m) → PreparedFrom f i g → target < length (o .ts)
       → (vs : List Event) →
@@ -108,13 +109,13 @@ pub record Attempted (f starts : List ℕ) (many : ℕ) (g : Prepared) (target :
 -- before the reduction
 pub record Begun (e : Events) (n : ℕ) : Type 0 where
   pub few : n ≤ 100
-  pub long : length (e .words) ≡ 400
+  pub long : length (e .words) ≡ event-word-count
 
 -- after it
 pub record Reduces (f : List ℕ) (i : Index) (g : Prepared) (target : ℕ) (e : Events) (n : ℕ) (r : Reduced)
     (q a u : ℕ) : Type 0 where
   pub few : r .count ≤ 100
-  pub long : length (r .words) ≡ 400
+  pub long : length (r .words) ≡ event-word-count
   pub does : (m : Model) → accepted f ≡ answer m → (o : Indexed f i m) → PreparedFrom f i g → target < length (o .ts)
       → (vs : List Event) →
       Left m (o .ts) (e .words) n vs → Ends (sizes q a u) m (o .ts) target r (from (sizes q a u) m (o .ts) target 0 0 vs)

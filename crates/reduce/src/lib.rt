@@ -11,6 +11,7 @@ use layout::Table;
 use layout::VerdictReasons;
 use layout::Violations;
 use model_index::Index;
+ghost use Rattle.layout.specs.Sizes.{event-word-count};
 ghost use Rattle.notation.specs.Reference.{was};
 ghost use mathlib.Core.Path.{_≡_};
 ghost use Prim.Native.Nat.{_*_, _≤_, _<_};
@@ -30,7 +31,7 @@ pub struct Reduced {
 
 // The first `count` events without the one at a place.
 fn without(words: EventWords, count: usize, place: usize) -> Events
-    requires { ⌜ (place < count) × ((count ≤ 100) × (length words ≡ 400)) ⌝ }
+    requires { ⌜ (place < count) × ((count ≤ 100) × (length words ≡ event-word-count)) ⌝ }
     ensures { λ r. ⌜ Without words count place (r .words) ⌝ }
 {
     let mut left = words;
@@ -186,10 +187,10 @@ pub fn reduce_events(
         notes: b.count,
         invariants: invariants.count,
     };
-    let mut reasons = [0u32; layout::SIMULATION_REASONS];
+    let mut reasons = [0u32; layout::SIMULATION_REASON_WORDS];
     let mut violated = [0u64; layout::VIOLATIONS];
-    let mut unknowns = [0u32; layout::VERDICT_REASONS];
-    let mut incompletes = [0u32; layout::INCOMPLETE_REASONS];
+    let mut unknowns = [0u32; layout::VERDICT_REASON_WORDS];
+    let mut incompletes = [0u32; layout::INCOMPLETE_REASON_WORDS];
     let words = events.words;
     let mut r = Reduced {
         refused: 0,

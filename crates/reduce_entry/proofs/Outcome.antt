@@ -7,6 +7,7 @@ use mathlib.Core.Logic.{inl, inr}
 use native.Mathlib.Omega.{arith}
 use lib.Dec.{eqb}
 use lib.ListN.{length, getD, drop, replicate}
+use Rattle.layout.specs.Sizes.{event-word-count}
 use Rattle.areas.specs.Areas.{Cleared}
 use Rattle.checker_result.specs.Statuses.{is-violationM}
 use Rattle.texts.specs.Texts.{Text}
@@ -220,7 +221,7 @@ module _ {f : List ℕ} {i : Index} {g : Prepared} {target : ℕ} {e : Events} {
           attempts = p .attempts;
           «deletion_minimal» = p .«deletion_minimal» ∙ ap (eqb (x .reached)) (kept .many);
           events = p .events ∙ kept .many;
-          words = p .words ∙ kept .held ∙ ap (λ (ts : List Text). area (event-words ts) 400 ws) (sym here);
+          words = p .words ∙ kept .held ∙ ap (λ (ts : List Text). area (event-words ts) event-word-count ws) (sym here);
           written = p .wrote .is-size ∙ ap length bytes-are;
           check = subst (λ (y : CheckResult). shown.Shows f y c) (sym (p .check)) s;
         }

@@ -4,6 +4,7 @@ use Prim.Native.Nat.{ℕ}
 use mathlib.Core.Path.{_≡_}
 use mathlib.Core.List.{List, _++_}
 use lib.ListN.{length, drop}
+use Rattle.layout.specs.Sizes.{event-word-count}
 use Rattle.areas.specs.Areas.{area}
 use Rattle.model_spec.specs.Answer.{Answer, answer, refused}
 use Rattle.model_spec.specs.Rewrite.{place-of}
@@ -25,7 +26,7 @@ pub record Shows (f : List ℕ) (r : Minimized) (d : checker.Minimized) : Type 0
   pub attempts : r .attempts ≡ d .attempts
   pub «deletion_minimal» : r .«deletion_minimal» ≡ d .deletion-minimal
   pub events : r .events ≡ length (d .events)
-  pub words : r .words ≡ area (event-words (texts-in f)) 400 (d .events)
+  pub words : r .words ≡ area (event-words (texts-in f)) event-word-count (d .events)
   pub written : r .written ≡ length (reduced-file f d)
   pub check : check.Shows f (r .check) (d .check)
 

@@ -74,7 +74,8 @@ fn first_check(
     output: &mut [u8],
 ) -> Minimized
     requires { ⌜ Given (now file) index (prepared-of (b .table) (b .cells) (b .count) (now notes)) events n (now output) ⌝ }
-    ensures { λ e. ⌜ ReducesAll (was file) index (prepared-of (b .table) (b .cells) (b .count) (was notes)) events n e (was queue)
+    ensures { λ e. ⌜ ReducesAll (was file) index (prepared-of (b .table) (b .cells) (b .count) (was notes)) events n e
+        (was queue)
         (is queue) (was records) (is records) (was runs) (is runs) (was output) (is output) ⌝ }
 {
     let words = events.words;
@@ -121,7 +122,7 @@ fn run(
     if output.len() < file.len() + 45 {
         return reduce_result::refused(44);
     }
-    let mut notes = [0u32; layout::SIMULATION_REASONS];
+    let mut notes = [0u32; layout::SIMULATION_REASON_WORDS];
     let b = engine_entry::prepared(file, index, &mut notes);
     let table = b.table;
     let events = engine_inputs::events_of(file, index);

@@ -5,6 +5,7 @@ use mathlib.Core.Bool.{false}
 use mathlib.Core.List.{List}
 use lib.Dec.{eqb}
 use lib.ListN.{replicate}
+use Rattle.layout.specs.Sizes.{event-word-count}
 use Rattle.model_rewrite.specs.declared.Span.{Span}
 use Rattle.model_rewrite.specs.Span.{spanM}
 use Rattle.model_rewrite.specs.Written.{file-with, Room, Wrote}
@@ -27,7 +28,7 @@ pub refused-is : (n : ℕ) {c : CheckResult} → c ≡ no-check n →
       attempts = 0;
       «deletion_minimal» = false;
       events = 0;
-      words = replicate 400 0;
+      words = replicate event-word-count 0;
       written = 0;
       check = c;
     } ≡ no-reduction n

@@ -4,6 +4,7 @@ use mathlib.Core.Path.{_≡_}
 use mathlib.Core.List.{List}
 use lib.Dec.{eqb}
 use lib.ListN.{length}
+use Rattle.layout.specs.Sizes.{event-word-count}
 use Rattle.model_spec.specs.Answer.{refused}
 use Rattle.model_spec.specs.Validate.{accepted}
 use Rattle.model_index.specs.declared.Index.{Index}
@@ -25,7 +26,7 @@ Placed n r = n ≤ 65535 → r ≡ n
 -- the output has room for the file with the events that are left
 pub record Ready (f : List ℕ) (x : Reduced) (o : List ℕ) : Type 0 where
   pub room : Room f (spanM f) (x .words) (x .count) o
-  pub long : length (x .words) ≡ 400
+  pub long : length (x .words) ≡ event-word-count
 
 -- the answer repeats what was reduced, and the output holds the file with the events that are left
 pub record Repeats (f : List ℕ) (target n : ℕ) (x : Reduced) (c : CheckResult) (r : Minimized) (o o' : List ℕ) : Type 0 where

@@ -2,6 +2,7 @@
 use Prim.Native.Nat.{ℕ}
 use mathlib.Core.Bool.{false}
 use lib.ListN.{replicate}
+use Rattle.layout.specs.Sizes.{event-word-count}
 use Rattle.model_spec.specs.Answer.{refused}
 use Rattle.checker_result.specs.Result.{no-check}
 use Rattle.reduce_result.specs.declared.Minimized.{Minimized}
@@ -14,7 +15,7 @@ no-reduction n = record {
   attempts = 0;
   «deletion_minimal» = false;
   events = 0;
-  words = replicate 400 0;
+  words = replicate event-word-count 0;
   written = 0;
   check = no-check n;
 }

@@ -102,7 +102,8 @@ pub fn last_check(
     output: &mut [u8],
 ) -> Minimized
     requires { ⌜ Ready (now file) r (now output) ⌝ }
-    ensures { λ e. ⌜ Finished (was file) index (prepared-of (b .table) (b .cells) (b .count) (was notes)) target «original_events» r e
+    ensures { λ e. ⌜ Finished (was file) index (prepared-of (b .table) (b .cells) (b .count) (was notes))
+        target «original_events» r e
         (was queue) (is queue) (was records) (is records) (was runs) (is runs) (was output) (is output) ⌝ }
 {
     let words = r.words;

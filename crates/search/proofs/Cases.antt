@@ -8,6 +8,7 @@ use native.Mathlib.Omega.{arith}
 use lib.Dec.{leb}
 use lib.ListN.{length, getD}
 use borrow.Author.Tests.{le-leb, lt-leb}
+use Rattle.layout.specs.Sizes.{verdict-reasons}
 use Rattle.checker_result.specs.Statuses.{refusalM, is-violationM}
 use Rattle.texts.specs.Lists.{is-empty}
 use Rattle.texts.specs.Texts.{Text, text, insertT, sortedT}
@@ -71,9 +72,13 @@ module _ {f : List ℕ} {p : Entire} {q a u : ℕ} (x : Setting f p q a u) where
   unfolding render body alone words
   spent-is = rw (no-text f (p .prepared .table) (x .indexed .ts) m table) refl
 
-  pub pool-few : length (search-pool m) ≤ 400
+  pub pool-few : length (search-pool m) ≤ verdict-reasons
   unfolding search-pool
-  pool-few = omega (arith, few-in-pool f (x .index) m (x .is-accepted) (x .indexed) (x .bytes) (p .prepared) (x .prepared-from))
+  pool-few = omega (
+    arith,
+    few-in-pool f (x .index) m (x .is-accepted) (x .indexed) (x .bytes) (p .prepared)
+        (x .prepared-from),
+  )
 
   pub widen : (l : List Text) → Among (check-pool m) l → Among (search-pool m) l
   unfolding search-pool
@@ -83,7 +88,7 @@ module _ {f : List ℕ} {p : Entire} {q a u : ℕ} (x : Setting f p q a u) where
   unfolding search-pool
   spent-among = (mem-first spent-text (check-pool m), tt)
 
-  pub few-reasons : (s : verify.Search) (o : Search) (w : List ℕ) → Held x s o w → o .reasons ≤ 400
+  pub few-reasons : (s : verify.Search) (o : Search) (w : List ℕ) → Held x s o w → o .reasons ≤ verdict-reasons
   few-reasons s o w h = omega (arith, h .reasons .many, sorted-few (search-pool m) (s .reasons) (h .within), pool-few)
 
   -- a witness stays
@@ -335,7 +340,8 @@ module _ {f : List ℕ} {p : Entire} {q a u : ℕ} {placed : Placed} {c : CheckR
           ≡ sortedT (b .unknown ++ s .reasons) = ap (λ (t : List Text). insertAll t (listed f (o .reasons) w))
           (k .unknown .texts) ∙ ap (insertAll (b .unknown)) (h .reasons .texts)
           ∙ Rattle.reasons.proofs.Sorting.merged (b .unknown) (s .reasons) in
-          let few : length (insertAll (listed f (c .unknown) (c .unknowns)) (listed f (o .reasons) w)) ≤ 400 = omega (
+          let few : length (insertAll (listed f (c .unknown) (c .unknowns))
+          (listed f (o .reasons) w)) ≤ verdict-reasons = omega (
             arith,
             ap length first,
             sorted-few (search-pool (x .m)) (b .unknown ++ s .reasons)

@@ -235,10 +235,10 @@ pub fn search_depths(
     ensures { λ r. ⌜ Deepens (was file) (entire p (was table) (was starts) (was notes)) depth o (was w) r (is w)
         (length (was queue)) (length (was records)) (length (was runs)) ⌝ }
 {
-    let mut reasons = [0u32; layout::SIMULATION_REASONS];
+    let mut reasons = [0u32; layout::SIMULATION_REASON_WORDS];
     let mut violated = [0u64; layout::VIOLATIONS];
-    let mut unknowns = [0u32; layout::VERDICT_REASONS];
-    let mut incompletes = [0u32; layout::INCOMPLETE_REASONS];
+    let mut unknowns = [0u32; layout::VERDICT_REASON_WORDS];
+    let mut incompletes = [0u32; layout::INCOMPLETE_REASON_WORDS];
     deepen(
         file,
         table,

@@ -6,6 +6,7 @@ use mathlib.Core.List.{List, []}
 use native.Mathlib.Omega.{arith}
 use lib.ListN.{length, replicate}
 use borrow.Author.Tests.{eq-eqb, ne-eqb}
+use Rattle.layout.specs.Sizes.{verdict-reason-words, verdict-reasons}
 use Rattle.bounds.specs.Bounds.{AtMost}
 use Rattle.reasons.specs.Readable.{HasText}
 use Rattle.reasons.specs.Lists.{reasons, listed, insertAll, Clean, Holds, Grows}
@@ -91,15 +92,17 @@ module _ {b : Bool} {n : ℕ} where
 
 -- ---- the reasons
 
-pub told-room : (f b : List ℕ) (m : ℕ) (a : List ℕ) → m ≤ 400 → length b ≡ 4000 → length a ≡ 2000 →
+pub told-room : (f b : List ℕ) (m : ℕ) (a : List ℕ) → m ≤ verdict-reasons → length b ≡ 4000 →
+    length a ≡ verdict-reason-words →
     (m * 5 ≤ length b) × (length (insertAll (listed f m b) (listed f 0 a)) * 5 ≤ length a)
 unfolding reasons
 told-room f b m a h l k = (omega (arith, h, l), omega (arith, h, k, all-many (listed f m b) [], listing.length-listed f m b))
 
-pub told-reasons : (f b : List ℕ) {a' : List ℕ} {n m r : ℕ} → AtMost n 400 m →
-    Grows f (Clean f m b) (insertAll (listed f m b) (listed f 0 (replicate 2000 0))) 0 (replicate 2000 0) r a' →
-    n ≤ 400 → (HasText f → Clean f n b) → Holds f (insertAll (listed f n b) []) r a'
+pub told-reasons : (f b : List ℕ) {a' : List ℕ} {n m r : ℕ} → AtMost n verdict-reasons m →
+    Grows f (Clean f m b) (insertAll (listed f m b) (listed f 0 (replicate verdict-reason-words 0))) 0
+    (replicate verdict-reason-words 0) r a' →
+    n ≤ verdict-reasons → (HasText f → Clean f n b) → Holds f (insertAll (listed f n b) []) r a'
 told-reasons f b {a'} {n} {m} {r} k h o c =
     subst (λ (j : ℕ). Holds f (insertAll (listed f j b) []) r a') (k .same o)
     (grown f (insertAll (listed f m b)) h (λ t. subst (λ (j : ℕ). Clean f j b) (sym (k .same o)) (c t))
-    (holds-zeros f (zeros 2000)))
+    (holds-zeros f (zeros verdict-reason-words)))

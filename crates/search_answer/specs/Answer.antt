@@ -5,6 +5,7 @@ use mathlib.Core.Bool.{Bool}
 use mathlib.Core.List.{List, []}
 use lib.Dec.{eqb}
 use lib.ListN.{replicate}
+use Rattle.layout.specs.Sizes.{verdict-reasons}
 use Rattle.texts.specs.Lists.{if_then_else_}
 use Rattle.reasons.specs.Readable.{HasText}
 use Rattle.reasons.specs.Lists.{listed, insertAll, Clean, Holds}
@@ -51,7 +52,7 @@ pub record Told (f : List ℕ) (limits : ℕ) (is : Alphabet) (gs : Gaps) (h : �
   pub words : r .words ≡ x .words
   pub written : r .written ≡ x .written
   pub check : r .check ≡ x .check
-  pub reasons : o .reasons ≤ 400 → (HasText f → Clean f (o .reasons) w) →
+  pub reasons : o .reasons ≤ verdict-reasons → (HasText f → Clean f (o .reasons) w) →
       Holds f (insertAll (listed f (o .reasons) w) []) (r .reasons) (r .told)
 
 -- ---- the witness

@@ -3,6 +3,7 @@ use Prim.Native.Nat.{ℕ}
 use mathlib.Core.Bool.{false}
 use mathlib.Core.List.{List}
 use lib.ListN.{replicate}
+use Rattle.layout.specs.Sizes.{verdict-reason-words}
 use Rattle.checker_result.specs.declared.CheckResult.{CheckResult}
 use Rattle.checker_result.specs.Result.{no-check}
 use Rattle.checker_result.specs.Result as check
@@ -50,7 +51,7 @@ unverified n c = record {
   gaps = 0;
   seconds = replicate 4 0;
   reasons = 0;
-  told = replicate 2000 0;
+  told = replicate verdict-reason-words 0;
   shortest = false;
   events = 0;
   words = replicate 20 0;

@@ -81,7 +81,7 @@ pub fn refused(
         ≡ no-verification number ⌝ }
 {
     let check = checker_result::refused_judgement(0, reasons, violated, unknowns, incompletes);
-    *told = [0u32; layout::VERDICT_REASONS];
+    *told = [0u32; layout::VERDICT_REASON_WORDS];
     Searched {
         status: Found::Refused(number),
         cases: 0,
@@ -166,8 +166,8 @@ pub fn told_of(
     let seconds = gaps.seconds;
     let words = x.words;
     let check = x.check;
-    *told = [0u32; layout::VERDICT_REASONS];
-    let many = bounds::min_usize(o.reasons, 400);
+    *told = [0u32; layout::VERDICT_REASON_WORDS];
+    let many = bounds::min_usize(o.reasons, layout::VERDICT_REASONS);
     let reasons = reasons::merge(file, told, 0, w, many);
     let status = status_of(o.found, reasons);
     Searched {

@@ -5,6 +5,7 @@ use mathlib.Core.List.{List}
 use native.Mathlib.Omega.{arith}
 use native.Mathlib.Nat.{mul-zero, mul-le-mul, mod-lt, div-lt-iff-lt-mul}
 use lib.ListN.{length, getD}
+use Rattle.layout.specs.Sizes.{simulation-reasons, verdict-reasons}
 use Rattle.bounds.specs.Bounds.{AtMost}
 use Rattle.texts.specs.Texts.{Text, insertT}
 use Rattle.reasons.specs.Kinds as kinds
@@ -44,8 +45,9 @@ merge-room f b m a n h o l = (
   ),
 )
 
-pub spent-reasons : (f w : List ℕ) {w' : List ℕ} {k n r : ℕ} {y : Reason} → AtMost k 400 n → y ≡ alone kinds.search-spent →
-    Grows f (Readable f y) (insertT (render f y) (listed f n w)) n w r w' → k ≤ 400 →
+pub spent-reasons : (f w : List ℕ) {w' : List ℕ} {k n r : ℕ} {y : Reason} → AtMost k verdict-reasons n →
+    y ≡ alone kinds.search-spent →
+    Grows f (Readable f y) (insertT (render f y) (listed f n w)) n w r w' → k ≤ verdict-reasons →
     Grows f (Unit {0}) (insertT (render f (alone kinds.search-spent)) (listed f k w)) k w r w'
 spent-reasons f w {w'} {k} {n} {r} a e h o =
     let g = subst (λ (z : Reason). Grows f (Readable f z) (insertT (render f z) (listed f n w)) n w r w') e h in
@@ -57,9 +59,9 @@ spent-reasons f w {w'} {k} {n} {r} a e h o =
     })
 
 pub gathers-is : (f w : List ℕ) (n : ℕ) {un inc : ℕ} (us ws : List ℕ) {k many first j more r : ℕ} {w₁ w₂ : List ℕ} →
-    AtMost n 400 k
-    → AtMost un 400 many →
-    Grows f (Clean f many us) (insertAll (listed f many us) (listed f k w)) k w first w₁ → AtMost first 400 j
+    AtMost n verdict-reasons k
+    → AtMost un verdict-reasons many →
+    Grows f (Clean f many us) (insertAll (listed f many us) (listed f k w)) k w first w₁ → AtMost first verdict-reasons j
     → AtMost inc 40 more →
     Grows f (Clean f more ws) (insertAll (listed f more ws) (listed f j w₁)) j w₁ r w₂ → Gathers f n un us inc ws w r w₂
 gathers-is f w n {un} {inc} us ws {k} {many} {first} {j} {more} {r} {w₁} {w₂} ak am h aj ao g on om oo few =
@@ -77,8 +79,8 @@ gathers-is f w n {un} {inc} us ws {k} {many} {first} {j} {more} {r} {w₁} {w₂
       clean = λ b c. g₁ .clean (b .1) (h₁ .clean (b .0) c);
     }
 
-pub begins-reasons : (f w notes : List ℕ) {w' : List ℕ} {count n r : ℕ} → AtMost count 300 n →
-    Grows f (Clean f n notes) (insertAll (listed f n notes) (listed f 0 w)) 0 w r w' → count ≤ 300 →
+pub begins-reasons : (f w notes : List ℕ) {w' : List ℕ} {count n r : ℕ} → AtMost count simulation-reasons n →
+    Grows f (Clean f n notes) (insertAll (listed f n notes) (listed f 0 w)) 0 w r w' → count ≤ simulation-reasons →
     Grows f (Clean f count notes) (insertAll (listed f count notes) (listed f 0 w)) 0 w r w'
 begins-reasons f w notes {w'} {count} {n} {r} a h o =
     subst (λ (j : ℕ). Grows f (Clean f j notes) (insertAll (listed f j notes) (listed f 0 w)) 0 w r w') (a .same o) h

@@ -5,6 +5,7 @@ use mathlib.Core.Bool.{true, false}
 use mathlib.Core.List.{List}
 use lib.Dec.{eqb}
 use lib.ListN.{length, getD}
+use Rattle.layout.specs.Sizes.{incomplete-reasons, simulation-reasons, verdict-reasons}
 use Rattle.bounds.specs.Bounds.{AtMost}
 use Rattle.texts.specs.Texts.{insertT}
 use Rattle.reasons.specs.Kinds as kinds
@@ -72,7 +73,7 @@ pub record Spends (f : List ℕ) (o : Search) (w : List ℕ) (r : Search) (w' : 
   pub shortest : r .shortest ≡ o .shortest
   pub stopped : r .stopped ≡ true
   pub witness : r .witness ≡ o .witness
-  pub reasons : o .reasons ≤ 400 →
+  pub reasons : o .reasons ≤ verdict-reasons →
       Grows f (Unit {0}) (insertT (render f (alone kinds.search-spent)) (listed f (o .reasons) w)) (o .reasons) w
       (r .reasons) w'
 
@@ -101,8 +102,8 @@ pub record Other (o : Search) (count took : ℕ) (r : Search) : Type 0 where
 abbrev pub Gathers : (f : List ℕ) → (n unknown : ℕ) → (unknowns : List ℕ) → (incomplete : ℕ) → (incompletes : List ℕ)
     → (w : List ℕ) → (r : ℕ) → (w' : List ℕ) → Type 0
 Gathers f n k us j ws w r w' =
-    n ≤ 400 → k ≤ 400 → j ≤ 40 →
-    length (insertAll (listed f k us) (listed f n w)) ≤ 400 →
+    n ≤ verdict-reasons → k ≤ verdict-reasons → j ≤ incomplete-reasons →
+    length (insertAll (listed f k us) (listed f n w)) ≤ verdict-reasons →
     Grows f (Clean f k us × Clean f j ws) (insertAll (listed f j ws) (insertAll (listed f k us) (listed f n w))) n w r w'
 
 -- ---- the next events
@@ -122,4 +123,5 @@ pub record Begins (f : List ℕ) (n : ℕ) (notes w : List ℕ) (r : Search) (w'
   pub found : r .found ≡ false
   pub shortest : r .shortest ≡ false
   pub stopped : r .stopped ≡ false
-  pub reasons : n ≤ 300 → Grows f (Clean f n notes) (insertAll (listed f n notes) (listed f 0 w)) 0 w (r .reasons) w'
+  pub reasons : n ≤ simulation-reasons → Grows f (Clean f n notes) (insertAll (listed f n notes) (listed f 0 w)) 0 w
+      (r .reasons) w'

@@ -13,7 +13,18 @@ ghost use mathlib.Core.Path.{_≡_};
 ghost use Prim.Native.Nat.{_+_, _*_, _≤_, _<_};
 ghost use lib.ListN.{length};
 ghost use Rattle.engine_fields.specs.Fields.{cap};
-ghost use Rattle.search_cases.specs.Contracts.{limitM, Plans, Shaped, refusedM, Spends, Found, Other, Gathers, Nexts, Begins};
+ghost use Rattle.search_cases.specs.Contracts.{
+  limitM,
+  Plans,
+  Shaped,
+  refusedM,
+  Spends,
+  Found,
+  Other,
+  Gathers,
+  Nexts,
+  Begins,
+};
 
 // What all cases share beside the arrays that are lent: the start, what is chosen from, the horizon and the most cases.
 pub struct Plan {
@@ -98,7 +109,7 @@ pub fn spent(f: &[u8], o: Search, w: &mut [u32]) -> Search
     ensures { λ r. ⌜ Spends (was f) o (was w) r (is w) ⌝ }
 {
     let witness = o.witness;
-    let n = bounds::min_usize(o.reasons, 400);
+    let n = bounds::min_usize(o.reasons, layout::VERDICT_REASONS);
     let why = engine_fields::by_itself(reasons::SEARCH_SPENT);
     let count = reasons::insert_sorted(f, w, n, why);
     Search {
@@ -143,11 +154,11 @@ pub fn gather(
     requires { ⌜ length (now w) ≡ 4000 ⌝ }
     ensures { λ r. ⌜ Gathers (was f) n unknown (was unknowns) incomplete (was incompletes) (was w) r (is w) ⌝ }
 {
-    let k = bounds::min_usize(n, 400);
-    let many = bounds::min_usize(unknown, 400);
+    let k = bounds::min_usize(n, layout::VERDICT_REASONS);
+    let many = bounds::min_usize(unknown, layout::VERDICT_REASONS);
     let first = reasons::merge(f, w, k, unknowns, many);
-    let j = bounds::min_usize(first, 400);
-    let more = bounds::min_usize(incomplete, 40);
+    let j = bounds::min_usize(first, layout::VERDICT_REASONS);
+    let more = bounds::min_usize(incomplete, layout::INCOMPLETE_REASONS);
     reasons::merge(f, w, j, incompletes, more)
 }
 
@@ -197,7 +208,7 @@ pub fn begun(f: &[u8], notes: &SimulationReasons, n: usize, w: &mut [u32]) -> Se
     requires { ⌜ length (now w) ≡ 4000 ⌝ }
     ensures { λ r. ⌜ Begins (was f) n (was notes) (was w) r (is w) ⌝ }
 {
-    let many = bounds::min_usize(n, 300);
+    let many = bounds::min_usize(n, layout::SIMULATION_REASONS);
     let count = reasons::merge(f, w, 0, notes, many);
     Search {
         refused: 0,

@@ -6,6 +6,7 @@ use mathlib.Core.List.{List, [], _∷_}
 use mathlib.Core.Option.{none}
 use native.Mathlib.Omega.{arith}
 use lib.ListN.{getD, replicate, length-append}
+use Rattle.layout.specs.Sizes.{simulation-reasons}
 use Rattle.texts.specs.Lists.{flat}
 use Rattle.texts.specs.Texts.{Text}
 use Rattle.reasons.specs.Lists.{listed, insertAll, Holds}
@@ -76,7 +77,8 @@ module _ (f : List ℕ) (i : Index) (m : Model) (acc : accepted f ≡ answer m) 
     pub few : Searchable m
     few = accepted-searchable f m acc
 
-    abbrev pub setting : (bytes : (k : ℕ) → getD f k 0 < 256) (x w : List ℕ) → PreparedFrom f i (prepared-of x c n w) → (q a u : ℕ)
+    abbrev pub setting : (bytes : (k : ℕ) → getD f k 0 < 256) (x w : List ℕ) → PreparedFrom f i (prepared-of x c n w) →
+        (q a u : ℕ)
         → Setting f (entire p x (i .invariants .starts) w) q a u
     setting bytes x w gr q a u = record {
       m = m;
@@ -135,7 +137,7 @@ start-of m = record {
 }
 
 module _ {f : List ℕ} {p : Entire} {q a u : ℕ} (x : Setting f p q a u) where
-  few-notes : p .prepared .count ≤ 300
+  few-notes : p .prepared .count ≤ simulation-reasons
   unfolding pool-of
   few-notes =
       omega (

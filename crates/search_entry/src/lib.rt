@@ -287,11 +287,11 @@ pub fn verify(
     ensures { λ r. ⌜ Verifies (was file) r (lent (was queue) (was records) (was runs))
         (lent (is queue) (is records) (is runs)) (was output) (is output) ⌝ }
 {
-    let mut told = [0u32; layout::VERDICT_REASONS];
-    let mut reasons = [0u32; layout::SIMULATION_REASONS];
+    let mut told = [0u32; layout::VERDICT_REASON_WORDS];
+    let mut reasons = [0u32; layout::SIMULATION_REASON_WORDS];
     let mut violated = [0u64; layout::VIOLATIONS];
-    let mut unknowns = [0u32; layout::VERDICT_REASONS];
-    let mut incompletes = [0u32; layout::INCOMPLETE_REASONS];
+    let mut unknowns = [0u32; layout::VERDICT_REASON_WORDS];
+    let mut incompletes = [0u32; layout::INCOMPLETE_REASON_WORDS];
     let x = verify_lent(
         file,
         queue,

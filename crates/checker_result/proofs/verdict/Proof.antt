@@ -24,7 +24,8 @@ verdict-spec =
           omega (
             arith,
             laws.merged-most _ _ _ _
-                (c .before .before .before .before .before .before .before .before .before .before .before .before .min-usize .ensures
+                (c .before .before .before .before .before .before .before .before .before .before .before .before
+                .min-usize .ensures
                 .most) (c .before .before .before .before .before .before .before .before .before .merge .ensures),
           ),
           omega (arith, c5 .add-waiting .ensures .most, c7 .add-stopped .ensures .most),

@@ -60,7 +60,8 @@ rule-sets-spec =
       c12 .loop .inv .0 ∙ entry.fill-more _ _ _ _ (c11 .loop-test .taken)
           (laws.write-is _ _ _ (c8 .rule-walk .ensures) (c4 .writes .ensures)),
       c12 .loop .inv .1
-          ∙ entry.fill-more _ _ _ _ (c11 .loop-test .taken) (laws.need-is _ _ _ (c8 .rule-walk .ensures) (c .needs .ensures)),
+          ∙ entry.fill-more _ _ _ _ (c11 .loop-test .taken)
+          (laws.need-is _ _ _ (c8 .rule-walk .ensures) (c .needs .ensures)),
     ))
     (λ c. record {
       writes = sym (c .before .loop .inv .0 ∙ entry.fill-end _ _ _ _ (c .loop-test .left));

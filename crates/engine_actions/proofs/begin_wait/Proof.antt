@@ -5,7 +5,7 @@ use Rattle.engine_state.proofs.Laws.{none, one, two, same, wide}
 use Rattle.engine_state.proofs.Laws as states
 use Rattle.engine_trigger.proofs.Laws as steps
 use Rattle.engine_actions.proofs.Laws as laws
-use Rattle.engine_actions.specs.Perform.{waitingM}
+use Rattle.engine_actions.specs.Actions.{waitingM}
 use Rattle.engine_trigger.specs.Runs.{finishM}
 use Rattle.engine_state.specs.Changes.{log-actionM, addM}
 use borrow.Author.Needs.{needs}

@@ -5,7 +5,7 @@ use Rattle.engine_trigger.proofs.Laws as steps
 use Rattle.engine_actions.proofs.Laws as laws
 use Rattle.engine_modes.proofs.Compose as wholes
 use Rattle.engine_modes.proofs.Compose.{apart, lent}
-use Rattle.engine_actions.specs.Perform.{chosenM}
+use Rattle.engine_actions.specs.Actions.{chosenM}
 use borrow.Author.Needs.{needs}
 use Rattle.engine_actions.proofs.choose.Statement.{statement}
 use Rattle.engine_actions.proofs.choose.Tie as tie

@@ -3,7 +3,7 @@ use Rattle.engine_state.proofs.Laws.{two, both}
 use Rattle.engine_state.proofs.Laws as states
 use Rattle.engine_trigger.proofs.Laws as steps
 use Rattle.engine_actions.proofs.Laws as laws
-use Rattle.engine_actions.specs.Perform.{testedM}
+use Rattle.engine_actions.specs.Actions.{testedM}
 use borrow.Author.Needs.{needs}
 use Rattle.engine_actions.proofs.condition.Statement.{statement}
 use Rattle.engine_actions.proofs.condition.Tie as tie

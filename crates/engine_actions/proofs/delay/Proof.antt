@@ -3,7 +3,7 @@ use Rattle.engine_state.proofs.Laws.{none, one, two}
 use Rattle.engine_state.proofs.Laws as states
 use Rattle.engine_trigger.proofs.Laws as steps
 use Rattle.engine_actions.proofs.Laws as laws
-use Rattle.engine_actions.specs.Perform.{delayM, afterM}
+use Rattle.engine_actions.specs.Actions.{delayM, afterM}
 use borrow.Author.Needs.{needs}
 use Rattle.engine_actions.proofs.delay.Statement.{statement}
 use Rattle.engine_actions.proofs.delay.Tie as tie

@@ -2,7 +2,7 @@ use native.Mathlib.Omega.{arith}
 use Rattle.engine_state.proofs.Laws.{none, one, both}
 use Rattle.engine_state.proofs.Laws as states
 use Rattle.engine_trigger.proofs.Laws as steps
-use Rattle.engine_actions.specs.Perform.{setM}
+use Rattle.engine_actions.specs.Actions.{setM}
 use Rattle.engine_modes.specs.Modes.{nowM}
 use borrow.Author.Needs.{needs}
 use Rattle.engine_actions.proofs.set.Statement.{statement}

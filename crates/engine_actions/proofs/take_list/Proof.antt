@@ -2,7 +2,7 @@ use native.Mathlib.Omega.{arith}
 use Rattle.engine_state.proofs.Laws.{none, one, two}
 use Rattle.engine_state.proofs.Laws as states
 use Rattle.engine_trigger.proofs.Laws as steps
-use Rattle.engine_actions.specs.Perform.{take-listM}
+use Rattle.engine_actions.specs.Actions.{take-listM}
 use Rattle.engine_modes.specs.Modes.{nowM}
 use Rattle.engine_state.specs.Changes.{log-actionM}
 use borrow.Author.Needs.{needs}

@@ -5,7 +5,7 @@ use Rattle.engine_trigger.proofs.Laws as steps
 use Rattle.engine_actions.proofs.Laws as laws
 use Rattle.engine_modes.proofs.Compose as wholes
 use Rattle.engine_modes.proofs.Compose.{apart}
-use Rattle.engine_actions.specs.Perform.{testedM}
+use Rattle.engine_actions.specs.Actions.{testedM}
 use borrow.Author.Needs.{needs}
 use Rattle.engine_actions.proofs.tested.Statement.{statement}
 use Rattle.engine_actions.proofs.tested.Tie as tie

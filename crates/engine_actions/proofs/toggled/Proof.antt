@@ -1,6 +1,6 @@
 use borrow.Author.Tests.{eq-eqb, ne-eqb}
 use Rattle.engine_trigger.proofs.Laws as steps
-use Rattle.engine_actions.specs.Perform.{toggledM}
+use Rattle.engine_actions.specs.Actions.{toggledM}
 use borrow.Author.Needs.{needs}
 use Rattle.engine_actions.proofs.toggled.Statement.{statement}
 use Rattle.engine_actions.proofs.toggled.Tie as tie

@@ -4,7 +4,7 @@ use Rattle.engine_state.proofs.Laws.{one, two}
 use Rattle.engine_state.proofs.Laws as states
 use Rattle.engine_trigger.proofs.Laws as steps
 use Rattle.engine_actions.proofs.Laws as laws
-use Rattle.engine_actions.specs.Perform.{unclearM}
+use Rattle.engine_actions.specs.Actions.{unclearM}
 use Rattle.engine_trigger.specs.Runs.{finishM}
 use borrow.Author.Needs.{needs}
 use Rattle.engine_actions.proofs.unclear.Statement.{statement}

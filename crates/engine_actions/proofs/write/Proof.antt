@@ -1,5 +1,5 @@
 use Rattle.engine_trigger.proofs.Laws as steps
-use Rattle.engine_actions.specs.Perform.{writtenM}
+use Rattle.engine_actions.specs.Actions.{writtenM}
 use borrow.Author.Needs.{needs}
 use Rattle.engine_actions.proofs.write.Statement.{statement}
 use Rattle.engine_actions.proofs.write.Tie as tie

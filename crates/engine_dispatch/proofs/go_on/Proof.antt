@@ -4,7 +4,7 @@ use Rattle.engine_state.proofs.Laws.{two, both, same, wide}
 use Rattle.engine_state.proofs.Laws as states
 use Rattle.engine_trigger.proofs.Laws as steps
 use Rattle.engine_dispatch.proofs.Laws as laws
-use Rattle.engine_actions.specs.Perform.{go-onM, go-on-runM, performM}
+use Rattle.engine_dispatch.specs.Resume.{go-onM, go-on-runM, performM}
 use borrow.Author.Needs.{needs}
 use Rattle.engine_dispatch.proofs.go_on.Statement.{statement}
 use Rattle.engine_dispatch.proofs.go_on.Tie as tie

@@ -3,7 +3,7 @@ use Rattle.engine_trigger.proofs.Laws as steps
 use Rattle.engine_dispatch.proofs.Laws as laws
 use Rattle.engine_modes.proofs.Compose as wholes
 use Rattle.engine_modes.proofs.Compose.{apart, lent, shared}
-use Rattle.engine_actions.specs.Perform.{performM}
+use Rattle.engine_dispatch.specs.Resume.{performM}
 use borrow.Author.Needs.{needs}
 use Rattle.engine_dispatch.proofs.perform.Statement.{statement}
 use Rattle.engine_dispatch.proofs.perform.Tie as tie

@@ -5,7 +5,7 @@ use Rattle.engine_trigger.proofs.Laws as steps
 use Rattle.engine_dispatch.proofs.Laws as laws
 use Rattle.engine_modes.proofs.Compose as wholes
 use Rattle.engine_modes.proofs.Compose.{lent, shared, apart}
-use Rattle.engine_actions.specs.Perform.{resumeM, resume-atM, resume-runM}
+use Rattle.engine_dispatch.specs.Resume.{resumeM, resume-atM, resume-runM}
 use borrow.Author.Needs.{needs}
 use Rattle.engine_dispatch.proofs.resume.Statement.{statement}
 use Rattle.engine_dispatch.proofs.resume.Tie as tie

@@ -1,4 +1,5 @@
 use borrow.Author.Needs.{needs}
+use Rattle.layout.specs.Sizes.{simulation-reason-words}
 use Rattle.reasons.proofs.Cleaning.{zeros}
 use Rattle.engine_entry.proofs.prepared.Statement.{statement}
 use Rattle.engine_entry.proofs.prepared.Tie as tie
@@ -9,5 +10,5 @@ prepared-spec =
     (tie.spec
     (λ c κs. search needs)
     (λ c κs. search needs)
-    (λ c κs. (search needs, zeros 1500))
+    (λ c κs. (search needs, zeros simulation-reason-words))
     (λ c. search needs))

@@ -3,6 +3,7 @@ use mathlib.Core.Path.{_≡_, _∙_}
 use native.Mathlib.Omega.{arith}
 use Prim.Native.Nat.{ℕ, _-_, _*_, _≤_, _<_}
 use lib.ListN.{length, getD, length-replicate, length-set}
+use Rattle.layout.specs.Sizes.{event-word-count}
 use Rattle.engine_table.proofs.Laws as table
 use Rattle.engine_inputs.specs.Inputs.{event-from}
 use Rattle.engine_inputs.proofs.Laws as laws
@@ -11,7 +12,7 @@ use Rattle.engine_inputs.proofs.events_of.Tie as tie
 
 abbrev Inv-loop : tie.InvT-loop
 Inv-loop s starts n words₀ k₀ words k = ((j : ℕ) → j < k → getD words j 0 ≡ event-from s starts j)
-    × ((length words ≡ 400) × ((k ≤ n * 4) × ((j : ℕ) → k ≤ j → getD words j 0 ≡ 0)))
+    × ((length words ≡ event-word-count) × ((k ≤ n * 4) × ((j : ℕ) → k ≤ j → getD words j 0 ≡ 0)))
 
 abbrev μ-loop : tie.MeasureT-loop
 μ-loop s starts n words₀ k₀ words k = n * 4 - k
@@ -23,7 +24,13 @@ events-of-spec =
     Inv-loop
     μ-loop
     (λ c κs. search needs)
-    (λ c. (λ j h. absurd (omega arith), (length-replicate {A = ℕ} 400 0, (omega arith, λ j h. laws.zeros 400 j))))
+    (λ c. (
+      λ j h. absurd (omega arith),
+      (
+        length-replicate {A = ℕ} event-word-count 0,
+        (omega arith, λ j h. laws.zeros event-word-count j),
+      ),
+    ))
     (λ c. omega (arith, c .before .at-most .ensures .1))
     (λ c κs. omega (arith, c .before .before .before .at-most .ensures .1, c .before .loop-test .taken))
     (λ c. search needs)

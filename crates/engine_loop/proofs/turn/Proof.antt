@@ -69,13 +69,15 @@ turn-spec =
           (
             omega (
               arith,
-              c .before .before .before .before .before .before .before .before .before .before .before .before .before .before
+              c .before .before .before .before .before .before .before .before .before .before .before .before .before
+                  .before
                   .before .before .before .before .before .before .before .before .pre,
               ap (λ s. s .reasons) (c .before .before .before .before .before .before .before .at-second .ensures),
             ),
             omega (
               arith,
-              c .before .before .before .before .before .before .before .before .before .before .before .before .before .before
+              c .before .before .before .before .before .before .before .before .before .before .before .before .before
+                  .before
                   .before .before .before .before .before .before .before .before .pre,
             ),
           ),

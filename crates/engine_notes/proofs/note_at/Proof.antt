@@ -17,7 +17,8 @@ note-at-spec =
     (λ c. search needs)
     (λ c. record {
       is =
-          sym (laws.note-is _ _ _ _ ∙ laws.by-broken _ _ _ _ _ (c .before .before .u16-at .ensures) (c .enum-told .given .1));
+          sym (laws.note-is _ _ _ _ ∙ laws.by-broken _ _ _ _ _ (c .before .before .u16-at .ensures)
+          (c .enum-told .given .1));
       clean = λ t k. k;
     })
     (λ c κs. search needs)

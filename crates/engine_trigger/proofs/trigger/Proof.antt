@@ -1,5 +1,6 @@
 use borrow.Author.Needs.{needs}
 use native.Mathlib.Omega.{arith}
+use Rattle.layout.specs.Sizes.{simulation-reason-words}
 use Rattle.engine_state.proofs.Laws.{none, two, both, same}
 use Rattle.engine_state.proofs.Laws as states
 use Rattle.engine_modes.proofs.Laws as modes
@@ -21,7 +22,7 @@ use Rattle.engine_trigger.proofs.wake.Reads as wake-reads
 abbrev Inv-loop : tie.InvT-loop
 Inv-loop f x q₀ a₀ r₀ u₀ values sequences₀ m n s₀ i₀ q a r u sequences s i =
     Moves (offer-firstM f x m i) s₀ s (goes q₀ q) (goes a₀ a) (goes r₀ r) (told f u₀ u) (goes values values) kept
-    (goes sequences₀ sequences) × ((i ≤ n) × (1500 ≤ length u))
+    (goes sequences₀ sequences) × ((i ≤ n) × (simulation-reason-words ≤ length u))
 
 abbrev μ-loop : tie.MeasureT-loop
 μ-loop f x q₀ a₀ r₀ u₀ values sequences₀ m n s₀ i₀ q a r u sequences s i = n - i
@@ -65,7 +66,7 @@ trigger-spec =
           (λ v n s k. laws.offer-more _ _ _ _ _),
       (
         omega arith,
-        subst (λ z. 1500 ≤ z) (sym (c8 .offer .ensures .reasons .0)) (c15 .loop .inv .1 .1),
+        subst (λ z. simulation-reason-words ≤ z) (sym (c8 .offer .ensures .reasons .0)) (c15 .loop .inv .1 .1),
       ),
     ))
     (λ c. search needs)

@@ -42,7 +42,8 @@ branch-findings-spec =
     let c7 = c5 .before .before in
     let c8 = c7 .before in (
       (λ i. c8 .loop .inv .0 i ∙ laws.numbers-more _ _ _ _ (c7 .loop-test .taken)
-          (laws.at-choice _ _ _ _ (c5 .kind-at .ensures) _ (c4 .if1 .taken) (c .before .before .choice-findings .ensures i))),
+          (laws.at-choice _ _ _ _ (c5 .kind-at .ensures) _ (c4 .if1 .taken)
+          (c .before .before .choice-findings .ensures i))),
       search needs,
     ))
     (λ c. search needs)

@@ -1,3 +1,4 @@
+use Rattle.layout.specs.Sizes.{simulation-reason-words}
 use Rattle.lint_notes.proofs.Laws as laws
 use borrow.Author.Needs.{needs}
 use Rattle.lint_notes.proofs.rule_notes.Statement.{statement}
@@ -12,8 +13,10 @@ returns c = λ k.
     let entry = at-row .before .before .before .before .before in
     let notes = at-notes .rule-notes .ensures in
     laws.rule-is _ _ _ _ (at-row .before .before .source-at .ensures) (at-row .put-row .ensures)
-    (laws.none-listed (entry .args .s .now) 1500) (notes .is) (λ t. notes .clean t (laws.none-clean _ 1500))
-    (at-few .min-usize .ensures) (at-with .before .before .before .number-at .ensures) (at-with .before .before .past .ensures)
+    (laws.none-listed (entry .args .s .now) simulation-reason-words) (notes .is)
+    (λ t. notes .clean t (laws.none-clean _ simulation-reason-words))
+    (at-few .min-usize .ensures) (at-with .before .before .before .number-at .ensures)
+    (at-with .before .before .past .ensures)
     (at-with .before .number-at2 .ensures) (at-with .with .ensures) (c .before .before .note-findings .ensures k)
 
 pub rule-notes-spec : {M : Type 1} → statement M

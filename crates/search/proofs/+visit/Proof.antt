@@ -173,9 +173,11 @@ visit-mul-pairs t c =
     omega (
       arith,
       laws.few-pairs _ _
-          (c .before .before .before .before .before .before .before .before .before .before .before .before .before .before .pre
+          (c .before .before .before .before .before .before .before .before .before .before .before .before .before
+          .before .pre
           .1 .fitted .gaps)
-          (c .before .before .before .before .before .before .before .before .before .before .before .before .before .before .pre
+          (c .before .before .before .before .before .before .before .before .before .before .before .before .before
+          .before .pre
           .1 .fitted .inputs),
     )
 
@@ -264,14 +266,17 @@ visit-add-k : (t : ℕ) → visit-lts.Need-add-k (
 visit-add-k t c =
     omega (
       arith,
-      c .before .before .before .before .before .before .before .before .before .before .before .before .before .before .before
+      c .before .before .before .before .before .before .before .before .before .before .before .before .before .before
+          .before
           .before .before .before .loop-test .taken,
       laws.few-pairs _ _
           (c .before .before .before .before .before .before .before .before .before .before .before .before .before .before
-          .before .before .before .before .before .before .before .before .before .before .before .before .before .before .before
+          .before .before .before .before .before .before .before .before .before .before .before .before .before
+          .before .before
           .before .before .before .before .before .pre .1 .fitted .gaps)
           (c .before .before .before .before .before .before .before .before .before .before .before .before .before .before
-          .before .before .before .before .before .before .before .before .before .before .before .before .before .before .before
+          .before .before .before .before .before .before .before .before .before .before .before .before .before
+          .before .before
           .before .before .before .before .before .pre .1 .fitted .inputs),
     )
 

@@ -31,5 +31,6 @@ gather-spec =
     let c9 = c6 .before .before .before in
     let c12 = c9 .before .before .before in
     let c13 = c12 .before in
-    laws.gathers-is _ _ _ _ _ (c13 .min-usize .ensures) (c12 .min-usize2 .ensures) (c9 .merge .ensures) (c6 .min-usize3 .ensures)
+    laws.gathers-is _ _ _ _ _ (c13 .min-usize .ensures) (c12 .min-usize2 .ensures) (c9 .merge .ensures)
+    (c6 .min-usize3 .ensures)
     (c5 .min-usize4 .ensures) (c .before .before .merge2 .ensures)))

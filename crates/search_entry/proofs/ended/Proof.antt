@@ -15,7 +15,8 @@ ended-spec =
     (λ c.
     let c12 = c .before .before .before .before .before .before .before .before .before .before .before .before in
     let c16 = c12 .before .before .before .before in
-    finish.end-refused (c16 .if1 .taken) (c .refused .ensures) (c12 .clear-three .ensures .queue) (c12 .clear-three .ensures .records)
+    finish.end-refused (c16 .if1 .taken) (c .refused .ensures) (c12 .clear-three .ensures .queue)
+    (c12 .clear-three .ensures .records)
     (c12 .clear-three .ensures .runs))
     (λ c κs.
     let c9 = c .before .before .before .before .before .before .before .before .before in
