@@ -27,7 +27,7 @@ use Rattle.engine_spec.specs.Cells.{initial-cells}
 use Rattle.engine_spec.proofs.Lists.{Each, each-split}
 use Rattle.bounds.specs.Bounds.{atMost}
 use Rattle.engine_fields.specs.Fields.{two, four, cap}
-use Rattle.engine_fields.proofs.Laws.{most-yes}
+use Rattle.bounds.proofs.Laws.{most-yes}
 use Rattle.engine_state.specs.declared.Cells.{Cells}
 use Rattle.engine_refinement.specs.Meaning.{cells-of, Tabled}
 use Rattle.engine_refinement.proofs.Accepted.{accepted-lawful}

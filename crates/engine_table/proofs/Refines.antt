@@ -81,7 +81,7 @@ use Rattle.model_index.specs.declared.Index.{Index}
 use Rattle.model_index.specs.Indexed.{Indexed}
 use Rattle.bounds.specs.Bounds.{atMost}
 use Rattle.engine_fields.specs.Fields.{two, four, cap, name, stale, word}
-use Rattle.engine_fields.proofs.Laws.{most-yes}
+use Rattle.bounds.proofs.Laws.{most-yes}
 use Rattle.engine_window.specs.Window.{startM}
 use Rattle.engine_refinement.specs.Meaning.{stale-of, mode-number, Tabled}
 use Rattle.engine_refinement.proofs.Accepted.{accepted-lawful, accepted-small}

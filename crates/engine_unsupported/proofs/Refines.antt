@@ -40,7 +40,7 @@ use Rattle.reasons.specs.Readable.{text-count}
 use Rattle.reasons.specs.Reasons as reasons
 use Rattle.bounds.specs.Bounds.{atMost}
 use Rattle.engine_fields.specs.Fields.{word, rules}
-use Rattle.engine_fields.proofs.Laws.{most-yes}
+use Rattle.bounds.proofs.Laws.{most-yes}
 use Rattle.engine_unsupported.specs.Rows.{RuleAt, RulesAt}
 use Rattle.engine_unsupported.specs.declared.Head.{Head}
 use Rattle.engine_notes.specs.declared.Part.the-variants as part
