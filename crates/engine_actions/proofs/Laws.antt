@@ -19,7 +19,24 @@ use Rattle.engine_state.specs.Machine.{Machine, later}
 use Rattle.engine_state.specs.Changes.{uncertainM, log-actionM, next-stepM}
 use Rattle.engine_modes.specs.Modes.{nowM}
 use Rattle.engine_trigger.specs.Runs.{finishM}
-use Rattle.engine_actions.specs.Actions.{setM, toggledM, doubtM, flip-fromM, flip-atM, flipM, afterM, testedM, condition-asM, conditionM, chosenM, chooseM, wait, waitingM, begin-waitM, give-upM}
+use Rattle.engine_actions.specs.Actions.{
+  setM,
+  toggledM,
+  doubtM,
+  flip-fromM,
+  flip-atM,
+  flipM,
+  afterM,
+  testedM,
+  condition-asM,
+  conditionM,
+  chosenM,
+  chooseM,
+  wait,
+  waitingM,
+  begin-waitM,
+  give-upM,
+}
 
 pub doubt-is : (f x : List ℕ) (r : Run) (kind i : ℕ) (why : Reason) (m : Machine) → i ≡ atMost (r .automation) 31 →
     why ≡ aboutRule f x i kind → uncertainM f why m ≡ doubtM f x r kind m

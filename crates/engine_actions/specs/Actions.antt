@@ -4,6 +4,8 @@ use mathlib.Core.Bool.{Bool}
 use mathlib.Core.List.{List}
 use lib.Dec.{ltb, eqb}
 use lib.ListN.{getD}
+use Rattle.layout.specs.Table.{off-word, on-word}
+use Rattle.records.specs.Kinds.{choose-kind, condition-kind, delay-kind, unknown-kind, wait-kind}
 use Rattle.texts.specs.Lists.{if_then_else_}
 use Rattle.queue.specs.declared.Work.the-variants.{Timeout}
 use Rattle.records.specs.declared.Rule.the-variants.{Of}
@@ -35,7 +37,7 @@ setM x r s e v m = nowM r (writtenM x r s e v m)
 
 -- on and off, each for the other
 unfoldable pub toggledM : List ℕ → ℕ → ℕ
-toggledM x v = if eqb v (getD x 4 0) then getD x 5 0 else getD x 4 0
+toggledM x v = if eqb v (getD x on-word 0) then getD x off-word 0 else getD x on-word 0
 
 -- a reason about a run's automation
 unfoldable pub doubtM : (f x : List ℕ) → Run → (kind : ℕ) → Machine → Machine
@@ -56,7 +58,7 @@ abbrev pub afterM : Run → (seconds : ℕ) → Machine → Machine
 afterM r n m = next-stepM r (later (m .now) n) m
 
 unfoldable pub delayM : Run → Source → (seconds : ℕ) → Machine → Machine
-delayM r s n m = afterM r n (log-actionM 15 n s r m)
+delayM r s n m = afterM r n (log-actionM delay-kind n s r m)
 
 -- the run ends for a reason
 unfoldable pub unclearM : (f x : List ℕ) → (k : ℕ) → Run → (kind : ℕ) → Machine → Machine
@@ -68,13 +70,13 @@ testedM f x k r No m = finishM k m
 testedM f x k r Unknown m = unclearM f x k r kinds.action-condition m
 
 unfoldable pub condition-asM : (f x : List ℕ) → (k : ℕ) → Run → Source → Truth → Machine → Machine
-condition-asM f x k r s t m = testedM f x k r t (log-actionM 11 (numberM t) s r m)
+condition-asM f x k r s t m = testedM f x k r t (log-actionM condition-kind (numberM t) s r m)
 
 unfoldable pub conditionM : (f x : List ℕ) → (k : ℕ) → Run → Source → (at : ℕ) → Machine → Machine
 conditionM f x k r s at m = condition-asM f x k r s (evaluateM f x (m .values) (m .now) at) m
 
 unfoldable pub take-listM : (f : List ℕ) → (k : ℕ) → Run → Source → (at : ℕ) → Machine → Machine
-take-listM f k r s at m = nowM r (log-actionM 8 0 s r (put-runM k (listM f r at) m))
+take-listM f k r s at m = nowM r (log-actionM choose-kind 0 s r (put-runM k (listM f r at) m))
 
 unfoldable pub chosenM : (f x : List ℕ) → (k : ℕ) → Run → Source → Branch → Machine → Machine
 chosenM f x k r s (Take p) m = take-listM f k r s p m
@@ -89,7 +91,7 @@ wait t d b s = record { trigger = t; deadline = d; «continue_on_timeout» = b; 
 
 unfoldable pub waitingM : (k : ℕ) → Run → Source → (seconds deadline : ℕ) → Wait → Machine → Machine
 waitingM k r s n d w m =
-    log-actionM 16 n s r (addM d (Timeout (r .automation) (r .sequence)) (put-runM k (phaseM (Waiting w) r) m))
+    log-actionM wait-kind n s r (addM d (Timeout (r .automation) (r .sequence)) (put-runM k (phaseM (Waiting w) r) m))
 
 -- a trigger with a note isn't waited for
 unfoldable pub begin-waitM : (f : List ℕ) → (k : ℕ) → Run → Source → (at : ℕ) → Machine → Machine
@@ -100,4 +102,4 @@ begin-waitM f k r s at m =
     else finishM k (uncertainM f (alone kinds.wait) m)
 
 unfoldable pub give-upM : (f : List ℕ) → (k : ℕ) → Run → Source → (reason : ℕ) → Machine → Machine
-give-upM f k r s n m = finishM k (log-actionM 18 n s r (uncertainM f (noteReason f n) m))
+give-upM f k r s n m = finishM k (log-actionM unknown-kind n s r (uncertainM f (noteReason f n) m))

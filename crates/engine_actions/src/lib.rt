@@ -29,7 +29,20 @@ ghost use mathlib.Core.Path.{_≡_};
 ghost use Prim.Native.Nat.{_<_};
 ghost use Rattle.reasons.specs.Kinds.{OneText};
 ghost use Rattle.engine_state.specs.Steps.{Moves, Does, goes, kept, told, still, Fits-qa, Fits-qar, Fits-qau, Fits, by};
-ghost use Rattle.engine_actions.specs.Actions.{writtenM, setM, toggledM, flipM, delayM, unclearM, testedM, conditionM, take-listM, chooseM, begin-waitM, give-upM};
+ghost use Rattle.engine_actions.specs.Actions.{
+  writtenM,
+  setM,
+  toggledM,
+  flipM,
+  delayM,
+  unclearM,
+  testedM,
+  conditionM,
+  take-listM,
+  chooseM,
+  begin-waitM,
+  give-upM,
+};
 
 fn write(
     x: &Table,

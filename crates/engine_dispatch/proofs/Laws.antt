@@ -15,7 +15,16 @@ use Rattle.engine_evaluate.specs.declared.Effect.{Effect}
 use Rattle.engine_evaluate.specs.declared.Action.{Action}
 use Rattle.engine_state.specs.Machine.{Machine}
 use Rattle.engine_trigger.specs.Runs.{put-runM, finishM}
-use Rattle.engine_dispatch.specs.Resume.{performM, actM, act-nextM, go-on-runM, go-onM, going-phase, goingM, resume-runM}
+use Rattle.engine_dispatch.specs.Resume.{
+  performM,
+  actM,
+  act-nextM,
+  go-on-runM,
+  go-onM,
+  going-phase,
+  goingM,
+  resume-runM,
+}
 use Rattle.engine_dispatch.specs.Dispatch.{processM}
 
 pub perform-is : (f x : List ℕ) (k : ℕ) (r : Run) (s : Source) (e g : Effect) (m : Machine) → e ≡ g →

@@ -3,6 +3,7 @@ use Prim.Native.Nat.{ℕ}
 use mathlib.Core.Path.{_≡_}
 use mathlib.Core.List.{List}
 use lib.ListN.{length, getD}
+use Rattle.layout.specs.Table.{entity-count-word, horizon-word}
 use Rattle.layout.specs.Sizes.{simulation-reasons}
 use Rattle.bounds.specs.Bounds.{AtMost, atMost}
 use Rattle.model_spec.specs.Answer.{answer}
@@ -27,7 +28,7 @@ pub record Ran (f : List ℕ) (g : Prepared) (events : List ℕ) (n : ℕ) (s : 
   pub few : AtMost (g .count) simulation-reasons count
   pub does : run.Simulates f (g .table) events n (g .cells) count told q q' a a' r r' (g .reasons) words
   pub long : length words ≡ length (g .reasons)
-  pub shown : ShownAs told (atMost (getD (g .table) 0 0) 32) (getD (g .table) 2 0) words s
+  pub shown : ShownAs told (atMost (getD (g .table) entity-count-word 0) 32) (getD (g .table) horizon-word 0) words s
 
 -- the simulation of the model whose index this is
 abbrev pub RunsAs : (f : List ℕ) → Index → Simulation → (before after : Lent) → Type 0

@@ -3,6 +3,7 @@ use Prim.Native.Nat.{ℕ, _+_, _-_}
 use mathlib.Core.List.{List}
 use lib.Dec.{ltb, eqb}
 use lib.ListN.{getD, set}
+use Rattle.layout.specs.Table.{text-count-word}
 use Rattle.texts.specs.Lists.{if_then_else_}
 use Rattle.model_walk.specs.Walk.{actionsM, choiceM}
 use Rattle.runs.specs.Runs.{placeIn}
@@ -29,7 +30,7 @@ unfoldable pub afterM : (f x : List ℕ) → (kind at : ℕ) → ℕ
 afterM f x k at =
     if eqb k 1 then later at 2 else
     if eqb k 3 then later at (sizeM f at) else
-    if eqb k 4 then endM (choiceM (getD x 9 0) (actionsM (getD x 9 0) 17) f at 0) at else
+    if eqb k 4 then endM (choiceM (getD x text-count-word 0) (actionsM (getD x text-count-word 0) 17) f at 0) at else
     if eqb k 5 then later at 21 else
     if eqb k 6 then later at 2 else later at 4
 

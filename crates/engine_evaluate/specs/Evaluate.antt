@@ -4,6 +4,7 @@ use mathlib.Core.Bool.{Bool, true, false}
 use mathlib.Core.List.{List}
 use lib.Dec.{ltb, eqb}
 use lib.ListN.{getD}
+use Rattle.layout.specs.Table.{text-count-word, unavailable-word, unknown-word}
 use Rattle.texts.specs.Lists.{if_then_else_}
 use Rattle.model_walk.specs.Walk.{predicate-size, actionsM}
 use Rattle.model_walk.specs.declared.Walked.{Walked}
@@ -32,7 +33,7 @@ bothM Unknown No = No
 bothM Unknown Unknown = Unknown
 
 unfoldable pub undecidedM : List ℕ → ℕ → Bool
-undecidedM x v = if eqb v (getD x 6 0) then true else eqb v (getD x 7 0)
+undecidedM x v = if eqb v (getD x unknown-word 0) then true else eqb v (getD x unavailable-word 0)
 
 unfoldable pub againstM : List ℕ → (present v : ℕ) → Truth
 againstM x p v = if eqb p v then Yes else if undecidedM x p then Unknown else No
@@ -92,7 +93,7 @@ endM walked.Broken at = at
 unfoldable pub judgedM : (f x : List ℕ) → Judged → Branch
 judgedM f x j = elim (j .truth) [
   | Yes ↦ Take (j .next)
-  | No ↦ Skip (endM (actionsM (getD x 9 0) 17 f (j .next) 0) (j .next))
+  | No ↦ Skip (endM (actionsM (getD x text-count-word 0) 17 f (j .next) 0) (j .next))
   | Unknown ↦ Unclear
 ]
 

@@ -4,6 +4,7 @@ use mathlib.Core.Bool.{true, false}
 use mathlib.Core.List.{List}
 use lib.Dec.{ltb, eqb}
 use lib.ListN.{getD}
+use Rattle.layout.specs.Table.{automation-count-word, entity-count-word, id-word}
 use Rattle.texts.specs.Lists.{if_then_else_}
 use Rattle.bounds.specs.Bounds.{atMost}
 use Rattle.texts.specs.Places.{startFrom}
@@ -42,10 +43,10 @@ word x i k = getD x (80 + i * 8 + k) 0
 
 -- the entities that are looked at, and the automations
 unfoldable pub entities : List ℕ → ℕ
-entities x = atMost (getD x 0 0) 32
+entities x = atMost (getD x entity-count-word 0) 32
 
 unfoldable pub rules : List ℕ → ℕ
-rules x = atMost (getD x 1 0) 32
+rules x = atMost (getD x automation-count-word 0) 32
 
 -- the first of `left` entities from e on that has this name, or 32
 unfoldable pub entityFrom : List ℕ → (id left e : ℕ) → ℕ
@@ -62,7 +63,7 @@ unfoldable pub textPosition : List ℕ → (place : ℕ) → ℕ
 textPosition f place = if ltb place (text-count f) then cap (startFrom f 6 place) else 6
 
 unfoldable pub aboutRule : (f x : List ℕ) → (i kind : ℕ) → Reason
-aboutRule f x i k = record { kind = k; first = textPosition f (word x i 0); second = 4294967295; line = 0; column = 0 }
+aboutRule f x i k = record { kind = k; first = textPosition f (word x i id-word); second = 4294967295; line = 0; column = 0 }
 
 unfoldable pub alone : (kind : ℕ) → Reason
 alone k = record { kind = k; first = 4294967295; second = 4294967295; line = 0; column = 0 }

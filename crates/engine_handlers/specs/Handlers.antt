@@ -3,6 +3,8 @@ use Prim.Native.Nat.{ℕ}
 use mathlib.Core.List.{List, []}
 use lib.Dec.{ltb, eqb}
 use lib.ListN.{getD}
+use Rattle.layout.specs.Table.{unknown-word}
+use Rattle.records.specs.Kinds.{restart-kind, timeout-kind}
 use Rattle.texts.specs.Lists.{if_then_else_}
 use Rattle.records.specs.declared.Rule.the-variants.{NoRule}
 use Rattle.records.specs.declared.Where.the-variants.{Nowhere}
@@ -24,10 +26,10 @@ use Rattle.engine_trigger.specs.Runs.{runM, put-runM, phaseM, finishM}
 
 -- the wait's time is up: the run goes on, or it ends
 unfoldable pub over-onM : (k : ℕ) → Run → Wait → Machine → Machine
-over-onM k r w m = nowM r (put-runM k (phaseM Going r) (log-actionM 17 1 (w .source) r m))
+over-onM k r w m = nowM r (put-runM k (phaseM Going r) (log-actionM timeout-kind 1 (w .source) r m))
 
 unfoldable pub over-endM : (k : ℕ) → Run → Wait → Machine → Machine
-over-endM k r w m = finishM k (log-actionM 17 0 (w .source) r m)
+over-endM k r w m = finishM k (log-actionM timeout-kind 0 (w .source) r m)
 
 unfoldable pub wait-overM : (k : ℕ) → Run → Wait → Machine → Machine
 wait-overM k r w m = if eqb (w .deadline) (m .now)
@@ -52,12 +54,14 @@ unfoldable pub expire-toM : (entity from to : ℕ) → Cells → Machine → Mac
 expire-toM e v u c m = changedM (move e v u) (log-writeM (setting e u 3 NoRule Nowhere) (move e v u) (put-cells c m))
 
 unfoldable pub expireM : List ℕ → (e : ℕ) → Machine → Machine
-expireM x e m = expire-toM (name x e) (getD (m .values) e 0) (getD x 6 0) (storedM (cells m) e (getD x 6 0)) m
+expireM x e m = expire-toM (name x e) (getD (m .values) e 0) (getD x unknown-word 0)
+    (storedM (cells m) e (getD x unknown-word 0)) m
 
 unfoldable pub stale-atM : List ℕ → (e version : ℕ) → Machine → Machine
 stale-atM x e v m =
     if ltb 31 e then m else
-    if eqb (getD (m .versions) e 0) v then (if eqb (getD (m .values) e 0) (getD x 6 0) then m else expireM x e m) else m
+    if eqb (getD (m .versions) e 0) v then (if eqb (getD (m .values) e 0) (getD x unknown-word 0) then m
+    else expireM x e m) else m
 
 unfoldable pub go-staleM : List ℕ → (entity version : ℕ) → Machine → Machine
 go-staleM x e v m = stale-atM x (entityOf x e) v m
@@ -67,7 +71,7 @@ abbrev pub no-runsM : Machine → Machine
 no-runsM m = put-runs [] m
 
 unfoldable pub drop-allM : Machine → Machine
-drop-allM m = log-plainM 4 (no-runsM m)
+drop-allM m = log-plainM restart-kind (no-runsM m)
 
 unfoldable pub externalM : List ℕ → (entity value : ℕ) → Machine → Machine
 externalM x e v m = updateM x (setting e v 1 NoRule Nowhere) m

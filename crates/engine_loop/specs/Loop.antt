@@ -5,6 +5,8 @@ use mathlib.Core.Bool.{true, false}
 use mathlib.Core.List.{List}
 use lib.Dec.{eqb}
 use lib.ListN.{length, getD}
+use Rattle.layout.specs.Table.{horizon-word, max-steps-word}
+use Rattle.records.specs.Kinds.{horizon-kind}
 use Rattle.texts.specs.Lists.{if_then_else_}
 use Rattle.queue.specs.Order.{pop, leftOf}
 use Rattle.queue.specs.Queue.{secondOf, takenOf}
@@ -62,12 +64,13 @@ pub record Ends (f x : List ℕ) (st : State) (e : Ended) (q q' a a' r r' u u' v
   pub runs : Side 28 (goes r r') (st .«live_runs») (e .state .«live_runs»)
   pub reasons : Side-told (told f u u') (st .reasons) (e .state .reasons)
   pub does : (k : Content) → Held f q a r u (entire st v n c) k →
-      Halts f q' a' r' u' v' n' c' (getD x 3 0) e (loopM f x (getD x 3 0) (machine (entire st v n c) k))
+      Halts f q' a' r' u' v' n' c' (getD x max-steps-word 0) e
+      (loopM f x (getD x max-steps-word 0) (machine (entire st v n c) k))
 
 -- ---- after it
 
 unfoldable pub horizonM : List ℕ → Machine → Machine
-horizonM x m = log-plainM 9 (put-now (getD x 2 0) m)
+horizonM x m = log-plainM horizon-kind (put-now (getD x horizon-word 0) m)
 
 -- a simulation that reached the horizon with no run left says so
 unfoldable pub closedM : List ℕ → Halt → Halt

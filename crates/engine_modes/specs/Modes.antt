@@ -4,6 +4,8 @@ use mathlib.Core.Bool.{Bool, true, false}
 use mathlib.Core.List.{List}
 use lib.Dec.{ltb, leb, eqb}
 use lib.ListN.{getD, replicate}
+use Rattle.layout.specs.Table.{actions-word, max-word, mode-word}
+use Rattle.records.specs.Kinds.{cancel-kind, max-reached-kind, queued-kind, single-running-kind, start-kind}
 use Rattle.texts.specs.Lists.{if_then_else_}
 use Rattle.runs.specs.Lists.{tally, keep}
 use Rattle.runs.specs.Runs.{runOf, other}
@@ -38,16 +40,16 @@ newRun f x i later made sequences =
       phase = Going;
       depth = 0;
       places = replicate 17 0;
-    }) (word x i 5)
+    }) (word x i actions-word)
 
 unfoldable pub begin-runM : (i : ℕ) → Run → Machine → Machine
-begin-runM i r m = nowM r (log-ruleM 12 (r .number) (r .automation) (add-runM i r m))
+begin-runM i r m = nowM r (log-ruleM start-kind (r .number) (r .automation) (add-runM i r m))
 
 unfoldable pub begin-nowM : (f x : List ℕ) → (i : ℕ) → Machine → Machine
 begin-nowM f x i m = begin-runM i (newRun f x i false (m .«runs_created») (m .sequences)) m
 
 unfoldable pub begin-queuedM : (i : ℕ) → Run → Machine → Machine
-begin-queuedM i r m = log-ruleM 13 (r .number) (r .automation) (add-runM i r m)
+begin-queuedM i r m = log-ruleM queued-kind (r .number) (r .automation) (add-runM i r m)
 
 unfoldable pub begin-laterM : (f x : List ℕ) → (i : ℕ) → Machine → Machine
 begin-laterM f x i m = begin-queuedM i (newRun f x i true (m .«runs_created») (m .sequences)) m
@@ -57,7 +59,7 @@ unfoldable pub dropM : (automation : ℕ) → Machine → Machine
 dropM i m = put-runs (keep (other i) (m .runs)) m
 
 unfoldable pub stop-startM : (f x : List ℕ) → (i : ℕ) → Machine → Machine
-stop-startM f x i m = begin-nowM f x i (log-ruleM 5 0 i (dropM i m))
+stop-startM f x i m = begin-nowM f x i (log-ruleM cancel-kind 0 i (dropM i m))
 
 -- ---- modes
 
@@ -71,15 +73,15 @@ decideM mode max running =
     else WaitInLine
 
 unfoldable pub decidedM : (f x : List ℕ) → (i : ℕ) → Decision → Machine → Machine
-decidedM f x i AlreadyRunning m = log-ruleM 6 0 i m
-decidedM f x i MaxReached m = log-ruleM 7 0 i m
+decidedM f x i AlreadyRunning m = log-ruleM single-running-kind 0 i m
+decidedM f x i MaxReached m = log-ruleM max-reached-kind 0 i m
 decidedM f x i Start m = begin-nowM f x i m
 decidedM f x i StopAndStart m = stop-startM f x i m
 decidedM f x i WaitInLine m = begin-laterM f x i m
 
 -- with so many runs of the automation
 unfoldable pub carry-withM : (f x : List ℕ) → (i running : ℕ) → Machine → Machine
-carry-withM f x i n m = decidedM f x i (decideM (word x i 1) (word x i 2) n) m
+carry-withM f x i n m = decidedM f x i (decideM (word x i mode-word) (word x i max-word) n) m
 
 unfoldable pub carry-outM : (f x : List ℕ) → (i : ℕ) → Machine → Machine
 carry-outM f x i m = carry-withM f x i (tally (runOf i) (m .runs)) m

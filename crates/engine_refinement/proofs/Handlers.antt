@@ -60,7 +60,17 @@ use Rattle.engine_state.specs.Changes.{logM, log-actionM}
 use Rattle.engine_update.specs.Update.{cells, move, changedM, setting}
 use Rattle.engine_modes.specs.Modes.{nowM}
 use Rattle.engine_trigger.specs.Runs.{no-run, put-runM, phaseM, finishM}
-use Rattle.engine_dispatch.specs.Resume.{actM, act-nextM, go-on-runM, go-onM, going-phase, goingM, resume-runM, resume-atM, resumeM}
+use Rattle.engine_dispatch.specs.Resume.{
+  actM,
+  act-nextM,
+  go-on-runM,
+  go-onM,
+  going-phase,
+  goingM,
+  resume-runM,
+  resume-atM,
+  resumeM,
+}
 use Rattle.engine_handlers.specs.Handlers.{
   over-onM,
   over-endM,

@@ -91,7 +91,26 @@ use Rattle.engine_modes.specs.Modes.{nowM}
 use Rattle.engine_trigger.specs.Runs.{no-run, put-runM, phaseM, finishM}
 use Rattle.engine_actions.specs.Actions as acts
 use Rattle.engine_update.specs.Update.{setting}
-use Rattle.engine_actions.specs.Actions.{writtenM, setM, toggledM, doubtM, flip-fromM, flip-atM, flipM, delayM, unclearM, testedM, condition-asM, conditionM, take-listM, chosenM, chooseM, waitingM, begin-waitM, give-upM}
+use Rattle.engine_actions.specs.Actions.{
+  writtenM,
+  setM,
+  toggledM,
+  doubtM,
+  flip-fromM,
+  flip-atM,
+  flipM,
+  delayM,
+  unclearM,
+  testedM,
+  condition-asM,
+  conditionM,
+  take-listM,
+  chosenM,
+  chooseM,
+  waitingM,
+  begin-waitM,
+  give-upM,
+}
 use Rattle.engine_dispatch.specs.Resume.{performM}
 use Rattle.engine_refinement.specs.Meaning.{
   truth-of,

@@ -7,6 +7,25 @@ use mathlib.Core.List.{List, [], _∷_, _++_}
 use mathlib.Core.Option.{Option, none, some}
 use lib.Dec.{eqb}
 use lib.ListN.{length, getD}
+use Rattle.layout.specs.Table.{
+  actions-word,
+  automation-count-word,
+  conditions-word,
+  entity-count-word,
+  horizon-word,
+  id-word,
+  max-steps-word,
+  max-word,
+  mode-word,
+  notes-word,
+  off-word,
+  on-word,
+  source-word,
+  text-count-word,
+  triggers-word,
+  unavailable-word,
+  unknown-word,
+}
 use Rattle.layout.specs.Sizes.{simulation-reasons}
 use Rattle.texts.specs.Lists.{if_then_else_, flat, all}
 use Rattle.texts.specs.Texts.{Text, text, eqT}
@@ -105,7 +124,7 @@ Placed ts (Write e b v) = (e < length ts) × ((b < length ts) × (v < length ts)
 module _ (x : List ℕ) (ts : List Text) where
   -- the automation's identifier
   unfoldable pub id-at : ℕ → Text
-  id-at i = getD ts (word x i 0) []
+  id-at i = getD ts (word x i id-word) []
 
   unfoldable pub key-of : (automation sequence : ℕ) → Key
   key-of a n = record { rule = id-at a; sequence = n }
@@ -239,15 +258,15 @@ mode-number parallel = 3
 
 -- the i-th row of the table is the automation r of a model with the entities es
 pub record Row (f x : List ℕ) (ts : List Text) (es : List Entity) (i : ℕ) (r : Automation) : Type 0 where
-  pub id-in : word x i 0 < length ts
-  pub id : r .id ≡ getD ts (word x i 0) []
-  pub mode : word x i 1 ≡ mode-number (r .mode)
-  pub max : word x i 2 ≡ r .max
-  pub triggers : Reads (counted (trigger ts)) f (word x i 3) (r .triggers)
-  pub conditions : Reads (counted (predicate ts)) f (word x i 4) (r .conditions)
-  pub actions : Reads (actions ts 18) f (word x i 5) (r .actions)
-  pub source : Reads source f (word x i 6) (r .source)
-  pub notes : Reads (counted (place ts)) f (word x i 7) (r .notes)
+  pub id-in : word x i id-word < length ts
+  pub id : r .id ≡ getD ts (word x i id-word) []
+  pub mode : word x i mode-word ≡ mode-number (r .mode)
+  pub max : word x i max-word ≡ r .max
+  pub triggers : Reads (counted (trigger ts)) f (word x i triggers-word) (r .triggers)
+  pub conditions : Reads (counted (predicate ts)) f (word x i conditions-word) (r .conditions)
+  pub actions : Reads (actions ts 18) f (word x i actions-word) (r .actions)
+  pub source : Reads source f (word x i source-word) (r .source)
+  pub notes : Reads (counted (place ts)) f (word x i notes-word) (r .notes)
   -- the actions were checked, after some number of others
   pub before : ℕ
   pub after : ℕ
@@ -266,22 +285,22 @@ pub record Tabled (f x : List ℕ) (ts : List Text) (m : Model) : Type 0 where
   pub size : length f ≤ 32768
   pub bytes : (i : ℕ) → getD f i 0 < 256
   pub same : (i j : ℕ) → i < length ts → j < length ts → eqT (getD ts i []) (getD ts j []) ≡ eqb i j
-  pub texts : getD x 9 0 ≡ length ts
+  pub texts : getD x text-count-word 0 ≡ length ts
   pub few-texts : length ts ≤ 65535
   pub counted : text-count f ≡ length ts
   pub text-at : (k : ℕ) → k < length ts → textAt f (startFrom f 6 k) ≡ getD ts k []
-  pub on : Fixed ts (getD x 4 0) (text "on")
-  pub off : Fixed ts (getD x 5 0) (text "off")
-  pub unknown : Fixed ts (getD x 6 0) (text "unknown")
-  pub unavailable : Fixed ts (getD x 7 0) (text "unavailable")
+  pub on : Fixed ts (getD x on-word 0) (text "on")
+  pub off : Fixed ts (getD x off-word 0) (text "off")
+  pub unknown : Fixed ts (getD x unknown-word 0) (text "unknown")
+  pub unavailable : Fixed ts (getD x unavailable-word 0) (text "unavailable")
   -- the numbers
-  pub entities : getD x 0 0 ≡ length (m .scenario .entities)
+  pub entities : getD x entity-count-word 0 ≡ length (m .scenario .entities)
   pub few-entities : length (m .scenario .entities) ≤ 32
-  pub automations : getD x 1 0 ≡ length (m .rules)
+  pub automations : getD x automation-count-word 0 ≡ length (m .rules)
   pub few-automations : length (m .rules) ≤ 32
-  pub horizon : getD x 2 0 ≡ m .scenario .limits .horizon
+  pub horizon : getD x horizon-word 0 ≡ m .scenario .limits .horizon
   pub day : m .scenario .limits .horizon ≤ 86400
-  pub steps : getD x 3 0 ≡ m .scenario .limits .max-steps
+  pub steps : getD x max-steps-word 0 ≡ m .scenario .limits .max-steps
   pub few-steps : m .scenario .limits .max-steps ≤ 10000
   pub start : startM x ≡ m .start
   -- the parts
@@ -290,7 +309,7 @@ pub record Tabled (f x : List ℕ) (ts : List Text) (m : Model) : Type 0 where
   -- names and identifiers differ
   pub names-differ : (i j : ℕ) → i < length (m .scenario .entities) → j < length (m .scenario .entities) →
       name x i ≡ name x j → i ≡ j
-  pub ids-differ : (i j : ℕ) → i < length (m .rules) → j < length (m .rules) → word x i 0 ≡ word x j 0 → i ≡ j
+  pub ids-differ : (i j : ℕ) → i < length (m .rules) → j < length (m .rules) → word x i id-word ≡ word x j id-word → i ≡ j
   -- a file has at most 64 notes, so the reasons have room
   pub few-reasons : length (pool-of m) ≤ simulation-reasons
   -- no invariant has a window

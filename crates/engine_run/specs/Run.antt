@@ -5,6 +5,7 @@ use mathlib.Core.Bool.{false, not}
 use mathlib.Core.List.{List, []}
 use lib.Dec.{eqb}
 use lib.ListN.{length, getD, replicate}
+use Rattle.layout.specs.Table.{max-steps-word}
 use Rattle.texts.specs.Lists.{if_then_else_}
 use Rattle.texts.specs.Texts.{Text}
 use Rattle.areas.specs.Areas.{area, cleared}
@@ -21,7 +22,7 @@ use Rattle.engine_run.specs.declared.Simulation.{Simulation}
 
 -- from the machine m to the end
 unfoldable pub whollyM : (f x events : List ℕ) → (count : ℕ) → Machine → Halt
-whollyM f x l n m = closedM x (loopM f x (getD x 3 0) (begunM x l n m))
+whollyM f x l n m = closedM x (loopM f x (getD x max-steps-word 0) (begunM x l n m))
 
 pub record Wholly (f x l : List ℕ) (n : ℕ) (st : State) (e : Ended)
     (q q' a a' r r' u u' v v' i i' c c' : List ℕ) : Type 0 where
@@ -32,7 +33,7 @@ pub record Wholly (f x l : List ℕ) (n : ℕ) (st : State) (e : Ended)
   pub items-fit : (e .state .«queue_start» + e .state .items) * 5 ≤ length q'
   pub runs-fit : e .state .«live_runs» * 28 ≤ length r'
   pub does : (k : Content) → Held f q a r u (entire st v i c) k →
-      Halts f q' a' r' u' v' i' c' (getD x 3 0) e (whollyM f x l n (machine (entire st v i c) k))
+      Halts f q' a' r' u' v' i' c' (getD x max-steps-word 0) e (whollyM f x l n (machine (entire st v i c) k))
 
 -- the state at the start, and what the areas hold then
 abbrev pub start-of : (first reasons : ℕ) → State
@@ -114,7 +115,7 @@ answerM total p =
 
 -- the answer is that of the machine, and so are the areas afterwards
 pub record Answers (f x : List ℕ) (s : Simulation) (a a' u' : List ℕ) (p : Halt) : Type 0 where
-  pub answer : s ≡ answerM (getD x 3 0) p
+  pub answer : s ≡ answerM (getD x max-steps-word 0) p
   pub records : a' ≡ area recordWords (length a) (if eqb (p .last .«overflow») 0 then p .last .records else [])
   pub reasons : Holds f (p .last .reasons) (length (p .last .reasons)) u'
 

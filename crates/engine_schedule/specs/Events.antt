@@ -3,6 +3,7 @@ use Prim.Native.Nat.{ℕ, zero, suc, _+_, _-_, _*_}
 use mathlib.Core.List.{List}
 use lib.Dec.{eqb}
 use lib.ListN.{getD}
+use Rattle.records.specs.Kinds.{initial-kind}
 use Rattle.texts.specs.Lists.{if_then_else_}
 use Rattle.queue.specs.declared.Work.{Work}
 use Rattle.queue.specs.declared.Work.the-variants.{Set, Restart, Reload}
@@ -30,4 +31,4 @@ unfoldable pub add-expiriesM : List ℕ → Machine → Machine
 add-expiriesM x m = expiriesM x (entities x) m
 
 unfoldable pub begunM : (x events : List ℕ) → (count : ℕ) → Machine → Machine
-begunM x l n m = add-expiriesM x (add-eventsM l n (log-plainM 0 m))
+begunM x l n m = add-expiriesM x (add-eventsM l n (log-plainM initial-kind m))

@@ -4,6 +4,7 @@ use mathlib.Core.Path.{_≡_}
 use mathlib.Core.List.{List}
 use lib.Dec.{ltb, leb, eqb}
 use lib.ListN.{length, getD}
+use Rattle.layout.specs.Table.{horizon-word}
 use Rattle.texts.specs.Lists.{if_then_else_}
 use Rattle.queue.specs.Order.{pop}
 use Rattle.queue.specs.Queue.{secondOf, takenOf}
@@ -24,7 +25,7 @@ next-afterM x Nothing m = Stop
 next-afterM x (One i) m =
     if leb 10000 (length (m .records)) then Space else
     if ltb 20000 (length (m .queue)) then Space else
-    if ltb (getD x 2 0) (i .second) then Stop else Take
+    if ltb (getD x horizon-word 0) (i .second) then Stop else Take
 
 unfoldable pub nextM : List ℕ → Machine → Next
 nextM x m = next-afterM x (takenOf (pop secondOf (m .queue))) m

@@ -3,6 +3,7 @@ use Prim.Native.Nat.{ℕ, zero, suc, _+_}
 use mathlib.Core.Bool.{false}
 use mathlib.Core.List.{List, [], _++_}
 use lib.ListN.{length, getD, take, drop, set}
+use Rattle.records.specs.Kinds.{complete-kind}
 use Rattle.texts.specs.Lists.{if_then_else_}
 use Rattle.runs.specs.Lists.{placeFrom}
 use Rattle.runs.specs.Runs.{whole, inLine}
@@ -67,7 +68,7 @@ unfoldable pub outM : (k : ℕ) → Machine → Machine
 outM k m = put-runs (take k (m .runs) ++ drop (k + 1) (m .runs)) m
 
 unfoldable pub finish-runM : (k : ℕ) → Run → Machine → Machine
-finish-runM k r m = releaseM (r .automation) (log-ruleM 14 (r .number) (r .automation) (outM k m))
+finish-runM k r m = releaseM (r .automation) (log-ruleM complete-kind (r .number) (r .automation) (outM k m))
 
 unfoldable pub finishM : (k : ℕ) → Machine → Machine
 finishM k m = finish-runM k (runM k m) m

@@ -2,6 +2,8 @@
 use Prim.Native.Nat.{ℕ, zero, suc, _+_}
 use mathlib.Core.List.{List}
 use lib.Dec.{eqb}
+use Rattle.layout.specs.Table.{conditions-word, notes-word, source-word, triggers-word}
+use Rattle.records.specs.Kinds.{trigger-kind}
 use Rattle.texts.specs.Lists.{if_then_else_}
 use Rattle.records.specs.declared.Rule.the-variants.{Of}
 use Rattle.records.specs.declared.Where.the-variants.{From}
@@ -19,19 +21,21 @@ use Rattle.reasons.specs.Kinds as kinds
 
 -- an automation with notes doesn't run
 unfoldable pub admitM : (f x : List ℕ) → (i : ℕ) → Truth → Machine → Machine
-admitM f x i Yes m = if eqb (two f (word x i 7)) 0 then carry-outM f x i m else m
+admitM f x i Yes m = if eqb (two f (word x i notes-word)) 0 then carry-outM f x i m else m
 admitM f x i No m = m
 admitM f x i Unknown m = uncertainM f (aboutRule f x i kinds.trigger-condition) m
 
 unfoldable pub log-triggerM : (f x : List ℕ) → (i : ℕ) → Truth → Machine → Machine
-log-triggerM f x i t m = logM (saying 10 (numberM t)) (Of i) (From (four f (word x i 6)) (four f (word x i 6 + 4)))
+log-triggerM f x i t m = logM (saying trigger-kind (numberM t)) (Of i)
+    (From (four f (word x i source-word)) (four f (word x i source-word + 4)))
     NoChange m
 
 unfoldable pub offer-asM : (f x : List ℕ) → (i : ℕ) → Truth → Machine → Machine
 offer-asM f x i t m = admitM f x i t (log-triggerM f x i t m)
 
 unfoldable pub offerM : (f x : List ℕ) → Move → (i : ℕ) → Machine → Machine
-offerM f x v i m = if anyM f v (word x i 3) then offer-asM f x i (allM f x (m .values) (m .now) (word x i 4) .truth) m else m
+offerM f x v i m = if anyM f v (word x i triggers-word)
+    then offer-asM f x i (allM f x (m .values) (m .now) (word x i conditions-word) .truth) m else m
 
 -- the first n automations
 unfoldable pub offer-firstM : (f x : List ℕ) → Move → (n : ℕ) → Machine → Machine

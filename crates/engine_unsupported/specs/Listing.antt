@@ -4,6 +4,7 @@
 use Prim.Native.Nat.{ℕ, zero, suc, _+_}
 use mathlib.Core.List.{List, []}
 use lib.Dec.{eqb}
+use Rattle.layout.specs.Table.{actions-word, conditions-word, id-word, notes-word, triggers-word}
 use Rattle.texts.specs.Lists.{if_then_else_}
 use Rattle.texts.specs.Texts.{Text}
 use Rattle.model_spec.specs.File.{u8, u16, u32}
@@ -82,12 +83,12 @@ actionsM (suc left) = by u16 (λ c. timesM c (actionM (actionsM left)))
 -- the automation's own notes and those of its triggers and conditions
 unfoldable pub ownM : (f x : List ℕ) → (i : ℕ) → List Text → List Text
 ownM f x i l =
-    let a = partsM part.Note (word x i 0) f (word x i 7) l .list in
-    let b = partsM part.Trigger (word x i 0) f (word x i 3) a .list in
-    partsM part.Predicate (word x i 0) f (word x i 4) b .list
+    let a = partsM part.Note (word x i id-word) f (word x i notes-word) l .list in
+    let b = partsM part.Trigger (word x i id-word) f (word x i triggers-word) a .list in
+    partsM part.Predicate (word x i id-word) f (word x i conditions-word) b .list
 
 unfoldable pub ruleM : (f x : List ℕ) → (i : ℕ) → List Text → List Text
-ruleM f x i l = actionsM 18 f (word x i 5) (ownM f x i l) .list
+ruleM f x i l = actionsM 18 f (word x i actions-word) (ownM f x i l) .list
 
 -- as many as `left` from the i-th on
 unfoldable pub rulesM : (f x : List ℕ) → (left i : ℕ) → List Text → List Text

@@ -3,6 +3,7 @@ use Prim.Native.Nat.{ℕ, _≤_, _<_}
 use mathlib.Core.Path.{_≡_}
 use mathlib.Core.List.{List, []}
 use lib.ListN.{length, getD}
+use Rattle.layout.specs.Table.{actions-word, automation-count-word, conditions-word, id-word, notes-word, triggers-word}
 use Rattle.texts.specs.Texts.{Text}
 use Rattle.texts.specs.Places.{textAt, startFrom}
 use Rattle.model_spec.specs.Model.{Automation}
@@ -13,12 +14,12 @@ use Rattle.engine_fields.specs.Fields.{word}
 
 -- the i-th row of the table x is the automation r
 pub record RuleAt (f x : List ℕ) (ts : List Text) (i : ℕ) (r : Automation) : Type 0 where
-  pub id-in : word x i 0 < length ts
-  pub id : r .id ≡ getD ts (word x i 0) []
-  pub triggers : Reads (counted (trigger ts)) f (word x i 3) (r .triggers)
-  pub conditions : Reads (counted (predicate ts)) f (word x i 4) (r .conditions)
-  pub actions : Reads (actions ts 18) f (word x i 5) (r .actions)
-  pub notes : Reads (counted (place ts)) f (word x i 7) (r .notes)
+  pub id-in : word x i id-word < length ts
+  pub id : r .id ≡ getD ts (word x i id-word) []
+  pub triggers : Reads (counted (trigger ts)) f (word x i triggers-word) (r .triggers)
+  pub conditions : Reads (counted (predicate ts)) f (word x i conditions-word) (r .conditions)
+  pub actions : Reads (actions ts 18) f (word x i actions-word) (r .actions)
+  pub notes : Reads (counted (place ts)) f (word x i notes-word) (r .notes)
 
 -- the rows of the table x of the file f, with the texts ts, are the automations
 pub record RulesAt (f x : List ℕ) (ts : List Text) (rs : List Automation) : Type 0 where
@@ -26,6 +27,6 @@ pub record RulesAt (f x : List ℕ) (ts : List Text) (rs : List Automation) : Ty
   pub few-texts : length ts ≤ 65535
   pub counted : text-count f ≡ length ts
   pub text-at : (k : ℕ) → k < length ts → textAt f (startFrom f 6 k) ≡ getD ts k []
-  pub automations : getD x 1 0 ≡ length rs
+  pub automations : getD x automation-count-word 0 ≡ length rs
   pub few-automations : length rs ≤ 32
   pub rows : (d : Automation) (i : ℕ) → i < length rs → RuleAt f x ts i (getD rs i d)

@@ -3,13 +3,14 @@ use Prim.Native.Nat.{ℕ, _+_}
 use mathlib.Core.Bool.{Bool}
 use mathlib.Core.List.{List}
 use lib.ListN.{getD}
+use Rattle.layout.specs.Table.{start-second-word, start-weekday-word}
 use Rattle.model_spec.specs.Model.{Moment}
 use Rattle.engine_spec.specs.Truth.{moment-after, is-open}
 use Rattle.engine_fields.specs.Fields.{four}
 
 -- the moment of second 0
 abbrev pub startM : List ℕ → Moment
-startM x = record { weekday = getD x 10 0; second = getD x 11 0 }
+startM x = record { weekday = getD x start-weekday-word 0; second = getD x start-second-word 0 }
 
 -- its days, start and end stand behind its kind
 unfoldable pub openM : (f x : List ℕ) → (second at : ℕ) → Bool

@@ -30,10 +30,6 @@ pushes-append (x ∷ l) m b = pushes-append l m (push x b)
 pub next : (l m : List Item) (a : Board) {b c : Board} → b ≡ pushes l a → c ≡ pushes m b → c ≡ pushes (l ++ m) a
 next l m a e f = f ∙ ap (pushes m) e ∙ sym (pushes-append l m a)
 
-pub none : {b : Board} → b ≡ pushes [] b
-unfolding pushes
-none = refl
-
 module _ (w : List ℕ) (f i : List ℕ) (o : Out) where
   pub finding-after : (o .refusal ≡ 0 → ⊥) → board f i o ≡ pushes (finding w ∷ []) (board f i o)
   unfolding pushes push

@@ -1,6 +1,6 @@
 -- Models without windows, and a model that starts at another moment.
 use mathlib.Core.Bool.{Bool, true, _&&_, not}
-use Rattle.texts.specs.Lists.{all, all-lists}
+use Rattle.texts.specs.Lists.{all}
 use Rattle.model_spec.specs.Model.{
   Moment,
   Predicate,
@@ -62,8 +62,3 @@ windowless m = all windowless-invariant (m .scenario .invariants) && all windowl
 -- the model with another start
 abbrev pub with-start : Moment → Model → Model
 with-start o m = record { scenario = m .scenario; rules = m .rules; start = o }
-
--- opens the file, for proofs by computation
-unfoldable pub all-windows : Unit {0}
-unfolding all-lists is-window no-window windowless-effect windowless-rule windowless-invariant windowless
-all-windows = tt

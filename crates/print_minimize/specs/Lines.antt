@@ -37,8 +37,3 @@ answer-line w b = w ++ (if b then text " yes" ++ newline else text " no" ++ newl
 
 unfoldable pub invariant-line : (identifier : Text) → Text
 invariant-line t = text "invariant " ++ (quoted t ++ newline)
-
--- opens the file, for proofs by computation
-unfoldable pub all-lines : Unit {0}
-unfolding input-text event-line text-at input-of answer-line invariant-line
-all-lines = tt
