@@ -208,9 +208,13 @@ fn part_word(s: &[u8], texts: u32, names: &Positions, rules: &Positions, k: usiz
         let q = engine_fields::capped(names[k - layout::ENTITY_STALE]) as usize;
         return stale_at(s, q);
     }
-    let word = k - layout::AUTOMATIONS;
-    let t = engine_fields::capped(rules[word / layout::AUTOMATION_WORDS]) as usize;
-    rule_word(s, texts, t, word % layout::AUTOMATION_WORDS)
+    let t = engine_fields::capped(rules[(k - layout::AUTOMATIONS) / layout::AUTOMATION_WORDS]);
+    rule_word(
+        s,
+        texts,
+        t as usize,
+        (k - layout::AUTOMATIONS) % layout::AUTOMATION_WORDS,
+    )
 }
 
 // A table with its first 16 words.

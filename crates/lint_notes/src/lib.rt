@@ -13,27 +13,28 @@ ghost use Rattle.lint_notes.specs.Notes.{noteM, noteItems, RowOf, NotesA
 
 // ---- where the notes of an automation stand
 
+// Words of the first automation, from the start of the table.
+const FIRST_ID: usize = layout::AUTOMATIONS + layout::ID;
+
+const FIRST_TRIGGERS: usize = layout::AUTOMATIONS + layout::TRIGGERS;
+
+const FIRST_CONDITIONS: usize = layout::AUTOMATIONS + layout::CONDITIONS;
+
+const FIRST_ACTIONS: usize = layout::AUTOMATIONS + layout::ACTIONS;
+
+const FIRST_NOTES: usize = layout::AUTOMATIONS + layout::NOTES;
+
 // The first row of a table is the automation's: its identifier, and where its triggers, conditions, actions and notes stand.
 fn put_row(s: &[u8], at: usize, source: usize, words: &mut Table)
     ensures { λ _. ⌜ RowOf (was s) at source (is words) ⌝ }
 {
     let conditions = lint_walk::conditions_at(s, at);
     *words = [0u32; layout::TABLE];
-    words[layout::AUTOMATIONS + layout::ID] = lint_walk::place_at(s, at);
-    words[layout::AUTOMATIONS + layout::TRIGGERS] = engine_fields::capped(lint_walk::triggers_at(
-        s,
-        at,
-    ));
-    words[layout::AUTOMATIONS + layout::CONDITIONS] = engine_fields::capped(conditions);
-    words[layout::AUTOMATIONS + layout::ACTIONS] = engine_fields::capped(lint_walk::predicates_end(
-        s,
-        conditions,
-    ));
-    words[layout::AUTOMATIONS + layout::NOTES] = engine_fields::capped(lint_walk::past(
-        s,
-        source,
-        8,
-    ));
+    words[FIRST_ID] = lint_walk::place_at(s, at);
+    words[FIRST_TRIGGERS] = engine_fields::capped(lint_walk::triggers_at(s, at));
+    words[FIRST_CONDITIONS] = engine_fields::capped(conditions);
+    words[FIRST_ACTIONS] = engine_fields::capped(lint_walk::predicates_end(s, conditions));
+    words[FIRST_NOTES] = engine_fields::capped(lint_walk::past(s, source, 8));
 }
 
 // ---- findings

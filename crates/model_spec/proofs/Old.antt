@@ -129,6 +129,10 @@ k-give : {A : Type 0} (P : A → Type 0) (a : A) → P a → Keeps (give a) (giv
 unfolding give
 k-give P a h s p b q e = (e, subst P (got-same e) h)
 
+k-refuse : {A : Type 0} (r : Reader A) (P : A → Type 0) → Keeps refuse r P
+unfolding refuse
+k-refuse r P s p a q e = absurd (never-got e)
+
 k-bind : {A B : Type 0} (r r′ : Reader A) (k k′ : A → Reader B) {P : A → Type 0} {Q : B → Type 0} → Keeps r r′ P
     → ((a : A) → P a → Keeps (k a) (k′ a) Q) → Keeps (r >>= k) (r′ >>= k′) Q
 unfolding _>>=_

@@ -63,7 +63,7 @@ pub record Accepted (f : List ℕ) (i : Index) : Type 0 where
 -- its events, and room for a file
 pub record Given (f : List ℕ) (i : Index) (g : Prepared) (e : Events) (n : ℕ) (o : List ℕ) : Type 0 where
   pub model : Accepted f i
-  pub prepared-of : PreparedFrom f i g
+  pub prepared : PreparedFrom f i g
   pub begun : Begun e n
   pub left : Left (model .m) (model .index .ts) (e .words) n (model .m .scenario .events)
   pub room : length f ≤ length o

@@ -43,7 +43,7 @@ search-pool m = text "search budget exhausted" ∷ check-pool m
 -- ---- a plan with the arrays that are lent beside it
 
 pub record Entire : Type 0 where
-  pub prepared-of : Prepared
+  pub prepared : Prepared
   pub starts : List ℕ
   pub invariants : ℕ
   pub alphabet : Alphabet

@@ -28,27 +28,27 @@ table-of-spec =
     μ-loop
     (λ c κs. search needs)
     (λ c κs. search needs)
-    (λ c. (λ j h. laws.so-low _ _ _ _ _ j h, (c .before .headed .ensures .long, (omega arith, omega arith))))
-    (λ c. omega (arith, c .before .before .before .at-most .ensures .1))
-    (λ c. omega (arith, c .before .before .before .at-most .ensures .1))
+    (λ c. (λ j h. laws.so-low _ _ _ _ _ j h, (c .headed .ensures .long, (omega arith, omega arith))))
+    (λ c. omega (arith, c .before .before .at-most .ensures .1))
+    (λ c. omega (arith, c .before .before .at-most .ensures .1))
     (λ c κs.
     let c3 = c .before .before .before in
-    let c6 = c3 .before .before .before in
-    (c3 .loop .inv .1 .1 .0, omega (arith, c6 .at-most .ensures .1, c .before .before .loop-test .taken)))
+    let c5 = c3 .before .before in
+    (c3 .loop .inv .1 .1 .0, omega (arith, c5 .at-most .ensures .1, c .before .before .loop-test .taken)))
     (λ c. search needs)
     (λ c.
     let c3 = c .before .before .before in
     let c4 = c3 .before in
-    let c7 = c4 .before .before .before in
-    omega (arith, c7 .at-most .ensures .1, c3 .loop-test .taken, c4 .loop .inv .1 .0))
+    let c6 = c4 .before .before in
+    omega (arith, c6 .at-most .ensures .1, c3 .loop-test .taken, c4 .loop .inv .1 .0))
     (λ c. search needs)
     (λ c. search needs)
     (λ c.
     let c3 = c .before .before .before in
     let c4 = c3 .before in
-    let c7 = c4 .before .before .before in (
+    let c6 = c4 .before .before in (
       laws.one-more (laws.so-far _ _ _ _ _) (c4 .loop .words) (c4 .loop .k) (c .part-word .result) (c4 .loop .inv .0)
-          (omega (arith, c4 .loop .inv .1 .0, c3 .loop-test .taken, c7 .at-most .ensures .1))
+          (omega (arith, c4 .loop .inv .1 .0, c3 .loop-test .taken, c6 .at-most .ensures .1))
           (c .part-word .ensures ∙ laws.so-high _ _ _ _ _ _ (c4 .loop .inv .1 .1 .0)),
       (
         length-set (c4 .loop .words) (c4 .loop .k) (c .part-word .result) ∙ c4 .loop .inv .1 .0,
@@ -56,9 +56,9 @@ table-of-spec =
       ),
     ))
     (λ c.
-    let c3 = c .before .before .before in
-    let c4 = c3 .before in
+    let c2 = c .before .before in
+    let c3 = c2 .before in
     record {
-      words = λ k h. c .before .loop .inv .0 k (omega (arith, c .loop-test .left, c4 .at-most .ensures .0, h))
-          ∙ laws.so-table _ _ _ (c3 .headed .ensures) k;
+      words = λ k h. c .before .loop .inv .0 k (omega (arith, c .loop-test .left, c3 .at-most .ensures .0, h))
+          ∙ laws.so-table _ _ _ (c2 .headed .ensures) k;
     }))

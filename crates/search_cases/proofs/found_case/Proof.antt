@@ -9,8 +9,8 @@ add-t4 : tie.Need-add-t4
 add-t4 c = search needs
 
 -- src/lib.rt:160:26
-at-most-requires : tie.Need-at-most-requires
-at-most-requires c κs = search needs
+min-u32-requires : tie.Need-min-u32-requires
+min-u32-requires c κs = search needs
 
 -- src/lib.rt:160:16
 add-t6 : tie.Need-add-t6
@@ -33,4 +33,4 @@ returns c =
     }
 
 pub found-case-spec : {M : Type 1} → statement M
-found-case-spec = tie.close (tie.spec add-t4 at-most-requires add-t6 returns)
+found-case-spec = tie.close (tie.spec add-t4 min-u32-requires add-t6 returns)

@@ -9,8 +9,8 @@ add-t5 : tie.Need-add-t5
 add-t5 c = search needs
 
 -- src/lib.rt:193:26
-at-most-requires : tie.Need-at-most-requires
-at-most-requires c κs = search needs
+min-u32-requires : tie.Need-min-u32-requires
+min-u32-requires c κs = search needs
 
 -- src/lib.rt:193:16
 add-t7 : tie.Need-add-t7
@@ -34,4 +34,4 @@ returns c =
     }
 
 pub other-case-spec : {M : Type 1} → statement M
-other-case-spec = tie.close (tie.spec add-t5 at-most-requires add-t7 returns)
+other-case-spec = tie.close (tie.spec add-t5 min-u32-requires add-t7 returns)

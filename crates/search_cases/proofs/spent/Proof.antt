@@ -7,8 +7,8 @@ use Rattle.search_cases.proofs.spent.Statement.{statement}
 use Rattle.search_cases.proofs.spent.Tie as tie
 
 -- src/lib.rt:136:9
-few-requires : tie.Need-few-requires
-few-requires c κs = search needs
+min-usize-requires : tie.Need-min-usize-requires
+min-usize-requires c κs = search needs
 
 -- src/lib.rt:137:9
 by-itself-requires : tie.Need-by-itself-requires
@@ -43,4 +43,4 @@ returns c =
 
 pub spent-spec : {M : Type 1} → statement M
 spent-spec =
-    tie.close (tie.spec few-requires by-itself-requires insert-sorted-requires same-length returns)
+    tie.close (tie.spec min-usize-requires by-itself-requires insert-sorted-requires same-length returns)
