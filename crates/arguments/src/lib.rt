@@ -1,4 +1,5 @@
 // The arguments of a program: numbers of entries, and the name of a file.
+#![tactic(auto)]
 ghost use Rattle.std.specs.Prelude.{◌≡◌, ◌≤◌};
 ghost use Rattle.arguments.specs.Number.{with_digit, number_of};
 

@@ -1,4 +1,5 @@
 // The smaller of two numbers.
+#![tactic(auto)]
 ghost use Rattle.std.specs.Prelude.{◌≡◌, ◌≤◌};
 ghost use Rattle.bounds.specs.Bounds.{at_most, AtMost};
 

@@ -1,5 +1,6 @@
 // The lines of `check`, written behind the first n bytes of a lent area as the writers of `show` do. f is the model file.
 // A violation comes as eight numbers, a reason as five words.
+#![tactic(auto)]
 ghost use Rattle.std.specs.Prelude.{◌≡◌, ◌+◌, ◌*◌, ◌≤◌, length, drop};
 ghost use Rattle.reasons.specs.Reasons.{render};
 ghost use Rattle.reasons.specs.Lists.{reason_of};
@@ -13,7 +14,7 @@ ghost use Rattle.check_lines.specs.Numbers.{violated_of, text_at, failure_of, so
 // The eight numbers of a violation: the place of the invariant's identifier among the texts, the second, the record's index,
 // the failure (1 prohibited state, 2 guard, 3 transition, 4 deadline), the deadline; 1, line and column of the source, or
 // zeros.
-#[derive(Drop)]
+#[derive(Clone, Copy)]
 pub struct Violated {
     pub place: u64,
     pub second: u64,
@@ -177,7 +178,7 @@ pub fn put_full_reason(
 // The answer is where the next text goes; whoever printed last flushes.
 
 // Bare texts, or quoted texts and messages.
-#[derive(Drop)]
+#[derive(Clone, Copy)]
 pub enum Form {
     Bare,
     Full,

@@ -1,4 +1,5 @@
 // The verdict on the records of a simulation: each invariant judged, its violation and its reasons gathered.
+#![tactic(auto)]
 ghost use Rattle.std.specs.Prelude.{◌≡◌, ◌+◌, ◌*◌, ◌≤◌, ◌<◌, length};
 ghost use Rattle.areas.specs.Areas.{written};
 ghost use Rattle.checker_collect.specs.Collect.{
@@ -20,7 +21,7 @@ use records::Where;
 
 // ---- violations, eight numbers each
 
-#[derive(Drop)]
+#[derive(Clone, Copy)]
 pub struct Numbers {
     pub list: [u64; 8],
 }
@@ -120,7 +121,7 @@ fn push_violation(v: &mut [u64], n: usize, id: u32, r: Reading) -> usize
 // ---- the invariants, one after the other
 
 // How many violations, unknown and incomplete reasons there are.
-#[derive(Drop)]
+#[derive(Clone, Copy)]
 pub struct Counts {
     pub violations: usize,
     pub unknown: usize,

@@ -72,7 +72,7 @@ use Rattle.checker_entry.specs.Promises.{Checked, Whole, RefusedAs}
 use Rattle.checker_entry.proofs.Judged.{Agreed, agreed}
 
 module _ (f x : List ℕ) (ts : List Text) (m : Model) (tb : Tabled f x ts m) where
-  alone_is : (k : ℕ) (t : Text) → eqb k kinds.source_note_lem ≡ false → words k ≡ t → render f (alone k) ≡ t
+  alone_is : (k : ℕ) (t : Text) → eqb k kinds.source_note_kind ≡ false → words k ≡ t → render f (alone k) ≡ t
   unfolding render body alone
   alone_is k t n e = rw (n, no_text f x ts m tb, e) (append-nil t)
 

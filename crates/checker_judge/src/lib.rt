@@ -1,6 +1,7 @@
 // The judging of one invariant over the records of a simulation, on places in the model file.
 // An invariant: 0 kind, 1 identifier; from 3 on what its kind holds. Kinds: 0 never, 1 guard, 2 transition, 3 response.
 // A record of kind 2 is an action, one of kind 9 the horizon.
+#![tactic(auto)]
 ghost use Rattle.std.specs.Prelude.{◌≡◌, ◌*◌, ◌+◌, ◌≤◌, length};
 ghost use Rattle.engine_evaluate.specs.Evaluate.{size_m};
 ghost use Rattle.engine_state.specs.Machine.{later};
@@ -36,7 +37,7 @@ use layout::Table;
 use records::{Change, Record, Where};
 
 // The failing record: its index, its second, its source; without a failure these are 0 and none.
-#[derive(Drop)]
+#[derive(Clone, Copy)]
 pub struct Reading {
     pub failure: Failure,
     pub index: usize,

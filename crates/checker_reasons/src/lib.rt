@@ -1,4 +1,5 @@
 // The reasons that the reading of one invariant gives, by what it kept; and a sorted list of reasons with them.
+#![tactic(auto)]
 ghost use Rattle.std.specs.Prelude.{◌≡◌, ◌*◌, ◌≤◌, length};
 ghost use Rattle.reasons.specs.Readable.{AllReadable};
 ghost use Rattle.reasons.specs.Lists.{listed, insert_all, Grows};
@@ -10,7 +11,7 @@ use engine_fields::{byte_at, capped, text_position, two_at};
 use reasons::{Reason, insert_sorted};
 
 // An invariant gives at most two.
-#[derive(Drop)]
+#[derive(Clone, Copy)]
 pub enum Told {
     Nothing,
     One(Reason),

@@ -48,7 +48,7 @@ module _ (f x : List ℕ) (ts : List Text) (mo : Model) (tb : Tabled f x ts mo) 
   abbrev T : ℕ → Text
   T v = get_or ts v []
 
-  about_is : (at k : ℕ) (t : Text) → two f (at + 1) < length ts → eqb k kinds.source_note_lem ≡ false → words k ≡ t →
+  about_is : (at k : ℕ) (t : Text) → two f (at + 1) < length ts → eqb k kinds.source_note_kind ≡ false → words k ≡ t →
       render f (about_m f at k) ≡ T (two f (at + 1)) ++ t
   unfolding render body about_m
   about_is at k t h n e =

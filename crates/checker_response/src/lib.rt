@@ -1,4 +1,5 @@
 // What a truth at a record does to an invariant's reading: why a record fails it, and the waiting of a response.
+#![tactic(auto)]
 ghost use Rattle.std.specs.Prelude.{◌≡◌, ◌&&◌, ◌||◌};
 ghost use Rattle.checker_response.specs.Response.{
   yes_m,
@@ -23,7 +24,7 @@ ghost use Rattle.checker_response.specs.Response.{
 use engine_evaluate::Truth;
 
 // Why a record fails an invariant, if it does.
-#[derive(Drop)]
+#[derive(Clone, Copy)]
 pub enum Failure {
     NoFailure,
     ProhibitedState,
@@ -33,7 +34,7 @@ pub enum Failure {
 }
 
 // Whether a response waits, and for which second. A second and `within` are words, so their sum fits.
-#[derive(Drop)]
+#[derive(Clone, Copy)]
 pub enum Wait {
     NoWait,
     Until(u64),
@@ -41,7 +42,7 @@ pub enum Wait {
 
 // What a reading keeps from record to record: the response's wait; whether its `when` held at the last record; whether a
 // predicate was unknown, the goal was unknown when its deadline had passed, a deadline lay beyond the horizon.
-#[derive(Drop)]
+#[derive(Clone, Copy)]
 pub struct Memory {
     pub wait: Wait,
     pub held: bool,
@@ -51,14 +52,14 @@ pub struct Memory {
 }
 
 // What one record shows.
-#[derive(Drop)]
+#[derive(Clone, Copy)]
 pub struct Shown {
     pub failure: Failure,
     pub memory: Memory,
 }
 
 // A response's predicates at a record: `when` and the goal after it, and the goal before it.
-#[derive(Drop)]
+#[derive(Clone, Copy)]
 pub struct Seen {
     pub cause: Truth,
     pub goal: Truth,

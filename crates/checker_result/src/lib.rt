@@ -1,4 +1,5 @@
 // The verdict on a simulation, and the answer of `check` as one value.
+#![tactic(auto)]
 ghost use Rattle.checker_result.specs.Statuses.{refusal_m, is_refused_m, is_violation_m};
 ghost use Rattle.std.specs.Prelude.{◌≡◌, ◌+◌, ◌*◌, ◌≤◌, length};
 ghost use Rattle.checker_result.specs.Result.{no_check, result_of};
@@ -9,7 +10,7 @@ use engine_state::Cells;
 use engine_summary::{Simulation, Summary};
 use layout::{IncompleteReasons, Positions, SimulationReasons, Table, VerdictReasons, Violations};
 
-#[derive(Drop)]
+#[derive(Clone, Copy)]
 pub enum Status {
     Refused(u32),
     Unknown,
@@ -20,7 +21,7 @@ pub enum Status {
 
 // The status, or the refusal's number; then all counts and words are 0. `violated` holds the violations, eight numbers each;
 // `unknowns` and `incompletes` hold the reasons, five words each, sorted as rendered.
-#[derive(Drop)]
+#[derive(Clone, Copy)]
 pub struct CheckResult {
     pub status: Status,
     pub violations: usize,
@@ -108,7 +109,7 @@ fn add_waiting(f: &[u8], w: &mut [u32], n: usize, waiting: bool) -> usize
 
 // What the checks of one model share beside its table and the positions of its invariants: the values at the start, how many
 // reasons the notes give, and how many invariants there are.
-#[derive(Drop)]
+#[derive(Clone, Copy)]
 pub struct Shared {
     pub cells: Cells,
     pub notes: usize,
@@ -116,7 +117,7 @@ pub struct Shared {
 }
 
 // A check without its lists and without the words of its reasons.
-#[derive(Drop)]
+#[derive(Clone, Copy)]
 pub struct Judgement {
     pub status: Status,
     pub violations: usize,

@@ -1,10 +1,11 @@
 // The cone, closed over sets: entities and automations by their numbers in the file, as bits. In each round the first
 // automation that isn't in yet and writes one of the entities comes in, and with it what it needs.
+#![tactic(auto)]
 ghost use Rattle.std.specs.Prelude.{◌≡◌, ◌≤◌, ◌<◌};
 ghost use Rattle.cone_close.specs.Rounds.{adds_m, first_m, round_m, closed_m};
 
 // The entities and the automations that are in.
-#[derive(Drop)]
+#[derive(Clone, Copy)]
 pub struct ConeSets {
     pub entities: u32,
     pub automations: u32,

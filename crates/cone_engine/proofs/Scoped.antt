@@ -35,17 +35,17 @@ use Rattle.engine_spec.specs.Modes.{Decision, already_running, max_reached, star
 use Rattle.engine_spec.specs.Records.{Key, Waiting, Run, Work, Item, Kind, Engine}
 use Rattle.engine_spec.specs.Changes.{if_some, with_cells, add, append, with_runs, add_run, uncertain, adds}
 use Rattle.engine_spec.specs.Engine.{
-  is_run_lem,
+  same_run,
   of_rule,
   other_run,
   of_other_rule,
-  in_line_lem,
+  queued_for,
   in_place,
   store,
   left,
   waits,
   released,
-  new_run_lem,
+  fresh_run,
   awaits,
   woken,
   toggled,
@@ -130,7 +130,7 @@ module _ (in_e in_a : Text → Bool) where
 
   g_store : (r : Run) (e : Engine) → okay r → Good e → Good (store r e)
   unfolding store with_runs in_place
-  g_store r e k g = every_each (Steps.good_run in_e in_a) (in_place r) (λ x q. if_prop okay (is_run_lem r.key x) k q)
+  g_store r e k g = every_each (Steps.good_run in_e in_a) (in_place r) (λ x q. if_prop okay (same_run r.key x) k q)
       e.runs g
 
   g_update : (now : ℕ) (x v : Text) (id : Option Text) (src : Option Source) (k : Kind) (e : Engine) → Good e
@@ -142,8 +142,8 @@ module _ (in_e in_a : Text → Bool) where
 
   g_release : (now : ℕ) (id : Text) (e : Engine) → Good e → Good (release now id e)
   unfolding release if_some let_go
-  g_release now id e g = go (find (in_line_lem id) e.runs)
-      (λ r p. every_find (Steps.good_run in_e in_a) (in_line_lem id) e.runs r g p)
+  g_release now id e g = go (find (queued_for id) e.runs)
+      (λ r p. every_find (Steps.good_run in_e in_a) (queued_for id) e.runs r g p)
     where
       go : (o : Option Run) → ((r : Run) → o ≡ some r → okay r) → Good (if_some (let_go now) o e)
       go none k = g
@@ -171,16 +171,16 @@ module _ (in_e in_a : Text → Bool) where
       (Steps.fine_acts in_e in_a (in_a r.id) r.actions) g
 
   new_good : (r : Automation) (later : Bool) (made : List Text) → Steps.good_rule in_e in_a r ≡ true
-      → okay (new_run_lem r later made)
-  unfolding new_run_lem Steps.good_run Steps.ok_wait
+      → okay (fresh_run r later made)
+  unfolding fresh_run Steps.good_run Steps.ok_wait
   new_good r later made k = and_i (Steps.fine_acts in_e in_a (in_a r.id) r.actions) true (acts_of r k) refl
 
   g_begin : (now : ℕ) (r : Automation) (later : Bool) (e : Engine) → Steps.good_rule in_e in_a r ≡ true → Good e
       → Good (begin now r later e)
   unfolding begin log_rule log append add_run
   g_begin now r later e k g =
-      g_adds (if later then [] else next_step now (new_run_lem r later e.made) ∷ []) _
-      (every_end (Steps.good_run in_e in_a) e.runs (new_run_lem r later e.made) g (new_good r later e.made k))
+      g_adds (if later then [] else next_step now (fresh_run r later e.made) ∷ []) _
+      (every_end (Steps.good_run in_e in_a) e.runs (fresh_run r later e.made) g (new_good r later e.made k))
 
   g_carry : (now : ℕ) (d : Decision) (r : Automation) (e : Engine) → Steps.good_rule in_e in_a r ≡ true → Good e
       → Good (carry_out now d r e)
@@ -319,8 +319,8 @@ module _ (in_e in_a : Text → Bool) where
 
   g_resume : (now : ℕ) (k : Key) (e : Engine) → Good e → Good (resume now k e)
   unfolding resume if_some step
-  g_resume now k e g = go (find (is_run_lem k) e.runs)
-      (λ r p. every_find (Steps.good_run in_e in_a) (is_run_lem k) e.runs r g p)
+  g_resume now k e g = go (find (same_run k) e.runs)
+      (λ r p. every_find (Steps.good_run in_e in_a) (same_run k) e.runs r g p)
     where
       go : (o : Option Run) → ((r : Run) → o ≡ some r → okay r)
           → Good (if_some (step now) o e)
@@ -332,8 +332,8 @@ module _ (in_e in_a : Text → Bool) where
 
   g_time_out : (now : ℕ) (k : Key) (e : Engine) → Good e → Good (time_out now k e)
   unfolding time_out if_some end_wait
-  g_time_out now k e g = go (find (is_run_lem k) e.runs)
-      (λ r p. every_find (Steps.good_run in_e in_a) (is_run_lem k) e.runs r g p)
+  g_time_out now k e g = go (find (same_run k) e.runs)
+      (λ r p. every_find (Steps.good_run in_e in_a) (same_run k) e.runs r g p)
     where
       go : (o : Option Run) → ((r : Run) → o ≡ some r → okay r) → Good (if_some (end_wait now) o e)
       go none q = g

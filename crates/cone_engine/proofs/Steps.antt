@@ -52,17 +52,17 @@ use Rattle.engine_spec.specs.Reasons.{unsupported_wait}
 use Rattle.engine_spec.specs.Records.{Key, Waiting, Run, Work, Kind, Change, Engine}
 use Rattle.engine_spec.specs.Changes.{if_some, add, add_run, adds}
 use Rattle.engine_spec.specs.Engine.{
-  is_run_lem,
+  same_run,
   of_rule,
   other_run,
   of_other_rule,
-  in_line_lem,
+  queued_for,
   in_place,
   store,
   left,
   waits,
   released,
-  new_run_lem,
+  fresh_run,
   awaits,
   woken,
   toggled,
@@ -263,41 +263,41 @@ module _ (in_e in_a : Text → Bool) where
   unfolding next_step at_once
   next_out now r e i = View.o_add in_e in_a e (next_step now r) (unfold View.cone_item View.cone_work in i)
 
-  line_bare : (id : Text) (x : Run) → in_line_lem id (bare x) ≡ in_line_lem id x
-  unfolding in_line_lem of_rule bare
+  line_bare : (id : Text) (x : Run) → queued_for id (bare x) ≡ queued_for id x
+  unfolding queued_for of_rule bare
   line_bare id x = refl
 
-  line_in : (id : Text) → in_a id ≡ true → (x : Run) → in_line_lem id x ≡ true → View.cone_run in_e in_a x ≡ true
-  unfolding in_line_lem
+  line_in : (id : Text) → in_a id ≡ true → (x : Run) → queued_for id x ≡ true → View.cone_run in_e in_a x ≡ true
+  unfolding queued_for
   line_in id i x q = View.of_rule_in in_e in_a id i x (and_l (of_rule id x) x.queued q)
 
   release_like : (now : ℕ) (id : Text) (e c : Engine) → in_a id ≡ true → Like e c
       → Like (release now id e) (release now id c)
   unfolding release if_some let_go
   release_like now id e c i h =
-      go (View.find_pair in_e in_a (in_line_lem id) (line_in id i) (line_bare id) e.runs c.runs h.of_runs)
+      go (View.find_pair in_e in_a (queued_for id) (line_in id i) (line_bare id) e.runs c.runs h.of_runs)
     where
       go : {o o' : Option Run} → Found o o'
           → Like (if_some (let_go now) o e) (if_some (let_go now) o' c)
       go neither = h
       go (both r n) = unfold next_step in (View.l_add in_e in_a (store_like (released r) n e c h) (next_step now r))
 
-  line_out : (id : Text) → in_a id ≡ false → (r : Run) → in_line_lem id r ≡ true → in_a r.key.rule ≡ false
-  unfolding in_line_lem of_rule
+  line_out : (id : Text) → in_a id ≡ false → (r : Run) → queued_for id r ≡ true → in_a r.key.rule ≡ false
+  unfolding queued_for of_rule
   line_out id i r q = ap in_a (eq_t_eq r.key.rule id (and_l (of_rule id r) r.queued q)) ∙ i
 
   release_out : (now : ℕ) (id : Text) (e : Engine) → in_a id ≡ false → Like (release now id e) e
   unfolding release if_some let_go
-  release_out now id e i = go (find (in_line_lem id) e.runs) (found_is (in_line_lem id) e.runs)
+  release_out now id e i = go (find (queued_for id) e.runs) (found_is (queued_for id) e.runs)
     where
-      go : (o : Option Run) → ((r : Run) → o ≡ some r → in_line_lem id r ≡ true) → Like (if_some (let_go now) o e) e
+      go : (o : Option Run) → ((r : Run) → o ≡ some r → queued_for id r ≡ true) → Like (if_some (let_go now) o e) e
       go none k = View.like_refl in_e in_a
       go (some r) k =
           let j : in_a r.key.rule ≡ false = line_out id i r (k r refl) in
           View.like_trans in_e in_a (next_out now r (store (released r) e) j) (store_out (released r) e j)
 
   other_bare : (k : Key) (x : Run) → other_run k (bare x) ≡ other_run k x
-  unfolding other_run is_run_lem bare
+  unfolding other_run same_run bare
   other_bare k x = refl
 
   finish_like : (now : ℕ) (r : Run) (n : ℕ) (e c : Engine) → in_a r.key.rule ≡ true → Like e c
@@ -334,8 +334,8 @@ module _ (in_e in_a : Text → Bool) where
       ∙ sym (View.steps_keep in_e in_a now x from to c.runs))
 
   new_like : (r : Automation) (later : Bool) (made made' : List Text) → in_a r.id ≡ true → keep in_a made ≡ keep in_a made'
-      → new_run_lem r later made' ≡ renum (length made' + 1) (new_run_lem r later made)
-  unfolding new_run_lem
+      → fresh_run r later made' ≡ renum (length made' + 1) (fresh_run r later made)
+  unfolding fresh_run
   new_like r later made made' i p =
       let s : tally (eq_t r.id) made' ≡ tally (eq_t r.id) made = sym (side made')
       ∙ ap (tally (eq_t r.id)) (sym p) ∙ side made in
@@ -359,7 +359,7 @@ module _ (in_e in_a : Text → Bool) where
       → Like (begin now r later e) (begin now r later c)
   unfolding begin
   begin_like now r later e c i h =
-      rw (new_like r later e.made c.made i h.of_made) (go (new_run_lem r later e.made) (length c.made + 1))
+      rw (new_like r later e.made c.made i h.of_made) (go (fresh_run r later e.made) (length c.made + 1))
     where
       go : (x : Run) (n : ℕ)
           → Like (e ▸ add_run x ▸ log_rule now (if later then Kind.queued x.number else Kind.start x.number)
@@ -375,14 +375,14 @@ module _ (in_e in_a : Text → Bool) where
   unfolding begin
   begin_out now r later e i =
       View.like_trans in_e in_a (View.o_adds in_e in_a _
-      (if later then [] else next_step now (new_run_lem r later e.made) ∷ []) (first later))
+      (if later then [] else next_step now (fresh_run r later e.made) ∷ []) (first later))
       (View.like_trans in_e in_a (out_rule now _ r.id _ (started later _))
-      (View.o_add_run in_e in_a e (new_run_lem r later e.made) (unfold View.cone_run new_run_lem in i)))
+      (View.o_add_run in_e in_a e (fresh_run r later e.made) (unfold View.cone_run fresh_run in i)))
     where
       first : (b : Bool) → keep (View.cone_item in_e in_a)
-          (if b then [] else next_step now (new_run_lem r later e.made) ∷ []) ≡ []
+          (if b then [] else next_step now (fresh_run r later e.made) ∷ []) ≡ []
       first true = keep_nil (View.cone_item in_e in_a)
-      first false = unfold keep View.cone_item View.cone_work next_step at_once new_run_lem in (rw i)
+      first false = unfold keep View.cone_item View.cone_work next_step at_once fresh_run in (rw i)
 
   drop_bare : (id : Text) (x : Run) → of_other_rule id (bare x) ≡ of_other_rule id x
   unfolding of_other_rule of_rule bare
@@ -723,27 +723,27 @@ module _ (in_e in_a : Text → Bool) where
       (and_l (fine false (record { source = src; effect = f })) (all (fine false) (within f ++ walk rest)) g))
       (store_out (left rest r) e i)
 
-  run_bare : (k : Key) (x : Run) → is_run_lem k (bare x) ≡ is_run_lem k x
-  unfolding is_run_lem bare
+  run_bare : (k : Key) (x : Run) → same_run k (bare x) ≡ same_run k x
+  unfolding same_run bare
   run_bare k x = refl
 
   -- a run that is found is good for its automation
-  found_rule : (k : Key) (l : List Run) (r : Run) → find (is_run_lem k) l ≡ some r → in_a r.key.rule ≡ in_a k.rule
-  found_rule k l r e = ap in_a (View.run_rule in_e in_a k r (found_is (is_run_lem k) l r e))
+  found_rule : (k : Key) (l : List Run) (r : Run) → find (same_run k) l ≡ some r → in_a r.key.rule ≡ in_a k.rule
+  found_rule k l r e = ap in_a (View.run_rule in_e in_a k r (found_is (same_run k) l r e))
 
   found_fine : (k : Key) (b : Bool) (l : List Run) (r : Run) → in_a k.rule ≡ b → Every good_run l
-      → find (is_run_lem k) l ≡ some r → fine_acts b r.actions ≡ true
+      → find (same_run k) l ≡ some r → fine_acts b r.actions ≡ true
   unfolding good_run
   found_fine k b l r i g e =
       rw (found_rule k l r e ∙ i) at
       (and_l (fine_acts (in_a r.key.rule) r.actions) (ok_wait (in_a r.key.rule) r.waiting)
-      (every_find good_run (is_run_lem k) l r g e))
+      (every_find good_run (same_run k) l r g e))
 
   resume_like : (now : ℕ) (k : Key) (e c : Engine) → in_a k.rule ≡ true → Every good_run e.runs → Like e c
       → Like (resume now k e) (resume now k c)
   unfolding resume if_some step
   resume_like now k e c i g h =
-      go (View.find_pair in_e in_a (is_run_lem k) (View.is_run_in in_e in_a k i) (run_bare k) e.runs c.runs
+      go (View.find_pair in_e in_a (same_run k) (View.is_run_in in_e in_a k i) (run_bare k) e.runs c.runs
       h.of_runs) (λ r p. found_fine k true e.runs r i g p) (λ r p. found_rule k e.runs r p ∙ i)
     where
       go : {o o' : Option Run} → Found o o' → ((r : Run) → o ≡ some r → fine_acts true r.actions ≡ true)
@@ -756,7 +756,7 @@ module _ (in_e in_a : Text → Bool) where
 
   resume_out : (now : ℕ) (k : Key) (e : Engine) → in_a k.rule ≡ false → Every good_run e.runs → Like (resume now k e) e
   unfolding resume if_some step
-  resume_out now k e i g = go (find (is_run_lem k) e.runs) (λ r p. found_fine k false e.runs r i g p)
+  resume_out now k e i g = go (find (same_run k) e.runs) (λ r p. found_fine k false e.runs r i g p)
       (λ r p. found_rule k e.runs r p ∙ i)
     where
       go : (o : Option Run) → ((r : Run) → o ≡ some r → fine_acts false r.actions ≡ true)
@@ -795,7 +795,7 @@ module _ (in_e in_a : Text → Bool) where
       → Like (time_out now k e) (time_out now k c)
   unfolding time_out if_some end_wait
   time_like now k e c i h =
-      go (View.find_pair in_e in_a (is_run_lem k) (View.is_run_in in_e in_a k i) (run_bare k) e.runs c.runs
+      go (View.find_pair in_e in_a (same_run k) (View.is_run_in in_e in_a k i) (run_bare k) e.runs c.runs
       h.of_runs) (λ r p. found_rule k e.runs r p ∙ i)
     where
       go : {o o' : Option Run} → Found o o' → ((r : Run) → o ≡ some r → in_a r.key.rule ≡ true)
@@ -811,7 +811,7 @@ module _ (in_e in_a : Text → Bool) where
 
   time_out_out : (now : ℕ) (k : Key) (e : Engine) → in_a k.rule ≡ false → Like (time_out now k e) e
   unfolding time_out if_some end_wait
-  time_out_out now k e i = go (find (is_run_lem k) e.runs) (λ r p. found_rule k e.runs r p ∙ i)
+  time_out_out now k e i = go (find (same_run k) e.runs) (λ r p. found_rule k e.runs r p ∙ i)
     where
       go : (o : Option Run) → ((r : Run) → o ≡ some r → in_a r.key.rule ≡ false)
           → Like (if_some (end_wait now) o e) e

@@ -33,14 +33,14 @@ use Rattle.engine_spec.specs.Reasons.{unsupported_wait, space_spent, steps_spent
 use Rattle.engine_spec.specs.Records.{Key, Waiting, Run, Work, Item, Kind, Change, Trace, Engine}
 use Rattle.engine_spec.specs.Changes.{if_some, with_cells, add, append, with_runs, add_run, uncertain, with_queue, adds}
 use Rattle.engine_spec.specs.Engine.{
-  is_run_lem,
+  same_run,
   of_rule,
-  in_line_lem,
+  queued_for,
   store,
   left,
   waits,
   released,
-  new_run_lem,
+  fresh_run,
   awaits,
   toggled,
   ◌then◌,
@@ -213,7 +213,7 @@ module _ (now : ℕ) where
 
   t_release : (id : Text) (e : Engine) → Tidy now e → Tidy now (release now id e)
   unfolding release if_some let_go
-  t_release id e h = go (find (in_line_lem id) e.runs)
+  t_release id e h = go (find (queued_for id) e.runs)
     where
       go : (o : Option Run) → Tidy now (if_some (let_go now) o e)
       go none = h
@@ -235,18 +235,18 @@ module _ (now : ℕ) where
   t_begin : (r : Automation) (later : Bool) (e : Engine) → Tidy now e → Tidy now (begin now r later e)
   unfolding begin boundary
   t_begin r later e h =
-      t_adds (if later then [] else next_step now (new_run_lem r later e.made) ∷ []) _ (first later)
-      (t_rule (if later then Kind.queued (new_run_lem r later e.made).number
-      else Kind.start (new_run_lem r later e.made).number) r.id _ (kind later)
-      (t_add_run (new_run_lem r later e.made) e h))
+      t_adds (if later then [] else next_step now (fresh_run r later e.made) ∷ []) _ (first later)
+      (t_rule (if later then Kind.queued (fresh_run r later e.made).number
+      else Kind.start (fresh_run r later e.made).number) r.id _ (kind later)
+      (t_add_run (fresh_run r later e.made) e h))
     where
       kind : (b : Bool) → boundary
-          (if b then Kind.queued (new_run_lem r later e.made).number
-          else Kind.start (new_run_lem r later e.made).number) ≡ false
+          (if b then Kind.queued (fresh_run r later e.made).number
+          else Kind.start (fresh_run r later e.made).number) ≡ false
       kind true = refl
       kind false = refl
 
-      first : (b : Bool) → Every (late now) (if b then [] else next_step now (new_run_lem r later e.made) ∷ [])
+      first : (b : Bool) → Every (late now) (if b then [] else next_step now (fresh_run r later e.made) ∷ [])
       first true = tt
       first false = unfold next_step at_once late in (le-leb now now (omega arith), tt)
 
@@ -323,7 +323,7 @@ module _ (now : ℕ) where
 
   t_resume : (k : Key) (e : Engine) → Tidy now e → Tidy now (resume now k e)
   unfolding resume if_some step
-  t_resume k e h = go (find (is_run_lem k) e.runs)
+  t_resume k e h = go (find (same_run k) e.runs)
     where
       go : (o : Option Run) → Tidy now (if_some (step now) o e)
       go none = h
@@ -339,7 +339,7 @@ module _ (now : ℕ) where
 
   t_time_out : (k : Key) (e : Engine) → Tidy now e → Tidy now (time_out now k e)
   unfolding time_out if_some end_wait
-  t_time_out k e h = go (find (is_run_lem k) e.runs)
+  t_time_out k e h = go (find (same_run k) e.runs)
     where
       go : (o : Option Run) → Tidy now (if_some (end_wait now) o e)
       go none = h

@@ -13,7 +13,7 @@ use Rattle.engine_spec.specs.Truth.{moment_after, evaluate, evaluate_all}
 use Rattle.engine_spec.specs.Records.{Key, Run, Work, Item, Kind, Trace, Engine}
 use Rattle.engine_spec.specs.Changes.{with_cells, add, append, with_runs, add_run, uncertain, with_queue, adds}
 use Rattle.engine_spec.specs.Engine.{
-  is_run_lem,
+  same_run,
   moment,
   of_rule,
   in_place,
@@ -239,19 +239,19 @@ module _ (in_e in_a : Text → Bool) where
 
   -- ---- runs
 
-  pub run_rule : (k : Key) (r : Run) → is_run_lem k r ≡ true → r.key.rule ≡ k.rule
-  unfolding is_run_lem
+  pub run_rule : (k : Key) (r : Run) → same_run k r ≡ true → r.key.rule ≡ k.rule
+  unfolding same_run
   run_rule k r q = eq_t_eq r.key.rule k.rule (and_l (eq_t r.key.rule k.rule) _ q)
 
-  pub is_run_in : (k : Key) → in_a k.rule ≡ true → (r : Run) → is_run_lem k r ≡ true → cone_run r ≡ true
+  pub is_run_in : (k : Key) → in_a k.rule ≡ true → (r : Run) → same_run k r ≡ true → cone_run r ≡ true
   unfolding cone_run
   is_run_in k h r q = ap in_a (run_rule k r q) ∙ h
 
-  pub is_run_out : (k : Key) → in_a k.rule ≡ false → (r : Run) → cone_run r ≡ true → is_run_lem k r ≡ false
+  pub is_run_out : (k : Key) → in_a k.rule ≡ false → (r : Run) → cone_run r ≡ true → same_run k r ≡ false
   unfolding cone_run
-  is_run_out k h r q = go (case (is_run_lem k r))
+  is_run_out k h r q = go (case (same_run k r))
     where
-      go : Case (is_run_lem k r) → is_run_lem k r ≡ false
+      go : Case (same_run k r) → same_run k r ≡ false
       go (is_true a) = absurd (true≢false (sym q ∙ ap in_a (run_rule k r a) ∙ h))
       go (is_false a) = a
 
@@ -310,15 +310,15 @@ module _ (in_e in_a : Text → Bool) where
 
   in_place_rule : (r x : Run) → cone_run (in_place r x) ≡ cone_run x
   unfolding in_place cone_run
-  in_place_rule r x = go (case (is_run_lem r.key x))
+  in_place_rule r x = go (case (same_run r.key x))
     where
-      go : Case (is_run_lem r.key x) → in_a (if is_run_lem r.key x then r else x).key.rule ≡ in_a x.key.rule
+      go : Case (same_run r.key x) → in_a (if same_run r.key x then r else x).key.rule ≡ in_a x.key.rule
       go (is_true a) = rw a (ap in_a (sym (run_rule r.key x a)))
       go (is_false a) = rw a
 
   pub bares_place : (r : Run) (l : List Run) → bares (each (in_place r) l) ≡ each (in_place (bare r)) (bares l)
   bares_place r l = bares_each (in_place r) (in_place (bare r)) (in_place_rule r)
-      (λ x. unfold in_place is_run_lem bare in (sym (if_hom bare (is_run_lem r.key x) refl refl))) l
+      (λ x. unfold in_place same_run bare in (sym (if_hom bare (same_run r.key x) refl refl))) l
 
   pub bares_place_out : (r : Run) → cone_run r ≡ false → (l : List Run) → bares (each (in_place r) l) ≡ bares l
   unfolding cone_run

@@ -1,4 +1,5 @@
 // The entry `cone`: the entities and the automations of a model file on which its invariants depend.
+#![tactic(auto)]
 ghost use Rattle.std.specs.Prelude.{◌≡◌, ◌≤◌, ◌<◌};
 ghost use Rattle.cone_entry.specs.Contract.{no_cone, Answers};
 ghost use Rattle.cone_entry.specs.Promises.{Touches, Bounds, Tells};
@@ -9,7 +10,7 @@ use model_parts::{Extent, Section};
 // `refused` is 0 or the refusal's number; then the rest is 0. `entities` is the set of declared entities by their numbers
 // in the file, `automations` that of automations. The first `undeclared` of `names` are the places of names that no entity
 // has, ascending.
-#[derive(Drop)]
+#[derive(Clone, Copy)]
 pub struct ConeResult {
     pub refused: u32,
     pub entities: u32,
@@ -31,7 +32,7 @@ fn refused(number: u32) -> ConeResult
 }
 
 // What each automation writes, and what it reads or toggles.
-#[derive(Drop)]
+#[derive(Clone, Copy)]
 pub struct Touched {
     pub writes: [u32; 32],
     pub needs: [u32; 32],

@@ -105,14 +105,14 @@ begun_tidy areas origin cells notes events =
     (record { due = tt; told = (omega arith, omega arith); begins = refl; plain = (refl, tt) }))
 
 -- the loop of a model, with given cells and events
-unfoldable pub run_of_lem : Areas → Model → List Cell → List Event → Ended
-run_of_lem areas m cells events =
+unfoldable pub run_over : Areas → Model → List Cell → List Event → Ended
+run_over areas m cells events =
     loop m.rules m.scenario.limits.horizon m.scenario.limits.max_steps 0
     (begun areas m.start cells (unsupported m.rules) events)
 
 trace_is : (areas : Areas) (m : Model) (cells : List Cell) (events : List Event)
     → (ended areas m cells events).incomplete ≡ []
-    → (ended areas m cells events).engine.trace ≡ (run_of_lem areas m cells events).engine.trace
+    → (ended areas m cells events).engine.trace ≡ (run_over areas m cells events).engine.trace
     ++ record {
       at = m.scenario.limits.horizon;
       kind = Kind.horizon;
@@ -121,9 +121,9 @@ trace_is : (areas : Areas) (m : Model) (cells : List Cell) (events : List Event)
       change =
           none;
     } ∷ []
-unfolding ended run_of_lem
+unfolding ended run_over
 trace_is areas m cells events e =
-    ap (λ (x : Engine). x.trace) (whole m.scenario.limits.horizon (run_of_lem areas m cells events) e).engine_is
+    ap (λ (x : Engine). x.trace) (whole m.scenario.limits.horizon (run_over areas m cells events) e).engine_is
     ∙ (unfold log append in refl)
 
 records : (areas : Areas) (m : Model) (cells : List Cell) (events : List Event)
@@ -140,13 +140,13 @@ records areas m cells events e = subst (Records h) (sym (trace_is areas m cells 
     h = m.scenario.limits.horizon
 
     l : List Trace
-    l = (run_of_lem areas m cells events).engine.trace
+    l = (run_over areas m cells events).engine.trace
 
     t : Trace
     t = record { at = h; kind = Kind.horizon; automation = none; source = none; change = none }
 
     k : TimeOrder.Told h l
-    k = unfold run_of_lem in (tidy_loop m.rules h m.scenario.limits.max_steps 0 0
+    k = unfold run_over in (tidy_loop m.rules h m.scenario.limits.max_steps 0 0
         (begun areas m.start cells (unsupported m.rules) events)
         (begun_tidy areas m.start cells (unsupported m.rules) events)
         (omega arith))
@@ -204,9 +204,9 @@ module _ (in_e in_a : Text → Bool) where
   module _ (m m' : Model) (cells cells' : List Cell) (a : Inside m m' cells cells') (areas areas' : Areas)
       (events events' : List Event) (v : keep cone_event events ≡ keep cone_event events')
       (e : (ended areas m cells events).incomplete ≡ []) (e' : (ended areas' m' cells' events').incomplete ≡ []) where
-    same_view : Slice.strip in_e in_a (run_of_lem areas m cells events).engine ≡ Slice.strip in_e in_a
-        (run_of_lem areas' m' cells' events').engine
-    unfolding run_of_lem
+    same_view : Slice.strip in_e in_a (run_over areas m cells events).engine ≡ Slice.strip in_e in_a
+        (run_over areas' m' cells' events').engine
+    unfolding run_over
     same_view =
         Slice.alike in_e in_a m.rules m'.rules m.scenario.limits.horizon a.good a.good' a.same_rules
         m.scenario.limits.max_steps m'.scenario.limits.max_steps s s'
@@ -214,8 +214,8 @@ module _ (in_e in_a : Text → Bool) where
         (begun_good areas' m'.start cells' (unsupported m'.rules) events')
         (Slice.strip_eq in_e in_a (begun_like areas areas' m.start m'.start cells cells' (unsupported m.rules)
         (unsupported m'.rules) events events' a.same_start a.same_cells v))
-        (whole m.scenario.limits.horizon (run_of_lem areas m cells events) (unfold ended in e)).before
-        (rw a.same_horizon (whole m'.scenario.limits.horizon (run_of_lem areas' m' cells' events')
+        (whole m.scenario.limits.horizon (run_over areas m cells events) (unfold ended in e)).before
+        (rw a.same_horizon (whole m'.scenario.limits.horizon (run_over areas' m' cells' events')
         (unfold ended in e')).before)
         ∙ ap (λ (h : ℕ). Slice.strip in_e in_a (loop m'.rules h m'.scenario.limits.max_steps 0 s').engine)
         a.same_horizon
@@ -226,8 +226,8 @@ module _ (in_e in_a : Text → Bool) where
         s' : Engine
         s' = begun areas' m'.start cells' (unsupported m'.rules) events'
 
-    same_told : keep (View.cone_trace in_e in_a) (run_of_lem areas m cells events).engine.trace ≡ keep
-        (View.cone_trace in_e in_a) (run_of_lem areas' m' cells' events').engine.trace
+    same_told : keep (View.cone_trace in_e in_a) (run_over areas m cells events).engine.trace ≡ keep
+        (View.cone_trace in_e in_a) (run_over areas' m' cells' events').engine.trace
     unfolding Slice.strip
     same_told = ap (λ (x : Engine). x.trace) same_view
 

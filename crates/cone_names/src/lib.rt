@@ -1,4 +1,5 @@
 // The undeclared names in the cone: those that one of its automations reads, as places among the texts, ascending.
+#![tactic(auto)]
 ghost use Rattle.std.specs.Prelude.{◌≡◌, ◌<◌, ◌+◌};
 ghost use Rattle.cone_names.specs.Undeclared.{read_m, wanted_m, with_m, name_m, names_m};
 
@@ -38,7 +39,7 @@ fn wanted(u: Undeclared, automations: u32, place: u32) -> bool
 }
 
 // The first `count` of `list`, as places; then zeros.
-#[derive(Drop)]
+#[derive(Clone, Copy)]
 pub struct ConeNames {
     pub count: usize,
     pub list: [u32; 64],

@@ -1,4 +1,5 @@
 // The entries `unsupported` and `simulate`.
+#![tactic(auto)]
 ghost use Rattle.std.specs.Prelude.{◌≡◌, ◌*◌, ◌≤◌, length};
 ghost use Rattle.engine_spec.specs.Simulate.{unsupported_of};
 ghost use Rattle.engine_summary.specs.Summary.{simulation_of};
@@ -14,7 +15,7 @@ use model_index::{Index, Status};
 // ---- what the simulations of one model share
 
 // The table, the values at the start, and how many reasons the automations' notes give.
-#[derive(Drop)]
+#[derive(Clone, Copy)]
 pub struct Base {
     pub table: Table,
     pub cells: Cells,
@@ -39,7 +40,7 @@ pub fn prepared(file: &[u8], index: Index, reasons: &mut SimulationReasons) -> B
 // ---- unsupported
 
 // `refused` is 0 or the refusal's number; then there are no reasons.
-#[derive(Drop)]
+#[derive(Clone, Copy)]
 pub struct Notes {
     pub refused: u32,
     pub count: usize,

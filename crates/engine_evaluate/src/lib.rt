@@ -1,5 +1,6 @@
 // Predicates, triggers, branches and actions of the model file, read in place.
 // A position is a word; one that would not fit is the largest word.
+#![tactic(auto)]
 ghost use Rattle.std.specs.Prelude.{◌≡◌, ◌+◌, ◌<◌};
 ghost use Rattle.engine_evaluate.specs.Evaluate.{
   number_m,
@@ -24,7 +25,7 @@ use layout::Table;
 use model_walk::Walked;
 use runs::{Place, Run, Source};
 
-#[derive(Drop)]
+#[derive(Clone, Copy)]
 pub enum Truth {
     Yes,
     No,
@@ -32,7 +33,7 @@ pub enum Truth {
 }
 
 // The verdict on a list of predicates, and the position after it.
-#[derive(Drop)]
+#[derive(Clone, Copy)]
 pub struct Judged {
     pub truth: Truth,
     pub next: u32,
@@ -184,7 +185,7 @@ fn end_of(w: Walked, at: u32) -> u32
 }
 
 // A branch: its list is taken, it can't be told, or the next branch starts at a position.
-#[derive(Drop)]
+#[derive(Clone, Copy)]
 pub enum Branch {
     Take(u32),
     Unclear,
@@ -233,7 +234,7 @@ pub fn select(f: &[u8], x: &Table, values: &[u32; 32], second: u32, at: u32) -> 
 
 // ---- actions
 
-#[derive(Drop)]
+#[derive(Clone, Copy)]
 pub enum Effect {
     Set { entity: u32, value: u32 },
     Toggle { entity: u32 },
@@ -244,7 +245,7 @@ pub enum Effect {
     Unknown { reason: u32 },
 }
 
-#[derive(Drop)]
+#[derive(Clone, Copy)]
 pub struct Action {
     pub source: Source,
     pub effect: Effect,

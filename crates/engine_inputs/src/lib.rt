@@ -1,4 +1,5 @@
 // What a simulation begins with: the model's events as words, and the values that its entities start with.
+#![tactic(auto)]
 ghost use Rattle.layout.specs.Sizes.{event_word_count};
 ghost use Rattle.std.specs.Prelude.{◌≡◌, ◌≤◌, ◌<◌};
 ghost use Rattle.engine_inputs.specs.Inputs.{
@@ -16,7 +17,7 @@ use layout::{EventWords, Positions};
 use model_index::Index;
 
 // Events of four words: a second, a kind, an entity and a value.
-#[derive(Drop)]
+#[derive(Clone, Copy)]
 pub struct Events {
     pub words: EventWords,
 }

@@ -1,4 +1,5 @@
 // The loop of a simulation, from a table, events and starting values.
+#![tactic(auto)]
 ghost use Rattle.std.specs.Prelude.{◌*◌, ◌≤◌, length};
 ghost use Rattle.engine_state.specs.Steps.{Moves, Does, kept, told, still, Fits, by};
 ghost use Rattle.engine_loop.specs.Loop.{turn_m, Ends, horizon_m, Closes};
@@ -40,7 +41,7 @@ fn turn(
 }
 
 // The state at the end, the steps taken, and why the loop ended.
-#[derive(Drop)]
+#[derive(Clone, Copy)]
 pub struct Ended {
     pub state: State,
     pub steps: u32,

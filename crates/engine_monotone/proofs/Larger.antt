@@ -50,15 +50,15 @@ use Rattle.engine_spec.specs.Changes.{
   with_queue,
 }
 use Rattle.engine_spec.specs.Engine.{
-  is_run_lem,
+  same_run,
   of_rule,
   other_run,
   of_other_rule,
-  in_line_lem,
+  queued_for,
   in_place,
   store,
   left,
-  new_run_lem,
+  fresh_run,
   awaits,
   woken,
   toggled,
@@ -298,7 +298,7 @@ module _ (A B : Areas) (larger : Larger A B) where
 
     s_release : (id : Text) → Same (release now id)
     unfolding release
-    s_release id = with (λ e. find (in_line_lem id) e.runs) (λ e. refl) (if_some (let_go now)) (maybe (let_go now) s_let_go)
+    s_release id = with (λ e. find (queued_for id) e.runs) (λ e. refl) (if_some (let_go now)) (maybe (let_go now) s_let_go)
 
     s_finish : (r : Run) → Same (finish now r)
     unfolding finish log_rule
@@ -318,7 +318,7 @@ module _ (A B : Areas) (larger : Larger A B) where
     s_begin : (r : Automation) (later : Bool) → Same (begin now r later)
     unfolding begin log_rule
     s_begin r later =
-        with (λ e. new_run_lem r later e.made) (λ e. refl)
+        with (λ e. fresh_run r later e.made) (λ e. refl)
         (λ (run : Run) e.
         e
         ▸ add_run run
@@ -414,7 +414,7 @@ module _ (A B : Areas) (larger : Larger A B) where
 
     s_resume : (k : Key) → Same (resume now k)
     unfolding resume
-    s_resume k = with (λ e. find (is_run_lem k) e.runs) (λ e. refl) (if_some (step now)) (maybe (step now) s_step)
+    s_resume k = with (λ e. find (same_run k) e.runs) (λ e. refl) (if_some (step now)) (maybe (step now) s_step)
 
     s_over : (w : Waiting) (r : Run) → Same (wait_over now w r)
     unfolding wait_over log_action
@@ -429,7 +429,7 @@ module _ (A B : Areas) (larger : Larger A B) where
 
     s_time_out : (k : Key) → Same (time_out now k)
     unfolding time_out
-    s_time_out k = with (λ e. find (is_run_lem k) e.runs) (λ e. refl) (if_some (end_wait now))
+    s_time_out k = with (λ e. find (same_run k) e.runs) (λ e. refl) (if_some (end_wait now))
         (maybe (end_wait now) s_end_wait)
 
     s_expire : (n : ℕ) (c : Cell) → Same (expire now n c)

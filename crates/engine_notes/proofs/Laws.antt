@@ -101,7 +101,7 @@ module _ (k : Listing) (f : List ℕ) (p : ℕ) (l : List Text) where
 -- ---- reasons
 
 pub id_is : (f : List ℕ) (i m a b : ℕ) → a ≡ text_position f i → b ≡ text_position f m →
-    record { kind = kinds.id_note_lem; first = a; second = b; line = 0; column = 0 } ≡ id_note f i m
+    record { kind = kinds.id_note_kind; first = a; second = b; line = 0; column = 0 } ≡ id_note f i m
 unfolding id_note
 id_is f i m a b e g = rw (e, g)
 

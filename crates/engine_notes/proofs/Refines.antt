@@ -98,7 +98,7 @@ note_words : words kinds.note ≡ []
 unfolding words
 note_words = refl
 
-id_words : words kinds.id_note_lem ≡ text ": "
+id_words : words kinds.id_note_kind ≡ text ": "
 unfolding words
 id_words = refl
 

@@ -72,7 +72,7 @@ times_m (suc i) k = k ⨾ times_m i k
 -- ---- reasons
 
 unfoldable pub id_note : List ℕ → (id note : ℕ) → Reason
-id_note f i m = record { kind = kinds.id_note_lem; first = text_position f i; second = text_position f m; line = 0; column = 0 }
+id_note f i m = record { kind = kinds.id_note_kind; first = text_position f i; second = text_position f m; line = 0; column = 0 }
 
 -- a note behind an automation's identifier; 65,535 stands for none
 unfoldable pub note_of : List ℕ → (id note : ℕ) → Reason

@@ -1,5 +1,6 @@
 // The notes of parts that hold no list of actions as reasons, sorted as they are rendered, each once. The file was read
 // before, so that what is looked for is there; a part that is not there is passed over. The area has place for 300.
+#![tactic(auto)]
 ghost use Rattle.layout.specs.Sizes.{simulation_reason_words};
 ghost use Rattle.std.specs.Prelude.{◌≡◌, ◌≤◌, length};
 ghost use Rattle.reasons.specs.Reasons.{render};
@@ -23,14 +24,14 @@ use model_walk::Num;
 use reasons::Reason;
 
 // How many reasons there are, and the position after what was read.
-#[derive(Drop)]
+#[derive(Clone, Copy)]
 pub struct Noted {
     pub count: usize,
     pub next: usize,
 }
 
 // Parts of which an automation has lists.
-#[derive(Drop)]
+#[derive(Clone, Copy)]
 pub enum Part {
     Note,
     Trigger,

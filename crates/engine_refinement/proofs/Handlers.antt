@@ -29,7 +29,7 @@ use Rattle.engine_spec.specs.Records.{Run, Work, Kind, Waiting, Engine}
 use Rattle.engine_spec.specs.Words.{kind_number, detail_number}
 use Rattle.engine_spec.specs.Changes.{if_some, with_cells, add, adds}
 use Rattle.engine_spec.specs.Engine.{
-  is_run_lem,
+  same_run,
   store,
   left,
   waits,
@@ -91,7 +91,7 @@ use Rattle.engine_refinement.specs.Meaning.{
   key_of,
   kind_of,
   work_of,
-  run_of_lem,
+  meant_run,
   wait_of,
   waiting_of,
   source_of,
@@ -152,7 +152,7 @@ module _ (f x : List ℕ) (ts : List Text) (mo : Model) (tb : Tabled f x ts mo) 
   S = Sim f x ts mo tb
 
   abbrev R : ARun → Run
-  R = run_of_lem x ts f
+  R = meant_run x ts f
 
   abbrev G : List ℕ → ARun → Type 0
   G = GoodRun f x ts mo tb
@@ -163,11 +163,11 @@ module _ (f x : List ℕ) (ts : List Text) (mo : Model) (tb : Tabled f x ts mo) 
   -- ---- a run goes on
 
   stepped_run : (r : ARun) (p : Stepped f x ts mo tb r) → R (put_places p.depth p.places r) ≡ left p.rest (R r)
-  unfolding run_of_lem
+  unfolding meant_run
   stepped_run r p = ap (λ (y : Actions). left y (R r)) p.rest_is
 
   run_actions : (r : ARun) (a : Actions) → actions_at x ts f r.depth r.places ≡ a → (R r).actions ≡ a
-  unfolding run_of_lem
+  unfolding meant_run
   run_actions r a e = e
 
   none_left : (r : ARun) → r.depth ≡ 0 → actions_at x ts f r.depth r.places ≡ done
@@ -231,7 +231,7 @@ module _ (f x : List ℕ) (ts : List Text) (mo : Model) (tb : Tabled f x ts mo) 
     resting false (phase.Waiting w) u v = refl
 
     step_is : S now room (resume_run_m f x k r m) (step now (R r) e)
-    unfolding resume_run_m step going_m run_of_lem
+    unfolding resume_run_m step going_m meant_run
     step_is =
         rw (resting r.queued r.phase e (go_on now (R r).actions (R r) e))
         (by (if r.queued then false else going_phase r.phase))
@@ -255,7 +255,7 @@ module _ (f x : List ℕ) (ts : List Text) (mo : Model) (tb : Tabled f x ts mo) 
         (Kind.timeout c) (timing c) g.rule
 
     calm : R (phase_m phase.Going r) ≡ waits none (R r)
-    unfolding run_of_lem
+    unfolding meant_run
     calm = refl
 
     -- the run goes on after its wait
@@ -316,48 +316,48 @@ module _ (f x : List ℕ) (ts : List Text) (mo : Model) (tb : Tabled f x ts mo) 
     timed (phase.Waiting w) = over_is w
 
     time_is : S now room (time_run_m k r m) (end_wait now (R r) e)
-    unfolding time_run_m end_wait run_of_lem
+    unfolding time_run_m end_wait meant_run
     time_is = timed r.phase
 
   -- ---- the run with a key
   module _ {now room : ℕ} {m : Machine} {e : Engine} (l : L now (suc room) m e) (a n : ℕ) (h : a < rules) where
-    searched : lists.Sought R (is_run a n) (is_run_lem (key_of x ts a n)) no_run m.runs (place_from (is_run a n) 0 m.runs) 0
+    searched : lists.Sought R (is_run a n) (same_run (key_of x ts a n)) no_run m.runs (place_from (is_run a n) 0 m.runs) 0
     searched =
-        lists.sought R (is_run a n) (is_run_lem (key_of x ts a n)) no_run m.runs 0
+        lists.sought R (is_run a n) (same_run (key_of x ts a n)) no_run m.runs 0
         (lists.each_imp (G m.sequences) _ (run_test f x ts mo tb m.sequences a n h) m.runs l.runs.good)
 
     resume_is : S now room (resume_m f x a n m) (resume now (key_of x ts a n) e)
     unfolding resume_m resume resume_at_m if_some
     resume_is = by searched
       where
-        by : lists.Sought R (is_run a n) (is_run_lem (key_of x ts a n)) no_run m.runs (place_from (is_run a n) 0 m.runs) 0 →
+        by : lists.Sought R (is_run a n) (same_run (key_of x ts a n)) no_run m.runs (place_from (is_run a n) 0 m.runs) 0 →
             S now room (resume_at_m f x (place_from (is_run a n) 0 m.runs) m)
-            (if_some (step now) (find (is_run_lem (key_of x ts a n)) e.runs) e)
+            (if_some (step now) (find (same_run (key_of x ts a n)) e.runs) e)
         by (lists.here k p o q t) =
             let z : 0 + k ≡ k = omega arith in
-            let y : find (is_run_lem (key_of x ts a n)) e.runs ≡ some (R (get_or m.runs k no_run)) =
-            ap (find (is_run_lem (key_of x ts a n))) l.runs.is ∙ q in
+            let y : find (same_run (key_of x ts a n)) e.runs ≡ some (R (get_or m.runs k no_run)) =
+            ap (find (same_run (key_of x ts a n))) l.runs.is ∙ q in
             rw (p ∙ ap At z, y, run_is f x ts mo tb l k o) (step_is l k o)
         by (lists.nowhere p q) =
-            let y : find (is_run_lem (key_of x ts a n)) e.runs ≡ none =
-            ap (find (is_run_lem (key_of x ts a n))) l.runs.is ∙ q in
+            let y : find (same_run (key_of x ts a n)) e.runs ≡ none =
+            ap (find (same_run (key_of x ts a n))) l.runs.is ∙ q in
             rw (p, y) (live (weaker f x ts mo tb (omega arith) l))
 
     time_out_is : S now room (time_out_m a n m) (time_out now (key_of x ts a n) e)
     unfolding time_out_m time_out time_at_m if_some
     time_out_is = by searched
       where
-        by : lists.Sought R (is_run a n) (is_run_lem (key_of x ts a n)) no_run m.runs (place_from (is_run a n) 0 m.runs) 0 →
+        by : lists.Sought R (is_run a n) (same_run (key_of x ts a n)) no_run m.runs (place_from (is_run a n) 0 m.runs) 0 →
             S now room (time_at_m (place_from (is_run a n) 0 m.runs) m)
-            (if_some (end_wait now) (find (is_run_lem (key_of x ts a n)) e.runs) e)
+            (if_some (end_wait now) (find (same_run (key_of x ts a n)) e.runs) e)
         by (lists.here k p o q t) =
             let z : 0 + k ≡ k = omega arith in
-            let y : find (is_run_lem (key_of x ts a n)) e.runs ≡ some (R (get_or m.runs k no_run)) =
-            ap (find (is_run_lem (key_of x ts a n))) l.runs.is ∙ q in
+            let y : find (same_run (key_of x ts a n)) e.runs ≡ some (R (get_or m.runs k no_run)) =
+            ap (find (same_run (key_of x ts a n))) l.runs.is ∙ q in
             rw (p ∙ ap At z, y, run_is f x ts mo tb l k o) (time_is l k o)
         by (lists.nowhere p q) =
-            let y : find (is_run_lem (key_of x ts a n)) e.runs ≡ none =
-            ap (find (is_run_lem (key_of x ts a n))) l.runs.is ∙ q in
+            let y : find (same_run (key_of x ts a n)) e.runs ≡ none =
+            ap (find (same_run (key_of x ts a n))) l.runs.is ∙ q in
             rw (p, y) (live (weaker f x ts mo tb (omega arith) l))
 
   -- ---- a value expires

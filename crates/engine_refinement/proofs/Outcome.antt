@@ -31,7 +31,7 @@ use Rattle.engine_refinement.specs.Meaning.{
   cell_at,
   cells_from,
   cells_of,
-  run_of_lem,
+  meant_run,
   pool_of,
   Column,
   Tabled,
@@ -83,7 +83,7 @@ module _ (f x : List ℕ) (ts : List Text) (mo : Model) (tb : Tabled f x ts mo) 
   unfolding outcome shown
   shown_is p d now l s i =
       let r = left_is (length p.last.runs) d.engine.runs
-      (ap length l.runs.is ∙ lists.each_length (run_of_lem x ts f) p.last.runs) in
+      (ap length l.runs.is ∙ lists.each_length (meant_run x ts f) p.last.runs) in
       let k : d.steps ≡ mo.scenario.limits.max_steps - p.left = omega arith in
       rw (l.records.is, l.cells.is, ← l.reasons.is, i, r, k)
 

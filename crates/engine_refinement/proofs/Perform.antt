@@ -121,7 +121,7 @@ use Rattle.engine_refinement.specs.Meaning.{
   kind_of,
   work_of,
   item_of,
-  run_of_lem,
+  meant_run,
   wait_of,
   source_of,
   cells_of,
@@ -241,7 +241,7 @@ module _ (f x : List ℕ) (ts : List Text) (mo : Model) (tb : Tabled f x ts mo) 
   S = Sim f x ts mo tb
 
   abbrev R : ARun → Run
-  R = run_of_lem x ts f
+  R = meant_run x ts f
 
   pub keyed : {k : ℕ} {r : ARun} {m : Machine} → Here k r m → Keyed f x ts mo tb k r m
   keyed h = record {
@@ -318,7 +318,7 @@ module _ (f x : List ℕ) (ts : List Text) (mo : Model) (tb : Tabled f x ts mo) 
 
   pushed_run : (r : ARun) (at : ℕ) (a : Actions) (p : Pushed f x ts mo tb r at a) →
       R (put_places p.depth p.places r) ≡ left (a then (R r).actions) (R r)
-  unfolding run_of_lem
+  unfolding meant_run
   pushed_run r at a p = ap (λ (y : Actions). left y (R r)) p.all
 
   -- ---- the effects, of the run r at k
@@ -359,7 +359,7 @@ module _ (f x : List ℕ) (ts : List Text) (mo : Model) (tb : Tabled f x ts mo) 
     writing : {room : ℕ} {m : Machine} {e : Engine} → L now (suc room) m e → r.automation < rules → (j v : ℕ) →
         j < length es →
         v < length ts → S now room (written_m x r s (name x j) v m) (write now (T (name x j)) (T v) src (R r) e)
-    unfolding written_m write run_of_lem key_of
+    unfolding written_m write meant_run key_of
     writing l low j v h i =
         update_is f x ts mo tb l
         (setting (name x j) v 2 (Of r.automation) (From s.line s.column)) j h refl i Kind.action acting low
@@ -400,7 +400,7 @@ module _ (f x : List ℕ) (ts : List Text) (mo : Model) (tb : Tabled f x ts mo) 
 
       flip_is : {room : ℕ} {m : Machine} {e : Engine} → L now (suc room) m e → (j : ℕ) → j < length es →
           S now room (flip_m f x r s (name x j) m) (add (next_step now (R r)) (flip now (T (name x j)) src (R r) e))
-      unfolding flip_m flip_at_m flip_from_m flip set_m run_of_lem key_of
+      unfolding flip_m flip_at_m flip_from_m flip set_m meant_run key_of
       flip_is {room} {m} {e} l j h = by (case (undecided_m x old))
         where
           old : ℕ
@@ -436,7 +436,7 @@ module _ (f x : List ℕ) (ts : List Text) (mo : Model) (tb : Tabled f x ts mo) 
 
       delay_is : {room : ℕ} {m : Machine} {e : Engine} → L now room m e → (d : ℕ) → d ≤ 86400 →
           S now room (delay_m r s d m) (go_on_after now d (R r) (log_action now (Kind.delay d) src (R r) e))
-      unfolding delay_m go_on_after run_of_lem
+      unfolding delay_m go_on_after meant_run
       delay_is {room} {m} {e} l d h =
           follow f x ts mo tb (λ (n : Machine). next_step_m r (later n.now d) n)
           (add (record { at = now + d; work = Work.resume (key_of x ts r.automation r.sequence) }))
@@ -451,7 +451,7 @@ module _ (f x : List ℕ) (ts : List Text) (mo : Model) (tb : Tabled f x ts mo) 
 
       tested_is : {room : ℕ} {m : Machine} {e : Engine} → L now room m e → Here k r m → (t : Truth) →
           S now room (tested_m f x k r t m) (tested now (truth_of t) (R r) e)
-      unfolding tested_m tested run_of_lem key_of
+      unfolding tested_m tested meant_run key_of
       tested_is l w Yes = going_on low (live l)
       tested_is l w No = finish_is f x ts mo tb l k r (keyed w)
       tested_is l w Unknown =
@@ -503,7 +503,7 @@ module _ (f x : List ℕ) (ts : List Text) (mo : Model) (tb : Tabled f x ts mo) 
 
       none_is : {room : ℕ} {m : Machine} {e : Engine} → L now room m e → Here k r m →
           S now room (unclear_m f x k r kinds.choose_condition m) (chosen now none src (R r) e)
-      unfolding chosen run_of_lem key_of
+      unfolding chosen meant_run key_of
       none_is l w =
           unclear_is l w low kinds.choose_condition (unknown_choose_condition (id_at x ts r.automation))
           (choose_reason f x ts mo tb r.automation low) (pool_is f x ts mo tb r.automation low).choose
@@ -538,7 +538,7 @@ module _ (f x : List ℕ) (ts : List Text) (mo : Model) (tb : Tabled f x ts mo) 
       wait_run : (at : ℕ) (t : Trigger) (q d : ℕ) (c : Bool) → trigger ts f at ≡ got t q →
           R (phase_m (phase.Waiting (acts.wait at d c s)) r)
           ≡ waits (some (record { trigger = t; deadline = d; continue = c; source = src })) (R r)
-      unfolding run_of_lem wait_of found_trigger
+      unfolding meant_run wait_of found_trigger
       wait_run at t q d c h = rw (h, found_trigger)
 
       waiting_is : {room : ℕ} {m : Machine} {e : Engine} → L now room m e → Here k r m →
@@ -567,7 +567,7 @@ module _ (f x : List ℕ) (ts : List Text) (mo : Model) (tb : Tabled f x ts mo) 
           (at : ℕ) (t : Trigger) (q n : ℕ) (c : Bool) → trigger ts f at ≡ got t q → four f (at + 16) ≡ n →
           eqb (get_or f (at + 20) 0) 1 ≡ c → n ≤ 86400 →
           S now room (begin_wait_m f k r s at m) (begin_wait now t n c src (R r) e)
-      unfolding begin_wait_m begin_wait run_of_lem
+      unfolding begin_wait_m begin_wait meant_run
       begin_wait_is {room} {m} {e} l w g at t q n c h i j o = by (case (absent t.note))
         where
           note : eqb (two f (at + 14)) 65535 ≡ absent t.note

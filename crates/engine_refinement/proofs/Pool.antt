@@ -133,7 +133,7 @@ module _ (f x : List ℕ) (ts : List Text) (mo : Model) (tb : Tabled f x ts mo) 
   note_is k h = rw (no_text, position_is k h) (append-nil (get_or ts k []))
 
   -- a reason about an automation
-  about_is : (i k : ℕ) (t : Text) → i < length mo.rules → eqb k kinds.source_note_lem ≡ false → words k ≡ t →
+  about_is : (i k : ℕ) (t : Text) → i < length mo.rules → eqb k kinds.source_note_kind ≡ false → words k ≡ t →
       render f (about_rule f x i k) ≡ id_at x ts i ++ t
   unfolding render body about_rule id_at
   about_is i k t h n e =

@@ -35,7 +35,7 @@ use Rattle.engine_spec.specs.Cells.{Cell}
 use Rattle.engine_spec.specs.Records.{Key, Run, Item, Trace, Areas, Engine}
 use Rattle.engine_spec.specs.Words.{trace_words}
 use Rattle.engine_spec.specs.Changes.{noted, with_cells, add, append, with_runs, add_run, uncertain}
-use Rattle.engine_spec.specs.Engine.{is_run_lem, of_rule, other_run, of_other_rule, in_line_lem, in_place}
+use Rattle.engine_spec.specs.Engine.{same_run, of_rule, other_run, of_other_rule, queued_for, in_place}
 use Rattle.engine_spec.proofs.Lists.{Each, tally_end, eq_t_same}
 use Rattle.engine_spec.proofs.Runs.{InOrder, Later, order_keep, order_each, order_end, kept_key, once}
 use Rattle.model_walk.proofs.Found.{Case, is_true, is_false, case}
@@ -62,7 +62,7 @@ use Rattle.engine_refinement.specs.Meaning.{
   item_of,
   Placed,
   record_of,
-  run_of_lem,
+  meant_run,
   pool_of,
   Tabled,
 }
@@ -164,7 +164,7 @@ module _ (f x : List ℕ) (ts : List Text) (mo : Model) (tb : Tabled f x ts mo) 
     pub phase : GoodPhase r.phase
 
   pub record Running (sequences : List ℕ) (l : List ARun) (rs : List Run) : Type 0 where
-    pub is : rs ≡ each (run_of_lem x ts f) l
+    pub is : rs ≡ each (meant_run x ts f) l
     pub good : Each (GoodRun sequences) l
     pub order : InOrder rs
 
@@ -389,27 +389,27 @@ module _ (f x : List ℕ) (ts : List Text) (mo : Model) (tb : Tabled f x ts mo) 
 
   module _ (sequences : List ℕ) where
     pub run_test : (a n : ℕ) → a < rules → (r : ARun) → GoodRun sequences r →
-        is_run_lem (key_of x ts a n) (run_of_lem x ts f r) ≡ is_run a n r
-    unfolding is_run_lem is_run run_of_lem key_of
+        same_run (key_of x ts a n) (meant_run x ts f r) ≡ is_run a n r
+    unfolding same_run is_run meant_run key_of
     run_test a n h r g = ap (λ (b : Bool). b && eqb r.sequence n) (same_rule r.automation a g.rule h)
 
     pub rule_test : (a : ℕ) → a < rules → (r : ARun) → GoodRun sequences r →
-        of_rule (id_at x ts a) (run_of_lem x ts f r) ≡ run_of a r
-    unfolding of_rule run_of run_of_lem key_of
+        of_rule (id_at x ts a) (meant_run x ts f r) ≡ run_of a r
+    unfolding of_rule run_of meant_run key_of
     rule_test a h r g = same_rule r.automation a g.rule h
 
     pub line_test : (a : ℕ) → a < rules → (r : ARun) → GoodRun sequences r →
-        in_line_lem (id_at x ts a) (run_of_lem x ts f r) ≡ in_line a r
-    unfolding in_line_lem of_rule in_line run_of_lem key_of
+        queued_for (id_at x ts a) (meant_run x ts f r) ≡ in_line a r
+    unfolding queued_for of_rule in_line meant_run key_of
     line_test a h r g = ap (λ (b : Bool). b && r.queued) (same_rule r.automation a g.rule h)
 
     pub other_test : (a : ℕ) → a < rules → (r : ARun) → GoodRun sequences r →
-        of_other_rule (id_at x ts a) (run_of_lem x ts f r) ≡ other a r
+        of_other_rule (id_at x ts a) (meant_run x ts f r) ≡ other a r
     unfolding of_other_rule other
     other_test a h r g = ap not (rule_test a h r g)
 
     pub own_test : (a n : ℕ) → a < rules → (r : ARun) → GoodRun sequences r → r.automation ≡ a → r.sequence ≡ n →
-        is_run_lem (key_of x ts a n) (run_of_lem x ts f r) ≡ true
+        same_run (key_of x ts a n) (meant_run x ts f r) ≡ true
     unfolding is_run
     own_test a n h r g e o = run_test a n h r g ∙ rw (eq-eqb r.automation a e, eq-eqb r.sequence n o)
 
@@ -426,37 +426,37 @@ module _ (f x : List ℕ) (ts : List Text) (mo : Model) (tb : Tabled f x ts mo) 
           abbrev key : Key
           key = key_of x ts r.automation r.sequence
 
-          hit : is_run_lem key (get_or rs k (run_of_lem x ts f no_run)) ≡ true
+          hit : same_run key (get_or rs k (meant_run x ts f no_run)) ≡ true
           hit =
-              ap (λ (y : List Run). is_run_lem key (get_or y k (run_of_lem x ts f no_run))) g.is
-              ∙ ap (is_run_lem key) (lists.each_at (run_of_lem x ts f) l k no_run)
+              ap (λ (y : List Run). same_run key (get_or y k (meant_run x ts f no_run))) g.is
+              ∙ ap (same_run key) (lists.each_at (meant_run x ts f) l k no_run)
               ∙ own_test r.automation r.sequence ok.rule old old_good a n
 
           long : k < length rs
-          long = omega (arith, h, ap length g.is ∙ lists.each_length (run_of_lem x ts f) l)
+          long = omega (arith, h, ap length g.is ∙ lists.each_length (meant_run x ts f) l)
 
-          pub stored : Running sequences (set l k r) (each (in_place (run_of_lem x ts f r)) rs)
-          unfolding in_place run_of_lem
+          pub stored : Running sequences (set l k r) (each (in_place (meant_run x ts f r)) rs)
+          unfolding in_place meant_run
           stored = record {
-            is = lists.set_one (is_run_lem key) (run_of_lem x ts f r) rs k (run_of_lem x ts f no_run) long hit (once key rs g.order)
-                ∙ ap (λ (y : List Run). set y k (run_of_lem x ts f r)) g.is ∙ sym (lists.each_set (run_of_lem x ts f) l k r);
+            is = lists.set_one (same_run key) (meant_run x ts f r) rs k (meant_run x ts f no_run) long hit (once key rs g.order)
+                ∙ ap (λ (y : List Run). set y k (meant_run x ts f r)) g.is ∙ sym (lists.each_set (meant_run x ts f) l k r);
             good = lists.each_put (GoodRun sequences) l k r g.good ok;
-            order = order_each (in_place (run_of_lem x ts f r)) (kept_key (run_of_lem x ts f r)) rs g.order;
+            order = order_each (in_place (meant_run x ts f r)) (kept_key (meant_run x ts f r)) rs g.order;
           }
 
           -- the same, by place
-          pub placed : Running sequences (set l k r) (set rs k (run_of_lem x ts f r))
-          unfolding in_place run_of_lem
+          pub placed : Running sequences (set l k r) (set rs k (meant_run x ts f r))
+          unfolding in_place meant_run
           placed =
               subst (Running sequences (set l k r))
-              (lists.set_one (is_run_lem key) (run_of_lem x ts f r) rs k (run_of_lem x ts f no_run) long hit (once key rs g.order))
+              (lists.set_one (same_run key) (meant_run x ts f r) rs k (meant_run x ts f no_run) long hit (once key rs g.order))
               stored
 
           pub removed : Running sequences (take k l ++ drop (k + 1) l) (keep (other_run key) rs)
           unfolding other_run
           removed = rw add-one (record {
-            is = lists.out_one (is_run_lem key) rs k (run_of_lem x ts f no_run) long hit (once key rs g.order)
-                ∙ ap (λ (y : List Run). take k y ++ drop (suc k) y) g.is ∙ sym (lists.each_out (run_of_lem x ts f) l k);
+            is = lists.out_one (same_run key) rs k (meant_run x ts f no_run) long hit (once key rs g.order)
+                ∙ ap (λ (y : List Run). take k y ++ drop (suc k) y) g.is ∙ sym (lists.each_out (meant_run x ts f) l k);
             good = lists.each_less (GoodRun sequences) l k g.good;
             order = order_keep (other_run key) rs g.order;
           })
@@ -466,7 +466,7 @@ module _ (f x : List ℕ) (ts : List Text) (mo : Model) (tb : Tabled f x ts mo) 
         Running sequences (places.keep (other a) l) (keep (of_other_rule (id_at x ts a)) rs)
     dropped l rs g a h = record {
       is = ap (keep (of_other_rule (id_at x ts a))) g.is
-          ∙ lists.kept (run_of_lem x ts f) (other a) (of_other_rule (id_at x ts a)) l
+          ∙ lists.kept (meant_run x ts f) (other a) (of_other_rule (id_at x ts a)) l
           (lists.each_imp (GoodRun sequences) _ (other_test a h) l g.good);
       good = lists.each_kept (GoodRun sequences) (other a) l g.good;
       order = order_keep (of_other_rule (id_at x ts a)) rs g.order;
@@ -476,7 +476,7 @@ module _ (f x : List ℕ) (ts : List Text) (mo : Model) (tb : Tabled f x ts mo) 
         tally (of_rule (id_at x ts a)) rs ≡ places.tally (run_of a) l
     count_is l rs g a h =
         ap (tally (of_rule (id_at x ts a))) g.is
-        ∙ lists.tallied (run_of_lem x ts f) (run_of a) (of_rule (id_at x ts a)) l
+        ∙ lists.tallied (meant_run x ts f) (run_of a) (of_rule (id_at x ts a)) l
         (lists.each_imp (GoodRun sequences) _ (rule_test a h) l g.good)
 
   -- ---- a run more
@@ -549,19 +549,19 @@ module _ (f x : List ℕ) (ts : List Text) (mo : Model) (tb : Tabled f x ts mo) 
     }
 
     pub more_running : (l : List ARun) (rs : List Run) → Running sequences l rs → (r : ARun) → NewRun sequences i r →
-        Running after (l ++ r ∷ []) (rs ++ run_of_lem x ts f r ∷ [])
-    unfolding run_of_lem key_of
+        Running after (l ++ r ∷ []) (rs ++ meant_run x ts f r ∷ [])
+    unfolding meant_run key_of
     more_running l rs o r w = record {
-      is = ap (λ (y : List Run). y ++ run_of_lem x ts f r ∷ []) o.is ∙ sym (lists.each_one (run_of_lem x ts f) l r);
+      is = ap (λ (y : List Run). y ++ meant_run x ts f r ∷ []) o.is ∙ sym (lists.each_one (meant_run x ts f) l r);
       good = lists.each_more (GoodRun after) l r (lists.each_imp (GoodRun sequences) (GoodRun after) still_good l o.good)
           (new_good r w);
-      order = order_end rs (run_of_lem x ts f r) o.order
-          (subst (Each (λ (y : Run). Later y (run_of_lem x ts f r))) (sym o.is)
-          (each_over (run_of_lem x ts f) (λ (y : Run). Later y (run_of_lem x ts f r)) l
+      order = order_end rs (meant_run x ts f r) o.order
+          (subst (Each (λ (y : Run). Later y (meant_run x ts f r))) (sym o.is)
+          (each_over (meant_run x ts f) (λ (y : Run). Later y (meant_run x ts f r)) l
           (lists.each_imp (GoodRun sequences) _ earlier l o.good)));
     }
       where
-        earlier : (y : ARun) → GoodRun sequences y → Later (run_of_lem x ts f y) (run_of_lem x ts f r)
+        earlier : (y : ARun) → GoodRun sequences y → Later (meant_run x ts f y) (meant_run x ts f r)
         earlier y p e =
             let z : y.automation ≡ i = rule_of_id y.automation i p.rule h (e ∙ ap (id_at x ts) w.automation) in
             let s : y.sequence < get_or sequences i 0 = subst (λ (j : ℕ). y.sequence < get_or sequences j 0) z p.old in
@@ -583,12 +583,12 @@ module _ (f x : List ℕ) (ts : List Text) (mo : Model) (tb : Tabled f x ts mo) 
             rw (same_rule j i k h ∙ b) (at_other j (eqb-false j i b) ∙ g.each_rule j k ∙ (omega arith))
 
   pub add_run_is : {now s : ℕ} {m : Machine} {e : Engine} → Live now (suc s) m e → (i : ℕ) → i < rules → (r : ARun) →
-      NewRun m.sequences i r → Sim now s (add_run_m i r m) (add_run (run_of_lem x ts f r) e)
-  unfolding add_run run_of_lem key_of
+      NewRun m.sequences i r → Sim now s (add_run_m i r m) (add_run (meant_run x ts f r) e)
+  unfolding add_run meant_run key_of
   add_run_is {now} {s} {m} {e} l i h r w = cases (case (ltb (length m.runs) m.run_size))
     where
       used : length e.runs ≡ length m.runs
-      used = ap length l.runs.is ∙ lists.each_length (run_of_lem x ts f) m.runs
+      used = ap length l.runs.is ∙ lists.each_length (meant_run x ts f) m.runs
 
       made_low : m.runs_created < 4294967295
       made_low = omega (arith, l.low.made_low)
@@ -596,9 +596,9 @@ module _ (f x : List ℕ) (ts : List Text) (mo : Model) (tb : Tabled f x ts mo) 
       seq_low : get_or m.sequences i 0 < 4294967295
       seq_low = omega (arith, made_low, l.made.each_rule i h, l.made.count, tally_most (eq_t (id_at x ts i)) e.made)
 
-      cases : Case (ltb (length m.runs) m.run_size) → Sim now s (add_run_m i r m) (add_run (run_of_lem x ts f r) e)
+      cases : Case (ltb (length m.runs) m.run_size) → Sim now s (add_run_m i r m) (add_run (meant_run x ts f r) e)
       cases (is_true b) =
-          subst (λ (k : Machine). Sim now s k (add_run (run_of_lem x ts f r) e)) (sym (run_goes m l.free i r b))
+          subst (λ (k : Machine). Sim now s k (add_run (meant_run x ts f r) e)) (sym (run_goes m l.free i r b))
           (live (record {
             time = l.time;
             soon = l.soon;

@@ -25,10 +25,10 @@ use Rattle.engine_spec.specs.Changes.{if_some, add, add_run, adds}
 use Rattle.engine_spec.specs.Modes.{decide}
 use Rattle.engine_spec.specs.Modes as modes
 use Rattle.engine_spec.specs.Engine.{
-  in_line_lem,
+  queued_for,
   of_rule,
   store,
-  new_run_lem,
+  fresh_run,
   ◌then◌,
   next_step,
   log_rule,
@@ -74,7 +74,7 @@ use Rattle.engine_refinement.specs.Meaning.{
   id_at,
   key_of,
   kind_of,
-  run_of_lem,
+  meant_run,
   actions_at,
   pool_of,
   mode_number,
@@ -127,7 +127,7 @@ module _ (f x : List ℕ) (ts : List Text) (mo : Model) (tb : Tabled f x ts mo) 
   G = GoodRun f x ts mo tb
 
   abbrev R : ARun → Run
-  R = run_of_lem x ts f
+  R = meant_run x ts f
 
   abbrev Says : ℕ → ℕ → Kind → Type 0
   Says = Tells f x ts mo tb
@@ -166,7 +166,7 @@ module _ (f x : List ℕ) (ts : List Text) (mo : Model) (tb : Tabled f x ts mo) 
 
   let_go_is : {now s : ℕ} {m : Machine} {e : Engine} → L now s m e → (k : ℕ) → k < length m.runs →
       S now s (release_run_m k (get_or m.runs k no_run) m) (let_go now (R (get_or m.runs k no_run)) e)
-  unfolding release_run_m let_go run_of_lem
+  unfolding release_run_m let_go meant_run
   let_go_is {now} {s} {m} {e} l k o =
       let r = get_or m.runs k no_run in
       let g = run_good l k o in
@@ -180,19 +180,19 @@ module _ (f x : List ℕ) (ts : List Text) (mo : Model) (tb : Tabled f x ts mo) 
   unfolding release_m release release_at_m if_some
   release_is {now} {s} {m} {e} l a h =
       cases
-      (lists.sought R (in_line a) (in_line_lem (id_at x ts a)) no_run m.runs 0
+      (lists.sought R (in_line a) (queued_for (id_at x ts a)) no_run m.runs 0
       (lists.each_imp (G m.sequences) _ (line_test f x ts mo tb m.sequences a h) m.runs l.runs.good))
     where
-      cases : lists.Sought R (in_line a) (in_line_lem (id_at x ts a)) no_run m.runs (place_from (in_line a) 0 m.runs) 0 →
+      cases : lists.Sought R (in_line a) (queued_for (id_at x ts a)) no_run m.runs (place_from (in_line a) 0 m.runs) 0 →
           S now s (release_at_m (place_from (in_line a) 0 m.runs) m)
-          (if_some (let_go now) (find (in_line_lem (id_at x ts a)) e.runs) e)
+          (if_some (let_go now) (find (queued_for (id_at x ts a)) e.runs) e)
       cases (lists.here k p o q t) =
           let z : 0 + k ≡ k = omega arith in
-          let y : find (in_line_lem (id_at x ts a)) e.runs ≡ some (R (get_or m.runs k no_run)) =
-          ap (find (in_line_lem (id_at x ts a))) l.runs.is ∙ q in
+          let y : find (queued_for (id_at x ts a)) e.runs ≡ some (R (get_or m.runs k no_run)) =
+          ap (find (queued_for (id_at x ts a))) l.runs.is ∙ q in
           rw (p ∙ ap At z, y, run_is l k o) (let_go_is l k o)
       cases (lists.nowhere p q) =
-          let y : find (in_line_lem (id_at x ts a)) e.runs ≡ none = ap (find (in_line_lem (id_at x ts a))) l.runs.is ∙ q in
+          let y : find (queued_for (id_at x ts a)) e.runs ≡ none = ap (find (queued_for (id_at x ts a))) l.runs.is ∙ q in
           rw (p, y) (live l)
 
   complete : (n : ℕ) → Says 14 n (Kind.complete n)
@@ -202,7 +202,7 @@ module _ (f x : List ℕ) (ts : List Text) (mo : Model) (tb : Tabled f x ts mo) 
   -- the run at k ends
   finish_old : {now s : ℕ} {m : Machine} {e : Engine} → L now s m e → (k : ℕ) → k < length m.runs →
       S now s (finish_run_m k (get_or m.runs k no_run) m) (finish now (R (get_or m.runs k no_run)) e)
-  unfolding finish_run_m out_m finish run_of_lem key_of
+  unfolding finish_run_m out_m finish meant_run key_of
   finish_old {now} {s} {m} {e} l k h =
       let r = get_or m.runs k no_run in
       let g = run_good l k h in
@@ -217,7 +217,7 @@ module _ (f x : List ℕ) (ts : List Text) (mo : Model) (tb : Tabled f x ts mo) 
 
   same_finish : (now : ℕ) (r s : ARun) (e : Engine) → r.automation ≡ s.automation → r.sequence ≡ s.sequence →
       r.number ≡ s.number → finish now (R r) e ≡ finish now (R s) e
-  unfolding finish run_of_lem key_of
+  unfolding finish meant_run key_of
   same_finish now r s e a b c = rw (a, b, c)
 
   pub finish_is : {now s : ℕ} {m : Machine} {e : Engine} → L now s m e → (k : ℕ) (r : ARun) → Keyed k r m →
@@ -242,7 +242,7 @@ module _ (f x : List ℕ) (ts : List Text) (mo : Model) (tb : Tabled f x ts mo) 
   -- the run that begins is the definition's
   pub record Begins (sequences : List ℕ) (i : ℕ) (later : Bool) (made : List Text) (r : ARun) : Type 0 where
     pub new : NewRun f x ts mo tb sequences i r
-    pub is : R r ≡ new_run_lem (get_or mo.rules i no_rule) later made
+    pub is : R r ≡ fresh_run (get_or mo.rules i no_rule) later made
     pub number : r.number ≡ length made + 1
 
   no_places : Places f x ts mo tb 0 (replicate 17 0)
@@ -252,7 +252,7 @@ module _ (f x : List ℕ) (ts : List Text) (mo : Model) (tb : Tabled f x ts mo) 
       Made f x ts mo tb n sequences made → n < 4294967295 →
       Pass mo.scenario.entities (pool_of mo) 0 (get_or mo.rules i no_rule).actions →
       Begins sequences i later made (new_run f x i later n sequences)
-  unfolding new_run run_of_lem key_of new_run_lem actions_at id_at
+  unfolding new_run meant_run key_of fresh_run actions_at id_at
   begins i h later n sequences made g o t =
       let w = row i h in
       let r₀ : ARun = record {
@@ -313,7 +313,7 @@ module _ (f x : List ℕ) (ts : List Text) (mo : Model) (tb : Tabled f x ts mo) 
     module _ (r : ARun) (b : Begins m.sequences i false e.made r) where
       begin_eq : begin now (A i) false e ≡ adds (next_step now (R r) ∷ [])
           (log_rule now (Kind.start r.number) (id_at x ts r.automation) (add_run (R r) e))
-      unfolding begin run_of_lem
+      unfolding begin meant_run
       begin_eq =
           ap (λ (y : Run). adds (next_step now y ∷ []) (log_rule now (Kind.start y.number) (A i).id (add_run y e)))
           (sym b.is)
@@ -342,7 +342,7 @@ module _ (f x : List ℕ) (ts : List Text) (mo : Model) (tb : Tabled f x ts mo) 
     module _ (r : ARun) (b : Begins m.sequences i true e.made r) where
       later_eq : begin now (A i) true e ≡ log_rule now (Kind.queued r.number) (id_at x ts r.automation)
           (add_run (R r) e)
-      unfolding begin run_of_lem adds through
+      unfolding begin meant_run adds through
       later_eq =
           ap (λ (y : Run). log_rule now (Kind.queued y.number) (A i).id (add_run y e)) (sym b.is)
           ∙ ap (λ (t : Text). log_rule now (Kind.queued r.number) t (add_run (R r) e))

@@ -34,7 +34,7 @@ use Rattle.engine_state.specs.Changes.{add_m, log_m, log_plain_m}
 use Rattle.engine_update.specs.Update.{expiry_m}
 use Rattle.engine_schedule.specs.Events.{event_m, add_event_m, add_events_m, expiries_m, add_expiries_m, begun_m}
 use Rattle.engine_loop.specs.Loop.{Halt, halt, loop_m, horizon_m, closed_m}
-use Rattle.engine_refinement.specs.Meaning.{kind_of, item_of, cell_at, cells_from, cells_of, run_of_lem, pool_of, Tabled}
+use Rattle.engine_refinement.specs.Meaning.{kind_of, item_of, cell_at, cells_from, cells_of, meant_run, pool_of, Tabled}
 use Rattle.engine_refinement.specs.Events.{Among}
 pub use Rattle.engine_refinement.specs.Events.{EventAt}
 use Rattle.engine_refinement.proofs.Evaluate.{Valued, entities_are}
@@ -395,7 +395,7 @@ module _ (f x : List ℕ) (ts : List Text) (mo : Model) (tb : Tabled f x ts mo) 
   module _ (p : Halt) (d : Ended) (total now : ℕ) (l : L now 0 p.last d.engine) (steps : d.steps + p.left ≡ total)
       (low : p.stop_reason ≤ 2) (told : d.incomplete ≡ reasons_of p.stop_reason) where
     long : length d.engine.runs ≡ length p.last.runs
-    long = ap length l.runs.is ∙ lists.each_length (run_of_lem x ts f) p.last.runs
+    long = ap length l.runs.is ∙ lists.each_length (meant_run x ts f) p.last.runs
 
     at_horizon : L horizon 0 (put_now (get_or x 2 0) p.last) d.engine
     at_horizon = record {

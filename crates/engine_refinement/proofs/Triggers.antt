@@ -47,7 +47,7 @@ use Rattle.engine_refinement.specs.Meaning.{
   found_trigger,
   id_at,
   kind_of,
-  run_of_lem,
+  meant_run,
   wait_of,
   Row,
   Tabled,
@@ -254,7 +254,7 @@ module _ (f x : List ℕ) (ts : List Text) (mo : Model) (tb : Tabled f x ts mo) 
   S = Sim f x ts mo tb
 
   abbrev R : ARun → Run
-  R = run_of_lem x ts f
+  R = meant_run x ts f
 
   -- ---- an automation that is offered a change
 
@@ -373,7 +373,7 @@ module _ (f x : List ℕ) (ts : List Text) (mo : Model) (tb : Tabled f x ts mo) 
       wakes : aw (R r) ≡ true → wake_run_m f v k r m ≡ now_m r (put_run_m k (phase_m phase.Going r) m) → Woke k r m
 
     woke : (k : ℕ) (r : ARun) (m : Machine) → (p : Phase) → r.phase ≡ p → GoodPhase f x ts mo tb p → Woke k r m
-    unfolding wake_run_m wake_phase_m awaits present_and run_of_lem wait_of found_trigger
+    unfolding wake_run_m wake_phase_m awaits present_and meant_run wait_of found_trigger
     woke k r m phase.Going e g = stays (rw (e, present_and)) (rw (e, wake_phase_m))
     woke k r m (phase.Waiting y) e g = by (case (matches_m f v y.trigger))
       where
@@ -430,7 +430,7 @@ module _ (f x : List ℕ) (ts : List Text) (mo : Model) (tb : Tabled f x ts mo) 
         calm_good = record { rule = good.rule; old = good.old; places = good.places; phase = tt }
 
         going : R (phase_m phase.Going r) ≡ waits none (R r)
-        unfolding run_of_lem
+        unfolding meant_run
         going = refl
 
         woken_live : L now room (put_run_m n (phase_m phase.Going r) k)

@@ -45,7 +45,7 @@ use Rattle.engine_refinement.specs.Meaning.{
   cell_at,
   cells_from,
   cells_of,
-  run_of_lem,
+  meant_run,
   Tabled,
 }
 use Rattle.engine_refinement.proofs.Numbers.{later_is, more_is}
@@ -109,8 +109,8 @@ module _ (f x : List ℕ) (ts : List Text) (mo : Model) (tb : Tabled f x ts mo) 
 
     pub log_action_is : (k d : ℕ) (src : ASource) (r : ARun) (K : Kind) → Says k d K →
         r.automation < length mo.rules →
-        S now s (log_action_m k d src r m) (log_action now K (source_of src) (run_of_lem x ts f r) e)
-    unfolding log_action_m log_action log record_of run_of_lem key_of
+        S now s (log_action_m k d src r m) (log_action now K (source_of src) (meant_run x ts f r) e)
+    unfolding log_action_m log_action log record_of meant_run key_of
     log_action_is k d src r K h g =
         log_is f x ts mo tb l (saying k d) (Of r.automation) (From src.line src.column) NoChange _
         (ap (λ (y : Kind). record {
@@ -168,10 +168,10 @@ module _ (f x : List ℕ) (ts : List Text) (mo : Model) (tb : Tabled f x ts mo) 
     next_is r t h = add_is f x ts mo tb l t (queue.Resume r.automation r.sequence) h
 
     pub now_is : (r : ARun) → r.automation < length mo.rules →
-        S now s (next_step_m r m.now m) (add (next_step now (run_of_lem x ts f r)) e)
-    unfolding next_step at_once run_of_lem
+        S now s (next_step_m r m.now m) (add (next_step now (meant_run x ts f r)) e)
+    unfolding next_step at_once meant_run
     now_is r h =
-        subst (λ (t : ℕ). S now s (next_step_m r t m) (add (next_step now (run_of_lem x ts f r)) e)) (sym l.time)
+        subst (λ (t : ℕ). S now s (next_step_m r t m) (add (next_step now (meant_run x ts f r)) e)) (sym l.time)
         (next_is r now h)
 
     pub changed_is : (v : Move) → Moved f x ts mo tb v →

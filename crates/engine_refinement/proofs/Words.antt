@@ -22,7 +22,7 @@ use Rattle.records.specs.declared.Record.{Record}
 use Rattle.engine_spec.specs.Records.{Kind}
 use Rattle.model_spec.specs.Rewrite.{place_of}
 use Rattle.model_spec.proofs.Places.{place_first}
-use Rattle.engine_spec.specs.Words.{kind_number, detail_number, automation_words, source_words, change_words_lem, trace_words}
+use Rattle.engine_spec.specs.Words.{kind_number, detail_number, automation_words, source_words, words_of_change, trace_words}
 use Rattle.engine_spec.proofs.Lists.{Each, eq_t_same}
 use Rattle.engine_state.specs.Changes.{entry, saying}
 use Rattle.engine_refinement.specs.Meaning.{Placed, id_at, kind_of, rule_of, where_of, change_of, record_of, Tabled}
@@ -94,8 +94,8 @@ module _ (f x : List ℕ) (ts : List Text) (mo : Model) (tb : Tabled f x ts mo) 
   where_words_lem Nowhere = refl
   where_words_lem (From l c) = refl
 
-  changed_words : (c : AChange) → Placed ts c → change_words_lem ts ids (change_of x ts c) ≡ change_words c
-  unfolding change_words_lem
+  changed_words : (c : AChange) → Placed ts c → words_of_change ts ids (change_of x ts c) ≡ change_words c
+  unfolding words_of_change
   changed_words NoChange g = refl
   changed_words (Write e b a) g = rw (text_place e g.0, text_place b g.1.0, text_place a g.1.1)
 

@@ -221,8 +221,8 @@ module _ (x : List ℕ) (ts : List Text) where
     waiting_of phase.Going = none
     waiting_of (phase.Waiting w) = some (wait_of w)
 
-    unfoldable pub run_of_lem : ARun → Run
-    run_of_lem r = record {
+    unfoldable pub meant_run : ARun → Run
+    meant_run r = record {
       key = key_of r.automation r.sequence;
       number = r.number;
       actions = actions_at r.depth r.places;

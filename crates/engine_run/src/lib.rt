@@ -1,4 +1,5 @@
 // A simulation from a table, events, starting values and the reasons so far.
+#![tactic(auto)]
 ghost use Rattle.layout.specs.Sizes.{simulation_reason_words};
 ghost use Rattle.std.specs.Prelude.{◌≡◌, ◌+◌, ◌*◌, ◌≤◌, length};
 ghost use Rattle.engine_state.specs.Steps.{Fits};
@@ -49,7 +50,7 @@ fn start(first: usize, reasons: usize) -> State
 }
 
 // `refused` is 0, or 41 to 43 where an area was full; then the rest is 0.
-#[derive(Drop)]
+#[derive(Clone, Copy)]
 pub struct Simulation {
     pub refused: u32,
     pub steps: u32,

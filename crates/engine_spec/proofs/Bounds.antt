@@ -27,15 +27,15 @@ use Rattle.engine_spec.specs.Modes.{
 use Rattle.engine_spec.specs.Records.{Key, Waiting, Run, Work, Item, Kind, Change, Trace, Areas, Engine}
 use Rattle.engine_spec.specs.Changes.{if_some, noted, with_cells, add, append, with_runs, add_run, uncertain, adds}
 use Rattle.engine_spec.specs.Engine.{
-  is_run_lem,
+  same_run,
   of_rule,
   of_other_rule,
-  in_line_lem,
+  queued_for,
   store,
   left,
   waits,
   released,
-  new_run_lem,
+  fresh_run,
   awaits,
   woken,
   toggled,
@@ -184,7 +184,7 @@ module _ (A : Areas) where
 
     f_release : {q t : ℕ} (id : Text) (e : Engine) → F (q + 1) t e → F q t (release now id e)
     unfolding release
-    f_release {q} {t} id e f = go (find (in_line_lem id) e.runs)
+    f_release {q} {t} id e f = go (find (queued_for id) e.runs)
       where
         go : (o : Option Run) → F q t (if_some (let_go now) o e)
         go none = unfold if_some in (f_weak (omega arith) (omega arith) f)
@@ -216,16 +216,16 @@ module _ (A : Areas) where
           arith,
           subst (λ (l : List Run). length l ≤ A.runs) (begin_runs now r later e) h,
           length-append
-              e.runs (new_run_lem r later e.made ∷ []),
+              e.runs (fresh_run r later e.made ∷ []),
         )
 
     f_begin : {q t : ℕ} (r : Automation) (later : Bool) (e : Engine) → length e.runs + 1 ≤ A.runs
         → F (q + 1) (t + 1) e → F q t (begin now r later e)
     unfolding begin log_rule
     f_begin r later e h f =
-        f_one (if later then [] else next_step now (new_run_lem r later e.made) ∷ []) _
+        f_one (if later then [] else next_step now (fresh_run r later e.made) ∷ []) _
         (if_prop (λ (l : List Item). length l ≤ 1) later (λ _. omega arith) (λ _. omega arith))
-        (f_log now _ _ _ _ _ (f_add_run (new_run_lem r later e.made) e h f))
+        (f_log now _ _ _ _ _ (f_add_run (fresh_run r later e.made) e h f))
 
     -- what a decision puts in, if the runs that it leaves have room
     f_carry : {q t : ℕ} (d : Decision) (r : Automation) (e : Engine) → length (carry_out now d r e).runs ≤ A.runs
@@ -322,7 +322,7 @@ module _ (A : Areas) where
 
     pub f_resume : {q t : ℕ} (k : Key) (e : Engine) → F (q + 3) (t + 2) e → F q t (resume now k e)
     unfolding resume
-    f_resume {q} {t} k e f = go (find (is_run_lem k) e.runs)
+    f_resume {q} {t} k e f = go (find (same_run k) e.runs)
       where
         go : (o : Option Run) → F q t (if_some (step now) o e)
         go none = unfold if_some in (f_weak (omega arith) (omega arith) f)
@@ -344,7 +344,7 @@ module _ (A : Areas) where
 
     pub f_time_out : {q t : ℕ} (k : Key) (e : Engine) → F (q + 1) (t + 2) e → F q t (time_out now k e)
     unfolding time_out
-    f_time_out {q} {t} k e f = go (find (is_run_lem k) e.runs)
+    f_time_out {q} {t} k e f = go (find (same_run k) e.runs)
       where
         go : (o : Option Run) → F q t (if_some (end_wait now) o e)
         go none = unfold if_some in (f_weak (omega arith) (omega arith) f)

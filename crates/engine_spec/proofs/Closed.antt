@@ -60,9 +60,9 @@ use Rattle.engine_spec.specs.Changes.{
   with_queue,
 }
 use Rattle.engine_spec.specs.Engine.{
-  is_run_lem,
+  same_run,
   of_rule,
-  in_line_lem,
+  queued_for,
   store,
   left,
   log,
@@ -149,7 +149,7 @@ module _ (P : Engine → Type 0) (c : Closed P) where
 
     pub c_release : (id : Text) (e : Engine) → P e → P (release now id e)
     unfolding release let_go
-    c_release id e p = c_some (let_go now) (λ r e p. c.on_add _ _ (c_store _ e p)) (find (in_line_lem id) e.runs) e p
+    c_release id e p = c_some (let_go now) (λ r e p. c.on_add _ _ (c_store _ e p)) (find (queued_for id) e.runs) e p
 
     pub c_finish : (r : Run) (e : Engine) → P e → P (finish now r e)
     unfolding finish log_rule
@@ -228,7 +228,7 @@ module _ (P : Engine → Type 0) (c : Closed P) where
     c_resume k e p =
         c_some (step now) (λ r e p. if_prop P (r.queued || not (absent r.waiting)) (λ _. p)
         (λ _. c_go_on r.actions r e p))
-        (find (is_run_lem k) e.runs) e p
+        (find (same_run k) e.runs) e p
 
     c_over : (w : Waiting) (r : Run) (e : Engine) → P e → P (wait_over now w r e)
     unfolding wait_over log_action
@@ -242,7 +242,7 @@ module _ (P : Engine → Type 0) (c : Closed P) where
     unfolding time_out end_wait
     c_time_out k e p =
         c_some (end_wait now) (λ r e p. c_some (λ w. wait_over now w r) (λ w e p. c_over w r e p) r.waiting e p)
-        (find (is_run_lem k) e.runs) e p
+        (find (same_run k) e.runs) e p
 
     c_stale : (x : Text) (n : ℕ) (e : Engine) → P e → P (go_stale now x n e)
     unfolding go_stale expire

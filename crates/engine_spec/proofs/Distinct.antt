@@ -72,13 +72,13 @@ apart ids l r f =
 not_same : (s t : Text) → eq_t s t ≡ false → s ≡ t → ⊥
 not_same s t h e = true≢false (sym (eq_t_same s) ∙ (ap (eq_t s) e ∙ h))
 
-pub only_one : (ids : List Text) {a : Automation} {l : List Automation} → Fresh ids l → Memᴰ a l → Only a l
-only_one ids {a} f (Memᴰ.head {x = r} {xs = l} e) = (
+pub only_one : {a : Automation} (ids : List Text) {l : List Automation} → Fresh ids l → Memᴰ a l → Only a l
+only_one {a} ids f (Memᴰ.head {x = r} {xs = l} e) = (
   λ _. sym e,
   each_weak (λ (s : Automation). eq_t s.id r.id ≡ false) (λ s. s.id ≡ a.id → s ≡ a)
       (λ s h i. absurd (not_same s.id r.id h (i ∙ ap (λ (z : Automation). z.id) e))) l (apart ids l r f.1),
 )
-only_one ids {a} f (Memᴰ.tail {x = r} {xs = l} m) = (
+only_one {a} ids f (Memᴰ.tail {x = r} {xs = l} m) = (
   λ i. absurd (not_same a.id r.id
       (each_at (λ (s : Automation). eq_t s.id r.id ≡ false) (apart ids l r f.1) m) (sym i)),
   only_one

@@ -34,17 +34,17 @@ use Rattle.engine_spec.specs.Records.{Key, Waiting, Run, Work, Item, Kind, Engin
 use Rattle.engine_spec.specs.Changes.{if_some, with_cells, add, append, with_runs, add_run, uncertain, adds}
 use Rattle.engine_spec.specs.Engine.{
   moment,
-  is_run_lem,
+  same_run,
   of_rule,
   other_run,
-  in_line_lem,
+  queued_for,
   executing,
   in_place,
   store,
   left,
   waits,
   released,
-  new_run_lem,
+  fresh_run,
   awaits,
   woken,
   toggled,
@@ -265,8 +265,8 @@ module _ (a : Automation) (now : ℕ) (called : Key → Bool) (base : List Item)
 
   -- it executes, is the only one with its key, and has no next step in the queue
   record Open (r : Run) (runs : List Run) (made : List Text) (queue : List Item) : Type 0 where
-    sound : Sound a now called base (is_run_lem r.key) runs made queue
-    sole : Each (λ x. is_run_lem r.key x ≡ true → x ≡ r) runs
+    sound : Sound a now called base (same_run r.key) runs made queue
+    sole : Each (λ x. same_run r.key x ≡ true → x ≡ r) runs
     there : 1 ≤ tally (goes r.key) runs
     spent : steps_in r.key queue ≡ 0
     given : Given made r.key
@@ -281,7 +281,7 @@ module _ (a : Automation) (now : ℕ) (called : Key → Bool) (base : List Item)
   o_like l w r e o = record {
     sound = record {
       order = order_each (in_place n) (kept_key n) e.runs o.sound.order;
-      good = each_to _ _ (in_place n) (λ x g. by x g (case (is_run_lem r.key x))) e.runs o.sound.good;
+      good = each_to _ _ (in_place n) (λ x g. by x g (case (same_run r.key x))) e.runs o.sound.good;
       line =
           subst (InLine a.mode) (sym (keep_each (of_rule a.id) (of_rule a.id) (in_place n)
           (rule_in_place a.id n) e.runs))
@@ -290,7 +290,7 @@ module _ (a : Automation) (now : ℕ) (called : Key → Bool) (base : List Item)
       meant = o.sound.meant;
       kept = o.sound.kept;
     };
-    sole = each_to _ _ (in_place n) (λ x s. alone x (case (is_run_lem r.key x))) e.runs o.sole;
+    sole = each_to _ _ (in_place n) (λ x s. alone x (case (same_run r.key x))) e.runs o.sole;
     there = omega (arith, goes_store r.key n e.runs o.free, o.there);
     spent = o.spent;
     given = o.given;
@@ -302,33 +302,33 @@ module _ (a : Automation) (now : ℕ) (called : Key → Bool) (base : List Item)
       n = like l w r
 
       flags : Each (λ x. (in_place n x).queued ≡ x.queued) e.runs
-      flags = each_weak _ _ (λ x s. by x s (case (is_run_lem r.key x))) e.runs o.sole
+      flags = each_weak _ _ (λ x s. by x s (case (same_run r.key x))) e.runs o.sole
         where
-          by : (x : Run) → (is_run_lem r.key x ≡ true → x ≡ r) → Case (is_run_lem r.key x)
+          by : (x : Run) → (same_run r.key x ≡ true → x ≡ r) → Case (same_run r.key x)
               → (in_place n x).queued ≡ x.queued
           by x s (is_true b) = ap (λ (y : Run). y.queued) (in_here n x b) ∙ sym (ap (λ (y : Run). y.queued) (s b))
           by x s (is_false b) = ap (λ (y : Run). y.queued) (in_there n x b)
 
-      by : (x : Run) → Good now called (is_run_lem r.key x) e.made e.queue x → Case (is_run_lem r.key x)
-          → Good now called (is_run_lem r.key (in_place n x)) e.made e.queue (in_place n x)
+      by : (x : Run) → Good now called (same_run r.key x) e.made e.queue x → Case (same_run r.key x)
+          → Good now called (same_run r.key (in_place n x)) e.made e.queue (in_place n x)
       by x g (is_true b) =
-          subst (λ (y : Run). Good now called (is_run_lem r.key y) e.made e.queue y) (sym (in_here n x b)) (record {
+          subst (λ (y : Run). Good now called (same_run r.key y) e.made e.queue y) (sym (in_here n x b)) (record {
             fit = record { old = o.given; rests = λ t. absurd (true≢false (sym t ∙ o.free)) };
             due = λ f. absurd (true≢false (sym (own_key n) ∙ f));
             soon = λ c p. o.called_now c;
           })
       by x g (is_false b) =
-          subst (λ (y : Run). Good now called (is_run_lem r.key y) e.made e.queue y) (sym (in_there n x b)) g
+          subst (λ (y : Run). Good now called (same_run r.key y) e.made e.queue y) (sym (in_there n x b)) g
 
-      alone : (x : Run) → Case (is_run_lem r.key x) → is_run_lem r.key (in_place n x) ≡ true → in_place n x ≡ n
+      alone : (x : Run) → Case (same_run r.key x) → same_run r.key (in_place n x) ≡ true → in_place n x ≡ n
       alone x (is_true b) h = in_here n x b
-      alone x (is_false b) h = absurd (true≢false (sym h ∙ (ap (is_run_lem r.key) (in_there n x b) ∙ b)))
+      alone x (is_false b) h = absurd (true≢false (sym h ∙ (ap (same_run r.key) (in_there n x b) ∙ b)))
 
   o_adds : (l : List Item) (r : Run) (e : Engine) → Each Foreign l → O r e → O r (adds l e)
   unfolding adds through
   o_adds [] r e f o = o
   o_adds (i ∷ l) r e f o = o_adds l r (add i e) f.1 (unfold add in (record {
-    sound = s_add (is_run_lem r.key) i e f.0 o.sound;
+    sound = s_add (same_run r.key) i e f.0 o.sound;
     sole = o.sole;
     there = o.there;
     spent = omega (arith, steps_end r.key e.queue i, o.spent, ap one (f.0.0 r.key));
@@ -343,7 +343,7 @@ module _ (a : Automation) (now : ℕ) (called : Key → Bool) (base : List Item)
   unfolding add
   o_step t r e w o = record {
     order = o.sound.order;
-    good = each_both _ _ _ (λ x s g. by x s g (case (is_run_lem r.key x))) e.runs o.sole o.sound.good;
+    good = each_both _ _ _ (λ x s g. by x s g (case (same_run r.key x))) e.runs o.sole o.sound.good;
     line = o.sound.line;
     meant = each_end (λ i. Meant e.made i.work) e.queue i o.sound.meant o.given;
     kept = grown_more base e.queue (i ∷ []) o.sound.kept;
@@ -368,8 +368,8 @@ module _ (a : Automation) (now : ℕ) (called : Key → Bool) (base : List Item)
         soon = λ c p. omega (arith, steps_at_end now r.key e.queue i, o.called_now c);
       }
 
-      by : (x : Run) → (is_run_lem r.key x ≡ true → x ≡ r) → Good now called (is_run_lem r.key x) e.made e.queue x
-          → Case (is_run_lem r.key x) → Good now called false e.made (e.queue ++ i ∷ []) x
+      by : (x : Run) → (same_run r.key x ≡ true → x ≡ r) → Good now called (same_run r.key x) e.made e.queue x
+          → Case (same_run r.key x) → Good now called false e.made (e.queue ++ i ∷ []) x
       by x s g (is_true b) =
           subst (λ (y : Run). Good now called false e.made (e.queue ++ i ∷ []) y) (sym (s b)) mine
       by x s g (is_false b) =
@@ -381,7 +381,7 @@ module _ (a : Automation) (now : ℕ) (called : Key → Bool) (base : List Item)
   unfolding add store with_runs
   o_wait w r e before = record {
     order = o.sound.order;
-    good = each_both _ _ _ (λ x s g. by x s g (case (is_run_lem r.key x))) (runs) o.sole o.sound.good;
+    good = each_both _ _ _ (λ x s g. by x s g (case (same_run r.key x))) (runs) o.sole o.sound.good;
     line = o.sound.line;
     meant = each_end (λ i. Meant e.made i.work) e.queue i o.sound.meant o.given;
     kept = grown_more base e.queue (i ∷ []) o.sound.kept;
@@ -419,8 +419,8 @@ module _ (a : Automation) (now : ℕ) (called : Key → Bool) (base : List Item)
         soon = λ c p. omega (arith, steps_at_end now r.key e.queue i, o.called_now c);
       }
 
-      by : (x : Run) → (is_run_lem r.key x ≡ true → x ≡ n) → Good now called (is_run_lem r.key x) e.made e.queue x
-          → Case (is_run_lem r.key x) → Good now called false e.made (e.queue ++ i ∷ []) x
+      by : (x : Run) → (same_run r.key x ≡ true → x ≡ n) → Good now called (same_run r.key x) e.made e.queue x
+          → Case (same_run r.key x) → Good now called false e.made (e.queue ++ i ∷ []) x
       by x s g (is_true b) =
           subst (λ (y : Run). Good now called false e.made (e.queue ++ i ∷ []) y) (sym (s b)) mine
       by x s g (is_false b) = good_more false e.made e.queue x i (miss x.key) (rw b at g)
@@ -434,7 +434,7 @@ module _ (a : Automation) (now : ℕ) (called : Key → Bool) (base : List Item)
   goes_first [] s q o e = tt
   goes_first (x ∷ l) s q o e =
       let same : x ≡ s = some_eq (subst (λ (b : Bool). (if b then some x else find (λ r. r.queued) l) ≡ some s) q.0 e) in
-      let own : is_run_lem s.key x ≡ true = subst (λ (z : Run). is_run_lem z.key x ≡ true) same (own_key x) in (
+      let own : same_run s.key x ≡ true = subst (λ (z : Run). same_run z.key x ≡ true) same (own_key x) in (
         ap (λ (y : Run). y.queued) (in_here (released s) x own),
         each_to _ _ (in_place (released s)) (λ y p. p) l (each_both (Later x) (λ r. r.queued ≡ true)
             (λ y. (in_place (released s) y).queued ≡ true)
@@ -465,6 +465,26 @@ module _ (a : Automation) (now : ℕ) (called : Key → Bool) (base : List Item)
   unreleased_line queued l k e = nobody_queued l k e
   unreleased_line parallel l k e = k
 
+  line_queued : (id : Text) (r : Run) → queued_for id r ≡ true → r.queued ≡ true
+  unfolding queued_for
+  line_queued id r h = and_r (of_rule id r) _ h
+
+  queued_idle : (r : Run) → r.queued ≡ true → acting r ≡ false
+  unfolding acting
+  queued_idle r h = rw h
+
+  released_acts : (r : Run) → absent r.waiting ≡ true → acting (released r) ≡ true
+  unfolding acting
+  released_acts r h = h
+
+  own_step : (at : ℕ) (r : Run) → steps r.key (next_step at r).work ≡ true
+  unfolding steps next_step at_once
+  own_step at r = keys_same r.key
+
+  own_step_now : (at : ℕ) (r : Run) → eqb (next_step at r).at at && steps r.key (next_step at r).work ≡ true
+  unfolding steps next_step at_once
+  own_step_now at r = rw (eqb_same at, keys_same r.key)
+
   s_release : (id : Text) (e : Engine) → InOrder e.runs
       → Each (λ r. Good now called false e.made e.queue r) e.runs
       → Each (λ i. Meant e.made i.work) e.queue
@@ -473,19 +493,19 @@ module _ (a : Automation) (now : ℕ) (called : Key → Bool) (base : List Item)
       → (eq_t id a.id ≡ false → InLine a.mode (keep (of_rule a.id) e.runs))
       → S none_free (release now id e)
   unfolding release
-  s_release id e o g m grown own other = go (find (in_line_lem id) e.runs) refl (case (eq_t id a.id))
+  s_release id e o g m grown own other = go (find (queued_for id) e.runs) refl (case (eq_t id a.id))
     where
       own_runs : List Run
       own_runs = keep (of_rule a.id) e.runs
 
       -- the queued run that is found, among the automation's own
-      among : (f : Option Run) → find (in_line_lem id) e.runs ≡ f → eq_t id a.id ≡ true
+      among : (f : Option Run) → find (queued_for id) e.runs ≡ f → eq_t id a.id ≡ true
           → find (λ r. r.queued) own_runs ≡ f
-      among f p t = unfold in_line_lem in
+      among f p t = unfold queued_for in
           (find_keep (of_rule a.id) (λ r. r.queued) e.runs
-          ∙ subst (λ (z : Text). find (in_line_lem z) e.runs ≡ f) (eq_t_eq _ _ t) p)
+          ∙ subst (λ (z : Text). find (queued_for z) e.runs ≡ f) (eq_t_eq _ _ t) p)
 
-      go : (f : Option Run) → find (in_line_lem id) e.runs ≡ f → Case (eq_t id a.id)
+      go : (f : Option Run) → find (queued_for id) e.runs ≡ f → Case (eq_t id a.id)
           → S none_free (if_some (let_go now) f e)
       go none p (is_true t) = unfold if_some in (record {
         order = o;
@@ -500,7 +520,7 @@ module _ (a : Automation) (now : ℕ) (called : Key → Bool) (base : List Item)
         good =
             each_to _ _ (in_place n) (λ x h. h) e.runs
             (each_both _ _ (λ x. Good now called false e.made (e.queue ++ next_step now s ∷ []) (in_place n x))
-            (λ x u h. by x u h (case (is_run_lem s.key x))) e.runs (only_found (in_line_lem id) e.runs s o p) g);
+            (λ x u h. by x u h (case (same_run s.key x))) e.runs (only_found (queued_for id) e.runs s o p) g);
         line = line_of c;
         meant = each_end (λ i. Meant e.made i.work) e.queue (next_step now s) m
             (unfold next_step at_once in mine.fit.old);
@@ -511,22 +531,22 @@ module _ (a : Automation) (now : ℕ) (called : Key → Bool) (base : List Item)
           n = released s
 
           mine : Good now called false e.made e.queue s
-          mine = each_found _ (in_line_lem id) e.runs s g p
+          mine = each_found _ (queued_for id) e.runs s g p
 
           was : s.queued ≡ true
-          was = and_r (of_rule id s) _ (unfold in_line_lem in (found_is (in_line_lem id) e.runs s p))
+          was = line_queued id s (found_is (queued_for id) e.runs s p)
 
           idle : acting s ≡ false
-          idle = unfold acting in (rw was)
+          idle = queued_idle s was
 
           acts : acting n ≡ true
-          acts = unfold acting in (mine.fit.rests was)
+          acts = released_acts s (mine.fit.rests was)
 
           hit : steps s.key (next_step now s).work ≡ true
-          hit = unfold steps next_step at_once in (keys_same s.key)
+          hit = own_step now s
 
           at_now : eqb (next_step now s).at now && steps s.key (next_step now s).work ≡ true
-          at_now = unfold steps next_step at_once in (rw (eqb_same now, keys_same s.key))
+          at_now = own_step_now now s
 
           freed : Good now called false e.made (e.queue ++ next_step now s ∷ []) n
           freed = record {
@@ -551,8 +571,8 @@ module _ (a : Automation) (now : ℕ) (called : Key → Bool) (base : List Item)
             soon = λ d q. omega (arith, steps_at_end now s.key e.queue (next_step now s), ap one at_now);
           }
 
-          by : (x : Run) → (is_run_lem s.key x ≡ true → x ≡ s) → Good now called false e.made e.queue x
-              → Case (is_run_lem s.key x)
+          by : (x : Run) → (same_run s.key x ≡ true → x ≡ s) → Good now called false e.made e.queue x
+              → Case (same_run s.key x)
               → Good now called false e.made (e.queue ++ next_step now s ∷ []) (in_place n x)
           by x u h (is_true b) =
               subst (λ (y : Run). Good now called false e.made (e.queue ++ next_step now s ∷ []) y)
@@ -564,7 +584,7 @@ module _ (a : Automation) (now : ℕ) (called : Key → Bool) (base : List Item)
               (unfold steps next_step at_once in (keys_differ s.key x b)) h)
 
           rule_is : s.key.rule ≡ id
-          rule_is = unfold in_line_lem of_rule in (eq_t_eq _ _ (and_l _ s.queued (found_is (in_line_lem id) e.runs s p)))
+          rule_is = unfold queued_for of_rule in (eq_t_eq _ _ (and_l _ s.queued (found_is (queued_for id) e.runs s p)))
 
           line_of : Case (eq_t id a.id) → InLine a.mode (keep (of_rule a.id) (each (in_place n) e.runs))
           line_of (is_true t) =
@@ -577,9 +597,9 @@ module _ (a : Automation) (now : ℕ) (called : Key → Bool) (base : List Item)
               e.runs)) (other t)
             where
               stays : (x : Run) → of_rule a.id x ≡ true → in_place n x ≡ x
-              stays x h = in_there n x (apart (case (is_run_lem s.key x)))
+              stays x h = in_there n x (apart (case (same_run s.key x)))
                 where
-                  apart : Case (is_run_lem s.key x) → is_run_lem s.key x ≡ false
+                  apart : Case (same_run s.key x) → same_run s.key x ≡ false
                   apart (is_false b) = b
                   apart (is_true b) =
                       let own : eq_t x.key.rule a.id ≡ true = unfold of_rule in h in
@@ -633,17 +653,17 @@ module _ (a : Automation) (now : ℕ) (called : Key → Bool) (base : List Item)
       (λ t. subst (InLine a.mode) (sym (keep_in (of_rule a.id) (other_run r.key) (others t) e.runs))
       o.sound.line)
     where
-      unlike : (x : Run) → other_run r.key x ≡ true → is_run_lem r.key x ≡ false
-      unlike x p = by (is_run_lem r.key x) (unfold other_run in p)
+      unlike : (x : Run) → other_run r.key x ≡ true → same_run r.key x ≡ false
+      unlike x p = by (same_run r.key x) (unfold other_run in p)
         where
           by : (b : Bool) → not b ≡ true → b ≡ false
           by true q = absurd (false≢true q)
           by false q = refl
 
       others : eq_t r.key.rule a.id ≡ false → (x : Run) → of_rule a.id x ≡ true → other_run r.key x ≡ true
-      others t x h = by (case (is_run_lem r.key x))
+      others t x h = by (case (same_run r.key x))
         where
-          by : Case (is_run_lem r.key x) → other_run r.key x ≡ true
+          by : Case (same_run r.key x) → other_run r.key x ≡ true
           by (is_true b) =
               let own : eq_t x.key.rule a.id ≡ true = unfold of_rule in h in
               absurd (true≢false (sym own ∙ (ap (λ (z : Key). eq_t z.rule a.id) (key_is r.key x b) ∙ t)))
@@ -746,12 +766,12 @@ module _ (a : Automation) (now : ℕ) (called : Key → Bool) (base : List Item)
   }
 
   -- the run that work is for
-  opened : (k : Key) (r : Run) (e : Engine) → find (is_run_lem k) e.runs ≡ some r → r.queued ≡ false
-      → steps_in k e.queue ≡ 0 → S (is_run_lem k) e → O r e
+  opened : (k : Key) (r : Run) (e : Engine) → find (same_run k) e.runs ≡ some r → r.queued ≡ false
+      → steps_in k e.queue ≡ 0 → S (same_run k) e → O r e
   opened k r e p q z s = record {
-    sound = subst (λ (j : Key). S (is_run_lem j) e) (sym same) s;
-    sole = only_found (is_run_lem k) e.runs r s.order p;
-    there = tally_found (goes r.key) (is_run_lem k) e.runs r p (unfold goes in (rw (own_key r, q)));
+    sound = subst (λ (j : Key). S (same_run j) e) (sym same) s;
+    sole = only_found (same_run k) e.runs r s.order p;
+    there = tally_found (goes r.key) (same_run k) e.runs r p (unfold goes in (rw (own_key r, q)));
     spent = subst (λ (j : Key). steps_in j e.queue ≡ 0) (sym same) z;
     given = mine.fit.old;
     free = q;
@@ -759,23 +779,23 @@ module _ (a : Automation) (now : ℕ) (called : Key → Bool) (base : List Item)
   }
     where
       same : r.key ≡ k
-      same = key_is k r (found_is (is_run_lem k) e.runs r p)
+      same = key_is k r (found_is (same_run k) e.runs r p)
 
-      mine : Good now called (is_run_lem k r) e.made e.queue r
-      mine = each_found (λ x. Good now called (is_run_lem k x) e.made e.queue x) (is_run_lem k) e.runs r s.good p
+      mine : Good now called (same_run k r) e.made e.queue r
+      mine = each_found (λ x. Good now called (same_run k x) e.made e.queue x) (same_run k) e.runs r s.good p
 
   -- no run has the key
-  nobody_there : (k : Key) (l : List Run) → find (is_run_lem k) l ≡ none → Each (λ x. is_run_lem k x ≡ false) l
-  nobody_there k l p = none_each (is_run_lem k) l (none_found (is_run_lem k) l p)
+  nobody_there : (k : Key) (l : List Run) → find (same_run k) l ≡ none → Each (λ x. same_run k x ≡ false) l
+  nobody_there k l p = none_each (same_run k) l (none_found (same_run k) l p)
 
-  pub s_resume : (k : Key) (e : Engine) → S (is_run_lem k) e
-      → ((r : Run) → find (is_run_lem k) e.runs ≡ some r → (acting r ≡ true) × (steps_in k e.queue ≡ 0))
+  pub s_resume : (k : Key) (e : Engine) → S (same_run k) e
+      → ((r : Run) → find (same_run k) e.runs ≡ some r → (acting r ≡ true) × (steps_in k e.queue ≡ 0))
       → S none_free (resume now k e)
   unfolding resume if_some
-  s_resume k e s h = go (find (is_run_lem k) e.runs) refl
+  s_resume k e s h = go (find (same_run k) e.runs) refl
     where
-      go : (f : Option Run) → find (is_run_lem k) e.runs ≡ f → S none_free (if_some (step now) f e)
-      go none p = s_free (is_run_lem k) none_free e (each_weak _ _ (λ x z _. z) e.runs (nobody_there k e.runs p)) s
+      go : (f : Option Run) → find (same_run k) e.runs ≡ f → S none_free (if_some (step now) f e)
+      go none p = s_free (same_run k) none_free e (each_weak _ _ (λ x z _. z) e.runs (nobody_there k e.runs p)) s
       go (some r) p = unfold step in
           (if_prop (S none_free) (r.queued || not (absent r.waiting))
           (λ t. absurd (true≢false (sym t ∙ idle r.queued (absent r.waiting) (unfold acting in (h r p).0))))
@@ -798,41 +818,41 @@ module _ (a : Automation) (now : ℕ) (called : Key → Bool) (base : List Item)
 
   -- its wait is over now
   abbrev pub late : Key → Run → Bool
-  late k r = is_run_lem k r && present_and (λ w. eqb w.deadline now) r.waiting
+  late k r = same_run k r && present_and (λ w. eqb w.deadline now) r.waiting
 
   pub s_time_out : (k : Key) (e : Engine) → S (late k) e
-      → ((r : Run) → find (is_run_lem k) e.runs ≡ some r → acting r ≡ false → steps_in k e.queue ≡ 0)
+      → ((r : Run) → find (same_run k) e.runs ≡ some r → acting r ≡ false → steps_in k e.queue ≡ 0)
       → S none_free (time_out now k e)
   unfolding time_out if_some present_and
-  s_time_out k e s h = go (find (is_run_lem k) e.runs) refl
+  s_time_out k e s h = go (find (same_run k) e.runs) refl
     where
-      go : (f : Option Run) → find (is_run_lem k) e.runs ≡ f → S none_free (if_some (end_wait now) f e)
+      go : (f : Option Run) → find (same_run k) e.runs ≡ f → S none_free (if_some (end_wait now) f e)
       go none p =
           s_free (late k) none_free e (each_weak _ _ (λ x z _. rw z) e.runs (nobody_there k e.runs p)) s
       go (some r) p = unfold end_wait in (by r.waiting refl)
         where
           same : r.key ≡ k
-          same = key_is k r (found_is (is_run_lem k) e.runs r p)
+          same = key_is k r (found_is (same_run k) e.runs r p)
 
           -- the wait isn't over now: nothing was due
           still : present_and (λ w. eqb w.deadline now) r.waiting ≡ false → S none_free e
           still z =
               s_free (late k) none_free e
-              (each_weak _ _ (λ x u _. at x u (case (is_run_lem k x))) e.runs
-              (only_found (is_run_lem k) e.runs r s.order p)) s
+              (each_weak _ _ (λ x u _. at x u (case (same_run k x))) e.runs
+              (only_found (same_run k) e.runs r s.order p)) s
             where
-              at : (x : Run) → (is_run_lem r.key x ≡ true → x ≡ r) → Case (is_run_lem k x) → late k x ≡ false
+              at : (x : Run) → (same_run r.key x ≡ true → x ≡ r) → Case (same_run k x) → late k x ≡ false
               at x u (is_false b) = rw b
               at x u (is_true b) =
                   subst (λ (y : Run). late k y ≡ false)
-                  (sym (u (subst (λ (j : Key). is_run_lem j x ≡ true) (sym same) b))) (no_and (is_run_lem k r) _ z)
+                  (sym (u (subst (λ (j : Key). same_run j x ≡ true) (sym same) b))) (no_and (same_run k r) _ z)
                 where
                   no_and : (p q : Bool) → q ≡ false → p && q ≡ false
                   no_and true q w = w
                   no_and false q w = refl
 
           mine : Good now called (late k r) e.made e.queue r
-          mine = each_found (λ x. Good now called (late k x) e.made e.queue x) (is_run_lem k) e.runs r s.good p
+          mine = each_found (λ x. Good now called (late k x) e.made e.queue x) (same_run k) e.runs r s.good p
 
           free : (w : Waiting) → r.waiting ≡ some w → (b : Bool) → r.queued ≡ b → r.queued ≡ false
           free w v true q = unfold absent in (absurd (false≢true (sym (ap absent v) ∙ mine.fit.rests q)))
@@ -842,7 +862,7 @@ module _ (a : Automation) (now : ℕ) (called : Key → Bool) (base : List Item)
           ready w v =
               opened k r e p (free w v r.queued refl)
               (h r p (unfold acting absent in (rw (v, free w v r.queued refl))))
-              (s_free (late k) (is_run_lem k) e (each_weak _ _ (λ x _ z. rw z) e.runs s.good) s)
+              (s_free (late k) (same_run k) e (each_weak _ _ (λ x _ z. rw z) e.runs s.good) s)
 
           by : (w : Option Waiting) → r.waiting ≡ w → S none_free (if_some (λ w. wait_over now w r) w e)
           by none v = still (rw v)
@@ -871,6 +891,14 @@ module _ (a : Automation) (now : ℕ) (called : Key → Bool) (base : List Item)
   s_drop free e s = record { order = tt; good = tt; line = line_none a.mode; meant = s.meant; kept = s.kept }
 
   -- ---- a change
+
+  step_is_run : (at : ℕ) (k : Key) (y : Run) → steps k (next_step at y).work ≡ same_run k y
+  unfolding next_step at_once steps same_key same_run
+  step_is_run at k y = refl
+
+  steps_in_is : (k : Key) (l : List Item) → steps_in k l ≡ tally (λ i. steps k i.work) l
+  unfolding steps_in
+  steps_in_is k l = refl
 
   pub s_wake : (x from to : Text) (e : Engine) → S none_free e → S none_free (wake now x from to e)
   unfolding wake with_runs
@@ -910,14 +938,14 @@ module _ (a : Automation) (now : ℕ) (called : Key → Bool) (base : List Item)
       )
 
       -- one step for the run, if it waited for this change
-      counted : (r : Run) → tally (λ y. awaits x from to y && is_run_lem r.key y) e.runs ≡ one (awaits x from to r)
+      counted : (r : Run) → tally (λ y. awaits x from to y && same_run r.key y) e.runs ≡ one (awaits x from to r)
           → steps_in r.key items ≡ one (awaits x from to r)
-      counted r n = unfold steps_in in
+      counted r n = steps_in_is r.key items ∙
           (tally_each (λ i. steps r.key i.work) (next_step now) (keep (awaits x from to) e.runs)
-          ∙ tally_same (λ y. steps r.key (next_step now y).work) (is_run_lem r.key)
-          (λ y. unfold next_step at_once steps same_key is_run_lem in refl)
+          ∙ tally_same (λ y. steps r.key (next_step now y).work) (same_run r.key)
+          (step_is_run now r.key)
           (keep (awaits x from to) e.runs)
-          ∙ tally_keep (is_run_lem r.key) (awaits x from to) e.runs
+          ∙ tally_keep (same_run r.key) (awaits x from to) e.runs
           ∙ n)
 
       by : (r : Run) → steps_in r.key items ≡ one (awaits x from to r) → Good now called false e.made e.queue r
@@ -971,11 +999,11 @@ module _ (a : Automation) (now : ℕ) (called : Key → Bool) (base : List Item)
 
   -- a new run, which was not called
   pub s_begin : (r : Automation) (later : Bool) (e : Engine) → S none_free e
-      → called (new_run_lem r later e.made).key ≡ false
+      → called (fresh_run r later e.made).key ≡ false
       → (eq_t r.id a.id ≡ true
-      → InLine a.mode (keep (of_rule a.id) e.runs ++ new_run_lem r later e.made ∷ []))
+      → InLine a.mode (keep (of_rule a.id) e.runs ++ fresh_run r later e.made ∷ []))
       → S none_free (begin now r later e)
-  unfolding begin log_rule log append add_run new_run_lem
+  unfolding begin log_rule log append add_run fresh_run
   s_begin r later e s c line = more (Sound a now called base none_free) items _ (record {
     order = order_end e.runs new s.order (each_weak _ (λ y. Later y new) before e.runs s.good);
     good =
@@ -991,7 +1019,7 @@ module _ (a : Automation) (now : ℕ) (called : Key → Bool) (base : List Item)
   })
     where
       new : Run
-      new = new_run_lem r later e.made
+      new = fresh_run r later e.made
 
       made : List Text
       made = e.made ++ r.id ∷ []
@@ -1000,17 +1028,17 @@ module _ (a : Automation) (now : ℕ) (called : Key → Bool) (base : List Item)
       items = if later then [] else next_step now new ∷ []
 
       before : (y : Run) → Good now called false e.made e.queue y → Later y new
-      before y g = unfold new_run_lem in
+      before y g = unfold fresh_run in
           (λ p. subst (λ (z : Text). y.key.sequence < tally (eq_t z) e.made) p g.fit.old)
 
       grown : (k : Key) → Given e.made k → Given made k
       grown k h = omega (arith, h, tally_end (eq_t k.rule) e.made r.id)
 
       given : Given made new.key
-      given = unfold new_run_lem in (omega (arith, tally_end (eq_t r.id) e.made r.id, ap one (eq_t_same r.id)))
+      given = unfold fresh_run in (omega (arith, tally_end (eq_t r.id) e.made r.id, ap one (eq_t_same r.id)))
 
       unused : Given e.made new.key → ⊥
-      unused h = unfold new_run_lem in (omega (arith, h))
+      unused h = unfold fresh_run in (omega (arith, h))
 
       -- no key given so far is the new one
       fresh : (k : Key) → Given e.made k → same_key k new.key ≡ false
@@ -1072,18 +1100,18 @@ module _ (a : Automation) (now : ℕ) (called : Key → Bool) (base : List Item)
       its_step false = unfold steps_in tally next_step at_once steps in (rw (keys_same new.key))
 
       acts : acting new ≡ not later
-      acts = unfold acting new_run_lem absent in (both (not later))
+      acts = unfold acting fresh_run absent in (both (not later))
         where
           both : (b : Bool) → b && true ≡ b
           both true = refl
           both false = refl
 
       waitless : none ≡ new.waiting
-      waitless = unfold new_run_lem in refl
+      waitless = unfold fresh_run in refl
 
       newest : Good now called false made (e.queue ++ items) new
       newest = record {
-        fit = record { old = given; rests = λ _. unfold new_run_lem absent in refl };
+        fit = record { old = given; rests = λ _. unfold fresh_run absent in refl };
         due = λ _. record {
           step = omega (arith, steps_more new.key e.queue items, none_yet, its_step later, ap one acts);
           timeout = λ w p. absurd (none_some (waitless ∙ p));
@@ -1092,7 +1120,7 @@ module _ (a : Automation) (now : ℕ) (called : Key → Bool) (base : List Item)
       }
 
       own : of_rule a.id new ≡ eq_t r.id a.id
-      own = unfold of_rule new_run_lem in refl
+      own = unfold of_rule fresh_run in refl
 
       in_line_now : Case (eq_t r.id a.id)
           → InLine a.mode (keep (of_rule a.id) e.runs ++ keep (of_rule a.id) (new ∷ []))

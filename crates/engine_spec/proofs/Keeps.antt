@@ -48,18 +48,18 @@ use Rattle.engine_spec.specs.Modes.{
 use Rattle.engine_spec.specs.Records.{Key, Waiting, Run, Work, Item, Kind, Areas, Engine}
 use Rattle.engine_spec.specs.Changes.{if_some, with_cells, add, append, with_runs, add_run, uncertain, adds}
 use Rattle.engine_spec.specs.Engine.{
-  is_run_lem,
+  same_run,
   of_rule,
   other_run,
   of_other_rule,
-  in_line_lem,
+  queued_for,
   executing,
   in_place,
   store,
   left,
   waits,
   released,
-  new_run_lem,
+  fresh_run,
   awaits,
   woken,
   toggled,
@@ -239,7 +239,7 @@ module _ (known : Text → Bool) (a : Automation) where
   fit_store made r q x f = record {
     old = subst (λ (k : Key). k.sequence < tally (eq_t k.rule) made) (sym (kept_key r x)) f.old;
     rests =
-        unfold in_place in (if_prop (λ (y : Run). y.queued ≡ true → absent y.waiting ≡ true) (is_run_lem r.key x)
+        unfold in_place in (if_prop (λ (y : Run). y.queued ≡ true → absent y.waiting ≡ true) (same_run r.key x)
         (λ _. q) (λ _. f.rests));
   }
 
@@ -269,9 +269,9 @@ module _ (known : Text → Bool) (a : Automation) where
       → tally (executing a.id) e.runs + one (eq_t id a.id) ≤ most_executing a.mode a.max
       → K (release now id e)
   unfolding release if_some
-  k_release now id e o f c b x = go (find (in_line_lem id) e.runs) refl
+  k_release now id e o f c b x = go (find (queued_for id) e.runs) refl
     where
-      go : (s : Option Run) → find (in_line_lem id) e.runs ≡ s → K (if_some (let_go now) s e)
+      go : (s : Option Run) → find (queued_for id) e.runs ≡ s → K (if_some (let_go now) s e)
       go none p = record { order = o; fit = f; from = c; within = record { bound = b; at_once = omega arith } }
       go (some r) p = unfold let_go add store with_runs in (record {
         order = order_each (in_place (released r)) (kept_key (released r)) e.runs o;
@@ -286,7 +286,7 @@ module _ (known : Text → Bool) (a : Automation) where
       })
         where
           rule_is : r.key.rule ≡ id
-          rule_is = unfold in_line_lem of_rule in (eq_t_eq _ _ (and_l _ r.queued (found_is (in_line_lem id) e.runs r p)))
+          rule_is = unfold queued_for of_rule in (eq_t_eq _ _ (and_l _ r.queued (found_is (queued_for id) e.runs r p)))
 
           by : Case (eq_t id a.id)
               → tally (executing a.id) (each (in_place (released r)) e.runs) ≤ most_executing a.mode a.max
@@ -357,7 +357,7 @@ module _ (known : Text → Bool) (a : Automation) where
       → tally (of_rule a.id) e.runs + one (eq_t r.id a.id) ≤ most a.mode a.max
       → tally (executing a.id) e.runs + one (eq_t r.id a.id && not later) ≤ most_executing a.mode a.max
       → K (begin now r later e)
-  unfolding begin log_rule log append add_run new_run_lem
+  unfolding begin log_rule log append add_run fresh_run
   k_begin now r later e i o f c b x =
       q_adds (Kept known a) (if later then [] else next_step now new ∷ []) _ (record {
         order = order_end e.runs new o (each_weak (Fit e.made) (λ y. Later y new) before e.runs f);
@@ -366,23 +366,23 @@ module _ (known : Text → Bool) (a : Automation) where
             (each_weak (Fit e.made) (Fit (e.made ++ r.id ∷ [])) older e.runs f) fits;
         from = each_end (λ t. known t ≡ true) e.made r.id c i;
         within = record {
-          bound = rw (tally_end (of_rule a.id) e.runs new) (unfold of_rule new_run_lem in b);
-          at_once = rw (tally_end (executing a.id) e.runs new) (unfold executing of_rule new_run_lem in x);
+          bound = rw (tally_end (of_rule a.id) e.runs new) (unfold of_rule fresh_run in b);
+          at_once = rw (tally_end (executing a.id) e.runs new) (unfold executing of_rule fresh_run in x);
         };
       })
     where
       new : Run
-      new = new_run_lem r later e.made
+      new = fresh_run r later e.made
 
       before : (y : Run) → Fit e.made y → Later y new
-      before y h = unfold new_run_lem in (λ p. subst (λ (z : Text). y.key.sequence < tally (eq_t z) e.made) p h.old)
+      before y h = unfold fresh_run in (λ p. subst (λ (z : Text). y.key.sequence < tally (eq_t z) e.made) p h.old)
 
       older : (y : Run) → Fit e.made y → Fit (e.made ++ r.id ∷ []) y
       older y h =
           record { old = omega (arith, h.old, tally_end (eq_t y.key.rule) e.made r.id); rests = h.rests }
 
       fits : Fit (e.made ++ r.id ∷ []) new
-      fits = unfold new_run_lem in (record {
+      fits = unfold fresh_run in (record {
         old = omega (arith, tally_end (eq_t r.id) e.made r.id, ap one (eq_t_same r.id));
         rests = λ _. unfold absent in refl;
       })
@@ -518,14 +518,14 @@ module _ (known : Text → Bool) (a : Automation) where
   k_go_on now (act src f rest) r e q g k =
       k_perform now f src (left rest r) _ q (g_store (left rest r) e q g) (k_store (left rest r) e q g k)
 
-  going : (k : Key) (e : Engine) (r : Run) → find (is_run_lem k) e.runs ≡ some r → r.queued ≡ false → Going r.key e
-  going k e r p q = tally_found (goes r.key) (is_run_lem k) e.runs r p (unfold goes in (rw (own_key r, q)))
+  going : (k : Key) (e : Engine) (r : Run) → find (same_run k) e.runs ≡ some r → r.queued ≡ false → Going r.key e
+  going k e r p q = tally_found (goes r.key) (same_run k) e.runs r p (unfold goes in (rw (own_key r, q)))
 
   k_resume : (now : ℕ) (i : Key) (e : Engine) → K e → K (resume now i e)
   unfolding resume if_some
-  k_resume now i e k = go (find (is_run_lem i) e.runs) refl
+  k_resume now i e k = go (find (same_run i) e.runs) refl
     where
-      go : (o : Option Run) → find (is_run_lem i) e.runs ≡ o → K (if_some (step now) o e)
+      go : (o : Option Run) → find (same_run i) e.runs ≡ o → K (if_some (step now) o e)
       go none p = k
       go (some r) p = unfold step in
           (if_prop K (r.queued || not (absent r.waiting)) (λ _. k)
@@ -542,16 +542,16 @@ module _ (known : Text → Bool) (a : Automation) where
 
   k_time_out : (now : ℕ) (i : Key) (e : Engine) → K e → K (time_out now i e)
   unfolding time_out if_some absent
-  k_time_out now i e k = go (find (is_run_lem i) e.runs) refl
+  k_time_out now i e k = go (find (same_run i) e.runs) refl
     where
-      go : (o : Option Run) → find (is_run_lem i) e.runs ≡ o → K (if_some (end_wait now) o e)
+      go : (o : Option Run) → find (same_run i) e.runs ≡ o → K (if_some (end_wait now) o e)
       go none p = k
       go (some r) p = unfold end_wait in (by r.waiting refl)
         where
           free : (w : Waiting) → r.waiting ≡ some w → (b : Bool) → r.queued ≡ b → r.queued ≡ false
           free w h true q =
               absurd (false≢true (sym (ap absent h) ∙
-              (each_found (Fit e.made) (is_run_lem i) e.runs r k.fit p).rests q))
+              (each_found (Fit e.made) (same_run i) e.runs r k.fit p).rests q))
           free w h false q = q
 
           by : (w : Option Waiting) → r.waiting ≡ w → K (if_some (λ w. wait_over now w r) w e)

@@ -17,7 +17,7 @@ use Rattle.engine_spec.specs.Changes.{append, add_run, with_queue}
 use Rattle.engine_spec.specs.Engine.{
   of_rule,
   left,
-  new_run_lem,
+  fresh_run,
   ◌then◌,
   next_step,
   log,
@@ -147,8 +147,8 @@ decide_none queued max h = rw (lt-leb max zero h)
 decide_none parallel max h = rw (lt-leb max zero h)
 
 pub begin_runs : (now : ℕ) (a : Automation) (later : Bool) (e : Engine)
-    → (begin now a later e).runs ≡ e.runs ++ new_run_lem a later e.made ∷ []
+    → (begin now a later e).runs ≡ e.runs ++ fresh_run a later e.made ∷ []
 unfolding begin log_rule log append add_run
 begin_runs now a later e =
-    q_adds (λ l made. l ≡ e.runs ++ new_run_lem a later e.made ∷ [])
-    (if later then [] else next_step now (new_run_lem a later e.made) ∷ []) _ refl
+    q_adds (λ l made. l ≡ e.runs ++ fresh_run a later e.made ∷ [])
+    (if later then [] else next_step now (fresh_run a later e.made) ∷ []) _ refl

@@ -28,11 +28,11 @@ use Rattle.engine_spec.specs.Records.{Key, Waiting, Run, Work, Item, Kind, Areas
 use Rattle.engine_spec.specs.Changes.{append, with_runs, uncertain, with_queue}
 use Rattle.engine_spec.specs.Engine.{
   moment,
-  is_run_lem,
+  same_run,
   of_rule,
   of_other_rule,
   left,
-  new_run_lem,
+  fresh_run,
   log,
   log_rule,
   expiry,
@@ -142,11 +142,11 @@ module _ (a : Automation) (now : ℕ) (base : List Item) where
   s_carry start r e h s =
       s_begin a now nobody_called base r false e s refl
       (λ t. line_start a.mode (tally (of_rule a.id) e.runs) (keep (of_rule a.id) e.runs)
-      (new_run_lem r false e.made) (unfold new_run_lem in refl) (h t) (none_kept (of_rule a.id) e.runs) s.line)
+      (fresh_run r false e.made) (unfold fresh_run in refl) (h t) (none_kept (of_rule a.id) e.runs) s.line)
   s_carry stop_and_start r e h s =
       s_begin a now nobody_called base r false _ stopped refl
-      (λ t. subst (λ (l : List Run). InLine a.mode (l ++ new_run_lem r false e.made ∷ [])) (sym (gone t))
-      (line_alone a.mode (new_run_lem r false e.made) (unfold new_run_lem in refl)))
+      (λ t. subst (λ (l : List Run). InLine a.mode (l ++ fresh_run r false e.made ∷ [])) (sym (gone t))
+      (line_alone a.mode (fresh_run r false e.made) (unfold fresh_run in refl)))
     where
       kept : List Run
       kept = keep (of_other_rule r.id) e.runs
@@ -174,7 +174,7 @@ module _ (a : Automation) (now : ℕ) (base : List Item) where
   s_carry wait_in_line r e h s =
       s_begin a now nobody_called base r true e s refl
       (λ t. line_join a.mode (tally (of_rule a.id) e.runs) (keep (of_rule a.id) e.runs)
-      (new_run_lem r true e.made) (unfold new_run_lem in refl) (h t) (kept_none (of_rule a.id) e.runs) s.line)
+      (fresh_run r true e.made) (unfold fresh_run in refl) (h t) (kept_none (of_rule a.id) e.runs) s.line)
 
   s_admit : (v : Truth) (r : Automation) (e : Engine) → (r.id ≡ a.id → r ≡ a) → T e → T (admit now v r e)
   unfolding admit uncertain
@@ -290,11 +290,11 @@ module _ (a : Automation) (e : Engine) (sound : T a 0 [] e) (called : Key → Bo
       no_and false h = refl
 
   -- the run that the work is for, before it was taken out
-  at_key : (k : Key) (r : Run) → find (is_run_lem k) e.runs ≡ some r → Due e.queue r × (r.key ≡ k)
+  at_key : (k : Key) (r : Run) → find (same_run k) e.runs ≡ some r → Due e.queue r × (r.key ≡ k)
   at_key k r p = (
-    (each_found (λ x. Good 0 nobody_called false e.made e.queue x) (is_run_lem k) e.runs r sound.good p).due
+    (each_found (λ x. Good 0 nobody_called false e.made e.queue x) (same_run k) e.runs r sound.good p).due
         refl,
-    key_is k r (found_is (is_run_lem k) e.runs r p),
+    key_is k r (found_is (same_run k) e.runs r p),
   )
 
   pub s_process : (rules : List Automation) (w : Work) → Taken w → NoChange w
@@ -310,7 +310,7 @@ module _ (a : Automation) (e : Engine) (sound : T a 0 [] e) (called : Key → Bo
   s_process rules (Work.changed x from to) p z = absurd z
   s_process rules (Work.resume k) p z =
       s_resume a t called l k _
-      (s_out _ p (is_run_lem k) (λ x b. unfold steps in (keys_differ k x b))
+      (s_out _ p (same_run k) (λ x b. unfold steps in (keys_differ k x b))
       (λ x v b q. unfold times_out in (no_and (eqb t v.deadline))))
       (λ r q. acts r (at_key k r q) (case (acting r)))
     where
@@ -343,10 +343,10 @@ module _ (a : Automation) (e : Engine) (sound : T a 0 [] e) (called : Key → Bo
   s_process rules (Work.timeout k) p z =
       s_time_out a t called l k _
       (s_out _ p (late a t called l k) (λ x b. unfold steps in refl)
-      (λ x v b q. unfold times_out in (missed x v b q (case (is_run_lem k x)))))
+      (λ x v b q. unfold times_out in (missed x v b q (case (same_run k x)))))
       (λ r q b. idle r (at_key k r q) b)
     where
-      missed : (x : Run) (v : Waiting) → late a t called l k x ≡ false → x.waiting ≡ some v → Case (is_run_lem k x)
+      missed : (x : Run) (v : Waiting) → late a t called l k x ≡ false → x.waiting ≡ some v → Case (same_run k x)
           → eqb t v.deadline && same_key k x.key ≡ false
       missed x v b q (is_false c) = both (eqb t v.deadline) (keys_differ k x c)
         where

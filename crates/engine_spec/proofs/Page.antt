@@ -59,17 +59,17 @@ use Rattle.engine_spec.specs.Changes.{
 }
 use Rattle.engine_spec.specs.Engine.{
   moment,
-  is_run_lem,
+  same_run,
   of_rule,
   other_run,
   of_other_rule,
-  in_line_lem,
+  queued_for,
   in_place,
   store,
   left,
   waits,
   released,
-  new_run_lem,
+  fresh_run,
   awaits,
   woken,
   ◌then◌,
@@ -181,11 +181,11 @@ decide_restart max (suc n) h = refl
 
 module _ (now : ℕ) (a : Automation) where
   begin_started : (e : Engine) → begin now a false e ≡ started now a e
-  unfolding begin new_run_lem log_rule log adds through next_step at_once
+  unfolding begin fresh_run log_rule log adds through next_step at_once
   begin_started e = refl
 
   begin_joined : (e : Engine) → begin now a true e ≡ joined now a e
-  unfolding begin new_run_lem log_rule log adds through
+  unfolding begin fresh_run log_rule log adds through
   begin_joined e = refl
 
   -- the verdict's admission
@@ -202,12 +202,12 @@ module _ (now : ℕ) (a : Automation) where
       → keep (of_other_rule a.id) (begin now a later e).runs ≡ keep (of_other_rule a.id) e.runs
   begin_apart later e =
       ap (keep (of_other_rule a.id)) (begin_runs now a later e)
-      ∙ keep_append (of_other_rule a.id) e.runs (new_run_lem a later e.made ∷ [])
+      ∙ keep_append (of_other_rule a.id) e.runs (fresh_run a later e.made ∷ [])
       ∙ ap {B = List Run} (λ l. keep (of_other_rule a.id) e.runs ++ l) own
       ∙ append-nil (keep (of_other_rule a.id) e.runs)
     where
-      own : keep (of_other_rule a.id) (new_run_lem a later e.made ∷ []) ≡ []
-      own = unfold keep of_other_rule of_rule new_run_lem in (rw (eq_t_same a.id))
+      own : keep (of_other_rule a.id) (fresh_run a later e.made ∷ []) ≡ []
+      own = unfold keep of_other_rule of_rule fresh_run in (rw (eq_t_same a.id))
 
   carry_apart : (d : Decision) (e : Engine)
       → keep (of_other_rule a.id) (carry_out now d a e).runs ≡ keep (of_other_rule a.id) e.runs
@@ -279,8 +279,8 @@ module _ (now : ℕ) (a : Automation) where
 finish_next : (now : ℕ) (r : Run) (e : Engine)
     → ((finish now r e).runs ≡ next_in_line r.key.rule (keep (other_run r.key) e.runs))
     × ((finish now r e).made ≡ e.made)
-unfolding finish log_rule log append with_runs release next_in_line in_line_lem of_rule in_place is_run_lem same_key
-finish_next now r e = go (find (in_line_lem r.key.rule) kept)
+unfolding finish log_rule log append with_runs release next_in_line queued_for of_rule in_place same_run same_key
+finish_next now r e = go (find (queued_for r.key.rule) kept)
   where
     kept : List Run
     kept = keep (other_run r.key) e.runs
@@ -312,21 +312,21 @@ module _ (k : Key) (before : List Run) (made : List Text) where
   H e = Has Done e
 
   h_on : (e : Engine) → G e → H e
-  h_on e g = (goes_on (unfold other_run is_run_lem same_key in g.0), g.1)
+  h_on e g = (goes_on (unfold other_run same_run same_key in g.0), g.1)
 
   h_store : (r : Run) (e : Engine) → r.key ≡ k → G e → G (store r e)
   unfolding store with_runs
   h_store r e i g = (
     keep_same (other_run k) (in_place r)
-        (λ x. unfold other_run is_run_lem in
+        (λ x. unfold other_run same_run in
         (ap (λ (j : Key). not (eq_t j.rule k.rule && eqb j.sequence k.sequence)) (kept_key r x)))
         (λ x o. in_there r x (unlike x o)) e.runs
         ∙ g.0,
     g.1,
   )
     where
-      unlike : (x : Run) → other_run k x ≡ true → is_run_lem r.key x ≡ false
-      unlike x o = subst (λ (j : Key). is_run_lem j x ≡ false) (sym i) (by (is_run_lem k x) (unfold other_run in o))
+      unlike : (x : Run) → other_run k x ≡ true → same_run r.key x ≡ false
+      unlike x o = subst (λ (j : Key). same_run j x ≡ false) (sym i) (by (same_run k x) (unfold other_run in o))
         where
           by : (b : Bool) → not b ≡ true → b ≡ false
           by true z = absurd (false≢true z)
@@ -334,7 +334,7 @@ module _ (k : Key) (before : List Run) (made : List Text) where
 
   h_finish : (now : ℕ) (r : Run) (e : Engine) → r.key ≡ k → G e → H (finish now r e)
   h_finish now r e i g = (
-    ends (unfold other_run is_run_lem same_key in ((finish_next now r e).0
+    ends (unfold other_run same_run same_key in ((finish_next now r e).0
         ∙ ap (λ (j : Key). next_in_line j.rule (keep (other_run j) e.runs)) i
         ∙ ap (next_in_line k.rule) g.0)),
     (finish_next now r e).1 ∙ g.1,
@@ -377,14 +377,14 @@ module _ (k : Key) (before : List Run) (made : List Text) where
   h_go_on now (act src f rest) r e i h = h_perform now f src (left rest r) _ i (h_store (left rest r) e i h)
 
   module _ (now : ℕ) (e : Engine) (g : G e) where
-    key_of : (r : Run) → find (is_run_lem k) e.runs ≡ some r → r.key ≡ k
-    key_of r p = key_is k r (found_is (is_run_lem k) e.runs r p)
+    key_of : (r : Run) → find (same_run k) e.runs ≡ some r → r.key ≡ k
+    key_of r p = key_is k r (found_is (same_run k) e.runs r p)
 
     h_resume : H (resume now k e)
     unfolding resume if_some
-    h_resume = go (find (is_run_lem k) e.runs) refl
+    h_resume = go (find (same_run k) e.runs) refl
       where
-        go : (o : Option Run) → find (is_run_lem k) e.runs ≡ o → H (if_some (step now) o e)
+        go : (o : Option Run) → find (same_run k) e.runs ≡ o → H (if_some (step now) o e)
         go none p = h_on e g
         go (some r) p = unfold step in
             (if_prop H (r.queued || not (absent r.waiting)) (λ _. h_on e g)
@@ -392,9 +392,9 @@ module _ (k : Key) (before : List Run) (made : List Text) where
 
     h_time_out : H (time_out now k e)
     unfolding time_out if_some
-    h_time_out = go (find (is_run_lem k) e.runs) refl
+    h_time_out = go (find (same_run k) e.runs) refl
       where
-        go : (o : Option Run) → find (is_run_lem k) e.runs ≡ o → H (if_some (end_wait now) o e)
+        go : (o : Option Run) → find (same_run k) e.runs ≡ o → H (if_some (end_wait now) o e)
         go none p = h_on e g
         go (some r) p = unfold end_wait in (by r.waiting)
           where
@@ -455,12 +455,12 @@ no_conditions now rules others (Work.stale x n) z e = refl
 
 nothing_left : (now : ℕ) (rules : List Automation) (k : Key) (e : Engine) → find (is_the k) e.runs ≡ none
     → (process now rules (Work.resume k) e ≡ e) × (process now rules (Work.timeout k) e ≡ e)
-unfolding process resume time_out if_some is_run_lem same_key
+unfolding process resume time_out if_some same_run same_key
 nothing_left now rules k e p = (rw p, rw p)
 
 steps_as : (now : ℕ) (rules : List Automation) (k : Key) (r : Run) (e : Engine) → find (is_the k) e.runs ≡ some r
     → Stepped now r e (process now rules (Work.resume k) e)
-unfolding process resume if_some step is_run_lem same_key acting go_on
+unfolding process resume if_some step same_run same_key acting go_on
 steps_as now rules k r e p = record {
   acts = λ h source effect rest q. rw (p, idle r.queued (absent r.waiting) h, q);
   ends = λ h q. rw (p, idle r.queued (absent r.waiting) h, q);
@@ -653,6 +653,10 @@ module _ (file : List ℕ) (m : Model) (ok : accepted file ≡ answer m) (areas 
         (taken one_of_them.0 m.rules one_of_them.1 here all_sound i.at i.work l p).kept;
   }
 
+last_runs : (horizon : ℕ) (l : List Text) (e : Engine) → (last_record horizon l e).runs ≡ e.runs
+last_runs h [] e = unfold last_record log append in refl
+last_runs h (t ∷ l) e = unfold last_record in refl
+
 -- the modes are right, by the page, in every simulation of an accepted file, whatever cells it starts from and whatever the
 -- events
 pub modes_right : (file : List ℕ) (m : Model) → accepted file ≡ answer m → (areas : Areas) (cells : List Cell)
@@ -661,9 +665,5 @@ modes_right file m ok areas cells events = record {
   moments = page file m ok areas cells events;
   at_first = unfold run in (run_none m 0 (begun areas m.start cells (unsupported m.rules) events));
   at_next = λ n. unfold run in (run_next m n 0 (begun areas m.start cells (unsupported m.rules) events));
-  at_last = unfold ended closed in (last _ _);
+  at_last = unfold ended closed in (last_runs m.scenario.limits.horizon _ _);
 }
-  where
-    last : (l : List Text) (e : Engine) → (last_record m.scenario.limits.horizon l e).runs ≡ e.runs
-    last [] e = unfold last_record log append in refl
-    last (t ∷ l) e = unfold last_record in refl

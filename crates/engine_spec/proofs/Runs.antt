@@ -11,7 +11,7 @@ use Rattle.texts.specs.Texts.{Text, eq_t}
 use Rattle.engine_spec.specs.Records.{Key, Run}
 use Rattle.engine_spec.specs.Page.{same_key}
 pub use Rattle.engine_spec.specs.Page.{Later, InOrder}
-use Rattle.engine_spec.specs.Engine.{is_run_lem, of_rule, other_run, of_other_rule, executing, in_place}
+use Rattle.engine_spec.specs.Engine.{same_run, of_rule, other_run, of_other_rule, executing, in_place}
 use Rattle.engine_spec.proofs.Lists.{
   Case,
   is_true,
@@ -51,17 +51,17 @@ pub keys_same : (k : Key) → same_key k k ≡ true
 unfolding same_key
 keys_same k = rw (eq_t_same k.rule, eqb_same k.sequence)
 
-pub key_is : (k : Key) (r : Run) → is_run_lem k r ≡ true → r.key ≡ k
-unfolding is_run_lem same_key
+pub key_is : (k : Key) (r : Run) → same_run k r ≡ true → r.key ≡ k
+unfolding same_run same_key
 key_is k r e = keys_eq r.key k e
 
-pub own_key : (r : Run) → is_run_lem r.key r ≡ true
-unfolding is_run_lem same_key
+pub own_key : (r : Run) → same_run r.key r ≡ true
+unfolding same_run same_key
 own_key r = keys_same r.key
 
 pub kept_key : (r x : Run) → (in_place r x).key ≡ x.key
 unfolding in_place
-kept_key r x = if_prop (λ (y : Run). y.key ≡ x.key) (is_run_lem r.key x) (λ a. sym (key_is r.key x a)) (λ a. refl)
+kept_key r x = if_prop (λ (y : Run). y.key ≡ x.key) (same_run r.key x) (λ a. sym (key_is r.key x a)) (λ a. refl)
 
 -- ---- order
 
@@ -82,10 +82,10 @@ order_end [] x h k = (tt, tt)
 order_end (y ∷ l) x h k = (each_end (Later y) l x h.0 k.0, order_end l x h.1 k.1)
 
 -- a later run has another key
-pub later_differs : (k : Key) (x y : Run) → is_run_lem k x ≡ true → Later x y → is_run_lem k y ≡ false
-later_differs k x y a g = by (case (is_run_lem k y))
+pub later_differs : (k : Key) (x y : Run) → same_run k x ≡ true → Later x y → same_run k y ≡ false
+later_differs k x y a g = by (case (same_run k y))
   where
-    by : Case (is_run_lem k y) → is_run_lem k y ≡ false
+    by : Case (same_run k y) → same_run k y ≡ false
     by (is_false b) = b
     by (is_true b) =
         let same : x.key ≡ y.key = key_is k x a ∙ sym (key_is k y b) in
@@ -94,13 +94,13 @@ later_differs k x y a g = by (case (is_run_lem k y))
         absurd (omega arith)
 
 -- a key names at most one run
-pub once : (k : Key) (l : List Run) → InOrder l → tally (is_run_lem k) l ≤ 1
+pub once : (k : Key) (l : List Run) → InOrder l → tally (same_run k) l ≤ 1
 unfolding tally
 once k [] h = omega arith
-once k (x ∷ l) h = go (case (is_run_lem k x)) (once k l h.1)
+once k (x ∷ l) h = go (case (same_run k x)) (once k l h.1)
   where
-    go : Case (is_run_lem k x) → tally (is_run_lem k) l ≤ 1 → tally (is_run_lem k) (x ∷ l) ≤ 1
-    go (is_true a) n = omega (arith, tally_none (Later x) (is_run_lem k) (λ y g. later_differs k x y a g) l h.0, ap one a)
+    go : Case (same_run k x) → tally (same_run k) l ≤ 1 → tally (same_run k) (x ∷ l) ≤ 1
+    go (is_true a) n = omega (arith, tally_none (Later x) (same_run k) (λ y g. later_differs k x y a g) l h.0, ap one a)
     go (is_false a) n = omega (arith, ap one a)
 
 -- ---- a run's own state
@@ -114,7 +114,7 @@ pub record Fit (made : List Text) (r : Run) : Type 0 where
 
 -- this run, and not queued
 unfoldable pub goes : Key → Run → Bool
-goes k r = is_run_lem k r && not r.queued
+goes k r = same_run k r && not r.queued
 
 -- the rule of a run in place is the rule of the run that stood there
 pub rule_in_place : (id : Text) (r x : Run) → of_rule id (in_place r x) ≡ of_rule id x
@@ -122,11 +122,11 @@ unfolding of_rule
 rule_in_place id r x = ap (λ (k : Key). eq_t k.rule id) (kept_key r x)
 
 -- what stands in place: the run, or what stood there
-pub in_here : (r x : Run) → is_run_lem r.key x ≡ true → in_place r x ≡ r
+pub in_here : (r x : Run) → same_run r.key x ≡ true → in_place r x ≡ r
 unfolding in_place
 in_here r x a = rw a
 
-pub in_there : (r x : Run) → is_run_lem r.key x ≡ false → in_place r x ≡ x
+pub in_there : (r x : Run) → same_run r.key x ≡ false → in_place r x ≡ x
 unfolding in_place
 in_there r x a = rw a
 
@@ -172,12 +172,12 @@ executing_store id r l o h =
       arith,
       tally_each (executing id) (in_place r) l,
       once r.key l o,
-      tally_sums (λ x. executing id (in_place r x)) (goes r.key) (executing id) (is_run_lem r.key)
-          (λ x. go x (case (is_run_lem r.key x))) l,
+      tally_sums (λ x. executing id (in_place r x)) (goes r.key) (executing id) (same_run r.key)
+          (λ x. go x (case (same_run r.key x))) l,
     )
   where
-    go : (x : Run) → Case (is_run_lem r.key x)
-        → one (executing id (in_place r x)) + one (goes r.key x) ≤ one (executing id x) + one (is_run_lem r.key x)
+    go : (x : Run) → Case (same_run r.key x)
+        → one (executing id (in_place r x)) + one (goes r.key x) ≤ one (executing id x) + one (same_run r.key x)
     go x (is_true a) = unfold executing goes in
         (rw (rule_in_place id r x, in_here r x a, a) (table (of_rule id x) x.queued r.queued))
     go x (is_false a) = unfold goes in (rw (in_there r x a, a) (omega arith))
@@ -190,12 +190,12 @@ executing_more id r l o =
       arith,
       tally_each (executing id) (in_place r) l,
       once r.key l o,
-      tally_sums (λ x. executing id (in_place r x)) (λ x. false) (executing id) (is_run_lem r.key)
-          (λ x. go x (case (is_run_lem r.key x))) l,
+      tally_sums (λ x. executing id (in_place r x)) (λ x. false) (executing id) (same_run r.key)
+          (λ x. go x (case (same_run r.key x))) l,
     )
   where
-    go : (x : Run) → Case (is_run_lem r.key x)
-        → one (executing id (in_place r x)) + 0 ≤ one (executing id x) + one (is_run_lem r.key x)
+    go : (x : Run) → Case (same_run r.key x)
+        → one (executing id (in_place r x)) + 0 ≤ one (executing id x) + one (same_run r.key x)
     go x (is_true a) = rw a (omega (arith, at_most_one (executing id (in_place r x))))
     go x (is_false a) = rw (in_there r x a, a) (omega arith)
 
@@ -203,9 +203,9 @@ executing_more id r l o =
 pub executing_other : (id : Text) (r : Run) (l : List Run) → eq_t r.key.rule id ≡ false
     → tally (executing id) (each (in_place r) l) ≡ tally (executing id) l
 executing_other id r l n =
-    tally_each (executing id) (in_place r) l ∙ tally_same _ (executing id) (λ x. go x (case (is_run_lem r.key x))) l
+    tally_each (executing id) (in_place r) l ∙ tally_same _ (executing id) (λ x. go x (case (same_run r.key x))) l
   where
-    go : (x : Run) → Case (is_run_lem r.key x) → executing id (in_place r x) ≡ executing id x
+    go : (x : Run) → Case (same_run r.key x) → executing id (in_place r x) ≡ executing id x
     go x (is_true a) = unfold executing of_rule in (rw (in_here r x a, key_is r.key x a, n))
     go x (is_false a) = ap (executing id) (in_there r x a)
 
@@ -218,10 +218,10 @@ executing_less id k l n h =
       tally_keep (executing id) (other_run k) l,
       tally_never (λ x. false) (λ x. refl) l,
       tally_sums (λ x. other_run k x && executing id x) (goes k) (executing id) (λ x. false)
-          (λ x. go x (case (is_run_lem k x))) l,
+          (λ x. go x (case (same_run k x))) l,
     )
   where
-    go : (x : Run) → Case (is_run_lem k x)
+    go : (x : Run) → Case (same_run k x)
         → one (other_run k x && executing id x) + one (goes k x) ≤ one (executing id x) + 0
     go x (is_true a) = unfold other_run executing goes of_rule in (rw (a, key_is k x a, n) (omega arith))
     go x (is_false a) = unfold other_run goes in (rw a (omega arith))
@@ -242,15 +242,15 @@ goes_store k r l q =
       arith,
       tally_each (goes k) (in_place r) l,
       tally_le (goes k) (λ x. goes k (in_place r x))
-          (λ x. go x (case (is_run_lem r.key x))) l,
+          (λ x. go x (case (same_run r.key x))) l,
     )
   where
     by : (a b : Bool) → one (a && b) ≤ one (a && true)
     by true b = at_most_one b
     by false b = omega arith
 
-    go : (x : Run) → Case (is_run_lem r.key x) → one (goes k x) ≤ one (goes k (in_place r x))
+    go : (x : Run) → Case (same_run r.key x) → one (goes k x) ≤ one (goes k (in_place r x))
     go x (is_true a) =
-        unfold goes is_run_lem in (rw (in_here r x a, key_is r.key x a, q)
+        unfold goes same_run in (rw (in_here r x a, key_is r.key x a, q)
         (by (eq_t r.key.rule k.rule && eqb r.key.sequence k.sequence) (not x.queued)))
     go x (is_false a) = rw (in_there r x a) (omega arith)

@@ -20,7 +20,7 @@ use Rattle.engine_spec.specs.Modes.{
 }
 use Rattle.engine_spec.specs.Records.{Key, Run, Item, Engine}
 use Rattle.engine_spec.specs.Changes.{add, adds}
-use Rattle.engine_spec.specs.Engine.{is_run_lem, of_rule, of_other_rule}
+use Rattle.engine_spec.specs.Engine.{same_run, of_rule, of_other_rule}
 use Rattle.engine_spec.specs.Page.{same_key, steps, times_out, steps_in, steps_at, timeouts_at, InLine, waits_in_line}
 use Rattle.engine_spec.proofs.Lists.{
   Case,
@@ -55,26 +55,26 @@ other_stays id other t x o = by (case (eq_t x.key.rule other))
 -- ---- keys
 
 -- another run's key is another key
-pub keys_differ : (k : Key) (x : Run) → is_run_lem k x ≡ false → same_key k x.key ≡ false
+pub keys_differ : (k : Key) (x : Run) → same_run k x ≡ false → same_key k x.key ≡ false
 keys_differ k x h = by (case (same_key k x.key))
   where
     by : Case (same_key k x.key) → same_key k x.key ≡ false
     by (is_false b) = b
     by (is_true b) =
-        absurd (true≢false (sym (subst (λ (j : Key). is_run_lem j x ≡ true) (sym (keys_eq k x.key b)) (own_key x)) ∙ h))
+        absurd (true≢false (sym (subst (λ (j : Key). same_run j x ≡ true) (sym (keys_eq k x.key b)) (own_key x)) ∙ h))
 
 -- a run that is found is the only one with its key
 pub only_found : (q : Run → Bool) (l : List Run) (r : Run) → InOrder l → find q l ≡ some r
-    → Each (λ x. is_run_lem r.key x ≡ true → x ≡ r) l
+    → Each (λ x. same_run r.key x ≡ true → x ≡ r) l
 unfolding find
 only_found q [] r o e = tt
 only_found q (y ∷ l) r o e = go (case (q y)) (λ d. only_found q l r o.1 d)
   where
-    go : Case (q y) → (find q l ≡ some r → Each (λ x. is_run_lem r.key x ≡ true → x ≡ r) l)
-        → Each (λ x. is_run_lem r.key x ≡ true → x ≡ r) (y ∷ l)
+    go : Case (q y) → (find q l ≡ some r → Each (λ x. same_run r.key x ≡ true → x ≡ r) l)
+        → Each (λ x. same_run r.key x ≡ true → x ≡ r) (y ∷ l)
     go (is_true a) f =
         let same : y ≡ r = some_eq (simp a at e) in
-        let own : is_run_lem r.key y ≡ true = subst (λ (z : Run). is_run_lem z.key y ≡ true) same (own_key y) in (
+        let own : same_run r.key y ≡ true = subst (λ (z : Run). same_run z.key y ≡ true) same (own_key y) in (
           λ _. same,
           each_weak (Later y) _ (λ x g b. absurd (true≢false (sym b ∙ later_differs r.key y x own g))) l o.0,
         )
@@ -86,7 +86,7 @@ only_found q (y ∷ l) r o e = go (case (q y)) (λ d. only_found q l r o.1 d)
         )
 
 -- among runs in order, those that pass a test and have the key of one of them: itself, if it passes
-pub once_at : (q : Run → Bool) (l : List Run) → InOrder l → Each (λ x. tally (λ y. q y && is_run_lem x.key y) l ≡ one (q x)) l
+pub once_at : (q : Run → Bool) (l : List Run) → InOrder l → Each (λ x. tally (λ y. q y && same_run x.key y) l ≡ one (q x)) l
 unfolding tally
 once_at q [] o = tt
 once_at q (y ∷ l) o = (
@@ -94,11 +94,11 @@ once_at q (y ∷ l) o = (
     arith,
     ap (λ (b : Bool). one (q y && b)) (own_key y),
     one_true (q y),
-    tally_none (Later y) (λ z. q z && is_run_lem y.key z)
+    tally_none (Later y) (λ z. q z && same_run y.key z)
         (λ z g. no_and (q z) (later_differs y.key y z (own_key y) g)) l o.0,
   ),
-  each_both (Later y) (λ x. tally (λ z. q z && is_run_lem x.key z) l ≡ one (q x)) _
-      (λ x g t. omega (arith, t, ap one (no_and (q y) (before x g (case (is_run_lem x.key y)))))) l o.0
+  each_both (Later y) (λ x. tally (λ z. q z && same_run x.key z) l ≡ one (q x)) _
+      (λ x g t. omega (arith, t, ap one (no_and (q y) (before x g (case (same_run x.key y)))))) l o.0
       (once_at q l o.1),
 )
   where
@@ -110,19 +110,19 @@ once_at q (y ∷ l) o = (
     no_and true h = h
     no_and false h = refl
 
-    before : (x : Run) → Later y x → Case (is_run_lem x.key y) → is_run_lem x.key y ≡ false
+    before : (x : Run) → Later y x → Case (same_run x.key y) → same_run x.key y ≡ false
     before x g (is_false b) = b
     before x g (is_true b) = absurd (true≢false (sym (own_key x) ∙ later_differs x.key y x b g))
 
 -- whose key was queued is queued
 pub still_queued : (l : List Run) → InOrder l → Each (λ x. waits_in_line l x.key ≡ true → x.queued ≡ true) l
-unfolding waits_in_line is_run_lem same_key
+unfolding waits_in_line same_run same_key
 still_queued l o =
-    each_weak _ _ (λ x n h. by x n (some_pass (λ r. r.queued && is_run_lem x.key r) l h) (case x.queued)) l
+    each_weak _ _ (λ x n h. by x n (some_pass (λ r. r.queued && same_run x.key r) l h) (case x.queued)) l
     (once_at (λ r. r.queued) l o)
   where
-    by : (x : Run) → tally (λ r. r.queued && is_run_lem x.key r) l ≡ one x.queued
-        → 1 ≤ tally (λ r. r.queued && is_run_lem x.key r) l → Case x.queued → x.queued ≡ true
+    by : (x : Run) → tally (λ r. r.queued && same_run x.key r) l ≡ one x.queued
+        → 1 ≤ tally (λ r. r.queued && same_run x.key r) l → Case x.queued → x.queued ≡ true
     by x n h (is_true b) = b
     by x n h (is_false b) = absurd (omega (arith, n, h, ap one b))
 

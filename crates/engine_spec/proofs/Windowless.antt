@@ -70,16 +70,16 @@ use Rattle.engine_spec.specs.Changes.{
   with_queue,
 }
 use Rattle.engine_spec.specs.Engine.{
-  is_run_lem,
+  same_run,
   of_rule,
   other_run,
   of_other_rule,
-  in_line_lem,
+  queued_for,
   in_place,
   store,
   left,
   waits,
-  new_run_lem,
+  fresh_run,
   awaits,
   woken,
   toggled,
@@ -319,7 +319,7 @@ module _ (o : Moment) where
       pick false x k = k
 
       go : (x : Run) → Calm x → Calm (in_place r x)
-      go x k = pick (is_run_lem r.key x) x k
+      go x k = pick (same_run r.key x) x k
 
   module _ (now : ℕ) where
     s_log : (k : Kind) (id : Option Text) (s : Option Source) (d : Option Change) → Same (log now k id s d)
@@ -359,7 +359,7 @@ module _ (o : Moment) where
 
     s_release : (id : Text) → Same (release now id)
     unfolding release
-    s_release id = s_found (in_line_lem id) (let_go now) s_let_go
+    s_release id = s_found (queued_for id) (let_go now) s_let_go
 
     s_finish : (r : Run) → Same (finish now r)
     unfolding finish log_rule
@@ -381,9 +381,9 @@ module _ (o : Moment) where
         go r k = pick (awaits x from to r) r k
 
     s_begin : (r : Automation) → windowless_actions r.actions ≡ true → (later : Bool) → Same (begin now r later)
-    unfolding begin log_rule new_run_lem
+    unfolding begin log_rule fresh_run
     s_begin r w later =
-        with (λ e. new_run_lem r later e.made) Calm (λ e. refl) (λ e c. w)
+        with (λ e. fresh_run r later e.made) Calm (λ e. refl) (λ e c. w)
         (λ (run : Run) e.
         e
         ▸ add_run run
@@ -488,7 +488,7 @@ module _ (o : Moment) where
 
     s_resume : (k : Key) → Same (resume now k)
     unfolding resume
-    s_resume k = s_found (is_run_lem k) (step now) s_step
+    s_resume k = s_found (same_run k) (step now) s_step
 
     s_over : (w : Waiting) (r : Run) → Calm r → Same (wait_over now w r)
     unfolding wait_over log_action
@@ -503,7 +503,7 @@ module _ (o : Moment) where
 
     s_time_out : (k : Key) → Same (time_out now k)
     unfolding time_out
-    s_time_out k = s_found (is_run_lem k) (end_wait now) s_end_wait
+    s_time_out k = s_found (same_run k) (end_wait now) s_end_wait
 
     s_expire : (n : ℕ) (c : Cell) → Same (expire now n c)
     unfolding expire

@@ -88,22 +88,22 @@ use Rattle.engine_spec.specs.Records.{
 
 -- ---- runs
 
-unfoldable pub is_run_lem : Key → Run → Bool
-is_run_lem k r = eq_t r.key.rule k.rule && eqb r.key.sequence k.sequence
+unfoldable pub same_run : Key → Run → Bool
+same_run k r = eq_t r.key.rule k.rule && eqb r.key.sequence k.sequence
 
 unfoldable pub of_rule : Text → Run → Bool
 of_rule id r = eq_t r.key.rule id
 
 -- not this run; not a run of this automation
 unfoldable pub other_run : Key → Run → Bool
-other_run k r = not (is_run_lem k r)
+other_run k r = not (same_run k r)
 
 unfoldable pub of_other_rule : Text → Run → Bool
 of_other_rule id r = not (of_rule id r)
 
 -- a queued run of the automation
-unfoldable pub in_line_lem : Text → Run → Bool
-in_line_lem id r = of_rule id r && r.queued
+unfoldable pub queued_for : Text → Run → Bool
+queued_for id r = of_rule id r && r.queued
 
 -- a run of the automation that isn't queued
 unfoldable pub executing : Text → Run → Bool
@@ -111,7 +111,7 @@ executing id r = of_rule id r && not r.queued
 
 -- the run r in its own place
 unfoldable pub in_place : Run → Run → Run
-in_place r x = if is_run_lem r.key x then r else x
+in_place r x = if same_run r.key x then r else x
 
 unfoldable pub store : Run → Engine → Engine
 store r e = with_runs (each (in_place r) e.runs) e
@@ -127,8 +127,8 @@ abbrev pub released : Run → Run
 released r = record { key = r.key; number = r.number; actions = r.actions; waiting = r.waiting; queued = false }
 
 -- a new run of the automation, given the automations of the runs made so far
-unfoldable pub new_run_lem : Automation → (later : Bool) → List Text → Run
-new_run_lem r later made = record {
+unfoldable pub fresh_run : Automation → (later : Bool) → List Text → Run
+fresh_run r later made = record {
   key = record { rule = r.id; sequence = tally (eq_t r.id) made };
   number = length made + 1;
   actions = r.actions;
@@ -219,7 +219,7 @@ module _ (now : ℕ) where
 
   -- the first queued run of the automation goes on
   unfoldable pub release : Text → Engine → Engine
-  release id e = e ▸ if_some let_go (find (in_line_lem id) e.runs)
+  release id e = e ▸ if_some let_go (find (queued_for id) e.runs)
 
   unfoldable pub finish : Run → Engine → Engine
   finish r e =
@@ -238,7 +238,7 @@ module _ (now : ℕ) where
 
   unfoldable pub begin : Automation → (later : Bool) → Engine → Engine
   begin r later e =
-      let run = new_run_lem r later e.made in
+      let run = fresh_run r later e.made in
       e
       ▸ add_run run
       ▸ log_rule (if later then Kind.queued run.number else Kind.start run.number) r.id
@@ -325,7 +325,7 @@ module _ (now : ℕ) where
   step r e = if r.queued || not (absent r.waiting) then e else go_on r.actions r e
 
   unfoldable pub resume : Key → Engine → Engine
-  resume k e = e ▸ if_some step (find (is_run_lem k) e.runs)
+  resume k e = e ▸ if_some step (find (same_run k) e.runs)
 
   -- ---- the other work
 
@@ -341,7 +341,7 @@ module _ (now : ℕ) where
   end_wait r = if_some (λ w. wait_over w r) r.waiting
 
   unfoldable pub time_out : Key → Engine → Engine
-  time_out k e = e ▸ if_some end_wait (find (is_run_lem k) e.runs)
+  time_out k e = e ▸ if_some end_wait (find (same_run k) e.runs)
 
   -- the cell expires, if no later write came
   unfoldable pub expire : (version : ℕ) → Cell → Engine → Engine
@@ -449,8 +449,8 @@ closed h d =
 
 -- opens the file, for proofs by computation
 unfoldable pub all_engine : Unit {0}
-unfolding all_lists all_texts all_cells all_truth all_reasons all_changes undecided decide is_run_lem of_rule other_run
-    of_other_rule in_line_lem executing in_place store new_run_lem awaits woken toggled ◌then◌ select at_once next_step log log_rule
+unfolding all_lists all_texts all_cells all_truth all_reasons all_changes undecided decide same_run of_rule other_run
+    of_other_rule queued_for executing in_place store fresh_run awaits woken toggled ◌then◌ select at_once next_step log log_rule
     log_action expiry expiry_of change_of update let_go release finish wake begin carry_out admit offer trigger go_on_after
     write flip tested chosen begin_wait perform go_on step resume wait_over end_wait time_out expire go_stale drop_runs
     process sooner pop next_of loop event_item begun left_over last_record closed

@@ -70,15 +70,15 @@ module _ (ts ids : List Text) where
   automation_words none = 0 ∷ 0 ∷ []
   automation_words (some id) = 1 ∷ place_of id ids ∷ []
 
-  unfoldable pub change_words_lem : Option Change → List ℕ
-  change_words_lem none = 0 ∷ 0 ∷ 0 ∷ 0 ∷ []
-  change_words_lem (some c) = 1 ∷ place_of c.entity ts ∷ place_of c.before ts ∷ place_of c.after ts ∷ []
+  unfoldable pub words_of_change : Option Change → List ℕ
+  words_of_change none = 0 ∷ 0 ∷ 0 ∷ 0 ∷ []
+  words_of_change (some c) = 1 ∷ place_of c.entity ts ∷ place_of c.before ts ∷ place_of c.after ts ∷ []
 
   -- a record's 13 words
   unfoldable pub trace_words : Trace → List ℕ
   trace_words t =
       (t.at ∷ kind_number t.kind ∷ detail_number t.kind ∷ 0 ∷ [])
-      ++ (automation_words t.automation ++ (source_words t.source ++ change_words_lem t.change))
+      ++ (automation_words t.automation ++ (source_words t.source ++ words_of_change t.change))
 
 -- the texts of a file
 unfoldable pub texts_in : (file : List ℕ) → List Text

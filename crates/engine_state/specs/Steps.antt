@@ -1,7 +1,7 @@
 -- What a function does to the machine that its state and areas stand for.
 use Rattle.std.specs.Prelude.{ℕ, ◌+◌, ◌*◌, ◌/◌, ◌≤◌, ◌≡◌, List, length}
 use denote.Triple.Both.{Both}
-use Rattle.std.specs.Borrow.{Bor}
+use Rattle.std.specs.Borrow.{MutBor}
 use Rattle.layout.specs.Sizes.{simulation_reason_words}
 use Rattle.areas.specs.Areas.{area}
 use Rattle.queue.specs.Queue.{laid}
@@ -49,7 +49,7 @@ pub data Lent : Type 0 where
   goes : (b c : List ℕ) → Lent
 
 -- the area that a contract calls q: before and after
-abbrev pub by : Both (Bor (List ℕ)) (Bor (List ℕ)) → Lent
+abbrev pub by : Both (MutBor (List ℕ)) (MutBor (List ℕ)) → Lent
 by q = goes q.entry.now q.exit.now
 
 -- the area of reasons, with the file

@@ -1,6 +1,7 @@
 // The state of a simulation, and the primitive changes of the state and of its areas.
 // Three arrays belong to the state and are lent to the functions that need them: by entity the values, as text places, and
 // the versions, which count the writes; by automation the sequences, which count the runs that it has made.
+#![tactic(auto)]
 ghost use Rattle.layout.specs.Sizes.{simulation_reason_words};
 ghost use Rattle.std.specs.Prelude.{◌≡◌, ◌+◌, ◌*◌, ◌≤◌, ◌<◌, length};
 ghost use Rattle.reasons.specs.Readable.{Readable, HasText};
@@ -24,7 +25,7 @@ use records::{Change, Record, Rule, Where};
 use runs::{Run, Source};
 
 // What the entities have at the start: values and versions.
-#[derive(Drop)]
+#[derive(Clone, Copy)]
 pub struct Cells {
     pub values: [u32; 32],
     pub versions: [u32; 32],
@@ -32,7 +33,7 @@ pub struct Cells {
 
 // The queue has `items` entries from the entry `queue_start` of its area on.
 // `overflow` is 0, or the number of the first area that had no place for an entry: nothing goes in after that.
-#[derive(Drop)]
+#[derive(Clone, Copy)]
 pub struct State {
     pub now: u32,
     pub items: usize,
@@ -45,14 +46,14 @@ pub struct State {
 }
 
 // What a record says: its kind, and a number or a place.
-#[derive(Drop)]
+#[derive(Clone, Copy)]
 pub struct Told {
     pub kind: u32,
     pub detail: u32,
 }
 
 // A change of an entity from one value to another.
-#[derive(Drop)]
+#[derive(Clone, Copy)]
 pub struct Move {
     pub entity: u32,
     pub from: u32,
@@ -60,7 +61,7 @@ pub struct Move {
 }
 
 // What is written, and by whom.
-#[derive(Drop)]
+#[derive(Clone, Copy)]
 pub struct Setting {
     pub entity: u32,
     pub value: u32,

@@ -1,4 +1,5 @@
 // The answer of `simulate`, from what a run tells.
+#![tactic(auto)]
 ghost use Rattle.std.specs.Prelude.{◌≡◌, ◌≤◌};
 ghost use Rattle.engine_summary.specs.Summary.{no_simulation, simulation_of};
 ghost use Rattle.engine_summary.specs.Summaries.{Firsts, Summed, Answered};
@@ -10,7 +11,7 @@ use layout::SimulationReasons;
 // `refused` is 0 or the refusal's number; then the rest is 0. As many `records` stand in the record area. `values` are the
 // places of the entities' values at the end, `unknown` counts the reasons in `reasons`. `stop_reason` is 0, or 1 if
 // records or items were spent, 2 if steps were; `runs_left`: runs were left.
-#[derive(Drop)]
+#[derive(Clone, Copy)]
 pub struct Simulation {
     pub refused: u32,
     pub steps: u32,
@@ -39,7 +40,7 @@ pub fn refused(number: u32) -> Simulation
     }
 }
 
-#[derive(Drop)]
+#[derive(Clone, Copy)]
 pub struct Values {
     pub places: [u32; 32],
 }
@@ -59,7 +60,7 @@ fn first_values(values: [u32; 32], n: usize) -> Values
 }
 
 // A simulation without the words of its reasons.
-#[derive(Drop)]
+#[derive(Clone, Copy)]
 pub struct Summary {
     pub refused: u32,
     pub steps: u32,

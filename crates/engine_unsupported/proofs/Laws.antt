@@ -72,7 +72,7 @@ module _ (k : Listing) (f : List ℕ) (p : ℕ) (l : List Text) where
 -- ---- actions
 
 pub source_is : (f : List ℕ) (l c m a : ℕ) → a ≡ text_position f m →
-    record { kind = kinds.source_note_lem; first = 4294967295; second = a; line = l; column = c } ≡ source_note f l c m
+    record { kind = kinds.source_note_kind; first = 4294967295; second = a; line = l; column = c } ≡ source_note f l c m
 unfolding source_note
 source_is f l c m a e = rw e
 

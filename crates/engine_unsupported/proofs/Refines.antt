@@ -101,7 +101,7 @@ read_got : {A : Type 0} (f : List ℕ) (p : ℕ) (r : Reader ℕ) (z : A) (k : �
 unfolding found
 read_got f p r z k {v} {q} e = notes.read_is f p r z k {x = num.Is v q} (sym e) refl
 
-source_words : words kinds.source_note_lem ≡ text ": "
+source_words : words kinds.source_note_kind ≡ text ": "
 unfolding words
 source_words = refl
 

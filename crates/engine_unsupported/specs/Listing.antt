@@ -39,7 +39,7 @@ head_of f p =
     (λ c t. read u8 (no_head p) (λ k o. record { line = l; column = c; kind = k; next = o }) f t) f q) f p
 
 unfoldable pub source_note : List ℕ → (line column note : ℕ) → Reason
-source_note f l c m = record { kind = kinds.source_note_lem; first = 4294967295; second = text_position f m; line = l; column = c }
+source_note f l c m = record { kind = kinds.source_note_kind; first = 4294967295; second = text_position f m; line = l; column = c }
 
 unfoldable pub source_m : (line column note : ℕ) → Listing
 source_m l c m f p t = after p (insert_m (render f (source_note f l c m)) t)

@@ -1,6 +1,7 @@
 // The notes of the automations as reasons, sorted as they are rendered, each once. The file was read before, so that what
 // is looked for is there; a part that is not there is passed over. A file holds at most 64 notes: the area has place for
 // 300.
+#![tactic(auto)]
 ghost use Rattle.layout.specs.Sizes.{simulation_reason_words};
 ghost use Rattle.std.specs.Prelude.{◌≡◌, ℕ, ◌≤◌, ◌<◌, length, get_or};
 ghost use Rattle.reasons.specs.Lists.{Holds};
@@ -25,7 +26,7 @@ use model_walk::Num;
 use reasons::Reason;
 
 // What stands before an action's effect.
-#[derive(Drop)]
+#[derive(Clone, Copy)]
 pub struct Head {
     pub line: u32,
     pub column: u32,

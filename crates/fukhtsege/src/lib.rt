@@ -1,5 +1,6 @@
 // The entries for C (include/fukhtsege.h): the answer goes as numbers into a lent slice, and the result is 0, the refusal's
 // number, or 47 if that slice is too short; then nothing else happens.
+#![tactic(auto)]
 ghost use Rattle.std.specs.Prelude.{◌≡◌};
 ghost use Rattle.engine_entry.specs.Contract.{lent};
 ghost use Rattle.lint_spec.specs.Memory as lint;

@@ -1,5 +1,6 @@
 // Numbers that several crates go by, each in one place: the table's words, the sizes of lists and areas. The kinds of
 // records stand in crate records, those of reasons in crate reasons.
+#![tactic(auto)]
 
 // ---- the table that a simulation goes by (crate engine_table)
 

@@ -1,10 +1,11 @@
 // The findings and interactions in two lent areas of words: 14 words for a finding, 3 for an interaction.
 // The first insertion that its area has no place for is noted, and nothing is inserted after it.
+#![tactic(auto)]
 ghost use Rattle.std.specs.Prelude.{◌≡◌, ◌+◌, ◌*◌, ◌<◌, List, ◌∷◌, [], ℕ, length, replicate};
 ghost use Rattle.lint_areas.specs.Areas.{board, pushes, finding, interaction, only_if};
 
 // How many entries each area holds, and 45 or 46 after the first that found no place, else 0.
-#[derive(Drop)]
+#[derive(Clone, Copy)]
 pub struct Out {
     pub findings: usize,
     pub interactions: usize,

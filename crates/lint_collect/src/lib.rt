@@ -1,4 +1,5 @@
 // The entries of all automations, in the order in which Rust adds them.
+#![tactic(auto)]
 ghost use Rattle.std.specs.Prelude.{◌≡◌, List, ℕ, ◌≤◌, ◌<◌, ◌+◌};
 ghost use Rattle.lint_reach.specs.Cycles.{Cycles};
 ghost use Rattle.lint_areas.specs.Areas.{board, pushes};
@@ -377,7 +378,7 @@ pub fn cycle_entries(
 // ---- all but the notes
 
 // The counts of entries or the refusal, and the components.
-#[derive(Drop)]
+#[derive(Clone, Copy)]
 pub struct Linted {
     pub out: Out,
     pub found: Components,

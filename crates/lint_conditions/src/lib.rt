@@ -1,4 +1,5 @@
 // What lint asks of predicates, triggers, actions, invariants and entities, on places in the file.
+#![tactic(auto)]
 ghost use Rattle.std.specs.Prelude.{◌≡◌, ◌≤◌, ◌<◌, ◌+◌, ◌-◌};
 ghost use Rattle.lint_walk.specs.Walks.{walk_by};
 ghost use Rattle.lint_conditions.specs.Context.{section_of, names_by};
@@ -27,7 +28,7 @@ use model_parts::{Extent, Section};
 
 // What a test needs of a model: its declared entities, its invariants, and the places of `on`, `off` and `*`; the number of
 // texts for no `*`.
-#[derive(Drop)]
+#[derive(Clone, Copy)]
 pub struct Names {
     pub entities: Section,
     pub invariants: Section,
@@ -37,7 +38,7 @@ pub struct Names {
 }
 
 // The same of a model, and of its automations, where the positions are lent.
-#[derive(Drop)]
+#[derive(Clone, Copy)]
 pub struct Given {
     pub entities: Extent,
     pub invariants: Extent,

@@ -1,5 +1,6 @@
 // The entry `lint`: the findings and interactions of a model file in two lent areas, and with the answer the components of
 // trigger cycles, and what each automation reads and writes.
+#![tactic(auto)]
 ghost use Rattle.std.specs.Prelude.{◌≡◌, ◌≤◌, ◌<◌};
 ghost use Rattle.lint_spec.specs.Memory.{lent};
 ghost use Rattle.lint_areas.specs.Areas.{board};
@@ -19,7 +20,7 @@ use model_parts::Extent;
 // The first `components` of `cycles` are the components, as sets of automations by number. `reads` and `writes` are sets of
 // declared entities, by automation. The first `undeclared` of `names` are the places of names that no entity has and that
 // the automations at the same places of `readers` read.
-#[derive(Drop)]
+#[derive(Clone, Copy)]
 pub struct Report {
     pub refused: u32,
     pub findings: usize,
@@ -52,7 +53,7 @@ fn refused(number: u32) -> Report
 
 // ---- sets
 
-#[derive(Drop)]
+#[derive(Clone, Copy)]
 pub struct Sets {
     pub list: [u32; 32],
 }
@@ -72,7 +73,7 @@ fn first_sets(sets: [u32; 32], n: usize) -> Sets
 }
 
 // The declared entities that each automation reads, and those that it writes.
-#[derive(Drop)]
+#[derive(Clone, Copy)]
 pub struct Touched {
     pub reads: [u32; 32],
     pub writes: [u32; 32],

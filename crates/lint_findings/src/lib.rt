@@ -1,4 +1,5 @@
 // The findings and interactions of each automation, in the order in which Rust adds them.
+#![tactic(auto)]
 ghost use Rattle.std.specs.Prelude.{◌≡◌, List, ℕ, ◌≤◌, ◌<◌};
 ghost use Rattle.lint_walk.specs.Walks.{walk_by};
 ghost use Rattle.lint_areas.specs.Areas.{board, pushes};
@@ -27,7 +28,7 @@ use lint_conditions::Given;
 use model_parts::Extent;
 
 // An automation: its number, the set of it alone, the highest tier that it writes, its source.
-#[derive(Drop)]
+#[derive(Clone, Copy)]
 pub struct About {
     pub number: u32,
     pub set: u32,

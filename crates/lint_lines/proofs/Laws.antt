@@ -35,7 +35,7 @@ use Rattle.lint_lines.specs.Lines.{
 use Rattle.lint_lines.specs.Numbers.{
   source_at,
   rule_source,
-  note_of_lem,
+  note_reason_of,
   sources_of,
   finding_of,
   finding_text,
@@ -119,12 +119,12 @@ pub note_is : (w : List ℕ) → record {
   second = get_or w 11 0;
   line = get_or w 12 0;
   column = get_or w 13 0;
-} ≡ note_of_lem w
-unfolding note_of_lem
+} ≡ note_reason_of w
+unfolding note_reason_of
 note_is w = refl
 
-pub finding_is : (f : List ℕ) (i : Index) (w : List ℕ) (e : ℕ) (r : Reason) → e ≡ get_or w 3 0 → r ≡ note_of_lem w →
-    kind_part (code_name (problem_of (name_of f i.entities (get_or w 3 0)) (render f (note_of_lem w)) (get_or w 0 0)))
+pub finding_is : (f : List ℕ) (i : Index) (w : List ℕ) (e : ℕ) (r : Reason) → e ≡ get_or w 3 0 → r ≡ note_reason_of w →
+    kind_part (code_name (problem_of (name_of f i.entities (get_or w 3 0)) (render f (note_reason_of w)) (get_or w 0 0)))
     (certainty_of (get_or w 1 0)) (tier_of (get_or w 2 0))
     ++ (quoted (message (problem_of (name_of f i.entities e) (render f r) (get_or w 0 0))) ++ places_part
     (names_of f i.rules (get_or w 4 0)) (sources_of f i.rules w))

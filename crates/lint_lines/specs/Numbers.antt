@@ -28,8 +28,8 @@ rule_source f s i = source_at f (walk_m f (start_at s i)).next
 
 -- ---- a finding's 14 words
 
-unfoldable pub note_of_lem : (w : List ℕ) → Reason
-note_of_lem w = record {
+unfoldable pub note_reason_of : (w : List ℕ) → Reason
+note_reason_of w = record {
   kind = get_or w 9 0;
   first = get_or w 10 0;
   second = get_or w 11 0;
@@ -52,7 +52,7 @@ sources_of f s w =
 
 unfoldable pub finding_of : (f : List ℕ) → Index → (w : List ℕ) → Finding
 finding_of f i w = record {
-  problem = problem_of (name_of f i.entities (get_or w 3 0)) (render f (note_of_lem w)) (get_or w 0 0);
+  problem = problem_of (name_of f i.entities (get_or w 3 0)) (render f (note_reason_of w)) (get_or w 0 0);
   automations = names_of f i.rules (get_or w 4 0);
   sources = sources_of f i.rules w;
   tier = tier_of (get_or w 2 0);

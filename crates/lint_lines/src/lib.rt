@@ -1,5 +1,6 @@
 // The lines of the findings, interactions and components of `lint`'s answer, and of their counts. The writers put texts
 // behind the first n bytes of a lent area, as those of `show` do. f is the model file.
+#![tactic(auto)]
 ghost use Rattle.std.specs.Prelude.{◌≡◌, [], ◌∷◌, ◌≤◌, ◌<◌, length, get_or};
 ghost use Rattle.texts.specs.Lists.{if◌then◌else◌, each};
 ghost use Rattle.texts.specs.Texts.{Text};
@@ -18,7 +19,7 @@ ghost use Rattle.lint_lines.specs.Lines.{
 ghost use Rattle.lint_words.specs.Numbers.{names_of, problem_of, certainty_of, tier_of};
 ghost use Rattle.lint_lines.specs.Numbers.{
   rule_source,
-  note_of_lem,
+  note_reason_of,
   sources_of,
   finding_text,
   finding_at,
@@ -124,7 +125,7 @@ fn put_places(out: &mut [u8], n: usize, f: &[u8], rules: Section, w: &[u32]) -> 
 // The reason among a finding's words.
 fn note_of(w: &[u32]) -> Reason
     requires { 14 ≤ length w.now }
-    ensures { result ≡ note_of_lem w.now }
+    ensures { result ≡ note_reason_of w.now }
 {
     Reason {
         kind: w[9],

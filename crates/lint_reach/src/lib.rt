@@ -1,4 +1,5 @@
 // Sets of at most 32 places as bits, and reach: a square of yes-or-no cells, closed, and the components of its cycles.
+#![tactic(auto)]
 ghost use Rattle.std.specs.Prelude.{◌≡◌, ◌<◌, ◌≤◌, ◌^◌, ltb, length, take};
 ghost use Rattle.std.specs.Int.Bits.{bit_or};
 ghost use Rattle.std.specs.Int.Count.{ones};
@@ -115,7 +116,7 @@ fn both(reach: [[bool; 32]; 32], i: usize, j: usize) -> bool
 }
 
 // The components, each as a set of places: the first `count` of `sets`. The places in them: `assigned`.
-#[derive(Drop)]
+#[derive(Clone, Copy)]
 pub struct Components {
     pub count: usize,
     pub assigned: u32,

@@ -1,5 +1,6 @@
 // The lines of what each automation reads and writes, in `lint`'s answer. The writers put texts behind the first n bytes of
 // a lent area, as those of `show` do. f is the model file.
+#![tactic(auto)]
 ghost use Rattle.std.specs.Prelude.{◌≡◌, [], ◌∷◌, ◌+◌, ◌<◌, ltb, length};
 ghost use Rattle.texts.specs.Lists.{if◌then◌else◌, each, through};
 ghost use Rattle.lint_reach.specs.Sets.{members};

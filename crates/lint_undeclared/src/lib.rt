@@ -1,4 +1,5 @@
 // The undeclared names that automations read: the entities of waits whose triggers have notes. A model has at most 64.
+#![tactic(auto)]
 ghost use Rattle.std.specs.Prelude.{◌≡◌, ◌≤◌, ◌<◌, ◌+◌};
 ghost use Rattle.lint_walk.specs.Walks.{walk_by};
 ghost use Rattle.lint_conditions.specs.Context.{section_of};
@@ -33,7 +34,7 @@ fn awaits(s: &[u8], list: &ActionPositions, count: usize, place: u32) -> bool
 }
 
 // The first `count` of `names`, as places, and the automations that read them, by number; then zeros.
-#[derive(Drop)]
+#[derive(Clone, Copy)]
 pub struct Undeclared {
     pub count: usize,
     pub names: [u32; 64],

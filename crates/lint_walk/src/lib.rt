@@ -1,5 +1,6 @@
 // Reading of an accepted model file by position: numbers, where parts end, and an automation's actions in the order of
 // Rust's walk. The file was read before, so that what is looked for is there; past the end of the file numbers are 0.
+#![tactic(auto)]
 ghost use Rattle.std.specs.Prelude.{◌≡◌, ◌+◌, ◌<◌, replicate};
 ghost use Rattle.lint_walk.specs.Raw.{
   byte_m,
@@ -150,7 +151,7 @@ fn actions_at(s: &[u8], at: usize) -> usize
 // ---- walking
 
 // The positions of the actions so far, the first `count` of `list`, and the position that is next: what contracts speak of.
-#[derive(Drop)]
+#[derive(Clone, Copy)]
 pub struct Walk {
     pub list: ActionPositions,
     pub count: usize,
@@ -158,7 +159,7 @@ pub struct Walk {
 }
 
 // How many positions are listed so far, and the position that is next: a walk without its list, which is lent.
-#[derive(Drop)]
+#[derive(Clone, Copy)]
 pub struct Cursor {
     pub count: usize,
     pub next: usize,

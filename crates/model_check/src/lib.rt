@@ -1,5 +1,6 @@
 // Checks of places, values, predicates and triggers in a model file: what `validate` tests of each, in its order.
 // The file was read before, so that what is looked for is there; a check that finds the file rules broken says 30.
+#![tactic(auto)]
 ghost use Rattle.std.specs.Prelude.{◌≡◌, ◌+◌, ◌≤◌, ◌<◌};
 ghost use Rattle.model_spec.specs.Validate.{bad_window};
 ghost use Rattle.model_check.specs.Checks.{
@@ -29,7 +30,7 @@ use model_parts::Section;
 use model_walk::Num;
 
 // The position after a part that passed and the actions counted so far, or the refusal.
-#[derive(Drop)]
+#[derive(Clone, Copy)]
 pub enum Checked {
     To(usize, u32),
     Refused(u32),
@@ -37,7 +38,7 @@ pub enum Checked {
 
 // What a model declares beside the positions of its entities, which are lent: how many entities there are, and the
 // places of the four fixed texts.
-#[derive(Drop)]
+#[derive(Clone, Copy)]
 pub struct Declared {
     pub count: u32,
     pub on: u32,

@@ -1,4 +1,5 @@
 // The reader of a model file: its index, or 30 or 31.
+#![tactic(auto)]
 ghost use Rattle.std.specs.Prelude.{◌≡◌, List, ℕ};
 ghost use Rattle.model_spec.specs.File.{decode};
 ghost use Rattle.model_parts.specs.Parts.{no_starts, section};
@@ -10,7 +11,7 @@ use model_parts::{Extent, Part, Section};
 use model_walk::{Num, Walked};
 
 // Where the parts of a model file stand.
-#[derive(Drop)]
+#[derive(Clone, Copy)]
 pub struct Index {
     pub version: u32,
     pub texts: Section,
@@ -25,7 +26,7 @@ pub struct Index {
 }
 
 // What stands before the alphabet, but for the positions.
-#[derive(Drop)]
+#[derive(Clone, Copy)]
 pub struct Front {
     pub version: u32,
     pub texts: Extent,
@@ -35,21 +36,21 @@ pub struct Front {
     pub invariants: Extent,
 }
 
-#[derive(Drop)]
+#[derive(Clone, Copy)]
 pub enum Status {
     Read,
     Refused(u32),
 }
 
 // What reading a file gives: whether it was read, and its index.
-#[derive(Drop)]
+#[derive(Clone, Copy)]
 pub struct File {
     pub status: Status,
     pub index: Index,
 }
 
 // What reading a file gives, but for the positions.
-#[derive(Drop)]
+#[derive(Clone, Copy)]
 pub struct Outline {
     pub status: Status,
     pub front: Front,

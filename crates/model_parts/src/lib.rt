@@ -1,4 +1,5 @@
 // Walks over the parts that stand in a section of a model file, and a section: its count, and where its parts start.
+#![tactic(auto)]
 ghost use Rattle.std.specs.Prelude.{◌≡◌};
 ghost use Rattle.model_parts.specs.Parts.{
   text_m,
@@ -19,7 +20,7 @@ use layout::Positions;
 use model_walk::{Num, Piece, Walked};
 
 // What a section is a list of. Texts don't name texts; any other part does.
-#[derive(Drop)]
+#[derive(Clone, Copy)]
 pub enum Part {
     Text,
     Entity,
@@ -31,7 +32,7 @@ pub enum Part {
 }
 
 // The count of a section's parts, the positions of the first 100 of them, then zeros; and where it ends.
-#[derive(Drop)]
+#[derive(Clone, Copy)]
 pub struct Section {
     pub count: u32,
     pub starts: Positions,
@@ -39,7 +40,7 @@ pub struct Section {
 }
 
 // A section but for the positions.
-#[derive(Drop)]
+#[derive(Clone, Copy)]
 pub struct Extent {
     pub count: u32,
     pub end: Walked,

@@ -1,4 +1,5 @@
 // The model file with other events: the sections before them, the new events section, the later sections.
+#![tactic(auto)]
 ghost use Rattle.std.specs.Prelude.{◌≡◌, ◌++◌, ◌+◌, ◌*◌, ◌≤◌, ◌<◌, length, drop};
 ghost use Rattle.model_spec.specs.Rewrite.{bytes2};
 ghost use Rattle.model_rewrite.specs.Span.{span_m, body_m, nowhere};
@@ -16,7 +17,7 @@ use model_parts::Part;
 use model_walk::Walked;
 
 // The events section of a file: its count stands at `start`, and it ends before `end`.
-#[derive(Drop)]
+#[derive(Clone, Copy)]
 pub struct Span {
     pub start: usize,
     pub end: usize,

@@ -1,4 +1,5 @@
 // Checks of the parts of a section: what `validate` tests of entities, events, the alphabet, invariants and automations.
+#![tactic(auto)]
 ghost use Rattle.std.specs.Prelude.{◌≡◌, ◌≤◌};
 ghost use Rattle.model_check.specs.Checks.{declaration};
 ghost use Rattle.model_sections.specs.Sections.{
@@ -37,7 +38,7 @@ use model_check::{Checked, Declared};
 use model_walk::Num;
 
 // What a section is a list of.
-#[derive(Drop)]
+#[derive(Clone, Copy)]
 pub enum Part {
     Entity,
     Event,

@@ -1,4 +1,5 @@
 // `validate`: the refusals 1 to 19, 50 and 51 of a model file that was read, in the order of Rust's `validate`.
+#![tactic(auto)]
 ghost use Rattle.std.specs.Prelude.{◌≡◌, ◌≤◌};
 ghost use Rattle.model_spec.specs.Validate.{accepted, bad_limits};
 ghost use Rattle.model_parts.specs.Parts.{no_starts};
@@ -30,7 +31,7 @@ pub const FORMAT_VERSION: u32 = 1;
 
 // The numbers of an index: where the title and the limits stand, and how many parts each section has. The entities' is in
 // what the model declares.
-#[derive(Drop)]
+#[derive(Clone, Copy)]
 pub struct Numbers {
     pub version: u32,
     pub title: usize,
@@ -43,7 +44,7 @@ pub struct Numbers {
     pub behind: Walked,
 }
 
-#[derive(Drop)]
+#[derive(Clone, Copy)]
 pub enum Validity {
     Accepted,
     Refused(u32),

@@ -1,4 +1,5 @@
 // Walks over the parts of a model file: where a part ends, and the notes so far.
+#![tactic(auto)]
 ghost use Rattle.std.specs.Prelude.{◌≡◌, ◌+◌};
 ghost use Rattle.model_spec.specs.File.{u8, u16, u32};
 ghost use Rattle.model_walk.specs.Walk.{
@@ -23,21 +24,21 @@ ghost use Rattle.model_walk.specs.Walk.{
 };
 
 // A number and the position after it.
-#[derive(Drop)]
+#[derive(Clone, Copy)]
 pub enum Num {
     Is(u32, usize),
     Broken,
 }
 
 // The position after a part, and the notes so far: 65 stands for any number that is too large.
-#[derive(Drop)]
+#[derive(Clone, Copy)]
 pub enum Walked {
     To(usize, u32),
     Broken,
 }
 
 // Parts that stand in lists and hold no list.
-#[derive(Drop)]
+#[derive(Clone, Copy)]
 pub enum Piece {
     Place,
     Note,

@@ -1,6 +1,7 @@
 // The answer of `check`, printed line by line through a lent area of bytes, for `showcheck` (bare) and `showfullcheck`.
 // No contract can say what is printed; the lines are those of `check_lines`, `simulate_lines` and `record_lines`, and their
 // order is the order of the calls here.
+#![tactic(auto)]
 ghost use Rattle.std.specs.Prelude.{◌≤◌};
 ghost use Rattle.show.specs.Writing.{Written};
 ghost use Rattle.print_check.specs.Answer.{first_line};

@@ -1,5 +1,6 @@
 // The answer of `minimize`, and what the lines of `verify` share with it, printed line by line through a lent area of bytes.
 // No contract can say what is printed; the order of the lines is the order of the calls here.
+#![tactic(auto)]
 ghost use Rattle.std.specs.Prelude.{◌≡◌, ◌+◌, ◌*◌, ◌≤◌, length};
 ghost use Rattle.show.specs.Lines.{quoted};
 ghost use Rattle.show.specs.Writing.{Written};
@@ -17,7 +18,7 @@ use check_lines::Form;
 use reduce_result::Minimized;
 
 // Where the next text goes, and how many bytes of the lent output are the new file.
-#[derive(Drop)]
+#[derive(Clone, Copy)]
 pub struct Printed {
     pub next: usize,
     pub written: usize,

@@ -1,6 +1,7 @@
 // The answers of `unsupported` and `simulate`, printed line by line through a lent area of bytes.
 // No contract can say what is printed; the lines are those of `simulate_lines` and `record_lines`, and their order is the
 // order of the calls here. None is lost if `out` has room for the longest one (`Kept`).
+#![tactic(auto)]
 
 ghost use Rattle.std.specs.Prelude.{◌≤◌};
 ghost use Rattle.show.specs.Writing.{Kept};

@@ -45,6 +45,7 @@ ascending_insert t (from {x} {l} r) = go (three t x)
     go (gt h) = rw (further l h) (from (rising_insert h r))
 
 above : {x y : Text} {l : List Text} → Rising x l → Among y l → Before x y
+above {y = y} stop x7 = elim x7 [ ]
 above (step p r) (here e) = rw e p
 above (step p r) (there q) = trans p (above r q)
 

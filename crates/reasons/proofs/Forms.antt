@@ -8,7 +8,7 @@ use Rattle.texts.specs.Texts.{text, decimal, digits, order_t, eq_t, lt_t}
 use Rattle.texts.specs.Places.{text_at}
 use Rattle.texts.specs.declared.Order.TheVariants.{Less, Greater}
 use Rattle.texts.proofs.Laws.{absent}
-use Rattle.reasons.specs.Kinds.{Kind, kinds, no_kind, source_note_lem}
+use Rattle.reasons.specs.Kinds.{Kind, kinds, no_kind, source_note_kind}
 use Rattle.reasons.specs.Reasons.{words_file, words, placed, body, render}
 use Rattle.reasons.proofs.Rendering.{with_source, without}
 
@@ -38,26 +38,26 @@ orders = refl
 
 module _ (f : List ℕ) (small : length f ≤ 4294967295) (k a b l c : ℕ) where
   -- words alone, words behind one text, words between two texts
-  pub just_words : (k ≡ source_note_lem → ⊥) → render f
+  pub just_words : (k ≡ source_note_kind → ⊥) → render f
       (record { kind = k; first = 4294967295; second = 4294967295; line = l; column = c }) ≡ words k
   unfolding body
   just_words n = without f (record { kind = k; first = 4294967295; second = 4294967295; line = l; column = c }) n
       ∙ rw (absent f 4294967295 small) (append-nil (words k))
 
-  pub text_words : (k ≡ source_note_lem → ⊥) → render f
+  pub text_words : (k ≡ source_note_kind → ⊥) → render f
       (record { kind = k; first = a; second = 4294967295; line = l; column = c }) ≡ text_at f a ++ words k
   unfolding body
   text_words n = without f (record { kind = k; first = a; second = 4294967295; line = l; column = c }) n
       ∙ rw (absent f 4294967295 small, append-nil (words k))
 
-  pub text_words_text : (k ≡ source_note_lem → ⊥) → render f (record { kind = k; first = a; second = b; line = l; column = c })
+  pub text_words_text : (k ≡ source_note_kind → ⊥) → render f (record { kind = k; first = a; second = b; line = l; column = c })
       ≡ text_at f a ++ (words k ++ text_at f b)
   unfolding body
   text_words_text n = without f (record { kind = k; first = a; second = b; line = l; column = c }) n
 
   -- LINE:COLUMN: note
-  pub with_place : render f (record { kind = source_note_lem; first = 4294967295; second = b; line = l; column = c })
-      ≡ decimal l ++ (58 ∷ decimal c) ++ (words source_note_lem ++ text_at f b)
+  pub with_place : render f (record { kind = source_note_kind; first = 4294967295; second = b; line = l; column = c })
+      ≡ decimal l ++ (58 ∷ decimal c) ++ (words source_note_kind ++ text_at f b)
   unfolding body placed
-  with_place = with_source f (record { kind = source_note_lem; first = 4294967295; second = b; line = l; column = c }) refl
+  with_place = with_source f (record { kind = source_note_kind; first = 4294967295; second = b; line = l; column = c }) refl
       ∙ rw (absent f 4294967295 small)

@@ -10,7 +10,7 @@ use Rattle.texts.specs.Texts.{Text, decimal}
 use Rattle.texts.specs.Places.{text_at, seek}
 use Rattle.texts.specs.declared.Seek.TheVariants.{Here, Left}
 use Rattle.texts.proofs.Laws.{seek_here, seek_left, seek_in}
-use Rattle.reasons.specs.Kinds.{source_note_lem}
+use Rattle.reasons.specs.Kinds.{source_note_kind}
 use Rattle.reasons.specs.Reasons.{words, placed, body, render}
 use Rattle.reasons.specs.declared.Reason.{Reason}
 
@@ -39,13 +39,13 @@ module _ (line column i : ℕ) where
       next (suc j) z = ap (seek (decimal column)) (sub-one (suc j))
 
 module _ (f : List ℕ) (r : Reason) where
-  pub with_source : r.kind ≡ source_note_lem → render f r ≡ placed r.line r.column ++ body f r
+  pub with_source : r.kind ≡ source_note_kind → render f r ≡ placed r.line r.column ++ body f r
   unfolding render
-  with_source e = rw (eq-eqb r.kind source_note_lem e)
+  with_source e = rw (eq-eqb r.kind source_note_kind e)
 
-  pub without : (r.kind ≡ source_note_lem → ⊥) → render f r ≡ body f r
+  pub without : (r.kind ≡ source_note_kind → ⊥) → render f r ≡ body f r
   unfolding render
-  without e = rw (ne_eqb r.kind source_note_lem e)
+  without e = rw (ne_eqb r.kind source_note_kind e)
 
   pub first_byte : (i b : ℕ) → Here b ≡ seek (text_at f r.first) i → Here b ≡ seek (body f r) i
   unfolding body
@@ -66,15 +66,15 @@ module _ (f : List ℕ) (r : Reason) where
   unfolding body
   body_length x y z p q s = simp length-append (omega arith)
 
-  pub source_length : (x y n : ℕ) → r.kind ≡ source_note_lem → x ≡ length (decimal r.line) →
+  pub source_length : (x y n : ℕ) → r.kind ≡ source_note_kind → x ≡ length (decimal r.line) →
       y ≡ length (decimal r.column) → n ≡ length (body f r) → x + 1 + y + n ≡ length (render f r)
   unfolding placed
   source_length x y n e p q s = rw (with_source e) (simp length-append (omega arith))
 
-  pub source_byte : (i b : ℕ) → r.kind ≡ source_note_lem → Here b ≡ seek (placed r.line r.column) i →
+  pub source_byte : (i b : ℕ) → r.kind ≡ source_note_kind → Here b ≡ seek (placed r.line r.column) i →
       Here b ≡ seek (render f r) i
   source_byte i b e g = rw (with_source e) (seek_here (placed r.line r.column) (body f r) i b g)
 
-  pub past_source : (i j : ℕ) → r.kind ≡ source_note_lem → Left j ≡ seek (placed r.line r.column) i →
+  pub past_source : (i j : ℕ) → r.kind ≡ source_note_kind → Left j ≡ seek (placed r.line r.column) i →
       seek (body f r) j ≡ seek (render f r) i
   past_source i j e g = rw (with_source e) (seek_left (placed r.line r.column) (body f r) i j g)

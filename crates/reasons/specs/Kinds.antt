@@ -58,11 +58,11 @@ pub record NoText (k : ℕ) : Type 0 where
 abbrev pub note : ℕ
 note = 0
 
-abbrev pub id_note_lem : ℕ
-id_note_lem = 1
+abbrev pub id_note_kind : ℕ
+id_note_kind = 1
 
-abbrev pub source_note_lem : ℕ
-source_note_lem = 2
+abbrev pub source_note_kind : ℕ
+source_note_kind = 2
 
 abbrev pub trigger_condition : ℕ
 trigger_condition = 3

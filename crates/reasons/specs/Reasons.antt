@@ -4,7 +4,7 @@ use Rattle.reasons.specs.declared.Reason.{Reason}
 use Rattle.texts.specs.Lists.{if◌then◌else◌, flat}
 use Rattle.texts.specs.Texts.{Text, decimal}
 use Rattle.texts.specs.Places.{text_at}
-use Rattle.reasons.specs.Kinds.{Kind, kinds, kind_of, source_note_lem}
+use Rattle.reasons.specs.Kinds.{Kind, kinds, kind_of, source_note_kind}
 
 -- a text as it stands in a file
 abbrev pub packed : Text → List ℕ
@@ -28,4 +28,4 @@ body f r = text_at f r.first ++ (words r.kind ++ text_at f r.second)
 
 -- `LINE:COLUMN` goes in front of the only kind with numbers
 unfoldable pub render : List ℕ → Reason → Text
-render f r = if eqb r.kind source_note_lem then placed r.line r.column ++ body f r else body f r
+render f r = if eqb r.kind source_note_kind then placed r.line r.column ++ body f r else body f r

@@ -1,4 +1,5 @@
 // Reasons: a kind and its texts, read and ordered as they are rendered, without building the rendering.
+#![tactic(auto)]
 ghost use Rattle.std.specs.Prelude.{◌≡◌, ◌+◌, ◌-◌, ◌*◌, ◌≤◌, ◌<◌, length, get_or, drop};
 ghost use Rattle.texts.specs.Texts.{decimal, eq_t, order_t, mem_t, insert_t};
 ghost use Rattle.texts.specs.Places.{text_at, seek};
@@ -58,7 +59,7 @@ const STARTS: [usize; KINDS] = [
 pub const ABSENT: u32 = 4294967295;
 
 // `first` and `second` are positions of texts in the model file; line and column belong to SOURCE_NOTE.
-#[derive(Drop)]
+#[derive(Clone, Copy)]
 pub struct Reason {
     pub kind: u32,
     pub first: u32,
@@ -67,7 +68,7 @@ pub struct Reason {
     pub column: u32,
 }
 
-#[derive(Drop)]
+#[derive(Clone, Copy)]
 pub enum Spot {
     There,
     At(usize),

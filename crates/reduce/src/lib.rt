@@ -1,4 +1,5 @@
 // The reduction of a violating model's events: each is left out in turn, for good if the violation stays.
+#![tactic(auto)]
 ghost use Rattle.layout.specs.Sizes.{event_word_count};
 ghost use Rattle.std.specs.Prelude.{◌≡◌, ◌*◌, ◌≤◌, ◌<◌, length};
 ghost use Rattle.engine_entry.specs.Prepared.{prepared_of};
@@ -14,7 +15,7 @@ use model_index::Index;
 
 // `refused` is 0, or 41 to 43 where a check was refused. The first `count` events in `words`, four words each, are left;
 // so many candidates were checked, and the place reached.
-#[derive(Drop)]
+#[derive(Clone, Copy)]
 pub struct Reduced {
     pub refused: u32,
     pub count: usize,

@@ -1,4 +1,5 @@
 // The answer of `minimize`: the check of the events that are left, and the file with them.
+#![tactic(auto)]
 ghost use Rattle.std.specs.Prelude.{◌≡◌, ◌*◌, ◌≤◌, length};
 ghost use Rattle.engine_entry.specs.Prepared.{prepared_of};
 ghost use Rattle.checker_entry.specs.Promises.{Whole};
@@ -13,7 +14,7 @@ use reduce::Reduced;
 
 // `refused` is 0 or the refusal's number; then the rest is 0. `invariant` is the place of the identifier among the texts,
 // the first `events` events in `words` are left, four words each, and so many bytes are `written` to the output.
-#[derive(Drop)]
+#[derive(Clone, Copy)]
 pub struct Minimized {
     pub refused: u32,
     pub invariant: u32,

@@ -2,12 +2,13 @@
 // A batch holds for each model its length as a u32, little-endian, and its bytes. In a batch with sizes four numbers stand
 // ahead of these bytes, and the length counts them too. A new entry gets a variant of Entry, an arm in print_lines and a
 // line in main.
+#![tactic(auto)]
 ghost use Rattle.replay.specs.Reading.{Within};
 
 use model_walk::Num;
 
 // What is asked of the models of a batch.
-#[derive(Drop)]
+#[derive(Clone, Copy)]
 enum Entry {
     Validate,
     Unsupported,
@@ -19,7 +20,7 @@ enum Entry {
 }
 
 // What stands next in a batch: a model of so many bytes, the end, or no whole model.
-#[derive(Drop)]
+#[derive(Clone, Copy)]
 enum Next {
     Model(usize),
     End,
@@ -50,7 +51,7 @@ fn read_model(fd: i32, file: &mut [u8]) -> Next
 }
 
 // How many entries the areas hold: queue, records and runs, or findings and interactions; and how many bytes the output.
-#[derive(Drop)]
+#[derive(Clone, Copy)]
 struct Sizes {
     first: u32,
     second: u32,

@@ -1,4 +1,5 @@
 // The answer of `verify`, from a search and its witness.
+#![tactic(auto)]
 ghost use Rattle.std.specs.Prelude.{◌≡◌, List, ℕ, length};
 ghost use Rattle.checker_result.specs.Result.{result_of};
 ghost use Rattle.search_answer.specs.Result.{whole_of, no_verification};
@@ -8,7 +9,7 @@ use checker_result::{CheckResult, Judgement};
 use layout::{IncompleteReasons, SimulationReasons, VerdictReasons, Violations};
 use search_cases::{Plan, Search};
 
-#[derive(Drop)]
+#[derive(Clone, Copy)]
 pub enum Found {
     Refused(u32),
     NoCounterexampleWithinBounds,
@@ -19,7 +20,7 @@ pub enum Found {
 // The status, or the refusal's number; then all else is 0. The settings are the model's: `inputs` are the alphabet, three
 // words each, `seconds` the gaps. `told` are the reasons, five words each, sorted as rendered. With a counterexample,
 // `words` are the witness's events, four words each, `written` the bytes of its file, `check` its check.
-#[derive(Drop)]
+#[derive(Clone, Copy)]
 pub struct Verification {
     pub status: Found,
     pub cases: u32,
@@ -42,7 +43,7 @@ pub struct Verification {
 }
 
 // A verification without its lists: `told`, and those of the check.
-#[derive(Drop)]
+#[derive(Clone, Copy)]
 pub struct Searched {
     pub status: Found,
     pub cases: u32,
@@ -101,7 +102,7 @@ pub fn refused(
 // ---- the witness
 
 // A witness's events, the bytes of its file, and its check without the lists.
-#[derive(Drop)]
+#[derive(Clone, Copy)]
 pub struct Witness {
     pub events: usize,
     pub words: [u32; 20],

@@ -1,4 +1,5 @@
 // What a search goes by, and what each of its cases adds to it.
+#![tactic(auto)]
 ghost use Rattle.std.specs.Prelude.{◌≡◌, ◌+◌, ◌*◌, ◌≤◌, ◌<◌, length};
 ghost use Rattle.engine_fields.specs.Fields.{cap};
 ghost use Rattle.search_cases.specs.Promises.{
@@ -21,7 +22,7 @@ use model_index::Index;
 use search_inputs::{Alphabet, Gaps, Placed};
 
 // What all cases share beside the arrays that are lent: the start, what is chosen from, the horizon and the most cases.
-#[derive(Drop)]
+#[derive(Clone, Copy)]
 pub struct Plan {
     pub shared: Shared,
     pub alphabet: Alphabet,
@@ -32,7 +33,7 @@ pub struct Plan {
 
 // How far a search has come. `refused` is 0 or the number of the case that was refused; `reasons` counts the reasons, which
 // stand in a lent area of words. With `found`, the witness's events are `witness`.
-#[derive(Drop)]
+#[derive(Clone, Copy)]
 pub struct Search {
     pub refused: u32,
     pub cases: u32,

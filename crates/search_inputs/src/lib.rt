@@ -1,24 +1,25 @@
 // What a search chooses from, a model's inputs and gaps, and the events that it has placed so far.
+#![tactic(auto)]
 ghost use Rattle.std.specs.Prelude.{◌≡◌, ◌≤◌, ◌<◌, length};
 ghost use Rattle.search_inputs.specs.Inputs.{input_word, AlphabetOf, gap_word, GapsOf, last_m, Placing};
 
 use model_index::Index;
 
 // Three words an input: a kind (0 sets, 1 restarts, 2 reloads), the place of an entity and the place of a value.
-#[derive(Drop)]
+#[derive(Clone, Copy)]
 pub struct Alphabet {
     pub count: usize,
     pub words: [u32; 36],
 }
 
-#[derive(Drop)]
+#[derive(Clone, Copy)]
 pub struct Gaps {
     pub count: usize,
     pub seconds: [u32; 4],
 }
 
 // Four words an event: a second, then the input's words.
-#[derive(Drop)]
+#[derive(Clone, Copy)]
 pub struct Placed {
     pub count: usize,
     pub words: [u32; 20],

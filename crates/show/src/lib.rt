@@ -1,5 +1,6 @@
 // What the programs print. The writers put a text behind the first n bytes of a lent area, and answer the next free index.
 // If the text doesn't fit, the answer is past the area's end, where every writer writes nothing.
+#![tactic(auto)]
 ghost use Rattle.std.specs.Prelude.{◌≡◌, [], ◌∷◌, ◌+◌, ◌≤◌, length};
 ghost use Rattle.texts.specs.Texts.{decimal};
 ghost use Rattle.texts.specs.Places.{text_at};
@@ -16,7 +17,7 @@ pub const FULL: usize = 18446744073709551615;
 pub const LINE: usize = 4096;
 
 // Where a thing stands in the user's file.
-#[derive(Drop)]
+#[derive(Clone, Copy)]
 pub enum Source {
     At(u32, u32),
     Absent,

@@ -1,6 +1,7 @@
 // Reads a model file on standard input and prints the whole answer of `check`. One byte more than the limit is read, so that
 // a longer file is refused as one. Three numbers as arguments say how many entries of queue, records and runs are lent;
 // without them the areas are so large that no accepted model fills them.
+#![tactic(auto)]
 fn main() {
     let mut file = [0u8; 32769];
     let n = io::read_full(0, &mut file);

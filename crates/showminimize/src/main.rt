@@ -2,6 +2,7 @@
 // a longer file is refused as one. Three numbers as arguments say how many entries of queue, records and runs are lent;
 // without them the areas are so large that no accepted model fills them. A further argument, or the only one, names the file
 // to which the reduced model is written.
+#![tactic(auto)]
 fn main() {
     let mut file = [0u8; 32769];
     let n = io::read_full(0, &mut file);

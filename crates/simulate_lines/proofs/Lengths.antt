@@ -12,7 +12,7 @@ use Rattle.texts.specs.Texts.{Text, text, decimal}
 use Rattle.texts.specs.Places.{text_at, start_from, texts_from}
 use Rattle.texts.proofs.Laws as texts
 use Rattle.texts.proofs.Ordering.{lt_or_ge}
-use Rattle.reasons.specs.Kinds.{source_note_lem}
+use Rattle.reasons.specs.Kinds.{source_note_kind}
 use Rattle.reasons.specs.declared.Reason.{Reason}
 use Rattle.reasons.specs.Reasons.{words_file, words, placed, body, render}
 use Rattle.reasons.proofs.Digits as digits
@@ -147,7 +147,7 @@ module _ (f : List ℕ) (bytes : (i : ℕ) → get_or f i 0 < 256) (x : List ℕ
 module _ (f : List ℕ) (bytes : (i : ℕ) → get_or f i 0 < 256) where
   rendered_short : (r : Reason) → length (render f r) ≤ 1000
   unfolding render placed
-  rendered_short r = go (eqb r.kind source_note_lem)
+  rendered_short r = go (eqb r.kind source_note_kind)
     where
       go : (b : Bool) → length (if b then (decimal r.line ++ (58 ∷ decimal r.column)) ++ body f r else body f r) ≤ 1000
       go true =

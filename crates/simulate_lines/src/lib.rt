@@ -1,6 +1,7 @@
 // The lines of `unsupported` and `simulate` besides the records: numbers, reasons, why a simulation is incomplete, and the
 // entities' values at the end. They are written behind the first n bytes of a lent area as the writers of `show` do. x is
 // the table of the file f (crate `engine_table`); texts are named by their places.
+#![tactic(auto)]
 ghost use Rattle.std.specs.Prelude.{◌+◌, ◌*◌, ◌≤◌, ◌<◌, length, drop};
 ghost use Rattle.reasons.specs.Reasons.{render};
 ghost use Rattle.reasons.specs.Lists.{reason_of};
@@ -156,7 +157,7 @@ pub fn put_final(out: &mut [u8], n: usize, f: &[u8], x: &Table, e: usize, value:
 // one.
 
 // Which line a reason gets.
-#[derive(Drop)]
+#[derive(Clone, Copy)]
 pub enum Word {
     Reason,
     SimUnknown,

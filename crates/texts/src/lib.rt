@@ -1,9 +1,10 @@
 // Texts in a file: a length byte, and as many bytes.
+#![tactic(auto)]
 ghost use Rattle.std.specs.Prelude.{◌≡◌, ◌≤◌, ◌<◌, length, get_or};
 ghost use Rattle.texts.specs.Places.{text_at, start_from, seek};
 
 // How a text stands to another.
-#[derive(Drop)]
+#[derive(Clone, Copy)]
 pub enum Order {
     Less,
     Same,
@@ -11,7 +12,7 @@ pub enum Order {
 }
 
 // The byte at an index, or how far the index is past the end.
-#[derive(Drop)]
+#[derive(Clone, Copy)]
 pub enum Seek {
     Here(u8),
     Left(usize),

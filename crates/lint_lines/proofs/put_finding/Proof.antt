@@ -23,6 +23,6 @@ put_finding_spec =
     let c7 = c6.before in
     let c11 = c7.before.before.before.before in
     let c15 = c11.before.before.before.before in
-    show.is (laws.finding_is _ _ _ _ _ c15.wide.ensures c7.note_of_lem.ensures)
+    show.is (laws.finding_is _ _ _ _ _ c15.wide.ensures c7.note_reason_of.ensures)
     (show.both (c11.put-kind.ensures _ _) (show.both c6.put-message.ensures
     c.before.before.put_places.ensures))))

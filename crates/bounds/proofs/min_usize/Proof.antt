@@ -1,7 +1,0 @@
-use Rattle.bounds.proofs.Laws as laws
-use Rattle.bounds.proofs.min_usize.Statement.{statement}
-use Rattle.bounds.proofs.min_usize.Tie as tie
-
-pub min_usize_spec : {M : Type 1} → statement M
-min_usize_spec =
-    tie.close (tie.spec (λ c. laws.smaller_yes _ _ c.if1.true) (λ c. laws.smaller_no _ _ c.if1.false))

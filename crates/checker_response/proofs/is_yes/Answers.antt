@@ -1,0 +1,14 @@
+use Rattle.checker_response.specs.Response.{yes_m}
+use Rattle.checker_response.proofs.is_yes.Goals as goal
+
+pub returns-in-Yes : goal.returns-in-Yes
+unfolding yes_m
+returns-in-Yes c = rw c.in-Yes.is
+
+pub returns-in-No : goal.returns-in-No
+unfolding yes_m
+returns-in-No c = rw c.in-No.is
+
+pub returns-in-Unknown : goal.returns-in-Unknown
+unfolding yes_m
+returns-in-Unknown c = rw c.in-Unknown.is

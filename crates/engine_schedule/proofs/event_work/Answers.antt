@@ -1,0 +1,15 @@
+use borrow.Author.Tests.{eq-eqb, ne_eqb}
+use Rattle.engine_schedule.specs.Events.{event_m}
+use Rattle.engine_schedule.proofs.event_work.Goals as goal
+
+pub returns-then-kind-eq0 : goal.returns-then-kind-eq0
+unfolding event_m
+returns-then-kind-eq0 c = rw (eq-eqb _ _ c.if-kind-eq0.true)
+
+pub returns-then-kind-eq1 : goal.returns-then-kind-eq1
+unfolding event_m
+returns-then-kind-eq1 c = rw (ne_eqb _ _ c.if-kind-eq0.false, eq-eqb _ _ c.if-kind-eq1.true)
+
+pub returns : goal.returns
+unfolding event_m
+returns c = rw (ne_eqb _ _ c.if-kind-eq0.false, ne_eqb _ _ c.if-kind-eq1.false)
