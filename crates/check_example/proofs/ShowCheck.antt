@@ -21,7 +21,7 @@ use Rattle.checker_spec.specs.Judge.{prohibited_state}
 use Rattle.checker_result.specs.declared.CheckResult.{CheckResult}
 use Rattle.checker_result.specs.declared.Status.TheVariants as status
 use Rattle.checker_entry.specs.Contract.{status_as, violation_words, Shows, Says}
-use Rattle.check_lines.specs.Numbers.{violated_of, text_at, failure_of, source_of, violation_of}
+use Rattle.check_lines.specs.Numbers.{violated_of, placed_text, failure_of, source_of, violation_of}
 use Rattle.check_example.specs.Lampdoor.{lampdoor}
 use Rattle.check_example.specs.Printed.{lines_of, printed, all_printed}
 use Rattle.check_example.specs.ShowCheck.{scope_lines, ShowCheck}
@@ -65,7 +65,7 @@ numbers = area (violation_words (texts_in lampdoor)) 256 (nodoor ∷ [])
 
 -- opens what reads the numbers back, for proofs by computation
 unfoldable all_numbers : Unit {0}
-unfolding violated_of text_at failure_of source_of violation_of placed text_at start_from at_most violation_words source_words
+unfolding violated_of placed_text failure_of source_of violation_of placed text_at start_from at_most violation_words source_words
     texts_in area words
 all_numbers = tt
 

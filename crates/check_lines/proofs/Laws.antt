@@ -23,7 +23,7 @@ use Rattle.record_lines.specs.Lines.{placed_if}
 use Rattle.simulate_lines.proofs.Laws.{flat_append}
 use Rattle.check_lines.specs.declared.Violated.{Violated}
 use Rattle.check_lines.specs.Lines.{moment, bare_violated, full_violated, bare_reason}
-use Rattle.check_lines.specs.Numbers.{violated_of, text_at, failure_of, source_of, violation_of}
+use Rattle.check_lines.specs.Numbers.{violated_of, placed_text, failure_of, source_of, violation_of}
 
 -- ---- the numbers of a violation
 
@@ -57,12 +57,12 @@ violated_is a at =
 -- ---- the parts of a violation's line
 
 pub identifier_is : (f : List ℕ) (place q at : ℕ) → q ≡ at_most place 65535 → at ≡ start_from f 6 q →
-    text_at f at ≡ text_at f place
-unfolding text_at
+    text_at f at ≡ placed_text f place
+unfolding placed_text
 identifier_is f place q at e h = rw (h, e)
 
 pub quoted_is : (f : List ℕ) (place q at : ℕ) → q ≡ at_most place 65535 → at ≡ start_from f 6 q →
-    quoted (text_at f at) ≡ quoted (text_at f place)
+    quoted (text_at f at) ≡ quoted (placed_text f place)
 quoted_is f place q at e h = ap quoted (identifier_is f place q at e h)
 
 pub moment_is : (s i : ℕ) → 32 ∷ (decimal s ++ (32 ∷ (decimal i ++ (32 ∷ [])))) ≡ moment s i
@@ -139,14 +139,14 @@ module _ (k d : ℕ) where
 
 module _ (f : List ℕ) (v : Violated) where
   pub bare_is : text
-      "violated " ++ (text_at f v.place ++ (moment v.second
+      "violated " ++ (placed_text f v.place ++ (moment v.second
       v.index ++ (placed_if (source_of v.sourced v.line v.column) ++ newline)))
       ≡ bare_violated (violation_of f v)
   unfolding bare_violated violation_of
   bare_is = refl
 
   pub full_is : text
-      "violated " ++ (quoted (text_at f v.place) ++ (moment v.second
+      "violated " ++ (quoted (placed_text f v.place) ++ (moment v.second
       v.index ++ (placed_if (source_of v.sourced v.line
       v.column) ++ (32 ∷ (quoted (message (failure_of v.failure v.deadline)) ++ newline)))))
       ≡ full_violated (violation_of f v)

@@ -26,7 +26,7 @@ use Rattle.simulate_lines.specs.Lines.{text_line}
 use Rattle.record_lines.specs.Lines.{placed_if}
 use Rattle.check_lines.specs.declared.Violated.{Violated}
 use Rattle.check_lines.specs.Lines.{moment, bare_violated, full_violated, bare_reason, full_reason}
-use Rattle.check_lines.specs.Numbers.{text_at, failure_of, source_of, violation_of}
+use Rattle.check_lines.specs.Numbers.{placed_text, failure_of, source_of, violation_of}
 
 module _ (s t : Text) (m n : ℕ) (a : length s ≤ m) (b : length t ≤ n) where
   app : length (s ++ t) ≤ m + n
@@ -65,8 +65,8 @@ moment_short s i = omega (
 -- ---- the lines, over a file f of bytes
 
 module _ (f : List ℕ) (bytes : (i : ℕ) → get_or f i 0 < 256) where
-  text_short : (k : ℕ) → length (text_at f k) ≤ 255
-  unfolding text_at
+  text_short : (k : ℕ) → length (placed_text f k) ≤ 255
+  unfolding placed_text
   text_short k = omega (arith, texts.length_byte f (start_from f 6 (at_most k 65535)), bytes (start_from f 6 (at_most k 65535)))
 
   module _ (v : Violated) where
@@ -76,10 +76,10 @@ module _ (f : List ℕ) (bytes : (i : ℕ) → get_or f i 0 < 256) where
         let s = source_of v.sourced v.line v.column in
         let t₁ : Text = placed_if s ++ newline in
         let t₂ : Text = moment v.second v.index ++ t₁ in
-        let t₃ : Text = text_at f v.place ++ t₂ in
+        let t₃ : Text = placed_text f v.place ++ t₂ in
         let l₁ = app (placed_if s) newline 41 1 (source_short s) (omega arith) in
         let l₂ = app (moment v.second v.index) t₁ 43 42 (moment_short v.second v.index) l₁ in
-        let l₃ = app (text_at f v.place) t₂ 255 85 (text_short v.place) l₂ in
+        let l₃ = app (placed_text f v.place) t₂ 255 85 (text_short v.place) l₂ in
         let l = app (text "violated ") t₃ 9 340 (omega arith) l₃ in
         omega (arith, l)
 
@@ -89,16 +89,16 @@ module _ (f : List ℕ) (bytes : (i : ℕ) → get_or f i 0 < 256) where
         let s = source_of v.sourced v.line v.column in
         let e = failure_of v.failure v.deadline in
         let q : length (quoted (message e)) ≤ 92 = omega (arith, show.length_quoted (message e), message_short e) in
-        let i : length (quoted (text_at f v.place)) ≤ 512 =
-        omega (arith, show.length_quoted (text_at f v.place), text_short v.place) in
+        let i : length (quoted (placed_text f v.place)) ≤ 512 =
+        omega (arith, show.length_quoted (placed_text f v.place), text_short v.place) in
         let t₁ : Text = quoted (message e) ++ newline in
         let t₂ : Text = placed_if s ++ (32 ∷ t₁) in
         let t₃ : Text = moment v.second v.index ++ t₂ in
-        let t₄ : Text = quoted (text_at f v.place) ++ t₃ in
+        let t₄ : Text = quoted (placed_text f v.place) ++ t₃ in
         let l₁ = app (quoted (message e)) newline 92 1 q (omega arith) in
         let l₂ = app (placed_if s) (32 ∷ t₁) 41 94 (source_short s) (omega (arith, l₁)) in
         let l₃ = app (moment v.second v.index) t₂ 43 135 (moment_short v.second v.index) l₂ in
-        let l₄ = app (quoted (text_at f v.place)) t₃ 512 178 i l₃ in
+        let l₄ = app (quoted (placed_text f v.place)) t₃ 512 178 i l₃ in
         let l = app (text "violated ") t₄ 9 690 (omega arith) l₄ in
         omega (arith, l)
 

@@ -24,8 +24,8 @@ violated_of a = record {
 }
 
 -- the text at a place of the file f; no place is above 65,535
-unfoldable pub text_at : (f : List ℕ) → (place : ℕ) → Text
-text_at f k = text_at f (start_from f 6 (at_most k 65535))
+unfoldable pub placed_text : (f : List ℕ) → (place : ℕ) → Text
+placed_text f k = text_at f (start_from f 6 (at_most k 65535))
 
 unfoldable pub failure_of : (number deadline : ℕ) → Failure
 failure_of k d =
@@ -39,7 +39,7 @@ source_of s l c = if eqb s 0 then none else some (record { line = l; column = c 
 
 unfoldable pub violation_of : (f : List ℕ) → Violated → Violation
 violation_of f v = record {
-  invariant = text_at f v.place;
+  invariant = placed_text f v.place;
   at = v.second;
   index = v.index;
   source = source_of v.sourced v.line v.column;

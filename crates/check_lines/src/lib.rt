@@ -9,7 +9,7 @@ ghost use Rattle.checker_spec.specs.Judge.{message, deadline_missed};
 ghost use Rattle.show.specs.Lines.{quoted};
 ghost use Rattle.show.specs.Writing.{Written};
 ghost use Rattle.check_lines.specs.Lines.{moment, bare_violated, full_violated, bare_reason, full_reason};
-ghost use Rattle.check_lines.specs.Numbers.{violated_of, text_at, failure_of, source_of, violation_of};
+ghost use Rattle.check_lines.specs.Numbers.{violated_of, placed_text, failure_of, source_of, violation_of};
 
 // The eight numbers of a violation: the place of the invariant's identifier among the texts, the second, the record's index,
 // the failure (1 prohibited state, 2 guard, 3 transition, 4 deadline), the deadline; 1, line and column of the source, or
@@ -47,14 +47,14 @@ pub fn violated_at(a: &[u64], k: usize) -> Violated
 // ---- the parts of a violation's line
 
 fn put_identifier(out: &mut [u8], n: usize, f: &[u8], place: u64) -> usize
-    ensures { Written (text_at f.now place) out.old n out.new result }
+    ensures { Written (placed_text f.now place) out.old n out.new result }
 {
     let at = texts::text_start(f, 6, bounds::place_of(place));
     show::put_text(out, n, f, at)
 }
 
 fn put_quoted_identifier(out: &mut [u8], n: usize, f: &[u8], place: u64) -> usize
-    ensures { Written (quoted (text_at f.now place)) out.old n out.new result }
+    ensures { Written (quoted (placed_text f.now place)) out.old n out.new result }
 {
     let at = texts::text_start(f, 6, bounds::place_of(place));
     show::put_quoted_text(out, n, f, at)

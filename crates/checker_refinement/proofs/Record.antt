@@ -167,8 +167,8 @@ module _ (f x : List ℕ) (ts : List Text) (mo : Model) (tb : Tabled f x ts mo) 
     ends : q ≡ p + 2
     inside : p + 2 ≤ length f
 
-  text_at : {n : ℕ} (p : ℕ) {t : Text} {q : ℕ} → n ≡ p → place ts f n ≡ got t q → TextAt p t q
-  text_at {n} p y e =
+  placed_text : {n : ℕ} (p : ℕ) {t : Text} {q : ℕ} → n ≡ p → place ts f n ≡ got t q → TextAt p t q
+  placed_text {n} p y e =
       let a = place_found ts e in
       let w = u16_wide f n a.is_place in
       let z : two f p ≡ a.at = ap (two f) (sym y) ∙ two_is f n a.is_place in
@@ -214,7 +214,7 @@ module _ (f x : List ℕ) (ts : List Text) (mo : Model) (tb : Tabled f x ts mo) 
           let d = bound (place ts) _ h in
           let ps = bound (counted (predicate ts)) _ d.rest in
           let g = given _ _ _ ps.rest in
-          let t = text_at (at + 1) start d.first in
+          let t = placed_text (at + 1) start d.first in
           let y : d.next ≡ at + 3 = omega arith in
           subst (Parts at) (ap (λ (u : Text). never u ps.value) (sym t.is) ∙ g.0)
           (of_never ps.value ps.next (kind 0 z) t.place_in (omega arith)
@@ -225,9 +225,9 @@ module _ (f x : List ℕ) (ts : List Text) (mo : Model) (tb : Tabled f x ts mo) 
           let v = bound (place ts) _ e.rest in
           let ps = bound (counted (predicate ts)) _ v.rest in
           let g = given _ _ _ ps.rest in
-          let t = text_at (at + 1) start d.first in
-          let t₁ = text_at (at + 3) (omega arith) e.first in
-          let t₂ = text_at (at + 5) (omega arith) v.first in
+          let t = placed_text (at + 1) start d.first in
+          let t₁ = placed_text (at + 3) (omega arith) e.first in
+          let t₂ = placed_text (at + 5) (omega arith) v.first in
           let y : v.next ≡ at + 7 = omega arith in
           subst (Parts at) (sym (same_guard ps.value t.is t₁.is t₂.is) ∙ g.0)
           (of_guard ps.value ps.next (kind 1 z) t.place_in (omega arith) t₁.place_in t₂.place_in
@@ -238,10 +238,10 @@ module _ (f x : List ℕ) (ts : List Text) (mo : Model) (tb : Tabled f x ts mo) 
           let v = bound (place ts) _ e.rest in
           let w = bound (place ts) _ v.rest in
           let g = given _ _ _ w.rest in
-          let t = text_at (at + 1) start d.first in
-          let t₁ = text_at (at + 3) (omega arith) e.first in
-          let t₂ = text_at (at + 5) (omega arith) v.first in
-          let t₃ = text_at (at + 7) (omega arith) w.first in
+          let t = placed_text (at + 1) start d.first in
+          let t₁ = placed_text (at + 3) (omega arith) e.first in
+          let t₂ = placed_text (at + 5) (omega arith) v.first in
+          let t₃ = placed_text (at + 7) (omega arith) w.first in
           subst (Parts at) (sym (same_transition t.is t₁.is t₂.is t₃.is) ∙ g.0)
           (of_transition (kind 2 z) t.place_in (omega arith) t₁.place_in t₂.place_in t₃.place_in)
       cases (suc (suc (suc zero))) z h =
@@ -250,7 +250,7 @@ module _ (f x : List ℕ) (ts : List Text) (mo : Model) (tb : Tabled f x ts mo) 
           let o = bound (predicate ts) _ p.rest in
           let n = bound u32 _ o.rest in
           let g = given _ _ _ n.rest in
-          let t = text_at (at + 1) start d.first in
+          let t = placed_text (at + 1) start d.first in
           let y : d.next ≡ at + 3 = omega arith in
           subst (Parts at) (ap (λ (u : Text). response u p.value o.value n.value) (sym t.is) ∙ g.0)
           (of_response p.value o.value n.value p.next o.next (kind 3 z) t.place_in (omega arith)

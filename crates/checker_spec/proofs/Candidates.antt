@@ -63,6 +63,7 @@ module _ {A : Type 0} (g : A → Verdict) where
 
   each_mem : {a : A} (l : List A) → Memᴰ a l → each_accepted g l ≡ accept → g a ≡ accept
   unfolding each_accepted
+  each_mem {a = a} [] x'' h = elim x'' [ ]
   each_mem (x ∷ l) (Memᴰ.head e) h = ap g e ∙ and_first (g x) (each_accepted g l) tt h
   each_mem (x ∷ l) (Memᴰ.tail i) h = each_mem l i (and_inv (g x) (each_accepted g l) tt h)
 

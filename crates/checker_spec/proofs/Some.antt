@@ -11,9 +11,9 @@ module _ {A : Type 0} where
   some_all (x ∷ l) = keep (some_all l)
 
   pub some_some : {l m n : List A} → Some l m → Some m n → Some l n
-  some_some a (skip b) = skip (some_some a b)
-  some_some (skip a) (keep b) = skip (some_some a b)
-  some_some (keep a) (keep b) = keep (some_some a b)
+  some_some {l = l} a (skip b) = skip (some_some {l = l} a b)
+  some_some (skip {l = l} a) (keep b) = skip (some_some {l = l} a b)
+  some_some (keep {l = l} a) (keep b) = keep (some_some {l = l} a b)
   some_some a no_more = a
 
   pub some_each : (P : A → Type 0) {l m : List A} → Some l m → Each P m → Each P l

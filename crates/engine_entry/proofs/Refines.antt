@@ -76,7 +76,7 @@ module _ (f : List ℕ) (i : Index) (m : Model) (acc : accepted f ≡ answer m) 
     size = tb.size;
     few_texts = tb.few_texts;
     counted = tb.counted;
-    text_at = tb.text_at;
+    placed_text = tb.placed_text;
     automations = tb.automations;
     few_automations = tb.few_automations;
     rows = λ d k h.

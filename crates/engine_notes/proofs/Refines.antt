@@ -113,7 +113,7 @@ Renders f ts i g = (m : ℕ) → m < length ts → render f (note_of f i m) ≡ 
 -- the file f, with the texts ts
 module _ (f : List ℕ) (ts : List Text) (size : length f ≤ 32768) (few : length ts ≤ 65535)
     (counted_as : text_count f ≡ length ts)
-    (text_at : (k : ℕ) → k < length ts → text_at f (start_from f 6 k) ≡ get_or ts k []) where
+    (placed_text : (k : ℕ) → k < length ts → text_at f (start_from f 6 k) ≡ get_or ts k []) where
   abbrev T : ℕ → Text
   T k = get_or ts k []
 
@@ -129,7 +129,7 @@ module _ (f : List ℕ) (ts : List Text) (size : length f ≤ 32768) (few : leng
 
   pub position_text : (k : ℕ) → k < length ts → text_at f (text_position f k) ≡ T k
   unfolding text_position
-  position_text k h = rw (lt-ltb k (text_count f) (omega arith)) (cap_text (start_from f 6 k) ∙ text_at k h)
+  position_text k h = rw (lt-ltb k (text_count f) (omega arith)) (cap_text (start_from f 6 k) ∙ placed_text k h)
 
   pub plain_note : (m : ℕ) → m < length ts → render f (note_of f 65535 m) ≡ T m
   unfolding note_of note_reason render body

@@ -126,7 +126,7 @@ module _ (f x : List ℕ) (ts : List Text) (mo : Model) (tb : Tabled f x ts mo) 
         lt-ltb k (text_count f) (omega (arith, tb.counted)),
         cap_is (start_from f 6 k) (omega (arith, start_low f tb.bytes k 6 6 (omega arith), tb.few_texts)),
       )
-      (tb.text_at k h)
+      (tb.placed_text k h)
 
   pub note_is : (k : ℕ) → k < length ts → render f (note_reason f k) ≡ get_or ts k []
   unfolding render body note_reason words

@@ -54,7 +54,7 @@ use Rattle.model_walk.proofs.Found.{bound, given, required, counted_found}
 use Rattle.model_parts.specs.Stand.{Reads}
 use Rattle.model_parts.proofs.Stands.{more}
 use Rattle.model_order.specs.Order.{Fixed}
-use Rattle.model_order.proofs.Places.{in_order, same_place, texts_ascend, text_at}
+use Rattle.model_order.proofs.Places.{in_order, same_place, texts_ascend, placed_text}
 use Rattle.engine_spec.proofs.Lists.{Case, is_true, is_false, case, eq_t_same}
 use Rattle.engine_spec.proofs.Distinct.{answer_eq, refused_answer, when_inv, Fresh, accepted_fresh}
 use Rattle.reasons.specs.Readable.{text_count}
@@ -266,7 +266,7 @@ tabled f x ts m acc w = record {
   texts = w.texts;
   few_texts = few_texts f w.bytes ts w.all_texts;
   counted = counted_as f ts w.all_texts;
-  text_at = text_at f w.all_texts.1;
+  placed_text = placed_text f w.all_texts.1;
   on = w.on;
   off = w.off;
   unknown = w.unknown;

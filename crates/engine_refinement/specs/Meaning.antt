@@ -283,7 +283,7 @@ pub record Tabled (f x : List ℕ) (ts : List Text) (m : Model) : Type 0 where
   pub texts : get_or x text_count_word 0 ≡ length ts
   pub few_texts : length ts ≤ 65535
   pub counted : text_count f ≡ length ts
-  pub text_at : (k : ℕ) → k < length ts → text_at f (start_from f 6 k) ≡ get_or ts k []
+  pub placed_text : (k : ℕ) → k < length ts → text_at f (start_from f 6 k) ≡ get_or ts k []
   pub on : Fixed ts (get_or x on_word 0) (text "on")
   pub off : Fixed ts (get_or x off_word 0) (text "off")
   pub unknown : Fixed ts (get_or x unknown_word 0) (text "unknown")

@@ -108,7 +108,7 @@ source_words = refl
 -- the file f, with the texts ts
 module _ (f : List ℕ) (ts : List Text) (size : length f ≤ 32768) (few : length ts ≤ 65535)
     (counted_as : text_count f ≡ length ts)
-    (text_at : (k : ℕ) → k < length ts → text_at f (start_from f 6 k) ≡ get_or ts k []) where
+    (placed_text : (k : ℕ) → k < length ts → text_at f (start_from f 6 k) ≡ get_or ts k []) where
   placed_is : (s : Source) → reasons.placed s.line s.column ≡ placed s
   unfolding reasons.placed placed
   placed_is s = sym (append_assoc (decimal s.line) (text ":") (decimal s.column))
@@ -117,9 +117,9 @@ module _ (f : List ℕ) (ts : List Text) (size : length f ≤ 32768) (few : leng
       render f (source_note f s.line s.column m) ≡ reasons.placed s.line s.column ++ (text ": " ++ get_or ts m [])
   unfolding source_note render body
   source_text s m h = rw (
-    nothing f ts size few counted_as text_at,
+    nothing f ts size few counted_as placed_text,
     source_words,
-    position_text f ts size few counted_as text_at m h,
+    position_text f ts size few counted_as placed_text m h,
   )
 
   source_note_lem : (s : Source) (m : ℕ) → m < length ts →
@@ -148,12 +148,12 @@ module _ (f : List ℕ) (ts : List Text) (size : length f ≤ 32768) (few : leng
 
   trigger_plain : Adds f (trigger ts) of_trigger (trigger_m 65535)
   trigger_plain p l t q e =
-      trigger_agrees f ts size few counted_as text_at 65535 same_text (plain_note f ts size few counted_as text_at) p l t q e
+      trigger_agrees f ts size few counted_as placed_text 65535 same_text (plain_note f ts size few counted_as placed_text) p l t q e
       ∙ after_same q (ap (λ (y : List Text). add_all y l) (each_same (of_trigger t)))
 
   predicate_plain : Adds f (predicate ts) of_predicate (predicate_m 65535)
   predicate_plain p l a q e =
-      predicate_agrees f ts size few counted_as text_at 65535 same_text (plain_note f ts size few counted_as text_at)
+      predicate_agrees f ts size few counted_as placed_text 65535 same_text (plain_note f ts size few counted_as placed_text)
       p l a q e
       ∙ after_same q (ap (λ (y : List Text). add_all y l) (each_same (of_predicate a)))
 
@@ -188,8 +188,8 @@ module _ (f : List ℕ) (ts : List Text) (size : length f ≤ 32768) (few : leng
         let ps = flat of_predicate c.value in
         let as' = action_reasons a.value in
         next f p l (branch_m lst) (times_m i (branch_m lst)) {t = add_all (ps ++ as') l}
-        (next f p l (parts_m part.Predicate 65535) lst (predicates_agree f ts size few counted_as text_at 65535 same_text
-        (plain_note f ts size few counted_as text_at) p l c.value c.next c.first)
+        (next f p l (parts_m part.Predicate 65535) lst (predicates_agree f ts size few counted_as placed_text 65535 same_text
+        (plain_note f ts size few counted_as placed_text) p l c.value c.next c.first)
         ∙ ih c.next (add_all (each same_text ps) l) a.value a.next a.first
         ∙ after_same a.next (ap (λ (y : List Text). add_all as' (add_all y l)) (each_same ps) ∙ add_both ps as' l))
         ∙ branches_agree i a.next (add_all (ps ++ as') l) r.value q (r.first ∙ ap (got r.value) z.1)
@@ -226,15 +226,15 @@ module _ (f : List ℕ) (ts : List Text) (size : length f ≤ 32768) (few : leng
             let v = bound (place ts) _ x.rest in
             let z = given _ _ _ v.rest in
             four 0 (λ y. omega arith) (λ y. omega arith) (λ y. omega arith) (λ y. omega arith) (λ y. omega arith)
-            (wide_sum (place_wide f ts size few counted_as text_at w x.first)
-            (place_wide f ts size few counted_as text_at x.next (v.first ∙ ap (got v.value) z.1)))
+            (wide_sum (place_wide f ts size few counted_as placed_text w x.first)
+            (place_wide f ts size few counted_as placed_text x.next (v.first ∙ ap (got v.value) z.1)))
             ∙ same z.0
         cases (suc zero) g =
             let x = bound (place ts) _ g in
             let z = given _ _ _ x.rest in
             laws.effect_simple f w l (h 1) lst (λ y. omega arith)
             ∙ laws.simple_1 f w l (h 1) refl
-            ∙ skips f w l 2 (place_wide f ts size few counted_as text_at w (x.first ∙ ap (got x.value) z.1))
+            ∙ skips f w l 2 (place_wide f ts size few counted_as placed_text w (x.first ∙ ap (got x.value) z.1))
             ∙ same z.0
         cases (suc (suc zero)) g =
             let x = bound u32 _ g in
@@ -316,7 +316,7 @@ module _ (f : List ℕ) (ts : List Text) (size : length f ≤ 32768) (few : leng
     own_agrees i r l a =
         let v = word x i 0 in
         let g : Text → Text = λ t. r.id ++ text ": " ++ t in
-        let is : Renders f ts v g = λ m h. id_note_lem f ts size few counted_as text_at v m a.id_in h
+        let is : Renders f ts v g = λ m h. id_note_lem f ts size few counted_as placed_text v m a.id_in h
         ∙ ap (λ (y : Text). y ++ text ": " ++ get_or ts m []) (sym a.id) in
         let n = r.notes in
         let t = flat of_trigger r.triggers in
@@ -325,11 +325,11 @@ module _ (f : List ℕ) (ts : List Text) (size : length f ≤ 32768) (few : leng
         let l₂ = add_all (each g t) l₁ in
         ap (λ (y : After). (parts_m part.Predicate v f (word x i 4)
         (parts_m part.Trigger v f (word x i 3) y.list).list).list)
-        (notes_agree f ts size few counted_as text_at v g is (word x i 7) l n a.notes.0 a.notes.1)
+        (notes_agree f ts size few counted_as placed_text v g is (word x i 7) l n a.notes.0 a.notes.1)
         ∙ ap (λ (y : After). (parts_m part.Predicate v f (word x i 4) y.list).list)
-        (triggers_agree f ts size few counted_as text_at v g is (word x i 3) l₁ r.triggers a.triggers.0
+        (triggers_agree f ts size few counted_as placed_text v g is (word x i 3) l₁ r.triggers a.triggers.0
         a.triggers.1)
-        ∙ ap (λ (y : After). y.list) (predicates_agree f ts size few counted_as text_at v g is (word x i 4) l₂
+        ∙ ap (λ (y : After). y.list) (predicates_agree f ts size few counted_as placed_text v g is (word x i 4) l₂
         r.conditions a.conditions.0 a.conditions.1)
         ∙ ap (add_all (each g c)) (add_both (each g n) (each g t) l ∙ ap (λ (y : List Text). add_all y l) (each_both g n t))
         ∙ add_both (each g (n ++ t)) (each g c) l
@@ -367,7 +367,7 @@ unsupported_agrees {f} {x} {ts} m a h =
     let rs = m.rules in
     ap (λ (n : ℕ). rules_m f x n 0 []) (ap (λ (n : ℕ). at_most n 32) a.automations
     ∙ sym (most_yes (length rs) 32 a.few_automations))
-    ∙ rules_agree f ts a.size a.few_texts a.counted a.text_at x rs 0 []
+    ∙ rules_agree f ts a.size a.few_texts a.counted a.placed_text x rs 0 []
     (λ d j k. let z : j ≡ 0 + j = omega arith in subst (λ (n : ℕ). RuleAt f x ts n (get_or rs j d)) z (a.rows d j k))
     ∙ add_sorted (flat rule_reasons rs)
     (omega (arith, many_rules rs, length-append (flat of_invariant m.scenario.invariants) (flat of_rule rs)))
@@ -377,7 +377,7 @@ pub alone_agrees : {f x : List ℕ} {ts : List Text} → length f ≤ 32768 → 
     ((k : ℕ) → k < length ts → text_at f (start_from f 6 k) ≡ get_or ts k []) →
     (i : ℕ) (r : Automation) → RuleAt f x ts i r → length (of_rule r) ≤ 64 → rule_m f x i [] ≡ unsupported (r ∷ [])
 unfolding unsupported flat
-alone_agrees {f} {x} {ts} size few counted_as text_at i r a h =
-    rule_agrees f ts size few counted_as text_at x i r [] a
+alone_agrees {f} {x} {ts} size few counted_as placed_text i r a h =
+    rule_agrees f ts size few counted_as placed_text x i r [] a
     ∙ ap (λ (l : List Text). add_all l []) (sym (append-nil (rule_reasons r)))
     ∙ add_sorted (rule_reasons r ++ []) (omega (arith, many_rules (r ∷ []), length-append (of_rule r) []))

@@ -23,7 +23,7 @@ pub record RulesAt (f x : List ℕ) (ts : List Text) (rs : List Automation) : Ty
   pub size : length f ≤ 32768
   pub few_texts : length ts ≤ 65535
   pub counted : text_count f ≡ length ts
-  pub text_at : (k : ℕ) → k < length ts → text_at f (start_from f 6 k) ≡ get_or ts k []
+  pub placed_text : (k : ℕ) → k < length ts → text_at f (start_from f 6 k) ≡ get_or ts k []
   pub automations : get_or x automation_count_word 0 ≡ length rs
   pub few_automations : length rs ≤ 32
   pub rows : (d : Automation) (i : ℕ) → i < length rs → RuleAt f x ts i (get_or rs i d)

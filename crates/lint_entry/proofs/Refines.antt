@@ -17,7 +17,7 @@ use Rattle.model_spec.specs.Model.{Automation, Model}
 use Rattle.model_spec.specs.File.{texts}
 use Rattle.model_spec.specs.Validate.{accepted}
 use Rattle.model_walk.proofs.Found.{place_found}
-use Rattle.model_order.proofs.Places.{text_at}
+use Rattle.model_order.proofs.Places.{placed_text}
 use Rattle.model_index.specs.declared.Index.{Index}
 use Rattle.model_index.specs.declared.File.{File}
 use Rattle.model_index.specs.declared.Status.TheVariants as status
@@ -148,10 +148,10 @@ module _ (s : List ℕ) (i : Index) (bytes : (k : ℕ) → get_or s k 0 < 256) (
     start = board (replicate (length F) 0) (replicate (length I) 0) (record { findings = 0; interactions = 0; refusal = 0 })
 
     module _ (li : Lints s (names_of s i) i.rules start l c) (nt : AllNotes s i.rules i.rules.count 0 c e) where
-      noted : Noted st (accepted_few s m acc).0 few_texts texts_are_counted (text_at s o.all_texts.1)
+      noted : Noted st (accepted_few s m acc).0 few_texts texts_are_counted (placed_text s o.all_texts.1)
           (accepted_few s m acc).1 has_text m.rules c e
       noted =
-          all_noted st (accepted_few s m acc).0 few_texts texts_are_counted (text_at s o.all_texts.1)
+          all_noted st (accepted_few s m acc).0 few_texts texts_are_counted (placed_text s o.all_texts.1)
           (accepted_few s m acc).1 has_text nt
 
       abbrev first : List Item

@@ -27,9 +27,9 @@ low a b h = omega arith
 max_lt : (a b : ℕ) → a < 2 → b < 2 → max a b < 2
 max_lt a b h k = omega arith
 
-bit_or : (x y j : ℕ) → bit (bit_or x y) j ≡ max (bit x j) (bit y j)
+bit_of_or : (x y j : ℕ) → bit (bit_or x y) j ≡ max (bit x j) (bit y j)
 unfolding bit
-bit_or x y j =
+bit_of_or x y j =
     ap (λ (n : ℕ). n % 2) (or_shr x y j ∙ or_step (x / 2 ^ j) (y / 2 ^ j))
     ∙ low (bit_or (x / 2 ^ j / 2) (y / 2 ^ j / 2)) (max (x / 2 ^ j % 2) (y / 2 ^ j % 2))
     (max_lt (x / 2 ^ j % 2) (y / 2 ^ j % 2) (omega arith) (omega arith))
@@ -49,7 +49,7 @@ max_is (suc (suc a)) b h k = absurd (omega arith)
 -- a union's places
 pub holds_or : (x y j : ℕ) → holds (bit_or x y) j ≡ (holds x j || holds y j)
 unfolding holds bit
-holds_or x y j = ap (λ (n : ℕ). eqb n 1) (bit_or x y j) ∙ max_is (x / 2 ^ j % 2) (y / 2 ^ j % 2) (omega arith) (omega arith)
+holds_or x y j = ap (λ (n : ℕ). eqb n 1) (bit_of_or x y j) ∙ max_is (x / 2 ^ j % 2) (y / 2 ^ j % 2) (omega arith) (omega arith)
 
 -- ---- one place
 

@@ -14,7 +14,7 @@ use lib.ListN.{length, get_or, take, get_or-eq_default}
 use borrow.Author.Tests.{eq-eqb, ne_eqb}
 use Rattle.texts.proofs.Bool.{never}
 use Rattle.texts.specs.Lists.{if◌then◌else◌, any, keep, each, through}
-use Rattle.lint_spec.specs.Reach.{places, square, by_way_of, closure, component, components_from}
+use Rattle.lint_spec.specs.Reach.{places, square, by_way_of, closure, component, components_among}
 use Rattle.lint_spec.specs.Reach as lint
 use Rattle.lint_reach.specs.declared.Components.{Components}
 use Rattle.lint_reach.specs.Steps.{Square, cell}
@@ -330,30 +330,30 @@ module _ (start r : Square) (n : ℕ) (sq : Square) (c : Copies start n sq) (clo
   -- one place more
   comps_step : (h : n ≤ 32) (left i a : ℕ) (l : List ℕ) → holds a i ≡ any (eqb i) l →
       ((b : ℕ) (m : List ℕ) → Assigned b m → each members (components_from r n left (i + 1) b)
-      ≡ components_from (closure sq) m (places left (i + 1))) →
+      ≡ components_among (closure sq) m (places left (i + 1))) →
       Assigned a l → each members (components_from r n (suc left) i a)
-      ≡ components_from (closure sq) l (i ∷ places left (i + 1))
-  unfolding each components_from components_from
+      ≡ components_among (closure sq) l (i ∷ places left (i + 1))
+  unfolding each components_from components_among
   comps_step h left i a l e ih f = cases (any (eqb i) l || not (lint.cell (closure sq) i i)) refl
     where
       x : ℕ
       x = component_m r n i
 
       cases : (b : Bool) → (any (eqb i) l || not (lint.cell (closure sq) i i)) ≡ b →
-          each members (components_from r n (suc left) i a) ≡ components_from (closure sq) l (i ∷ places left (i + 1))
+          each members (components_from r n (suc left) i a) ≡ components_among (closure sq) l (i ∷ places left (i + 1))
       cases true d =
           let s : starts_m r a i ≡ false = starts_is a i l e ∙ ap not d in
-          rw (s, components_from) (rw (d, components_from) (ih a l f))
+          rw (s, components_from) (rw (d, components_among) (ih a l f))
       cases false d =
           let s : starts_m r a i ≡ true = starts_is a i l e ∙ ap not d in
-          rw (s, components_from) (rw (d, components_from) (
+          rw (s, components_from) (rw (d, components_among) (
           ap (λ (y : List ℕ). y ∷ each members (components_from r n left (i + 1) (bit_or a x))) (component_is h i)
           ∙ ap (λ (ys : List (List ℕ)). component (closure sq) i ∷ ys)
           (ih (bit_or a x) (l ++ component (closure sq) i) (assigned_more a i l f))))
 
   comps_are : n ≤ 32 → (left i a : ℕ) (l : List ℕ) → i + left ≤ n → Assigned a l →
-      each members (components_from r n left i a) ≡ components_from (closure sq) l (places left i)
-  unfolding each components_from components_from places Assigned
+      each members (components_from r n left i a) ≡ components_among (closure sq) l (places left i)
+  unfolding each components_from components_among places Assigned
   comps_are h zero i a l g f = refl
   comps_are h (suc left) i a l g f =
       comps_step h left i a l (f i (omega arith)) (λ b m d. comps_are h left (i + 1) b m (omega arith) d) f
@@ -365,4 +365,4 @@ module _ (start r : Square) (n : ℕ) (sq : Square) (c : Copies start n sq) (clo
   cycles_are c h e =
       ap (each members) e
       ∙ comps_are h n 0 0 [] (omega arith) (λ j k. holds_none j)
-      ∙ ap (λ (m : ℕ). components_from (closure sq) [] (places m 0)) (sym size)
+      ∙ ap (λ (m : ℕ). components_among (closure sq) [] (places m 0)) (sym size)

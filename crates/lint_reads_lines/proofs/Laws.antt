@@ -17,7 +17,7 @@ use Rattle.lint_reach.specs.Sets.{members}
 use Rattle.lint_entry.specs.declared.Report.{Report}
 use Rattle.show.specs.Lines.{newline, quoted}
 use Rattle.lint_words.specs.Lines.{spaced, listed, quoted_list}
-use Rattle.lint_words.specs.Numbers.{text_at, name_place, name_of, names_of}
+use Rattle.lint_words.specs.Numbers.{placed_text, name_place, name_of, names_of}
 use Rattle.lint_reads_lines.specs.Lines.{touched_line}
 use Rattle.lint_reads_lines.specs.Numbers.{
   set_at,
@@ -47,14 +47,14 @@ none_at p t h = rw (lt-ltb 65535 p h)
 pub some_at : (p : ℕ) (t : Text) → p ≤ 65535 → t ≡ (if ltb 65535 p then [] else t)
 some_at p t h = rw (le-ltb 65535 p h)
 
-pub quoted_place : (f : List ℕ) (p at : ℕ) → at ≡ start_from f 6 p → quoted (text_at f at) ≡ quoted (text_at f p)
-unfolding text_at
+pub quoted_place : (f : List ℕ) (p at : ℕ) → at ≡ start_from f 6 p → quoted (text_at f at) ≡ quoted (placed_text f p)
+unfolding placed_text
 quoted_place f p at h = rw h
 
 pub reads_listed : (f : List ℕ) (l : List ℕ) (k : ℕ) → k ≡ length l →
-    decimal k ++ spaced (each (λ p. quoted (text_at f p)) l) ≡ quoted_list (each (text_at f) l)
+    decimal k ++ spaced (each (λ p. quoted (placed_text f p)) l) ≡ quoted_list (each (placed_text f) l)
 unfolding quoted_list
-reads_listed f l k e = counted (λ p. quoted (text_at f p)) l k e ∙ ap listed (sym (each_each quoted (text_at f) l))
+reads_listed f l k e = counted (λ p. quoted (placed_text f p)) l k e ∙ ap listed (sym (each_each quoted (placed_text f) l))
 
 -- ---- reads and writes
 
@@ -105,7 +105,7 @@ module _ (r : Report) (i k : ℕ) where
 pub reads_line_is : (f : List ℕ) (x : Index) (r : Report) (i : ℕ) →
     text "reads " ++ (quoted
     (name_of f x.rules i) ++ (32 ∷ (quoted_list
-    (each (text_at f) (ascending 97 0 (read_places f x.entities r i))) ++ newline))) ≡ reads_text f x r i
+    (each (placed_text f) (ascending 97 0 (read_places f x.entities r i))) ++ newline))) ≡ reads_text f x r i
 unfolding reads_text touched_line
 reads_line_is f x r i = refl
 

@@ -8,7 +8,7 @@ use Rattle.model_index.specs.declared.Index.{Index}
 use Rattle.lint_spec.specs.Reach.{places}
 use Rattle.lint_reach.specs.Sets.{members}
 use Rattle.lint_entry.specs.declared.Report.{Report}
-use Rattle.lint_words.specs.Numbers.{text_at, name_place, name_of, names_of}
+use Rattle.lint_words.specs.Numbers.{placed_text, name_place, name_of, names_of}
 use Rattle.lint_reads_lines.specs.Lines.{touched_line}
 
 -- ---- reads and writes
@@ -52,7 +52,7 @@ read_places f s r i = each (name_place f s) (members (set_at r.reads i)) ++ stra
 unfoldable pub reads_text : (f : List ℕ) → Index → Report → (i : ℕ) → Text
 reads_text f x r i =
     touched_line (text "reads") (name_of f x.rules i)
-    (each (text_at f) (ascending 97 0 (read_places f x.entities r i)))
+    (each (placed_text f) (ascending 97 0 (read_places f x.entities r i)))
 
 unfoldable pub writes_text : (f : List ℕ) → Index → Report → (i : ℕ) → Text
 writes_text f x r i = touched_line (text "writes") (name_of f x.rules i) (names_of f x.entities (set_at r.writes i))

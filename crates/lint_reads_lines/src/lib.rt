@@ -7,7 +7,7 @@ ghost use Rattle.lint_reach.specs.Sets.{members};
 ghost use Rattle.show.specs.Lines.{quoted};
 ghost use Rattle.show.specs.Writing.{Written};
 ghost use Rattle.lint_words.specs.Lines.{quoted_list};
-ghost use Rattle.lint_words.specs.Numbers.{text_at, name_place};
+ghost use Rattle.lint_words.specs.Numbers.{placed_text, name_place};
 ghost use Rattle.lint_reads_lines.specs.Numbers.{
   set_at,
   behind,
@@ -146,7 +146,7 @@ fn reads_count(f: &[u8], entities: Section, r: Report, i: usize) -> u64
 
 // A space and the text at the place, if it is one.
 fn put_text_at(out: &mut [u8], n: usize, f: &[u8], place: u32) -> usize
-    ensures { Written (if ltb 65535 place then [] else 32 ∷ quoted (text_at f.now place)) out.old n out.new result }
+    ensures { Written (if ltb 65535 place then [] else 32 ∷ quoted (placed_text f.now place)) out.old n out.new result }
 {
     if 65535 < place {
         return n;
@@ -157,7 +157,7 @@ fn put_text_at(out: &mut [u8], n: usize, f: &[u8], place: u32) -> usize
 
 // `N "ENTITY"..` for the names that the automation reads, ascending.
 fn put_reads(out: &mut [u8], n: usize, f: &[u8], entities: Section, r: Report, i: usize) -> usize
-    ensures { Written (quoted_list (each (text_at f.now) (ascending 97 0 (read_places f.now entities r i))))
+    ensures { Written (quoted_list (each (placed_text f.now) (ascending 97 0 (read_places f.now entities r i))))
         out.old n out.new result }
 {
     let mut m = show::put_number(out, n, reads_count(f, entities, r, i));

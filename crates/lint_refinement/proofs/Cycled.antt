@@ -22,7 +22,7 @@ use Rattle.model_walk.proofs.Found.{Case, is_true, is_false, case}
 use Rattle.model_parts.specs.declared.Section.{Section}
 use Rattle.engine_spec.proofs.Lists.{Each}
 use Rattle.model_spec.specs.Rewrite.{place_of}
-use Rattle.lint_spec.specs.Reach.{Square, places, square, by_way_of, closure, component, components_from, components}
+use Rattle.lint_spec.specs.Reach.{Square, places, square, by_way_of, closure, component, components_among, components}
 use Rattle.lint_spec.specs.Reach as reach
 use Rattle.lint_spec.specs.Touches.{Action, Write, write, written_by, writes_of}
 use Rattle.lint_spec.specs.Touches as touches
@@ -146,18 +146,18 @@ component_below sq i =
     (let z : 0 + length sq ≡ length sq = omega arith in
     subst (λ (x : ℕ). Each (λ (j : ℕ). j < x) (places (length sq) 0)) z (places_below (length sq) 0))
 
-from_below : (sq : Square) (assigned l : List ℕ) → Each (Each (λ (j : ℕ). j < length sq)) (components_from sq assigned l)
-unfolding components_from
+from_below : (sq : Square) (assigned l : List ℕ) → Each (Each (λ (j : ℕ). j < length sq)) (components_among sq assigned l)
+unfolding components_among
 from_below sq assigned [] = tt
 from_below sq assigned (i ∷ l) = cases (any (eqb i) assigned || not (reach.cell sq i i)) (from_below sq assigned l)
     (from_below sq (assigned ++ component sq i) l)
   where
-    cases : (b : Bool) → Each (Each (λ (j : ℕ). j < length sq)) (components_from sq assigned l) →
-        Each (Each (λ (j : ℕ). j < length sq)) (components_from sq (assigned ++ component sq i) l) →
+    cases : (b : Bool) → Each (Each (λ (j : ℕ). j < length sq)) (components_among sq assigned l) →
+        Each (Each (λ (j : ℕ). j < length sq)) (components_among sq (assigned ++ component sq i) l) →
         Each (Each (λ (j : ℕ). j < length sq)) (elim b [
-          | true ↦ components_from sq assigned l
+          | true ↦ components_among sq assigned l
           | false ↦
-              component sq i ∷ components_from sq (assigned ++ component sq i) l
+              component sq i ∷ components_among sq (assigned ++ component sq i) l
         ])
     cases true f g = f
     cases false f g = (component_below sq i, g)

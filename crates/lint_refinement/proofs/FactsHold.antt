@@ -8,7 +8,7 @@ use lib.Dec.{eqb}
 use lib.ListN.{length, get_or}
 use borrow.Author.Tests.{eq-eqb, ne_eqb}
 use Rattle.texts.specs.Lists.{each}
-use Rattle.texts.specs.Places.{text_at, start_from}
+use Rattle.texts.specs.Places.{placed_text, start_from}
 use Rattle.texts.specs.Texts.{Text, text, eq_t, mem_t}
 use Rattle.texts.proofs.Ordering.{not_both, eq_is, eq_refl, eq_sym}
 use Rattle.model_spec.specs.Answer.{answer}
@@ -16,7 +16,7 @@ use Rattle.model_spec.specs.Model.{Automation, Model}
 use Rattle.model_spec.specs.Validate.{accepted}
 use Rattle.model_walk.proofs.Found.{Case, is_true, is_false, case}
 use Rattle.model_order.specs.Order.{fits, place_from, Fixed}
-use Rattle.model_order.proofs.Places.{same_place, texts_ascend, fixed_at, fixed_texts, text_at}
+use Rattle.model_order.proofs.Places.{same_place, texts_ascend, fixed_at, fixed_texts, placed_text}
 use Rattle.model_index.specs.declared.Index.{Index}
 use Rattle.model_index.specs.Indexed.{Indexed}
 use Rattle.engine_spec.proofs.Distinct.{Fresh, accepted_fresh}
@@ -100,7 +100,7 @@ module _ (s : List ℕ) (i : Index) (m : Model) (acc : accepted s ≡ answer m) 
           let z : place_from i.texts.count 0 w s 6 ≡ length ts =
           ap (λ (c : ℕ). place_from c 0 w s 6) texts_count
           ∙ none_from w s (length ts) 0 6 (λ j k. eq_sym w (text_at s (start_from s 6 j))
-          ∙ ap (λ (t : Text). eq_t t w) (text_at s o.all_texts.1 j k) ∙ not_at ts w b j k)
+          ∙ ap (λ (t : Text). eq_t t w) (placed_text s o.all_texts.1 j k) ∙ not_at ts w b j k)
           ∙ (omega arith) in
           ap (eqb n) z ∙ ne_eqb n (length ts) (λ e. omega arith) ∙ sym (not_at ts w b n h)
 

@@ -69,7 +69,7 @@ reasons_long (suc n) u = ap suc (reasons_long n (drop 5 u))
 
 module _ {s : List ℕ} {d : Names} {rs : Section} {ts : List Text} {m : Model} (st : Stage s d rs ts m)
     (size : length s ≤ 32768) (few_texts : length ts ≤ 65535)
-    (counted_as : text_count s ≡ length ts) (text_at : (k : ℕ) → k < length ts → text_at s (start_from s 6 k) ≡ get_or ts k [])
+    (counted_as : text_count s ≡ length ts) (placed_text : (k : ℕ) → k < length ts → text_at s (start_from s 6 k) ≡ get_or ts k [])
     (few_notes : length (notes_of m) ≤ 64)
     (has_text : HasText s) where
   -- ---- the row
@@ -201,7 +201,7 @@ module _ {s : List ℕ} {d : Names} {rs : Section} {ts : List Text} {m : Model} 
 
     module _ {b c : Board} (f : RuleNotes s rs i b c) where
       are_notes : listed s f.many f.reasons ≡ unsupported (r ∷ [])
-      are_notes = f.are_reasons ∙ alone_agrees size few_texts counted_as text_at 0 r (row_is i h f.row f.is_row)
+      are_notes = f.are_reasons ∙ alone_agrees size few_texts counted_as placed_text 0 r (row_is i h f.row f.is_row)
           few_own
 
       many_are : f.many ≡ length (unsupported (r ∷ []))

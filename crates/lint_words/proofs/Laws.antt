@@ -23,7 +23,7 @@ use Rattle.show.specs.Lines.{escape, quoted, all_lines}
 use Rattle.show.proofs.Laws as show
 use Rattle.lint_words.specs.Lines.{spaced, listed, quoted_list}
 use Rattle.lint_words.specs.Numbers.{
-  text_at,
+  placed_text,
   start_at,
   name_place,
   name_of,
@@ -168,7 +168,7 @@ module _ (s : Section) (i : ℕ) where
     place_is p r e h = h ∙ ap (place_m f) e
 
     name_is : (q at : ℕ) → q ≡ name_place f s i → at ≡ start_from f 6 q → text_at f at ≡ name_of f s i
-    unfolding name_of text_at
+    unfolding name_of placed_text
     name_is q at e h = rw (h, e)
 
     pub quoted_name : (q at : ℕ) → q ≡ name_place f s i → at ≡ start_from f 6 q →

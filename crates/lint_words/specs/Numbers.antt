@@ -24,8 +24,8 @@ use Rattle.lint_walk.specs.Raw.{place_m}
 
 -- ---- texts and names
 
-unfoldable pub text_at : (f : List ℕ) → (place : ℕ) → Text
-text_at f k = text_at f (start_from f 6 k)
+unfoldable pub placed_text : (f : List ℕ) → (place : ℕ) → Text
+placed_text f k = text_at f (start_from f 6 k)
 
 -- the position of the i-th part; there are at most 100
 unfoldable pub start_at : Section → (i : ℕ) → ℕ
@@ -36,7 +36,7 @@ unfoldable pub name_place : (f : List ℕ) → Section → (i : ℕ) → ℕ
 name_place f s i = place_m f (start_at s i)
 
 unfoldable pub name_of : (f : List ℕ) → Section → (i : ℕ) → Text
-name_of f s i = text_at f (name_place f s i)
+name_of f s i = placed_text f (name_place f s i)
 
 -- the names of a set of parts
 unfoldable pub names_of : (f : List ℕ) → Section → (set : ℕ) → List Text

@@ -283,12 +283,12 @@ module _ (s : List ℕ) {ts : List Text} {next : ℕ} (e : texts s 4 ≡ got ts 
         unavailable = and_second (mem_t (text "on") ts && mem_t (text "off") ts && mem_t (text "unknown") ts) _ a;
       }
 
-  pub text_at : (k : ℕ) → k < length ts → text_at s (start_from s 6 k) ≡ get_or ts k []
-  text_at k h =
+  pub placed_text : (k : ℕ) → k < length ts → text_at s (start_from s 6 k) ≡ get_or ts k []
+  placed_text k h =
       let x = section s 4 e in
       text_at_place s x.count k 6 (omega (arith, texts_count))
       ∙ ap (λ (l : List Text). get_or l k []) (sym (texts_from_lem s x.count 6 x.read))
 
   -- the file is one of bytes, so a length is below 256
   pub text_short : ((i : ℕ) → get_or s i 0 < 256) → (k : ℕ) → k < length ts → length (get_or ts k []) < 256
-  text_short b k h = omega (arith, ap length (text_at k h), length_byte s (start_from s 6 k), b (start_from s 6 k))
+  text_short b k h = omega (arith, ap length (placed_text k h), length_byte s (start_from s 6 k), b (start_from s 6 k))

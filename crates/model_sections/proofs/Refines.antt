@@ -96,7 +96,7 @@ use Rattle.model_walk.proofs.Refines.{sees_mode}
 use Rattle.model_parts.specs.declared.Section.{Section}
 use Rattle.model_parts.specs.Stand.{Reads}
 use Rattle.model_parts.proofs.Stands.{more}
-use Rattle.model_order.proofs.Places.{same_place, texts_ascend, text_at}
+use Rattle.model_order.proofs.Places.{same_place, texts_ascend, placed_text}
 use Rattle.model_index.specs.declared.Status.TheVariants as status
 use Rattle.model_index.specs.Indexed.{Holds}
 use Rattle.model_check.specs.declared.Checked.{Checked}
@@ -225,7 +225,7 @@ module _ (s : List ℕ) (ts : List Text) (all_texts : Reads texts s 4 ts) where
 
   bad_agrees : (x : ℕ) → x < length ts → bad_place s x ≡ bad_length (T x)
   unfolding bad_place
-  bad_agrees x h = ap bad_length (text_at s all_texts.1 x h)
+  bad_agrees x h = ap bad_length (placed_text s all_texts.1 x h)
 
   places_wide : (i p : ℕ) (l : List Text) (q : ℕ) → p ≤ length s → times i (place ts) s p ≡ got l q → Wide (2 * i) s p q
   places_wide zero p l q h e = let z = (none_read (place ts) s p e).1 in record { ends = omega arith; inside = omega arith }

@@ -9,7 +9,7 @@ use lib.Dec.{ltb, eqb}
 use borrow.Author.Tests.{ltb-false}
 use Rattle.texts.specs.Lists.{if◌then◌else◌, any, each}
 use Rattle.texts.specs.Texts.{Text, text, mem_t}
-use Rattle.texts.specs.Places.{text_at, start_from}
+use Rattle.texts.specs.Places.{placed_text, start_from}
 use Rattle.model_spec.specs.Answer.{Answer, answer, refused, Verdict, ◌>>=◌, ◌and◌, ◌when◌, each_accepted}
 use Rattle.model_spec.specs.Model.{Entity, Input, Event, Invariant, Limits, Scenario, Model}
 use Rattle.model_spec.specs.File.{◌>>=◌ as ◌>>=ᵣ◌}
@@ -36,7 +36,7 @@ use Rattle.model_parts.specs.declared.Section.{Section}
 use Rattle.model_parts.specs.Parts.{section}
 use Rattle.model_parts.specs.Stand.{Reads}
 use Rattle.model_order.specs.Order.{place_from, Fixed}
-use Rattle.model_order.proofs.Places.{same_place, texts_ascend, text_at, fixed_at, fixed_texts}
+use Rattle.model_order.proofs.Places.{same_place, texts_ascend, placed_text, fixed_at, fixed_texts}
 use Rattle.model_index.specs.declared.Index.{Index}
 use Rattle.model_index.specs.declared.File.{File}
 use Rattle.model_index.specs.declared.Status.TheVariants as status
@@ -157,7 +157,7 @@ module _ (s : List ℕ) (i : Index) (m : Model) (x : Indexed s i m) where
       rw (p.is_place, title_bad) (
       ap (λ (v : ℕ). not (eqb v 1) || ltb 200 (length (text_at s (start_from s 6 p.at)))) x.version
       ∙ ap (λ (t : Text). not (eqb sc.version 1) || ltb 200 (length t))
-      (text_at s x.all_texts.1 p.at p.is_in ∙ sym p.is_text))
+      (placed_text s x.all_texts.1 p.at p.is_in ∙ sym p.is_text))
 
   sized : size_bad i.entities.count nn ≡ bad_size m
   unfolding size_bad bad_size

@@ -24,7 +24,7 @@ use Rattle.checker_spec.specs.Judge.{Failure, prohibited_state, guard_violated, 
 use Rattle.checker_spec.specs.Check as check
 use Rattle.checker_result.specs.declared.CheckResult.{CheckResult}
 use Rattle.checker_entry.specs.Contract.{failure_words, violation_words, Shows}
-use Rattle.check_lines.specs.Numbers.{violated_of, text_at, failure_of, source_of, violation_of}
+use Rattle.check_lines.specs.Numbers.{violated_of, placed_text, failure_of, source_of, violation_of}
 
 -- ---- eight numbers
 
@@ -45,7 +45,7 @@ sized ts v = eight (place_of v.invariant ts) v.at v.index v.failure v.source
 
 read_back : (f : List ℕ) (p a i : ℕ) (e : Failure) (s : Option Source) →
     violation_of f (violated_of ((p ∷ a ∷ i ∷ []) ++ (failure_words e ++ source_words s)))
-    ≡ record { invariant = text_at f p; at = a; index = i; source = s; failure = e }
+    ≡ record { invariant = placed_text f p; at = a; index = i; source = s; failure = e }
 unfolding violation_of violated_of failure_of source_of source_words
 read_back f p a i prohibited_state none = refl
 read_back f p a i prohibited_state (some s) = refl
@@ -64,14 +64,14 @@ pub record Named (ts : List Text) (v : check.Violation) : Type 0 where
   pub is : v.invariant ≡ get_or ts place []
 
 module _ (f x : List ℕ) (ts : List Text) (m : Model) (tb : Tabled f x ts m) where
-  identifier : (v : check.Violation) → Named ts v → text_at f (place_of v.invariant ts) ≡ v.invariant
-  unfolding text_at
+  identifier : (v : check.Violation) → Named ts v → placed_text f (place_of v.invariant ts) ≡ v.invariant
+  unfolding placed_text
   identifier v n =
       let p : place_of v.invariant ts ≡ n.place =
       ap (λ (t : Text). place_of t ts) n.is ∙ text_place f x ts m tb n.place n.among in
       let q : at_most n.place 65535 ≡ n.place = sym
       (bounds.most_yes n.place 65535 (omega (arith, n.among, tb.few_texts))) in
-      rw (p, q) (tb.text_at n.place n.among ∙ sym n.is)
+      rw (p, q) (tb.placed_text n.place n.among ∙ sym n.is)
 
   said : (v : check.Violation) → Named ts v → violation_of f (violated_of (violation_words ts v)) ≡ v
   unfolding violation_words

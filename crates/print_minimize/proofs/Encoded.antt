@@ -7,12 +7,12 @@ use Rattle.texts.specs.Places.{text_at, start_from}
 use Rattle.texts.specs.Texts.{Text}
 use Rattle.model_spec.specs.Model.{Event, Input, reload}
 use Rattle.model_spec.specs.Events.{InputWords, EventWords}
-use Rattle.print_minimize.specs.Lines.{text_at, input_of, event_of}
+use Rattle.print_minimize.specs.Lines.{placed_text, input_of, event_of}
 
 -- the texts stand in the file
 module _ (f : List ℕ) (ts : List Text) (stand : (k : ℕ) → k < length ts → text_at f (start_from f 6 k) ≡ get_or ts k []) where
-  text_so : (k : ℕ) → k < length ts → (t : Text) → t ≡ get_or ts k [] → text_at f k ≡ t
-  unfolding text_at
+  text_so : (k : ℕ) → k < length ts → (t : Text) → t ≡ get_or ts k [] → placed_text f k ≡ t
+  unfolding placed_text
   text_so k h t e = stand k h ∙ sym e
 
   input_so : (k e v : ℕ) (i : Input) → InputWords ts k e v i → input_of f k e v ≡ i

@@ -8,7 +8,7 @@ use Rattle.texts.specs.Places.{text_at, start_from}
 use Rattle.texts.specs.Texts.{Text, text, decimal}
 use Rattle.model_spec.specs.Model.{Event}
 use Rattle.show.specs.Lines.{newline, quoted}
-use Rattle.print_minimize.specs.Lines.{input_text, event_line, text_at, input_of, answer_line, invariant_line}
+use Rattle.print_minimize.specs.Lines.{input_text, event_line, placed_text, input_of, answer_line, invariant_line}
 use native.Mathlib.Omega.{arith}
 use lib.ListN.{length, drop, length-append}
 use Rattle.model_spec.specs.Answer.{Answer, answer, refused}
@@ -40,8 +40,8 @@ written_fits {f} {r} {before} {after} {o} {o'} x e = by (minimize (entries entry
 
 -- ---- the lines
 
-pub place_is : (f : List ℕ) (k : ℕ) {at : ℕ} → at ≡ start_from f 6 k → quoted (text_at f at) ≡ quoted (text_at f k)
-unfolding text_at
+pub place_is : (f : List ℕ) (k : ℕ) {at : ℕ} → at ≡ start_from f 6 k → quoted (text_at f at) ≡ quoted (placed_text f k)
+unfolding placed_text
 place_is f k e = rw e
 
 module _ (f : List ℕ) (k e v : ℕ) where
@@ -54,7 +54,7 @@ module _ (f : List ℕ) (k e v : ℕ) where
   reloads y z = rw (ne_eqb k 1 y, eq-eqb k 2 z)
 
   pub sets : (k ≡ 1 → ⊥) → (k ≡ 2 → ⊥) →
-      text "set " ++ (quoted (text_at f e) ++ (32 ∷ quoted (text_at f v))) ≡ input_text (input_of f k e v)
+      text "set " ++ (quoted (placed_text f e) ++ (32 ∷ quoted (placed_text f v))) ≡ input_text (input_of f k e v)
   unfolding input_text input_of
   sets y z = rw (ne_eqb k 1 y, ne_eqb k 2 z)
 

@@ -18,11 +18,11 @@ event_line v = text "event " ++ (decimal v.at ++ (32 ∷ (input_text v.input ++ 
 
 -- what the words of an input and of an event say, whatever they are: kind 1 restarts, 2 reloads, any other sets
 
-unfoldable pub text_at : (f : List ℕ) → (place : ℕ) → Text
-text_at f k = text_at f (start_from f 6 k)
+unfoldable pub placed_text : (f : List ℕ) → (place : ℕ) → Text
+placed_text f k = text_at f (start_from f 6 k)
 
 unfoldable pub input_of : (f : List ℕ) → (kind entity value : ℕ) → Input
-input_of f k e v = if eqb k 1 then Input.restart else if eqb k 2 then reload else Input.set (text_at f e) (text_at f v)
+input_of f k e v = if eqb k 1 then Input.restart else if eqb k 2 then reload else Input.set (placed_text f e) (placed_text f v)
 
 abbrev pub event_of : (f : List ℕ) → (second kind entity value : ℕ) → Event
 event_of f s k e v = record { at = s; input = input_of f k e v }

@@ -7,7 +7,7 @@ ghost use Rattle.show.specs.Writing.{Written};
 ghost use Rattle.print_minimize.specs.Lines.{
   input_text,
   event_line,
-  text_at,
+  placed_text,
   input_of,
   event_of,
   answer_line,
@@ -28,7 +28,7 @@ pub struct Printed {
 
 // The text at a place, quoted.
 fn put_place(out: &mut [u8], n: usize, file: &[u8], place: u32) -> usize
-    ensures { Written (quoted (text_at file.now place)) out.old n out.new result }
+    ensures { Written (quoted (placed_text file.now place)) out.old n out.new result }
 {
     let at = texts::text_start(file, 6, place);
     show::put_quoted_text(out, n, file, at)
@@ -109,7 +109,7 @@ pub fn print_events(out: &mut [u8], n: usize, file: &[u8], events: &[u32], count
 // ---- minimize
 
 fn put_invariant(out: &mut [u8], n: usize, file: &[u8], place: u32) -> usize
-    ensures { Written (invariant_line (text_at file.now place)) out.old n out.new result }
+    ensures { Written (invariant_line (placed_text file.now place)) out.old n out.new result }
 {
     let a = show::put(out, n, b"invariant ");
     let b = put_place(out, a, file, place);

@@ -19,4 +19,4 @@ same_texts {f} {x} {ts} t =
     let n : ℕ = get_or x 9 0 in
     let l : length (texts_from f 6 n) ≡ n = texts.texts_many f 6 n in
     ext_get_or [] (texts_from f 6 n) ts (l ∙ t.texts)
-    (λ i h. sym (texts.text_at_place f n i 6 (omega arith)) ∙ t.text_at i (omega (arith, t.texts)))
+    (λ i h. sym (texts.text_at_place f n i 6 (omega arith)) ∙ t.placed_text i (omega (arith, t.texts)))

@@ -43,10 +43,10 @@ put_run-requires c =
     )
 
 pub add-s1-requires : goal.add-s1-requires
-add-s1-requires c = omega (arith, c.pre)
+add-s1-requires c = omega (arith, c.requires)
 
 pub log_action-requires : goal.log_action-requires
-log_action-requires c = omega (arith, c.pre, c.add-s1.ensures.records)
+log_action-requires c = omega (arith, c.requires, c.add-s1.ensures.records)
 
 pub returns : goal.returns
 unfolding waiting_m

@@ -23,7 +23,7 @@ put_run-requires c =
     )
 
 pub perform-requires : goal.perform-requires
-perform-requires c = (c.pre.0, (c.pre.1.0, (c.pre.1.1.0, (omega (arith, c.pre), c.pre.1.1.1.1))))
+perform-requires c = (c.requires.0, (c.requires.1.0, (c.requires.1.1.0, (omega (arith, c.requires), c.requires.1.1.1.1))))
 
 pub returns : goal.returns
 unfolding go_on_m

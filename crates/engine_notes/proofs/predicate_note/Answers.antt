@@ -15,14 +15,12 @@ returns-in_default c =
 
 pub returns-then-kind-eq1 : goal.returns-then-kind-eq1
 returns-then-kind-eq1 c =
-    let at-if1 = c.before.before.before.before in
-    let at_x = at-if1.before.before in
     record {
       is =
           c.note_at.ensures.is
           ∙ sym (laws.predicate_is _ _ _ _
-          ∙ laws.by_is _ _ _ _ _ at_x.before.before.u8-at.ensures at_x.x.given.1
-          ∙ laws.yes_list _ _ _ _ _ (eq-eqb _ _ at-if1.if1.true));
+          ∙ laws.by_is _ _ _ _ _ c.u8_at-x.ensures c.in-Is.is
+          ∙ laws.yes_list _ _ _ _ _ (eq-eqb _ _ c.if-kind-eq1.true));
       clean = c.note_at.ensures.clean;
     }
 

@@ -6,14 +6,14 @@ use Rattle.engine_run.proofs.simulated.Goals as goal
 pub run_all-e-requires : goal.run_all-e-requires
 run_all-e-requires c =
     (
-      omega (arith, c.pre),
+      omega (arith, c.requires),
       (
         omega (arith, ap (λ s. s.items) c.start-st.ensures, ap (λ s. s.queue_start) c.start-st.ensures),
         (
           omega (arith, ap (λ s. s.records) c.start-st.ensures),
           (
             omega (arith, ap (λ s. s.live_runs) c.start-st.ensures),
-            (omega (arith, c.pre, ap (λ s. s.reasons) c.start-st.ensures), omega (arith, c.pre)),
+            (omega (arith, c.requires, ap (λ s. s.reasons) c.start-st.ensures), omega (arith, c.requires)),
           ),
         ),
       ),

@@ -26,7 +26,7 @@ put_run-requires c =
     )
 
 pub next_step-requires : goal.next_step-requires
-next_step-requires c = omega (arith, c.pre)
+next_step-requires c = omega (arith, c.requires)
 
 pub returns-then-matches : goal.returns-then-matches
 unfolding wake_one_m

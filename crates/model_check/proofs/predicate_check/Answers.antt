@@ -11,9 +11,8 @@ returns-in_default c =
 
 pub returns-then-kind-eq0 : goal.returns-then-kind-eq0
 returns-then-kind-eq0 c =
-    let at-u8-at = at_x.before.before in
     c.pair_check.ensures ∙ sym (laws.predicate_is _ _ _ _ _
-    ∙ laws.by_is _ _ _ _ _ at-u8-at.u8-at.ensures c.in-Is.is
+    ∙ laws.by_is _ _ _ _ _ c.u8_at-x.ensures c.in-Is.is
     ∙ laws.yes_check _ _ _ _ _ (eq-eqb _ _ c.if-kind-eq0.true))
 
 pub overflow_sub-predicate_size : goal.overflow_sub-predicate_size
@@ -30,19 +29,15 @@ returns-then-kind-eq1 c =
 
 pub returns-then-banned-eq0 : goal.returns-then-banned-eq0
 returns-then-banned-eq0 c =
-    let at-if1 = c.before.before.before in
-    let at_x = at-if1.before.before in
-    let at-u8-at = at_x.before.before in
     c.window_check.ensures ∙ sym (laws.predicate_is _ _ _ _ _
-    ∙ laws.by_is _ _ _ _ _ at-u8-at.u8-at.ensures at_x.x.given.1
-    ∙ laws.no_check _ _ _ _ _ (ne_eqb _ _ at-if1.if1.false)
+    ∙ laws.by_is _ _ _ _ _ c.u8_at-x.ensures c.in-Is.is
+    ∙ laws.no_check _ _ _ _ _ (ne_eqb _ _ c.if-kind-eq0.false)
     ∙ laws.no_check _ _ _ _ _ (ne_eqb _ _ c.if-kind-eq1.false)
     ∙ laws.yes_check _ _ _ _ _ (eq-eqb _ _ c.if-banned-eq0.true))
 
 pub returns : goal.returns
 returns c =
-    let at-u8-at = at_x.before.before in
-    sym (laws.predicate_is _ _ _ _ _ ∙ laws.by_is _ _ _ _ _ at-u8-at.u8-at.ensures c.in-Is.is
+    sym (laws.predicate_is _ _ _ _ _ ∙ laws.by_is _ _ _ _ _ c.u8_at-x.ensures c.in-Is.is
     ∙ laws.no_check _ _ _ _ _ (ne_eqb _ _ c.if-kind-eq0.false)
     ∙ laws.no_check _ _ _ _ _ (ne_eqb _ _ c.if-kind-eq1.false)
     ∙ laws.no_check _ _ _ _ _ (ne_eqb _ _ c.if-banned-eq0.false) ∙ laws.refused_is _ _ _ _)

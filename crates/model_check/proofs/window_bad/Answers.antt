@@ -12,11 +12,7 @@ pub returns-then-end-gt86399 : goal.returns-then-end-gt86399
 returns-then-end-gt86399 c = sym (laws.bad_3 _ _ _ c.if-start-end.false c.if-start-gt86399.false c.if-end-gt86399.true)
 
 pub returns-then-days-eq0 : goal.returns-then-days-eq0
-returns-then-days-eq0 c =
-    let at-if1 = c.before.before.before in
-    sym (laws.bad_4 _ _ _ at-if1.if1.false c.if-start-gt86399.false c.if-end-gt86399.false c.if-days-eq0.true)
+returns-then-days-eq0 c = sym (laws.bad_4 _ _ _ c.if-start-end.false c.if-start-gt86399.false c.if-end-gt86399.false c.if-days-eq0.true)
 
 pub returns : goal.returns
-returns c =
-    let at-if1 = c.before.before.before in
-    sym (laws.bad_5 _ _ _ at-if1.if1.false c.if-start-gt86399.false c.if-end-gt86399.false c.if-days-eq0.false)
+returns c = sym (laws.bad_5 _ _ _ c.if-start-end.false c.if-start-gt86399.false c.if-end-gt86399.false c.if-days-eq0.false)

@@ -9,39 +9,25 @@ returns-in_default c =
 
 pub returns-in_default-y : goal.returns-in_default-y
 returns-in_default-y c =
-    let at-u8-at = at_x.before.before in
-    sym (laws.window_is _ _ _ ∙ laws.by_is _ _ _ _ _ at-u8-at.u8-at.ensures c.in-Is.is
+    sym (laws.window_is _ _ _ ∙ laws.by_is _ _ _ _ _ c.u8_at-x.ensures c.in-Is.is
     ∙ laws.by_broken _ _ _ _ _ c.u32_at-y.ensures c.in_default-y.is)
 
 pub returns-in_default-z : goal.returns-in_default-z
 returns-in_default-z c =
-    let at-u32-at = at_y.before.before in
-    let at_x = at-u32-at.before.before in
-    let at-u8-at = at_x.before.before in
-    sym (laws.window_is _ _ _ ∙ laws.by_is _ _ _ _ _ at-u8-at.u8-at.ensures at_x.x.given.1
-    ∙ laws.by_is _ _ _ _ _ at-u32-at.u32-at.ensures c.in-Is-y.is
+    sym (laws.window_is _ _ _ ∙ laws.by_is _ _ _ _ _ c.u8_at-x.ensures c.in-Is.is
+    ∙ laws.by_is _ _ _ _ _ c.u32_at-y.ensures c.in-Is-y.is
     ∙ laws.by_broken _ _ _ _ _ c.u32_at-z.ensures c.in_default-z.is)
 
 pub returns-then-window_bad : goal.returns-then-window_bad
 returns-then-window_bad c =
-    let at-u32-at2 = at_z.before.before in
-    let at_y = at-u32-at2.before.before in
-    let at-u32-at = at_y.before.before in
-    let at_x = at-u32-at.before.before in
-    let at-u8-at = at_x.before.before in
-    sym (laws.window_is _ _ _ ∙ laws.by_is _ _ _ _ _ at-u8-at.u8-at.ensures at_x.x.given.1
-    ∙ laws.by_is _ _ _ _ _ at-u32-at.u32-at.ensures at_y.y.given.1
-    ∙ laws.by_is _ _ _ _ _ at-u32-at2.u32-at2.ensures c.in-Is-z.is
+    sym (laws.window_is _ _ _ ∙ laws.by_is _ _ _ _ _ c.u8_at-x.ensures c.in-Is.is
+    ∙ laws.by_is _ _ _ _ _ c.u32_at-y.ensures c.in-Is-y.is
+    ∙ laws.by_is _ _ _ _ _ c.u32_at-z.ensures c.in-Is-z.is
     ∙ laws.refuse_yes _ _ _ _ (sym c.window_bad.ensures ∙ c.if-window_bad.true))
 
 pub returns : goal.returns
 returns c =
-    let at-u32-at2 = at_z.before.before in
-    let at_y = at-u32-at2.before.before in
-    let at-u32-at = at_y.before.before in
-    let at_x = at-u32-at.before.before in
-    let at-u8-at = at_x.before.before in
-    sym (laws.window_is _ _ _ ∙ laws.by_is _ _ _ _ _ at-u8-at.u8-at.ensures at_x.x.given.1
-    ∙ laws.by_is _ _ _ _ _ at-u32-at.u32-at.ensures at_y.y.given.1
-    ∙ laws.by_is _ _ _ _ _ at-u32-at2.u32-at2.ensures c.in-Is-z.is
+    sym (laws.window_is _ _ _ ∙ laws.by_is _ _ _ _ _ c.u8_at-x.ensures c.in-Is.is
+    ∙ laws.by_is _ _ _ _ _ c.u32_at-y.ensures c.in-Is-y.is
+    ∙ laws.by_is _ _ _ _ _ c.u32_at-z.ensures c.in-Is-z.is
     ∙ laws.refuse_no _ _ _ _ (sym c.window_bad.ensures ∙ c.if-window_bad.false))

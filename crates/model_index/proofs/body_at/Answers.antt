@@ -27,7 +27,7 @@ returns-in_default-d c =
     ∙ laws.sec_broken _ _ c.section_into-y.ensures c.in_default-d.is)
 
 pub section_into-z-requires : goal.section_into-z-requires
-section_into-z-requires c = c.pre.0.third
+section_into-z-requires c = c.requires.0.third
 
 pub returns-in_default-e : goal.returns-in_default-e
 returns-in_default-e c =
@@ -38,7 +38,7 @@ returns-in_default-e c =
     ∙ laws.sec_broken _ _ c.section_into-z.ensures c.in_default-e.is)
 
 pub rest_at-requires : goal.rest_at-requires
-rest_at-requires c = c.pre.1
+rest_at-requires c = c.requires.1
 
 pub returns : goal.returns
 returns c =

@@ -29,12 +29,12 @@ returns-in_default-z c =
 pub returns-then-not-precedes : goal.returns-then-not-precedes
 returns-then-not-precedes c =
     sym (c.loop-left.invariant ∙ laws.chain_off _ _ _ _ c.part_at-z.ensures _ c.in-To-z.is c.precedes.ensures _
-    c.loop-left-test.true (not-true _ c.if-not-precedes.true))
+    c.loop-left-test.true c.if-not-precedes.true)
 
 pub loop-left-preserved : goal.loop-left-preserved
 loop-left-preserved c =
     c.loop-left.invariant ∙ laws.chain_on _ _ _ _ c.part_at-z.ensures _ c.in-To-z.is c.precedes.ensures _
-    c.loop-left-test.true (not-false _ c.if-not-precedes.false)
+    c.loop-left-test.true c.if-not-precedes.false
 
 pub returns : goal.returns
 returns c = sym (c.loop-left.invariant ∙ laws.chain_end _ _ _ _ _ _ c.loop-left-test.false)

@@ -36,7 +36,7 @@ returns-in_default-g c =
     ∙ checks.refused _ _ _ _ _ c.section_check-g.ensures c.in_default-g.is)
 
 pub section_check-requires : goal.section_check-requires
-section_check-requires c = (c.pre.entities, c.pre.rules)
+section_check-requires c = (c.requires.entities, c.requires.rules)
 
 pub returns : goal.returns
 returns c =

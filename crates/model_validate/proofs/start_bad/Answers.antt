@@ -10,35 +10,20 @@ returns-then-s-at c = sym (laws.start_ended _ c.in-To.is c.if-s-at.true)
 
 pub returns-in_default-x : goal.returns-in_default-x
 returns-in_default-x c =
-    let at-if1 = c.before.before.before in
-    let at_end = at-if1.before.before in
-    sym (laws.no_weekday _ at_end.end.given.1 at-if1.if1.false c.u32_at-x.ensures
+    sym (laws.no_weekday _ c.in-To.is c.if-s-at.false c.u32_at-x.ensures
     c.in_default-x.is)
 
 pub returns-in_default-y : goal.returns-in_default-y
 returns-in_default-y c =
-    let at-u32-at = at_x.before.before in
-    let at-if1 = at-u32-at.before in
-    let at_end = at-if1.before.before in
-    sym (laws.no_second _ at_end.end.given.1 at-if1.if1.false at-u32-at.u32-at.ensures
+    sym (laws.no_second _ c.in-To.is c.if-s-at.false c.u32_at-x.ensures
     c.in-Is.is c.u32_at-y.ensures c.in_default-y.is)
 
 pub returns-then-weekday-gt6 : goal.returns-then-weekday-gt6
 returns-then-weekday-gt6 c =
-    let at-u32-at2 = c.before.before.before.before in
-    let at_x = at-u32-at2.before.before in
-    let at-u32-at = at_x.before.before in
-    let at-if1 = at-u32-at.before in
-    let at_end = at-if1.before.before in
-    sym (laws.late_weekday _ at_end.end.given.1 at-if1.if1.false at-u32-at.u32-at.ensures
-    at_x.x.given.1 at-u32-at2.u32-at2.ensures c.in-Is-y.is c.if-weekday-gt6.true)
+    sym (laws.late_weekday _ c.in-To.is c.if-s-at.false c.u32_at-x.ensures
+    c.in-Is.is c.u32_at-y.ensures c.in-Is-y.is c.if-weekday-gt6.true)
 
 pub returns : goal.returns
 returns c =
-    let at-u32-at2 = c.before.before.before.before in
-    let at_x = at-u32-at2.before.before in
-    let at-u32-at = at_x.before.before in
-    let at-if1 = at-u32-at.before in
-    let at_end = at-if1.before.before in
-    sym (laws.by_second _ at_end.end.given.1 at-if1.if1.false at-u32-at.u32-at.ensures
-    at_x.x.given.1 at-u32-at2.u32-at2.ensures c.in-Is-y.is c.if-weekday-gt6.false)
+    sym (laws.by_second _ c.in-To.is c.if-s-at.false c.u32_at-x.ensures
+    c.in-Is.is c.u32_at-y.ensures c.in-Is-y.is c.if-weekday-gt6.false)

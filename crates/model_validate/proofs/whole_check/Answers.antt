@@ -7,66 +7,40 @@ returns-then-title_bad c = sym (laws.model_1 _ _ _ _ _ _ _ _ (sym c.title_bad.en
 
 pub returns-then-size_bad : goal.returns-then-size_bad
 returns-then-size_bad c =
-    let at-title-bad = c.before.before.before in
-    sym (laws.model_2 _ _ _ _ _ _ _ _ (sym at-title-bad.title_bad.ensures ∙ c.if-title_bad.false)
+    sym (laws.model_2 _ _ _ _ _ _ _ _ (sym c.title_bad.ensures ∙ c.if-title_bad.false)
     (sym c.size_bad.ensures ∙ c.if-size_bad.true))
 
 pub returns-then-limits_bad : goal.returns-then-limits_bad
 returns-then-limits_bad c =
-    let at-size-bad = c.before.before.before in
-    let at-if1 = at-size-bad.before in
-    let at-title-bad = at-if1.before in
-    sym (laws.model_3 _ _ _ _ _ _ _ _ (sym at-title-bad.title_bad.ensures ∙ at-if1.if1.false)
-    (sym at-size-bad.size_bad.ensures ∙ c.if-size_bad.false)
+    sym (laws.model_3 _ _ _ _ _ _ _ _ (sym c.title_bad.ensures ∙ c.if-title_bad.false)
+    (sym c.size_bad.ensures ∙ c.if-size_bad.false)
     (sym c.limits_bad.ensures ∙ c.if-limits_bad.true))
 
 pub returns-then-start_bad : goal.returns-then-start_bad
 returns-then-start_bad c =
-    let at-limits-bad = c.before.before.before in
-    let at-if2 = at-limits-bad.before in
-    let at-size-bad = at-if2.before in
-    let at-if1 = at-size-bad.before in
-    let at-title-bad = at-if1.before in
-    sym (laws.model_start _ _ _ _ _ _ _ _ (sym at-title-bad.title_bad.ensures ∙ at-if1.if1.false)
-    (sym at-size-bad.size_bad.ensures ∙ at-if2.if2.false)
-    (sym at-limits-bad.limits_bad.ensures ∙ c.if-limits_bad.false)
+    sym (laws.model_start _ _ _ _ _ _ _ _ (sym c.title_bad.ensures ∙ c.if-title_bad.false)
+    (sym c.size_bad.ensures ∙ c.if-size_bad.false)
+    (sym c.limits_bad.ensures ∙ c.if-limits_bad.false)
     (sym c.start_bad.ensures ∙ c.if-start_bad.true))
 
 pub returns-then-alphabet_bad : goal.returns-then-alphabet_bad
 returns-then-alphabet_bad c =
-    let at-start-bad = c.before.before.before in
-    let at-if3 = at-start-bad.before in
-    let at-limits-bad = at-if3.before in
-    let at-if2 = at-limits-bad.before in
-    let at-size-bad = at-if2.before in
-    let at-if1 = at-size-bad.before in
-    let at-title-bad = at-if1.before in
-    sym (laws.model_4 _ _ _ _ _ _ _ _ (sym at-title-bad.title_bad.ensures ∙ at-if1.if1.false)
-    (sym at-size-bad.size_bad.ensures ∙ at-if2.if2.false)
-    (sym at-limits-bad.limits_bad.ensures ∙ at-if3.if3.false)
-    (sym at-start-bad.start_bad.ensures ∙ c.if-start_bad.false)
+    sym (laws.model_4 _ _ _ _ _ _ _ _ (sym c.title_bad.ensures ∙ c.if-title_bad.false)
+    (sym c.size_bad.ensures ∙ c.if-size_bad.false)
+    (sym c.limits_bad.ensures ∙ c.if-limits_bad.false)
+    (sym c.start_bad.ensures ∙ c.if-start_bad.false)
     (sym c.alphabet_bad.ensures ∙ c.if-alphabet_bad.true))
 
 pub sections_check-requires : goal.sections_check-requires
 sections_check-requires c =
-    let at-if2 = c.before.before.before.before.before.before in
-    let at-size-bad = at-if2.before in
-    laws.small _ _ _ _ (sym at-size-bad.size_bad.ensures ∙ at-if2.if2.false)
+    laws.small _ _ _ _ (sym c.size_bad.ensures ∙ c.if-size_bad.false)
     (sym c.alphabet_bad.ensures ∙ c.if-alphabet_bad.false)
 
 pub returns : goal.returns
 returns c =
-    let at-if4 = c.before.before.before in
-    let at-start-bad = at-if4.before in
-    let at-if3 = at-start-bad.before in
-    let at-limits-bad = at-if3.before in
-    let at-if2 = at-limits-bad.before in
-    let at-size-bad = at-if2.before in
-    let at-if1 = at-size-bad.before in
-    let at-title-bad = at-if1.before in
     c.sections_check.ensures ∙ sym (laws.model_is _ _ _ _ _ _ _ _
-    (sym at-title-bad.title_bad.ensures ∙ at-if1.if1.false)
-    (sym at-size-bad.size_bad.ensures ∙ at-if2.if2.false)
-    (sym at-limits-bad.limits_bad.ensures ∙ at-if3.if3.false)
-    (sym at-start-bad.start_bad.ensures ∙ at-if4.if4.false)
+    (sym c.title_bad.ensures ∙ c.if-title_bad.false)
+    (sym c.size_bad.ensures ∙ c.if-size_bad.false)
+    (sym c.limits_bad.ensures ∙ c.if-limits_bad.false)
+    (sym c.start_bad.ensures ∙ c.if-start_bad.false)
     (sym c.alphabet_bad.ensures ∙ c.if-alphabet_bad.false))

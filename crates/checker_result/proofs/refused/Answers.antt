@@ -1,0 +1,5 @@
+use Rattle.checker_result.proofs.Laws as laws
+use Rattle.checker_result.proofs.refused.Goals as goal
+
+pub returns : goal.returns
+returns c = laws.refused_is _ c.refused-simulation.ensures

@@ -1,0 +1,12 @@
+use mathlib.Core.Path.{◌≡◌}
+use Prim.Native.Nat.{◌-◌}
+use Rattle.lint_access.specs.Sets.{section_by, over, add_write_m}
+use Rattle.lint_access.proofs.writes.Given as goal
+
+abbrev pub invariant-loop-k : goal.invariant-loop-k
+invariant-loop-k l =
+    over (add_write_m l.s (section_by l.entities l.many)) l.list l.count 0 0
+    ≡ over (add_write_m l.s (section_by l.entities l.many)) l.list (l.count - l.k) l.k l.set
+
+abbrev pub decreases-loop-k : goal.decreases-loop-k
+decreases-loop-k l = l.count - l.k

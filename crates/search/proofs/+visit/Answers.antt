@@ -1,0 +1,132 @@
+use Prim.Native.Nat.{◌-◌}
+use mathlib.Core.Path.{refl, sym, ◌∙◌}
+use native.Mathlib.Omega.{arith}
+use borrow.Author.Rules.{rules}
+use Rattle.search.proofs.Visits as visits
+use Rattle.search_cases.proofs.Laws as laws
+use Rattle.search.proofs.+visit.Goals as goal
+
+pub returns-then-o : goal.returns-then-o
+returns-then-o t c = visits.stays_so c.if-o.true
+
+pub last_at-requires : goal.last_at-requires
+last_at-requires t c = omega (arith, c.requires.1.events)
+
+pub returns-then-p-last_at : goal.returns-then-p-last_at
+returns-then-p-last_at t c =
+    visits.late_so c.if-o.false
+    (omega (arith, c.if-p-last_at.true, c.last_at.ensures))
+
+pub try_case-requires : goal.try_case-requires
+try_case-requires t c = record { fitted = c.requires.1.fitted; words = c.requires.1.words; events = omega (arith, c.requires.1.events) }
+
+pub shape_of-queue-then-remaining-eq0 : goal.shape_of-queue-then-remaining-eq0
+shape_of-queue-then-remaining-eq0 t c = search rules
+
+pub shape_of-records-then-remaining-eq0 : goal.shape_of-records-then-remaining-eq0
+shape_of-records-then-remaining-eq0 t c = search rules
+
+pub shape_of-runs-then-remaining-eq0 : goal.shape_of-runs-then-remaining-eq0
+shape_of-runs-then-remaining-eq0 t c = search rules
+
+pub shape_of-w-then-remaining-eq0 : goal.shape_of-w-then-remaining-eq0
+shape_of-w-then-remaining-eq0 t c = search rules
+
+pub returns-then-remaining-eq0 : goal.returns-then-remaining-eq0
+returns-then-remaining-eq0 t c =
+    visits.case_so c.if-o.false (omega (arith, c.if-p-last_at.false, c.last_at.ensures)) c.if-remaining-eq0.true
+    c.try_case.ensures
+
+pub overflow_mul-pairs : goal.overflow_mul-pairs
+overflow_mul-pairs t c =
+    omega (
+      arith,
+      laws.few_pairs _ _
+          c.requires.1.fitted.gaps
+          c.requires.1.fitted.inputs,
+    )
+
+pub loop-k-init : goal.loop-k-init
+loop-k-init t c = (refl, (refl, (refl, (refl, (omega arith, visits.walk_start)))))
+
+pub next_events-next-requires : goal.next_events-next-requires
+next_events-next-requires t c =
+    (
+      c.loop-k-test.true,
+      record {
+        fitted = laws.fit_any c.requires.1.fitted (sym c.requires.1.fitted.area);
+        words =
+            c.requires.1.words;
+        events = omega (arith, c.requires.1.events, c.if-remaining-eq0.false);
+      },
+    )
+
+pub overflow_sub-remaining : goal.overflow_sub-remaining
+overflow_sub-remaining t c = omega (arith, c.if-remaining-eq0.false)
+
+pub visit-s-requires : goal.visit-s-requires
+visit-s-requires t c =
+    (
+      omega (arith, c.if-remaining-eq0.false, c.requires.0),
+      record {
+        fitted =
+            laws.fit_any c.requires.1.fitted c.loop-k.invariant.1.1.1.0;
+        words =
+            c.next_events-next.ensures.long ∙ c.requires.1.words;
+        events =
+            omega (arith, c.requires.1.events, c.if-remaining-eq0.false, c.next_events-next.ensures.count);
+      },
+    )
+
+pub overflow_add-k : goal.overflow_add-k
+overflow_add-k t c =
+    omega (
+      arith,
+      c.loop-k-test.true,
+      laws.few_pairs _ _
+          c.requires.1.fitted.gaps
+          c.requires.1.fitted.inputs,
+    )
+
+pub loop-k-smaller : goal.loop-k-smaller
+loop-k-smaller t c = search rules
+
+pub loop-k-preserved : goal.loop-k-preserved
+loop-k-preserved t c =
+    (
+      omega (arith, c.loop-k.invariant.0, c.visit-s.auto.1.1.1.1.1.1.1.1.0),
+      (
+        omega (arith, c.loop-k.invariant.1.0, c.visit-s.auto.1.1.1.1.1.1.1.1.1.0),
+        (
+          omega (arith, c.loop-k.invariant.1.1.0, c.visit-s.auto.1.1.1.1.1.1.1.1.1.1.0),
+          (
+            omega (arith, c.loop-k.invariant.1.1.1.0, c.visit-s.auto.1.1.1.1.1.1.1.1.1.1.1.0),
+            (
+              omega (arith, c.loop-k-test.true),
+              visits.walk_next c.loop-k-test.true
+                  (omega (arith, c.if-p-last_at.false, c.last_at.ensures)) (omega (arith, c.requires.1.events, c.if-remaining-eq0.false))
+                  c.next_events-next.ensures c.loop-k.invariant.1.1.1.1.1 c.loop-k.invariant.0 c.loop-k.invariant.1.0
+                  c.loop-k.invariant.1.1.0 c.visit-s.ensures,
+            ),
+          ),
+        ),
+      ),
+    )
+
+pub shape_of-queue : goal.shape_of-queue
+shape_of-queue t c = search rules
+
+pub shape_of-records : goal.shape_of-records
+shape_of-records t c = search rules
+
+pub shape_of-runs : goal.shape_of-runs
+shape_of-runs t c = search rules
+
+pub shape_of-w : goal.shape_of-w
+shape_of-w t c = search rules
+
+pub returns : goal.returns
+returns t c =
+    visits.walk_end c.args.remaining c.if-remaining-eq0.false refl c.if-o.false
+    (omega (arith, c.if-p-last_at.false, c.last_at.ensures)) c.loop-k-test.false c.loop-k.invariant.1.1.1.1.0
+    c.loop-k.invariant.1.1.1.1.1

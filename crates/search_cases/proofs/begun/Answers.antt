@@ -1,0 +1,22 @@
+use Rattle.search_cases.proofs.Laws as laws
+use native.Mathlib.Omega.{arith}
+use mathlib.Core.Path.{refl}
+use Rattle.search_cases.proofs.begun.Goals as goal
+
+pub merge-count-requires : goal.merge-count-requires
+merge-count-requires c =
+    laws.merge_room _ _ _ _ 0 (omega (arith, c.min_usize-many.ensures.most))
+    (omega (arith, c.min_usize-many.ensures.most)) c.requires
+
+pub returns : goal.returns
+returns c =
+    record {
+      refused = refl;
+      cases = refl;
+      steps = refl;
+      found = refl;
+      shortest = refl;
+      stopped = refl;
+      reasons =
+          laws.begins_reasons _ _ _ c.min_usize-many.ensures c.merge-count.ensures;
+    }
