@@ -29,7 +29,7 @@ offer-s-requires c =
     )
 
 pub overflow_add-i : goal.overflow_add-i
-overflow_add-i c = omega (arith, c.loop-i-test.taken, c.at_most-n.ensures)
+overflow_add-i c = omega (arith, c.loop-i-test.true, c.at_most-n.ensures)
 
 pub loop-i-preserved : goal.loop-i-preserved
 loop-i-preserved c =

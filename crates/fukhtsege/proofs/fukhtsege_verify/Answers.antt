@@ -8,5 +8,5 @@ returns-then-answer-lt6076 c = laws.too_short c.if-answer-lt6076.true (refl, ref
 
 pub returns : goal.returns
 returns c =
-    laws.answered (omega (arith, c.if-answer-lt6076.left)) _ c.verify_lent-v.ensures c.refusal_of.ensures
+    laws.answered (omega (arith, c.if-answer-lt6076.false)) _ c.verify_lent-v.ensures c.refusal_of.ensures
     c.put_verification.ensures

@@ -13,10 +13,10 @@ returns-in_default-y c =
 pub returns-then-bad_id : goal.returns-then-bad_id
 returns-then-bad_id c =
     sym (laws.invariant_10 _ _ _ _ _ _ c.u8_at-x.ensures c.in-Is.is c.u16_at-y.ensures c.in-Is-y.is
-    (sym c.bad_id.ensures ∙ c.if-bad_id.taken))
+    (sym c.bad_id.ensures ∙ c.if-bad_id.true))
 
 pub returns : goal.returns
 returns c =
     c.invariant_of_check.ensures
     ∙ sym (laws.invariant_is _ _ _ _ _ _ c.u8_at-x.ensures c.in-Is.is c.u16_at-y.ensures c.in-Is-y.is
-    (sym c.bad_id.ensures ∙ c.if-bad_id.left))
+    (sym c.bad_id.ensures ∙ c.if-bad_id.false))

@@ -19,10 +19,10 @@ visit-s-requires c =
     }
 
 pub overflow_add-d : goal.overflow_add-d
-overflow_add-d c = omega (arith, c.loop-d-test.taken, c.requires.0)
+overflow_add-d c = omega (arith, c.loop-d-test.true, c.requires.0)
 
 pub loop-d-smaller : goal.loop-d-smaller
-loop-d-smaller c = omega (arith, c.loop-d-test.taken)
+loop-d-smaller c = omega (arith, c.loop-d-test.true)
 
 pub loop-d-preserved : goal.loop-d-preserved
 loop-d-preserved c =

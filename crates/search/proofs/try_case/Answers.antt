@@ -24,7 +24,7 @@ returns-then-number-ne0 c =
     }
 
 pub found_case-requires : goal.found_case-requires
-found_case-requires c = (omega (arith, c.if-p-o.left, c.requires.fitted.cases), c.if-o-ge200000.left)
+found_case-requires c = (omega (arith, c.if-p-o.false, c.requires.fitted.cases), c.if-o-ge200000.false)
 
 pub returns-then-is_violation : goal.returns-then-is_violation
 returns-then-is_violation c =
@@ -38,7 +38,7 @@ pub gather-count-requires : goal.gather-count-requires
 gather-count-requires c = c.requires.fitted.area
 
 pub other_case-requires : goal.other_case-requires
-other_case-requires c = (omega (arith, c.if-p-o.left, c.requires.fitted.cases), c.if-o-ge200000.left)
+other_case-requires c = (omega (arith, c.if-p-o.false, c.requires.fitted.cases), c.if-o-ge200000.false)
 
 pub returns : goal.returns
 returns c =
