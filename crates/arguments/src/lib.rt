@@ -1,15 +1,14 @@
 // The arguments of a program: numbers of entries, and the name of a file.
 #![tactic(auto)]
+
 ghost use Rattle.std.specs.Prelude.{◌≡◌, ◌≤◌, IfOk};
 ghost use Rattle.arguments.specs.Number.{with_digit, number_of};
 
 use std::alloc::Alloc;
-use std::env;
 use std::env::Env;
-use std::fs::File;
-use std::fs::Files;
-use std::io;
+use std::fs::{File, Files};
 use std::io::Write;
+use std::{env, io};
 
 // A number with a digit behind it, or the most if it is more.
 fn next(k: usize, digit: u8, most: usize) -> usize
