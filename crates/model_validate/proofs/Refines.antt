@@ -9,7 +9,7 @@ use lib.Dec.{ltb, eqb}
 use borrow.Author.Tests.{ltb-false}
 use Rattle.texts.specs.Lists.{if◌then◌else◌, any, each}
 use Rattle.texts.specs.Texts.{Text, text, mem_t}
-use Rattle.texts.specs.Places.{placed_text, start_from}
+use Rattle.texts.specs.Places.{text_at, start_from}
 use Rattle.model_spec.specs.Answer.{Answer, answer, refused, Verdict, ◌>>=◌, ◌and◌, ◌when◌, each_accepted}
 use Rattle.model_spec.specs.Model.{Entity, Input, Event, Invariant, Limits, Scenario, Model}
 use Rattle.model_spec.specs.File.{◌>>=◌ as ◌>>=ᵣ◌}
