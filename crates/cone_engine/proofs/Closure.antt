@@ -125,6 +125,7 @@ ids l = each (λ r. r.id) l
 
 among_id : (r : Automation) (l : List Automation) → Among r l → mem_t r.id (ids l) ≡ true
 unfolding each
+among_id r [] x' = elim x' [ ]
 among_id r (q ∷ l) here = mem_here r.id r.id (ids l) refl
 among_id r (q ∷ l) (later a) = mem_later r.id q.id (ids l) (among_id r l a)
 
@@ -145,11 +146,13 @@ id_among x (q ∷ l) h = go (case (eq_t x q.id)) (id_among x l)
 
 fresh_in : (is : List Text) (l : List Automation) → Fresh is l → (r : Automation) → Among r l → mem_t r.id is ≡ false
 unfolding mem_t any
+fresh_in is [] f r x'' = elim x'' [ ]
 fresh_in is (q ∷ l) f r here = f.0
 fresh_in is (q ∷ l) f r (later a) = or_no' (eq_t r.id q.id) (mem_t r.id is) (fresh_in (q.id ∷ is) l f.1 r a)
 
 unique : (is : List Text) (l : List Automation) → Fresh is l → (q r : Automation) → Among q l → Among r l
     → r.id ≡ q.id → q ≡ r
+unique is [] f q r x4 _ e = elim x4 [ ]
 unique is (x ∷ l) f q r here here e = refl
 unique is (x ∷ l) f q r here (later b) e =
     absurd (true≢false (sym (mem_here r.id q.id is e) ∙ fresh_in (q.id ∷ is) l f.1 r b))
@@ -328,6 +331,7 @@ any_same p q h (x ∷ l) = rw (h x, any_same p q h l)
 mem_flat : (i : Invariant) (l : List Invariant) → Among i l → (x : Text) → mem_t x (names i) ≡ true
     → mem_t x (flat names l) ≡ true
 unfolding flat
+mem_flat i [] x4 x h = elim x4 [ ]
 mem_flat i (j ∷ l) here x h = mem_append x (names i) (flat names l) ∙ or_l (mem_t x (names i)) _ h
 mem_flat i (j ∷ l) (later a) x h = mem_append x (names j) (flat names l) ∙ or_r (mem_t x (names j)) _ (mem_flat i l a x h)
 

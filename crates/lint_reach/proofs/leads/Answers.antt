@@ -12,7 +12,7 @@ loop-j-init c = (laws.leads_none _, omega arith)
 pub loop-j-preserved : goal.loop-j-preserved
 loop-j-preserved c =
     let l = c.loop-j in (
-      (elim c.if-row-j.branch [ then-row-j w ↦ w.1 ∙ laws.leads_here _ l.j w.if-row-j.true | else-row-j w ↦ laws.leads_on _ l.j w.if-row-j.false (w.1 ∙ l.invariant.0) ]),
+      (elim c.if-row-j.branch [ then-row-j w ↦ w.some-is ∙ laws.leads_here _ l.j w.if-row-j.true | else-row-j w ↦ laws.leads_on _ l.j w.if-row-j.false (w.some-is ∙ l.invariant.0) ]),
       omega arith,
     )
 
