@@ -1,6 +1,5 @@
 -- A number in decimal, or the most if it is more. Bytes below `0` count for nothing.
-use Rattle.std.specs.Prelude.{ℕ, ◌+◌, ◌-◌, ◌*◌, List, [], ◌∷◌, ltb}
-use Rattle.texts.specs.Lists.{if◌then◌else◌}
+use Rattle.std.specs.Prelude.{ℕ, ◌+◌, ◌-◌, ◌*◌, List, [], ◌∷◌, ltb, if◌then◌else◌}
 
 abbrev pub at_most : (most n : ℕ) → ℕ
 at_most most n = if ltb most n then most else n

@@ -1,6 +1,5 @@
 -- The smaller of two numbers.
-use Rattle.std.specs.Prelude.{ℕ, ◌≤◌, ◌≡◌, leb}
-use Rattle.texts.specs.Lists.{if◌then◌else◌}
+use Rattle.std.specs.Prelude.{ℕ, ◌≤◌, ◌≡◌, leb, if◌then◌else◌}
 
 unfoldable pub at_most : ℕ → (most : ℕ) → ℕ
 at_most n most = if leb n most then n else most

@@ -1,7 +1,6 @@
 -- What the eight numbers of a violation say, whatever they are.
-use Rattle.std.specs.Prelude.{ℕ, List, eqb, get_or}
+use Rattle.std.specs.Prelude.{ℕ, List, eqb, get_or, if◌then◌else◌}
 use Rattle.std.proofs.Math.Option.{Option, none, some}
-use Rattle.texts.specs.Lists.{if◌then◌else◌}
 use Rattle.texts.specs.Texts.{Text}
 use Rattle.texts.specs.Places.{text_at, start_from}
 use Rattle.model_spec.specs.Model.{Source}

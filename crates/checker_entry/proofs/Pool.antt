@@ -1,5 +1,6 @@
 -- The reasons that a check may give are among a list that the model fixes, of at most 399 texts. Whoever gathers the reasons
 -- of many checks needs no more room than that.
+use Rattle.std.specs.Prelude.{if◌then◌else◌}
 use Prim.Native.Nat.{ℕ, ◌+◌, ◌*◌, ◌≤◌, ◌<◌}
 use mathlib.Core.Path.{◌≡◌, sym, subst, ◌∙◌}
 use mathlib.Core.Bool.{Bool, true, false}
@@ -7,7 +8,7 @@ use mathlib.Core.List.{List, [], ◌∷◌, ◌++◌}
 use native.Mathlib.Omega.{arith}
 use lib.Dec.{eqb}
 use lib.ListN.{length, get_or, length-append}
-use Rattle.texts.specs.Lists.{if◌then◌else◌, any, flat}
+use Rattle.texts.specs.Lists.{any, flat}
 use Rattle.texts.specs.Texts.{Text, text, eq_t, lt_t, mem_t, insert_t, sorted_t}
 use Rattle.model_spec.specs.Answer.{answer, refused}
 use Rattle.model_spec.specs.Model.{Event, Invariant, never, guard, transition, response, id_of, Model}

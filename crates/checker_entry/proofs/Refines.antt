@@ -1,5 +1,6 @@
 -- What `check_events` answers and leaves in the areas, by the definition's check of the model. Search and reduction go on
 -- from it.
+use Rattle.std.specs.Prelude.{if◌then◌else◌}
 use Prim.Native.Nat.{ℕ, suc, ◌-◌, ◌*◌, ◌/◌, ◌≤◌, ◌<◌}
 use mathlib.Core.Path.{◌≡◌, refl, sym, ap, subst, ◌∙◌}
 use mathlib.Core.Bool.{Bool, true, false}
@@ -10,7 +11,7 @@ use lib.ListN.{length, get_or, take, replicate, length-replicate}
 use lib.Seq.{take_all}
 use borrow.Author.Tests.{ne_eqb, eqb-true, eqb-false}
 use Rattle.layout.specs.Sizes.{violation_numbers}
-use Rattle.texts.specs.Lists.{if◌then◌else◌, is_empty, each, flat}
+use Rattle.texts.specs.Lists.{is_empty, each, flat}
 use Rattle.texts.specs.Texts.{Text, sorted_t}
 use Rattle.areas.specs.Areas.{area}
 use Rattle.areas.specs.Areas as areas

@@ -1,4 +1,5 @@
 -- The values after a record; the reading of the records from an index on: its end, a record that fails, one that doesn't.
+use Rattle.std.specs.Prelude.{if◌then◌else◌}
 use Prim.Native.Nat.{ℕ, zero, suc, ◌+◌, ◌-◌, ◌≤◌, ◌<◌}
 use mathlib.Core.Path.{◌≡◌, refl, sym, ap, ◌∙◌, subst}
 use mathlib.Core.Bool.{Bool, true, false, not, false≢true}
@@ -9,7 +10,6 @@ use lib.Dec.{ltb}
 use borrow.Author.Tests.{ltb-true, ltb-false}
 use lib.ListN.{length, get_or, set, drop, drop_of_length-le}
 use lib.Seq.{drop-cons}
-use Rattle.texts.specs.Lists.{if◌then◌else◌}
 use Rattle.model_walk.proofs.Found.{Case, is_true, is_false, case}
 use Rattle.records.specs.Records.{recorded, GotChange, Got}
 use Rattle.records.specs.declared.Rule.TheVariants.{NoRule}

@@ -1,5 +1,6 @@
 -- The cells of an invariant's names say yes for each entity that its predicates name, and values that agree there are read
 -- alike.
+use Rattle.std.specs.Prelude.{if◌then◌else◌}
 use Prim.Native.Nat.{ℕ, zero, suc, ◌+◌, ◌-◌, ◌%◌, ◌≤◌, ◌<◌}
 use mathlib.Core.Path.{◌≡◌, refl, sym, ap, ◌∙◌}
 use mathlib.Core.Bool.{Bool, true, false, false≢true}
@@ -9,7 +10,6 @@ use lib.Dec.{ltb, eqb}
 use lib.ListN.{length, get_or, set, replicate, length-set, length-replicate}
 use lib.Seq.{get_or-set_same, get_or-set_other}
 use borrow.Author.Tests.{eqb-true, ltb-true}
-use Rattle.texts.specs.Lists.{if◌then◌else◌}
 use Rattle.model_walk.proofs.Found.{Case, is_true, is_false, case}
 use Rattle.records.specs.declared.Change.{Change}
 use Rattle.records.specs.declared.Change.TheVariants.{NoChange, Write}

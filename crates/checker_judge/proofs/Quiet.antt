@@ -1,5 +1,6 @@
 -- What a record shows by values that agree, a record that is passed over, and that a record without a change shows nothing
 -- new after one that was read.
+use Rattle.std.specs.Prelude.{if◌then◌else◌}
 use Prim.Native.Nat.{ℕ, ◌+◌}
 use mathlib.Core.Path.{◌≡◌, refl, sym}
 use mathlib.Core.Bool.{Bool, true, false, ◌||◌, false≢true}
@@ -8,7 +9,6 @@ use lib.Dec.{eqb}
 use lib.ListN.{get_or}
 use borrow.Author.Tests.{ne_eqb}
 use Rattle.texts.proofs.Bool.{and_false, or_again, or_false}
-use Rattle.texts.specs.Lists.{if◌then◌else◌}
 use Rattle.model_walk.proofs.Found.{Case, is_true, is_false, case}
 use Rattle.records.specs.declared.Change.{Change}
 use Rattle.records.specs.declared.Change.TheVariants.{NoChange, Write}

@@ -1,7 +1,6 @@
 -- The judging of one invariant, on places: the invariant at a position of the file f, with the table x, over records and
 -- the values by entity number. It goes as checker's Judge does for texts.
-use Rattle.std.specs.Prelude.{ℕ, ◌+◌, ◌≡◌, Bool, true, false, ◌&&◌, ◌||◌, List, [], ◌∷◌, ltb, eqb, length, get_or, set}
-use Rattle.texts.specs.Lists.{if◌then◌else◌}
+use Rattle.std.specs.Prelude.{ℕ, ◌+◌, ◌≡◌, Bool, true, false, ◌&&◌, ◌||◌, List, [], ◌∷◌, ltb, eqb, length, get_or, set, if◌then◌else◌}
 use Rattle.records.specs.Records.{recorded}
 use Rattle.records.specs.declared.Where.TheVariants.{Nowhere}
 use Rattle.records.specs.declared.Change.{Change}

@@ -1,7 +1,6 @@
 -- The entities that an invariant names, as 64 cells: an entity's cell is the one at its place's remainder. So a cell may say
 -- yes for an entity that isn't named, but never no for one that is.
-use Rattle.std.specs.Prelude.{ℕ, zero, suc, ◌+◌, ◌%◌, ◌≤◌, ◌<◌, ◌≡◌, Bool, true, false, List, eqb, length, get_or, set, replicate}
-use Rattle.texts.specs.Lists.{if◌then◌else◌}
+use Rattle.std.specs.Prelude.{ℕ, zero, suc, ◌+◌, ◌%◌, ◌≤◌, ◌<◌, ◌≡◌, Bool, true, false, List, eqb, length, get_or, set, replicate, if◌then◌else◌}
 use Rattle.records.specs.Records.{recorded}
 use Rattle.records.specs.declared.Change.{Change}
 use Rattle.records.specs.declared.Change.TheVariants.{NoChange, Write}

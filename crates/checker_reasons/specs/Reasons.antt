@@ -1,6 +1,5 @@
 -- The reasons that the reading of the invariant at a position of the file f gives, by what it kept.
-use Rattle.std.specs.Prelude.{ℕ, ◌+◌, Bool, List, [], ◌∷◌, map, eqb, get_or}
-use Rattle.texts.specs.Lists.{if◌then◌else◌}
+use Rattle.std.specs.Prelude.{ℕ, ◌+◌, Bool, List, [], ◌∷◌, map, eqb, get_or, if◌then◌else◌}
 use Rattle.texts.specs.Texts.{Text}
 use Rattle.reasons.specs.Kinds as kinds
 use Rattle.reasons.specs.Reasons.{render}

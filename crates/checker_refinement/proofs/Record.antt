@@ -1,4 +1,5 @@
 -- One record, for the invariant that stands at a position: what it shows on places is what Judge says of it.
+use Rattle.std.specs.Prelude.{if◌then◌else◌}
 use mathlib.Core.Path.{◌≡◌, refl, sym, ap, ◌∙◌, subst}
 use mathlib.Core.Bool.{Bool, true, false, ◌&&◌, false≢true}
 use mathlib.Core.List.{List, [], ◌∷◌}
@@ -8,7 +9,7 @@ use lib.Dec.{eqb}
 use lib.ListN.{length, get_or}
 use borrow.Author.Tests.{eqb-true}
 use Rattle.texts.proofs.Bool.{or_false}
-use Rattle.texts.specs.Lists.{if◌then◌else◌, present_and}
+use Rattle.texts.specs.Lists.{present_and}
 use Rattle.texts.specs.Texts.{Text, text, eq_t, all_texts}
 use Rattle.model_spec.specs.Model.{Moment, Predicate, Invariant, never, guard, transition, response, Model, midnight}
 use Rattle.model_spec.specs.Windows.{no_window, windowless_invariant}

@@ -1,10 +1,11 @@
 -- What a record shows of a response, by the truth of its predicates: on places as in Judge.
+use Rattle.std.specs.Prelude.{if◌then◌else◌}
 use mathlib.Core.Path.{◌≡◌, refl, ap, ◌∙◌}
 use mathlib.Core.Bool.{Bool, true, false, ◌&&◌, ◌||◌, not}
 use mathlib.Core.Option.{Option, none, some}
 use Prim.Native.Nat.{ℕ, ◌+◌}
 use lib.Dec.{ltb, leb}
-use Rattle.texts.specs.Lists.{if◌then◌else◌, absent, present_and}
+use Rattle.texts.specs.Lists.{absent, present_and}
 use Rattle.model_walk.proofs.Found.{Case, is_true, is_false, case}
 use Rattle.engine_spec.specs.Kleene.{is_yes, is_no, is_unknown}
 use Rattle.engine_spec.specs.Kleene as kleene

@@ -1,7 +1,6 @@
 -- What a truth at a record does to an invariant's reading: why a record fails it, and the waiting of a response. It goes as
 -- checker's Judge does.
-use Rattle.std.specs.Prelude.{ℕ, ◌+◌, Bool, true, false, ◌&&◌, ◌||◌, ltb, leb}
-use Rattle.texts.specs.Lists.{if◌then◌else◌}
+use Rattle.std.specs.Prelude.{ℕ, ◌+◌, Bool, true, false, ◌&&◌, ◌||◌, ltb, leb, if◌then◌else◌}
 use Rattle.engine_evaluate.specs.declared.Truth.{Truth}
 use Rattle.engine_evaluate.specs.declared.Truth.TheVariants.{Yes, No, Unknown}
 use Rattle.checker_response.specs.declared.Failure.{Failure}

@@ -1,7 +1,6 @@
 -- The verdict on a simulation.
-use Rattle.std.specs.Prelude.{ℕ, ◌+◌, ◌*◌, ◌≤◌, ◌≡◌, Bool, List, [], ◌∷◌, map, eqb, length}
+use Rattle.std.specs.Prelude.{ℕ, ◌+◌, ◌*◌, ◌≤◌, ◌≡◌, Bool, List, [], ◌∷◌, map, eqb, length, if◌then◌else◌}
 use Rattle.layout.specs.Sizes.{incomplete_reasons, simulation_reasons, verdict_reasons, violation_numbers}
-use Rattle.texts.specs.Lists.{if◌then◌else◌}
 use Rattle.records.specs.Records.{recorded}
 use Rattle.records.specs.declared.Record.{Record}
 use Rattle.reasons.specs.Kinds as kinds

@@ -1,4 +1,5 @@
 -- What a search checks are cases, and what a reduction leaves are some of the events that it began with.
+use Rattle.std.specs.Prelude.{if◌then◌else◌}
 use Prim.Native.Nat.{ℕ, zero, suc, ◌+◌, ◌≤◌}
 use mathlib.Core.Path.{◌≡◌, refl, subst}
 use mathlib.Core.Bool.{Bool, true, false, ◌||◌}
@@ -8,7 +9,7 @@ use native.Mathlib.Omega.{arith}
 use lib.Dec.{ltb, leb}
 use lib.ListN.{length, length-append}
 use borrow.Author.Tests.{ltb-false}
-use Rattle.texts.specs.Lists.{if◌then◌else◌, is_empty}
+use Rattle.texts.specs.Lists.{is_empty}
 use Rattle.texts.specs.Texts.{Text}
 use Rattle.model_spec.specs.Answer.{Answer, answer, ◌>>=◌, ◌and◌, ◌when◌}
 use Rattle.model_spec.specs.Model.{Input, Event, Scenario, Model}

@@ -1,7 +1,7 @@
 -- check.rs: the verdict on a simulation, and the entry `check`.
-use Rattle.std.specs.Prelude.{ℕ, Bool, true, false, not, List, [], ◌∷◌, ◌++◌}
+use Rattle.std.specs.Prelude.{ℕ, Bool, true, false, not, List, [], ◌∷◌, ◌++◌, if◌then◌else◌}
 use Rattle.std.proofs.Math.Option.{Option, none, some}
-use Rattle.texts.specs.Lists.{if◌then◌else◌, is_empty, flat, all_lists}
+use Rattle.texts.specs.Lists.{is_empty, flat, all_lists}
 use Rattle.texts.specs.Texts.{Text, text, sorted_t, all_texts}
 use Rattle.model_spec.specs.Answer.{Answer, answer, all_answers, ◌>>=◌}
 use Rattle.model_spec.specs.Model.{Source, Event, Invariant, id_of, Model, all_model}

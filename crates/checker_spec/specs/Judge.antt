@@ -1,8 +1,8 @@
 -- check.rs: reading a simulation's records for one invariant.
 -- The first failing record ends the reading and is the answer. Records hold no state: the reader carries the cells along.
-use Rattle.std.specs.Prelude.{ℕ, ◌+◌, Bool, false, ◌&&◌, ◌||◌, not, List, [], ◌∷◌, ◌++◌, ltb, leb}
+use Rattle.std.specs.Prelude.{ℕ, ◌+◌, Bool, false, ◌&&◌, ◌||◌, not, List, [], ◌∷◌, ◌++◌, ltb, leb, if◌then◌else◌}
 use Rattle.std.proofs.Math.Option.{Option, none, some}
-use Rattle.texts.specs.Lists.{if◌then◌else◌, absent, present_and, all_lists}
+use Rattle.texts.specs.Lists.{absent, present_and, all_lists}
 use Rattle.texts.specs.Texts.{Text, text, eq_t, decimal, all_texts}
 use Rattle.model_spec.specs.Model.{
   Source,

@@ -1,7 +1,7 @@
 -- check.rs: the bounded search for a violation.
-use Rattle.std.specs.Prelude.{ℕ, zero, suc, ◌+◌, Bool, true, false, ◌||◌, List, [], ◌∷◌, ◌++◌, ltb, leb, length}
+use Rattle.std.specs.Prelude.{ℕ, zero, suc, ◌+◌, Bool, true, false, ◌||◌, List, [], ◌∷◌, ◌++◌, ltb, leb, length, if◌then◌else◌}
 use Rattle.std.proofs.Math.Option.{Option, none, some}
-use Rattle.texts.specs.Lists.{if◌then◌else◌, is_empty, all_lists}
+use Rattle.texts.specs.Lists.{is_empty, all_lists}
 use Rattle.texts.specs.Texts.{Text, text, sorted_t, all_texts}
 use Rattle.model_spec.specs.Answer.{Answer, answer, ◌>>=◌, ◌and◌, ◌when◌, all_answers}
 use Rattle.model_spec.specs.Model.{Input, Event, Model}

@@ -1,7 +1,6 @@
 -- The rounds of the closing, on sets of numbers.
-use Rattle.std.specs.Prelude.{ℕ, zero, suc, ◌+◌, ◌^◌, Bool, false, not, List, eqb, ltb, get_or}
+use Rattle.std.specs.Prelude.{ℕ, zero, suc, ◌+◌, ◌^◌, Bool, false, not, List, eqb, ltb, get_or, if◌then◌else◌}
 use Rattle.std.specs.Int.Bits.{bit_and, bit_or}
-use Rattle.texts.specs.Lists.{if◌then◌else◌}
 use Rattle.lint_reach.specs.Sets.{holds}
 use Rattle.cone_close.specs.declared.ConeSets.{ConeSets}
 

@@ -1,5 +1,6 @@
 -- Laws on lists, texts and tests: how `keep`, the filter that leaves only what lies inside the cone, commutes with what the
 -- engine does to lists (append, find, tally, each, flat), and that sorting texts keeps their members.
+use Rattle.std.specs.Prelude.{if◌then◌else◌}
 use Prim.Native.Nat.{ℕ, ◌+◌, ◌≤◌, ◌<◌}
 use mathlib.Core.Path.{◌≡◌, refl, sym, ap, ◌∙◌, subst}
 use mathlib.Core.Bool.{Bool, true, false, not, ◌&&◌, ◌||◌, true≢false}
@@ -24,7 +25,7 @@ pub use Rattle.engine_spec.proofs.Lists.{
   found_is,
 }
 pub use Rattle.engine_spec.proofs.Distinct.{or_no'}
-use Rattle.texts.specs.Lists.{if◌then◌else◌, any, all, keep, find, tally, each, flat}
+use Rattle.texts.specs.Lists.{any, all, keep, find, tally, each, flat}
 use Rattle.texts.specs.Texts.{Text, eq_t, insert_t, sorted_t, lt_t}
 
 -- a test that is true, and one that is false

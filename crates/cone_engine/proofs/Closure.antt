@@ -1,5 +1,6 @@
 -- The cone of an accepted model: it holds the start, and nothing is left to add (`facts`), so its automations are good for
 -- the engine (`cone_good`); and it is the least such pair (`cone_is_least`).
+use Rattle.std.specs.Prelude.{if◌then◌else◌}
 use Prim.Native.Nat.{ℕ, zero, suc, ◌+◌, ◌≤◌}
 use mathlib.Core.Bool.{Bool, true, false, not, ◌&&◌, ◌||◌, true≢false, false≢true}
 use mathlib.Core.List.{List, [], ◌∷◌, ◌++◌}
@@ -8,7 +9,7 @@ use mathlib.Core.Logic.{◌⊎◌, inl, inr}
 use mathlib.Core.Path.{◌≡◌, refl, sym, ap, ◌∙◌, subst}
 use native.Mathlib.Omega.{arith}
 use lib.ListN.{length}
-use Rattle.texts.specs.Lists.{if◌then◌else◌, absent, absent_or, listed, any, all, keep, each, flat}
+use Rattle.texts.specs.Lists.{absent, absent_or, listed, any, all, keep, each, flat}
 use Rattle.texts.specs.Texts.{Text, eq_t, mem_t}
 use Rattle.model_spec.specs.Model.{Automation, Invariant, Model}
 use Rattle.lint_spec.specs.Touches

@@ -1,5 +1,6 @@
 -- The queue: the item taken is the first of the earliest, and nothing left is due before it. A filter on the queue changes
 -- nothing in that: an item inside is taken next of those inside too, one outside leaves them as they are.
+use Rattle.std.specs.Prelude.{if◌then◌else◌}
 use Prim.Native.Nat.{ℕ, ◌≤◌}
 use mathlib.Core.Bool.{Bool, true, false}
 use mathlib.Core.List.{List, [], ◌∷◌}
@@ -7,7 +8,7 @@ use mathlib.Core.Option.{Option, none, some}
 use mathlib.Core.Path.{◌≡◌, refl, sym, ap, ◌∙◌, subst}
 use native.Mathlib.Omega.{arith}
 use lib.Dec.{leb}
-use Rattle.texts.specs.Lists.{if◌then◌else◌, keep}
+use Rattle.texts.specs.Lists.{keep}
 use Rattle.engine_spec.specs.Records.{Item}
 use Rattle.engine_spec.specs.Engine.{sooner, pop}
 use Rattle.cone_engine.proofs.Base.{

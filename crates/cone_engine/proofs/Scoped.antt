@@ -1,12 +1,13 @@
 -- Runs stay good: those of the cone's automations read and toggle only what lies inside, those of other automations write
 -- only what lies outside. Every operation of the engine keeps this (`process_good`).
+use Rattle.std.specs.Prelude.{if◌then◌else◌}
 use Prim.Native.Nat.{ℕ, ◌+◌}
 use mathlib.Core.Path.{◌≡◌, refl, sym, ap, ◌∙◌, subst}
 use mathlib.Core.Bool.{Bool, true, false, not, ◌&&◌, ◌||◌}
 use mathlib.Core.List.{List, [], ◌∷◌, ◌++◌}
 use mathlib.Core.Option.{Option, none, some}
 use lib.Dec.{eqb}
-use Rattle.texts.specs.Lists.{if◌then◌else◌, absent, any, all, keep, find, tally, each, through}
+use Rattle.texts.specs.Lists.{absent, any, all, keep, find, tally, each, through}
 use Rattle.texts.specs.Texts.{Text, text, eq_t}
 use Rattle.model_spec.specs.Validate.{undecided}
 use Rattle.model_spec.specs.Model.{

@@ -1,5 +1,6 @@
 -- The loop: a complete one, seen from the cone, is a complete one of the cone's automations alone (`slice`), however many
 -- steps each has; so two models alike in the cone have one view at the end (`alike`).
+use Rattle.std.specs.Prelude.{if◌then◌else◌}
 use Prim.Native.Nat.{ℕ, zero, suc, ◌+◌}
 use mathlib.Core.Bool.{Bool, true, false, ◌||◌, false≢true}
 use mathlib.Core.List.{List, [], ◌∷◌}
@@ -7,7 +8,7 @@ use mathlib.Core.Option.{Option, none, some}
 use mathlib.Core.Path.{◌≡◌, refl, sym, ap, ◌∙◌, subst}
 use lib.Dec.{leb, ltb}
 use lib.ListN.{length}
-use Rattle.texts.specs.Lists.{if◌then◌else◌, ◌▸◌, keep, each}
+use Rattle.texts.specs.Lists.{◌▸◌, keep, each}
 use Rattle.texts.specs.Texts.{Text}
 use Rattle.model_spec.specs.Model.{Automation}
 use Rattle.engine_spec.specs.Records.{Run, Item, Engine}

@@ -1,5 +1,6 @@
 -- A step of the loop, operation by operation: on work inside the cone two engines that are alike there stay alike
 -- (`process_in`); work outside leaves an engine as it is, inside the cone (`process_out`).
+use Rattle.std.specs.Prelude.{if◌then◌else◌}
 use Prim.Native.Nat.{ℕ, ◌+◌}
 use mathlib.Core.Path.{◌≡◌, refl, sym, ap, ◌∙◌, subst}
 use mathlib.Core.Bool.{Bool, true, false, not, ◌&&◌, ◌||◌, true≢false, false≢true}
@@ -8,7 +9,6 @@ use mathlib.Core.Option.{Option, none, some}
 use lib.Dec.{eqb}
 use lib.ListN.{length}
 use Rattle.texts.specs.Lists.{
-  if◌then◌else◌,
   ◌▸◌,
   absent,
   present_and,

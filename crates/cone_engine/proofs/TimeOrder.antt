@@ -1,5 +1,6 @@
 -- Time: no work is due before now, the records' seconds never fall, the first record is a boundary, and boundaries
 -- show no change. The loop keeps this, and a complete simulation's records have it (`tidy_loop`).
+use Rattle.std.specs.Prelude.{if◌then◌else◌}
 use Prim.Native.Nat.{ℕ, zero, suc, ◌+◌, ◌≤◌}
 use mathlib.Core.Bool.{Bool, true, false, not, ◌&&◌, ◌||◌, false≢true}
 use mathlib.Core.List.{List, [], ◌∷◌, ◌++◌}
@@ -7,7 +8,7 @@ use mathlib.Core.Option.{Option, none, some}
 use mathlib.Core.Path.{◌≡◌, refl}
 use native.Mathlib.Omega.{arith}
 use lib.Dec.{eqb}
-use Rattle.texts.specs.Lists.{if◌then◌else◌, ◌▸◌, absent, any, keep, find, tally, each, through}
+use Rattle.texts.specs.Lists.{◌▸◌, absent, any, keep, find, tally, each, through}
 use Rattle.texts.specs.Texts.{Text, text, eq_t}
 use Rattle.model_spec.specs.Validate.{undecided}
 use Rattle.model_spec.specs.Model.{

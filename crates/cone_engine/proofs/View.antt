@@ -1,11 +1,12 @@
 -- What two engines have in common inside the cone (`Like`): cells, queue, runs without their number over all runs, runs
 -- made, and records. The parts and the primitive changes of the engine keep it.
+use Rattle.std.specs.Prelude.{if◌then◌else◌}
 use Prim.Native.Nat.{ℕ, ◌+◌}
 use mathlib.Core.Path.{◌≡◌, refl, sym, ap, ◌∙◌, subst}
 use mathlib.Core.Bool.{Bool, true, false, ◌||◌, true≢false}
 use mathlib.Core.List.{List, [], ◌∷◌, ◌++◌}
 use mathlib.Core.Option.{Option, none, some}
-use Rattle.texts.specs.Lists.{if◌then◌else◌, present_and, all, keep, find, tally, each, flat, through}
+use Rattle.texts.specs.Lists.{present_and, all, keep, find, tally, each, flat, through}
 use Rattle.texts.specs.Texts.{Text, eq_t}
 use Rattle.model_spec.specs.Model.{Source, Moment, Predicate, state, window, Input, reload, Automation}
 use Rattle.engine_spec.specs.Cells.{Cell, is_cell, cell_of, value_of, overwrite, put}

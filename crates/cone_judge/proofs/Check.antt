@@ -1,12 +1,13 @@
 -- Two models that are alike inside a cone, both simulated to the end: every invariant has one answer in both
 -- (`all_answers`), and both checks return the same of each (`check_same`).
+use Rattle.std.specs.Prelude.{if◌then◌else◌}
 use Prim.Native.Nat.{ℕ, ◌+◌}
 use mathlib.Core.Bool.{Bool, true, false}
 use mathlib.Core.List.{List, [], ◌∷◌, ◌++◌}
 use mathlib.Core.Option.{Option, none, some}
 use mathlib.Core.Path.{◌≡◌, refl, sym, ap, ◌∙◌, subst}
 use native.Mathlib.Omega.{arith}
-use Rattle.texts.specs.Lists.{if◌then◌else◌, absent, all, keep, each, flat}
+use Rattle.texts.specs.Lists.{absent, all, keep, each, flat}
 use Rattle.texts.specs.Texts.{Text, sorted_t, insert_t, eq_t, lt_t}
 use Rattle.model_spec.specs.Answer.{answer}
 use Rattle.model_spec.specs.Model.{Moment, Event, Invariant, id_of, Model}

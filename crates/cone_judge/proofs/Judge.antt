@@ -1,5 +1,6 @@
 -- Reading the records for one invariant: those outside the cone change no answer (`judge_view`). For never, guard and
 -- transition such a record shows nothing new; a late response is found at the next record at the latest, with one deadline.
+use Rattle.std.specs.Prelude.{if◌then◌else◌}
 use Prim.Native.Nat.{ℕ, suc, ◌+◌, ◌≤◌}
 use mathlib.Core.Bool.{Bool, true, false, not, ◌&&◌, ◌||◌, true≢false, false≢true}
 use mathlib.Core.List.{List, [], ◌∷◌, ◌++◌}
@@ -8,7 +9,7 @@ use mathlib.Core.Path.{◌≡◌, refl, sym, ap, ◌∙◌, subst}
 use native.Mathlib.Omega.{arith}
 use lib.Dec.{ltb}
 use Rattle.texts.proofs.Bool.{or_false}
-use Rattle.texts.specs.Lists.{if◌then◌else◌, absent, present_and, all, keep, flat}
+use Rattle.texts.specs.Lists.{absent, present_and, all, keep, flat}
 use Rattle.texts.specs.Texts.{Text, text, eq_t}
 use Rattle.model_spec.specs.Model.{Predicate, Invariant, never, guard, transition, response, midnight}
 use Rattle.engine_spec.specs.Cells.{Cell, put}

@@ -1,6 +1,5 @@
 -- The undeclared names in the cone, on places.
-use Rattle.std.specs.Prelude.{ℕ, zero, suc, ◌+◌, Bool, true, false, eqb, leb, ltb, get_or, set, replicate}
-use Rattle.texts.specs.Lists.{if◌then◌else◌}
+use Rattle.std.specs.Prelude.{ℕ, zero, suc, ◌+◌, Bool, true, false, eqb, leb, ltb, get_or, set, replicate, if◌then◌else◌}
 use Rattle.lint_reach.specs.Sets.{holds}
 use Rattle.lint_undeclared.specs.declared.Undeclared.{Undeclared}
 use Rattle.cone_names.specs.declared.ConeNames.{ConeNames}

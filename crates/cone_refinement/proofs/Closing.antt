@@ -2,6 +2,7 @@
 -- are in
 -- are those of the set, the automations that are in those of the other, and an undeclared name is in exactly if an
 -- automation that is in reads it.
+use Rattle.std.specs.Prelude.{if◌then◌else◌}
 use mathlib.Core.Path.{◌≡◌, refl, sym, ap, ◌∙◌, subst}
 use mathlib.Core.Bool.{Bool, true, false, not, ◌||◌, ◌&&◌, or_assoc}
 use mathlib.Core.List.{List, [], ◌∷◌, ◌++◌}
@@ -15,7 +16,7 @@ use lib.Dec.{eqb}
 use lib.ListN.{length, get_or}
 use borrow.Author.Tests.{lt-ltb, le-ltb, eq-eqb, ne_eqb}
 use Rattle.texts.proofs.Bool.{or_false}
-use Rattle.texts.specs.Lists.{if◌then◌else◌, any, keep, each, flat}
+use Rattle.texts.specs.Lists.{any, keep, each, flat}
 use Rattle.texts.specs.Texts.{Text, mem_t, sorted_t}
 use Rattle.model_spec.specs.Model.{Effect, toggle, delay, condition, choose, wait, Automation, Model}
 use Rattle.model_parts.specs.declared.Section.{Section}

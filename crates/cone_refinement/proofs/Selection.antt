@@ -1,4 +1,5 @@
 -- A round: the automation that the definition picks is the first that the sets give, and the others are left as they were.
+use Rattle.std.specs.Prelude.{if◌then◌else◌}
 use mathlib.Core.Path.{◌≡◌, refl, sym, ap, ◌∙◌}
 use mathlib.Core.Bool.{Bool, true, false, not, ◌&&◌}
 use mathlib.Core.List.{List, [], ◌∷◌}
@@ -8,7 +9,7 @@ use native.Mathlib.Omega.{arith}
 use lib.Bits.{bit_and, and_shr, and_step, and_lt}
 use lib.Dec.{eqb}
 use borrow.Author.Tests.{eq-eqb, ne_eqb}
-use Rattle.texts.specs.Lists.{if◌then◌else◌, is_empty, any, keep, each}
+use Rattle.texts.specs.Lists.{is_empty, any, keep, each}
 use Rattle.texts.specs.Texts.{Text}
 use Rattle.model_spec.specs.Model.{Automation}
 use Rattle.model_walk.proofs.Found.{Case, is_true, is_false, case}

@@ -1,5 +1,6 @@
 -- The undeclared names of the answer: the places that the code lists are those of the undeclared names in the definition's
 -- cone, ascending, at most 64.
+use Rattle.std.specs.Prelude.{if◌then◌else◌}
 use mathlib.Core.Path.{◌≡◌, refl, sym, ap, ◌∙◌}
 use mathlib.Core.Bool.{Bool, true, false, not, ◌||◌, ◌&&◌, or_assoc}
 use mathlib.Core.List.{List, [], ◌∷◌, ◌++◌, append-nil, append_assoc}
@@ -11,7 +12,7 @@ use lib.Dec.{eqb, leb}
 use lib.ListN.{length, get_or, replicate, length-append}
 use borrow.Author.Tests.{lt-ltb, le-leb, lt-leb, eq-eqb, ne_eqb}
 use Rattle.engine_spec.proofs.Bounds.{length_each}
-use Rattle.texts.specs.Lists.{if◌then◌else◌, any, keep, each, flat}
+use Rattle.texts.specs.Lists.{any, keep, each, flat}
 use Rattle.texts.specs.Texts.{Text, eq_t, mem_t, sorted_t}
 use Rattle.texts.proofs.Ordering.{not_both}
 use Rattle.model_spec.specs.Model.{Automation, Model}

@@ -1,6 +1,5 @@
 -- What invariants name, and what an automation needs, as sets of numbers of declared entities.
-use Rattle.std.specs.Prelude.{ℕ, List, eqb}
-use Rattle.texts.specs.Lists.{if◌then◌else◌}
+use Rattle.std.specs.Prelude.{ℕ, List, eqb, if◌then◌else◌}
 use Rattle.model_parts.specs.declared.Section.{Section}
 use Rattle.lint_walk.specs.declared.Walk.{Walk}
 use Rattle.lint_walk.specs.Raw.{byte_m, place_m, past, predicate_end, kind_m}

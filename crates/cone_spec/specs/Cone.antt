@@ -1,8 +1,8 @@
 -- The cone: the entities that invariants name, each automation that writes one, what such an automation reads or toggles,
 -- and so on. Automations are taken in one by one: the first of those left that writes what is in.
-use Rattle.std.specs.Prelude.{ℕ, zero, suc, ◌≡◌, Bool, true, List, [], ◌∷◌, ◌++◌, length}
+use Rattle.std.specs.Prelude.{ℕ, zero, suc, ◌≡◌, Bool, true, List, [], ◌∷◌, ◌++◌, length, if◌then◌else◌}
 use Rattle.std.proofs.Math.Option.{Option, none, some}
-use Rattle.texts.specs.Lists.{if◌then◌else◌, any, all, keep, each, flat, all_lists}
+use Rattle.texts.specs.Lists.{any, all, keep, each, flat, all_lists}
 use Rattle.texts.specs.Texts.{Text, mem_t, sorted_t, all_texts}
 use Rattle.model_spec.specs.Answer.{Answer, answer, all_answers, ◌>>=◌}
 use Rattle.model_spec.specs.Model.{Automation, Invariant, never, guard, transition, response, Model}

@@ -1,8 +1,7 @@
 -- What each kind of action does, over the file f and the table x.
-use Rattle.std.specs.Prelude.{ℕ, ◌+◌, Bool, List, ltb, eqb, get_or}
+use Rattle.std.specs.Prelude.{ℕ, ◌+◌, Bool, List, ltb, eqb, get_or, if◌then◌else◌}
 use Rattle.layout.specs.Table.{off_word, on_word}
 use Rattle.records.specs.Kinds.{choose_kind, condition_kind, delay_kind, unknown_kind, wait_kind}
-use Rattle.texts.specs.Lists.{if◌then◌else◌}
 use Rattle.queue.specs.declared.Work.TheVariants.{Timeout}
 use Rattle.records.specs.declared.Rule.TheVariants.{Of}
 use Rattle.records.specs.declared.Where.TheVariants.{From}

@@ -1,6 +1,5 @@
 -- What a run does next: its next action, or its end.
-use Rattle.std.specs.Prelude.{ℕ, Bool, true, false, List, eqb}
-use Rattle.texts.specs.Lists.{if◌then◌else◌}
+use Rattle.std.specs.Prelude.{ℕ, Bool, true, false, List, eqb, if◌then◌else◌}
 use Rattle.runs.specs.Lists.{place_from}
 use Rattle.runs.specs.Runs.{is_run}
 use Rattle.runs.specs.declared.Run.{Run}

@@ -1,4 +1,5 @@
 -- A simulation is refused with 41 to 43 only.
+use Rattle.std.specs.Prelude.{if◌then◌else◌}
 use Prim.Native.Nat.{ℕ, ◌≤◌}
 use mathlib.Core.Path.{◌≡◌, sym, subst}
 use mathlib.Core.Bool.{Bool, true, false}
@@ -7,7 +8,6 @@ use mathlib.Core.Option.{Option, none, some}
 use native.Mathlib.Omega.{arith}
 use lib.Dec.{leb}
 use lib.ListN.{length}
-use Rattle.texts.specs.Lists.{if◌then◌else◌}
 use Rattle.model_spec.specs.Answer.{Answer, refused}
 use Rattle.model_spec.specs.Model.{Event, Model}
 use Rattle.engine_spec.specs.Cells.{Cell}

@@ -1,5 +1,6 @@
 -- A simulation by the code is the definition's, from what the simulations of an accepted model share to the answer.
 -- `ran` is the simulator's promise: whoever runs one goes on from it.
+use Rattle.std.specs.Prelude.{if◌then◌else◌}
 use Prim.Native.Nat.{ℕ, ◌+◌, ◌-◌, ◌/◌, ◌≤◌, ◌<◌}
 use mathlib.Core.Path.{◌≡◌, refl, sym, ap, subst, ◌∙◌}
 use mathlib.Core.Bool.{Bool, true, false, not}
@@ -10,7 +11,7 @@ use lib.ListN.{length, get_or, replicate, length-append, length-replicate}
 use borrow.Author.Tests.{eq-eqb, ne_eqb}
 use Rattle.layout.specs.Sizes.{simulation_reasons}
 use Rattle.bounds.specs.Bounds.{AtMost}
-use Rattle.texts.specs.Lists.{if◌then◌else◌, each, flat}
+use Rattle.texts.specs.Lists.{each, flat}
 use Rattle.texts.specs.Texts.{Text}
 use Rattle.model_spec.specs.Answer.{answer, refused}
 use Rattle.model_spec.specs.Model.{Event, Model}

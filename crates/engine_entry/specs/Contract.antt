@@ -1,8 +1,8 @@
 -- What the entries answer, by the definitions of crate `engine_spec`: each number of the answer, and each word of the lent
 -- areas.
-use Rattle.std.specs.Prelude.{ℕ, ◌-◌, ◌≤◌, ◌≡◌, Bool, List, [], ◌∷◌, ◌++◌, eqb, length, replicate}
+use Rattle.std.specs.Prelude.{ℕ, ◌-◌, ◌≤◌, ◌≡◌, Bool, List, [], ◌∷◌, ◌++◌, eqb, length, replicate, if◌then◌else◌}
 use Rattle.layout.specs.Sizes.{simulation_reason_words}
-use Rattle.texts.specs.Lists.{if◌then◌else◌, each}
+use Rattle.texts.specs.Lists.{each}
 use Rattle.texts.specs.Texts.{Text}
 use Rattle.model_spec.specs.Answer.{Answer, answer, refused}
 use Rattle.reasons.specs.Lists.{Reported}

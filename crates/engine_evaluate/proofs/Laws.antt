@@ -1,4 +1,5 @@
 -- The definitions by cases.
+use Rattle.std.specs.Prelude.{if◌then◌else◌}
 use Prim.Native.Nat.{ℕ, suc, ◌+◌, ◌-◌, ◌%◌, ◌≤◌, ◌<◌}
 use mathlib.Core.Path.{◌≡◌, sym, ◌∙◌, ap}
 use mathlib.Core.Bool.{Bool, true, false}
@@ -12,7 +13,6 @@ use Rattle.model_walk.specs.declared.Walked.TheVariants as walked
 use Rattle.runs.specs.Runs.{place_in}
 use Rattle.runs.specs.declared.Place.{Place}
 use Rattle.engine_fields.specs.Fields.{two, cap, entity_of}
-use Rattle.texts.specs.Lists.{if◌then◌else◌}
 use Rattle.engine_window.specs.Window.{open_m}
 use Rattle.engine_state.specs.Machine.{later}
 use Rattle.engine_state.specs.declared.Move.{Move}

@@ -1,7 +1,6 @@
 -- Actions at positions of the file f, and the places where a run goes on.
-use Rattle.std.specs.Prelude.{ℕ, ◌+◌, ◌-◌, List, ltb, eqb, get_or, set}
+use Rattle.std.specs.Prelude.{ℕ, ◌+◌, ◌-◌, List, ltb, eqb, get_or, set, if◌then◌else◌}
 use Rattle.layout.specs.Table.{text_count_word}
-use Rattle.texts.specs.Lists.{if◌then◌else◌}
 use Rattle.model_walk.specs.Walk.{actions_m, choice_m}
 use Rattle.runs.specs.Runs.{place_in}
 use Rattle.runs.specs.declared.Place.{Place}

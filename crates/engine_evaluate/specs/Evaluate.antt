@@ -1,7 +1,6 @@
 -- Predicates, triggers and branches at positions of the file f, with the table x and the entities' values vs, at a second.
-use Rattle.std.specs.Prelude.{ℕ, zero, suc, ◌+◌, Bool, true, false, List, ltb, eqb, get_or}
+use Rattle.std.specs.Prelude.{ℕ, zero, suc, ◌+◌, Bool, true, false, List, ltb, eqb, get_or, if◌then◌else◌}
 use Rattle.layout.specs.Table.{text_count_word, unavailable_word, unknown_word}
-use Rattle.texts.specs.Lists.{if◌then◌else◌}
 use Rattle.model_walk.specs.Walk.{predicate_size, actions_m}
 use Rattle.model_walk.specs.declared.Walked.{Walked}
 use Rattle.model_walk.specs.declared.Walked.TheVariants as walked

@@ -1,7 +1,6 @@
 -- What is read of the file f and of the table x.
-use Rattle.std.specs.Prelude.{ℕ, zero, suc, ◌+◌, ◌*◌, true, false, List, ltb, eqb, get_or}
+use Rattle.std.specs.Prelude.{ℕ, zero, suc, ◌+◌, ◌*◌, true, false, List, ltb, eqb, get_or, if◌then◌else◌}
 use Rattle.layout.specs.Table.{automation_count_word, entity_count_word, id_word}
-use Rattle.texts.specs.Lists.{if◌then◌else◌}
 use Rattle.bounds.specs.Bounds.{at_most}
 use Rattle.texts.specs.Places.{start_from}
 use Rattle.runs.specs.Runs.{place_word}

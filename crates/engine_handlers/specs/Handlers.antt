@@ -1,8 +1,7 @@
 -- The other work of a simulation.
-use Rattle.std.specs.Prelude.{ℕ, List, [], ltb, eqb, get_or}
+use Rattle.std.specs.Prelude.{ℕ, List, [], ltb, eqb, get_or, if◌then◌else◌}
 use Rattle.layout.specs.Table.{unknown_word}
 use Rattle.records.specs.Kinds.{restart_kind, timeout_kind}
-use Rattle.texts.specs.Lists.{if◌then◌else◌}
 use Rattle.records.specs.declared.Rule.TheVariants.{NoRule}
 use Rattle.records.specs.declared.Where.TheVariants.{Nowhere}
 use Rattle.runs.specs.Lists.{place_from}

@@ -1,7 +1,6 @@
 -- What a simulation begins with: the model's events as words, and the values that its entities start with.
-use Rattle.std.specs.Prelude.{ℕ, ◌+◌, ◌-◌, ◌*◌, ◌/◌, ◌%◌, ◌≤◌, ◌<◌, ◌≡◌, List, ltb, eqb, length, get_or, replicate}
+use Rattle.std.specs.Prelude.{ℕ, ◌+◌, ◌-◌, ◌*◌, ◌/◌, ◌%◌, ◌≤◌, ◌<◌, ◌≡◌, List, ltb, eqb, length, get_or, replicate, if◌then◌else◌}
 use Rattle.layout.specs.Sizes.{event_word_count}
-use Rattle.texts.specs.Lists.{if◌then◌else◌}
 use Rattle.bounds.specs.Bounds.{at_most}
 use Rattle.engine_fields.specs.Fields.{two, four, cap}
 use Rattle.model_index.specs.declared.Index.{Index}

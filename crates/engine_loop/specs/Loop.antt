@@ -1,8 +1,7 @@
 -- The loop of a simulation, over the file f and the table x.
-use Rattle.std.specs.Prelude.{ℕ, zero, suc, ◌+◌, ◌-◌, ◌≡◌, true, false, List, eqb, length, get_or}
+use Rattle.std.specs.Prelude.{ℕ, zero, suc, ◌+◌, ◌-◌, ◌≡◌, true, false, List, eqb, length, get_or, if◌then◌else◌}
 use Rattle.layout.specs.Table.{horizon_word, max_steps_word}
 use Rattle.records.specs.Kinds.{horizon_kind}
-use Rattle.texts.specs.Lists.{if◌then◌else◌}
 use Rattle.queue.specs.Order.{pop, left_of}
 use Rattle.queue.specs.Queue.{second_of, taken_of}
 use Rattle.queue.specs.declared.Item.{Item}

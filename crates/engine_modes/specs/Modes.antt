@@ -1,8 +1,7 @@
 -- Runs that begin, and what the modes decide.
-use Rattle.std.specs.Prelude.{ℕ, Bool, true, false, List, ltb, leb, eqb, get_or, replicate}
+use Rattle.std.specs.Prelude.{ℕ, Bool, true, false, List, ltb, leb, eqb, get_or, replicate, if◌then◌else◌}
 use Rattle.layout.specs.Table.{actions_word, max_word, mode_word}
 use Rattle.records.specs.Kinds.{cancel_kind, max_reached_kind, queued_kind, single_running_kind, start_kind}
-use Rattle.texts.specs.Lists.{if◌then◌else◌}
 use Rattle.runs.specs.Lists.{tally, keep}
 use Rattle.runs.specs.Runs.{run_of, other}
 use Rattle.runs.specs.declared.Run.{Run}

@@ -1,5 +1,6 @@
 -- A simulation that isn't refused is the same in larger areas. Each change of the engine does the same in both, unless an
 -- area overflows; and a note of an overflow stays.
+use Rattle.std.specs.Prelude.{if◌then◌else◌}
 use Prim.Native.Nat.{ℕ, zero, suc, ◌+◌, ◌≤◌}
 use mathlib.Core.Path.{◌≡◌, refl, ap, ◌∙◌}
 use mathlib.Core.Bool.{Bool, true, false, not, ◌&&◌, ◌||◌}
@@ -8,7 +9,7 @@ use mathlib.Core.Option.{Option, none, some}
 use native.Mathlib.Omega.{arith}
 use lib.Dec.{eqb}
 use lib.ListN.{length}
-use Rattle.texts.specs.Lists.{if◌then◌else◌, ◌▸◌, absent, any, keep, find, tally, each, flat, through}
+use Rattle.texts.specs.Lists.{◌▸◌, absent, any, keep, find, tally, each, flat, through}
 use Rattle.texts.specs.Texts.{Text, text, eq_t}
 use Rattle.model_spec.specs.Answer.{answer}
 use Rattle.model_spec.specs.Validate.{undecided}

@@ -1,4 +1,5 @@
 -- The laws that the proofs of listings cite.
+use Rattle.std.specs.Prelude.{if◌then◌else◌}
 use mathlib.Core.Path.{◌≡◌, refl, sym, ap, ◌∙◌}
 use mathlib.Core.List.{List}
 use mathlib.Core.Bool.{Bool, true, false}
@@ -9,7 +10,6 @@ use lib.ListN.{length}
 use lib.Dec.{eqb}
 use borrow.Author.Tests.{lt-ltb, le-ltb, le-leb, lt-leb, eq-eqb, ne_eqb}
 use Rattle.layout.specs.Sizes.{last_simulation_reason, simulation_reason_words}
-use Rattle.texts.specs.Lists.{if◌then◌else◌}
 use Rattle.texts.specs.Texts.{Text, insert_t}
 use Rattle.model_spec.specs.File.{Reader, u8, u16}
 use Rattle.model_walk.specs.declared.Num.{Num}

@@ -1,4 +1,5 @@
 -- Each listing adds the reasons of the part that the reader of `File` finds at its position.
+use Rattle.std.specs.Prelude.{if◌then◌else◌}
 use mathlib.Core.Path.{◌≡◌, refl, sym, ap, ◌∙◌}
 use mathlib.Core.List.{List, [], ◌∷◌, ◌++◌, append-nil, append_assoc}
 use mathlib.Core.Option.{Option, none, some}
@@ -8,7 +9,7 @@ use native.Mathlib.Decide.{dec_lt}
 use lib.ListN.{length, get_or}
 use lib.Dec.{eqb}
 use borrow.Author.Tests.{lt-ltb, le-ltb, ne_eqb}
-use Rattle.texts.specs.Lists.{if◌then◌else◌, listed, each, flat}
+use Rattle.texts.specs.Lists.{listed, each, flat}
 use Rattle.texts.specs.Texts.{Text, text}
 use Rattle.texts.specs.Places.{text_at, start_from}
 use Rattle.model_spec.specs.Model.{Predicate, state, window, Trigger}

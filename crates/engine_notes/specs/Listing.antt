@@ -1,9 +1,8 @@
 -- The notes of parts as reasons, listed from the file. A listing goes over a part of the file, from a position on,
 -- with the reasons so far; it ends at a position, with the reasons after it. A part that is not there is passed over.
 -- `proofs/Refines` has, for each listing, that it adds the reasons of the part that the reader of `File` finds there.
-use Rattle.std.specs.Prelude.{ℕ, zero, suc, ◌+◌, ◌-◌, ◌≡◌, List, ltb, leb, eqb, length}
+use Rattle.std.specs.Prelude.{ℕ, zero, suc, ◌+◌, ◌-◌, ◌≡◌, List, ltb, leb, eqb, length, if◌then◌else◌}
 use Rattle.layout.specs.Sizes.{last_simulation_reason}
-use Rattle.texts.specs.Lists.{if◌then◌else◌}
 use Rattle.texts.specs.Texts.{Text, insert_t}
 use Rattle.model_spec.specs.File.{got, broken, Reader, u8, u16}
 use Rattle.model_walk.specs.Walk.{predicate_size}

@@ -1,5 +1,6 @@
 -- Predicates, triggers and branches at positions are judged as the definition judges what stands there.
 -- A cell is found by its entity's number, and a write by number is a write by name.
+use Rattle.std.specs.Prelude.{if◌then◌else◌}
 use mathlib.Core.Path.{◌≡◌, refl, sym, ap, ◌∙◌, subst}
 use mathlib.Core.List.{List, [], ◌∷◌}
 use mathlib.Core.Bool.{Bool, true, false, ◌&&◌, ◌||◌, not}
@@ -10,7 +11,7 @@ use lib.ListN.{length, get_or, set}
 use lib.Seq.{get_or-set_same, get_or-set_other}
 use lib.Dec.{eqb}
 use borrow.Author.Tests.{lt-ltb, eq-eqb, ne_eqb, eqb-true, eqb-false}
-use Rattle.texts.specs.Lists.{if◌then◌else◌, absent, absent_or, any, find, each}
+use Rattle.texts.specs.Lists.{absent, absent_or, any, find, each}
 use Rattle.texts.specs.Texts.{Text, text, eq_t}
 use Rattle.model_spec.specs.Model.{
   observational,

@@ -1,4 +1,5 @@
 -- A machine that is full stays full, with the same number, whatever it does: one lemma for each function that a proof cites.
+use Rattle.std.specs.Prelude.{if◌then◌else◌}
 use mathlib.Core.Path.{◌≡◌, sym, ◌∙◌}
 use mathlib.Core.List.{List}
 use mathlib.Core.Bool.{Bool, true, false}
@@ -7,7 +8,6 @@ use lib.ListN.{length}
 use lib.Dec.{ltb, eqb}
 use borrow.Author.Tests.{ne_eqb}
 use Rattle.layout.specs.Sizes.{last_simulation_reason}
-use Rattle.texts.specs.Lists.{if◌then◌else◌}
 use Rattle.queue.specs.declared.Work.{Work}
 use Rattle.records.specs.declared.Rule.{Rule}
 use Rattle.records.specs.declared.Where.{Where}

@@ -1,5 +1,6 @@
 -- The work of one item: a run goes on, a wait's time is up, a value expires, runs are dropped, a write comes from outside.
 -- `process_is`: the machine does with an item what the definition does.
+use Rattle.std.specs.Prelude.{if◌then◌else◌}
 use mathlib.Core.Path.{◌≡◌, refl, sym, ap, ◌∙◌, subst}
 use mathlib.Core.List.{List, [], ◌∷◌}
 use mathlib.Core.Bool.{Bool, true, false, not, ◌||◌, ◌&&◌}
@@ -9,7 +10,7 @@ use native.Mathlib.Omega.{arith}
 use lib.ListN.{length, get_or, set}
 use lib.Dec.{ltb, eqb}
 use borrow.Author.Tests.{le-ltb, eq-eqb, ne_eqb}
-use Rattle.texts.specs.Lists.{if◌then◌else◌, absent, find, each, through}
+use Rattle.texts.specs.Lists.{absent, find, each, through}
 use Rattle.texts.specs.Texts.{Text, text, eq_t}
 use Rattle.model_spec.specs.Model.{Actions, done, Model}
 use Rattle.queue.specs.declared.Work.{Work as QWork}

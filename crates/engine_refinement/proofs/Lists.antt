@@ -1,5 +1,6 @@
 -- Lists by place and lists by test: where one element passes a test, what is done at its place is what is done by the test.
 -- `g` maps the machine's entries to the definition's.
+use Rattle.std.specs.Prelude.{if◌then◌else◌}
 use mathlib.Core.Path.{◌≡◌, refl, ap, ◌∙◌}
 use mathlib.Core.Bool.{Bool, true, false, cond, not}
 use mathlib.Core.List.{List, [], ◌∷◌, ◌++◌}
@@ -7,7 +8,7 @@ use mathlib.Core.Option.{none, some}
 use Prim.Native.Nat.{ℕ, zero, suc, ◌+◌, ◌≤◌, ◌<◌}
 use native.Mathlib.Omega.{arith}
 use lib.ListN.{length, get_or, take, drop, set}
-use Rattle.texts.specs.Lists.{if◌then◌else◌, find, keep, tally, each}
+use Rattle.texts.specs.Lists.{find, keep, tally, each}
 use Rattle.runs.specs.Lists.{place_from}
 use Rattle.runs.specs.Lists as places
 use Rattle.runs.specs.declared.Found.{Found}

@@ -1,5 +1,6 @@
 -- The loop: the machine takes the items that the definition takes, ends after as many steps, and for the same reason.
 -- Where the machine found an area full, the definition says which.
+use Rattle.std.specs.Prelude.{if◌then◌else◌}
 use mathlib.Core.Path.{◌≡◌, refl, sym, ap, ◌∙◌}
 use mathlib.Core.List.{List, [], ◌∷◌}
 use mathlib.Core.Bool.{Bool, true, false, cond, ◌||◌}
@@ -9,7 +10,7 @@ use native.Mathlib.Omega.{arith}
 use lib.ListN.{length}
 use lib.Dec.{ltb, leb, eqb}
 use borrow.Author.Tests.{eq-eqb, ne_eqb, ltb-false}
-use Rattle.texts.specs.Lists.{if◌then◌else◌, each}
+use Rattle.texts.specs.Lists.{each}
 use Rattle.texts.specs.Texts.{Text}
 use Rattle.model_spec.specs.Model.{Model}
 use Rattle.queue.specs.Order.{left_of}

@@ -1,5 +1,6 @@
 -- The answer of a simulation, read off the machine where it halted; and what it begins with: the model's values and events.
 -- `simulated_is` joins `ended_is` and the definition's `simulated`.
+use Rattle.std.specs.Prelude.{if◌then◌else◌}
 use mathlib.Core.Path.{◌≡◌, refl, sym, ap, ◌∙◌, subst}
 use mathlib.Core.List.{List, [], ◌∷◌, ◌++◌}
 use mathlib.Core.Option.{Option}
@@ -9,7 +10,7 @@ use lib.ListN.{length, get_or}
 use lib.Dec.{eqb}
 use borrow.Author.Tests.{ne_eqb}
 use Rattle.layout.specs.Sizes.{simulation_reasons}
-use Rattle.texts.specs.Lists.{if◌then◌else◌, each}
+use Rattle.texts.specs.Lists.{each}
 use Rattle.texts.specs.Texts.{Text}
 use Rattle.model_spec.specs.Answer.{Answer, answer, refused, accept}
 use Rattle.model_spec.specs.Model.{Entity, Event, Input, reload, Model}

@@ -1,5 +1,6 @@
 -- A run's next action: each of the seven effects does what the definition says.
 -- `Here k r m`: the run at k is r.
+use Rattle.std.specs.Prelude.{if◌then◌else◌}
 use mathlib.Core.Path.{◌≡◌, refl, sym, ap, ◌∙◌, subst}
 use mathlib.Core.List.{List, [], ◌∷◌}
 use mathlib.Core.Bool.{Bool, true, false}
@@ -11,7 +12,7 @@ use lib.Seq.{get_or-set_same}
 use lib.Dec.{ltb, eqb}
 use borrow.Author.Tests.{le-ltb, eqb-true}
 use Rattle.layout.specs.Sizes.{last_simulation_reason}
-use Rattle.texts.specs.Lists.{if◌then◌else◌, absent, find}
+use Rattle.texts.specs.Lists.{absent, find}
 use Rattle.texts.specs.Texts.{Text, text, eq_t, mem_t}
 use Rattle.model_spec.specs.Model.{
   Source,

@@ -1,12 +1,13 @@
 -- Texts without doubles that all stand in a list are at most as many as the list holds.
 -- A text more at the end keeps that there are no doubles.
+use Rattle.std.specs.Prelude.{if◌then◌else◌}
 use mathlib.Core.Path.{◌≡◌, refl, sym, ap, ◌∙◌}
 use mathlib.Core.List.{List, [], ◌∷◌, ◌++◌}
 use mathlib.Core.Bool.{Bool, true, false, ◌||◌, not}
 use Prim.Native.Nat.{ℕ, suc, ◌+◌, ◌≤◌, ◌<◌}
 use native.Mathlib.Omega.{arith}
 use lib.ListN.{length}
-use Rattle.texts.specs.Lists.{if◌then◌else◌, any, keep}
+use Rattle.texts.specs.Lists.{any, keep}
 use Rattle.texts.specs.Texts.{Text, eq_t, mem_t}
 use Rattle.engine_spec.proofs.Lists.{Case, is_true, is_false, case, Each, or_no, eq_t_eq, eq_t_same}
 use Rattle.engine_spec.proofs.Distinct.{or_no'}

@@ -1,5 +1,6 @@
 -- When a machine stands for an engine: either nothing is full and every part corresponds, or both say which area was full.
 -- The primitive changes keep that.
+use Rattle.std.specs.Prelude.{if◌then◌else◌}
 use mathlib.Core.Path.{◌≡◌, refl, sym, ap, ◌∙◌, subst}
 use mathlib.Core.List.{List, [], ◌∷◌, ◌++◌}
 use mathlib.Core.Bool.{Bool, true, false, ◌&&◌, not}
@@ -12,7 +13,7 @@ use lib.Seq.{get_or-set_same, get_or-set_other}
 use lib.Dec.{ltb, eqb}
 use borrow.Author.Tests.{le-ltb, eq-eqb, ne_eqb, eqb-true, eqb-false, ltb-true, ltb-false, le-leb, lt-leb}
 use Rattle.layout.specs.Sizes.{last_simulation_reason}
-use Rattle.texts.specs.Lists.{if◌then◌else◌, keep, tally, each}
+use Rattle.texts.specs.Lists.{keep, tally, each}
 use Rattle.texts.specs.Texts.{Text, eq_t, mem_t}
 use Rattle.model_spec.specs.Model.{Trigger, single, done, Automation, Model}
 use Rattle.model_spec.specs.File.{got, trigger}

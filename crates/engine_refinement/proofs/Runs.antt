@@ -1,5 +1,6 @@
 -- Runs that are stored, end and begin: the machine's are the definition's.
 -- `Keyed k r m`: the run at k has the automation, the sequence and the number of r.
+use Rattle.std.specs.Prelude.{if◌then◌else◌}
 use mathlib.Core.Path.{◌≡◌, refl, sym, ap, ◌∙◌, subst}
 use mathlib.Core.List.{List, [], ◌∷◌, ◌++◌}
 use mathlib.Core.Bool.{Bool, true, false}
@@ -10,7 +11,7 @@ use lib.ListN.{length, get_or, set, take, drop, replicate, length-replicate}
 use lib.Seq.{take_at}
 use lib.Dec.{leb}
 use borrow.Author.Tests.{ne_eqb}
-use Rattle.texts.specs.Lists.{if◌then◌else◌, find, tally, through}
+use Rattle.texts.specs.Lists.{find, tally, through}
 use Rattle.texts.specs.Texts.{Text}
 use Rattle.model_spec.specs.Model.{Mode, single, queued, parallel, Actions, done, act, Automation, Model}
 use Rattle.runs.specs.Runs.{whole, fit, in_line, run_of}

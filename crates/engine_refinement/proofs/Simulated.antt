@@ -1,5 +1,6 @@
 -- A whole simulation: from the beginning machine through the loop to its end, the machine stands for the definition's
 -- engine. `ended_is` is the statement that the code's contracts and the definition `ended` meet in.
+use Rattle.std.specs.Prelude.{if◌then◌else◌}
 use mathlib.Core.Path.{◌≡◌, refl, sym, ap, ◌∙◌, subst}
 use mathlib.Core.List.{List, [], ◌∷◌, ◌++◌, append-nil, append_assoc}
 use mathlib.Core.Bool.{Bool, true, false}
@@ -10,7 +11,7 @@ use lib.ListN.{length, get_or, take}
 use lib.Seq.{take-suc, take_all}
 use lib.Dec.{ltb, eqb}
 use borrow.Author.Tests.{eqb-true, eqb-false}
-use Rattle.texts.specs.Lists.{if◌then◌else◌, any, flat, each, tally, through}
+use Rattle.texts.specs.Lists.{any, flat, each, tally, through}
 use Rattle.texts.specs.Texts.{Text, mem_t, insert_t, sorted_t}
 use Rattle.texts.proofs.Ordering.{Before, Three, three, trans, eq_no}
 use Rattle.texts.proofs.Ordering as ordering

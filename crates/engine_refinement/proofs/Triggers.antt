@@ -1,5 +1,6 @@
 -- What a change sets off: the runs that wait for it wake, and each automation is offered it.
 -- The machine wakes run after run; the definition wakes all at once.
+use Rattle.std.specs.Prelude.{if◌then◌else◌}
 use mathlib.Core.Path.{◌≡◌, refl, sym, ap, ◌∙◌, subst}
 use mathlib.Core.List.{List, [], ◌∷◌, ◌++◌, append-nil}
 use mathlib.Core.Bool.{Bool, true, false}
@@ -10,7 +11,7 @@ use lib.ListN.{length, get_or, set, take, drop, length-set, drop_of_length-le}
 use lib.Seq.{take-suc, drop-cons, take_all, length-take-le, get_or-set_other, append_snoc}
 use lib.Dec.{ltb, eqb}
 use borrow.Author.Tests.{eq-eqb, ne_eqb}
-use Rattle.texts.specs.Lists.{if◌then◌else◌, any, keep, each, through, present_and}
+use Rattle.texts.specs.Lists.{any, keep, each, through, present_and}
 use Rattle.texts.specs.Texts.{Text}
 use Rattle.model_spec.specs.Model.{Automation, Model}
 use Rattle.model_spec.specs.File.{got, times, give, u16, counted, place, trigger}

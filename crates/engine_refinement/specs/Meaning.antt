@@ -1,6 +1,6 @@
 -- What the machine's numbers stand for: texts, cells, items, records and runs of the definition.
 -- A place is a text's number among `ts`, an automation is a row of the table x, a position is one of the file f.
-use Rattle.std.specs.Prelude.{ℕ, zero, suc, ◌+◌, ◌≤◌, ◌<◌, ◌≡◌, true, List, [], ◌∷◌, ◌++◌, eqb, length, get_or}
+use Rattle.std.specs.Prelude.{ℕ, zero, suc, ◌+◌, ◌≤◌, ◌<◌, ◌≡◌, true, List, [], ◌∷◌, ◌++◌, eqb, length, get_or, if◌then◌else◌}
 use Rattle.std.proofs.Math.Option.{Option, none, some}
 use Rattle.layout.specs.Table.{
   actions_word,
@@ -22,7 +22,7 @@ use Rattle.layout.specs.Table.{
   unknown_word,
 }
 use Rattle.layout.specs.Sizes.{simulation_reasons}
-use Rattle.texts.specs.Lists.{if◌then◌else◌, flat, all}
+use Rattle.texts.specs.Lists.{flat, all}
 use Rattle.texts.specs.Texts.{Text, text, eq_t}
 use Rattle.texts.specs.Places.{text_at, start_from}
 use Rattle.model_spec.specs.Answer.{answer}

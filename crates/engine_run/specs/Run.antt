@@ -1,7 +1,6 @@
 -- A simulation: the machine that begins, where its loop halts, and the answer.
-use Rattle.std.specs.Prelude.{ℕ, ◌+◌, ◌-◌, ◌*◌, ◌/◌, ◌≤◌, ◌≡◌, false, not, List, [], eqb, length, get_or, replicate}
+use Rattle.std.specs.Prelude.{ℕ, ◌+◌, ◌-◌, ◌*◌, ◌/◌, ◌≤◌, ◌≡◌, false, not, List, [], eqb, length, get_or, replicate, if◌then◌else◌}
 use Rattle.layout.specs.Table.{max_steps_word}
-use Rattle.texts.specs.Lists.{if◌then◌else◌}
 use Rattle.texts.specs.Texts.{Text}
 use Rattle.areas.specs.Areas.{area, cleared}
 use Rattle.records.specs.Records.{record_words}

@@ -1,7 +1,6 @@
 -- What stands in the queue before the loop.
-use Rattle.std.specs.Prelude.{ℕ, zero, suc, ◌+◌, ◌-◌, ◌*◌, List, eqb, get_or}
+use Rattle.std.specs.Prelude.{ℕ, zero, suc, ◌+◌, ◌-◌, ◌*◌, List, eqb, get_or, if◌then◌else◌}
 use Rattle.records.specs.Kinds.{initial_kind}
-use Rattle.texts.specs.Lists.{if◌then◌else◌}
 use Rattle.queue.specs.declared.Work.{Work}
 use Rattle.queue.specs.declared.Work.TheVariants.{Set, Restart, Reload}
 use Rattle.engine_fields.specs.Fields.{entities}

@@ -1,7 +1,6 @@
 -- Whether the loop takes the queue's next item, over the table x.
-use Rattle.std.specs.Prelude.{ℕ, ◌+◌, ◌-◌, ◌<◌, ◌≡◌, List, ltb, leb, eqb, length, get_or}
+use Rattle.std.specs.Prelude.{ℕ, ◌+◌, ◌-◌, ◌<◌, ◌≡◌, List, ltb, leb, eqb, length, get_or, if◌then◌else◌}
 use Rattle.layout.specs.Table.{horizon_word}
-use Rattle.texts.specs.Lists.{if◌then◌else◌}
 use Rattle.queue.specs.Order.{pop}
 use Rattle.queue.specs.Queue.{second_of, taken_of}
 use Rattle.queue.specs.declared.Taken.{Taken}

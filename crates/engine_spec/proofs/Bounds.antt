@@ -1,5 +1,6 @@
 -- How much each operation of the engine puts into the areas: so many items and records at most, and no overflow if
 -- there is room for them. Enough adds them up over the loop.
+use Rattle.std.specs.Prelude.{if◌then◌else◌}
 use Prim.Native.Nat.{ℕ, suc, ◌+◌, ◌≤◌}
 use mathlib.Core.Path.{◌≡◌, refl, ap, subst}
 use mathlib.Core.Bool.{Bool, true, false, not, ◌&&◌, ◌||◌}
@@ -8,7 +9,7 @@ use mathlib.Core.Option.{Option, none, some}
 use native.Mathlib.Omega.{arith}
 use lib.Dec.{eqb}
 use lib.ListN.{length, length-append}
-use Rattle.texts.specs.Lists.{if◌then◌else◌, ◌▸◌, absent, any, keep, find, tally, each, through}
+use Rattle.texts.specs.Lists.{◌▸◌, absent, any, keep, find, tally, each, through}
 use Rattle.texts.specs.Texts.{Text, text, eq_t}
 use Rattle.model_spec.specs.Validate.{undecided}
 use Rattle.model_spec.specs.Model.{Source, Effect, toggle, delay, condition, choose, wait, Actions, done, act, Automation}

@@ -1,5 +1,6 @@
 -- What stands in the queue for each run, and which run of an automation executes: each operation of the engine on a run
 -- keeps it.
+use Rattle.std.specs.Prelude.{if◌then◌else◌}
 use Prim.Native.Nat.{ℕ, ◌+◌, ◌≤◌, ◌<◌}
 use mathlib.Core.Path.{◌≡◌, refl, sym, ap, ◌∙◌, subst}
 use mathlib.Core.Bool.{Bool, true, false, not, ◌&&◌, ◌||◌, true≢false, false≢true}
@@ -7,7 +8,7 @@ use mathlib.Core.List.{List, [], ◌∷◌, ◌++◌, append-nil, append_assoc}
 use mathlib.Core.Option.{Option, none, some}
 use native.Mathlib.Omega.{arith}
 use lib.Dec.{eqb}
-use Rattle.texts.specs.Lists.{if◌then◌else◌, absent, present_and, keep, find, tally, each, through}
+use Rattle.texts.specs.Lists.{absent, present_and, keep, find, tally, each, through}
 use Rattle.texts.specs.Texts.{Text, text, eq_t}
 use Rattle.model_spec.specs.Model.{
   Source,

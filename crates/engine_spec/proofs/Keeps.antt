@@ -1,5 +1,6 @@
 -- The invariant of the modes: an automation's runs are as many as its mode and `max` allow, and stand in order.
 -- It holds at the start of a simulation, and every operation of the engine keeps it.
+use Rattle.std.specs.Prelude.{if◌then◌else◌}
 use Prim.Native.Nat.{ℕ, zero, suc, ◌+◌, ◌≤◌, ◌<◌}
 use mathlib.Core.Path.{◌≡◌, refl, sym, ap, ◌∙◌, subst}
 use mathlib.Core.Bool.{Bool, true, false, not, ◌&&◌, ◌||◌, true≢false, false≢true}
@@ -7,7 +8,7 @@ use mathlib.Core.List.{List, [], ◌∷◌, ◌++◌}
 use mathlib.Core.Option.{Option, none, some}
 use native.Mathlib.Omega.{arith}
 use lib.Dec.{leb, eqb}
-use Rattle.texts.specs.Lists.{if◌then◌else◌, absent, any, keep, find, tally, each, flat, through}
+use Rattle.texts.specs.Lists.{absent, any, keep, find, tally, each, flat, through}
 use Rattle.texts.specs.Texts.{Text, text, eq_t}
 use Rattle.model_spec.specs.Validate.{undecided}
 use Rattle.model_spec.specs.Model.{

@@ -1,5 +1,6 @@
 -- Laws on tests and on lists: how many pass a test, and what holds of each, after the list is filtered or changed.
 -- Every change that the engine makes to its runs is one of `keep`, `each` and an element put at the end.
+use Rattle.std.specs.Prelude.{if◌then◌else◌}
 use Prim.Native.Nat.{ℕ, suc, ◌+◌, ◌≤◌}
 use mathlib.Core.Path.{◌≡◌, refl, sym, ap, ◌∙◌, subst}
 use mathlib.Core.Bool.{Bool, true, false, not, ◌&&◌, ◌||◌, true≢false, false≢true}
@@ -8,7 +9,7 @@ use mathlib.Core.Option.{Option, none, some}
 use native.Mathlib.Omega.{arith}
 use lib.ListN.{length}
 use lib.Dec.{eqb, leb, T, leb→le, le→leb, eqb→eq, eqb_refl, nleb→lt}
-use Rattle.texts.specs.Lists.{if◌then◌else◌, any, keep, find, tally, each}
+use Rattle.texts.specs.Lists.{any, keep, find, tally, each}
 use Rattle.texts.specs.Texts.{Text, eq_t, lt_t, insert_t, sorted_t}
 pub use Rattle.engine_spec.specs.Each.{Each}
 

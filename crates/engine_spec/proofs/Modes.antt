@@ -1,12 +1,13 @@
 -- At every moment of a simulation an automation has at most as many runs as its mode and `max` allow.
 -- What a trigger comes to by the mode.
+use Rattle.std.specs.Prelude.{if◌then◌else◌}
 use Prim.Native.Nat.{ℕ, zero, suc, ◌+◌, ◌≤◌, ◌<◌}
 use mathlib.Core.Path.{◌≡◌, refl}
 use mathlib.Core.Logic.{◌⊎◌, inl, inr}
 use mathlib.Core.Bool.{Bool, true, false, ◌||◌}
 use mathlib.Core.List.{List, [], ◌∷◌, ◌++◌}
 use native.Mathlib.Omega.{arith}
-use Rattle.texts.specs.Lists.{if◌then◌else◌, ◌▸◌, any, tally}
+use Rattle.texts.specs.Lists.{◌▸◌, any, tally}
 use Rattle.texts.specs.Texts.{Text, eq_t}
 use Rattle.model_spec.specs.Model.{Moment, Mode, single, queued, parallel, Automation, Event}
 use Rattle.engine_spec.specs.Cells.{Cell}

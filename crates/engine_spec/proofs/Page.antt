@@ -1,5 +1,6 @@
 -- Home Assistant's page on automation modes holds of the simulation of every accepted file, after every number of items of
 -- work: specs/Page says what it states.
+use Rattle.std.specs.Prelude.{if◌then◌else◌}
 use Prim.Native.Nat.{ℕ, zero, suc, ◌+◌, ◌≤◌}
 use mathlib.Core.Path.{◌≡◌, refl, sym, ap, ◌∙◌, subst}
 use mathlib.Core.Bool.{Bool, true, false, not, ◌&&◌, ◌||◌, false≢true}
@@ -7,7 +8,7 @@ use mathlib.Core.List.{List, [], ◌∷◌, ◌++◌, append-nil, Memᴰ}
 use mathlib.Core.Option.{Option, none, some}
 use native.Mathlib.Omega.{arith}
 use lib.Dec.{eqb}
-use Rattle.texts.specs.Lists.{if◌then◌else◌, ◌▸◌, absent, keep, find, tally, each, through}
+use Rattle.texts.specs.Lists.{◌▸◌, absent, keep, find, tally, each, through}
 use Rattle.texts.specs.Texts.{Text, text, eq_t}
 use Rattle.model_spec.specs.Answer.{answer}
 use Rattle.model_spec.specs.Model.{

@@ -1,4 +1,5 @@
 -- Quiet hours are as the request says.
+use Rattle.std.specs.Prelude.{if◌then◌else◌}
 use Prim.Native.Nat.{ℕ, ◌+◌, ◌*◌, ◌/◌, ◌%◌, ◌^◌, ◌<◌}
 use mathlib.Core.Logic.{◌⊎◌, inl, inr}
 use mathlib.Core.Path.{◌≡◌, refl, sym, ap, ◌∙◌}
@@ -7,7 +8,6 @@ use mathlib.Core.List.{List}
 use native.Mathlib.Omega.{arith}
 use lib.Dec.{ltb, leb, eqb}
 use borrow.Author.Tests.{ltb-true, ltb-false, lt-ltb, le-ltb, eqb-true, eqb-false}
-use Rattle.texts.specs.Lists.{if◌then◌else◌}
 use Rattle.model_spec.specs.Answer.{accept, ◌when◌}
 use Rattle.model_spec.specs.Model.{Entity, Moment, Predicate, window, Event, Model, is_window}
 use Rattle.model_spec.specs.Windows.{no_window}

@@ -1,4 +1,5 @@
 -- What an accepted file's model has passed: each of validation's checks by itself, and what the file's reader counted.
+use Rattle.std.specs.Prelude.{if◌then◌else◌}
 use Prim.Native.Nat.{ℕ, ◌≤◌}
 use mathlib.Core.Path.{◌≡◌, refl, ap, ◌∙◌, subst}
 use mathlib.Core.Bool.{Bool, true, false, ◌||◌, true≢false, false≢true}
@@ -6,7 +7,7 @@ use mathlib.Core.List.{List, [], ◌++◌}
 use lib.Dec.{ltb}
 use lib.ListN.{length}
 use borrow.Author.Tests.{ltb-false}
-use Rattle.texts.specs.Lists.{if◌then◌else◌, is_empty, each}
+use Rattle.texts.specs.Lists.{is_empty, each}
 use Rattle.model_spec.specs.Answer.{Answer, answer, refused, Verdict, accept, ◌>>=◌, ◌and◌, ◌when◌, each_accepted}
 use Rattle.model_spec.specs.Model.{Model}
 use Rattle.model_spec.specs.Notes.{notes_of}

@@ -1,12 +1,13 @@
 -- A model whose automations have no window answers the same whatever its start: each change of the engine does the same with
 -- another start, as long as no run has a window left.
+use Rattle.std.specs.Prelude.{if◌then◌else◌}
 use Prim.Native.Nat.{ℕ, zero, suc, ◌+◌}
 use mathlib.Core.Path.{◌≡◌, refl, ap, ◌∙◌}
 use mathlib.Core.Bool.{Bool, true, false, not, ◌&&◌, ◌||◌, false≢true}
 use mathlib.Core.List.{List, [], ◌∷◌, ◌++◌}
 use mathlib.Core.Option.{Option, none, some}
 use lib.Dec.{eqb}
-use Rattle.texts.specs.Lists.{if◌then◌else◌, ◌▸◌, absent, any, all, keep, find, tally, each, flat, through}
+use Rattle.texts.specs.Lists.{◌▸◌, absent, any, all, keep, find, tally, each, flat, through}
 use Rattle.texts.specs.Texts.{Text, text, eq_t}
 use Rattle.model_spec.specs.Validate.{undecided}
 use Rattle.model_spec.specs.Model.{

@@ -1,6 +1,7 @@
 -- What a window means. Seconds are counted from a midnight at which a weekday 0 began, a week or more before; so day k
 -- begins at second 86,400 · k and has the weekday k mod 7. A window is open at a second exactly if on some marked day it
 -- started by then and hasn't ended: on that day, or on the next if its end isn't after its start.
+use Rattle.std.specs.Prelude.{if◌then◌else◌}
 use Prim.Native.Nat.{ℕ, ◌+◌, ◌*◌, ◌/◌, ◌%◌, ◌≤◌, ◌<◌}
 use mathlib.Core.Path.{◌≡◌, refl, sym, ap, ◌∙◌, subst}
 use mathlib.Core.Bool.{Bool, true, false, ◌&&◌, ◌||◌, false≢true}
@@ -8,7 +9,6 @@ use mathlib.Core.List.{List}
 use native.Mathlib.Omega.{arith}
 use lib.Dec.{ltb, leb, eqb}
 use borrow.Author.Tests.{ltb-true, leb-true, lt-ltb, le-leb, eqb-true, eqb-false}
-use Rattle.texts.specs.Lists.{if◌then◌else◌}
 use Rattle.model_spec.specs.Model.{Moment, window}
 use Rattle.engine_spec.specs.Cells.{Cell}
 use Rattle.engine_spec.specs.Kleene.{Yes, No, is_unknown}

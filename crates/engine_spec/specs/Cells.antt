@@ -1,7 +1,7 @@
 -- The entities' present state: Rust's maps `state` and `versions` side by side, a cell for each entity, in name order.
-use Rattle.std.specs.Prelude.{ℕ, ◌+◌, Bool, List, []}
+use Rattle.std.specs.Prelude.{ℕ, ◌+◌, Bool, List, [], if◌then◌else◌}
 use Rattle.std.proofs.Math.Option.{Option, none, some}
-use Rattle.texts.specs.Lists.{if◌then◌else◌, find, each, all_lists}
+use Rattle.texts.specs.Lists.{find, each, all_lists}
 use Rattle.texts.specs.Texts.{Text, eq_t, all_texts}
 use Rattle.model_spec.specs.Model.{Entity}
 

@@ -1,7 +1,7 @@
 -- The ways in which the engine changes: one for each of its parts. All that a step does is made of them.
-use Rattle.std.specs.Prelude.{ℕ, List, [], ◌∷◌, ◌++◌, leb, length}
+use Rattle.std.specs.Prelude.{ℕ, List, [], ◌∷◌, ◌++◌, leb, length, if◌then◌else◌}
 use Rattle.std.proofs.Math.Option.{Option, none, some}
-use Rattle.texts.specs.Lists.{if◌then◌else◌, through, all_lists}
+use Rattle.texts.specs.Lists.{through, all_lists}
 use Rattle.texts.specs.Texts.{Text, mem_t, all_texts}
 use Rattle.engine_spec.specs.Cells.{Cell}
 use Rattle.engine_spec.specs.Records.{Run, Item, Trace, Engine}

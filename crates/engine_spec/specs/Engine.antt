@@ -1,9 +1,8 @@
 -- engine.rs: the simulation, step by step: what each item of work does, and the loop over the queue.
 -- A method of Rust's that changes the engine is a function to the engine afterwards. `e ▸ f ▸ g` reads in Rust's order.
-use Rattle.std.specs.Prelude.{ℕ, zero, suc, ◌+◌, Bool, true, false, ◌&&◌, ◌||◌, not, List, [], ◌∷◌, ◌++◌, ltb, leb, eqb, length}
+use Rattle.std.specs.Prelude.{ℕ, zero, suc, ◌+◌, Bool, true, false, ◌&&◌, ◌||◌, not, List, [], ◌∷◌, ◌++◌, ltb, leb, eqb, length, if◌then◌else◌}
 use Rattle.std.proofs.Math.Option.{Option, none, some}
 use Rattle.texts.specs.Lists.{
-  if◌then◌else◌,
   ◌▸◌,
   absent,
   present_and,

@@ -1,7 +1,6 @@
 -- What the queue, record and run areas hold after an entry that was lent them: word for word, and after refusals too.
-use Rattle.std.specs.Prelude.{ℕ, ◌/◌, Bool, ◌&&◌, ◌||◌, List, leb, eqb, length, replicate}
+use Rattle.std.specs.Prelude.{ℕ, ◌/◌, Bool, ◌&&◌, ◌||◌, List, leb, eqb, length, replicate, if◌then◌else◌}
 use Rattle.areas.specs.Areas.{area}
-use Rattle.texts.specs.Lists.{if◌then◌else◌}
 use Rattle.model_spec.specs.Answer.{Answer, answer, refused}
 use Rattle.engine_spec.specs.Records.{Trace, Areas}
 use Rattle.engine_spec.specs.Simulate.{Simulation, simulate}

@@ -1,6 +1,5 @@
 -- The modes and `max`, written from Home Assistant's page on automation modes.
-use Rattle.std.specs.Prelude.{ℕ, zero, suc, leb}
-use Rattle.texts.specs.Lists.{if◌then◌else◌}
+use Rattle.std.specs.Prelude.{ℕ, zero, suc, leb, if◌then◌else◌}
 use Rattle.model_spec.specs.Model.{Mode, single, queued, parallel}
 
 -- what becomes of a trigger whose conditions are met

@@ -1,10 +1,10 @@
 -- Home Assistant's page on automation modes, sentence by sentence, as facts about a simulation.
 -- `Page` says what holds at a moment, `ByThePage` that it holds at every moment; `modes_right` in proofs/Page proves it of
 -- every accepted file.
-use Rattle.std.specs.Prelude.{ℕ, suc, ◌+◌, ◌≤◌, ◌<◌, ◌≡◌, ◌⊎◌, Bool, true, false, not, ◌&&◌, eqb, length}
+use Rattle.std.specs.Prelude.{ℕ, suc, ◌+◌, ◌≤◌, ◌<◌, ◌≡◌, ◌⊎◌, Bool, true, false, not, ◌&&◌, eqb, length, if◌then◌else◌}
 use mathlib.Core.List.{List, [], ◌∷◌, ◌++◌, Memᴰ}
 use Rattle.std.proofs.Math.Option.{none, some}
-use Rattle.texts.specs.Lists.{if◌then◌else◌, ◌▸◌, absent, present_and, any, keep, find, tally, each, through}
+use Rattle.texts.specs.Lists.{◌▸◌, absent, present_and, any, keep, find, tally, each, through}
 use Rattle.texts.specs.Texts.{Text, eq_t}
 use Rattle.model_spec.specs.Model.{
   Source,

@@ -1,7 +1,6 @@
 -- engine.rs: what the engine holds.
-use Rattle.std.specs.Prelude.{ℕ, Bool, List, [], ◌++◌}
+use Rattle.std.specs.Prelude.{ℕ, Bool, List, [], ◌++◌, if◌then◌else◌}
 use Rattle.std.proofs.Math.Option.{Option}
-use Rattle.texts.specs.Lists.{if◌then◌else◌}
 use Rattle.texts.specs.Texts.{Text, text, decimal, all_texts}
 use Rattle.model_spec.specs.Model.{Source, Moment, Trigger, Actions, Input}
 use Rattle.engine_spec.specs.Cells.{Cell}

@@ -1,7 +1,7 @@
 -- engine.rs: the truth of predicates, and what a trigger matches.
-use Rattle.std.specs.Prelude.{ℕ, ◌+◌, ◌/◌, ◌%◌, ◌^◌, Bool, ◌&&◌, ◌||◌, not, List, [], ◌∷◌, ltb, leb, eqb}
+use Rattle.std.specs.Prelude.{ℕ, ◌+◌, ◌/◌, ◌%◌, ◌^◌, Bool, ◌&&◌, ◌||◌, not, List, [], ◌∷◌, ltb, leb, eqb, if◌then◌else◌}
 use Rattle.std.proofs.Math.Option.{none, some}
-use Rattle.texts.specs.Lists.{if◌then◌else◌, absent, absent_or}
+use Rattle.texts.specs.Lists.{absent, absent_or}
 use Rattle.texts.specs.Texts.{Text, text, eq_t}
 use Rattle.model_spec.specs.Model.{Moment, Predicate, state, window, Trigger}
 use Rattle.model_spec.specs.Validate.{day, undecided}

@@ -1,8 +1,8 @@
 -- What stands in the record area, word for word (docs/FORMAT.md): texts as places among the file's texts, automations as
 -- numbers.
-use Rattle.std.specs.Prelude.{ℕ, ◌/◌, List, [], ◌∷◌, ◌++◌}
+use Rattle.std.specs.Prelude.{ℕ, ◌/◌, List, [], ◌∷◌, ◌++◌, if◌then◌else◌}
 use Rattle.std.proofs.Math.Option.{Option, none, some}
-use Rattle.texts.specs.Lists.{if◌then◌else◌, each}
+use Rattle.texts.specs.Lists.{each}
 use Rattle.texts.specs.Texts.{Text}
 use Rattle.model_spec.specs.Answer.{answer, refused}
 use Rattle.model_spec.specs.Model.{Source}

@@ -1,7 +1,6 @@
 -- The primitive changes of a machine. Nothing goes into an area once one was full.
-use Rattle.std.specs.Prelude.{ℕ, List, [], ◌∷◌, ◌++◌, ltb, eqb, length, get_or, set}
+use Rattle.std.specs.Prelude.{ℕ, List, [], ◌∷◌, ◌++◌, ltb, eqb, length, get_or, set, if◌then◌else◌}
 use Rattle.layout.specs.Sizes.{last_simulation_reason}
-use Rattle.texts.specs.Lists.{if◌then◌else◌}
 use Rattle.queue.specs.declared.Item.{Item}
 use Rattle.queue.specs.declared.Work.{Work}
 use Rattle.queue.specs.declared.Work.TheVariants.{Resume}

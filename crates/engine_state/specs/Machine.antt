@@ -1,6 +1,5 @@
 -- The machine of a simulation over places: what the state and the areas hold together.
-use Rattle.std.specs.Prelude.{ℕ, ◌+◌, ◌-◌, List, ltb, leb, get_or, set}
-use Rattle.texts.specs.Lists.{if◌then◌else◌}
+use Rattle.std.specs.Prelude.{ℕ, ◌+◌, ◌-◌, List, ltb, leb, get_or, set, if◌then◌else◌}
 use Rattle.texts.specs.Texts.{Text}
 use Rattle.queue.specs.declared.Item.{Item}
 use Rattle.records.specs.declared.Record.{Record}

@@ -1,7 +1,6 @@
 -- Runs that end and wake. A run is read back with just 17 places.
-use Rattle.std.specs.Prelude.{ℕ, zero, suc, ◌+◌, false, List, [], ◌++◌, length, get_or, take, drop, set}
+use Rattle.std.specs.Prelude.{ℕ, zero, suc, ◌+◌, false, List, [], ◌++◌, length, get_or, take, drop, set, if◌then◌else◌}
 use Rattle.records.specs.Kinds.{complete_kind}
-use Rattle.texts.specs.Lists.{if◌then◌else◌}
 use Rattle.runs.specs.Lists.{place_from}
 use Rattle.runs.specs.Runs.{whole, in_line}
 use Rattle.runs.specs.declared.Run.{Run}

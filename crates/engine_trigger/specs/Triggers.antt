@@ -1,8 +1,7 @@
 -- What a change sets off.
-use Rattle.std.specs.Prelude.{ℕ, zero, suc, ◌+◌, List, eqb}
+use Rattle.std.specs.Prelude.{ℕ, zero, suc, ◌+◌, List, eqb, if◌then◌else◌}
 use Rattle.layout.specs.Table.{conditions_word, notes_word, source_word, triggers_word}
 use Rattle.records.specs.Kinds.{trigger_kind}
-use Rattle.texts.specs.Lists.{if◌then◌else◌}
 use Rattle.records.specs.declared.Rule.TheVariants.{Of}
 use Rattle.records.specs.declared.Where.TheVariants.{From}
 use Rattle.records.specs.declared.Change.TheVariants.{NoChange}

@@ -1,9 +1,8 @@
 -- The notes of the automations as reasons, listed from the file: of actions, and of whole automations, as engine_notes has
 -- it of their other parts. `proofs/Refines` has, for each listing, that it adds the reasons of the part that the reader of
 -- `File` finds there.
-use Rattle.std.specs.Prelude.{ℕ, zero, suc, ◌+◌, List, [], eqb}
+use Rattle.std.specs.Prelude.{ℕ, zero, suc, ◌+◌, List, [], eqb, if◌then◌else◌}
 use Rattle.layout.specs.Table.{actions_word, conditions_word, id_word, notes_word, triggers_word}
-use Rattle.texts.specs.Lists.{if◌then◌else◌}
 use Rattle.texts.specs.Texts.{Text}
 use Rattle.model_spec.specs.File.{u8, u16, u32}
 use Rattle.reasons.specs.Kinds as kinds

@@ -1,6 +1,5 @@
 -- Writes, over the table x.
-use Rattle.std.specs.Prelude.{ℕ, List, ltb, eqb, get_or}
-use Rattle.texts.specs.Lists.{if◌then◌else◌}
+use Rattle.std.specs.Prelude.{ℕ, List, ltb, eqb, get_or, if◌then◌else◌}
 use Rattle.queue.specs.declared.Work.TheVariants.{Changed, Stale}
 use Rattle.records.specs.declared.Rule.{Rule}
 use Rattle.records.specs.declared.Where.{Where}

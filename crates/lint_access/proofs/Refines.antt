@@ -1,4 +1,5 @@
 -- The sets hold the entities that the definition's lists name.
+use Rattle.std.specs.Prelude.{if◌then◌else◌}
 use mathlib.Core.Path.{◌≡◌, refl, sym, ap, ◌∙◌, subst}
 use mathlib.Core.Bool.{Bool, true, false, ◌||◌, ◌&&◌, or_assoc}
 use mathlib.Core.List.{List, [], ◌∷◌, ◌++◌, append-nil}
@@ -13,7 +14,7 @@ use lib.ListN.{length, get_or}
 use borrow.Author.Tests.{lt-ltb, le-ltb, eq-eqb, ne_eqb, eqb-true}
 use Rattle.texts.proofs.Bool.{or_false}
 use Rattle.engine_spec.proofs.Bounds.{length_each}
-use Rattle.texts.specs.Lists.{if◌then◌else◌, absent, listed, keep, each, flat}
+use Rattle.texts.specs.Lists.{absent, listed, keep, each, flat}
 use Rattle.texts.specs.Texts.{Text, eq_t, mem_t, sorted_t}
 use mathlib.Core.Logic.{◌⊎◌, inl, inr}
 use Rattle.texts.proofs.Ordering.{lt_or_ge, not_both, eq_is, is_eq, eq_no, no_eq, eq_sym}

@@ -1,7 +1,6 @@
 -- The entities that an automation reads and writes, as sets of numbers of declared entities.
-use Rattle.std.specs.Prelude.{ℕ, zero, suc, ◌+◌, ◌^◌, List, ltb, eqb, get_or}
+use Rattle.std.specs.Prelude.{ℕ, zero, suc, ◌+◌, ◌^◌, List, ltb, eqb, get_or, if◌then◌else◌}
 use Rattle.std.specs.Int.Bits.{bit_or}
-use Rattle.texts.specs.Lists.{if◌then◌else◌}
 use Rattle.model_walk.specs.declared.Walked.TheVariants as walked
 use Rattle.model_parts.specs.declared.Section.{Section}
 use Rattle.model_check.specs.Checks.{number_of}

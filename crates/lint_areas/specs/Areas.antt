@@ -1,6 +1,5 @@
 -- The two areas and the counts of their entries, and entries put in one after the other.
-use Rattle.std.specs.Prelude.{ℕ, ◌+◌, ◌*◌, ◌/◌, Bool, List, [], ◌∷◌, ltb, eqb, length}
-use Rattle.texts.specs.Lists.{if◌then◌else◌}
+use Rattle.std.specs.Prelude.{ℕ, ◌+◌, ◌*◌, ◌/◌, Bool, List, [], ◌∷◌, ltb, eqb, length, if◌then◌else◌}
 use Rattle.areas.specs.Areas.{written}
 use Rattle.lint_areas.specs.declared.Out.{Out}
 

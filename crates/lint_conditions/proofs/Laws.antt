@@ -1,4 +1,5 @@
 -- The laws that the proofs of tests cite.
+use Rattle.std.specs.Prelude.{if◌then◌else◌}
 use mathlib.Core.Path.{◌≡◌, refl, sym, ap, ◌∙◌}
 use mathlib.Core.Bool.{Bool, true, false, not}
 use mathlib.Core.List.{List}
@@ -8,7 +9,6 @@ use native.Mathlib.Omega.{arith}
 use lib.Dec.{eqb}
 use lib.ListN.{get_or}
 use borrow.Author.Tests.{lt-ltb, le-ltb, eq-eqb, ne_eqb}
-use Rattle.texts.specs.Lists.{if◌then◌else◌}
 use Rattle.model_parts.specs.declared.Section.{Section}
 use Rattle.lint_reach.specs.Sets.{holds}
 use Rattle.lint_walk.specs.declared.Walk.{Walk}

@@ -1,4 +1,5 @@
 -- The tests over actions, invariants and entities.
+use Rattle.std.specs.Prelude.{if◌then◌else◌}
 use mathlib.Core.Path.{◌≡◌, refl, sym, ap, ◌∙◌, subst}
 use mathlib.Core.Bool.{Bool, true, false, ◌||◌, ◌&&◌, not}
 use mathlib.Core.List.{List, [], ◌∷◌}
@@ -9,7 +10,7 @@ use native.Mathlib.Nat.{add-zero, zero-add}
 use lib.Dec.{eqb}
 use lib.ListN.{length, get_or}
 use lib.Seq.{get_or-take}
-use Rattle.texts.specs.Lists.{if◌then◌else◌, absent, any}
+use Rattle.texts.specs.Lists.{absent, any}
 use Rattle.texts.specs.Texts.{Text, eq_t}
 use Rattle.model_spec.specs.Model.{
   Tier,

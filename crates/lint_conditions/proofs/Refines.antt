@@ -1,4 +1,5 @@
 -- Each test says what the definition says of the part that the reader of `File` finds at its position.
+use Rattle.std.specs.Prelude.{if◌then◌else◌}
 use mathlib.Core.Path.{◌≡◌, refl, sym, ap, ◌∙◌}
 use mathlib.Core.Bool.{Bool, true, false, ◌||◌, ◌&&◌, not}
 use mathlib.Core.List.{List, [], ◌∷◌}
@@ -7,7 +8,7 @@ use Prim.Native.Nat.{ℕ, zero, suc, ◌-◌, ◌<◌}
 use lib.Dec.{eqb}
 use lib.ListN.{length, get_or}
 use borrow.Author.Tests.{eq-eqb, ne_eqb, eqb-true, eqb-false}
-use Rattle.texts.specs.Lists.{if◌then◌else◌, absent, present_and, absent_or, any, all}
+use Rattle.texts.specs.Lists.{absent, present_and, absent_or, any, all}
 use Rattle.texts.specs.Texts.{Text, eq_t}
 use Rattle.model_spec.specs.Model.{Predicate, state, window, Trigger, Automation}
 use Rattle.model_spec.specs.File.{got, Reader, times, counted, predicate, trigger}

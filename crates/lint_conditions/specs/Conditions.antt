@@ -1,6 +1,5 @@
 -- The tests of lint, on places in the file.
-use Rattle.std.specs.Prelude.{ℕ, zero, suc, ◌+◌, ◌*◌, Bool, true, false, not, List, ltb, eqb, get_or}
-use Rattle.texts.specs.Lists.{if◌then◌else◌}
+use Rattle.std.specs.Prelude.{ℕ, zero, suc, ◌+◌, ◌*◌, Bool, true, false, not, List, ltb, eqb, get_or, if◌then◌else◌}
 use Rattle.model_parts.specs.declared.Section.{Section}
 use Rattle.lint_reach.specs.Sets.{holds}
 use Rattle.lint_walk.specs.declared.Walk.{Walk}

@@ -1,4 +1,5 @@
 -- What the areas hold after the insertions: their lengths stay, and words of the right number are the entries' words.
+use Rattle.std.specs.Prelude.{if◌then◌else◌}
 use mathlib.Core.Path.{◌≡◌, refl, sym, ap, ◌∙◌}
 use mathlib.Core.Bool.{Bool, true, false}
 use mathlib.Core.List.{List, [], ◌∷◌, ◌++◌}
@@ -9,7 +10,7 @@ use native.Mathlib.Omega.{arith}
 use lib.Dec.{eqb, ltb}
 use lib.ListN.{length, get_or, take, drop, length-append, length-drop}
 use lib.Seq.{length-take-le}
-use Rattle.texts.specs.Lists.{if◌then◌else◌, each}
+use Rattle.texts.specs.Lists.{each}
 use Rattle.texts.specs.Texts.{Text}
 use Rattle.model_spec.specs.File.{got, times, counted, one_text, texts}
 use Rattle.model_walk.proofs.Laws.{u16_in}

@@ -1,7 +1,6 @@
 -- The entries of each automation, on places: 14 words for a finding, 3 for an interaction.
-use Rattle.std.specs.Prelude.{ℕ, zero, suc, ◌+◌, Bool, false, List, [], ◌∷◌, ◌++◌, ltb, leb, eqb, get_or}
+use Rattle.std.specs.Prelude.{ℕ, zero, suc, ◌+◌, Bool, false, List, [], ◌∷◌, ◌++◌, ltb, leb, eqb, get_or, if◌then◌else◌}
 use Rattle.std.specs.Int.Count.{ones}
-use Rattle.texts.specs.Lists.{if◌then◌else◌}
 use Rattle.model_parts.specs.declared.Section.{Section}
 use Rattle.model_check.specs.Checks.{number_of}
 use Rattle.lint_reach.specs.Sets.{holds}

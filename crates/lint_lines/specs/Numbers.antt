@@ -1,7 +1,7 @@
 -- What the words of findings, interactions and components say, whatever they are. f is the model file; a section has the
 -- positions of its parts in it.
-use Rattle.std.specs.Prelude.{ℕ, ◌+◌, ◌*◌, ◌/◌, ◌&&◌, List, [], ◌∷◌, ltb, eqb, length, get_or, take, drop}
-use Rattle.texts.specs.Lists.{if◌then◌else◌, each}
+use Rattle.std.specs.Prelude.{ℕ, ◌+◌, ◌*◌, ◌/◌, ◌&&◌, List, [], ◌∷◌, ltb, eqb, length, get_or, take, drop, if◌then◌else◌}
+use Rattle.texts.specs.Lists.{each}
 use Rattle.texts.specs.Texts.{Text}
 use Rattle.reasons.specs.declared.Reason.{Reason}
 use Rattle.reasons.specs.Reasons.{render}

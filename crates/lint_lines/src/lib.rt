@@ -1,8 +1,8 @@
 // The lines of the findings, interactions and components of `lint`'s answer, and of their counts. The writers put texts
 // behind the first n bytes of a lent area, as those of `show` do. f is the model file.
 #![tactic(auto)]
-ghost use Rattle.std.specs.Prelude.{◌≡◌, [], ◌∷◌, ◌≤◌, ◌<◌, length, get_or};
-ghost use Rattle.texts.specs.Lists.{if◌then◌else◌, each};
+ghost use Rattle.std.specs.Prelude.{◌≡◌, [], ◌∷◌, ◌≤◌, ◌<◌, length, get_or, if◌then◌else◌};
+ghost use Rattle.texts.specs.Lists.{each};
 ghost use Rattle.texts.specs.Texts.{Text};
 ghost use Rattle.reasons.specs.Reasons.{placed};
 ghost use Rattle.lint_spec.specs.Findings.{code_name};

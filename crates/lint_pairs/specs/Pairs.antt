@@ -1,6 +1,5 @@
 -- The entries of each pair of automations, opposing_writes, on places.
-use Rattle.std.specs.Prelude.{ℕ, Bool, false, List, [], ◌∷◌, ltb, leb, eqb, get_or}
-use Rattle.texts.specs.Lists.{if◌then◌else◌}
+use Rattle.std.specs.Prelude.{ℕ, Bool, false, List, [], ◌∷◌, ltb, leb, eqb, get_or, if◌then◌else◌}
 use Rattle.model_parts.specs.declared.Section.{Section}
 use Rattle.model_check.specs.Checks.{number_of}
 use Rattle.lint_walk.specs.declared.Walk.{Walk}

@@ -1,4 +1,5 @@
 -- Sets of places: one place more, all that pass a test, and how many there are.
+use Rattle.std.specs.Prelude.{if◌then◌else◌}
 use mathlib.Core.Path.{◌≡◌, refl, sym, ap, ◌∙◌}
 use mathlib.Core.Bool.{Bool, true, false, ◌||◌, ◌&&◌}
 use mathlib.Core.List.{List, [], ◌∷◌, ◌++◌, append-nil}
@@ -14,7 +15,7 @@ use lib.ListN.{length}
 use lib.Count.{ones, ones_step}
 use borrow.Author.Tests.{eq-eqb, ne_eqb}
 use Rattle.texts.proofs.Bool.{or_false}
-use Rattle.texts.specs.Lists.{if◌then◌else◌, keep}
+use Rattle.texts.specs.Lists.{keep}
 use Rattle.lint_spec.specs.Reach.{places}
 use Rattle.lint_reach.specs.Sets.{holds, members, with_m, collect}
 

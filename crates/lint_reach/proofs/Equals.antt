@@ -1,5 +1,6 @@
 -- The definition's `closure` is reach by one or more steps too, so that it has the cells of the array that the code closes;
 -- and the sets of places are the definition's components.
+use Rattle.std.specs.Prelude.{if◌then◌else◌}
 use mathlib.Core.Path.{◌≡◌, refl, sym, ap, ◌∙◌}
 use mathlib.Core.Bool.{Bool, true, false, ◌||◌, ◌&&◌, not, or_assoc}
 use mathlib.Core.Logic.{◌⊎◌, inl, inr, ⊎_elim}
@@ -13,7 +14,7 @@ use lib.Dec.{eqb}
 use lib.ListN.{length, get_or, take, get_or-eq_default}
 use borrow.Author.Tests.{eq-eqb, ne_eqb}
 use Rattle.texts.proofs.Bool.{never}
-use Rattle.texts.specs.Lists.{if◌then◌else◌, any, keep, each, through}
+use Rattle.texts.specs.Lists.{any, keep, each, through}
 use Rattle.lint_spec.specs.Reach.{places, square, by_way_of, closure, component, components_among}
 use Rattle.lint_spec.specs.Reach as lint
 use Rattle.lint_reach.specs.declared.Components.{Components}

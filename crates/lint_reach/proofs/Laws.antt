@@ -1,4 +1,5 @@
 -- The laws of a run of steps.
+use Rattle.std.specs.Prelude.{if◌then◌else◌}
 use mathlib.Core.Path.{◌≡◌, refl, ap, ◌∙◌}
 use Prim.Native.Nat.{ℕ, zero, suc, ◌+◌, ◌-◌, ◌≤◌, ◌<◌}
 use native.Mathlib.Omega.{arith}
@@ -7,7 +8,6 @@ use native.Mathlib.Numerals.{add-one}
 use native.Mathlib.Decide.{dec_lt}
 use mathlib.Core.List.{List, []}
 use lib.ListN.{get_or}
-use Rattle.texts.specs.Lists.{if◌then◌else◌}
 use Rattle.lint_reach.specs.Steps.{Square, cell, when, leads_m, steps, step_cell_m, step_row_m, step_pass_m}
 
 -- the next step, where i of n are done

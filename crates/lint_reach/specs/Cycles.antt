@@ -1,7 +1,7 @@
 -- The components of a closed square, as sets of places.
-use Rattle.std.specs.Prelude.{ℕ, zero, suc, ◌+◌, ◌^◌, ◌<◌, ◌≤◌, ◌≡◌, Bool, true, false, List, [], ◌∷◌, length, get_or, take, set}
+use Rattle.std.specs.Prelude.{ℕ, zero, suc, ◌+◌, ◌^◌, ◌<◌, ◌≤◌, ◌≡◌, Bool, true, false, List, [], ◌∷◌, length, get_or, take, set, if◌then◌else◌}
 use Rattle.std.specs.Int.Bits.{bit_or}
-use Rattle.texts.specs.Lists.{if◌then◌else◌, each}
+use Rattle.texts.specs.Lists.{each}
 use Rattle.lint_spec.specs.Reach.{closure}
 use Rattle.lint_spec.specs.Reach as lint
 use Rattle.lint_reach.specs.declared.Components.{Components}

@@ -1,7 +1,7 @@
 -- Sets of places below 32, as the bits of a number.
-use Rattle.std.specs.Prelude.{ℕ, zero, suc, ◌+◌, ◌/◌, ◌%◌, ◌^◌, Bool, List, eqb}
+use Rattle.std.specs.Prelude.{ℕ, zero, suc, ◌+◌, ◌/◌, ◌%◌, ◌^◌, Bool, List, eqb, if◌then◌else◌}
 use Rattle.std.specs.Int.Bits.{bit_or}
-use Rattle.texts.specs.Lists.{if◌then◌else◌, keep}
+use Rattle.texts.specs.Lists.{keep}
 use Rattle.lint_spec.specs.Reach.{places}
 
 -- the place i is in the set

@@ -1,6 +1,5 @@
 -- The closing of a square by three nested loops, step by step.
-use Rattle.std.specs.Prelude.{ℕ, zero, suc, ◌+◌, List, [], Bool, true, false, get_or, set}
-use Rattle.texts.specs.Lists.{if◌then◌else◌}
+use Rattle.std.specs.Prelude.{ℕ, zero, suc, ◌+◌, List, [], Bool, true, false, get_or, set, if◌then◌else◌}
 
 abbrev pub Square : Type 0
 Square = List (List Bool)

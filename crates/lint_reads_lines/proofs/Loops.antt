@@ -1,4 +1,5 @@
 -- Lists of places gone through place by place.
+use Rattle.std.specs.Prelude.{if◌then◌else◌}
 use mathlib.Core.Path.{◌≡◌, refl, sym, ap, ◌∙◌}
 use mathlib.Core.Bool.{Bool, true, false}
 use mathlib.Core.Logic.{⊎_elim}
@@ -8,7 +9,7 @@ use native.Mathlib.Omega.{arith}
 use borrow.Author.Tests.{lt-ltb, le-ltb, lt-leb, le-leb}
 use lib.Dec.{ltb}
 use lib.ListN.{length}
-use Rattle.texts.specs.Lists.{if◌then◌else◌, each, flat, through}
+use Rattle.texts.specs.Lists.{each, flat, through}
 use Rattle.texts.specs.Texts.{Text}
 use Rattle.texts.proofs.Ordering.{lt_or_ge}
 use Rattle.lint_spec.specs.Reach.{places}

@@ -1,7 +1,7 @@
 -- What an answer says that automations read and write, whatever its words are. f is the model file; a section has the
 -- positions of its parts in it.
-use Rattle.std.specs.Prelude.{ℕ, zero, suc, ◌+◌, Bool, true, false, ◌&&◌, List, [], ◌∷◌, ◌++◌, ltb, leb, eqb, get_or}
-use Rattle.texts.specs.Lists.{if◌then◌else◌, keep, each, through}
+use Rattle.std.specs.Prelude.{ℕ, zero, suc, ◌+◌, Bool, true, false, ◌&&◌, List, [], ◌∷◌, ◌++◌, ltb, leb, eqb, get_or, if◌then◌else◌}
+use Rattle.texts.specs.Lists.{keep, each, through}
 use Rattle.texts.specs.Texts.{Text, text}
 use Rattle.model_parts.specs.declared.Section.{Section}
 use Rattle.model_index.specs.declared.Index.{Index}

@@ -1,8 +1,8 @@
 // The lines of what each automation reads and writes, in `lint`'s answer. The writers put texts behind the first n bytes of
 // a lent area, as those of `show` do. f is the model file.
 #![tactic(auto)]
-ghost use Rattle.std.specs.Prelude.{◌≡◌, [], ◌∷◌, ◌+◌, ◌<◌, ltb, length};
-ghost use Rattle.texts.specs.Lists.{if◌then◌else◌, each, through};
+ghost use Rattle.std.specs.Prelude.{◌≡◌, [], ◌∷◌, ◌+◌, ◌<◌, ltb, length, if◌then◌else◌};
+ghost use Rattle.texts.specs.Lists.{each, through};
 ghost use Rattle.lint_reach.specs.Sets.{members};
 ghost use Rattle.show.specs.Lines.{quoted};
 ghost use Rattle.show.specs.Writing.{Written};

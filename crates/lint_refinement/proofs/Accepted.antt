@@ -1,5 +1,6 @@
 -- What an accepted file gives to lint: few parts, identifiers that differ, and entities that are declared wherever an
 -- accepted part names one; a trigger with a note isn't checked.
+use Rattle.std.specs.Prelude.{if◌then◌else◌}
 use mathlib.Core.Path.{◌≡◌, sym, ap, ◌∙◌}
 use mathlib.Core.Bool.{Bool, true, false}
 use mathlib.Core.List.{List, [], ◌∷◌, ◌++◌}
@@ -8,7 +9,7 @@ use Prim.Native.Nat.{ℕ, ◌+◌, ◌≤◌, ◌<◌}
 use native.Mathlib.Omega.{arith}
 use lib.ListN.{length, length-append}
 use borrow.Author.Tests.{ltb-false}
-use Rattle.texts.specs.Lists.{if◌then◌else◌, absent, find, listed}
+use Rattle.texts.specs.Lists.{absent, find, listed}
 use Rattle.texts.specs.Texts.{Text, text}
 use Rattle.model_spec.specs.Answer.{answer, refused, Verdict, accept, ◌and◌, ◌when◌, each_accepted}
 use Rattle.model_spec.specs.Model.{

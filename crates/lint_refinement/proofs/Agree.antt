@@ -1,4 +1,5 @@
 -- Items on places stand for the definition's entries, one by one.
+use Rattle.std.specs.Prelude.{if◌then◌else◌}
 use mathlib.Core.Path.{◌≡◌, refl, ap, ◌∙◌, subst}
 use mathlib.Core.Bool.{Bool, true, false}
 use mathlib.Core.List.{List, [], ◌∷◌, ◌++◌}
@@ -6,7 +7,7 @@ use Prim.Native.Nat.{ℕ, zero, suc, ◌+◌, ◌<◌}
 use native.Mathlib.Omega.{arith}
 use native.Mathlib.Nat.{add-zero}
 use lib.ListN.{length, get_or, length-append}
-use Rattle.texts.specs.Lists.{if◌then◌else◌, each, flat}
+use Rattle.texts.specs.Lists.{each, flat}
 use Rattle.texts.specs.Texts.{Text}
 use Rattle.model_spec.specs.Model.{Source}
 use Rattle.lint_spec.specs.Findings.{Problem, Finding, Interaction, Entry}

@@ -1,4 +1,5 @@
 -- What each automation reads and writes, found by its identifier, and numbers in a row.
+use Rattle.std.specs.Prelude.{if◌then◌else◌}
 use mathlib.Core.Path.{◌≡◌, refl, sym, ap, ◌∙◌}
 use mathlib.Core.Bool.{Bool, true, false}
 use mathlib.Core.List.{List, [], ◌∷◌, ◌++◌, append-nil, append_assoc}
@@ -10,7 +11,7 @@ use lib.ListN.{length, get_or, set, take, replicate, length-append}
 use lib.Seq.{set-append_seam}
 use borrow.Author.Tests.{ne_eqb}
 use Rattle.engine_spec.proofs.Bounds.{length_each}
-use Rattle.texts.specs.Lists.{if◌then◌else◌, keep, find, each, flat}
+use Rattle.texts.specs.Lists.{keep, find, each, flat}
 use Rattle.texts.specs.Texts.{Text, eq_t, lt_t, mem_t}
 use Rattle.texts.proofs.Ordering.{eq_refl}
 use Rattle.model_spec.specs.Model.{Automation, Model}

@@ -1,4 +1,5 @@
 -- The items of the components stand for the definition's cycles.
+use Rattle.std.specs.Prelude.{if◌then◌else◌}
 use mathlib.Core.Path.{◌≡◌, refl, sym, ap, ◌∙◌, subst}
 use mathlib.Core.Bool.{Bool, true, false, ◌||◌, ◌&&◌, not, or_assoc}
 use mathlib.Core.List.{List, [], ◌∷◌, ◌++◌, append-nil}
@@ -14,7 +15,7 @@ use lib.Seq.{get_or-take, length-take-le}
 use borrow.Author.Tests.{lt-ltb, le-ltb}
 use Rattle.texts.proofs.Bool.{or_false}
 use Rattle.engine_spec.proofs.Bounds.{length_each}
-use Rattle.texts.specs.Lists.{if◌then◌else◌, any, listed, keep, each, flat, through}
+use Rattle.texts.specs.Lists.{any, listed, keep, each, flat, through}
 use Rattle.texts.specs.Texts.{Text, mem_t}
 use Rattle.texts.proofs.Ordering.{not_both}
 use Rattle.model_spec.specs.Model.{Automation, Model}

@@ -1,4 +1,5 @@
 -- What lint goes by: where the parts of an accepted file stand, and that names and identifiers stand for one thing each.
+use Rattle.std.specs.Prelude.{if◌then◌else◌}
 use mathlib.Core.Path.{◌≡◌, refl, sym, ap, ◌∙◌, subst}
 use mathlib.Core.Bool.{Bool, true, false}
 use mathlib.Core.List.{List, [], ◌∷◌}
@@ -12,7 +13,7 @@ use lib.Pow.{pow-lt, pow_pos}
 use lib.Seq.{get_or-take}
 use borrow.Author.Tests.{ltb-true}
 use Rattle.engine_spec.proofs.Bounds.{length_each}
-use Rattle.texts.specs.Lists.{if◌then◌else◌, each, flat}
+use Rattle.texts.specs.Lists.{each, flat}
 use Rattle.texts.specs.Texts.{Text, text, eq_t}
 use Rattle.model_spec.specs.Model.{Entity, single, done, Automation, Model}
 use Rattle.model_spec.specs.File.{invariant, automation}

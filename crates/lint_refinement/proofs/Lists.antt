@@ -1,4 +1,5 @@
 -- Lists: those that pass a test, ascending lists, and texts by their places.
+use Rattle.std.specs.Prelude.{if◌then◌else◌}
 use mathlib.Core.Path.{◌≡◌, refl, sym, ap, ◌∙◌}
 use mathlib.Core.Bool.{Bool, true, false, ◌||◌, ◌&&◌}
 use mathlib.Core.List.{List, [], ◌∷◌, ◌++◌, append_assoc}
@@ -6,7 +7,7 @@ use mathlib.Core.Logic.{◌⊎◌, inl, inr}
 use Prim.Native.Nat.{ℕ, zero, suc, ◌+◌, ◌≤◌, ◌<◌}
 use native.Mathlib.Omega.{arith}
 use lib.ListN.{length, get_or, length-append}
-use Rattle.texts.specs.Lists.{if◌then◌else◌, is_empty, keep, each, flat}
+use Rattle.texts.specs.Lists.{is_empty, keep, each, flat}
 use Rattle.texts.specs.Texts.{Text, eq_t, mem_t, sorted_t}
 use Rattle.texts.proofs.Ordering.{not_both, eq_is, eq_refl, eq_sym}
 use Rattle.model_walk.proofs.Found.{Case, is_true, is_false, case}

@@ -1,4 +1,5 @@
 -- The undeclared names of all automations fit into the answer's 64 places, which hold them and then zeros.
+use Rattle.std.specs.Prelude.{if◌then◌else◌}
 use mathlib.Core.Path.{◌≡◌, refl, sym, ap, ◌∙◌}
 use mathlib.Core.Bool.{Bool, true, false, ◌&&◌, not}
 use mathlib.Core.List.{List, [], ◌∷◌, ◌++◌, append-nil, append_assoc}
@@ -9,7 +10,7 @@ use lib.ListN.{length, get_or, set, replicate, length-append}
 use lib.Seq.{set-append_seam}
 use borrow.Author.Tests.{lt-ltb}
 use Rattle.engine_spec.proofs.Bounds.{length_each}
-use Rattle.texts.specs.Lists.{if◌then◌else◌, absent, keep, listed, each, flat}
+use Rattle.texts.specs.Lists.{absent, keep, listed, each, flat}
 use Rattle.texts.specs.Texts.{Text, mem_t, sorted_t}
 use Rattle.model_spec.specs.Model.{
   Predicate,

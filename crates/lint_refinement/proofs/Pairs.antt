@@ -1,4 +1,5 @@
 -- The items of each pair of automations stand for the definition's opposing writes.
+use Rattle.std.specs.Prelude.{if◌then◌else◌}
 use mathlib.Core.Path.{◌≡◌, refl, sym, ap, ◌∙◌, subst}
 use mathlib.Core.Bool.{Bool, true, false}
 use mathlib.Core.List.{List, [], ◌∷◌, ◌++◌, append-nil}
@@ -10,7 +11,7 @@ use lib.Dec.{eqb, ltb, leb}
 use lib.ListN.{length, get_or}
 use borrow.Author.Tests.{lt-ltb, le-ltb, lt-leb, eqb-true}
 use Rattle.lint_pairs.proofs.Laws.{items_none}
-use Rattle.texts.specs.Lists.{if◌then◌else◌, listed, each, flat, through}
+use Rattle.texts.specs.Lists.{listed, each, flat, through}
 use Rattle.texts.specs.Texts.{Text, text, eq_t}
 use Rattle.texts.proofs.Ordering.{eq_is, eq_sym}
 use Rattle.model_spec.specs.Model.{Tier, Automation, Model}

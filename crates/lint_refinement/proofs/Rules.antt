@@ -1,4 +1,5 @@
 -- The items of each automation stand for the definition's entries of it.
+use Rattle.std.specs.Prelude.{if◌then◌else◌}
 use mathlib.Core.Path.{◌≡◌, refl, sym, ap, ◌∙◌, subst}
 use mathlib.Core.Bool.{Bool, true, false, ◌||◌, ◌&&◌, not}
 use mathlib.Core.List.{List, [], ◌∷◌, ◌++◌, append-nil}
@@ -13,7 +14,7 @@ use lib.Dec.{eqb, ltb}
 use lib.ListN.{length, get_or}
 use borrow.Author.Tests.{lt-ltb, le-ltb, eq-eqb, ne_eqb, lt-leb}
 use Rattle.engine_spec.proofs.Bounds.{length_each}
-use Rattle.texts.specs.Lists.{if◌then◌else◌, present_and, listed, is_empty, any, all, keep, each, flat}
+use Rattle.texts.specs.Lists.{present_and, listed, is_empty, any, all, keep, each, flat}
 use Rattle.texts.specs.Texts.{Text, text, eq_t, mem_t}
 use Rattle.texts.proofs.Ordering.{not_both, eq_is, eq_refl}
 use Rattle.model_spec.specs.Model.{

@@ -1,4 +1,5 @@
 -- A set is that of its members; the numbers of texts in a list where each stands once.
+use Rattle.std.specs.Prelude.{if◌then◌else◌}
 use mathlib.Core.Path.{◌≡◌, refl, sym, ap, ◌∙◌}
 use mathlib.Core.Bool.{Bool, true, false}
 use mathlib.Core.List.{List, [], ◌∷◌}
@@ -11,7 +12,7 @@ use lib.Bits.{bit_or, or_shifted_r}
 use lib.Dec.{eqb}
 use lib.ListN.{length, get_or}
 use borrow.Author.Tests.{eqb-true, eqb-false, eq-eqb, ne_eqb}
-use Rattle.texts.specs.Lists.{if◌then◌else◌, is_empty, keep, each, through}
+use Rattle.texts.specs.Lists.{is_empty, keep, each, through}
 use Rattle.texts.specs.Texts.{Text, eq_t}
 use Rattle.texts.proofs.Ordering.{eq_refl}
 use Rattle.model_spec.specs.Rewrite.{place_of}

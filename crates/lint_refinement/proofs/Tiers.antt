@@ -1,4 +1,5 @@
 -- The highest tier of a set of entities is that of the definition's list of names.
+use Rattle.std.specs.Prelude.{if◌then◌else◌}
 use mathlib.Core.Path.{◌≡◌, refl, sym, ap, ◌∙◌, subst}
 use mathlib.Core.Bool.{Bool, true, false, ◌||◌, not, or_assoc}
 use mathlib.Core.List.{List, [], ◌∷◌, ◌++◌}
@@ -11,7 +12,7 @@ use lib.Dec.{eqb}
 use lib.ListN.{length, get_or}
 use borrow.Author.Tests.{lt-ltb, le-ltb, eq-eqb, eqb-true}
 use Rattle.texts.proofs.Bool.{or_false, or_left, or_right}
-use Rattle.texts.specs.Lists.{if◌then◌else◌, absent, listed, present_and, find, each, flat, through}
+use Rattle.texts.specs.Lists.{absent, listed, present_and, find, each, flat, through}
 use Rattle.texts.specs.Texts.{Text, eq_t, mem_t}
 use Rattle.texts.proofs.Ordering.{not_both, eq_is, is_eq, eq_sym}
 use Rattle.model_spec.specs.Model.{Tier, observational, comfort, property, access_safety, Entity, Scenario, named}

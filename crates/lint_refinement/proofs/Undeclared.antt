@@ -1,4 +1,5 @@
 -- The places that the code finds are those of the undeclared names that the definition reads; there are at most 64.
+use Rattle.std.specs.Prelude.{if◌then◌else◌}
 use mathlib.Core.Path.{◌≡◌, refl, sym, ap, ◌∙◌}
 use mathlib.Core.Bool.{Bool, true, false, ◌||◌, ◌&&◌, not}
 use mathlib.Core.List.{List, [], ◌∷◌, ◌++◌}
@@ -12,7 +13,7 @@ use lib.Seq.{get_or-take}
 use borrow.Author.Tests.{le-leb, lt-leb}
 use Rattle.texts.proofs.Bool.{or_false}
 use Rattle.engine_spec.proofs.Bounds.{length_each}
-use Rattle.texts.specs.Lists.{if◌then◌else◌, absent, any, keep, each, flat}
+use Rattle.texts.specs.Lists.{absent, any, keep, each, flat}
 use Rattle.texts.specs.Texts.{Text, eq_t, mem_t}
 use Rattle.texts.proofs.Ordering.{not_both, eq_is, eq_sym}
 use Rattle.model_spec.specs.Model.{

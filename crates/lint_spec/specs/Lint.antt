@@ -1,7 +1,7 @@
 -- lint.rs: the answer and the entry `lint`.
-use Rattle.std.specs.Prelude.{ℕ, zero, suc, List, [], ◌∷◌}
+use Rattle.std.specs.Prelude.{ℕ, zero, suc, List, [], ◌∷◌, if◌then◌else◌}
 use Rattle.std.proofs.Math.Option.{Option, none, some}
-use Rattle.texts.specs.Lists.{if◌then◌else◌, each, flat}
+use Rattle.texts.specs.Lists.{each, flat}
 use Rattle.texts.specs.Texts.{Text, lt_t}
 use Rattle.model_spec.specs.Answer.{Answer, answer, refused, ◌>>=◌}
 use Rattle.model_spec.specs.Model.{Automation, Model}

@@ -1,7 +1,6 @@
 -- What the two areas hold after `lint`: word for word, and after refusals too.
-use Rattle.std.specs.Prelude.{ℕ, ◌≡◌, ◌||◌, List, [], ◌∷◌, eqb, length, replicate}
+use Rattle.std.specs.Prelude.{ℕ, ◌≡◌, ◌||◌, List, [], ◌∷◌, eqb, length, replicate, if◌then◌else◌}
 use Rattle.areas.specs.Areas.{area}
-use Rattle.texts.specs.Lists.{if◌then◌else◌}
 use Rattle.model_spec.specs.Answer.{Answer, answer, refused}
 use Rattle.lint_spec.specs.Lint.{Lint}
 use Rattle.lint_spec.specs.Words.{interaction_words, Worded, names_in, ids_in}

@@ -1,8 +1,8 @@
 -- What stands in the two lent areas, word for word (docs/FORMAT.md): entities and automations as numbers in the file's
 -- order.
-use Rattle.std.specs.Prelude.{ℕ, ◌^◌, ◌≡◌, true, List, [], ◌∷◌, ◌++◌, ltb, eqb}
+use Rattle.std.specs.Prelude.{ℕ, ◌^◌, ◌≡◌, true, List, [], ◌∷◌, ◌++◌, ltb, eqb, if◌then◌else◌}
 use Rattle.std.specs.Int.Bits.{bit_or}
-use Rattle.texts.specs.Lists.{if◌then◌else◌, each, through}
+use Rattle.texts.specs.Lists.{each, through}
 use Rattle.texts.specs.Texts.{Text, text}
 use Rattle.model_spec.specs.Answer.{answer, refused}
 use Rattle.model_spec.specs.Model.{Source}

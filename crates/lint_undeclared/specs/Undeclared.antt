@@ -1,6 +1,5 @@
 -- The undeclared names that automations read, on places.
-use Rattle.std.specs.Prelude.{ℕ, zero, suc, ◌+◌, Bool, false, List, ltb, leb, eqb, get_or, set, replicate}
-use Rattle.texts.specs.Lists.{if◌then◌else◌}
+use Rattle.std.specs.Prelude.{ℕ, zero, suc, ◌+◌, Bool, false, List, ltb, leb, eqb, get_or, set, replicate, if◌then◌else◌}
 use Rattle.model_parts.specs.declared.Section.{Section}
 use Rattle.model_check.specs.Checks.{number_of}
 use Rattle.lint_walk.specs.declared.Walk.{Walk}

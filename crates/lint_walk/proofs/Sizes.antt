@@ -1,4 +1,5 @@
 -- A walk's list keeps its size, and its count stays within it.
+use Rattle.std.specs.Prelude.{if◌then◌else◌}
 use mathlib.Core.Path.{◌≡◌, refl, ◌∙◌}
 use mathlib.Core.List.{List}
 use mathlib.Core.Bool.{Bool, true, false}
@@ -7,7 +8,6 @@ use native.Mathlib.Omega.{arith}
 use lib.Dec.{ltb, eqb}
 use lib.ListN.{length, set, length-set, length-replicate}
 use borrow.Author.Tests.{ltb-true}
-use Rattle.texts.specs.Lists.{if◌then◌else◌}
 use Rattle.lint_walk.specs.declared.Walk.{Walk}
 use Rattle.lint_walk.specs.Raw.{repeat, kind_m, actions_m}
 use Rattle.lint_walk.specs.Walks.{moved_m, noted_m, entered_m, simple_m, action_m, branch_m, choice_m, list_m, fresh, walk_m}

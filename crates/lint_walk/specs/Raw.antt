@@ -1,6 +1,5 @@
 -- Numbers at positions of a file, 0 past its end, and where parts end.
-use Rattle.std.specs.Prelude.{ℕ, zero, suc, ◌+◌, ◌*◌, List, leb, eqb, length}
-use Rattle.texts.specs.Lists.{if◌then◌else◌}
+use Rattle.std.specs.Prelude.{ℕ, zero, suc, ◌+◌, ◌*◌, List, leb, eqb, length, if◌then◌else◌}
 use Rattle.model_spec.specs.File.{Got, got, broken, u8, u16, u32}
 use Rattle.model_walk.specs.Walk.{predicate_size}
 

@@ -1,6 +1,5 @@
 -- The walk over a list of actions: their positions, in order, and the position behind the list.
-use Rattle.std.specs.Prelude.{ℕ, zero, suc, ◌+◌, List, ltb, eqb, set, replicate}
-use Rattle.texts.specs.Lists.{if◌then◌else◌}
+use Rattle.std.specs.Prelude.{ℕ, zero, suc, ◌+◌, List, ltb, eqb, set, replicate, if◌then◌else◌}
 use Rattle.lint_walk.specs.declared.Walk.{Walk}
 use Rattle.lint_walk.specs.declared.Cursor.{Cursor}
 use Rattle.lint_walk.specs.Raw.{place_m, past, repeat, predicates_end, simple_end, kind_m, actions_m}

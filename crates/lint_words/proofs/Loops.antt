@@ -1,10 +1,11 @@
 -- Lines written text by text, and those of a few places that pass a test.
+use Rattle.std.specs.Prelude.{if◌then◌else◌}
 use mathlib.Core.Path.{◌≡◌, refl, sym, ap, ◌∙◌}
 use mathlib.Core.Bool.{Bool, true, false}
 use mathlib.Core.List.{List, [], ◌∷◌, ◌++◌, append_assoc, append-nil}
 use Prim.Native.Nat.{ℕ, suc, ◌+◌, ◌-◌, ◌≤◌, ◌<◌}
 use native.Mathlib.Omega.{arith}
-use Rattle.texts.specs.Lists.{if◌then◌else◌, keep, each, flat}
+use Rattle.texts.specs.Lists.{keep, each, flat}
 use Rattle.texts.specs.Texts.{Text}
 use Rattle.lint_spec.specs.Reach.{places}
 use Rattle.lint_reach.specs.Sets.{holds, members}

@@ -1,7 +1,7 @@
 -- What the words of an answer say, whatever they are: names and problems. f is the model file; a section has the positions
 -- of its parts in it.
-use Rattle.std.specs.Prelude.{ℕ, List, [], ◌∷◌, ltb, get_or}
-use Rattle.texts.specs.Lists.{if◌then◌else◌, each}
+use Rattle.std.specs.Prelude.{ℕ, List, [], ◌∷◌, ltb, get_or, if◌then◌else◌}
+use Rattle.texts.specs.Lists.{each}
 use Rattle.texts.specs.Texts.{Text, text}
 use Rattle.texts.specs.Places.{text_at, start_from}
 use Rattle.model_parts.specs.declared.Section.{Section}

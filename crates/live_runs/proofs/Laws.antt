@@ -1,4 +1,5 @@
 -- The numbers beside the automations, kept up.
+use Rattle.std.specs.Prelude.{if◌then◌else◌}
 use Prim.Native.Nat.{ℕ, zero, suc, ◌+◌, ◌-◌, ◌≤◌, ◌<◌}
 use mathlib.Core.Path.{◌≡◌, refl, sym, ◌∙◌, ap, subst}
 use mathlib.Core.Bool.{Bool, true, false, true≢false, false≢true}
@@ -9,7 +10,6 @@ use lib.Seq.{get_or-set_same, get_or-set_other, take-suc, take_all}
 use borrow.Author.Tests.{eqb-true, eqb-false, eq-eqb, ne_eqb, lt-ltb, le-ltb}
 use native.Mathlib.Numerals.{add-one}
 use native.Mathlib.Omega.{arith}
-use Rattle.texts.specs.Lists.{if◌then◌else◌}
 use Rattle.bounds.specs.Bounds.{at_most}
 use Rattle.bounds.proofs.Laws.{most_yes}
 use Rattle.runs.specs.Lists.{tally, keep}

@@ -1,6 +1,5 @@
 -- The number of live runs beside each automation.
-use Rattle.std.specs.Prelude.{ℕ, zero, suc, ◌+◌, ◌-◌, ◌*◌, ◌<◌, ◌≡◌, Bool, true, false, cond, List, [], ◌∷◌, ◌++◌, ltb, eqb, length, get_or, take, drop, set}
-use Rattle.texts.specs.Lists.{if◌then◌else◌}
+use Rattle.std.specs.Prelude.{ℕ, zero, suc, ◌+◌, ◌-◌, ◌*◌, ◌<◌, ◌≡◌, Bool, true, false, cond, List, [], ◌∷◌, ◌++◌, ltb, eqb, length, get_or, take, drop, set, if◌then◌else◌}
 use Rattle.bounds.specs.Bounds.{at_most}
 use Rattle.runs.specs.Lists.{tally, keep}
 use Rattle.runs.specs.Runs.{run_of, other, Held}

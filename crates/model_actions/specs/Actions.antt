@@ -1,7 +1,6 @@
 -- Checks of actions over a file: what `validate` tests of each, on places, as model_check's Checks has it of their parts.
 -- `proofs/Refines` has that they say what `Validate` says of the list that the reader of `File` finds there.
-use Rattle.std.specs.Prelude.{ℕ, zero, suc, ◌+◌, ltb, eqb}
-use Rattle.texts.specs.Lists.{if◌then◌else◌}
+use Rattle.std.specs.Prelude.{ℕ, zero, suc, ◌+◌, ltb, eqb, if◌then◌else◌}
 use Rattle.model_spec.specs.File.{u8, u16}
 use Rattle.model_check.specs.declared.Checked.TheVariants as checked
 use Rattle.model_check.specs.Checks.{

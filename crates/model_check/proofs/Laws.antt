@@ -1,4 +1,5 @@
 -- The laws that the proofs of checks cite.
+use Rattle.std.specs.Prelude.{if◌then◌else◌}
 use mathlib.Core.Path.{◌≡◌, refl, sym, ap, ◌∙◌}
 use mathlib.Core.List.{List}
 use mathlib.Core.Bool.{Bool, true, false}
@@ -8,7 +9,6 @@ use native.Mathlib.Omega.{arith}
 use lib.ListN.{length, get_or}
 use lib.Dec.{ltb, leb, eqb}
 use borrow.Author.Tests.{le-leb, lt-leb, eq-eqb, ne_eqb}
-use Rattle.texts.specs.Lists.{if◌then◌else◌}
 use Rattle.model_spec.specs.File.{Reader, u8, u16, u32}
 use Rattle.model_spec.specs.Validate.{bad_window}
 use Rattle.model_walk.specs.declared.Num.{Num}

@@ -1,4 +1,5 @@
 -- Each check says what `Validate` says of the part that the reader of `File` finds at its position.
+use Rattle.std.specs.Prelude.{if◌then◌else◌}
 use mathlib.Core.Path.{◌≡◌, refl, sym, ap, ◌∙◌, subst}
 use mathlib.Core.List.{List, [], ◌∷◌, ◌++◌}
 use mathlib.Core.Bool.{Bool, true, false, ◌||◌, not}
@@ -8,7 +9,7 @@ use native.Mathlib.Omega.{arith}
 use lib.ListN.{length, get_or}
 use lib.Dec.{ltb, eqb}
 use borrow.Author.Tests.{lt-leb, eq-eqb, ne_eqb, eqb-true, eqb-false}
-use Rattle.texts.specs.Lists.{if◌then◌else◌, absent, listed, any, find}
+use Rattle.texts.specs.Lists.{absent, listed, any, find}
 use Rattle.texts.specs.Texts.{Text, text, eq_t, mem_t}
 use Rattle.model_spec.specs.Answer.{Answer, answer, refused, Verdict, accept, ◌>>=◌, ◌and◌, ◌when◌, each_accepted}
 use Rattle.model_spec.specs.Model.{observational, Entity, Predicate, state, window, Trigger, named, is_window}

@@ -1,8 +1,7 @@
 -- Checks over a file: what `validate` tests of each part, on places. A check goes over a part of the file, from a position
 -- on, with the number of actions so far; it ends at a position with the number of actions after it, or with a refusal.
 -- `proofs/Refines` has, for each check, that it says what `Validate` says of the part that the reader of `File` finds there.
-use Rattle.std.specs.Prelude.{ℕ, zero, suc, ◌+◌, ◌-◌, Bool, true, false, List, ltb, leb, eqb, length, get_or}
-use Rattle.texts.specs.Lists.{if◌then◌else◌}
+use Rattle.std.specs.Prelude.{ℕ, zero, suc, ◌+◌, ◌-◌, Bool, true, false, List, ltb, leb, eqb, length, get_or, if◌then◌else◌}
 use Rattle.model_spec.specs.File.{got, broken, Reader, u8, u16, u32}
 use Rattle.model_spec.specs.Validate.{day, bad_window}
 use Rattle.model_walk.specs.Walk.{predicate_size}

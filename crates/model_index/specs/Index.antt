@@ -1,6 +1,5 @@
 -- The walk over a whole file.
-use Rattle.std.specs.Prelude.{ℕ, ◌≡◌, false, List, ltb, length}
-use Rattle.texts.specs.Lists.{if◌then◌else◌}
+use Rattle.std.specs.Prelude.{ℕ, ◌≡◌, false, List, ltb, length, if◌then◌else◌}
 use Rattle.model_spec.specs.File.{got, broken, u32}
 use Rattle.model_walk.specs.declared.Walked.{Walked}
 use Rattle.model_walk.specs.declared.Walked.TheVariants as walked

@@ -1,4 +1,5 @@
 -- Places of texts: they compare as the texts do, and they are where the file's texts stand.
+use Rattle.std.specs.Prelude.{if◌then◌else◌}
 use mathlib.Core.Path.{◌≡◌, refl, sym, ap, ap₂, ◌∙◌, subst}
 use mathlib.Core.List.{List, [], ◌∷◌}
 use mathlib.Core.Bool.{Bool, true, false, ◌&&◌, ◌||◌}
@@ -12,7 +13,7 @@ use lib.Seq.{drop-cons}
 use lib.Dec.{ltb, eqb}
 use borrow.Author.Tests.{lt-ltb, le-ltb, eq-eqb, ne_eqb}
 use Rattle.texts.proofs.Bool.{and_left}
-use Rattle.texts.specs.Lists.{if◌then◌else◌, all, any}
+use Rattle.texts.specs.Lists.{all, any}
 use Rattle.texts.specs.Texts.{Text, text, eq_t, lt_t, mem_t}
 use Rattle.texts.specs.Places.{text_at, start_from, texts_from}
 use Rattle.texts.proofs.Laws.{text_at_place, texts_many, length_byte}

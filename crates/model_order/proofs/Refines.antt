@@ -1,4 +1,5 @@
 -- The walks over ordered sections end where the readers of `File` end.
+use Rattle.std.specs.Prelude.{if◌then◌else◌}
 use mathlib.Core.Path.{◌≡◌, refl, sym, ap, ap₂, ◌∙◌, subst}
 use mathlib.Core.List.{List, [], ◌∷◌}
 use mathlib.Core.Bool.{Bool, true, false, ◌&&◌, ◌||◌}
@@ -7,7 +8,7 @@ use native.Mathlib.Omega.{arith}
 use lib.ListN.{length, get_or}
 use lib.Dec.{ltb}
 use borrow.Author.Tests.{ltb-true}
-use Rattle.texts.specs.Lists.{if◌then◌else◌, any, each}
+use Rattle.texts.specs.Lists.{any, each}
 use Rattle.texts.specs.Texts.{Text, text, eq_t, lt_t, mem_t}
 use Rattle.texts.specs.Places.{text_at}
 use Rattle.model_spec.specs.Model.{Entity}

@@ -1,6 +1,5 @@
 -- Sections whose parts ascend: the texts, and the entities by name. A part is compared with the one before it.
-use Rattle.std.specs.Prelude.{ℕ, zero, suc, ◌+◌, ◌<◌, ◌≡◌, Bool, true, false, ◌&&◌, List, [], ltb, leb, length, get_or}
-use Rattle.texts.specs.Lists.{if◌then◌else◌}
+use Rattle.std.specs.Prelude.{ℕ, zero, suc, ◌+◌, ◌<◌, ◌≡◌, Bool, true, false, ◌&&◌, List, [], ltb, leb, length, get_or, if◌then◌else◌}
 use Rattle.texts.specs.Texts.{Text, text, eq_t, lt_t}
 use Rattle.texts.specs.Places.{text_at}
 use Rattle.model_spec.specs.File.{got, broken, u16}

@@ -1,4 +1,5 @@
 -- Each part's walk ends where the reader of `File` ends, with the notes of what the reader found.
+use Rattle.std.specs.Prelude.{if◌then◌else◌}
 use mathlib.Core.Path.{◌≡◌, refl, sym, ap, ◌∙◌}
 use mathlib.Core.List.{List, [], ◌∷◌, ◌++◌}
 use mathlib.Core.Bool.{Bool, true, false, ◌&&◌}
@@ -7,7 +8,7 @@ use native.Mathlib.Omega.{arith}
 use lib.ListN.{length, get_or, length-append}
 use lib.Dec.{ltb, eqb}
 use borrow.Author.Tests.{le-ltb}
-use Rattle.texts.specs.Lists.{if◌then◌else◌, all, flat}
+use Rattle.texts.specs.Lists.{all, flat}
 use Rattle.texts.specs.Texts.{Text}
 use Rattle.model_spec.specs.Model.{
   Predicate,

@@ -1,6 +1,5 @@
 -- Walks over the parts that stand in a section, and a section: its count, and where its parts start.
-use Rattle.std.specs.Prelude.{ℕ, zero, suc, ◌+◌, List, ltb, eqb, set, replicate}
-use Rattle.texts.specs.Lists.{if◌then◌else◌}
+use Rattle.std.specs.Prelude.{ℕ, zero, suc, ◌+◌, List, ltb, eqb, set, replicate, if◌then◌else◌}
 use Rattle.model_spec.specs.File.{got, broken, u8, u16, printable}
 use Rattle.model_walk.specs.declared.Walked.TheVariants as walked
 use Rattle.model_walk.specs.declared.Piece.TheVariants as piece

@@ -1,4 +1,5 @@
 -- A file that decodes, part by part: what stands before its events, the events, and what follows them.
+use Rattle.std.specs.Prelude.{if◌then◌else◌}
 use mathlib.Core.Path.{◌≡◌, refl, sym, ap, ◌∙◌, subst}
 use mathlib.Core.List.{List}
 use Prim.Native.Nat.{ℕ, ◌≤◌}
@@ -6,7 +7,6 @@ use native.Mathlib.Omega.{arith}
 use lib.ListN.{length}
 use lib.Dec.{ltb}
 use borrow.Author.Tests.{ltb-false}
-use Rattle.texts.specs.Lists.{if◌then◌else◌}
 use Rattle.model_spec.specs.Answer.{answer, refused}
 use Rattle.model_spec.specs.Notes.{notes_of}
 use Rattle.model_spec.specs.Model.{Model, Event, midnight}

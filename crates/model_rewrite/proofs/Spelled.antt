@@ -1,5 +1,6 @@
 -- Every reader of the model file up to the automations looks only at the bytes that it takes: what it finds in a file is
 -- found wherever those bytes stand. What stands behind the automations is in Behind.antt.
+use Rattle.std.specs.Prelude.{if◌then◌else◌}
 use mathlib.Core.Path.{◌≡◌, refl, sym, ap, ◌∙◌, subst}
 use mathlib.Core.List.{List, [], ◌∷◌, ◌++◌, append_assoc}
 use mathlib.Core.Bool.{Bool, true, false}
@@ -9,7 +10,6 @@ use native.Mathlib.Omega.{arith}
 use lib.ListN.{length, get_or, drop, length-append, length-drop}
 use lib.Seq.{drop-cons, drop-drop, drop_at}
 use lib.Dec.{ltb, eqb}
-use Rattle.texts.specs.Lists.{if◌then◌else◌}
 use Rattle.texts.specs.Texts.{Text}
 use Rattle.model_spec.specs.Model.{Actions}
 use Rattle.model_spec.specs.File.{

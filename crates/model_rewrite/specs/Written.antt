@@ -1,7 +1,6 @@
 -- The bytes of an events section whose events are words: four for each, a second, a kind (0 sets, 1 restarts, 2 reloads),
 -- the place of an entity and the place of a value.
-use Rattle.std.specs.Prelude.{◌≡◌, ℕ, zero, suc, ◌+◌, ◌*◌, ◌≤◌, ◌<◌, List, [], ◌∷◌, ◌++◌, eqb, length, get_or, take, drop}
-use Rattle.texts.specs.Lists.{if◌then◌else◌}
+use Rattle.std.specs.Prelude.{◌≡◌, ℕ, zero, suc, ◌+◌, ◌*◌, ◌≤◌, ◌<◌, List, [], ◌∷◌, ◌++◌, eqb, length, get_or, take, drop, if◌then◌else◌}
 use Rattle.model_spec.specs.Rewrite.{bytes2, bytes4}
 use Rattle.model_rewrite.specs.declared.Span.{Span}
 

@@ -1,4 +1,5 @@
 -- The laws that the proofs of this crate's functions cite.
+use Rattle.std.specs.Prelude.{if◌then◌else◌}
 use mathlib.Core.Path.{◌≡◌, refl, sym, ap, ◌∙◌}
 use mathlib.Core.List.{List, [], ◌∷◌}
 use mathlib.Core.Bool.{Bool, true, false, ◌||◌}
@@ -8,7 +9,7 @@ use native.Mathlib.Omega.{arith}
 use lib.ListN.{length, get_or}
 use lib.Dec.{ltb, eqb}
 use borrow.Author.Tests.{lt-ltb, le-ltb, eq-eqb, ne_eqb}
-use Rattle.texts.specs.Lists.{if◌then◌else◌, is_empty}
+use Rattle.texts.specs.Lists.{is_empty}
 use Rattle.texts.specs.Texts.{Text}
 use Rattle.texts.specs.Places.{text_at, start_from}
 use Rattle.model_spec.specs.File.{u8, u16, u32}

@@ -1,4 +1,5 @@
 -- The checks of a section say what `Validate` says of the parts that the reader finds there.
+use Rattle.std.specs.Prelude.{if◌then◌else◌}
 use mathlib.Core.Path.{◌≡◌, refl, sym, ap, ◌∙◌, subst}
 use mathlib.Core.List.{List, [], ◌∷◌}
 use mathlib.Core.Bool.{Bool, true, false, ◌&&◌, ◌||◌, not}
@@ -9,7 +10,7 @@ use native.Mathlib.Numerals.{add-one}
 use lib.ListN.{length, get_or}
 use lib.Dec.{ltb, leb, eqb}
 use borrow.Author.Tests.{lt-ltb, le-ltb, le-leb, ne_eqb, leb-true, leb-false}
-use Rattle.texts.specs.Lists.{if◌then◌else◌, present_and, is_empty, any}
+use Rattle.texts.specs.Lists.{present_and, is_empty, any}
 use Rattle.texts.specs.Texts.{Text, eq_t, mem_t}
 use Rattle.model_spec.specs.Answer.{Answer, answer, refused, Verdict, accept, ◌>>=◌, ◌and◌, ◌when◌, each_accepted}
 use Rattle.model_spec.specs.Model.{

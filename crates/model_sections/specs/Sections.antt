@@ -1,7 +1,6 @@
 -- The checks of a section, on places, part by part.
 -- `proofs/Refines` has that they say what `Validate` says of the parts that the reader of `File` finds there.
-use Rattle.std.specs.Prelude.{ℕ, zero, suc, ◌+◌, ◌*◌, Bool, true, false, ◌||◌, List, ltb, eqb, get_or}
-use Rattle.texts.specs.Lists.{if◌then◌else◌}
+use Rattle.std.specs.Prelude.{ℕ, zero, suc, ◌+◌, ◌*◌, Bool, true, false, ◌||◌, List, ltb, eqb, get_or, if◌then◌else◌}
 use Rattle.texts.specs.Texts.{Text}
 use Rattle.texts.specs.Places.{text_at, start_from}
 use Rattle.model_spec.specs.File.{got, broken, u8, u16, u32}

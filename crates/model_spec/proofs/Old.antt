@@ -1,5 +1,6 @@
 -- Old files read as before: what the reader found before windows and the model's start came, it finds now, with a start of
 -- zeros and no window; and such a model is accepted or refused as it was.
+use Rattle.std.specs.Prelude.{if◌then◌else◌}
 use Prim.Native.Nat.{ℕ, zero, suc, ◌≤◌}
 use mathlib.Core.Path.{◌≡◌, refl, sym, ap, ◌∙◌, subst}
 use mathlib.Core.Bool.{Bool, true, false, ◌&&◌, ◌||◌, false≢true}
@@ -9,7 +10,7 @@ use lib.Dec.{ltb}
 use lib.ListN.{length, get_or}
 use borrow.Author.Tests.{ltb-false}
 use Rattle.texts.proofs.Bool.{and_both, and_left, and_right, or_false}
-use Rattle.texts.specs.Lists.{if◌then◌else◌, ◌▸◌, is_empty, all, each}
+use Rattle.texts.specs.Lists.{◌▸◌, is_empty, all, each}
 use Rattle.texts.specs.Texts.{Text, mem_t}
 use Rattle.model_spec.specs.Answer as answers
 use Rattle.model_spec.specs.Answer.{answer, refused, Verdict, ◌and◌, ◌when◌, each_accepted}

@@ -1,9 +1,9 @@
 -- The model file: from bytes to the model, or 30 or 31.
 -- A reader looks at a list of bytes from a position on. It finds a value and the position after it, or the file rules
 -- broken.
-use Rattle.std.specs.Prelude.{ℕ, zero, suc, ◌+◌, ◌*◌, Bool, true, false, ◌&&◌, List, [], ◌∷◌, ltb, leb, eqb, length, get_or}
+use Rattle.std.specs.Prelude.{ℕ, zero, suc, ◌+◌, ◌*◌, Bool, true, false, ◌&&◌, List, [], ◌∷◌, ltb, leb, eqb, length, get_or, if◌then◌else◌}
 use Rattle.std.proofs.Math.Option.{Option, none, some}
-use Rattle.texts.specs.Lists.{if◌then◌else◌, all, each, all_lists}
+use Rattle.texts.specs.Lists.{all, each, all_lists}
 use Rattle.texts.specs.Texts.{Text, text, lt_t, mem_t, all_texts}
 use Rattle.model_spec.specs.Answer.{Answer, answer, refused}
 use Rattle.model_spec.specs.Notes.{notes_of, all_notes}

@@ -1,7 +1,7 @@
 -- The reader and the checks as they were before windows and the model's start: a predicate has the kinds 0 and 1 only,
 -- nothing stands behind the automations, and invariants are checked like conditions. What isn't here is as it was.
-use Rattle.std.specs.Prelude.{ℕ, zero, suc, ◌||◌, List, [], ◌∷◌, ◌++◌, ltb, length}
-use Rattle.texts.specs.Lists.{if◌then◌else◌, is_empty, each}
+use Rattle.std.specs.Prelude.{ℕ, zero, suc, ◌||◌, List, [], ◌∷◌, ◌++◌, ltb, length, if◌then◌else◌}
+use Rattle.texts.specs.Lists.{is_empty, each}
 use Rattle.texts.specs.Texts.{Text, mem_t}
 use Rattle.model_spec.specs.Answer as answers
 use Rattle.model_spec.specs.Answer.{Answer, answer, refused, Verdict, accept, ◌and◌, ◌when◌, each_accepted}

@@ -1,6 +1,6 @@
 -- The model file with other events: a witness or a reduced model.
-use Rattle.std.specs.Prelude.{ℕ, ◌+◌, ◌/◌, ◌%◌, List, [], ◌∷◌, ◌++◌, length, take, drop}
-use Rattle.texts.specs.Lists.{if◌then◌else◌, flat, all_lists}
+use Rattle.std.specs.Prelude.{ℕ, ◌+◌, ◌/◌, ◌%◌, List, [], ◌∷◌, ◌++◌, length, take, drop, if◌then◌else◌}
+use Rattle.texts.specs.Lists.{flat, all_lists}
 use Rattle.texts.specs.Texts.{Text, eq_t, all_texts}
 use Rattle.model_spec.specs.Model.{Input, reload, Event}
 use Rattle.model_spec.specs.File.{got, broken, head, events, all_readers}

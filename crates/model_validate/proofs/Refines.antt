@@ -1,4 +1,5 @@
 -- The checks of a whole model say what `Validate` says of the model that the file holds.
+use Rattle.std.specs.Prelude.{if◌then◌else◌}
 use mathlib.Core.Path.{◌≡◌, refl, sym, ap, ◌∙◌, subst}
 use mathlib.Core.List.{List, [], ◌∷◌, ◌++◌}
 use mathlib.Core.Bool.{Bool, true, false, ◌||◌, not}
@@ -7,7 +8,7 @@ use native.Mathlib.Omega.{arith}
 use lib.ListN.{length, get_or}
 use lib.Dec.{ltb, eqb}
 use borrow.Author.Tests.{ltb-false}
-use Rattle.texts.specs.Lists.{if◌then◌else◌, any, each}
+use Rattle.texts.specs.Lists.{any, each}
 use Rattle.texts.specs.Texts.{Text, text, mem_t}
 use Rattle.texts.specs.Places.{text_at, start_from}
 use Rattle.model_spec.specs.Answer.{Answer, answer, refused, Verdict, ◌>>=◌, ◌and◌, ◌when◌, each_accepted}

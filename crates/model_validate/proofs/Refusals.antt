@@ -1,4 +1,5 @@
 -- Which numbers refuse a model: 30 and 31 by the file rules, 1 to 19, 50 and 51 by `validate`.
+use Rattle.std.specs.Prelude.{if◌then◌else◌}
 use Prim.Native.Nat.{ℕ, ◌+◌, ◌≤◌}
 use mathlib.Core.Bool.{Bool, true, false, ◌||◌, not}
 use mathlib.Core.List.{List, [], ◌∷◌, ◌++◌}
@@ -7,7 +8,7 @@ use mathlib.Core.Logic.{◌⊎◌, inl, inr}
 use native.Mathlib.Omega.{arith}
 use lib.ListN.{length}
 use lib.Dec.{ltb}
-use Rattle.texts.specs.Lists.{if◌then◌else◌, absent, listed, find}
+use Rattle.texts.specs.Lists.{absent, listed, find}
 use Rattle.texts.specs.Texts.{Text, text, mem_t}
 use Rattle.model_spec.specs.Answer.{Answer, answer, refused, Verdict, accept, ◌>>=◌, ◌and◌, ◌when◌, each_accepted}
 use Rattle.model_spec.specs.Model.{

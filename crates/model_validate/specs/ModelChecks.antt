@@ -1,7 +1,6 @@
 -- The checks of a whole model, on places: the tests before the sections, and the sections in their order.
 -- `proofs/Refines` has that they say what `Validate` says of the model that the file holds.
-use Rattle.std.specs.Prelude.{ℕ, ◌≤◌, Bool, false, ◌||◌, not, List, ltb, eqb, length}
-use Rattle.texts.specs.Lists.{if◌then◌else◌}
+use Rattle.std.specs.Prelude.{ℕ, ◌≤◌, Bool, false, ◌||◌, not, List, ltb, eqb, length, if◌then◌else◌}
 use Rattle.texts.specs.Texts.{text}
 use Rattle.model_spec.specs.Model.{midnight}
 use Rattle.model_spec.specs.File.{got, broken, u16, u32, or_zeros, start, limits}

@@ -1,5 +1,6 @@
 -- What a reader found, part by part: from the value that the reader of a part gave back to the numbers that stand in the
 -- file.
+use Rattle.std.specs.Prelude.{if◌then◌else◌}
 use mathlib.Core.Path.{◌≡◌, refl, sym, ap, ◌∙◌, subst}
 use mathlib.Core.List.{List, [], ◌∷◌}
 use mathlib.Core.Bool.{Bool, true, false}
@@ -10,7 +11,6 @@ use native.Mathlib.Decide.{dec_lt}
 use lib.ListN.{length, get_or}
 use lib.Dec.{ltb, eqb}
 use borrow.Author.Tests.{ltb-true, eqb-true, eqb-false}
-use Rattle.texts.specs.Lists.{if◌then◌else◌}
 use Rattle.texts.specs.Texts.{Text}
 use Rattle.model_spec.specs.Model.{Source, Predicate, state, window, Trigger, Entity}
 use Rattle.model_spec.specs.File.{

@@ -1,4 +1,5 @@
 -- Each walk ends where the reader of `File` ends, with the notes of what the reader found.
+use Rattle.std.specs.Prelude.{if◌then◌else◌}
 use mathlib.Core.Path.{◌≡◌, refl, sym, ap, ◌∙◌}
 use mathlib.Core.List.{List, [], ◌∷◌, ◌++◌}
 use mathlib.Core.Bool.{Bool, true, false}
@@ -9,7 +10,7 @@ use native.Mathlib.Decide.{dec_lt}
 use lib.ListN.{length, get_or, length-append}
 use lib.Dec.{ltb, eqb}
 use borrow.Author.Tests.{lt-ltb, le-ltb, ne_eqb}
-use Rattle.texts.specs.Lists.{if◌then◌else◌, listed, flat}
+use Rattle.texts.specs.Lists.{listed, flat}
 use Rattle.texts.specs.Texts.{Text}
 use Rattle.model_spec.specs.Model.{
   Source,

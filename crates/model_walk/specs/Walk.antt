@@ -1,8 +1,7 @@
 -- Walks: a reader that keeps no value. A walk goes over a part of the file, from a position on; it ends at a position, with
 -- the notes so far (65 for more than 64), or finds the file rules broken. Places are only compared with the number of texts.
 -- `proofs/Refines` has, for each walk, that it ends where the reader of `File` ends.
-use Rattle.std.specs.Prelude.{ℕ, zero, suc, ◌+◌, Bool, List, ltb, leb, eqb, length}
-use Rattle.texts.specs.Lists.{if◌then◌else◌}
+use Rattle.std.specs.Prelude.{ℕ, zero, suc, ◌+◌, Bool, List, ltb, leb, eqb, length, if◌then◌else◌}
 use Rattle.model_spec.specs.File.{Got, got, broken, Reader, u8, u16}
 use Rattle.model_walk.specs.declared.Num.{Num}
 use Rattle.model_walk.specs.declared.Num.TheVariants as num

@@ -1,12 +1,13 @@
 -- The search: neither search lists a reason, so each case of both was checked to the end, and case by case both say the
 -- same. So do the searches: status, number of cases, and the witness's events (`verified_same`).
+use Rattle.std.specs.Prelude.{if◌then◌else◌}
 use Prim.Native.Nat.{ℕ, zero, suc, ◌+◌}
 use mathlib.Core.Bool.{Bool, true, false, ◌||◌, true≢false, false≢true}
 use mathlib.Core.List.{List, [], ◌∷◌, ◌++◌}
 use mathlib.Core.Option.{Option, none, some}
 use mathlib.Core.Path.{◌≡◌, refl, sym, ap, ◌∙◌, subst}
 use lib.Dec.{ltb, leb}
-use Rattle.texts.specs.Lists.{if◌then◌else◌, is_empty, each}
+use Rattle.texts.specs.Lists.{is_empty, each}
 use Rattle.texts.specs.Texts.{Text, text, sorted_t}
 use Rattle.model_spec.specs.Answer.{Answer, answer, ◌>>=◌}
 use Rattle.model_spec.specs.Model.{Input, Event, Model}

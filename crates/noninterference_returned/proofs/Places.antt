@@ -1,12 +1,12 @@
 -- A text of the file stands at its place. The identifiers of an accepted model's invariants are texts of the file, and so
 -- are the texts of its alphabet.
+use Rattle.std.specs.Prelude.{if◌then◌else◌}
 use Prim.Native.Nat.{ℕ, zero, suc, ◌+◌, ◌<◌}
 use mathlib.Core.Path.{◌≡◌, refl, sym, ap, ◌∙◌, subst}
 use mathlib.Core.Bool.{true, false}
 use mathlib.Core.List.{List, [], ◌∷◌}
 use native.Mathlib.Omega.{arith}
 use lib.ListN.{length, get_or}
-use Rattle.texts.specs.Lists.{if◌then◌else◌}
 use Rattle.texts.specs.Texts.{Text, eq_t}
 use Rattle.model_spec.specs.Answer.{answer, refused}
 use Rattle.model_spec.specs.Events.{input_words, InputWords}

@@ -1,6 +1,5 @@
 -- The lines of `minimize`, with their newlines: what a reader of the program's output sees.
-use Rattle.std.specs.Prelude.{ℕ, Bool, List, ◌∷◌, ◌++◌, eqb}
-use Rattle.texts.specs.Lists.{if◌then◌else◌}
+use Rattle.std.specs.Prelude.{ℕ, Bool, List, ◌∷◌, ◌++◌, eqb, if◌then◌else◌}
 use Rattle.texts.specs.Places.{text_at, start_from}
 use Rattle.texts.specs.Texts.{Text, text, decimal}
 use Rattle.model_spec.specs.Model.{Input, reload, Event}

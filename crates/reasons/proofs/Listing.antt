@@ -1,4 +1,5 @@
 -- Laws of lists of texts, and of the lists of renderings.
+use Rattle.std.specs.Prelude.{if◌then◌else◌}
 use mathlib.Core.Path.{◌≡◌, refl, sym, ap, ◌∙◌}
 use mathlib.Core.Bool.{Bool, true, false}
 use mathlib.Core.List.{List, [], ◌∷◌, ◌++◌, map, map-append}
@@ -7,7 +8,7 @@ use native.Mathlib.Numerals.{add-one}
 use native.Mathlib.Omega.{arith}
 use lib.ListN.{length, get_or, take, drop, length-append, length-map, drop_of_length-le, take-append-drop, get_or-map}
 use lib.Seq.{drop-cons, take-suc, append_snoc}
-use Rattle.texts.specs.Lists.{if◌then◌else◌, any}
+use Rattle.texts.specs.Lists.{any}
 use Rattle.texts.specs.Texts.{Text, eq_t, lt_t, mem_t, insert_t}
 use Rattle.reasons.specs.Reasons.{render}
 use Rattle.reasons.specs.Lists.{reason_of, reasons, listed, push_t, insert_all, Reported, Holds, Grows}

@@ -1,9 +1,8 @@
 -- Lists of reasons in words, five to a reason, and the lists of their renderings.
-use Rattle.std.specs.Prelude.{ℕ, zero, suc, ◌+◌, ◌*◌, ◌≤◌, ◌≡◌, List, [], ◌∷◌, ◌++◌, map, length, get_or, take, drop}
+use Rattle.std.specs.Prelude.{ℕ, zero, suc, ◌+◌, ◌*◌, ◌≤◌, ◌≡◌, List, [], ◌∷◌, ◌++◌, map, length, get_or, take, drop, if◌then◌else◌}
 use Rattle.reasons.specs.declared.Reason.{Reason}
 use Rattle.reasons.specs.declared.Spot.{Spot}
 use Rattle.reasons.specs.declared.Spot.TheVariants.{There, At}
-use Rattle.texts.specs.Lists.{if◌then◌else◌}
 use Rattle.texts.specs.Texts.{Text, mem_t, insert_t}
 use Rattle.reasons.specs.Reasons.{render}
 use Rattle.reasons.specs.Readable.{AllReadable, HasText}

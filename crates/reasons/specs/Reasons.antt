@@ -1,7 +1,7 @@
 -- A reason: a kind and its texts. Its rendering, over the bytes of a model file.
-use Rattle.std.specs.Prelude.{ℕ, ◌+◌, List, ◌∷◌, ◌++◌, eqb, length}
+use Rattle.std.specs.Prelude.{ℕ, ◌+◌, List, ◌∷◌, ◌++◌, eqb, length, if◌then◌else◌}
 use Rattle.reasons.specs.declared.Reason.{Reason}
-use Rattle.texts.specs.Lists.{if◌then◌else◌, flat}
+use Rattle.texts.specs.Lists.{flat}
 use Rattle.texts.specs.Texts.{Text, decimal}
 use Rattle.texts.specs.Places.{text_at}
 use Rattle.reasons.specs.Kinds.{Kind, kinds, kind_of, source_note_kind}

@@ -1,4 +1,5 @@
 -- The kinds of records by their numbers: their names and details.
+use Rattle.std.specs.Prelude.{if◌then◌else◌}
 use mathlib.Core.Path.{◌≡◌, refl, sym, ap, ◌∙◌, subst}
 use mathlib.Core.Bool.{Bool, true, false}
 use mathlib.Core.Logic.{⊎_elim}
@@ -8,7 +9,7 @@ use native.Mathlib.Omega.{arith}
 use borrow.Author.Tests.{ne_eqb, lt-ltb, le-ltb}
 use lib.Dec.{eqb}
 use lib.ListN.{get_or}
-use Rattle.texts.specs.Lists.{if◌then◌else◌, flat, all_lists}
+use Rattle.texts.specs.Lists.{flat, all_lists}
 use Rattle.texts.specs.Texts.{Text, text, digits, decimal}
 use Rattle.texts.specs.Places.{text_at, start_from, all_places}
 use Rattle.texts.proofs.Ordering.{lt_or_ge}

@@ -1,6 +1,5 @@
 -- What the code takes a record's line from: the words of its kind.
-use Rattle.std.specs.Prelude.{ℕ, ◌<◌, ◌≡◌, List, [], ◌++◌, ltb, eqb, length, get_or}
-use Rattle.texts.specs.Lists.{if◌then◌else◌}
+use Rattle.std.specs.Prelude.{ℕ, ◌<◌, ◌≡◌, List, [], ◌++◌, ltb, eqb, length, get_or, if◌then◌else◌}
 use Rattle.texts.specs.Texts.{Text, text, decimal}
 use Rattle.texts.specs.Places.{text_at, start_from}
 use Rattle.reasons.specs.Reasons.{packed}

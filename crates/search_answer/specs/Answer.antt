@@ -1,7 +1,6 @@
 -- The answer that repeats what a search and its witness are.
-use Rattle.std.specs.Prelude.{ℕ, ◌≤◌, ◌≡◌, Bool, List, [], eqb, replicate}
+use Rattle.std.specs.Prelude.{ℕ, ◌≤◌, ◌≡◌, Bool, List, [], eqb, replicate, if◌then◌else◌}
 use Rattle.layout.specs.Sizes.{verdict_reasons}
-use Rattle.texts.specs.Lists.{if◌then◌else◌}
 use Rattle.reasons.specs.Readable.{HasText}
 use Rattle.reasons.specs.Lists.{listed, insert_all, Clean, Holds}
 use Rattle.checker_result.specs.declared.CheckResult.{CheckResult}

@@ -1,6 +1,5 @@
 -- A model's inputs and gaps as words, and the events that a search has placed so far.
-use Rattle.std.specs.Prelude.{ℕ, ◌+◌, ◌-◌, ◌*◌, ◌/◌, ◌%◌, ◌<◌, ◌≡◌, List, [], ◌∷◌, ltb, eqb, length, get_or}
-use Rattle.texts.specs.Lists.{if◌then◌else◌}
+use Rattle.std.specs.Prelude.{ℕ, ◌+◌, ◌-◌, ◌*◌, ◌/◌, ◌%◌, ◌<◌, ◌≡◌, List, [], ◌∷◌, ltb, eqb, length, get_or, if◌then◌else◌}
 use Rattle.areas.specs.Areas.{written}
 use Rattle.model_index.specs.declared.Index.{Index}
 use Rattle.bounds.specs.Bounds.{at_most}

@@ -1,4 +1,5 @@
 -- Texts written one behind the other.
+use Rattle.std.specs.Prelude.{if◌then◌else◌}
 use mathlib.Core.Path.{◌≡◌, refl, sym, ap, ◌∙◌}
 use mathlib.Core.Bool.{Bool, true, false, ◌||◌}
 use mathlib.Core.Logic.{⊎_elim}
@@ -10,7 +11,7 @@ use borrow.Author.Tests.{eq-eqb, ne_eqb}
 use lib.Dec.{eqb}
 use lib.ListN.{length, get_or, take, drop, set, length-append, length-set, take-append-drop}
 use lib.Seq.{length-take-le, take_all, take_at, drop_at, drop-drop, take-take, take-suc, set_split}
-use Rattle.texts.specs.Lists.{if◌then◌else◌, flat}
+use Rattle.texts.specs.Lists.{flat}
 use Rattle.texts.specs.Texts.{Text, text, decimal}
 use Rattle.texts.specs.Places.{text_at}
 use Rattle.texts.proofs.Ordering.{lt_or_ge}

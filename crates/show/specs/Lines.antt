@@ -1,8 +1,8 @@
 -- What the programs print: parts of lines, then whole lines with their newlines.
-use Rattle.std.specs.Prelude.{ℕ, ◌||◌, List, [], ◌∷◌, ◌++◌, eqb}
+use Rattle.std.specs.Prelude.{ℕ, ◌||◌, List, [], ◌∷◌, ◌++◌, eqb, if◌then◌else◌}
 use Rattle.show.specs.declared.Source.{Source}
 use Rattle.show.specs.declared.Source.TheVariants.{At, Absent}
-use Rattle.texts.specs.Lists.{if◌then◌else◌, flat}
+use Rattle.texts.specs.Lists.{flat}
 use Rattle.texts.specs.Texts.{Text, text, decimal}
 use Rattle.texts.specs.Places.{text_at}
 use Rattle.reasons.specs.Reasons.{placed}

@@ -1,4 +1,5 @@
 -- No line is longer than the room that is made for it, 4,096 bytes, however its texts are escaped.
+use Rattle.std.specs.Prelude.{if◌then◌else◌}
 use mathlib.Core.Path.{◌≡◌, refl, ap}
 use mathlib.Core.Bool.{Bool, true, false}
 use mathlib.Core.Logic.{⊎_elim}
@@ -7,7 +8,7 @@ use Prim.Native.Nat.{ℕ, ◌+◌, ◌*◌, ◌≤◌, ◌<◌}
 use native.Mathlib.Omega.{arith}
 use lib.Dec.{eqb}
 use lib.ListN.{length, get_or, length-append, length-take, length-drop, get_or-eq_default}
-use Rattle.texts.specs.Lists.{if◌then◌else◌, flat, all_lists}
+use Rattle.texts.specs.Lists.{flat, all_lists}
 use Rattle.texts.specs.Texts.{Text, text, decimal}
 use Rattle.texts.specs.Places.{text_at, start_from, texts_from}
 use Rattle.texts.proofs.Laws as texts

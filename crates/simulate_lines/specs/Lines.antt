@@ -1,7 +1,7 @@
 -- The lines of `unsupported` and `simulate` besides the records, with their newlines: what a reader of the programs' output
 -- sees.
-use Rattle.std.specs.Prelude.{ℕ, Bool, List, [], ◌∷◌, ◌++◌, eqb}
-use Rattle.texts.specs.Lists.{if◌then◌else◌, flat}
+use Rattle.std.specs.Prelude.{ℕ, Bool, List, [], ◌∷◌, ◌++◌, eqb, if◌then◌else◌}
+use Rattle.texts.specs.Lists.{flat}
 use Rattle.texts.specs.Texts.{Text, text, decimal}
 use Rattle.engine_spec.specs.Reasons.{space_spent, steps_spent, runs_left}
 use Rattle.show.specs.Lines.{number_line, newline, quoted}

@@ -1,4 +1,5 @@
 -- The order of texts: it is total, and its tests say what they should.
+use Rattle.std.specs.Prelude.{if◌then◌else◌}
 use mathlib.Core.Path.{◌≡◌, refl, sym, ◌∙◌}
 use mathlib.Core.Bool.{Bool, true, false}
 use mathlib.Core.Logic.{◌⊎◌, inl, inr}
@@ -7,7 +8,6 @@ use Prim.Native.Nat.{ℕ, ◌≤◌, ◌<◌}
 use native.Mathlib.Omega.{arith}
 use lib.Dec.{ltb}
 use borrow.Author.Tests.{lt-ltb, le-ltb, eq-eqb, ne_eqb, ltb-true, ltb-false}
-use Rattle.texts.specs.Lists.{if◌then◌else◌}
 use Rattle.texts.specs.Texts.{Text, eq_t, lt_t, order_t}
 use Rattle.texts.specs.declared.Order.TheVariants.{Less, Same, Greater}
 

@@ -1,10 +1,10 @@
 -- Texts as lists of bytes: their equality, their order, and numbers written in decimal.
-use Rattle.std.specs.Prelude.{ℕ, zero, suc, ◌+◌, ◌/◌, ◌%◌, Bool, true, false, ◌&&◌, ◌||◌, List, [], ◌∷◌, ltb, eqb}
+use Rattle.std.specs.Prelude.{ℕ, zero, suc, ◌+◌, ◌/◌, ◌%◌, Bool, true, false, ◌&&◌, ◌||◌, List, [], ◌∷◌, ltb, eqb, if◌then◌else◌}
 use Prim.Native.Char.{code}
 use Prim.Native.String.{String}
 use Rattle.texts.specs.declared.Order.{Order}
 use Rattle.texts.specs.declared.Order.TheVariants.{Less, Same, Greater}
-use Rattle.texts.specs.Lists.{if◌then◌else◌, any}
+use Rattle.texts.specs.Lists.{any}
 
 -- a text: its bytes
 abbrev pub Text : Type 0
