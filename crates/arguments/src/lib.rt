@@ -1,7 +1,14 @@
 // The arguments of a program: numbers of entries, and the name of a file.
 #![tactic(auto)]
-ghost use Rattle.std.specs.Prelude.{◌≡◌, ◌≤◌};
+
+ghost use Rattle.std.specs.Prelude.{◌≡◌, ◌≤◌, IfOk};
 ghost use Rattle.arguments.specs.Number.{with_digit, number_of};
+
+use std::alloc::Alloc;
+use std::env::Env;
+use std::fs::{File, Files};
+use std::io::Write;
+use std::{env, io};
 
 // A number with a digit behind it, or the most if it is more.
 fn next(k: usize, digit: u8, most: usize) -> usize
@@ -32,52 +39,54 @@ fn number(t: &[u8], most: usize) -> usize
     k
 }
 
+// The longest argument that is read.
+const LONGEST: usize = 4096;
+
 // The number that is argument i, or the most if there is none.
-pub fn entries(i: usize, most: usize) -> usize
+pub fn entries<R: Env + Alloc>(rt: &R, i: usize, most: usize) -> io::Result<usize>
     requires { most ≤ 1000000 }
-    ensures { result ≤ most }
+    ensures { IfOk result (λ n. n ≤ most) }
 {
-    let mut text = io::buffer();
-    let n = os::arg(i, &mut text);
-    if n == 0 {
-        return most;
+    let Some(text) = env::args(rt)?.nth(i) else {
+        return Ok(most);
+    };
+    let t = text.as_bytes();
+    if t.is_empty() || LONGEST < t.len() {
+        return Ok(most);
     }
-    number(&text[..n], most)
+    Ok(number(t, most))
 }
 
 // The same if there are three arguments or more.
-pub fn area_entries(i: usize, most: usize) -> usize
+pub fn area_entries<R: Env + Alloc>(rt: &R, i: usize, most: usize) -> io::Result<usize>
     requires { most ≤ 1000000 }
-    ensures { result ≤ most }
+    ensures { IfOk result (λ n. n ≤ most) }
 {
-    if os::arg_count() < 4 {
-        return most;
+    if env::args(rt)?.count() < 4 {
+        return Ok(most);
     }
-    entries(i, most)
+    entries(rt, i, most)
 }
 
 // Writes the first bytes to the file that argument i names.
-fn save(i: usize, bytes: &[u8], count: usize) {
+fn save<R: Env + Files + Alloc>(rt: &R, i: usize, bytes: &[u8], count: usize) -> io::Result<()> {
     if bytes.len() < count {
-        return;
+        return Ok(());
     }
-    let mut name = io::buffer();
-    let n = os::arg(i, &mut name);
-    let fd = os::open_overwrite(&name[..n]);
-    if fd < 0 {
-        return;
-    }
-    io::write_all(fd, &bytes[0..count]);
-    libc::close(fd);
+    let Some(name) = env::args(rt)?.nth(i) else {
+        return Ok(());
+    };
+    File::create(rt, &name)?.write_all(&bytes[0..count])
 }
 
 // Writes the first bytes to the file that the only argument names, or the one behind three numbers.
-pub fn save_named(bytes: &[u8], count: usize) {
-    let given = os::arg_count();
+pub fn save_named<R: Env + Files + Alloc>(rt: &R, bytes: &[u8], count: usize) -> io::Result<()> {
+    let given = env::args(rt)?.count();
     if given == 2 {
-        save(1, bytes, count);
+        return save(rt, 1, bytes, count);
     }
     if given == 5 {
-        save(4, bytes, count);
+        return save(rt, 4, bytes, count);
     }
+    Ok(())
 }

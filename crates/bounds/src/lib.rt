@@ -1,5 +1,6 @@
 // The smaller of two numbers.
 #![tactic(auto)]
+
 ghost use Rattle.std.specs.Prelude.{◌≡◌, ◌≤◌};
 ghost use Rattle.bounds.specs.Bounds.{at_most, AtMost};
 

@@ -1,6 +1,7 @@
 // Checks of actions and of lists of actions in a model file: what `validate` tests of each, in its order.
 // As in `model_check`, a check that finds the file rules broken says 30.
 #![tactic(auto)]
+
 ghost use Rattle.std.specs.Prelude.{◌≡◌, ◌≤◌};
 ghost use Rattle.model_check.specs.Checks.{declaration, ◌⨾◌, skip_m};
 ghost use Rattle.model_actions.specs.Actions.{toggle_m, wait_m, count_m, simple_m, choice_m, actions_m};

@@ -1,6 +1,7 @@
 // Checks of places, values, predicates and triggers in a model file: what `validate` tests of each, in its order.
 // The file was read before, so that what is looked for is there; a check that finds the file rules broken says 30.
 #![tactic(auto)]
+
 ghost use Rattle.std.specs.Prelude.{◌≡◌, ◌+◌, ◌≤◌, ◌<◌};
 ghost use Rattle.model_spec.specs.Validate.{bad_window};
 ghost use Rattle.model_check.specs.Checks.{

@@ -1,5 +1,6 @@
 // The reader of a model file: its index, or 30 or 31.
 #![tactic(auto)]
+
 ghost use Rattle.std.specs.Prelude.{◌≡◌, List, ℕ};
 ghost use Rattle.model_spec.specs.File.{decode};
 ghost use Rattle.model_parts.specs.Parts.{no_starts, section};

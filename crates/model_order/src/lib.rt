@@ -1,5 +1,6 @@
 // Sections whose parts ascend: the texts, and the entities by name.
 #![tactic(auto)]
+
 ghost use Rattle.std.specs.Prelude.{◌≡◌, ◌+◌, ◌&&◌};
 ghost use Rattle.texts.specs.Texts.{eq_t};
 ghost use Rattle.texts.specs.Places.{text_at};

@@ -1,5 +1,6 @@
 // Walks over the parts that stand in a section of a model file, and a section: its count, and where its parts start.
 #![tactic(auto)]
+
 ghost use Rattle.std.specs.Prelude.{◌≡◌};
 ghost use Rattle.model_parts.specs.Parts.{
   text_m,

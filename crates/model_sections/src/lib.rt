@@ -1,5 +1,6 @@
 // Checks of the parts of a section: what `validate` tests of entities, events, the alphabet, invariants and automations.
 #![tactic(auto)]
+
 ghost use Rattle.std.specs.Prelude.{◌≡◌, ◌≤◌};
 ghost use Rattle.model_check.specs.Checks.{declaration};
 ghost use Rattle.model_sections.specs.Sections.{

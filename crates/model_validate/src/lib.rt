@@ -1,5 +1,6 @@
 // `validate`: the refusals 1 to 19, 50 and 51 of a model file that was read, in the order of Rust's `validate`.
 #![tactic(auto)]
+
 ghost use Rattle.std.specs.Prelude.{◌≡◌, ◌≤◌};
 ghost use Rattle.model_spec.specs.Validate.{accepted, bad_limits};
 ghost use Rattle.model_parts.specs.Parts.{no_starts};

@@ -1,5 +1,6 @@
 // Walks over the parts of a model file: where a part ends, and the notes so far.
 #![tactic(auto)]
+
 ghost use Rattle.std.specs.Prelude.{◌≡◌, ◌+◌};
 ghost use Rattle.model_spec.specs.File.{u8, u16, u32};
 ghost use Rattle.model_walk.specs.Walk.{

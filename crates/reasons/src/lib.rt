@@ -1,5 +1,6 @@
 // Reasons: a kind and its texts, read and ordered as they are rendered, without building the rendering.
 #![tactic(auto)]
+
 ghost use Rattle.std.specs.Prelude.{◌≡◌, ◌+◌, ◌-◌, ◌*◌, ◌≤◌, ◌<◌, length, get_or, drop};
 ghost use Rattle.texts.specs.Texts.{decimal, eq_t, order_t, mem_t, insert_t};
 ghost use Rattle.texts.specs.Places.{text_at, seek};

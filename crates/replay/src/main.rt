@@ -6,6 +6,8 @@
 ghost use Rattle.replay.specs.Reading.{Within};
 
 use model_walk::Num;
+use std::fs::{File, Files};
+use std::os::fd::AsRawFd;
 
 // What is asked of the models of a batch.
 #[derive(Clone, Copy)]
@@ -198,52 +200,57 @@ fn print_models(fd: i32, entry: Entry, sized: bool) {
 }
 
 // A batch by its file name, behind a line with its entry.
-fn replay(name: &[u8], line: &[u8], entry: Entry, sized: bool) {
+fn replay<R: Files<File = File>>(rt: &R, name: &str, line: &[u8], entry: Entry, sized: bool) {
     io::write_all(1, line);
-    let fd = os::open_read(name);
-    if fd < 0 {
-        io::write_all(1, b"batch missing\n");
-        return;
+    match File::open(rt, name) {
+        Ok(file) => print_models(file.as_raw_fd(), entry, sized),
+        Err(_) => {
+            io::write_all(1, b"batch missing\n");
+        }
     }
-    print_models(fd, entry, sized);
-    libc::close(fd);
 }
 
-fn replay_plain() {
+fn replay_plain<R: Files<File = File>>(rt: &R) {
     replay(
-        b"validate.batch",
+        rt,
+        "validate.batch",
         b"entry validate\n",
         Entry::Validate,
         false,
     );
     replay(
-        b"boundaries.batch",
+        rt,
+        "boundaries.batch",
         b"entry validate boundaries\n",
         Entry::Validate,
         false,
     );
     replay(
-        b"unsupported.batch",
+        rt,
+        "unsupported.batch",
         b"entry unsupported\n",
         Entry::Unsupported,
         false,
     );
     replay(
-        b"simulate.batch",
+        rt,
+        "simulate.batch",
         b"entry simulate\n",
         Entry::Simulate,
         false,
     );
     replay(
-        b"fullcheck.batch",
+        rt,
+        "fullcheck.batch",
         b"entry fullcheck\n",
         Entry::Fullcheck,
         false,
     );
-    replay(b"lint.batch", b"entry lint\n", Entry::Lint, false);
-    replay(b"verify.batch", b"entry verify\n", Entry::Verify, false);
+    replay(rt, "lint.batch", b"entry lint\n", Entry::Lint, false);
+    replay(rt, "verify.batch", b"entry verify\n", Entry::Verify, false);
     replay(
-        b"minimize.batch",
+        rt,
+        "minimize.batch",
         b"entry minimize\n",
         Entry::Minimize,
         false,
@@ -251,39 +258,45 @@ fn replay_plain() {
 }
 
 // Models with windows of the day.
-fn replay_windows() {
+fn replay_windows<R: Files<File = File>>(rt: &R) {
     replay(
-        b"validate-windows.batch",
+        rt,
+        "validate-windows.batch",
         b"entry validate windows\n",
         Entry::Validate,
         false,
     );
     replay(
-        b"simulate-windows.batch",
+        rt,
+        "simulate-windows.batch",
         b"entry simulate windows\n",
         Entry::Simulate,
         false,
     );
     replay(
-        b"fullcheck-windows.batch",
+        rt,
+        "fullcheck-windows.batch",
         b"entry fullcheck windows\n",
         Entry::Fullcheck,
         false,
     );
     replay(
-        b"lint-windows.batch",
+        rt,
+        "lint-windows.batch",
         b"entry lint windows\n",
         Entry::Lint,
         false,
     );
     replay(
-        b"verify-windows.batch",
+        rt,
+        "verify-windows.batch",
         b"entry verify windows\n",
         Entry::Verify,
         false,
     );
     replay(
-        b"minimize-windows.batch",
+        rt,
+        "minimize-windows.batch",
         b"entry minimize windows\n",
         Entry::Minimize,
         false,
@@ -291,41 +304,46 @@ fn replay_windows() {
 }
 
 // With areas and outputs of given sizes, many of them too small.
-fn replay_sized() {
+fn replay_sized<R: Files<File = File>>(rt: &R) {
     replay(
-        b"simulate-areas.batch",
+        rt,
+        "simulate-areas.batch",
         b"entry simulate areas\n",
         Entry::Simulate,
         true,
     );
     replay(
-        b"fullcheck-areas.batch",
+        rt,
+        "fullcheck-areas.batch",
         b"entry fullcheck areas\n",
         Entry::Fullcheck,
         true,
     );
     replay(
-        b"lint-areas.batch",
+        rt,
+        "lint-areas.batch",
         b"entry lint areas\n",
         Entry::Lint,
         true,
     );
     replay(
-        b"verify-areas.batch",
+        rt,
+        "verify-areas.batch",
         b"entry verify areas\n",
         Entry::Verify,
         true,
     );
     replay(
-        b"minimize-areas.batch",
+        rt,
+        "minimize-areas.batch",
         b"entry minimize areas\n",
         Entry::Minimize,
         true,
     );
 }
 
-fn main() {
-    replay_plain();
-    replay_windows();
-    replay_sized();
+fn main(rt: HostRuntime) {
+    replay_plain(&rt);
+    replay_windows(&rt);
+    replay_sized(&rt);
 }

@@ -1,6 +1,7 @@
 // What the programs print. The writers put a text behind the first n bytes of a lent area, and answer the next free index.
 // If the text doesn't fit, the answer is past the area's end, where every writer writes nothing.
 #![tactic(auto)]
+
 ghost use Rattle.std.specs.Prelude.{◌≡◌, [], ◌∷◌, ◌+◌, ◌≤◌, length};
 ghost use Rattle.texts.specs.Texts.{decimal};
 ghost use Rattle.texts.specs.Places.{text_at};

@@ -3,12 +3,12 @@
 // without them the areas are so large that no accepted model fills them. A further argument, or the only one, names the file
 // to which the reduced model is written.
 #![tactic(auto)]
-fn main() {
+fn main(rt: HostRuntime) -> std::io::Result<()> {
     let mut file = [0u8; 32769];
     let n = io::read_full(0, &mut file);
-    let queue = arguments::area_entries(1, layout::QUEUE);
-    let records = arguments::area_entries(2, layout::RECORDS);
-    let runs = arguments::area_entries(3, layout::RUNS);
+    let queue = arguments::area_entries(&rt, 1, layout::QUEUE)?;
+    let records = arguments::area_entries(&rt, 2, layout::RECORDS)?;
+    let runs = arguments::area_entries(&rt, 3, layout::RUNS)?;
     let mut output = [0u8; 32814];
     let mut out = io::large_buffer();
     let p = print_minimize::print_minimize(
@@ -22,6 +22,7 @@ fn main() {
     );
     show::flush(&out, p.next);
     if p.written != 0 {
-        arguments::save_named(&output, p.written);
+        arguments::save_named(&rt, &output, p.written)?;
     }
+    Ok(())
 }

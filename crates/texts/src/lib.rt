@@ -1,5 +1,6 @@
 // Texts in a file: a length byte, and as many bytes.
 #![tactic(auto)]
+
 ghost use Rattle.std.specs.Prelude.{◌≡◌, ◌≤◌, ◌<◌, length, get_or};
 ghost use Rattle.texts.specs.Places.{text_at, start_from, seek};
 

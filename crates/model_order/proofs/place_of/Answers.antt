@@ -13,12 +13,11 @@ returns-then-text_is c =
     ∙ laws.place_here _ _ _ _ c.text_is.ensures _ (omega arith) c.if-text_is.true)
 
 pub loop-place-preserved : goal.loop-place-preserved
-loop-place-preserved c =
-    (
-      c.loop-place.invariant.0 ∙ laws.place_later _ _ _ _ c.text_is.ensures _ _ (omega arith)
-          c.if-text_is.false (omega arith) ∙ laws.place_left _ _ _ _ (omega arith),
-      (omega arith, omega arith),
-    )
+loop-place-preserved c = (
+  c.loop-place.invariant.0 ∙ laws.place_later _ _ _ _ c.text_is.ensures _ _ (omega arith)
+      c.if-text_is.false (omega arith) ∙ laws.place_left _ _ _ _ (omega arith),
+  (omega arith, omega arith),
+)
 
 pub returns : goal.returns
 returns c = sym (c.loop-place.invariant.0 ∙ laws.place_end _ _ _ _ _ (omega arith))

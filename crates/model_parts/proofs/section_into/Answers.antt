@@ -17,12 +17,11 @@ returns-in_default-y c =
     c.loop-left-test.true c.in_default-y.is)
 
 pub loop-left-preserved : goal.loop-left-preserved
-loop-left-preserved c =
-    (
-      c.loop-left.invariant.0 ∙ laws.fill_more _ _ _ _ _ _ _ c.part_at-y.ensures c.put.ensures _ c.loop-left-test.true
-          c.in-To.is,
-      omega arith,
-    )
+loop-left-preserved c = (
+  c.loop-left.invariant.0 ∙ laws.fill_more _ _ _ _ _ _ _ c.part_at-y.ensures c.put.ensures _ c.loop-left-test.true
+      c.in-To.is,
+  omega arith,
+)
 
 pub returns : goal.returns
 returns c = sym (c.loop-left.invariant.0 ∙ laws.fill_end _ _ _ _ _ _ _ _ c.loop-left-test.false)

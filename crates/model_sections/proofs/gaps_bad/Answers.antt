@@ -18,12 +18,11 @@ returns-then-gap-gt86400 c =
     c.if-gap-gt86400.true)
 
 pub loop-j-preserved : goal.loop-j-preserved
-loop-j-preserved c =
-    (
-      c.loop-j.invariant.0 ∙ laws.gaps_next _ _ _ c.u32_at-x.ensures c.in-Is.is _ (omega arith)
-          c.if-gap-gt86400.false ∙ laws.gaps_left _ _ _ (omega arith),
-      omega arith,
-    )
+loop-j-preserved c = (
+  c.loop-j.invariant.0 ∙ laws.gaps_next _ _ _ c.u32_at-x.ensures c.in-Is.is _ (omega arith)
+      c.if-gap-gt86400.false ∙ laws.gaps_left _ _ _ (omega arith),
+  omega arith,
+)
 
 pub returns : goal.returns
 returns c = sym (c.loop-j.invariant.0 ∙ laws.gaps_end _ _ _ _ (omega arith))

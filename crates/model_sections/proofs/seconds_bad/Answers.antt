@@ -23,12 +23,11 @@ returns-then-second-last c =
     c.if-horizon-second.false c.if-second-last.true)
 
 pub loop-j-preserved : goal.loop-j-preserved
-loop-j-preserved c =
-    (
-      c.loop-j.invariant.0 ∙ laws.seconds_next _ _ _ _ _ c.u32_at-x.ensures c.in-Is.is _ (omega arith)
-          c.if-horizon-second.false c.if-second-last.false ∙ laws.seconds_left _ _ _ _ _ (omega arith),
-      omega arith,
-    )
+loop-j-preserved c = (
+  c.loop-j.invariant.0 ∙ laws.seconds_next _ _ _ _ _ c.u32_at-x.ensures c.in-Is.is _ (omega arith)
+      c.if-horizon-second.false c.if-second-last.false ∙ laws.seconds_left _ _ _ _ _ (omega arith),
+  omega arith,
+)
 
 pub returns : goal.returns
 returns c = sym (c.loop-j.invariant.0 ∙ laws.seconds_end _ _ _ _ _ _ (omega arith))

@@ -13,12 +13,11 @@ returns-in_default c =
     c.in_default.is)
 
 pub loop-j-preserved : goal.loop-j-preserved
-loop-j-preserved c =
-    (
-      c.loop-j.invariant.0 ∙ laws.parts_next _ _ _ _ _ _ c.part_check-x.ensures _ (omega arith) c.in-To.is
-          ∙ laws.parts_left _ _ _ _ _ _ (omega arith),
-      omega arith,
-    )
+loop-j-preserved c = (
+  c.loop-j.invariant.0 ∙ laws.parts_next _ _ _ _ _ _ c.part_check-x.ensures _ (omega arith) c.in-To.is
+      ∙ laws.parts_left _ _ _ _ _ _ (omega arith),
+  omega arith,
+)
 
 pub returns : goal.returns
 returns c = sym (c.loop-j.invariant.0 ∙ laws.parts_end _ _ _ _ _ _ _ (omega arith))

@@ -12,12 +12,11 @@ returns-then-id_is c =
     (sym c.id_is.ensures ∙ c.if-id_is.true))
 
 pub loop-i-preserved : goal.loop-i-preserved
-loop-i-preserved c =
-    (
-      c.loop-i.invariant.0 ∙ laws.seen_later _ _ _ _ _ _ c.loop-i-test.true refl
-          (sym c.id_is.ensures ∙ c.if-id_is.false),
-      omega arith,
-    )
+loop-i-preserved c = (
+  c.loop-i.invariant.0 ∙ laws.seen_later _ _ _ _ _ _ c.loop-i-test.true refl
+      (sym c.id_is.ensures ∙ c.if-id_is.false),
+  omega arith,
+)
 
 pub returns : goal.returns
 returns c = sym (c.loop-i.invariant.0 ∙ laws.seen_none _ _ _ _ _ c.loop-i-test.false)

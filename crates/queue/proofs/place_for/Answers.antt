@@ -9,17 +9,16 @@ use Rattle.queue.proofs.Laws as laws
 use Rattle.queue.proofs.place_for.Goals as goal
 
 pub loop-low-init : goal.loop-low-init
-loop-low-init c =
-    (
-      search rules,
-      (
-        search rules,
-        λ l x ln s rep. (
-          order.pass_none second_of x (in_order second_of l),
-          order.ahead_none second_of x (in_order second_of l) c.args.n (omega (arith, order.order_length second_of l)),
-        ),
-      ),
-    )
+loop-low-init c = (
+  search rules,
+  (
+    search rules,
+    λ l x ln s rep. (
+      order.pass_none second_of x (in_order second_of l),
+      order.ahead_none second_of x (in_order second_of l) c.args.n (omega (arith, order.order_length second_of l)),
+    ),
+  ),
+)
 
 pub loop-low-preserved-then-a-first : goal.loop-low-preserved-then-a-first
 loop-low-preserved-then-a-first c =

@@ -13,12 +13,11 @@ pub loop-x-preserved : goal.loop-x-preserved
 loop-x-preserved c = (omega (arith, digits.length_step c.loop-x.x c.loop-x-test.true (omega arith)), omega arith)
 
 pub returns : goal.returns
-returns c =
-    (
-      omega (arith, digits.length_small c.loop-x.x c.loop-x-test.false),
-      omega (
-        arith,
-        digits.length_small c.loop-x.x c.loop-x-test.false,
-        digits.at_most c.args.n,
-      ),
-    )
+returns c = (
+  omega (arith, digits.length_small c.loop-x.x c.loop-x-test.false),
+  omega (
+    arith,
+    digits.length_small c.loop-x.x c.loop-x-test.false,
+    digits.at_most c.args.n,
+  ),
+)

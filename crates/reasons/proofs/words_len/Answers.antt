@@ -7,8 +7,7 @@ use Rattle.reasons.proofs.words_len.Goals as goal
 
 pub returns : goal.returns
 unfolding words_file flat
-returns c =
-    (
+returns c = (
   c.text_len.ensures.0 ∙ ap (λ (t : Text). length t) c.words_start.ensures,
   c.text_len.ensures.1,
 )

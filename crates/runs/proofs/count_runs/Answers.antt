@@ -15,26 +15,28 @@ loop-k-init c = (search rules, (search rules, λ l held. sym (zero-add _)))
 pub loop-k-preserved : goal.loop-k-preserved
 loop-k-preserved c =
     let a = c.args in let l = c.loop-k in
-    elim c.if-run_of.branch [ then-run_of w ↦ (
-      omega arith,
-      (
+    elim c.if-run_of.branch [
+      | then-run_of w ↦ (
         omega arith,
-        λ m held. rw w.many-is (l.invariant.1.1 m held
-            ∙ laws.count_on l.many (laws.counted_hit a.a.now a.n m held (run_of a.automation)
-            (laws.run_of_blind a.automation) l.k c.loop-k-test.true
-            (sym c.run_of.ensures ∙ w.if-run_of.true))),
-      ),
-    )
-    | else-run_of w ↦ (
-      omega arith,
-      (
+        (
+          omega arith,
+          λ m held. rw w.many-is (l.invariant.1.1 m held
+              ∙ laws.count_on l.many (laws.counted_hit a.a.now a.n m held (run_of a.automation)
+              (laws.run_of_blind a.automation) l.k c.loop-k-test.true
+              (sym c.run_of.ensures ∙ w.if-run_of.true))),
+        ),
+      )
+      | else-run_of w ↦ (
         omega arith,
-        λ m held. rw w.many-is (l.invariant.1.1 m held
-            ∙ ap (λ i. l.many + i) (laws.counted_pass a.a.now a.n m held (run_of a.automation)
-            (laws.run_of_blind a.automation) l.k c.loop-k-test.true
-            (sym c.run_of.ensures ∙ w.if-run_of.false))),
-      ),
-    ) ]
+        (
+          omega arith,
+          λ m held. rw w.many-is (l.invariant.1.1 m held
+              ∙ ap (λ i. l.many + i) (laws.counted_pass a.a.now a.n m held (run_of a.automation)
+              (laws.run_of_blind a.automation) l.k c.loop-k-test.true
+              (sym c.run_of.ensures ∙ w.if-run_of.false))),
+        ),
+      )
+    ]
 
 pub returns : goal.returns
 returns c =

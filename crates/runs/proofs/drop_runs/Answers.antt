@@ -8,18 +8,17 @@ use Rattle.runs.proofs.Laws as laws
 use Rattle.runs.proofs.drop_runs.Goals as goal
 
 pub loop-k-init : goal.loop-k-init
-loop-k-init c =
+loop-k-init c = (
+  search rules,
+  (
+    search rules,
     (
-      search rules,
-      (
-        search rules,
-        (
-          refl,
-          λ l held. laws.kept_first (other c.args.automation) c.args.a.now c.args.n
-              l held,
-        ),
-      ),
-    )
+      refl,
+      λ l held. laws.kept_first (other c.args.automation) c.args.a.now c.args.n
+          l held,
+    ),
+  ),
+)
 
 pub loop-k-preserved-then-run_of : goal.loop-k-preserved-then-run_of
 loop-k-preserved-then-run_of c =

@@ -5,6 +5,6 @@ pub returns : goal.returns
 unfolding run_at
 returns c =
     rw (
-  c.phase_at-phase.ensures,
-  c.places_at-places.ensures,
-)
+      c.phase_at-phase.ensures,
+      c.places_at-places.ensures,
+    )

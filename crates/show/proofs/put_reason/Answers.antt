@@ -9,12 +9,11 @@ pub loop-i-init : goal.loop-i-init
 loop-i-init c = (laws.nothing _ _, search rules)
 
 pub loop-i-preserved : goal.loop-i-preserved
-loop-i-preserved c =
-    (
-      laws.is (laws.next (render c.args.f.now c.args.r) c.loop-i.i _ c.byte_at.ensures (omega arith))
-          (laws.both c.loop-i.invariant.0 c.put_byte-m.ensures),
-      omega arith,
-    )
+loop-i-preserved c = (
+  laws.is (laws.next (render c.args.f.now c.args.r) c.loop-i.i _ c.byte_at.ensures (omega arith))
+      (laws.both c.loop-i.invariant.0 c.put_byte-m.ensures),
+  omega arith,
+)
 
 pub shape_of-out : goal.shape_of-out
 shape_of-out c = c.loop-i.invariant.0.same
