@@ -395,15 +395,15 @@ module _ (s : List ℕ) (e : Section) (ts : List Text) (es : List Entity) (g : G
 
   trigger_puts : (p : ℕ) (t : Trigger) (q : ℕ) → TriggerAt ts s p t q → Puts (add_trigger_m s e p) (trigger_reads t)
   unfolding trigger_reads absent
-  trigger_puts p t q f = cases t.note (place_m s (past s p 14)) refl f.note_at
+  trigger_puts p t q f = cases (place_m s (past s p 14)) t.note refl f.note_at
     where
-      cases : (o : Option Text) (n : ℕ) → place_m s (past s p 14) ≡ n → Value? ts n o →
+      cases : (n : ℕ) (o : Option Text) → place_m s (past s p 14) ≡ n → Value? ts n o →
           Puts (add_trigger_m s e p) (if absent o then t.entity ∷ [] else [])
-      cases none n d (found.absent h) =
+      cases n none d (found.absent h) =
           puts_list (add_trigger_m s e p) _ _ (ap (λ (y : Text). y ∷ []) (sym f.is_entity))
           (puts_same (add_entity_m s e f.x) (add_trigger_m s e p) (T f.x ∷ [])
           (λ set. laws.trigger_yes s e p set refl (sym d) h (sym f.at_entity)) (puts_entity f.x f.is_in))
-      cases (some y) n d (found.present h k) = puts_same (λ set. set) (add_trigger_m s e p) []
+      cases n (some y) d (found.present h k) = puts_same (λ set. set) (add_trigger_m s e p) []
           (λ set. laws.trigger_no s e p set refl (sym d) h) puts_none
 
   triggers_flat : (l : List Trigger) → flat trigger_reads l ≡ each (λ t. t.entity) (keep (λ t. absent t.note) l)

@@ -158,7 +158,7 @@ module _ (s : List ℕ) (ts : List Text) (same : (i j : ℕ) → i < length ts �
   mismatch_agrees : (c : ℕ) (ps : List Predicate) (k p : ℕ) (t : Trigger) (q : ℕ) → counted (predicate ts) s c ≡ got ps k →
       TriggerAt ts s p t q → mismatch_m s c p ≡ mismatched ps t
   unfolding mismatch_m mismatched absent present_and
-  mismatch_agrees c ps k p t q e f = noted t.note (place_m s (past s p 14)) f.note_at
+  mismatch_agrees c ps k p t q e f = noted (place_m s (past s p 14)) t.note f.note_at
     where
       n : Counted (predicate ts) s c ps k
       n = counted_found (predicate ts) e
@@ -169,18 +169,18 @@ module _ (s : List ℕ) (ts : List Text) (same : (i j : ℕ) → i < length ts �
           rw (f.at_entity, place_got s c n.is_count, past_is s (u16_wide s c n.is_count), f.is_entity)
           (clashes_agree f.x v n.count n.start ps k f.is_in h n.are_values)
 
-      aimed : (o : Option Text) (v : ℕ) → Value? ts v o →
+      aimed : (v : ℕ) (o : Option Text) → Value? ts v o →
           (if eqb v 65535 then false else clashes_m s (place_m s p) v (place_m s c) (past s c 2))
           ≡ present_and (λ to. any (clash (state t.entity to)) ps) o
-      aimed none v (found.absent h) = rw (eq-eqb v 65535 h)
-      aimed (some y) v (found.present h i) = rw (ne_eqb v 65535 h) (clashing v i)
+      aimed v none (found.absent h) = rw (eq-eqb v 65535 h)
+      aimed v (some y) (found.present h i) = rw (ne_eqb v 65535 h) (clashing v i)
 
-      noted : (o : Option Text) (m : ℕ) → Value? ts m o →
+      noted : (m : ℕ) (o : Option Text) → Value? ts m o →
           (if eqb m 65535 then (if eqb (place_m s (past s p 4)) 65535 then false
           else clashes_m s (place_m s p) (place_m s (past s p 4)) (place_m s c) (past s c 2)) else false)
           ≡ (absent o && present_and (λ to. any (clash (state t.entity to)) ps) t.to)
-      noted none m (found.absent h) = rw (eq-eqb m 65535 h) (aimed t.to (place_m s (past s p 4)) f.to_at)
-      noted (some y) m (found.present h i) = rw (ne_eqb m 65535 h)
+      noted m none (found.absent h) = rw (eq-eqb m 65535 h) (aimed (place_m s (past s p 4)) t.to f.to_at)
+      noted m (some y) (found.present h i) = rw (ne_eqb m 65535 h)
 
   -- all triggers of an automation
   pub mismatched_agrees : (p : ℕ) (r : Automation) → RuleAt ts s p r →
@@ -201,26 +201,26 @@ module _ (s : List ℕ) (ts : List Text) (same : (i j : ℕ) → i < length ts �
   sets_agrees : (star x v p : ℕ) (w : Write) (t : Trigger) (q : ℕ) → x < length ts → w.entity ≡ T x →
       Value star v w.value → TriggerAt ts s p t q → sets_off_m s star x v p ≡ sets_off w t
   unfolding sets_off_m sets_off absent absent_or
-  sets_agrees star x v p w t q h i val f = noted t.note (place_m s (past s p 14)) f.note_at
+  sets_agrees star x v p w t q h i val f = noted (place_m s (past s p 14)) t.note f.note_at
     where
       entity_is : eqb (place_m s p) x ≡ eq_t t.entity w.entity
       entity_is = rw (f.at_entity, f.is_entity, i) (sym (same f.x x f.is_in h))
 
-      target : (o : Option Text) (n : ℕ) → Value? ts n o →
+      target : (n : ℕ) (o : Option Text) → Value? ts n o →
           (if eqb n 65535 then true else eqb n v) ≡ absent_or (λ y. eq_t y w.value) o
-      target none n (found.absent k) = rw (eq-eqb n 65535 k)
-      target (some y) n (found.present k m) = rw (ne_eqb n 65535 k) (val.equals n m)
+      target n none (found.absent k) = rw (eq-eqb n 65535 k)
+      target n (some y) (found.present k m) = rw (ne_eqb n 65535 k) (val.equals n m)
 
       if_or : (a b : Bool) → (if a then true else b) ≡ (a || b)
       if_or true b = refl
       if_or false b = refl
 
-      noted : (o : Option Text) (m : ℕ) → Value? ts m o →
+      noted : (m : ℕ) (o : Option Text) → Value? ts m o →
           (if eqb m 65535
           then (if eqb (place_m s p) x then (if eqb v star then true else if eqb (place_m s (past s p 4)) 65535 then true
           else eqb (place_m s (past s p 4)) v) else false) else false)
           ≡ (absent o && eq_t t.entity w.entity && (is_star w.value || absent_or (λ y. eq_t y w.value) t.to))
-      noted none m (found.absent k) =
+      noted m none (found.absent k) =
           rw (eq-eqb m 65535 k) (
           if_and (eqb (place_m s p) x) (if eqb v star then true else if eqb (place_m s (past s p 4)) 65535 then true
           else eqb (place_m s (past s p 4)) v)
@@ -230,8 +230,8 @@ module _ (s : List ℕ) (ts : List Text) (same : (i j : ℕ) → i < length ts �
           if_or (eqb v star) (if eqb (place_m s (past s p 4)) 65535 then true else eqb (place_m s (past s p 4)) v)
           ∙ ap (λ (b : Bool). b || (if eqb (place_m s (past s p 4)) 65535 then true else eqb (place_m s (past s p 4)) v))
           val.stars
-          ∙ ap (λ (b : Bool). is_star w.value || b) (target t.to (place_m s (past s p 4)) f.to_at)))
-      noted (some y) m (found.present k n) = rw (ne_eqb m 65535 k)
+          ∙ ap (λ (b : Bool). is_star w.value || b) (target (place_m s (past s p 4)) t.to f.to_at)))
+      noted m (some y) (found.present k n) = rw (ne_eqb m 65535 k)
 
   -- the write can set off a trigger of the automation at a position
   pub leads_agrees : (star x v p : ℕ) (w : Write) (r : Automation) → x < length ts → w.entity ≡ T x →

@@ -8,9 +8,9 @@ use Rattle.lint_collect.proofs.cycle_writes.Given as goal
 abbrev pub invariant-loop-i : goal.invariant-loop-i
 invariant-loop-i l =
     (z y : Walked) →
-    cycle_writes_m l.s (record { l.count = l.many; starts = l.entities; end = z }) (record { l.count = l.count; starts = l.rules; end = y })
-    l.set ≡ cycle_writes_from l.s (record { l.count = l.many; starts = l.entities; end = z })
-    (record { l.count = l.count; starts = l.rules; end = y }) l.set (l.count - l.i) l.i l.writes
+    cycle_writes_m l.s (record { count = l.many; starts = l.entities; end = z }) (record { count = l.count; starts = l.rules; end = y })
+    l.set ≡ cycle_writes_from l.s (record { count = l.many; starts = l.entities; end = z })
+    (record { count = l.count; starts = l.rules; end = y }) l.set (l.count - l.i) l.i l.writes
 
 abbrev pub decreases-loop-i : goal.decreases-loop-i
 decreases-loop-i l = l.count - l.i

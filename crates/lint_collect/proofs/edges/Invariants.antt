@@ -9,7 +9,7 @@ use Rattle.lint_collect.proofs.edges.Given as goal
 
 abbrev pub invariant-loop-i : goal.invariant-loop-i
 invariant-loop-i l =
-    edges_m l.s l.star (section_of l.rules l.extent) ≡ fill_m (λ l.i. row_m l.s l.star (section_of l.rules l.extent) (walk_m l.s (get_or l.rules l.i 0)))
+    edges_m l.s l.star (section_of l.rules l.extent) ≡ fill_m (λ i. row_m l.s l.star (section_of l.rules l.extent) (walk_m l.s (get_or l.rules i 0)))
     (l.count - l.i) l.i l.start
 
 abbrev pub decreases-loop-i : goal.decreases-loop-i

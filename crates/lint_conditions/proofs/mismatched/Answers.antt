@@ -11,12 +11,12 @@ loop-left-init c =
 pub returns-then-not-mismatch : goal.returns-then-not-mismatch
 returns-then-not-mismatch c =
     sym (c.loop-left.invariant ∙ laws.all_fails _ _ _ _ c.loop-left-test.true
-    (sym c.mismatch.ensures ∙ laws.c.if-not-mismatch.true))
+    (sym c.mismatch.ensures ∙ c.if-not-mismatch.true))
 
 pub loop-left-preserved : goal.loop-left-preserved
 loop-left-preserved c =
     c.loop-left.invariant ∙ laws.all_later _ _ _ _ c.loop-left-test.true
-    (sym c.mismatch.ensures ∙ laws.c.if-not-mismatch.false) c.past-p-in-loop-left.ensures
+    (sym c.mismatch.ensures ∙ c.if-not-mismatch.false) c.past-p-in-loop-left.ensures
 
 pub returns : goal.returns
 returns c = sym (c.loop-left.invariant ∙ laws.all_done _ _ _ _ c.loop-left-test.false)

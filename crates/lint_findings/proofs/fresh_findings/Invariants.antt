@@ -11,8 +11,8 @@ use Rattle.lint_findings.proofs.fresh_findings.Given as goal
 abbrev pub invariant-loop-k : goal.invariant-loop-k
 invariant-loop-k l =
     ((i : List ℕ) → pushes (fresh_items l.s l.a (section_of l.entities l.extent) l.reads) (board l.initial.findings i l.initial.out)
-    ≡ pushes (items_numbers_m (λ l.k. only_if (stale_here_m l.s (section_of l.entities l.extent) l.reads l.k)
-    (finding (about_m l.a 6 1 l.k l.a.line l.a.column))) (l.count - l.k) l.k) (board l.findings i l.out))
+    ≡ pushes (items_numbers_m (λ k. only_if (stale_here_m l.s (section_of l.entities l.extent) l.reads k)
+    (finding (about_m l.a 6 1 k l.a.line l.a.column))) (l.count - l.k) l.k) (board l.findings i l.out))
     × (length l.findings ≡ length l.initial.findings)
 
 abbrev pub decreases-loop-k : goal.decreases-loop-k

@@ -1,6 +1,6 @@
 use borrow.Author.Rules.{rules}
 use mathlib.Core.Path.{◌≡◌}
-use mathlib.Core.List.{List, ◌∷◌}
+use mathlib.Core.List.{[], List, ◌∷◌}
 use Prim.Native.Nat.{ℕ, ◌-◌}
 use lib.ListN.{length, get_or}
 use Rattle.lint_areas.specs.Areas.{board, pushes, only_if, interaction}
@@ -11,9 +11,9 @@ use Rattle.lint_findings.proofs.interactions_of.Given as goal
 abbrev pub invariant-loop-k : goal.invariant-loop-k
 invariant-loop-k l =
     ((f : List ℕ) →
-    pushes (items_numbers_m (λ l.k. only_if (leads_m l.s l.star l.x l.v (get_or l.rules l.k 0)) (interaction (l.from ∷ l.k ∷ l.e ∷ []))) (l.count - 0)
+    pushes (items_numbers_m (λ k. only_if (leads_m l.s l.star l.x l.v (get_or l.rules k 0)) (interaction (l.from ∷ k ∷ l.e ∷ []))) (l.count - 0)
     0) (board f l.initial.interactions l.initial.out) ≡ pushes (items_numbers_m
-    (λ l.k. only_if (leads_m l.s l.star l.x l.v (get_or l.rules l.k 0)) (interaction (l.from ∷ l.k ∷ l.e ∷ []))) (l.count - l.k) l.k)
+    (λ k. only_if (leads_m l.s l.star l.x l.v (get_or l.rules k 0)) (interaction (l.from ∷ k ∷ l.e ∷ []))) (l.count - l.k) l.k)
     (board f l.interactions l.out)) × (length l.interactions ≡ length l.initial.interactions)
 
 abbrev pub decreases-loop-k : goal.decreases-loop-k

@@ -12,7 +12,7 @@ abbrev pub invariant-loop-k : goal.invariant-loop-k
 invariant-loop-k l =
     (pushes (writes_items l.s (names_by l.entities l.invariants l.given) (section_of l.rules l.given.rules) l.a (walk_by l.list l.count))
     (board l.initial.findings l.initial.interactions l.initial.out) ≡ pushes (items_numbers_m
-    (λ l.k. write_items l.s (names_by l.entities l.invariants l.given) (section_of l.rules l.given.rules) l.a (get_or l.list l.k 0)) (l.count - l.k) l.k)
+    (λ k. write_items l.s (names_by l.entities l.invariants l.given) (section_of l.rules l.given.rules) l.a (get_or l.list k 0)) (l.count - l.k) l.k)
     (board l.findings l.interactions l.out)) × ((length l.findings ≡ length l.initial.findings)
     × (length l.interactions ≡ length l.initial.interactions))
 

@@ -10,7 +10,7 @@ use Rattle.lint_notes.proofs.note_findings.Given as goal
 abbrev pub invariant-loop-j : goal.invariant-loop-j
 invariant-loop-j l =
     ((k : List ℕ) → pushes (note_items l.set l.line l.column l.reasons l.count) (board l.initial.findings k l.initial.out)
-    ≡ pushes (items_numbers_m (λ l.j. finding (note_m l.set l.line l.column l.reasons l.j) ∷ []) (l.count - l.j) l.j) (board l.findings k l.out))
+    ≡ pushes (items_numbers_m (λ j. finding (note_m l.set l.line l.column l.reasons j) ∷ []) (l.count - l.j) l.j) (board l.findings k l.out))
     × (length l.findings ≡ length l.initial.findings)
 
 abbrev pub decreases-loop-j : goal.decreases-loop-j

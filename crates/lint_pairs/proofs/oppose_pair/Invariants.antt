@@ -13,7 +13,7 @@ abbrev pub invariant-loop-k : goal.invariant-loop-k
 invariant-loop-k l =
     ((i : List ℕ) → pushes (pair_items l.s (names_by l.entities l.invariants l.given) l.set (walk_by l.list l.m) (walk_by l.others l.n))
     (board l.initial.findings i l.initial.out) ≡ pushes (items_numbers_m
-    (λ l.k. row_items l.s (names_by l.entities l.invariants l.given) l.set (walk_by l.others l.n) (get_or l.list l.k 0)) (l.m - l.k) l.k)
+    (λ k. row_items l.s (names_by l.entities l.invariants l.given) l.set (walk_by l.others l.n) (get_or l.list k 0)) (l.m - l.k) l.k)
     (board l.findings i l.out)) × (length l.findings ≡ length l.initial.findings)
 
 abbrev pub decreases-loop-k : goal.decreases-loop-k

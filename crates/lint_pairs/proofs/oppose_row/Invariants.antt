@@ -13,7 +13,7 @@ abbrev pub invariant-loop-k : goal.invariant-loop-k
 invariant-loop-k l =
     ((i : List ℕ) → pushes (row_items l.s (names_by l.entities l.invariants l.given) l.set (walk_by l.list l.count) l.at)
     (board l.initial.findings i l.initial.out) ≡ pushes (items_numbers_m
-    (λ l.k. oppose_items l.s (names_by l.entities l.invariants l.given) l.set l.at (get_or l.list l.k 0)) (l.count - l.k) l.k) (board l.findings i l.out))
+    (λ k. oppose_items l.s (names_by l.entities l.invariants l.given) l.set l.at (get_or l.list k 0)) (l.count - l.k) l.k) (board l.findings i l.out))
     × (length l.findings ≡ length l.initial.findings)
 
 abbrev pub decreases-loop-k : goal.decreases-loop-k
