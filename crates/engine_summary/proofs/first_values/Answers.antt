@@ -26,4 +26,4 @@ pub returns : goal.returns
 returns c =
     let z : c.loop-e.e ≡ c.args.n =
     omega (arith, c.loop-e-test.false, c.loop-e.invariant.1.0) in
-    subst (λ (k : ℕ). Firsts c.args.t1 k c.loop-e.places) z c.loop-e.invariant.0
+    subst (λ (k : ℕ). Firsts c.args.values k c.loop-e.places) z c.loop-e.invariant.0
