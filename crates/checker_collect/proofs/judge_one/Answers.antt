@@ -11,5 +11,5 @@ pub returns : goal.returns
 returns c =
     laws.gathers_one c.judge-r.result c.judge-r.ensures c.capped.ensures c.two_at-id.ensures.0
     c.push_violation-violations.ensures c.unknown_reasons-doubt.ensures c.insert_told-unknown.ensures
-    c.incomplete_reasons-lack.ensures c.insert_told-incomplete.ensures c.push_violation-violations.auto.0
-    c.insert_told-unknown.auto.1.0 c.insert_told-incomplete.auto.1.0
+    c.incomplete_reasons-lack.ensures c.insert_told-incomplete.ensures c.push_violation-violations.auto.v
+    c.insert_told-unknown.auto.a c.insert_told-incomplete.auto.a

@@ -25,9 +25,9 @@ loop-k-preserved c =
     let inv = c.loop-k.invariant in
     let skipped = laws.skips _ _ _ _ _ _ _ _ _ _ inv.1.1 _ _ inv.0 c.next_to_read-k.ensures in
     let turn = c.next_turn-shown.ensures in (
-      laws.goes _ _ _ _ _ _ _ _ _ _ skipped _ _ c.if-n-k.false turn.1 _ _ refl c.failed.ensures
+      laws.goes _ _ _ _ _ _ _ _ _ _ skipped _ _ c.if-n-k.false turn.turned _ _ refl c.failed.ensures
           c.if-failed.false,
-      (turn.0, inv.1.1),
+      (turn.same, inv.1.1),
     )
 
 pub returns-then-n-k : goal.returns-then-n-k
@@ -40,5 +40,5 @@ pub returns-then-failed : goal.returns-then-failed
 returns-then-failed c =
     let inv = c.loop-k.invariant in
     let skipped = laws.skips _ _ _ _ _ _ _ _ _ _ inv.1.1 _ _ inv.0 c.next_to_read-k.ensures in
-    laws.fails _ _ _ _ _ _ _ _ _ _ skipped _ _ c.if-n-k.false c.next_turn-shown.ensures.1 _ _ refl
+    laws.fails _ _ _ _ _ _ _ _ _ _ skipped _ _ c.if-n-k.false c.next_turn-shown.ensures.turned _ _ refl
     c.failed.ensures _ refl c.if-failed.true

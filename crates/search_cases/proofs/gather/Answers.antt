@@ -11,7 +11,7 @@ pub merge-requires : goal.merge-requires
 merge-requires c =
     laws.merge_room _ _ _ _ _ (omega (arith, c.min_usize-more.ensures.most))
     (omega (arith, c.min_usize-j.ensures.most, c.min_usize-more.ensures.most))
-    (omega (arith, c.merge-first.auto.1.0, c.requires))
+    (omega (arith, c.merge-first.auto.a, c.requires))
 
 pub returns : goal.returns
 returns c =
