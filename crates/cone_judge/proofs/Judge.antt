@@ -431,6 +431,24 @@ module _ (in_e in_a : Text → Bool) where
   and_false true = refl
   and_false false = refl
 
+  guard_still : (id x v : Text) (ps : List Predicate) (c : List Cell) (m : Memory) (t : Trace)
+      → present_and (writes x v) t.change ≡ false → read (guard id x v ps) c (after t c) t m ≡ quiet m
+  unfolding read fails_if
+  guard_still id x v ps c m t q =
+      rw (q, and_false (is_action t))
+          (λ j. record {
+            failure = none;
+            memory = record {
+              deadline = m.deadline;
+              was_when = m.was_when;
+              unknown_predicate =
+                  or_false m.unknown_predicate j;
+              unknown_at_deadline = m.unknown_at_deadline;
+              beyond_horizon =
+                  m.beyond_horizon;
+            };
+          })
+
   guard_view : (id x v : Text) (ps : List Predicate) → all in_e (names (guard id x v ps)) ≡ true
       → (c : List Cell) (l : List Trace) → headed l ≡ true
       → about (guard id x v ps) (read_all (guard id x v ps) c l) ≡ about (guard id x v ps)
@@ -452,20 +470,12 @@ module _ (in_e in_a : Text → Bool) where
 
       still : (c : List Cell) (m : Memory) (t : Trace) → kept t ≡ false → Unit {0}
           → read (guard id x v ps) c (after t c) t m ≡ quiet m
-      still c m t q s = unfold read fails_if in
-          (rw (none_writes t.change (kept_change t q), and_false (is_action t))
-          (λ j. record {
-            failure = none;
-            memory = record {
-              deadline = m.deadline;
-              was_when = m.was_when;
-              unknown_predicate =
-                  or_false m.unknown_predicate j;
-              unknown_at_deadline = m.unknown_at_deadline;
-              beyond_horizon =
-                  m.beyond_horizon;
-            };
-          }))
+      still c m t q s = guard_still id x v ps c m t (none_writes t.change (kept_change t q))
+
+  transition_still : (id x from to : Text) (c : List Cell) (m : Memory) (t : Trace)
+      → present_and (passes x from to) t.change ≡ false → read (transition id x from to) c (after t c) t m ≡ quiet m
+  unfolding read fails_if
+  transition_still id x from to c m t q = rw q
 
   transition_view : (id x from to : Text) → all in_e (names (transition id x from to)) ≡ true
       → (c : List Cell) (l : List Trace) → headed l ≡ true
@@ -489,7 +499,7 @@ module _ (in_e in_a : Text → Bool) where
 
       still : (c : List Cell) (m : Memory) (t : Trace) → kept t ≡ false → Unit {0}
           → read (transition id x from to) c (after t c) t m ≡ quiet m
-      still c m t q s = unfold read fails_if in (rw (none_passes t.change (kept_change t q)))
+      still c m t q s = transition_still id x from to c m t (none_passes t.change (kept_change t q))
 
   -- ---- response
 

@@ -77,6 +77,7 @@ use Rattle.engine_refinement.proofs.Pool.{pool_is, trigger_reason}
 use Rattle.engine_refinement.proofs.Update.{Over, log_at_is, now_is}
 use Rattle.engine_refinement.proofs.Runs.{row, id_is, run_good, run_is, carry_is}
 use Rattle.engine_refinement.proofs.Lists as lists
+use Rattle.engine_trigger.proofs.Laws as laws
 use Rattle.reasons.specs.Kinds as kinds
 
 -- ---- the queue and the runs don't meet
@@ -382,8 +383,8 @@ module _ (f x : List ℕ) (ts : List Text) (mo : Model) (tb : Tabled f x ts mo) 
         same = (matches_is f x ts mo tb y.trigger g.0 g.1.0 g.1.1).is v w
 
         by : Case (matches_m f v y.trigger) → Woke k r m
-        by (is_true b) = wakes (rw (e, present_and, g.1.1, found_trigger) (sym same ∙ b)) (rw (e, wake_phase_m, b))
-        by (is_false b) = stays (rw (e, present_and, g.1.1, found_trigger) (sym same ∙ b)) (rw (e, wake_phase_m, b))
+        by (is_true b) = wakes (rw (e, present_and, g.1.1, found_trigger) (sym same ∙ b)) (sym (laws.wake_yes f v k r m y _ e refl b))
+        by (is_false b) = stays (rw (e, present_and, g.1.1, found_trigger) (sym same ∙ b)) (sym (laws.wake_no f v k r m y _ e refl b))
 
     -- the definition's runs, with the first n woken
     abbrev to : Engine → ℕ → Engine

@@ -23,7 +23,7 @@ use Rattle.engine_fields.specs.Fields.{two, word, rules, about_rule}
 use Rattle.engine_state.specs.Changes.{uncertain_m}
 use Rattle.engine_evaluate.specs.Evaluate.{matches_m, any_m, all_m}
 use Rattle.engine_evaluate.specs.declared.Truth.{Truth}
-use Rattle.engine_evaluate.specs.declared.Truth.TheVariants.{Yes, Unknown}
+use Rattle.engine_evaluate.specs.declared.Truth.TheVariants.{Yes, No, Unknown}
 use Rattle.engine_evaluate.specs.declared.Judged.{Judged}
 use Rattle.engine_state.specs.declared.State.{State}
 use Rattle.engine_state.specs.declared.Move.{Move}
@@ -173,6 +173,10 @@ wake_all f v k {st} e d = states.knowing (λ c. wake_first_m f v (length c.runs)
 
 pub admit_is : (f x : List ℕ) (i : ℕ) (t g : Truth) (m : Machine) → t ≡ g → admit_m f x i g m ≡ admit_m f x i t m
 admit_is f x i t g m e = ap (λ z. admit_m f x i z m) (sym e)
+
+pub admit_no : (f x : List ℕ) (i : ℕ) (t : Truth) (m : Machine) → t ≡ No → m ≡ admit_m f x i t m
+unfolding admit_m
+admit_no f x i t m e = sym (ap (λ z. admit_m f x i z m) e)
 
 pub admit_unknown : (f x : List ℕ) (i : ℕ) (r : Reason) (m : Machine) → r ≡ about_rule f x i kinds.trigger_condition →
     uncertain_m f r m ≡ admit_m f x i Unknown m

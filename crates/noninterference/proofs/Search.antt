@@ -379,6 +379,15 @@ module _ (areas areas' : Areas) (m m' : Model) (cells cells' : List Cell)
   found_same (some w) none e = absurd (none_some (sym e))
   found_same (some w) (some w') e = refl
 
+  reasons_nil : (k : Model) (o : Search) → (verification_of k o).reasons ≡ [] → sorted_t o.reasons ≡ []
+  unfolding verification_of
+  reasons_nil k o r = r
+
+  status_is : (k : Model) (o : Search) → (verification_of k o).reasons ≡ [] →
+      (verification_of k o).status ≡ found_of o.witness []
+  unfolding verification_of
+  status_is k o r = ap (found_of o.witness) r
+
   pub verified_same : (v v' : Verification) → verified areas m cells ≡ answer v
       → verified areas' m' cells' ≡ answer v' → v.reasons ≡ [] → v'.reasons ≡ [] → witness_incomplete v ≡ []
       → witness_incomplete v' ≡ []
@@ -408,14 +417,10 @@ module _ (areas areas' : Areas) (m m' : Model) (cells cells' : List Cell)
       clean : (k : Model) (o : Search) → (verification_of k o).reasons ≡ [] → witness_incomplete (verification_of k o) ≡ []
           → Clean o
       clean k o r w = record {
-        no_reason = nil_sorted o.reasons (unfold verification_of in r);
+        no_reason = nil_sorted o.reasons (reasons_nil k o r);
         whole =
             λ q. sym (open_is k o) ∙ w;
       }
-
-      status_is : (k : Model) (o : Search) → (verification_of k o).reasons ≡ [] →
-          (verification_of k o).status ≡ found_of o.witness []
-      status_is k o r = unfold verification_of in (ap (found_of o.witness) (unfold verification_of in r))
 
       cases_is : (k : Model) (o : Search) → (verification_of k o).cases ≡ o.cases
       cases_is k o = unfold verification_of in refl

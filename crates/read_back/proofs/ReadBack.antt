@@ -78,6 +78,7 @@ module _ (ts : List Text) (s : List ℕ) where
   fit_end (v ∷ vs) e h k = (h.0, fit_end vs e h.1 k)
 
   one_fits : {i : Input} (l : List Input) → Memᴰ i l → Each (FitsInput ts) l → FitsInput ts i
+  one_fits {i = i} [] x'' h = elim x'' [ ]
   one_fits (x ∷ l) (Memᴰ.head e) h = subst (FitsInput ts) (sym e) h.0
   one_fits (x ∷ l) (Memᴰ.tail t) h = one_fits l t h.1
 

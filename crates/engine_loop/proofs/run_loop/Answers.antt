@@ -1,3 +1,4 @@
+use mathlib.Core.List.{[]}
 use mathlib.Core.Path.{refl}
 use native.Mathlib.Omega.{arith}
 use Rattle.engine_state.proofs.Laws.{same}
@@ -30,13 +31,13 @@ turn-s-requires c =
     )
 
 pub overflow_sub-left : goal.overflow_sub-left
-overflow_sub-left c = omega (arith, c.loop-stop_reason.inv.why_is.more c.loop-stop_reason-test.true)
+overflow_sub-left c = omega (arith, c.loop-stop_reason.invariant.why_is.more c.loop-stop_reason-test.true)
 
 pub why_stop-stop_reason-requires-in-loop-stop_reason : goal.why_stop-stop_reason-requires-in-loop-stop_reason
 why_stop-stop_reason-requires-in-loop-stop_reason c = omega (arith, c.turn-s.ensures.queue)
 
 pub loop-stop_reason-smaller : goal.loop-stop_reason-smaller
-loop-stop_reason-smaller c = omega (arith, c.loop-stop_reason.inv.why_is.more c.loop-stop_reason-test.true)
+loop-stop_reason-smaller c = omega (arith, c.loop-stop_reason.invariant.why_is.more c.loop-stop_reason-test.true)
 
 pub loop-stop_reason-preserved : goal.loop-stop_reason-preserved
 loop-stop_reason-preserved c =

@@ -4,7 +4,6 @@ use Rattle.engine_fields.proofs.Readable.{about_readable}
 use Rattle.engine_state.proofs.Laws.{same, wide}
 use Rattle.engine_state.proofs.Laws as states
 use Rattle.engine_trigger.proofs.Laws as laws
-use Rattle.engine_trigger.specs.Triggers.{admit_m}
 use borrow.Author.Rules.{rules}
 use Rattle.engine_trigger.proofs.admit.Goals as goal
 
@@ -30,9 +29,8 @@ returns-else-two_at-eq0 c =
     (same c.requires.1.0) (same c.requires.1.1.0) (same c.requires.1.1.1.0) (same c.requires.1.1.1.1.0))
 
 pub returns-in-No : goal.returns-in-No
-unfolding admit_m
 returns-in-No c =
-    states.moves (λ v n s. states.stay (λ k. laws.admit_is _ _ _ _ _ _ c.in-No.is) (same c.requires.1.0)
+    states.moves (λ v n s. states.stay (λ k. laws.admit_no c.args.f.now c.args.x.now c.args.i c.args.t _ c.in-No.is) (same c.requires.1.0)
     (same c.requires.1.1.0) (same c.requires.1.1.1.0) (same c.requires.1.1.1.1.0))
 
 pub returns-in-Unknown : goal.returns-in-Unknown

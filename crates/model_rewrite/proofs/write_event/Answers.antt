@@ -11,7 +11,7 @@ write_start-requires c =
 
 pub returns-then-kind-ne0 : goal.returns-then-kind-ne0
 returns-then-kind-ne0 c =
-    let a = c.args in laws.plain_wrote a.events.now a.k a.out.now c.write_start.new.1.1.0
+    let a = c.args in laws.plain_wrote a.events.now a.k a.out.now c.write_start.new.out
     c.write_start.ensures c.if-kind-ne0.true
 
 pub slice_bounds-write_places-count : goal.slice_bounds-write_places-count
@@ -27,6 +27,6 @@ write_places-requires c =
 
 pub returns : goal.returns
 returns c =
-    let a = c.args in laws.set_wrote a.events.now a.k a.out.now c.write_start.new.1.1.0
-    c.write_start.ensures c.if-kind-ne0.false c.requires.1.1 c.write_places.new.1.1.0 _ refl
+    let a = c.args in laws.set_wrote a.events.now a.k a.out.now c.write_start.new.out
+    c.write_start.ensures c.if-kind-ne0.false c.requires.1.1 c.write_places.new.out _ refl
     c.write_places.ensures
