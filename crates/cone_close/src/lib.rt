@@ -1,6 +1,7 @@
 // The cone, closed over sets: entities and automations by their numbers in the file, as bits. In each round the first
 // automation that isn't in yet and writes one of the entities comes in, and with it what it needs.
 #![tactic(auto)]
+
 ghost use Rattle.std.specs.Prelude.{◌≡◌, ◌≤◌, ◌<◌};
 ghost use Rattle.cone_close.specs.Rounds.{adds_m, first_m, round_m, closed_m};
 

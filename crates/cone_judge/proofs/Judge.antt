@@ -436,18 +436,18 @@ module _ (in_e in_a : Text → Bool) where
   unfolding read fails_if
   guard_still id x v ps c m t q =
       rw (q, and_false (is_action t))
-          (λ j. record {
-            failure = none;
-            memory = record {
-              deadline = m.deadline;
-              was_when = m.was_when;
-              unknown_predicate =
-                  or_false m.unknown_predicate j;
-              unknown_at_deadline = m.unknown_at_deadline;
-              beyond_horizon =
-                  m.beyond_horizon;
-            };
-          })
+      (λ j. record {
+        failure = none;
+        memory = record {
+          deadline = m.deadline;
+          was_when = m.was_when;
+          unknown_predicate =
+              or_false m.unknown_predicate j;
+          unknown_at_deadline = m.unknown_at_deadline;
+          beyond_horizon =
+              m.beyond_horizon;
+        };
+      })
 
   guard_view : (id x v : Text) (ps : List Predicate) → all in_e (names (guard id x v ps)) ≡ true
       → (c : List Cell) (l : List Trace) → headed l ≡ true

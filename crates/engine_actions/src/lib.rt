@@ -1,5 +1,6 @@
 // What a run's next action does.
 #![tactic(auto)]
+
 ghost use Rattle.std.specs.Prelude.{◌≡◌, ◌<◌};
 ghost use Rattle.reasons.specs.Kinds.{OneText};
 ghost use Rattle.engine_state.specs.Steps.{Moves, Does, goes, kept, told, still, FitsQa, FitsQar, FitsQau, Fits, by};

@@ -1,5 +1,6 @@
 // A run's next action, and each item of the queue.
 #![tactic(auto)]
+
 ghost use Rattle.std.specs.Prelude.{◌≡◌, ◌<◌};
 ghost use Rattle.engine_state.specs.Steps.{Moves, kept, told, Fits, by};
 ghost use Rattle.engine_dispatch.specs.Resume.{perform_m, go_on_m, going_m, resume_m};

@@ -1,6 +1,7 @@
 // Predicates, triggers, branches and actions of the model file, read in place.
 // A position is a word; one that would not fit is the largest word.
 #![tactic(auto)]
+
 ghost use Rattle.std.specs.Prelude.{◌≡◌, ◌+◌, ◌<◌};
 ghost use Rattle.engine_evaluate.specs.Evaluate.{
   number_m,

@@ -1,5 +1,6 @@
 // Reads of the model file in place, and of the table of words that the engine goes by (crate layout has its words).
 #![tactic(auto)]
+
 ghost use Rattle.std.specs.Prelude.{◌≡◌, ◌+◌, ◌*◌, ◌<◌, get_or};
 ghost use Rattle.engine_fields.specs.Fields.{
   two,

@@ -1,5 +1,6 @@
 // Handlers of the queue's items besides a run's actions: an input from outside, a restart, a timeout, a value that expires.
 #![tactic(auto)]
+
 ghost use Rattle.std.specs.Prelude.{◌<◌};
 ghost use Rattle.engine_state.specs.Steps.{Moves, Does, goes, kept, still, FitsQa, FitsAr, FitsQar, by};
 ghost use Rattle.engine_handlers.specs.Handlers.{wait_over_m, time_out_m, expire_m, go_stale_m, drop_all_m, external_m};

@@ -1,5 +1,6 @@
 // The loop of a simulation, from a table, events and starting values.
 #![tactic(auto)]
+
 ghost use Rattle.std.specs.Prelude.{◌*◌, ◌≤◌, length};
 ghost use Rattle.engine_state.specs.Steps.{Moves, Does, kept, told, still, Fits, by};
 ghost use Rattle.engine_loop.specs.Loop.{turn_m, Ends, horizon_m, Closes};

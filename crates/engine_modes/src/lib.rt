@@ -1,5 +1,6 @@
 // Runs that begin, as an automation's mode decides.
 #![tactic(auto)]
+
 ghost use Rattle.std.specs.Prelude.{◌≡◌, ◌<◌};
 ghost use Rattle.engine_state.specs.Steps.{Moves, kept, still, FitsAr, FitsQar, by};
 ghost use Rattle.engine_modes.specs.Modes.{new_run, begin_now_m, begin_later_m, stop_start_m, decide_m, carry_out_m};

@@ -1,6 +1,7 @@
 // The notes of parts that hold no list of actions as reasons, sorted as they are rendered, each once. The file was read
 // before, so that what is looked for is there; a part that is not there is passed over. The area has place for 300.
 #![tactic(auto)]
+
 ghost use Rattle.layout.specs.Sizes.{simulation_reason_words};
 ghost use Rattle.std.specs.Prelude.{◌≡◌, ◌≤◌, length};
 ghost use Rattle.reasons.specs.Reasons.{render};

@@ -1,5 +1,6 @@
 // A simulation from a table, events, starting values and the reasons so far.
 #![tactic(auto)]
+
 ghost use Rattle.layout.specs.Sizes.{simulation_reason_words};
 ghost use Rattle.std.specs.Prelude.{◌≡◌, ◌+◌, ◌*◌, ◌≤◌, length};
 ghost use Rattle.engine_state.specs.Steps.{Fits};

@@ -1,5 +1,6 @@
 // What stands in the queue before the loop, and whether its next item is taken.
 #![tactic(auto)]
+
 ghost use Rattle.std.specs.Prelude.{◌≡◌, ◌+◌, ◌*◌, ◌≤◌, ◌<◌, length};
 ghost use Rattle.engine_state.specs.Steps.{Moves, Does, goes, kept, still, FitsQ, FitsQa, by};
 ghost use Rattle.engine_schedule.specs.Next.{with_turn, Seen, next_m, Why};

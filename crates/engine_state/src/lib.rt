@@ -2,6 +2,7 @@
 // Three arrays belong to the state and are lent to the functions that need them: by entity the values, as text places, and
 // the versions, which count the writes; by automation the sequences, which count the runs that it has made.
 #![tactic(auto)]
+
 ghost use Rattle.layout.specs.Sizes.{simulation_reason_words};
 ghost use Rattle.std.specs.Prelude.{◌≡◌, ◌+◌, ◌*◌, ◌≤◌, ◌<◌, length};
 ghost use Rattle.reasons.specs.Readable.{Readable, HasText};

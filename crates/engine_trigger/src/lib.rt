@@ -1,5 +1,6 @@
 // Triggers: what a change of an entity sets off, runs that it wakes, and what follows the end of a run.
 #![tactic(auto)]
+
 ghost use Rattle.std.specs.Prelude.{◌≡◌, ◌*◌, ◌≤◌, ◌<◌, length};
 ghost use Rattle.engine_state.specs.Steps.{Moves, Does, goes, kept, told, still, FitsQr, FitsQar, Fits, by};
 ghost use Rattle.engine_trigger.specs.Runs.{released_m, phase_m, release_m, finish_m, wake_one_m, wake_m};

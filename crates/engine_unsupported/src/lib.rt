@@ -2,6 +2,7 @@
 // is looked for is there; a part that is not there is passed over. A file holds at most 64 notes: the area has place for
 // 300.
 #![tactic(auto)]
+
 ghost use Rattle.layout.specs.Sizes.{simulation_reason_words};
 ghost use Rattle.std.specs.Prelude.{◌≡◌, ℕ, ◌≤◌, ◌<◌, length, get_or};
 ghost use Rattle.reasons.specs.Lists.{Holds};

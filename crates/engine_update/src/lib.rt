@@ -1,5 +1,6 @@
 // Writes of a simulation, and what follows from them.
 #![tactic(auto)]
+
 ghost use Rattle.std.specs.Prelude.{◌<◌};
 ghost use Rattle.engine_state.specs.Steps.{Moves, Does, goes, kept, still, FitsQ, FitsQa, by};
 ghost use Rattle.engine_update.specs.Update.{expiry_m, changed_m, update_m};

@@ -1,5 +1,6 @@
 // Windows of the day: whether the window at a position of the file is open at a second of the simulation.
 #![tactic(auto)]
+
 ghost use Rattle.std.specs.Prelude.{◌≡◌, ◌<◌, ◌&&◌, ltb};
 ghost use Rattle.engine_spec.specs.Truth.{marked, day_before, is_open, moment_after};
 ghost use Rattle.engine_window.specs.Window.{open_m};

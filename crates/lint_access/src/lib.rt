@@ -1,6 +1,7 @@
 // What an automation reads and writes: sets of declared entities, by their number in the file. The positions of the model's
 // `many` entities are lent.
 #![tactic(auto)]
+
 ghost use Rattle.std.specs.Prelude.{◌≡◌, ◌≤◌, ◌<◌};
 ghost use Rattle.lint_walk.specs.Walks.{walk_by};
 ghost use Rattle.lint_access.specs.Sets.{

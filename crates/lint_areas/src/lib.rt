@@ -1,6 +1,7 @@
 // The findings and interactions in two lent areas of words: 14 words for a finding, 3 for an interaction.
 // The first insertion that its area has no place for is noted, and nothing is inserted after it.
 #![tactic(auto)]
+
 ghost use Rattle.std.specs.Prelude.{◌≡◌, ◌+◌, ◌*◌, ◌<◌, List, ◌∷◌, [], ℕ, length, replicate};
 ghost use Rattle.lint_areas.specs.Areas.{board, pushes, finding, interaction, only_if};
 

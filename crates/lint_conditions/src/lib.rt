@@ -1,5 +1,6 @@
 // What lint asks of predicates, triggers, actions, invariants and entities, on places in the file.
 #![tactic(auto)]
+
 ghost use Rattle.std.specs.Prelude.{◌≡◌, ◌≤◌, ◌<◌, ◌+◌, ◌-◌};
 ghost use Rattle.lint_walk.specs.Walks.{walk_by};
 ghost use Rattle.lint_conditions.specs.Context.{section_of, names_by};

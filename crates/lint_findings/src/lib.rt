@@ -1,5 +1,6 @@
 // The findings and interactions of each automation, in the order in which Rust adds them.
 #![tactic(auto)]
+
 ghost use Rattle.std.specs.Prelude.{◌≡◌, List, ℕ, ◌≤◌, ◌<◌};
 ghost use Rattle.lint_walk.specs.Walks.{walk_by};
 ghost use Rattle.lint_areas.specs.Areas.{board, pushes};

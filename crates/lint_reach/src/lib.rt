@@ -1,5 +1,6 @@
 // Sets of at most 32 places as bits, and reach: a square of yes-or-no cells, closed, and the components of its cycles.
 #![tactic(auto)]
+
 ghost use Rattle.std.specs.Prelude.{◌≡◌, ◌<◌, ◌≤◌, ◌^◌, ltb, length, take};
 ghost use Rattle.std.specs.Int.Bits.{bit_or};
 ghost use Rattle.std.specs.Int.Count.{ones};

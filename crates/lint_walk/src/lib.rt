@@ -1,6 +1,7 @@
 // Reading of an accepted model file by position: numbers, where parts end, and an automation's actions in the order of
 // Rust's walk. The file was read before, so that what is looked for is there; past the end of the file numbers are 0.
 #![tactic(auto)]
+
 ghost use Rattle.std.specs.Prelude.{◌≡◌, ◌+◌, ◌<◌, replicate};
 ghost use Rattle.lint_walk.specs.Raw.{
   byte_m,

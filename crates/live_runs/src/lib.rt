@@ -1,6 +1,7 @@
 // The number of live runs beside each automation. A run that waits or is queued is live too.
 // The functions that put runs into their area and take them out keep the numbers up, so that nobody has to count the runs.
 #![tactic(auto)]
+
 ghost use Rattle.std.specs.Prelude.{◌≡◌, ◌*◌, ◌-◌, ◌≤◌, ◌<◌, length};
 ghost use Rattle.areas.specs.Areas.{cleared};
 ghost use Rattle.runs.specs.Runs.{Pushed, Removed, Dropped};

@@ -1,5 +1,6 @@
 // The model file with other events: the sections before them, the new events section, the later sections.
 #![tactic(auto)]
+
 ghost use Rattle.std.specs.Prelude.{◌≡◌, ◌++◌, ◌+◌, ◌*◌, ◌≤◌, ◌<◌, length, drop};
 ghost use Rattle.model_spec.specs.Rewrite.{bytes2};
 ghost use Rattle.model_rewrite.specs.Span.{span_m, body_m, nowhere};

@@ -1,5 +1,6 @@
 // The lines of `validate`'s answer.
 #![tactic(auto)]
+
 ghost use Rattle.show.specs.Writing.{Written};
 ghost use Rattle.print_validate.specs.Answer.{validate_lines};
 

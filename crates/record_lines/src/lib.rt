@@ -1,6 +1,7 @@
 // The lines of the records of `simulate`, written behind the first n bytes of a lent area as the writers of `show` do.
 // x is the table of the file f (crate `engine_table`); texts are named by their places.
 #![tactic(auto)]
+
 ghost use Rattle.std.specs.Prelude.{◌≡◌, [], ◌∷◌, ◌++◌, ◌+◌, ◌*◌, ◌≤◌, length, get_or};
 ghost use Rattle.texts.specs.Texts.{text, decimal};
 ghost use Rattle.engine_spec.specs.Truth.{truth_name};

@@ -2,6 +2,7 @@
 // entities' values at the end. They are written behind the first n bytes of a lent area as the writers of `show` do. x is
 // the table of the file f (crate `engine_table`); texts are named by their places.
 #![tactic(auto)]
+
 ghost use Rattle.std.specs.Prelude.{◌+◌, ◌*◌, ◌≤◌, ◌<◌, length, drop};
 ghost use Rattle.reasons.specs.Reasons.{render};
 ghost use Rattle.reasons.specs.Lists.{reason_of};

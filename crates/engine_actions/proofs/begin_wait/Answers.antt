@@ -12,21 +12,19 @@ use borrow.Author.Rules.{rules}
 use Rattle.engine_actions.proofs.begin_wait.Goals as goal
 
 pub uncertain-s0-requires : goal.uncertain-s0-requires
-uncertain-s0-requires c =
-    (
-      search rules,
-      (search rules, λ t. alone_readable c.by_itself-why.ensures (record { known = omega arith; is = refl })),
-    )
+uncertain-s0-requires c = (
+  search rules,
+  (search rules, λ t. alone_readable c.by_itself-why.ensures (record { known = omega arith; is = refl })),
+)
 
 pub finish-requires : goal.finish-requires
-finish-requires c =
-    (
-      omega (arith, c.requires, c.uncertain-s0.ensures.runs),
-      (
-        omega (arith, c.requires, c.uncertain-s0.ensures.queue),
-        (omega (arith, c.requires, c.uncertain-s0.ensures.records), omega (arith, c.requires, c.uncertain-s0.ensures.runs)),
-      ),
-    )
+finish-requires c = (
+  omega (arith, c.requires, c.uncertain-s0.ensures.runs),
+  (
+    omega (arith, c.requires, c.uncertain-s0.ensures.queue),
+    (omega (arith, c.requires, c.uncertain-s0.ensures.records), omega (arith, c.requires, c.uncertain-s0.ensures.runs)),
+  ),
+)
 
 pub returns-then-two_at-ne-NO_PLACE : goal.returns-then-two_at-ne-NO_PLACE
 returns-then-two_at-ne-NO_PLACE c =

@@ -6,20 +6,19 @@ use Rattle.engine_actions.specs.Actions.{tested_m}
 use Rattle.engine_actions.proofs.condition.Goals as goal
 
 pub tested-requires : goal.tested-requires
-tested-requires c =
+tested-requires c = (
+  omega (arith, c.requires, c.log_action-s1.ensures.runs),
+  (
+    omega (arith, c.requires, c.log_action-s1.ensures.queue),
     (
-      omega (arith, c.requires, c.log_action-s1.ensures.runs),
+      omega (arith, c.log_action-s1.ensures.records),
       (
-        omega (arith, c.requires, c.log_action-s1.ensures.queue),
-        (
-          omega (arith, c.log_action-s1.ensures.records),
-          (
-            omega (arith, c.requires, c.log_action-s1.ensures.runs),
-            (omega (arith, c.requires, c.log_action-s1.ensures.reasons), omega (arith, c.requires)),
-          ),
-        ),
+        omega (arith, c.requires, c.log_action-s1.ensures.runs),
+        (omega (arith, c.requires, c.log_action-s1.ensures.reasons), omega (arith, c.requires)),
       ),
-    )
+    ),
+  ),
+)
 
 pub returns : goal.returns
 returns c =

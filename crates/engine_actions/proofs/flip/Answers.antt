@@ -16,11 +16,10 @@ returns-then-e-gt31 c =
     (same c.requires.0) (same c.requires.1.0) none (same c.requires.1.1.0))
 
 pub uncertain-s1-requires : goal.uncertain-s1-requires
-uncertain-s1-requires c =
-    (
-      search rules,
-      (search rules, about_readable _ _ c.about_rule-why.ensures (record { known = omega arith; is = refl })),
-    )
+uncertain-s1-requires c = (
+  search rules,
+  (search rules, about_readable _ _ c.about_rule-why.ensures (record { known = omega arith; is = refl })),
+)
 
 pub next_step-requires : goal.next_step-requires
 next_step-requires c = omega (arith, c.requires, c.uncertain-s1.ensures.queue)

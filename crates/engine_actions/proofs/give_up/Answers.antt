@@ -15,17 +15,16 @@ pub log_action-s2-requires : goal.log_action-s2-requires
 log_action-s2-requires c = omega (arith, c.requires, c.uncertain-s1.ensures.records)
 
 pub finish-requires : goal.finish-requires
-finish-requires c =
+finish-requires c = (
+  omega (arith, c.requires, c.uncertain-s1.ensures.runs, c.log_action-s2.ensures.runs),
+  (
+    omega (arith, c.requires, c.uncertain-s1.ensures.queue, c.log_action-s2.ensures.queue),
     (
+      omega (arith, c.log_action-s2.ensures.records),
       omega (arith, c.requires, c.uncertain-s1.ensures.runs, c.log_action-s2.ensures.runs),
-      (
-        omega (arith, c.requires, c.uncertain-s1.ensures.queue, c.log_action-s2.ensures.queue),
-        (
-          omega (arith, c.log_action-s2.ensures.records),
-          omega (arith, c.requires, c.uncertain-s1.ensures.runs, c.log_action-s2.ensures.runs),
-        ),
-      ),
-    )
+    ),
+  ),
+)
 
 pub returns : goal.returns
 returns c =

@@ -12,14 +12,13 @@ pub uncertain-s1-requires : goal.uncertain-s1-requires
 uncertain-s1-requires c = (search rules, (search rules, about_readable _ _ c.about_rule-why.ensures c.requires.0))
 
 pub finish-requires : goal.finish-requires
-finish-requires c =
-    (
-      omega (arith, c.requires, c.uncertain-s1.ensures.runs),
-      (
-        omega (arith, c.requires, c.uncertain-s1.ensures.queue),
-        (omega (arith, c.requires, c.uncertain-s1.ensures.records), omega (arith, c.requires, c.uncertain-s1.ensures.runs)),
-      ),
-    )
+finish-requires c = (
+  omega (arith, c.requires, c.uncertain-s1.ensures.runs),
+  (
+    omega (arith, c.requires, c.uncertain-s1.ensures.queue),
+    (omega (arith, c.requires, c.uncertain-s1.ensures.records), omega (arith, c.requires, c.uncertain-s1.ensures.runs)),
+  ),
+)
 
 pub returns : goal.returns
 unfolding unclear_m

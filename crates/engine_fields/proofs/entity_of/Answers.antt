@@ -13,12 +13,11 @@ returns-then-name_of-id c =
     c.if-name_of-id.true)
 
 pub loop-e-preserved : goal.loop-e-preserved
-loop-e-preserved c =
-    (
-      c.loop-e.invariant.0 ∙ laws.entity_later _ _ _ _ _ c.loop-e-test.true c.name_of.ensures
-          c.if-name_of-id.false,
-      omega arith,
-    )
+loop-e-preserved c = (
+  c.loop-e.invariant.0 ∙ laws.entity_later _ _ _ _ _ c.loop-e-test.true c.name_of.ensures
+      c.if-name_of-id.false,
+  omega arith,
+)
 
 pub returns : goal.returns
 returns c = sym (c.loop-e.invariant.0 ∙ laws.entity_none _ _ _ _ c.loop-e-test.false)

@@ -36,17 +36,16 @@ returns-then-w c =
     (λ k. laws.over_goes _ _ _ _ c.if-w-st.false c.if-w.true))
 
 pub finish-requires : goal.finish-requires
-finish-requires c =
+finish-requires c = (
+  omega (arith, c.requires, c.log_action-s2.ensures.runs),
+  (
+    omega (arith, c.requires, c.log_action-s2.ensures.queue),
     (
+      omega (arith, c.requires, c.log_action-s2.ensures.records),
       omega (arith, c.requires, c.log_action-s2.ensures.runs),
-      (
-        omega (arith, c.requires, c.log_action-s2.ensures.queue),
-        (
-          omega (arith, c.requires, c.log_action-s2.ensures.records),
-          omega (arith, c.requires, c.log_action-s2.ensures.runs),
-        ),
-      ),
-    )
+    ),
+  ),
+)
 
 pub returns : goal.returns
 unfolding over_end_m

@@ -15,20 +15,19 @@ loop-stop_reason-init c =
     (same (omega (arith, c.requires))) (same (omega (arith, c.requires)))) c.why_stop-stop_reason.ensures (omega (arith, c.requires))
 
 pub turn-s-requires : goal.turn-s-requires
-turn-s-requires c =
+turn-s-requires c = (
+  omega (arith, c.loop-stop_reason.invariant.steps.queue),
+  (
+    omega (arith, c.loop-stop_reason.invariant.steps.records),
     (
-      omega (arith, c.loop-stop_reason.invariant.steps.queue),
+      omega (arith, c.loop-stop_reason.invariant.steps.runs),
       (
-        omega (arith, c.loop-stop_reason.invariant.steps.records),
-        (
-          omega (arith, c.loop-stop_reason.invariant.steps.runs),
-          (
-            omega (arith, c.loop-stop_reason.invariant.steps.reasons),
-            omega (arith, c.loop-stop_reason.invariant.room),
-          ),
-        ),
+        omega (arith, c.loop-stop_reason.invariant.steps.reasons),
+        omega (arith, c.loop-stop_reason.invariant.room),
       ),
-    )
+    ),
+  ),
+)
 
 pub overflow_sub-left : goal.overflow_sub-left
 overflow_sub-left c = omega (arith, c.loop-stop_reason.invariant.why_is.more c.loop-stop_reason-test.true)

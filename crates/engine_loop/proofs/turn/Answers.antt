@@ -24,40 +24,39 @@ pub at_second-s-requires : goal.at_second-s-requires
 at_second-s-requires c = omega (arith, c.if-st-eq0.false)
 
 pub process-requires : goal.process-requires
-process-requires c =
+process-requires c = (
+  omega (
+    arith,
+    c.requires,
+    ap (λ s. s.items) c.at_second-s.ensures,
+    ap (λ s. s.queue_start) c.at_second-s.ensures,
+  ),
+  (
+    omega (
+      arith,
+      c.requires,
+      ap (λ s. s.records) c.at_second-s.ensures,
+    ),
     (
       omega (
         arith,
         c.requires,
-        ap (λ s. s.items) c.at_second-s.ensures,
-        ap (λ s. s.queue_start) c.at_second-s.ensures,
+        ap (λ s. s.live_runs) c.at_second-s.ensures,
       ),
       (
         omega (
           arith,
           c.requires,
-          ap (λ s. s.records) c.at_second-s.ensures,
+          ap (λ s. s.reasons) c.at_second-s.ensures,
         ),
-        (
-          omega (
-            arith,
-            c.requires,
-            ap (λ s. s.live_runs) c.at_second-s.ensures,
-          ),
-          (
-            omega (
-              arith,
-              c.requires,
-              ap (λ s. s.reasons) c.at_second-s.ensures,
-            ),
-            omega (
-              arith,
-              c.requires,
-            ),
-          ),
+        omega (
+          arith,
+          c.requires,
         ),
       ),
-    )
+    ),
+  ),
+)
 
 pub returns : goal.returns
 unfolding turn_m turn_with_m

@@ -12,24 +12,23 @@ pub log_rule-s2-requires : goal.log_rule-s2-requires
 log_rule-s2-requires c = laws.fits_as 13 _ (ap (λ s. s.records) c.with_active-s1.ensures) c.requires.1.1.0
 
 pub begin_now-requires : goal.begin_now-requires
-begin_now-requires c =
+begin_now-requires c = (
+  c.requires.0,
+  (
+    laws.fits_as 5 _ (c.log_rule-s2.ensures.queue ∙ ap (λ s. s.queue_start + s.items) c.with_active-s1.ensures)
+        c.requires.1.0,
     (
-      c.requires.0,
-      (
-        laws.fits_as 5 _ (c.log_rule-s2.ensures.queue ∙ ap (λ s. s.queue_start + s.items) c.with_active-s1.ensures)
-            c.requires.1.0,
-        (
-          c.log_rule-s2.ensures.records.1,
-          omega (
-            arith,
-            c.requires,
-            ap (λ s. s.live_runs) c.with_active-s1.ensures,
-            c.log_rule-s2.ensures.runs,
-            c.drop_runs-left.ensures.room,
-          ),
-        ),
+      c.log_rule-s2.ensures.records.1,
+      omega (
+        arith,
+        c.requires,
+        ap (λ s. s.live_runs) c.with_active-s1.ensures,
+        c.log_rule-s2.ensures.runs,
+        c.drop_runs-left.ensures.room,
       ),
-    )
+    ),
+  ),
+)
 
 pub returns : goal.returns
 unfolding stop_start_m

@@ -12,21 +12,19 @@ returns-in_default c =
     }
 
 pub loop-left-init : goal.loop-left-init
-loop-left-init c =
-    (
-      (refl, λ t k. k),
-      laws.parts_is _ _ _ _ _
-          ∙ laws.by_is _ _ _ _ _ c.u16_at-x.ensures c.in-Is.is,
-    )
+loop-left-init c = (
+  (refl, λ t k. k),
+  laws.parts_is _ _ _ _ _
+      ∙ laws.by_is _ _ _ _ _ c.u16_at-x.ensures c.in-Is.is,
+)
 
 pub loop-left-preserved : goal.loop-left-preserved
-loop-left-preserved c =
-    (
-      (search rules, λ t k. c.part_note-d.ensures.clean t (c.loop-left.invariant.0.1 t k)),
-      c.loop-left.invariant.1
-          ∙ laws.times_more _ _ _ _ _ c.loop-left-test.true
-          ∙ laws.to _ _ _ _ _ _ _ c.part_note-d.ensures.is,
-    )
+loop-left-preserved c = (
+  (search rules, λ t k. c.part_note-d.ensures.clean t (c.loop-left.invariant.0.1 t k)),
+  c.loop-left.invariant.1
+      ∙ laws.times_more _ _ _ _ _ c.loop-left-test.true
+      ∙ laws.to _ _ _ _ _ _ _ c.part_note-d.ensures.is,
+)
 
 pub returns : goal.returns
 returns c =

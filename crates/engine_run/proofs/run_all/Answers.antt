@@ -4,17 +4,16 @@ use Rattle.engine_run.proofs.Laws as laws
 use Rattle.engine_run.proofs.run_all.Goals as goal
 
 pub run_loop-d-requires : goal.run_loop-d-requires
-run_loop-d-requires c =
+run_loop-d-requires c = (
+  omega (arith, c.begun-s.ensures.queue),
+  (
+    omega (arith, c.begun-s.ensures.records),
     (
-      omega (arith, c.begun-s.ensures.queue),
-      (
-        omega (arith, c.begun-s.ensures.records),
-        (
-          omega (arith, c.requires, c.begun-s.ensures.runs),
-          (omega (arith, c.requires, c.begun-s.ensures.reasons), omega (arith, c.requires)),
-        ),
-      ),
-    )
+      omega (arith, c.requires, c.begun-s.ensures.runs),
+      (omega (arith, c.requires, c.begun-s.ensures.reasons), omega (arith, c.requires)),
+    ),
+  ),
+)
 
 pub closed-requires : goal.closed-requires
 closed-requires c =

@@ -4,20 +4,19 @@ use Rattle.engine_run.proofs.Laws as laws
 use Rattle.engine_run.proofs.simulated.Goals as goal
 
 pub run_all-e-requires : goal.run_all-e-requires
-run_all-e-requires c =
+run_all-e-requires c = (
+  omega (arith, c.requires),
+  (
+    omega (arith, ap (λ s. s.items) c.start-st.ensures, ap (λ s. s.queue_start) c.start-st.ensures),
     (
-      omega (arith, c.requires),
+      omega (arith, ap (λ s. s.records) c.start-st.ensures),
       (
-        omega (arith, ap (λ s. s.items) c.start-st.ensures, ap (λ s. s.queue_start) c.start-st.ensures),
-        (
-          omega (arith, ap (λ s. s.records) c.start-st.ensures),
-          (
-            omega (arith, ap (λ s. s.live_runs) c.start-st.ensures),
-            (omega (arith, c.requires, ap (λ s. s.reasons) c.start-st.ensures), omega (arith, c.requires)),
-          ),
-        ),
+        omega (arith, ap (λ s. s.live_runs) c.start-st.ensures),
+        (omega (arith, c.requires, ap (λ s. s.reasons) c.start-st.ensures), omega (arith, c.requires)),
       ),
-    )
+    ),
+  ),
+)
 
 pub clear_items-requires : goal.clear_items-requires
 clear_items-requires c = c.run_all-e.ensures.items_fit

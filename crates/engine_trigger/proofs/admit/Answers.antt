@@ -15,11 +15,10 @@ returns-then-two_at-eq0 c =
     c.two_at.ensures.0 c.if-two_at-eq0.true ∙ laws.admit_is _ _ _ _ _ _ c.in-Yes.is))
 
 pub uncertain-requires : goal.uncertain-requires
-uncertain-requires c =
-    (
-      search rules,
-      (search rules, about_readable _ _ c.about_rule-why.ensures (record { known = omega arith; is = refl })),
-    )
+uncertain-requires c = (
+  search rules,
+  (search rules, about_readable _ _ c.about_rule-why.ensures (record { known = omega arith; is = refl })),
+)
 
 pub returns-else-two_at-eq0 : goal.returns-else-two_at-eq0
 returns-else-two_at-eq0 c =

@@ -12,17 +12,16 @@ pub log_rule-s2-requires : goal.log_rule-s2-requires
 log_rule-s2-requires c = modes.fits_as 13 _ (ap (λ s. s.records) c.with_active-s1.ensures) c.requires.1.1.0
 
 pub release-requires : goal.release-requires
-release-requires c =
-    (
-      omega (
-        arith,
-        c.requires,
-        ap (λ s. s.items) c.with_active-s1.ensures,
-        ap (λ s. s.queue_start) c.with_active-s1.ensures,
-        c.log_rule-s2.ensures.queue,
-      ),
-      omega (arith, c.requires, ap (λ s. s.live_runs) c.with_active-s1.ensures, c.log_rule-s2.ensures.runs),
-    )
+release-requires c = (
+  omega (
+    arith,
+    c.requires,
+    ap (λ s. s.items) c.with_active-s1.ensures,
+    ap (λ s. s.queue_start) c.with_active-s1.ensures,
+    c.log_rule-s2.ensures.queue,
+  ),
+  omega (arith, c.requires, ap (λ s. s.live_runs) c.with_active-s1.ensures, c.log_rule-s2.ensures.runs),
+)
 
 pub returns : goal.returns
 unfolding finish_m finish_run_m

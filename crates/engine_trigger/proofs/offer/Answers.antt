@@ -8,20 +8,19 @@ use Rattle.engine_trigger.specs.Triggers.{offer_as_m}
 use Rattle.engine_trigger.proofs.offer.Goals as goal
 
 pub admit-requires : goal.admit-requires
-admit-requires c =
+admit-requires c = (
+  c.requires.0,
+  (
+    modes.fits_as 5 _ c.log_trigger-s1.ensures.queue c.requires.1.0,
     (
-      c.requires.0,
+      c.log_trigger-s1.ensures.records.1,
       (
-        modes.fits_as 5 _ c.log_trigger-s1.ensures.queue c.requires.1.0,
-        (
-          c.log_trigger-s1.ensures.records.1,
-          (
-            modes.fits_as 28 _ c.log_trigger-s1.ensures.runs c.requires.1.1.1.0,
-            (modes.fits_as 5 _ c.log_trigger-s1.ensures.reasons c.requires.1.1.1.1.0, c.requires.1.1.1.1.1),
-          ),
-        ),
+        modes.fits_as 28 _ c.log_trigger-s1.ensures.runs c.requires.1.1.1.0,
+        (modes.fits_as 5 _ c.log_trigger-s1.ensures.reasons c.requires.1.1.1.1.0, c.requires.1.1.1.1.1),
       ),
-    )
+    ),
+  ),
+)
 
 pub returns-then-any_matches : goal.returns-then-any_matches
 unfolding offer_as_m

@@ -36,21 +36,19 @@ actions_notes-returns-in_default t c =
     }
 
 pub actions_notes-loop-i-init : goal.actions_notes-loop-i-init
-actions_notes-loop-i-init t c =
-    (
-      (refl, λ t k. k),
-      laws.actions_more _ _ _ _ c.if-left-eq0.false
-          ∙ notes.by_is _ _ _ _ _ c.u16_at-x.ensures c.in-Is.is,
-    )
+actions_notes-loop-i-init t c = (
+  (refl, λ t k. k),
+  laws.actions_more _ _ _ _ c.if-left-eq0.false
+      ∙ notes.by_is _ _ _ _ _ c.u16_at-x.ensures c.in-Is.is,
+)
 
 pub actions_notes-loop-i-preserved : goal.actions_notes-loop-i-preserved
-actions_notes-loop-i-preserved t c =
-    (
-      (search rules, λ t k. c.action_notes-d.ensures.clean t (c.loop-i.invariant.0.1 t k)),
-      c.loop-i.invariant.1
-          ∙ notes.times_more _ _ _ _ _ c.loop-i-test.true
-          ∙ notes.to _ _ _ _ _ _ _ c.action_notes-d.ensures.is,
-    )
+actions_notes-loop-i-preserved t c = (
+  (search rules, λ t k. c.action_notes-d.ensures.clean t (c.loop-i.invariant.0.1 t k)),
+  c.loop-i.invariant.1
+      ∙ notes.times_more _ _ _ _ _ c.loop-i-test.true
+      ∙ notes.to _ _ _ _ _ _ _ c.action_notes-d.ensures.is,
+)
 
 pub actions_notes-returns : goal.actions_notes-returns
 actions_notes-returns t c =
@@ -71,18 +69,17 @@ pub choice_notes-loop-i-init : goal.choice_notes-loop-i-init
 choice_notes-loop-i-init t c = ((refl, λ t k. k), notes.by_is _ _ _ _ _ c.u16_at-x.ensures c.in-Is.is)
 
 pub choice_notes-loop-i-preserved : goal.choice_notes-loop-i-preserved
-choice_notes-loop-i-preserved t c =
-    (
-      (
-        search rules,
-        λ t k. c.actions_notes-e.ensures.clean t
-            (c.part_notes-d.ensures.clean t (c.loop-i.invariant.0.1 t k)),
-      ),
-      c.loop-i.invariant.1
-          ∙ laws.times_then _ _ _ _ _ _ c.loop-i-test.true ∙ laws.assoc _ _ _ _ _ _
-          ∙ notes.to _ _ _ _ _ _ _ c.part_notes-d.ensures.is
-          ∙ notes.to _ _ _ _ _ _ _ c.actions_notes-e.ensures.is,
-    )
+choice_notes-loop-i-preserved t c = (
+  (
+    search rules,
+    λ t k. c.actions_notes-e.ensures.clean t
+        (c.part_notes-d.ensures.clean t (c.loop-i.invariant.0.1 t k)),
+  ),
+  c.loop-i.invariant.1
+      ∙ laws.times_then _ _ _ _ _ _ c.loop-i-test.true ∙ laws.assoc _ _ _ _ _ _
+      ∙ notes.to _ _ _ _ _ _ _ c.part_notes-d.ensures.is
+      ∙ notes.to _ _ _ _ _ _ _ c.actions_notes-e.ensures.is,
+)
 
 pub choice_notes-returns : goal.choice_notes-returns
 choice_notes-returns t c =

@@ -8,21 +8,19 @@ pub loop-k-init : goal.loop-k-init
 loop-k-init c = ((λ i. laws.branches_is _ _ _ _), refl)
 
 pub loop-k-preserved-then-kind_at-eq4 : goal.loop-k-preserved-then-kind_at-eq4
-loop-k-preserved-then-kind_at-eq4 c =
-    (
-      (λ i. c.loop-k.invariant.0 i ∙ laws.numbers_more _ _ _ _ c.loop-k-test.true
-          (laws.at_choice _ _ _ _ c.kind_at.ensures _ c.if-kind_at-eq4.true
-          (c.choice_findings-out.ensures i))),
-      search rules,
-    )
+loop-k-preserved-then-kind_at-eq4 c = (
+  (λ i. c.loop-k.invariant.0 i ∙ laws.numbers_more _ _ _ _ c.loop-k-test.true
+      (laws.at_choice _ _ _ _ c.kind_at.ensures _ c.if-kind_at-eq4.true
+      (c.choice_findings-out.ensures i))),
+  search rules,
+)
 
 pub loop-k-preserved : goal.loop-k-preserved
-loop-k-preserved c =
-    (
-      (λ i. c.loop-k.invariant.0 i ∙ laws.numbers_more _ _ _ _ c.loop-k-test.true
-          (laws.at_other _ _ _ _ c.kind_at.ensures _ c.if-kind_at-eq4.false)),
-      search rules,
-    )
+loop-k-preserved c = (
+  (λ i. c.loop-k.invariant.0 i ∙ laws.numbers_more _ _ _ _ c.loop-k-test.true
+      (laws.at_other _ _ _ _ c.kind_at.ensures _ c.if-kind_at-eq4.false)),
+  search rules,
+)
 
 pub returns : goal.returns
 returns c = λ i. sym (c.loop-k.invariant.0 i ∙ laws.numbers_end _ _ _ _ c.loop-k-test.false)

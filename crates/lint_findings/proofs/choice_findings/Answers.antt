@@ -10,13 +10,12 @@ pub loop-left-init : goal.loop-left-init
 loop-left-init c = ((λ i. refl), refl)
 
 pub loop-left-preserved : goal.loop-left-preserved
-loop-left-preserved c =
-    (
-      (λ i. c.loop-left.invariant.0 i ∙ laws.parts_more _ _ _ _ _ c.loop-left-test.true
-          (laws.with_finding _ c.contradictory.ensures refl (c.push_if-out.ensures i))
-          (c.list_end-p.ensures ∙ ap (list_end _) c.predicates_end.ensures)),
-      search rules,
-    )
+loop-left-preserved c = (
+  (λ i. c.loop-left.invariant.0 i ∙ laws.parts_more _ _ _ _ _ c.loop-left-test.true
+      (laws.with_finding _ c.contradictory.ensures refl (c.push_if-out.ensures i))
+      (c.list_end-p.ensures ∙ ap (list_end _) c.predicates_end.ensures)),
+  search rules,
+)
 
 pub returns : goal.returns
 returns c =

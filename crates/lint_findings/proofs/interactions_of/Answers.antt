@@ -9,12 +9,11 @@ pub loop-k-init : goal.loop-k-init
 loop-k-init c = ((λ f. refl), refl)
 
 pub loop-k-preserved : goal.loop-k-preserved
-loop-k-preserved c =
-    (
-      (λ f. c.loop-k.invariant.0 f ∙ laws.numbers_more _ _ _ _ c.loop-k-test.true
-          (laws.with_interaction _ _ c.leads-test.ensures (c.interact_if-out.ensures f))),
-      search rules,
-    )
+loop-k-preserved c = (
+  (λ f. c.loop-k.invariant.0 f ∙ laws.numbers_more _ _ _ _ c.loop-k-test.true
+      (laws.with_interaction _ _ c.leads-test.ensures (c.interact_if-out.ensures f))),
+  search rules,
+)
 
 pub returns : goal.returns
 returns c =

@@ -12,22 +12,20 @@ pub loop-k-init : goal.loop-k-init
 loop-k-init c = ((λ i. laws.row_is _ _ _ _ _ _), refl)
 
 pub loop-k-preserved-then-opposing : goal.loop-k-preserved-then-opposing
-loop-k-preserved-then-opposing c =
-    (
-      (λ i. c.loop-k.invariant.0 i ∙ items.numbers_more _ _ _ _ c.loop-k-test.true
-          (laws.oppose_yes _ _ _ _ _ c.kind_at.ensures c.if-kind_at-gt1.false c.past.ensures c.place_at-x.ensures
-          c.value-v.ensures _ c.opposing.ensures c.if-opposing.true (c.oppose-out.ensures i))),
-      search rules,
-    )
+loop-k-preserved-then-opposing c = (
+  (λ i. c.loop-k.invariant.0 i ∙ items.numbers_more _ _ _ _ c.loop-k-test.true
+      (laws.oppose_yes _ _ _ _ _ c.kind_at.ensures c.if-kind_at-gt1.false c.past.ensures c.place_at-x.ensures
+      c.value-v.ensures _ c.opposing.ensures c.if-opposing.true (c.oppose-out.ensures i))),
+  search rules,
+)
 
 pub loop-k-preserved : goal.loop-k-preserved
-loop-k-preserved c =
-    (
-      (λ i. c.loop-k.invariant.0 i ∙ items.numbers_more _ _ _ _ c.loop-k-test.true
-          (laws.oppose_no _ _ _ _ _ c.kind_at.ensures c.if-kind_at-gt1.false c.past.ensures c.place_at-x.ensures
-          c.value-v.ensures _ c.opposing.ensures c.if-opposing.false)),
-      search rules,
-    )
+loop-k-preserved c = (
+  (λ i. c.loop-k.invariant.0 i ∙ items.numbers_more _ _ _ _ c.loop-k-test.true
+      (laws.oppose_no _ _ _ _ _ c.kind_at.ensures c.if-kind_at-gt1.false c.past.ensures c.place_at-x.ensures
+      c.value-v.ensures _ c.opposing.ensures c.if-opposing.false)),
+  search rules,
+)
 
 pub returns : goal.returns
 returns c = λ i. sym (c.loop-k.invariant.0 i ∙ items.numbers_end _ _ _ _ c.loop-k-test.false)

@@ -20,17 +20,23 @@ pub loop-j-preserved : goal.loop-j-preserved
 loop-j-preserved c =
     let l = c.loop-j in let k = c.loop-k.k in let i = c.loop-i.i in
     let e : step_cell_m k i l.j l.reach ≡ c.if-reach-k.reach =
-    (elim c.if-reach-k.branch [ then-reach-k w ↦ laws.when_true (cell l.reach k l.j) (put l.reach i l.j) l.reach w.if-reach-k.true
-    ∙ sym w.reach-is | else-reach-k w ↦ laws.when_false (cell l.reach k l.j) (put l.reach i l.j) l.reach w.if-reach-k.false
-    ∙ sym w.reach-is ]) in l.invariant ∙ laws.more (step_cell_m k i) 32 l.j l.reach
+    (elim c.if-reach-k.branch [
+      | then-reach-k w ↦ laws.when_true (cell l.reach k l.j) (put l.reach i l.j) l.reach w.if-reach-k.true
+          ∙ sym w.reach-is
+      | else-reach-k w ↦ laws.when_false (cell l.reach k l.j) (put l.reach i l.j) l.reach w.if-reach-k.false
+          ∙ sym w.reach-is
+    ]) in l.invariant ∙ laws.more (step_cell_m k i) 32 l.j l.reach
     c.loop-j-test.true ∙ ap (steps (step_cell_m k i) (32 - (l.j + 1)) (l.j + 1)) e
 
 pub loop-i-preserved : goal.loop-i-preserved
 loop-i-preserved c =
     let l = c.loop-i in let k = c.loop-k.k in let f = step_cell_m k l.i in let q = steps f 32 0 l.reach in
     let e : step_row_m k l.i l.reach ≡ c.if-reach-i.reach =
-    (elim c.if-reach-i.branch [ then-reach-i+else-loop-j-test w ↦ laws.when_true (cell l.reach l.i k) q l.reach w.if-reach-i.true ∙ w.loop-j.invariant
-    ∙ laws.none f 32 w.loop-j.j w.loop-j.reach w.loop-j-test.false ∙ sym w.reach-is | else-reach-i w ↦ laws.when_false (cell l.reach l.i k) q l.reach w.if-reach-i.false ∙ sym w.reach-is ]) in
+    (elim c.if-reach-i.branch [
+      | then-reach-i+else-loop-j-test w ↦ laws.when_true (cell l.reach l.i k) q l.reach w.if-reach-i.true ∙ w.loop-j.invariant
+          ∙ laws.none f 32 w.loop-j.j w.loop-j.reach w.loop-j-test.false ∙ sym w.reach-is
+      | else-reach-i w ↦ laws.when_false (cell l.reach l.i k) q l.reach w.if-reach-i.false ∙ sym w.reach-is
+    ]) in
     l.invariant ∙ laws.more (step_row_m k) 32 l.i l.reach c.loop-i-test.true
     ∙ ap (steps (step_row_m k) (32 - (l.i + 1)) (l.i + 1)) e
 

@@ -18,5 +18,5 @@ loop-i-preserved c =
 pub returns : goal.returns
 returns c =
     record {
-  is = λ l k. laws.none_yet _ (c.loop-i.invariant.1.0 ∙ k.wide) (λ i h. c.loop-i.invariant.1.1 i (omega arith));
-}
+      is = λ l k. laws.none_yet _ (c.loop-i.invariant.1.0 ∙ k.wide) (λ i h. c.loop-i.invariant.1.1 i (omega arith));
+    }

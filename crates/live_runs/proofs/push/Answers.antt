@@ -3,8 +3,7 @@ use Rattle.live_runs.proofs.Laws as laws
 use Rattle.live_runs.proofs.push.Goals as goal
 
 pub returns-then-push_run : goal.returns-then-push_run
-returns-then-push_run c =
-    (
+returns-then-push_run c = (
   laws.pushed_as c.if-push_run.true c.push_run.ensures,
   laws.went_in _ _ _ _ c.raise.ensures,
 )
