@@ -8,7 +8,7 @@ use lib.Dec.{eqb}
 use lib.ListN.{length, get_or}
 use borrow.Author.Tests.{eq-eqb, ne_eqb}
 use Rattle.texts.specs.Lists.{each}
-use Rattle.texts.specs.Places.{placed_text, start_from}
+use Rattle.texts.specs.Places.{text_at, start_from}
 use Rattle.texts.specs.Texts.{Text, text, eq_t, mem_t}
 use Rattle.texts.proofs.Ordering.{not_both, eq_is, eq_refl, eq_sym}
 use Rattle.model_spec.specs.Answer.{answer}

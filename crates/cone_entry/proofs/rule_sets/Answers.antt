@@ -29,6 +29,6 @@ pub returns : goal.returns
 returns c =
     record {
       writes = sym (c.loop-i.invariant.0 ∙ entry.fill_end _ _ _ _ c.loop-i-test.false);
-      rules =
+      needs =
           sym (c.loop-i.invariant.1 ∙ entry.fill_end _ _ _ _ c.loop-i-test.false);
     }

@@ -10,9 +10,9 @@ use Rattle.cone_entry.proofs.rule_sets.Given as goal
 
 abbrev pub invariant-loop-i : goal.invariant-loop-i
 invariant-loop-i l =
-    (writes_each_m l.s l.entities l.needs ≡ fill_m (λ k. writes_m l.s l.entities (walk_m l.s (get_or l.needs.starts k 0))) (l.n - l.i) l.i l.writes)
-    × (needs_each_m l.s l.entities l.needs ≡ fill_m (λ k. needs_m l.s l.entities (get_or l.needs.starts k 0)
-    (walk_m l.s (get_or l.needs.starts k 0))) (l.n - l.i) l.i l.needs)
+    (writes_each_m l.s l.entities l.rules ≡ fill_m (λ k. writes_m l.s l.entities (walk_m l.s (get_or l.rules.starts k 0))) (l.n - l.i) l.i l.writes)
+    × (needs_each_m l.s l.entities l.rules ≡ fill_m (λ k. needs_m l.s l.entities (get_or l.rules.starts k 0)
+    (walk_m l.s (get_or l.rules.starts k 0))) (l.n - l.i) l.i l.needs)
 
 abbrev pub decreases-loop-i : goal.decreases-loop-i
 decreases-loop-i l = l.n - l.i

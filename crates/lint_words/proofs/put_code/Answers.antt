@@ -3,20 +3,20 @@ use Rattle.show.proofs.Laws as show
 use Rattle.lint_words.proofs.Laws as laws
 use Rattle.lint_words.proofs.put_code.Goals as goal
 
-pub put-requires : goal.put-requires
-put-requires c = λ x t. show.is (laws.code_0 x t ∙ laws.code_at x t _ 0 c.if-code-eq0.true) c.put-arg-1.ensures
-
 pub returns-then-code-eq0 : goal.returns-then-code-eq0
-returns-then-code-eq0 c = λ x t. show.is (laws.code_1 x t ∙ laws.code_at x t _ 1 c.put-arg-1.true) c.put.ensures
+returns-then-code-eq0 c = λ x t. show.is (laws.code_0 x t ∙ laws.code_at x t _ 0 c.if-code-eq0.true) c.put.ensures
 
 pub returns-then-code-eq1 : goal.returns-then-code-eq1
-returns-then-code-eq1 c = λ x t. show.is (laws.code_2 x t ∙ laws.code_at x t _ 2 c.put-arg-then-code-eq1-1.true) c.put-then-code-eq1.ensures
+returns-then-code-eq1 c = λ x t. show.is (laws.code_1 x t ∙ laws.code_at x t _ 1 c.if-code-eq1.true) c.put-then-code-eq1.ensures
 
-pub put-requires-then-code-eq3 : goal.put-requires-then-code-eq3
-put-requires-then-code-eq3 c = λ x t. show.is (laws.code_3 x t ∙ laws.code_at x t _ 3 c.if-code-eq3.true) c.put-arg-then-code-eq3-1.ensures
+pub returns-then-code-eq2 : goal.returns-then-code-eq2
+returns-then-code-eq2 c = λ x t. show.is (laws.code_2 x t ∙ laws.code_at x t _ 2 c.if-code-eq2.true) c.put-then-code-eq2.ensures
 
-pub shape_of-out-then-code-eq4 : goal.shape_of-out-then-code-eq4
-shape_of-out-then-code-eq4 c = λ x t. show.is (laws.code_4 x t ∙ laws.code_at x t _ 4 c.if-code-eq4.true) c.put-then-code-eq4.ensures
+pub returns-then-code-eq3 : goal.returns-then-code-eq3
+returns-then-code-eq3 c = λ x t. show.is (laws.code_3 x t ∙ laws.code_at x t _ 3 c.if-code-eq3.true) c.put-then-code-eq3.ensures
+
+pub returns-then-code-eq4 : goal.returns-then-code-eq4
+returns-then-code-eq4 c = λ x t. show.is (laws.code_4 x t ∙ laws.code_at x t _ 4 c.if-code-eq4.true) c.put-then-code-eq4.ensures
 
 pub returns-then-code-eq5 : goal.returns-then-code-eq5
 returns-then-code-eq5 c = λ x t. show.is (laws.code_5 x t ∙ laws.code_at x t _ 5 c.if-code-eq5.true) c.put-then-code-eq5.ensures
