@@ -3,5 +3,5 @@ use Rattle.engine_entry.proofs.run_events.Goals as goal
 
 pub returns : goal.returns
 returns c =
-    laws.ran_so c.min_usize-count.ensures c.simulated-s.ensures c.simulated-s.auto.1.1.1.1.1.1.1.1.1.0
+    laws.ran_so c.min_usize-count.ensures c.simulated-s.ensures c.simulated-s.auto.u
     c.at_most-entities.ensures.0 (c.summed.ensures _)

@@ -6,4 +6,4 @@ pub returns-then-x-ne0 : goal.returns-then-x-ne0
 returns-then-x-ne0 c = omega (arith, c.print_refused.ensures)
 
 pub returns : goal.returns
-returns c = laws.written_fits c.minimize-x.ensures c.minimize-x.kept.1.1.1.1.0
+returns c = laws.written_fits c.minimize-x.ensures c.minimize-x.auto.output

@@ -23,8 +23,8 @@ loop-more-smaller c =
 pub loop-more-preserved : goal.loop-more-preserved
 loop-more-preserved c =
     reduction.loop_step c.loop-more.invariant c.loop-more-test.true c.attempt-r.ensures c.goes_on-more-in-loop-more.ensures
-    c.attempt-r.auto.1.1.1.1.1.1.1.0 c.attempt-r.auto.1.1.1.1.1.1.1.1.0
-    c.attempt-r.auto.1.1.1.1.1.1.1.1.1.0
+    c.attempt-r.auto.queue c.attempt-r.auto.records
+    c.attempt-r.auto.runs
 
 pub shape_of-queue : goal.shape_of-queue
 shape_of-queue c = omega (arith, c.loop-more.invariant.queue)

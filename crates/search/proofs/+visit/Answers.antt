@@ -94,13 +94,13 @@ loop-k-smaller t c = search rules
 pub loop-k-preserved : goal.loop-k-preserved
 loop-k-preserved t c =
     (
-      omega (arith, c.loop-k.invariant.0, c.visit-s.auto.1.1.1.1.1.1.1.1.0),
+      omega (arith, c.loop-k.invariant.0, c.visit-s.auto.queue),
       (
-        omega (arith, c.loop-k.invariant.1.0, c.visit-s.auto.1.1.1.1.1.1.1.1.1.0),
+        omega (arith, c.loop-k.invariant.1.0, c.visit-s.auto.records),
         (
-          omega (arith, c.loop-k.invariant.1.1.0, c.visit-s.auto.1.1.1.1.1.1.1.1.1.1.0),
+          omega (arith, c.loop-k.invariant.1.1.0, c.visit-s.auto.runs),
           (
-            omega (arith, c.loop-k.invariant.1.1.1.0, c.visit-s.auto.1.1.1.1.1.1.1.1.1.1.1.0),
+            omega (arith, c.loop-k.invariant.1.1.1.0, c.visit-s.auto.w),
             (
               omega (arith, c.loop-k-test.true),
               visits.walk_next c.loop-k-test.true
