@@ -43,7 +43,7 @@ late : full_violated (record {
 unfolding all_lines engine.all_lines show.all_lines all_lists all_texts message
 late = refl
 
-reasons : bare_reason (text "unknown") (text "1:1: a\"b") ++ full-reason (text "incomplete") (text "1:1: a\"b")
+reasons : bare_reason (text "unknown") (text "1:1: a\"b") ++ full_reason (text "incomplete") (text "1:1: a\"b")
     ≡ text "unknown 1:1: a\"b\nincomplete \"1:1: a\\\"b\"\n"
 unfolding all_lines reason.all_lines show.all_lines all_lists
 reasons = refl
