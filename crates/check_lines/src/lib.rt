@@ -1,6 +1,7 @@
 // The lines of `check`, written behind the first n bytes of a lent area as the writers of `show` do. f is the model file.
 // A violation comes as eight numbers, a reason as five words.
 #![tactic(auto)]
+
 ghost use Rattle.std.specs.Prelude.{◌≡◌, ◌+◌, ◌*◌, ◌≤◌, length, drop};
 ghost use Rattle.reasons.specs.Reasons.{render};
 ghost use Rattle.reasons.specs.Lists.{reason_of};

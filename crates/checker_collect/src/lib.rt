@@ -1,5 +1,6 @@
 // The verdict on the records of a simulation: each invariant judged, its violation and its reasons gathered.
 #![tactic(auto)]
+
 ghost use Rattle.std.specs.Prelude.{◌≡◌, ◌+◌, ◌*◌, ◌≤◌, ◌<◌, length};
 ghost use Rattle.areas.specs.Areas.{written};
 ghost use Rattle.checker_collect.specs.Collect.{

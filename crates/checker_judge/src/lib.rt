@@ -2,6 +2,7 @@
 // An invariant: 0 kind, 1 identifier; from 3 on what its kind holds. Kinds: 0 never, 1 guard, 2 transition, 3 response.
 // A record of kind 2 is an action, one of kind 9 the horizon.
 #![tactic(auto)]
+
 ghost use Rattle.std.specs.Prelude.{◌≡◌, ◌*◌, ◌+◌, ◌≤◌, length};
 ghost use Rattle.engine_evaluate.specs.Evaluate.{size_m};
 ghost use Rattle.engine_state.specs.Machine.{later};

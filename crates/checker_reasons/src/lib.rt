@@ -1,5 +1,6 @@
 // The reasons that the reading of one invariant gives, by what it kept; and a sorted list of reasons with them.
 #![tactic(auto)]
+
 ghost use Rattle.std.specs.Prelude.{◌≡◌, ◌*◌, ◌≤◌, length};
 ghost use Rattle.reasons.specs.Readable.{AllReadable};
 ghost use Rattle.reasons.specs.Lists.{listed, insert_all, Grows};

@@ -1,5 +1,6 @@
 // What a truth at a record does to an invariant's reading: why a record fails it, and the waiting of a response.
 #![tactic(auto)]
+
 ghost use Rattle.std.specs.Prelude.{◌≡◌, ◌&&◌, ◌||◌};
 ghost use Rattle.checker_response.specs.Response.{
   yes_m,

@@ -1,5 +1,6 @@
 // The entry `cone`: the entities and the automations of a model file on which its invariants depend.
 #![tactic(auto)]
+
 ghost use Rattle.std.specs.Prelude.{◌≡◌, ◌≤◌, ◌<◌};
 ghost use Rattle.cone_entry.specs.Contract.{no_cone, Answers};
 ghost use Rattle.cone_entry.specs.Promises.{Touches, Bounds, Tells};

@@ -1,5 +1,6 @@
 // The undeclared names in the cone: those that one of its automations reads, as places among the texts, ascending.
 #![tactic(auto)]
+
 ghost use Rattle.std.specs.Prelude.{◌≡◌, ◌<◌, ◌+◌};
 ghost use Rattle.cone_names.specs.Undeclared.{read_m, wanted_m, with_m, name_m, names_m};
 

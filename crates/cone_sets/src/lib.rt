@@ -1,6 +1,7 @@
 // What the cone is closed over: the declared entities that invariants name, and those that an automation reads or
 // toggles, as sets of their numbers in the file.
 #![tactic(auto)]
+
 ghost use Rattle.std.specs.Prelude.{◌≡◌, ◌≤◌, ◌<◌};
 ghost use Rattle.lint_walk.specs.Walks.{walk_by};
 ghost use Rattle.lint_access.specs.Sets.{section_by};

@@ -1,5 +1,6 @@
 // The entries `unsupported` and `simulate`.
 #![tactic(auto)]
+
 ghost use Rattle.std.specs.Prelude.{◌≡◌, ◌*◌, ◌≤◌, length};
 ghost use Rattle.engine_spec.specs.Simulate.{unsupported_of};
 ghost use Rattle.engine_summary.specs.Summary.{simulation_of};

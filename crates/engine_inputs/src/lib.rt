@@ -1,5 +1,6 @@
 // What a simulation begins with: the model's events as words, and the values that its entities start with.
 #![tactic(auto)]
+
 ghost use Rattle.layout.specs.Sizes.{event_word_count};
 ghost use Rattle.std.specs.Prelude.{◌≡◌, ◌≤◌, ◌<◌};
 ghost use Rattle.engine_inputs.specs.Inputs.{

@@ -1,5 +1,6 @@
 // The answer of `simulate`, from what a run tells.
 #![tactic(auto)]
+
 ghost use Rattle.std.specs.Prelude.{◌≡◌, ◌≤◌};
 ghost use Rattle.engine_summary.specs.Summary.{no_simulation, simulation_of};
 ghost use Rattle.engine_summary.specs.Summaries.{Firsts, Summed, Answered};

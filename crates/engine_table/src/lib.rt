@@ -1,5 +1,6 @@
 // The table that the engine goes by: words of the file and its index (crate layout).
 #![tactic(auto)]
+
 ghost use Rattle.std.specs.Prelude.{◌≡◌, ◌+◌, ◌*◌, ◌≤◌, ◌<◌};
 ghost use Rattle.engine_fields.specs.Fields.{four, cap};
 ghost use Rattle.engine_table.specs.Table.{

@@ -1,5 +1,6 @@
 // The entries of all automations, in the order in which Rust adds them.
 #![tactic(auto)]
+
 ghost use Rattle.std.specs.Prelude.{◌≡◌, List, ℕ, ◌≤◌, ◌<◌, ◌+◌};
 ghost use Rattle.lint_reach.specs.Cycles.{Cycles};
 ghost use Rattle.lint_areas.specs.Areas.{board, pushes};

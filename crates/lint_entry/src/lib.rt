@@ -1,6 +1,7 @@
 // The entry `lint`: the findings and interactions of a model file in two lent areas, and with the answer the components of
 // trigger cycles, and what each automation reads and writes.
 #![tactic(auto)]
+
 ghost use Rattle.std.specs.Prelude.{◌≡◌, ◌≤◌, ◌<◌};
 ghost use Rattle.lint_spec.specs.Memory.{lent};
 ghost use Rattle.lint_areas.specs.Areas.{board};

@@ -1,6 +1,7 @@
 // The lines of the findings, interactions and components of `lint`'s answer, and of their counts. The writers put texts
 // behind the first n bytes of a lent area, as those of `show` do. f is the model file.
 #![tactic(auto)]
+
 ghost use Rattle.std.specs.Prelude.{◌≡◌, [], ◌∷◌, ◌≤◌, ◌<◌, length, get_or, if◌then◌else◌};
 ghost use Rattle.texts.specs.Lists.{each};
 ghost use Rattle.texts.specs.Texts.{Text};

@@ -1,5 +1,6 @@
 // The notes of each automation as findings: unsupported.
 #![tactic(auto)]
+
 ghost use Rattle.layout.specs.Sizes.{simulation_reasons};
 ghost use Rattle.std.specs.Prelude.{◌≡◌, List, ℕ, ◌≤◌, ◌<◌, ◌+◌, ◌*◌};
 ghost use Rattle.lint_areas.specs.Areas.{board, pushes};

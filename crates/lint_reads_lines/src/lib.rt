@@ -1,6 +1,7 @@
 // The lines of what each automation reads and writes, in `lint`'s answer. The writers put texts behind the first n bytes of
 // a lent area, as those of `show` do. f is the model file.
 #![tactic(auto)]
+
 ghost use Rattle.std.specs.Prelude.{◌≡◌, [], ◌∷◌, ◌+◌, ◌<◌, ltb, length, if◌then◌else◌};
 ghost use Rattle.texts.specs.Lists.{each, through};
 ghost use Rattle.lint_reach.specs.Sets.{members};

@@ -1,5 +1,6 @@
 // The undeclared names that automations read: the entities of waits whose triggers have notes. A model has at most 64.
 #![tactic(auto)]
+
 ghost use Rattle.std.specs.Prelude.{◌≡◌, ◌≤◌, ◌<◌, ◌+◌};
 ghost use Rattle.lint_walk.specs.Walks.{walk_by};
 ghost use Rattle.lint_conditions.specs.Context.{section_of};

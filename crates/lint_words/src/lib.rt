@@ -1,6 +1,7 @@
 // The words, names and messages of `lint`'s answer, which the writers of its lines share. The writers put texts behind the
 // first n bytes of a lent area, as those of `show` do. f is the model file.
 #![tactic(auto)]
+
 ghost use Rattle.std.specs.Prelude.{◌≡◌, [], ◌∷◌, ◌≤◌, ◌<◌, if◌then◌else◌};
 ghost use Rattle.texts.specs.Lists.{flat};
 ghost use Rattle.texts.specs.Texts.{Text};

@@ -1,5 +1,6 @@
 // What a search goes by, and what each of its cases adds to it.
 #![tactic(auto)]
+
 ghost use Rattle.std.specs.Prelude.{◌≡◌, ◌+◌, ◌*◌, ◌≤◌, ◌<◌, length};
 ghost use Rattle.engine_fields.specs.Fields.{cap};
 ghost use Rattle.search_cases.specs.Promises.{

@@ -1,5 +1,6 @@
 // What a search chooses from, a model's inputs and gaps, and the events that it has placed so far.
 #![tactic(auto)]
+
 ghost use Rattle.std.specs.Prelude.{◌≡◌, ◌≤◌, ◌<◌, length};
 ghost use Rattle.search_inputs.specs.Inputs.{input_word, AlphabetOf, gap_word, GapsOf, last_m, Placing};
 

@@ -1,6 +1,7 @@
 // Reads a model file on standard input and prints its cone. One byte more than the limit is read, so that a longer file is
 // refused as one.
 #![tactic(auto)]
+
 use cone_entry::ConeResult;
 use model_index::Index;
 use model_parts::Section;

@@ -5,11 +5,10 @@ use Rattle.checker_judge.proofs.Laws as laws
 use Rattle.checker_judge.proofs.judge.Goals as goal
 
 pub loop-k-init : goal.loop-k-init
-loop-k-init c =
-    (
-      laws.starts _ _ _ _ _ _ _ _ c.capped-p.ensures c.nothing_yet-m.ensures,
-      (refl, c.name_all.ensures),
-    )
+loop-k-init c = (
+  laws.starts _ _ _ _ _ _ _ _ c.capped-p.ensures c.nothing_yet-m.ensures,
+  (refl, c.name_all.ensures),
+)
 
 pub next_turn-shown-requires : goal.next_turn-shown-requires
 next_turn-shown-requires c = (omega (arith, c.if-n-k.false, c.requires), c.loop-k.invariant.1.0)

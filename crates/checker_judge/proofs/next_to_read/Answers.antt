@@ -30,7 +30,7 @@ loop-j-preserved c = laws.one_more _ _ _ _ _ c.loop-j.invariant c.is_quiet.ensur
 pub returns : goal.returns
 returns c =
     record {
-  quiet = c.loop-j.invariant;
-  later_ones = λ h. omega (arith, c.if-k-eq0.false);
-  idle = λ h. sym c.pending.ensures ∙ c.if-pending.false;
-}
+      quiet = c.loop-j.invariant;
+      later_ones = λ h. omega (arith, c.if-k-eq0.false);
+      idle = λ h. sym c.pending.ensures ∙ c.if-pending.false;
+    }

@@ -5,7 +5,7 @@ pub returns : goal.returns
 unfolding responded_m
 returns c =
     rw (
-  ← c.waits_after-new.ensures,
-  ← c.response_failure-failure.ensures,
-  ← c.response_memory-memory.ensures,
-)
+      ← c.waits_after-new.ensures,
+      ← c.response_failure-failure.ensures,
+      ← c.response_memory-memory.ensures,
+    )

@@ -16,14 +16,13 @@ pub needs-requires : goal.needs-requires
 needs-requires c = (c.requires.0, (sizes.sized _ _ c.rule_walk-c.ensures).0)
 
 pub loop-i-preserved : goal.loop-i-preserved
-loop-i-preserved c =
-    (
-      c.loop-i.invariant.0 ∙ entry.fill_more _ _ _ _ c.loop-i-test.true
-          (laws.write_is _ _ _ c.rule_walk-c.ensures c.writes.ensures),
-      c.loop-i.invariant.1
-          ∙ entry.fill_more _ _ _ _ c.loop-i-test.true
-          (laws.need_is _ _ _ c.rule_walk-c.ensures c.needs.ensures),
-    )
+loop-i-preserved c = (
+  c.loop-i.invariant.0 ∙ entry.fill_more _ _ _ _ c.loop-i-test.true
+      (laws.write_is _ _ _ c.rule_walk-c.ensures c.writes.ensures),
+  c.loop-i.invariant.1
+      ∙ entry.fill_more _ _ _ _ c.loop-i-test.true
+      (laws.need_is _ _ _ c.rule_walk-c.ensures c.needs.ensures),
+)
 
 pub returns : goal.returns
 returns c =

@@ -10,12 +10,11 @@ pub loop-e-init : goal.loop-e-init
 loop-e-init c = (λ j h. absurd (omega arith), (length-replicate {A = ℕ} 32 0, omega arith))
 
 pub loop-e-preserved : goal.loop-e-preserved
-loop-e-preserved c =
-    (
-      table.one_more (value_from _ _ _) c.loop-e.values c.loop-e.e c.value_word.result c.loop-e.invariant.0
-          (omega (arith, c.loop-e.invariant.1.0, c.loop-e-test.true)) c.value_word.ensures,
-      (length-set c.loop-e.values c.loop-e.e c.value_word.result ∙ c.loop-e.invariant.1.0, omega arith),
-    )
+loop-e-preserved c = (
+  table.one_more (value_from _ _ _) c.loop-e.values c.loop-e.e c.value_word.result c.loop-e.invariant.0
+      (omega (arith, c.loop-e.invariant.1.0, c.loop-e-test.true)) c.value_word.ensures,
+  (length-set c.loop-e.values c.loop-e.e c.value_word.result ∙ c.loop-e.invariant.1.0, omega arith),
+)
 
 pub returns : goal.returns
 returns c =

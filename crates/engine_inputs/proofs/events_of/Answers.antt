@@ -9,14 +9,13 @@ use Rattle.engine_inputs.proofs.Laws as laws
 use Rattle.engine_inputs.proofs.events_of.Goals as goal
 
 pub loop-k-init : goal.loop-k-init
-loop-k-init c =
-    (
-      λ j h. absurd (omega arith),
-      (
-        length-replicate {A = ℕ} event_word_count 0,
-        (omega arith, λ j h. laws.zeros event_word_count j),
-      ),
-    )
+loop-k-init c = (
+  λ j h. absurd (omega arith),
+  (
+    length-replicate {A = ℕ} event_word_count 0,
+    (omega arith, λ j h. laws.zeros event_word_count j),
+  ),
+)
 
 pub overflow_mul-n : goal.overflow_mul-n
 overflow_mul-n c = omega (arith, c.at_most-n.ensures.1)
@@ -28,19 +27,18 @@ pub bounds-words-k : goal.bounds-words-k
 bounds-words-k c = omega (arith, c.at_most-n.ensures.1, c.loop-k-test.true, c.loop-k.invariant.1.0)
 
 pub loop-k-preserved : goal.loop-k-preserved
-loop-k-preserved c =
+loop-k-preserved c = (
+  table.one_more (event_from _ _) c.loop-k.words c.loop-k.k c.event_word.result c.loop-k.invariant.0
+      (omega (arith, c.loop-k.invariant.1.0, c.loop-k-test.true, c.at_most-n.ensures.1))
+      c.event_word.ensures,
+  (
+    length-set c.loop-k.words c.loop-k.k c.event_word.result ∙ c.loop-k.invariant.1.0,
     (
-      table.one_more (event_from _ _) c.loop-k.words c.loop-k.k c.event_word.result c.loop-k.invariant.0
-          (omega (arith, c.loop-k.invariant.1.0, c.loop-k-test.true, c.at_most-n.ensures.1))
-          c.event_word.ensures,
-      (
-        length-set c.loop-k.words c.loop-k.k c.event_word.result ∙ c.loop-k.invariant.1.0,
-        (
-          omega (arith, c.loop-k-test.true),
-          laws.zeros_behind c.loop-k.words c.loop-k.k c.event_word.result c.loop-k.invariant.1.1.1,
-        ),
-      ),
-    )
+      omega (arith, c.loop-k-test.true),
+      laws.zeros_behind c.loop-k.words c.loop-k.k c.event_word.result c.loop-k.invariant.1.1.1,
+    ),
+  ),
+)
 
 pub returns : goal.returns
 returns c =

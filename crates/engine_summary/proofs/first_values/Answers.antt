@@ -15,12 +15,11 @@ pub bounds-places-e : goal.bounds-places-e
 bounds-places-e c = omega (arith, c.loop-e-test.true, c.loop-e.invariant.1.1)
 
 pub loop-e-preserved : goal.loop-e-preserved
-loop-e-preserved c =
-    (
-      laws.firsts_more _ c.loop-e.places c.loop-e.e _ c.loop-e.invariant.0
-          (omega (arith, c.loop-e-test.true, c.loop-e.invariant.1.1)) refl,
-      (omega arith, c.loop-e.invariant.1.1),
-    )
+loop-e-preserved c = (
+  laws.firsts_more _ c.loop-e.places c.loop-e.e _ c.loop-e.invariant.0
+      (omega (arith, c.loop-e-test.true, c.loop-e.invariant.1.1)) refl,
+  (omega arith, c.loop-e.invariant.1.1),
+)
 
 pub returns : goal.returns
 returns c =

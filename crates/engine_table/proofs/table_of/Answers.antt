@@ -21,16 +21,15 @@ pub bounds-words-k : goal.bounds-words-k
 bounds-words-k c = omega (arith, c.at_most-n.ensures.1, c.loop-k-test.true, c.loop-k.invariant.1.0)
 
 pub loop-k-preserved : goal.loop-k-preserved
-loop-k-preserved c =
-    (
-      laws.one_more (laws.so_far _ _ _ _ _) c.loop-k.words c.loop-k.k c.part_word.result c.loop-k.invariant.0
-          (omega (arith, c.loop-k.invariant.1.0, c.loop-k-test.true, c.at_most-n.ensures.1))
-          (c.part_word.ensures ∙ laws.so_high _ _ _ _ _ _ c.loop-k.invariant.1.1.0),
-      (
-        length-set c.loop-k.words c.loop-k.k c.part_word.result ∙ c.loop-k.invariant.1.0,
-        (omega (arith, c.loop-k.invariant.1.1.0), omega (arith, c.loop-k-test.true)),
-      ),
-    )
+loop-k-preserved c = (
+  laws.one_more (laws.so_far _ _ _ _ _) c.loop-k.words c.loop-k.k c.part_word.result c.loop-k.invariant.0
+      (omega (arith, c.loop-k.invariant.1.0, c.loop-k-test.true, c.at_most-n.ensures.1))
+      (c.part_word.ensures ∙ laws.so_high _ _ _ _ _ _ c.loop-k.invariant.1.1.0),
+  (
+    length-set c.loop-k.words c.loop-k.k c.part_word.result ∙ c.loop-k.invariant.1.0,
+    (omega (arith, c.loop-k.invariant.1.1.0), omega (arith, c.loop-k-test.true)),
+  ),
+)
 
 pub returns : goal.returns
 returns c =

@@ -8,11 +8,10 @@ pub loop-i-init : goal.loop-i-init
 loop-i-init c = laws.edges_is _ _ _
 
 pub reach_row-requires : goal.reach_row-requires
-reach_row-requires c =
-    (
-      c.requires,
-      (sizes.sized _ _ c.rule_walk-c.ensures).0,
-    )
+reach_row-requires c = (
+  c.requires,
+  (sizes.sized _ _ c.rule_walk-c.ensures).0,
+)
 
 pub loop-i-preserved : goal.loop-i-preserved
 loop-i-preserved c =

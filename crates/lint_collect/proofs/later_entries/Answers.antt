@@ -16,12 +16,11 @@ pub pair_entries-out-requires : goal.pair_entries-out-requires
 pair_entries-out-requires c = (c.requires.0, c.requires.2, search rules, (sizes.sized _ _ c.rule_walk-c.ensures).0)
 
 pub loop-j-preserved : goal.loop-j-preserved
-loop-j-preserved c =
-    (
-      (λ k. c.loop-j.invariant.0 k ∙ items.numbers_more _ _ _ _ c.loop-j-test.true
-          (c.pair_entries-out.ensures k)),
-      search rules,
-    )
+loop-j-preserved c = (
+  (λ k. c.loop-j.invariant.0 k ∙ items.numbers_more _ _ _ _ c.loop-j-test.true
+      (c.pair_entries-out.ensures k)),
+  search rules,
+)
 
 pub returns : goal.returns
 returns c =

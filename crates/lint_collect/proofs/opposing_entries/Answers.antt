@@ -9,12 +9,11 @@ pub loop-i-init : goal.loop-i-init
 loop-i-init c = ((λ k. laws.opposing_is _ _ _ _), refl)
 
 pub loop-i-preserved : goal.loop-i-preserved
-loop-i-preserved c =
-    (
-      (λ k. c.loop-i.invariant.0 k ∙ items.numbers_more _ _ _ _ c.loop-i-test.true
-          (c.later_entries-out.ensures k)),
-      search rules,
-    )
+loop-i-preserved c = (
+  (λ k. c.loop-i.invariant.0 k ∙ items.numbers_more _ _ _ _ c.loop-i-test.true
+      (c.later_entries-out.ensures k)),
+  search rules,
+)
 
 pub returns : goal.returns
 returns c = λ k. sym (c.loop-i.invariant.0 k ∙ items.numbers_end _ _ _ _ c.loop-i-test.false)

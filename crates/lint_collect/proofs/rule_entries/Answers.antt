@@ -4,11 +4,10 @@ use Rattle.lint_access.proofs.reads.Reads as reads-reads
 use Rattle.lint_collect.proofs.rule_entries.Goals as goal
 
 pub writes-writes-requires : goal.writes-writes-requires
-writes-writes-requires c =
-    (
-      c.requires.0,
-      (sizes.sized _ _ c.rule_walk-c.ensures).0,
-    )
+writes-writes-requires c = (
+  c.requires.0,
+  (sizes.sized _ _ c.rule_walk-c.ensures).0,
+)
 
 pub reads-reads-requires : goal.reads-reads-requires
 reads-reads-requires c = (c.requires.0, (sizes.sized _ _ c.rule_walk-c.ensures).0)

@@ -10,11 +10,10 @@ pub loop-i-init : goal.loop-i-init
 loop-i-init c = λ z y. (laws.reads_are _ _ _, laws.writes_are _ _ _)
 
 pub reads-requires : goal.reads-requires
-reads-requires c =
-    (
-      c.requires.0,
-      (sizes.sized _ _ c.rule_walk-c.ensures).0,
-    )
+reads-requires c = (
+  c.requires.0,
+  (sizes.sized _ _ c.rule_walk-c.ensures).0,
+)
 
 pub writes-requires : goal.writes-requires
 writes-requires c = (c.requires.0, (sizes.sized _ _ c.rule_walk-c.ensures).0)
@@ -30,8 +29,7 @@ loop-i-preserved c =
     )
 
 pub returns : goal.returns
-returns c =
-    (
-      sym ((c.loop-i.invariant _ _).0 ∙ entry.fill_end _ _ _ _ c.loop-i-test.false),
-      sym ((c.loop-i.invariant _ _).1 ∙ entry.fill_end _ _ _ _ c.loop-i-test.false),
-    )
+returns c = (
+  sym ((c.loop-i.invariant _ _).0 ∙ entry.fill_end _ _ _ _ c.loop-i-test.false),
+  sym ((c.loop-i.invariant _ _).1 ∙ entry.fill_end _ _ _ _ c.loop-i-test.false),
+)

@@ -10,12 +10,11 @@ pub loop-i-init : goal.loop-i-init
 loop-i-init c = (laws.rules_begin _ _ _, omega arith)
 
 pub loop-i-preserved : goal.loop-i-preserved
-loop-i-preserved c =
-    (
-      c.loop-i.invariant.0 ∙ loops.each_turn _ _ c.loop-i.i _
-          (omega (arith, c.loop-i-test.true, c.wide-count.ensures)) ∙ ap (through _ _) (sym c.better-found.ensures),
-      omega (arith, c.loop-i-test.true, c.wide-count.ensures),
-    )
+loop-i-preserved c = (
+  c.loop-i.invariant.0 ∙ loops.each_turn _ _ c.loop-i.i _
+      (omega (arith, c.loop-i-test.true, c.wide-count.ensures)) ∙ ap (through _ _) (sym c.better-found.ensures),
+  omega (arith, c.loop-i-test.true, c.wide-count.ensures),
+)
 
 pub returns : goal.returns
 returns c =

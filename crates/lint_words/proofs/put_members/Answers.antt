@@ -11,12 +11,11 @@ pub loop-i-init : goal.loop-i-init
 loop-i-init c = (loops.begun (loops.members_begun _ _), search rules)
 
 pub loop-i-preserved : goal.loop-i-preserved
-loop-i-preserved c =
-    (
-      loops.further (loops.turn 32 (holds c.args.set) _ c.loop-i.i c.loop-i-test.true) c.loop-i.invariant.0
-          c.put_member-m.ensures,
-      search rules,
-    )
+loop-i-preserved c = (
+  loops.further (loops.turn 32 (holds c.args.set) _ c.loop-i.i c.loop-i-test.true) c.loop-i.invariant.0
+      c.put_member-m.ensures,
+  search rules,
+)
 
 pub shape_of-out : goal.shape_of-out
 shape_of-out c = c.loop-i.invariant.0.written.same ∙ c.put_number-m.ensures.same

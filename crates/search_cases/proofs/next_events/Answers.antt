@@ -25,18 +25,17 @@ pub nonzero_rem-k : goal.nonzero_rem-k
 nonzero_rem-k c = omega (arith, laws.some_inputs _ _ _ c.requires.0)
 
 pub place-requires : goal.place-requires
-place-requires c =
-    (
-      omega (arith, c.requires.1.events),
-      (
-        c.requires.1.words,
-        omega (
-          arith,
-          laws.input_below _ _ _ c.requires.0,
-          c.requires.1.fitted.inputs,
-        ),
-      ),
-    )
+place-requires c = (
+  omega (arith, c.requires.1.events),
+  (
+    c.requires.1.words,
+    omega (
+      arith,
+      laws.input_below _ _ _ c.requires.0,
+      c.requires.1.fitted.inputs,
+    ),
+  ),
+)
 
 pub returns : goal.returns
 returns c =

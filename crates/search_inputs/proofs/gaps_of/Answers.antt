@@ -10,17 +10,16 @@ pub loop-k-init : goal.loop-k-init
 loop-k-init c = (λ j h. absurd (omega arith), (length-replicate {A = ℕ} 4 0, omega arith))
 
 pub loop-k-preserved : goal.loop-k-preserved
-loop-k-preserved c =
-    (
-      table.one_more (gap_word _ _) c.loop-k.seconds c.loop-k.k
-          c.gap_word.result c.loop-k.invariant.0
-          (omega (arith, c.loop-k.invariant.1.0, c.loop-k-test.true)) c.gap_word.ensures,
-      (
-        length-set c.loop-k.seconds c.loop-k.k c.gap_word.result
-            ∙ c.loop-k.invariant.1.0,
-        omega arith,
-      ),
-    )
+loop-k-preserved c = (
+  table.one_more (gap_word _ _) c.loop-k.seconds c.loop-k.k
+      c.gap_word.result c.loop-k.invariant.0
+      (omega (arith, c.loop-k.invariant.1.0, c.loop-k-test.true)) c.gap_word.ensures,
+  (
+    length-set c.loop-k.seconds c.loop-k.k c.gap_word.result
+        ∙ c.loop-k.invariant.1.0,
+    omega arith,
+  ),
+)
 
 pub returns : goal.returns
 returns c =
