@@ -1,6 +1,7 @@
-// The entries for C (include/fukhtsege.h): the answer goes as numbers into a lent slice, and the result is 0, the refusal's
-// number, or 47 if that slice is too short; then nothing else happens.
+// The entries for C (include/fukhtsege.h; the crate fukhtsege_c has their symbols): the answer goes as numbers into a lent
+// slice, and the result is 0, the refusal's number, or 47 if that slice is too short; then nothing else happens.
 #![tactic(auto)]
+
 ghost use Rattle.std.specs.Prelude.{◌≡◌};
 ghost use Rattle.engine_entry.specs.Contract.{lent};
 ghost use Rattle.lint_spec.specs.Memory as lint;
@@ -15,8 +16,7 @@ pub const SHORT_ANSWER: u32 = 47;
 
 // ---- validate
 
-#[unsafe(no_mangle)]
-pub extern "C" fn fukhtsege_validate(file: &[u8]) -> u32
+pub fn fukhtsege_validate(file: &[u8]) -> u32
     ensures { result ≡ validity_number (validated file.now) }
 {
     let v = model_validate::validate(file);
@@ -28,8 +28,7 @@ pub extern "C" fn fukhtsege_validate(file: &[u8]) -> u32
 
 // ---- unsupported
 
-#[unsafe(no_mangle)]
-pub extern "C" fn fukhtsege_unsupported(file: &[u8], answer: &mut [u64]) -> u32
+pub fn fukhtsege_unsupported(file: &[u8], answer: &mut [u64]) -> u32
     ensures { ListsC file.now result answer.old answer.new }
 {
     if answer.len() < 1504 {
@@ -42,8 +41,7 @@ pub extern "C" fn fukhtsege_unsupported(file: &[u8], answer: &mut [u64]) -> u32
 
 // ---- simulate
 
-#[unsafe(no_mangle)]
-pub extern "C" fn fukhtsege_simulate(
+pub fn fukhtsege_simulate(
     file: &[u8],
     queue: &mut [u32],
     records: &mut [u32],
@@ -64,8 +62,7 @@ pub extern "C" fn fukhtsege_simulate(
 
 // ---- check
 
-#[unsafe(no_mangle)]
-pub extern "C" fn fukhtsege_check(
+pub fn fukhtsege_check(
     file: &[u8],
     queue: &mut [u32],
     records: &mut [u32],
@@ -99,8 +96,7 @@ pub extern "C" fn fukhtsege_check(
 
 // ---- verify
 
-#[unsafe(no_mangle)]
-pub extern "C" fn fukhtsege_verify(
+pub fn fukhtsege_verify(
     file: &[u8],
     queue: &mut [u32],
     records: &mut [u32],
@@ -146,8 +142,7 @@ pub extern "C" fn fukhtsege_verify(
 
 // ---- minimize
 
-#[unsafe(no_mangle)]
-pub extern "C" fn fukhtsege_minimize(
+pub fn fukhtsege_minimize(
     file: &[u8],
     queue: &mut [u32],
     records: &mut [u32],
@@ -168,8 +163,7 @@ pub extern "C" fn fukhtsege_minimize(
 
 // ---- lint
 
-#[unsafe(no_mangle)]
-pub extern "C" fn fukhtsege_lint(
+pub fn fukhtsege_lint(
     file: &[u8],
     findings: &mut [u32],
     interactions: &mut [u32],
@@ -188,8 +182,7 @@ pub extern "C" fn fukhtsege_lint(
 
 // ---- cone
 
-#[unsafe(no_mangle)]
-pub extern "C" fn fukhtsege_cone(file: &[u8], answer: &mut [u64]) -> u32
+pub fn fukhtsege_cone(file: &[u8], answer: &mut [u64]) -> u32
     ensures { ConesC file.now result answer.old answer.new }
 {
     if answer.len() < 68 {
