@@ -10,7 +10,7 @@ pub returns-then-o : goal.returns-then-o
 returns-then-o t c = visits.stays_so c.if-o.true
 
 pub last_at-requires : goal.last_at-requires
-last_at-requires t c = omega (arith, c.requires.1.events)
+last_at-requires t c = omega (arith, c.requires.events)
 
 pub returns-then-p-last_at : goal.returns-then-p-last_at
 returns-then-p-last_at t c =
@@ -18,19 +18,7 @@ returns-then-p-last_at t c =
     (omega (arith, c.if-p-last_at.true, c.last_at.ensures))
 
 pub try_case-requires : goal.try_case-requires
-try_case-requires t c = record { fitted = c.requires.1.fitted; words = c.requires.1.words; events = omega (arith, c.requires.1.events) }
-
-pub shape_of-queue-then-remaining-eq0 : goal.shape_of-queue-then-remaining-eq0
-shape_of-queue-then-remaining-eq0 t c = search rules
-
-pub shape_of-records-then-remaining-eq0 : goal.shape_of-records-then-remaining-eq0
-shape_of-records-then-remaining-eq0 t c = search rules
-
-pub shape_of-runs-then-remaining-eq0 : goal.shape_of-runs-then-remaining-eq0
-shape_of-runs-then-remaining-eq0 t c = search rules
-
-pub shape_of-w-then-remaining-eq0 : goal.shape_of-w-then-remaining-eq0
-shape_of-w-then-remaining-eq0 t c = search rules
+try_case-requires t c = record { fitted = c.requires.fitted; words = c.requires.words; events = omega (arith, c.requires.events) }
 
 pub returns-then-remaining-eq0 : goal.returns-then-remaining-eq0
 returns-then-remaining-eq0 t c =
@@ -42,8 +30,8 @@ overflow_mul-pairs t c =
     omega (
       arith,
       laws.few_pairs _ _
-          c.requires.1.fitted.gaps
-          c.requires.1.fitted.inputs,
+          c.requires.fitted.gaps
+          c.requires.fitted.inputs,
     )
 
 pub loop-k-init : goal.loop-k-init
@@ -54,10 +42,10 @@ next_events-next-requires t c =
     (
       c.loop-k-test.true,
       record {
-        fitted = laws.fit_any c.requires.1.fitted (sym c.requires.1.fitted.area);
+        fitted = laws.fit_any c.requires.fitted (sym c.requires.fitted.area);
         words =
-            c.requires.1.words;
-        events = omega (arith, c.requires.1.events, c.if-remaining-eq0.false);
+            c.requires.words;
+        events = omega (arith, c.requires.events, c.if-remaining-eq0.false);
       },
     )
 
@@ -67,14 +55,14 @@ overflow_sub-remaining t c = omega (arith, c.if-remaining-eq0.false)
 pub visit-s-requires : goal.visit-s-requires
 visit-s-requires t c =
     (
-      omega (arith, c.if-remaining-eq0.false, c.requires.0),
+      omega (arith, c.if-remaining-eq0.false),
       record {
         fitted =
-            laws.fit_any c.requires.1.fitted c.loop-k.invariant.1.1.1.0;
+            laws.fit_any c.requires.fitted c.loop-k.invariant.1.1.1.0;
         words =
-            c.next_events-next.ensures.long ∙ c.requires.1.words;
+            c.next_events-next.ensures.long ∙ c.requires.words;
         events =
-            omega (arith, c.requires.1.events, c.if-remaining-eq0.false, c.next_events-next.ensures.count);
+            omega (arith, c.requires.events, c.if-remaining-eq0.false, c.next_events-next.ensures.count);
       },
     )
 
@@ -84,12 +72,9 @@ overflow_add-k t c =
       arith,
       c.loop-k-test.true,
       laws.few_pairs _ _
-          c.requires.1.fitted.gaps
-          c.requires.1.fitted.inputs,
+          c.requires.fitted.gaps
+          c.requires.fitted.inputs,
     )
-
-pub loop-k-smaller : goal.loop-k-smaller
-loop-k-smaller t c = search rules
 
 pub loop-k-preserved : goal.loop-k-preserved
 loop-k-preserved t c =
@@ -104,7 +89,7 @@ loop-k-preserved t c =
             (
               omega (arith, c.loop-k-test.true),
               visits.walk_next c.loop-k-test.true
-                  (omega (arith, c.if-p-last_at.false, c.last_at.ensures)) (omega (arith, c.requires.1.events, c.if-remaining-eq0.false))
+                  (omega (arith, c.if-p-last_at.false, c.last_at.ensures)) (omega (arith, c.requires.events, c.if-remaining-eq0.false))
                   c.next_events-next.ensures c.loop-k.invariant.1.1.1.1.1 c.loop-k.invariant.0 c.loop-k.invariant.1.0
                   c.loop-k.invariant.1.1.0 c.visit-s.ensures,
             ),
@@ -112,18 +97,6 @@ loop-k-preserved t c =
         ),
       ),
     )
-
-pub shape_of-queue : goal.shape_of-queue
-shape_of-queue t c = search rules
-
-pub shape_of-records : goal.shape_of-records
-shape_of-records t c = search rules
-
-pub shape_of-runs : goal.shape_of-runs
-shape_of-runs t c = search rules
-
-pub shape_of-w : goal.shape_of-w
-shape_of-w t c = search rules
 
 pub returns : goal.returns
 returns t c =
