@@ -53,7 +53,7 @@ pub record Shows (f : List ℕ) (r : Verification) (v : verify.Verification) : T
   pub total_steps : r.total_steps ≡ v.total_steps
   pub depth : r.depth ≡ v.depth
   pub horizon : r.horizon ≡ v.horizon
-  pub max_cases : r.max_cases ≡ v.max-cases
+  pub max_cases : r.max_cases ≡ v.max_cases
   pub max_steps_per_case : r.max_steps_per_case ≡ v.max_steps_per_case
   pub alphabet : r.alphabet ≡ length v.alphabet
   pub inputs : r.inputs ≡ area (input_words (texts_in f)) 36 v.alphabet
