@@ -1,5 +1,6 @@
 // The entry `check`: the verdict on a model's simulation.
 #![tactic(auto)]
+
 ghost use Rattle.std.specs.Prelude.{◌*◌, ◌≤◌, length};
 ghost use Rattle.checker_result.specs.Result.{result_of};
 ghost use Rattle.checker_entry.specs.Contract.{Checks};

@@ -1,5 +1,6 @@
 // The verdict on a simulation, and the answer of `check` as one value.
 #![tactic(auto)]
+
 ghost use Rattle.checker_result.specs.Statuses.{refusal_m, is_refused_m, is_violation_m};
 ghost use Rattle.std.specs.Prelude.{◌≡◌, ◌+◌, ◌*◌, ◌≤◌, length};
 ghost use Rattle.checker_result.specs.Result.{no_check, result_of};

@@ -1,6 +1,7 @@
 // The check of a case among many: first in a small part of the lent areas, which is quick to clear, and in all of them only
 // if that part is too small. What isn't refused in the part is the same in all of them.
 #![tactic(auto)]
+
 ghost use Rattle.std.specs.Prelude.{◌*◌, ◌≤◌, length};
 ghost use Rattle.engine_entry.specs.Prepared.{prepared_of};
 ghost use Rattle.checker_result.specs.Result.{result_of};

@@ -1,5 +1,6 @@
 // The reduction of a violating model's events: each is left out in turn, for good if the violation stays.
 #![tactic(auto)]
+
 ghost use Rattle.layout.specs.Sizes.{event_word_count};
 ghost use Rattle.std.specs.Prelude.{◌≡◌, ◌*◌, ◌≤◌, ◌<◌, length};
 ghost use Rattle.engine_entry.specs.Prepared.{prepared_of};

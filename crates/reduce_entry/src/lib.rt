@@ -1,5 +1,6 @@
 // The entry `minimize`: a violating model with fewer events, written as a model file.
 #![tactic(auto)]
+
 ghost use Rattle.engine_entry.specs.Contract.{lent};
 ghost use Rattle.engine_entry.specs.Prepared.{prepared_of};
 ghost use Rattle.reduce_entry.specs.Contract.{Minimizes};

@@ -1,5 +1,6 @@
 // The answer of `minimize`: the check of the events that are left, and the file with them.
 #![tactic(auto)]
+
 ghost use Rattle.std.specs.Prelude.{◌≡◌, ◌*◌, ◌≤◌, length};
 ghost use Rattle.engine_entry.specs.Prepared.{prepared_of};
 ghost use Rattle.checker_entry.specs.Promises.{Whole};

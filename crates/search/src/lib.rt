@@ -1,5 +1,6 @@
 // The bounded search for a violation: each list of events up to a depth, by depth, from the alphabet and the gaps.
 #![tactic(auto)]
+
 ghost use Rattle.std.specs.Prelude.{◌*◌, ◌≤◌, ◌<◌, length};
 ghost use Rattle.search_cases.specs.Promises.{Fitted, Shaped};
 ghost use Rattle.search.specs.Meaning.{entire};

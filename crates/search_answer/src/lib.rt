@@ -1,5 +1,6 @@
 // The answer of `verify`, from a search and its witness.
 #![tactic(auto)]
+
 ghost use Rattle.std.specs.Prelude.{◌≡◌, List, ℕ, length};
 ghost use Rattle.checker_result.specs.Result.{result_of};
 ghost use Rattle.search_answer.specs.Result.{whole_of, no_verification};

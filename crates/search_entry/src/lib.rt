@@ -1,5 +1,6 @@
 // The entry `verify`: the bounded search, its witness and the witness's file.
 #![tactic(auto)]
+
 ghost use Rattle.std.specs.Prelude.{◌+◌, ◌≤◌, length};
 ghost use Rattle.engine_entry.specs.Contract.{lent};
 ghost use Rattle.checker_result.specs.Result.{result_of};

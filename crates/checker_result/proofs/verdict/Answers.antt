@@ -7,21 +7,20 @@ pub merge-unknown-requires : goal.merge-unknown-requires
 merge-unknown-requires c = laws.merge_room _ _ _ _ c.min_usize-many.ensures.most (search rules) (search rules)
 
 pub judge_all-t-requires : goal.judge_all-t-requires
-judge_all-t-requires c =
+judge_all-t-requires c = (
+  c.fitting-n.ensures.most,
+  (
+    search rules,
     (
-      c.fitting-n.ensures.most,
-      (
-        search rules,
-        (
-          omega (
-            arith,
-            laws.merged_most _ _ _ _
-                c.min_usize-many.ensures.most c.merge-unknown.ensures,
-          ),
-          omega (arith, c.add_waiting-incomplete.ensures.most, c.add_stopped-stopped.ensures.most),
-        ),
+      omega (
+        arith,
+        laws.merged_most _ _ _ _
+            c.min_usize-many.ensures.most c.merge-unknown.ensures,
       ),
-    )
+      omega (arith, c.add_waiting-incomplete.ensures.most, c.add_stopped-stopped.ensures.most),
+    ),
+  ),
+)
 
 pub returns : goal.returns
 returns c =

@@ -15,11 +15,10 @@ returns-then-violated-k c =
     c.if-violated-k.true)
 
 pub loop-k-preserved : goal.loop-k-preserved
-loop-k-preserved c =
-    (
-      laws.among_miss _ _ c.loop-k.k c.loop-k.invariant.0 c.if-violated-k.false,
-      (omega (arith, c.loop-k-test.true), c.loop-k.invariant.1.1),
-    )
+loop-k-preserved c = (
+  laws.among_miss _ _ c.loop-k.k c.loop-k.invariant.0 c.if-violated-k.false,
+  (omega (arith, c.loop-k-test.true), c.loop-k.invariant.1.1),
+)
 
 pub returns : goal.returns
 returns c =

@@ -38,33 +38,31 @@ pub loop-k-init : goal.loop-k-init
 loop-k-init t c = (refl, (refl, (refl, (refl, (omega arith, visits.walk_start)))))
 
 pub next_events-next-requires : goal.next_events-next-requires
-next_events-next-requires t c =
-    (
-      c.loop-k-test.true,
-      record {
-        fitted = laws.fit_any c.requires.fitted (sym c.requires.fitted.area);
-        words =
-            c.requires.words;
-        events = omega (arith, c.requires.events, c.if-remaining-eq0.false);
-      },
-    )
+next_events-next-requires t c = (
+  c.loop-k-test.true,
+  record {
+    fitted = laws.fit_any c.requires.fitted (sym c.requires.fitted.area);
+    words =
+        c.requires.words;
+    events = omega (arith, c.requires.events, c.if-remaining-eq0.false);
+  },
+)
 
 pub overflow_sub-remaining : goal.overflow_sub-remaining
 overflow_sub-remaining t c = omega (arith, c.if-remaining-eq0.false)
 
 pub visit-s-requires : goal.visit-s-requires
-visit-s-requires t c =
-    (
-      omega (arith, c.if-remaining-eq0.false),
-      record {
-        fitted =
-            laws.fit_any c.requires.fitted c.loop-k.invariant.1.1.1.0;
-        words =
-            c.next_events-next.ensures.long ∙ c.requires.words;
-        events =
-            omega (arith, c.requires.events, c.if-remaining-eq0.false, c.next_events-next.ensures.count);
-      },
-    )
+visit-s-requires t c = (
+  omega (arith, c.if-remaining-eq0.false),
+  record {
+    fitted =
+        laws.fit_any c.requires.fitted c.loop-k.invariant.1.1.1.0;
+    words =
+        c.next_events-next.ensures.long ∙ c.requires.words;
+    events =
+        omega (arith, c.requires.events, c.if-remaining-eq0.false, c.next_events-next.ensures.count);
+  },
+)
 
 pub overflow_add-k : goal.overflow_add-k
 overflow_add-k t c =
@@ -77,26 +75,25 @@ overflow_add-k t c =
     )
 
 pub loop-k-preserved : goal.loop-k-preserved
-loop-k-preserved t c =
+loop-k-preserved t c = (
+  omega (arith, c.loop-k.invariant.0, c.visit-s.auto.queue),
+  (
+    omega (arith, c.loop-k.invariant.1.0, c.visit-s.auto.records),
     (
-      omega (arith, c.loop-k.invariant.0, c.visit-s.auto.queue),
+      omega (arith, c.loop-k.invariant.1.1.0, c.visit-s.auto.runs),
       (
-        omega (arith, c.loop-k.invariant.1.0, c.visit-s.auto.records),
+        omega (arith, c.loop-k.invariant.1.1.1.0, c.visit-s.auto.w),
         (
-          omega (arith, c.loop-k.invariant.1.1.0, c.visit-s.auto.runs),
-          (
-            omega (arith, c.loop-k.invariant.1.1.1.0, c.visit-s.auto.w),
-            (
-              omega (arith, c.loop-k-test.true),
-              visits.walk_next c.loop-k-test.true
-                  (omega (arith, c.if-p-last_at.false, c.last_at.ensures)) (omega (arith, c.requires.events, c.if-remaining-eq0.false))
-                  c.next_events-next.ensures c.loop-k.invariant.1.1.1.1.1 c.loop-k.invariant.0 c.loop-k.invariant.1.0
-                  c.loop-k.invariant.1.1.0 c.visit-s.ensures,
-            ),
-          ),
+          omega (arith, c.loop-k-test.true),
+          visits.walk_next c.loop-k-test.true
+              (omega (arith, c.if-p-last_at.false, c.last_at.ensures)) (omega (arith, c.requires.events, c.if-remaining-eq0.false))
+              c.next_events-next.ensures c.loop-k.invariant.1.1.1.1.1 c.loop-k.invariant.0 c.loop-k.invariant.1.0
+              c.loop-k.invariant.1.1.0 c.visit-s.ensures,
         ),
       ),
-    )
+    ),
+  ),
+)
 
 pub returns : goal.returns
 returns t c =

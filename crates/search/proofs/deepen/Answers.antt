@@ -25,24 +25,23 @@ pub loop-d-smaller : goal.loop-d-smaller
 loop-d-smaller c = omega (arith, c.loop-d-test.true)
 
 pub loop-d-preserved : goal.loop-d-preserved
-loop-d-preserved c =
+loop-d-preserved c = (
+  omega (arith, c.loop-d.invariant.0, c.visit-s.auto.queue),
+  (
+    omega (arith, c.loop-d.invariant.1.0, c.visit-s.auto.records),
     (
-      omega (arith, c.loop-d.invariant.0, c.visit-s.auto.queue),
+      omega (arith, c.loop-d.invariant.1.1.0, c.visit-s.auto.runs),
       (
-        omega (arith, c.loop-d.invariant.1.0, c.visit-s.auto.records),
+        omega (arith, c.loop-d.invariant.1.1.1.0, c.visit-s.auto.w),
         (
-          omega (arith, c.loop-d.invariant.1.1.0, c.visit-s.auto.runs),
-          (
-            omega (arith, c.loop-d.invariant.1.1.1.0, c.visit-s.auto.w),
-            (
-              omega (arith, c.loop-d-test.true),
-              visits.depth_next c.loop-d.invariant.1.1.1.1.1 c.loop-d.invariant.0
-                  c.loop-d.invariant.1.0 c.loop-d.invariant.1.1.0 c.visit-s.ensures,
-            ),
-          ),
+          omega (arith, c.loop-d-test.true),
+          visits.depth_next c.loop-d.invariant.1.1.1.1.1 c.loop-d.invariant.0
+              c.loop-d.invariant.1.0 c.loop-d.invariant.1.1.0 c.visit-s.ensures,
         ),
       ),
-    )
+    ),
+  ),
+)
 
 pub returns : goal.returns
 returns c =

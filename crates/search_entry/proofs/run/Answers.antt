@@ -8,13 +8,12 @@ use Rattle.bounds.specs.Bounds.{at_most}
 use Rattle.search_entry.proofs.run.Goals as goal
 
 pub search_depths-o-requires : goal.search_depths-o-requires
-search_depths-o-requires c =
-    (
-      c.at_most-depth.ensures.1,
-      start.fitted _ _ c.requires.0.m c.requires.0.is_accepted c.requires.0.indexed
-          c.planned-p.result c.planned-p.ensures
-          (omega (arith, c.begun-start.auto.w, length-replicate {A = ℕ} 4000 0)),
-    )
+search_depths-o-requires c = (
+  c.at_most-depth.ensures.1,
+  start.fitted _ _ c.requires.0.m c.requires.0.is_accepted c.requires.0.indexed
+      c.planned-p.result c.planned-p.ensures
+      (omega (arith, c.begun-start.auto.w, length-replicate {A = ℕ} 4000 0)),
+)
 
 pub ended-requires : goal.ended-requires
 ended-requires c =
