@@ -1,5 +1,6 @@
 // An answer as numbers in a lent slice (include/fukhtsege.h).
 #![tactic(auto)]
+
 ghost use Rattle.std.specs.Prelude.{◌≡◌, ◌+◌, ◌≤◌, length};
 ghost use Rattle.areas.specs.Areas.{written};
 ghost use Rattle.engine_summary.specs.Summary.{simulation_of};

@@ -2,6 +2,7 @@
 // No contract can say what is printed; the lines are those of `check_lines`, `simulate_lines` and `record_lines`, and their
 // order is the order of the calls here.
 #![tactic(auto)]
+
 ghost use Rattle.std.specs.Prelude.{◌≤◌};
 ghost use Rattle.show.specs.Writing.{Written};
 ghost use Rattle.print_check.specs.Answer.{first_line};

@@ -1,6 +1,7 @@
 // The answer of `lint`, printed line by line through a lent area of bytes. No contract can say what is printed; the lines
 // are those of `lint_lines` and `lint_reads_lines`, and their order is the order of the calls here.
 #![tactic(auto)]
+
 ghost use Rattle.std.specs.Prelude.{◌≤◌};
 
 use lint_entry::Report;

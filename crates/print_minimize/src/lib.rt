@@ -1,6 +1,7 @@
 // The answer of `minimize`, and what the lines of `verify` share with it, printed line by line through a lent area of bytes.
 // No contract can say what is printed; the order of the lines is the order of the calls here.
 #![tactic(auto)]
+
 ghost use Rattle.std.specs.Prelude.{◌≡◌, ◌+◌, ◌*◌, ◌≤◌, length};
 ghost use Rattle.show.specs.Lines.{quoted};
 ghost use Rattle.show.specs.Writing.{Written};

@@ -1,6 +1,7 @@
 // The answer of `verify`, printed line by line through a lent area of bytes.
 // No contract can say what is printed; the order of the lines is the order of the calls here.
 #![tactic(auto)]
+
 ghost use Rattle.std.specs.Prelude.{◌+◌, ◌*◌, ◌≤◌, length};
 ghost use Rattle.show.specs.Writing.{Written};
 ghost use Rattle.print_verify.specs.Lines.{first_line, bound, bounds_line};

@@ -3,6 +3,7 @@
 // ahead of these bytes, and the length counts them too. A new entry gets a variant of Entry, an arm in print_lines and a
 // line in main.
 #![tactic(auto)]
+
 ghost use Rattle.replay.specs.Reading.{Within};
 
 use model_walk::Num;

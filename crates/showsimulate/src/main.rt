@@ -2,6 +2,7 @@
 // a longer file is refused as one. Three numbers as arguments say how many entries of queue, records and runs are lent;
 // without them the areas are so large that no accepted model fills them.
 #![tactic(auto)]
+
 fn main(rt: HostRuntime) -> std::io::Result<()> {
     let mut file = [0u8; 32769];
     let n = io::read_full(0, &mut file);

@@ -3,6 +3,7 @@
 // without them the areas are so large that no accepted model fills them. A further argument, or the only one, names the file
 // to which the witness is written.
 #![tactic(auto)]
+
 fn main(rt: HostRuntime) -> std::io::Result<()> {
     let mut file = [0u8; 32769];
     let n = io::read_full(0, &mut file);

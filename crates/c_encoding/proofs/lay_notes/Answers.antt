@@ -5,6 +5,6 @@ pub returns : goal.returns
 unfolding laid_notes
 returns c =
     rw (
-  c.put_words.ensures,
-  c.put_numbers.ensures,
-)
+      c.put_words.ensures,
+      c.put_numbers.ensures,
+    )

@@ -5,6 +5,6 @@ pub returns : goal.returns
 unfolding verification_in search_in
 returns c =
     rw (
-  c.put_check.ensures,
-  c.put_searched.ensures,
-)
+      c.put_check.ensures,
+      c.put_searched.ensures,
+    )

@@ -8,15 +8,14 @@ use Rattle.areas.proofs.Lists as lists
 use Rattle.c_encoding.proofs.put_words.Goals as goal
 
 pub loop-k-init : goal.loop-k-init
-loop-k-init c =
-    (
-      search rules,
-      (
-        refl,
-        paste-zero c.args.out.now c.args.at
-            c.args.w.now,
-      ),
-    )
+loop-k-init c = (
+  search rules,
+  (
+    refl,
+    paste-zero c.args.out.now c.args.at
+        c.args.w.now,
+  ),
+)
 
 pub loop-k-preserved : goal.loop-k-preserved
 loop-k-preserved c =
