@@ -1,6 +1,6 @@
 /* Checks the model file on standard input with the library, and prints the status, the steps and the records.
  *
- *     rt staticlib fukhtsege
+ *     tools/c_library
  *     cc -I include examples/check.c target/staticlib/libfukhtsege.a -o check && ./check < examples/lampdoor.model
  */
 #include "fukhtsege.h"

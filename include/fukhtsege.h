@@ -1,4 +1,4 @@
-/* The home rule checker for C: libfukhtsege.a, made by `rt staticlib fukhtsege`.
+/* The home rule checker for C: libfukhtsege.a, made by `tools/c_library`.
  *
  * Every function returns 0, or the number of the refusal (README.md), or 47 if `answer` has fewer numbers than the function
  * writes; then nothing is worked on and no lent memory changes. No other condition is put on the caller but that each pointer

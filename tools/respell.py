@@ -99,7 +99,7 @@ def places(text):
         clauses = re.sub(r"\b(was|is) (\w+)", word, clauses)
         return sig + sep + clauses
 
-    text = re.sub(r"(?ms)^ *(?:#\[.*?\]\n)?(?:pub )?(?:unsafe )?(?:extern \"C\" )?fn .*?^ *\{$", one, text)
+    text = re.sub(r"(?ms)^ *(?:#\[[^\n]*\]\n)?(?:pub )?(?:unsafe )?(?:extern \"C\" )?fn .*?^ *\{$", one, text)
     return re.sub(r"ghost use Rattle\.notation\.specs\.Reference\.\{[^}]*\};\n", "", text)
 
 
