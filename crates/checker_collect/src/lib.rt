@@ -97,11 +97,7 @@ fn put(v: &mut [u64], at: usize, w: &[u64])
     requires { at + length w.now ≤ length v.old }
     ensures { v.new ≡ written v.old at w.now }
 {
-    let mut k = 0;
-    while k < w.len() {
-        v[at + k] = w[k];
-        k += 1;
-    }
+    v[at..at + w.len()].copy_from_slice(w);
 }
 
 // A violation more, if the reading has a failing record; the answer is how many there are then.
@@ -182,10 +178,8 @@ pub fn judge_all(
 {
     let many = bounds::at_most(count, 32);
     let mut t = s;
-    let mut k: usize = 0;
-    while k < many {
+    for k in 0..many {
         t = judge_one(f, x, starts[k], cells, a, n, v, u, w, t);
-        k += 1;
     }
     t
 }

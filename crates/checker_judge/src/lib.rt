@@ -262,12 +262,11 @@ fn name_predicate(f: &[u8], at: u32, named: &mut [bool; 64])
 fn name_list(f: &[u8], at: u32, named: &mut [bool; 64])
     ensures { named.new ≡ list_m f.now at named.old }
 {
-    let mut left = two_at(f, at as usize);
+    let count = two_at(f, at as usize);
     let mut p = after(at, 2);
-    while 0 < left {
+    for _ in 0..count {
         name_predicate(f, p, named);
         p = after_predicate(f, p);
-        left -= 1;
     }
 }
 

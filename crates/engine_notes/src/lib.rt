@@ -157,14 +157,12 @@ pub fn part_notes(f: &[u8], u: &mut [u32], part: Part, id: u32, at: usize, n: us
     let Num::Is(count, start) = x else {
         return Noted { count: n, next: at };
     };
-    let mut left = count;
     let mut p = start;
     let mut k = n;
-    while 0 < left {
+    for _ in 0..count {
         let d = part_note(f, u, part, id, p, k);
         p = d.next;
         k = d.count;
-        left -= 1;
     }
     Noted { count: k, next: p }
 }

@@ -80,13 +80,11 @@ pub fn at_second(st: State, second: u32) -> State
 fn event_work(kind: u32, entity: u32, value: u32) -> Work
     ensures { result ≡ event_m kind entity value }
 {
-    if kind == 0 {
-        return Work::Set { entity, value };
+    match kind {
+        0 => Work::Set { entity, value },
+        1 => Work::Restart,
+        _ => Work::Reload,
     }
-    if kind == 1 {
-        return Work::Restart;
-    }
-    Work::Reload
 }
 
 // The i-th event: a second, a kind, an entity and a value.
@@ -104,10 +102,8 @@ fn add_events(events: &[u32], count: usize, q: &mut [u32], st: State) -> State
     ensures { Does (add_events_m events.now count) st result (by q) kept kept still }
 {
     let mut s = st;
-    let mut i: usize = 0;
-    while i < count {
+    for i in 0..count {
         s = add_event(events, q, s, i);
-        i += 1;
     }
     s
 }
@@ -119,10 +115,8 @@ fn add_expiries(x: &Table, q: &mut [u32], versions: &[u32; 32], st: State) -> St
 {
     let n = at_most(x[layout::ENTITY_COUNT], 32);
     let mut s = st;
-    let mut e: usize = 0;
-    while e < n {
+    for e in 0..n {
         s = engine_update::expiry(x, q, versions, s, e);
-        e += 1;
     }
     s
 }

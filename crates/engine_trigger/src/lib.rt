@@ -91,10 +91,8 @@ fn wake(f: &[u8], q: &mut [u32], r: &mut [u32], st: State, m: Move) -> State
 {
     let n = st.live_runs;
     let mut s = st;
-    let mut k: usize = 0;
-    while k < n {
+    for k in 0..n {
         s = wake_one(f, q, r, s, k, m);
-        k += 1;
     }
     s
 }
@@ -207,10 +205,8 @@ pub fn trigger(
 {
     let n = bounds::at_most(x[layout::AUTOMATION_COUNT], 32);
     let mut s = wake(f, q, r, st, m);
-    let mut i: usize = 0;
-    while i < n {
+    for i in 0..n {
         s = offer(f, x, q, a, r, u, values, sequences, s, i, m);
-        i += 1;
     }
     s
 }

@@ -149,14 +149,12 @@ fn actions_notes(f: &[u8], u: &mut [u32], left: usize, at: usize, n: usize) -> N
     let Num::Is(count, start) = x else {
         return Noted { count: n, next: at };
     };
-    let mut i = count;
     let mut p = start;
     let mut k = n;
-    while 0 < i {
+    for _ in 0..count {
         let d = action_notes(f, u, left - 1, p, k);
         p = d.next;
         k = d.count;
-        i -= 1;
     }
     Noted { count: k, next: p }
 }
@@ -186,15 +184,13 @@ fn choice_notes(f: &[u8], u: &mut [u32], left: usize, at: usize, n: usize) -> No
     let Num::Is(count, start) = x else {
         return Noted { count: n, next: at };
     };
-    let mut i = count;
     let mut p = start;
     let mut k = n;
-    while 0 < i {
+    for _ in 0..count {
         let d = engine_notes::part_notes(f, u, Part::Predicate, layout::NO_PLACE, p, k);
         let e = actions_notes(f, u, left, d.next, d.count);
         p = e.next;
         k = e.count;
-        i -= 1;
     }
     actions_notes(f, u, left, p, k)
 }
@@ -235,10 +231,8 @@ pub fn unsupported(f: &[u8], x: &Table, u: &mut [u32]) -> usize
 {
     let rules = bounds::at_most(x[layout::AUTOMATION_COUNT], 32);
     let mut k: usize = 0;
-    let mut i: usize = 0;
-    while i < rules {
+    for i in 0..rules {
         k = rule_notes(f, x, u, i, k);
-        i += 1;
     }
     k
 }

@@ -69,10 +69,8 @@ fn put_rule_sources(out: &mut [u8], n: usize, f: &[u8], rules: Section, set: u32
 {
     let many = u32::count_ones(set);
     let mut m = show::put_number(out, n, long(many));
-    let mut i: usize = 0;
-    while i < 32 {
+    for i in 0..32 {
         m = put_rule_source(out, m, f, rules, set, i);
-        i += 1;
     }
     m
 }

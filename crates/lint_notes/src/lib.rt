@@ -77,10 +77,8 @@ fn note_findings(
         (board findings.old k o) }
 {
     let mut out = o;
-    let mut j: usize = 0;
-    while j < count {
+    for j in 0..count {
         out = lint_areas::push_finding(findings, out, note_words(set, line, column, reasons, j));
-        j += 1;
     }
     out
 }
@@ -118,11 +116,9 @@ pub fn notes(s: &[u8], rules: Section, findings: &mut [u32], o: Out) -> Out
     let count = rules.count as usize;
     let mut words = [0u32; layout::TABLE];
     let mut out = o;
-    let mut i: usize = 0;
-    while i < count {
+    for i in 0..count {
         let at = rules.starts[i];
         out = rule_notes(s, at, i, &mut words, findings, out);
-        i += 1;
     }
     out
 }

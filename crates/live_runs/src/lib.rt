@@ -84,10 +84,8 @@ pub fn drop_of(r: &mut [u32], live: &mut [usize; 32], n: usize, i: usize) -> usi
 fn forget(live: &mut [usize; 32])
     ensures { Forgotten live.old live.new }
 {
-    let mut i: usize = 0;
-    while i < 32 {
+    for i in 0..32 {
         live[i] = 0;
-        i += 1;
     }
 }
 

@@ -68,11 +68,7 @@ fn copy(s: &[u8], out: &mut [u8])
     requires { length s.now ≤ length out.old }
     ensures { out.new ≡ s.now ++ drop (length s.now) out.old }
 {
-    let mut i = 0;
-    while i < s.len() {
-        out[i] = s[i];
-        i += 1;
-    }
+    out[..s.len()].copy_from_slice(s);
 }
 
 // An event's second and its kind.
@@ -122,10 +118,8 @@ fn write_each(events: &[u32], n: usize, out: &mut [u8]) -> usize
     ensures { Wrote (first_events events.now n) result out.old out.new }
 {
     let mut at: usize = 0;
-    let mut k: usize = 0;
-    while k < n {
+    for k in 0..n {
         at += write_event(events, k, &mut out[at..]);
-        k += 1;
     }
     at
 }

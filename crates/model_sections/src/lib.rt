@@ -235,9 +235,8 @@ pub fn seconds_bad(s: &[u8], events: &Positions, count: u32, horizon: u32) -> bo
     ensures { result ≡ seconds_bad horizon events.now s.now count 0 0 }
 {
     let end = count as usize;
-    let mut j: usize = 0;
     let mut last: u32 = 0;
-    while j < end {
+    for j in 0..end {
         let p = events[j];
         let x = model_walk::u32_at(s, p);
         let Num::Is(second, _) = x else {
@@ -250,7 +249,6 @@ pub fn seconds_bad(s: &[u8], events: &Positions, count: u32, horizon: u32) -> bo
             return true;
         }
         last = second;
-        j += 1;
     }
     false
 }
@@ -260,8 +258,7 @@ pub fn gaps_bad(s: &[u8], gaps: &Positions, count: u32) -> bool
     ensures { result ≡ gaps_bad gaps.now s.now count 0 }
 {
     let end = count as usize;
-    let mut j: usize = 0;
-    while j < end {
+    for j in 0..end {
         let p = gaps[j];
         let x = model_walk::u32_at(s, p);
         let Num::Is(gap, _) = x else {
@@ -270,7 +267,6 @@ pub fn gaps_bad(s: &[u8], gaps: &Positions, count: u32) -> bool
         if 86400 < gap {
             return true;
         }
-        j += 1;
     }
     false
 }
@@ -598,16 +594,14 @@ pub fn section_check(
     ensures { result ≡ parts_m (declaration d entities.now) part starts.now count 0 s.now n }
 {
     let end = count as usize;
-    let mut j: usize = 0;
     let mut m = n;
-    while j < end {
+    for j in 0..end {
         let p = starts[j];
         let x = part_check(s, d, entities, part, starts, j, p, m);
         let Checked::To(_, k) = x else {
             return x;
         };
         m = k;
-        j += 1;
     }
     Checked::To(0, m)
 }

@@ -266,12 +266,10 @@ pub fn contains(f: &[u8], a: &[u32], n: usize, r: Reason) -> bool
     requires { n * 5 ≤ length a.now }
     ensures { result ≡ mem_t (render f.now r) (listed f.now n a.now) }
 {
-    let mut i: usize = 0;
-    while i < n {
+    for i in 0..n {
         if equal(f, r, get(a, i)) {
             return true;
         }
-        i += 1;
     }
     false
 }
@@ -345,10 +343,8 @@ pub fn merge(f: &[u8], a: &mut [u32], n: usize, b: &[u32], m: usize) -> usize
         (insert_all (listed f.now m b.now) (listed f.now n a.old)) n a.old result a.new }
 {
     let mut k = n;
-    let mut j: usize = 0;
-    while j < m {
+    for j in 0..m {
         k = insert_sorted(f, a, k, get(b, j));
-        j += 1;
     }
     k
 }

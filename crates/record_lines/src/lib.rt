@@ -111,13 +111,11 @@ fn put_begin(out: &mut [u8], n: usize, kind: u32) -> usize
 fn put_verdict(out: &mut [u8], n: usize, number: u32) -> usize
     ensures { Written (truth_name (verdict_of number)) out.old n out.new result }
 {
-    if number == 0 {
-        return show::put(out, n, b"Yes");
+    match number {
+        0 => show::put(out, n, b"Yes"),
+        1 => show::put(out, n, b"No"),
+        _ => show::put(out, n, b"Unknown"),
     }
-    if number == 1 {
-        return show::put(out, n, b"No");
-    }
-    show::put(out, n, b"Unknown")
 }
 
 fn put_flag(out: &mut [u8], n: usize, number: u32) -> usize
@@ -236,10 +234,8 @@ pub fn print_records(
 {
     let many = bounds::min_usize(count, a.len() / 13);
     let mut m = n;
-    let mut k: usize = 0;
-    while k < many {
+    for k in 0..many {
         m = print_record(out, m, f, x, a, k);
-        k += 1;
     }
     m
 }

@@ -40,12 +40,10 @@ fn named(violated: &Violations, n: usize, target: u64) -> bool
     requires { n ≤ 32 }
     ensures { result ≡ among violated.now n target }
 {
-    let mut k: usize = 0;
-    while k < n {
+    for k in 0..n {
         if violated[k * 8] == target {
             return true;
         }
-        k += 1;
     }
     false
 }

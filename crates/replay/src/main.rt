@@ -191,12 +191,10 @@ fn print_model(fd: i32, entry: Entry, sized: bool, k: u32) -> bool {
 
 // The models of an open batch. No batch has as many as the loop allows.
 fn print_models(fd: i32, entry: Entry, sized: bool) {
-    let mut k: u32 = 0;
-    while k < 4294967295 {
+    for k in 0..4294967295 {
         if !print_model(fd, entry, sized, k) {
             return;
         }
-        k += 1;
     }
 }
 

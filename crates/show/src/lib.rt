@@ -41,10 +41,8 @@ pub fn put(out: &mut [u8], n: usize, t: &[u8]) -> usize
     ensures { Written t.now out.old n out.new result }
 {
     let mut m = n;
-    let mut i: usize = 0;
-    while i < t.len() {
-        m = put_byte(out, m, t[i]);
-        i += 1;
+    for x in t {
+        m = put_byte(out, m, *x);
     }
     m
 }
@@ -80,10 +78,8 @@ pub fn put_quoted(out: &mut [u8], n: usize, t: &[u8]) -> usize
     ensures { Written (quoted t.now) out.old n out.new result }
 {
     let mut m = put_byte(out, n, 34);
-    let mut i: usize = 0;
-    while i < t.len() {
-        m = put_escaped(out, m, t[i]);
-        i += 1;
+    for x in t {
+        m = put_escaped(out, m, *x);
     }
     put_byte(out, m, 34)
 }
@@ -117,10 +113,8 @@ pub fn put_reason(out: &mut [u8], n: usize, f: &[u8], r: Reason) -> usize
 {
     let count = reasons::rendered_len(f, r);
     let mut m = n;
-    let mut i: usize = 0;
-    while i < count {
+    for i in 0..count {
         m = put_byte(out, m, reasons::byte_at(f, r, i));
-        i += 1;
     }
     m
 }
@@ -130,10 +124,8 @@ pub fn put_quoted_reason(out: &mut [u8], n: usize, f: &[u8], r: Reason) -> usize
 {
     let count = reasons::rendered_len(f, r);
     let mut m = put_byte(out, n, 34);
-    let mut i: usize = 0;
-    while i < count {
+    for i in 0..count {
         m = put_escaped(out, m, reasons::byte_at(f, r, i));
-        i += 1;
     }
     put_byte(out, m, 34)
 }

@@ -42,10 +42,8 @@ pub fn text_start(f: &[u8], from: usize, place: u32) -> usize
     ensures { result ≡ start_from f.now from place }
 {
     let mut at = from;
-    let mut left = place;
-    while 0 < left {
+    for _ in 0..place {
         at = at + 1 + length_byte(f, at);
-        left -= 1;
     }
     at
 }

@@ -9,6 +9,3 @@ abbrev pub invariant-loop-k : goal.invariant-loop-k
 invariant-loop-k l =
     ((j : ℕ) → j < l.k → get_or l.words j 0 ≡ laws.so_far l.count l.s l.names l.rules l.initial.words j)
     × ((length l.words ≡ 336) × ((16 ≤ l.k) × (l.k ≤ 80 + l.n * 8)))
-
-abbrev pub decreases-loop-k : goal.decreases-loop-k
-decreases-loop-k l = 80 + l.n * 8 - l.k

@@ -11,6 +11,3 @@ invariant-loop-i l =
     cycle_writes_m l.s (record { count = l.many; starts = l.entities; end = z }) (record { count = l.count; starts = l.rules; end = y })
     l.set ≡ cycle_writes_from l.s (record { count = l.many; starts = l.entities; end = z })
     (record { count = l.count; starts = l.rules; end = y }) l.set (l.count - l.i) l.i l.writes
-
-abbrev pub decreases-loop-i : goal.decreases-loop-i
-decreases-loop-i l = l.count - l.i

@@ -9,6 +9,3 @@ invariant-loop-k l =
     (z : Walked) →
     highest_m l.s (record { count = l.count; starts = l.entities; end = z }) l.set
     ≡ highest_from l.s (record { count = l.count; starts = l.entities; end = z }) l.set (l.count - l.k) l.k l.best
-
-abbrev pub decreases-loop-k : goal.decreases-loop-k
-decreases-loop-k l = l.count - l.k

@@ -19,6 +19,3 @@ invariant-loop-i l =
     × (write_sets l.s (record { count = l.many; starts = l.entities; end = z }) (record { count = l.n; starts = l.rules; end = y })
     ≡ fill_m (λ k. writes_m l.s (record { count = l.many; starts = l.entities; end = z }) (walk_m l.s (get_or l.rules k 0))) (l.n - l.i)
     l.i l.writes)
-
-abbrev pub decreases-loop-i : goal.decreases-loop-i
-decreases-loop-i l = l.n - l.i
