@@ -205,7 +205,7 @@ pub fn print_violations(
     a: &[u64],
     count: usize,
 ) -> usize {
-    let many = bounds::min_usize(count, a.len() / 8);
+    let many = count.min(a.len() / 8);
     let mut m = n;
     let mut k: usize = 0;
     while k < many {
@@ -243,7 +243,7 @@ pub fn print_reasons(
     a: &[u32],
     count: usize,
 ) -> usize {
-    let many = bounds::min_usize(count, a.len() / 5);
+    let many = count.min(a.len() / 5);
     let mut m = n;
     let mut i: usize = 0;
     while i < many {

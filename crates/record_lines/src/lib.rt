@@ -234,7 +234,7 @@ pub fn print_records(
 ) -> usize
     ensures { Kept out.old n out.new result }
 {
-    let many = bounds::min_usize(count, a.len() / 13);
+    let many = count.min(a.len() / 13);
     let mut m = n;
     let mut k: usize = 0;
     while k < many {

@@ -186,7 +186,7 @@ pub fn print_reasons(
 ) -> usize
     ensures { Kept out.old n out.new result }
 {
-    let many = bounds::min_usize(count, a.len() / 5);
+    let many = count.min(a.len() / 5);
     let mut m = n;
     let mut i: usize = 0;
     while i < many {
