@@ -201,7 +201,7 @@ pub fn print_violations(
     a: &[u64],
     count: usize,
 ) -> usize {
-    let many = bounds::min_usize(count, a.len() / 8);
+    let many = count.min(a.len() / 8);
     let mut m = n;
     for k in 0..many {
         m = print_violated(out, m, form, f, a, k);
@@ -237,7 +237,7 @@ pub fn print_reasons(
     a: &[u32],
     count: usize,
 ) -> usize {
-    let many = bounds::min_usize(count, a.len() / 5);
+    let many = count.min(a.len() / 5);
     let mut m = n;
     for i in 0..many {
         m = print_reason(out, m, form, word, f, a, i);

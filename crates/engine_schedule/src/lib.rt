@@ -9,7 +9,7 @@ ghost use Rattle.engine_schedule.specs.Events.{event_m, add_event_m, add_events_
 use bounds::at_most;
 use engine_state::{State, add, log_plain};
 use layout::Table;
-use queue::{Taken, Work};
+use queue::Work;
 
 // ---- whether the next item is taken
 
@@ -25,8 +25,7 @@ fn next_of(x: &Table, q: &[u32], st: State) -> Next
     requires { FitsQ st q.now }
     ensures { Seen (next_m x.now) q.now st result }
 {
-    let t = queue::next(q, st.queue_start, st.items);
-    let Taken::One(it) = t else {
+    let Some(it) = queue::next(q, st.queue_start, st.items) else {
         return Next::Stop;
     };
     if 10000 <= st.records {

@@ -113,13 +113,12 @@ pub fn add(q: &mut [u32], st: State, second: u32, work: Work) -> State
         return s;
     }
     let n = s.items;
-    let p = queue::insert(q, s.queue_start, n, Item { second, work });
-    if p.done {
-        s.items = n + 1;
-        s.queue_start = p.first;
+    let Some(first) = queue::insert(q, s.queue_start, n, Item { second, work }) else {
+        s.overflow = 41;
         return s;
-    }
-    s.overflow = 41;
+    };
+    s.items = n + 1;
+    s.queue_start = first;
     s
 }
 

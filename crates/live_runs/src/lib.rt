@@ -26,7 +26,7 @@ fn raise(live: &mut [usize; 32], automation: u32, n: usize)
     if 31 < i {
         return;
     }
-    live[i] = bounds::min_usize(live[i], n) + 1;
+    live[i] = live[i].min(n) + 1;
 }
 
 fn less(n: usize) -> usize

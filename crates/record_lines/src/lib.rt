@@ -232,7 +232,7 @@ pub fn print_records(
 ) -> usize
     ensures { Kept out.old n out.new result }
 {
-    let many = bounds::min_usize(count, a.len() / 13);
+    let many = count.min(a.len() / 13);
     let mut m = n;
     for k in 0..many {
         m = print_record(out, m, f, x, a, k);

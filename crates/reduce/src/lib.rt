@@ -54,7 +54,7 @@ fn violates(j: Judgement, violated: &Violations, target: u64) -> bool
 {
     let status = j.status;
     if checker_result::is_violation(status) {
-        let n = bounds::min_usize(j.violations, 32);
+        let n = j.violations.min(32);
         return named(violated, n, target);
     }
     false

@@ -184,7 +184,7 @@ pub fn print_reasons(
 ) -> usize
     ensures { Kept out.old n out.new result }
 {
-    let many = bounds::min_usize(count, a.len() / 5);
+    let many = count.min(a.len() / 5);
     let mut m = n;
     for i in 0..many {
         m = print_reason(out, m, word, f, a, i);

@@ -1,4 +1,4 @@
-use Prim.Native.Nat.{◌-◌, ◌*◌}
+use Prim.Native.Nat.{◌*◌}
 use lib.ListN.{drop}
 use Rattle.texts.proofs.Ordering as ordering
 use Rattle.reasons.specs.Reasons.{render}
@@ -12,8 +12,8 @@ use Rattle.reasons.proofs.find_spot.Goals as goal
 pub loop-i-init : goal.loop-i-init
 loop-i-init c = (search rules, refl)
 
-pub returns-in-Same : goal.returns-in-Same
-returns-in-Same c =
+pub returns-in-Equal : goal.returns-in-Equal
+returns-in-Equal c =
     let a = c.args in listing.there _ _ c.loop-i.i _
     (listing.next a.f.now a.n a.a.now c.loop-i.i c.loop-i-test.true) c.loop-i.invariant.1
     (ordering.is_same _ _ (cc))
