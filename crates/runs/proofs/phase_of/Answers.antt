@@ -1,12 +1,11 @@
-use Prim.Native.Nat.{◌-◌}
-use borrow.Author.Tests.{ne_eqb}
 use Rattle.runs.specs.Runs.{phase_of}
+use Rattle.std.proofs.Common.{rules}
 use Rattle.runs.proofs.phase_of.Goals as goal
 
-pub returns-then-kind-eq0 : goal.returns-then-kind-eq0
+pub returns-in-0 : goal.returns-in-0
 unfolding phase_of
-returns-then-kind-eq0 c = rw c.if-kind-eq0.true
+returns-in-0 c = search rules
 
-pub returns : goal.returns
+pub returns-in_default : goal.returns-in_default
 unfolding phase_of
-returns c = rw (ne_eqb _ _ c.if-kind-eq0.false)
+returns-in_default c = search rules
