@@ -1,5 +1,5 @@
 -- What each kind of action does, over the file f and the table x.
-use Rattle.std.specs.Prelude.{ℕ, ◌+◌, Bool, List, ltb, eqb, get_or, if◌then◌else◌}
+use Rattle.std.specs.Prelude.{ℕ, ◌+◌, Bool, List, ltb, eqb, get_or, if◌then◌else◌, Some}
 use Rattle.layout.specs.Table.{off_word, on_word}
 use Rattle.records.specs.Kinds.{choose_kind, condition_kind, delay_kind, unknown_kind, wait_kind}
 use Rattle.queue.specs.declared.Work.TheVariants.{Timeout}
@@ -8,7 +8,6 @@ use Rattle.records.specs.declared.Where.TheVariants.{From}
 use Rattle.runs.specs.declared.Run.{Run}
 use Rattle.runs.specs.declared.Source.{Source}
 use Rattle.runs.specs.declared.Wait.{Wait}
-use Rattle.runs.specs.declared.Phase.TheVariants.{Waiting}
 use Rattle.bounds.specs.Bounds.{at_most}
 use Rattle.engine_fields.specs.Fields.{two, four, entity_of, about_rule, alone, note_reason}
 use Rattle.engine_evaluate.specs.Evaluate.{number_m, undecided_m, evaluate_m, select_m}
@@ -86,7 +85,7 @@ wait t d b s = record { trigger = t; deadline = d; continue_on_timeout = b; sour
 
 unfoldable pub waiting_m : (k : ℕ) → Run → Source → (seconds deadline : ℕ) → Wait → Machine → Machine
 waiting_m k r s n d w m =
-    log_action_m wait_kind n s r (add_m d (Timeout r.automation r.sequence) (put_run_m k (phase_m (Waiting w) r) m))
+    log_action_m wait_kind n s r (add_m d (Timeout r.automation r.sequence) (put_run_m k (phase_m (Some w) r) m))
 
 -- a trigger with a note isn't waited for
 unfoldable pub begin_wait_m : (f : List ℕ) → (k : ℕ) → Run → Source → (at : ℕ) → Machine → Machine

@@ -28,7 +28,7 @@ use engine_update::update;
 use layout::Table;
 use queue::Work;
 use records::{Rule, Where};
-use runs::{Phase, Run, Source, Wait};
+use runs::{Run, Source, Wait};
 
 fn write(
     x: &Table,
@@ -273,7 +273,7 @@ pub fn begin_wait(
         continue_on_timeout,
         source: s,
     };
-    let waiting = with_phase(run, Phase::Waiting(w));
+    let waiting = with_phase(run, Some(w));
     runs::put_run(r, k, waiting);
     let work = Work::Timeout {
         automation: run.automation,

@@ -11,7 +11,7 @@ use engine_trigger::{finish, with_phase};
 use engine_update::update;
 use layout::Table;
 use records::{Rule, Where};
-use runs::{Found, Phase, Run, Wait};
+use runs::{Run, Wait};
 
 fn wait_over(
     q: &mut [u32],
@@ -31,7 +31,7 @@ fn wait_over(
     let s = w.source;
     if w.continue_on_timeout {
         let s1 = log_action(a, st, records::TIMEOUT, 1, s, run);
-        let going = with_phase(run, Phase::Going);
+        let going = with_phase(run, None);
         runs::put_run(r, k, going);
         return next_step(q, s1, run, s1.now);
     }
@@ -51,12 +51,12 @@ pub fn time_out(
     ensures { Does (time_out_m automation sequence) st result (by q) (by a) (by r) still }
 {
     let found = runs::find_run(r, st.live_runs, automation, sequence);
-    let Found::At(k) = found else {
+    let Some(k) = found else {
         return st;
     };
     let run = runs::run_at(r, k);
     let phase = run.phase;
-    let Phase::Waiting(w) = phase else {
+    let Some(w) = phase else {
         return st;
     };
     wait_over(q, a, r, st, k, run, w)
