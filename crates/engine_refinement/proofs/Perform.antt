@@ -1,6 +1,6 @@
 -- A run's next action: each of the seven effects does what the definition says.
 -- `Here k r m`: the run at k is r.
-use Rattle.std.specs.Prelude.{if◌then◌else◌}
+use Rattle.std.specs.Prelude.{if◌then◌else◌, Some}
 use mathlib.Core.Path.{◌≡◌, refl, sym, ap, ◌∙◌, subst}
 use mathlib.Core.List.{List, [], ◌∷◌}
 use mathlib.Core.Bool.{Bool, true, false}
@@ -43,7 +43,6 @@ use Rattle.records.specs.declared.Where.TheVariants.{From}
 use Rattle.records.specs.declared.Change.{Change as AChange}
 use Rattle.runs.specs.declared.Run.{Run as ARun}
 use Rattle.runs.specs.declared.Source.{Source as ASource}
-use Rattle.runs.specs.declared.Phase.TheVariants as phase
 use Rattle.reasons.specs.Kinds as kinds
 use Rattle.reasons.specs.declared.Reason.{Reason}
 use Rattle.reasons.specs.Reasons.{render}
@@ -537,7 +536,7 @@ module _ (f x : List ℕ) (ts : List Text) (mo : Model) (tb : Tabled f x ts mo) 
 
       -- the run waits
       wait_run : (at : ℕ) (t : Trigger) (q d : ℕ) (c : Bool) → trigger ts f at ≡ got t q →
-          R (phase_m (phase.Waiting (acts.wait at d c s)) r)
+          R (phase_m (Some (acts.wait at d c s)) r)
           ≡ waits (some (record { trigger = t; deadline = d; continue = c; source = src })) (R r)
       unfolding meant_run wait_of found_trigger
       wait_run at t q d c h = rw (h, found_trigger)
@@ -553,9 +552,9 @@ module _ (f x : List ℕ) (ts : List Text) (mo : Model) (tb : Tabled f x ts mo) 
       waiting_is {room} {m} {e} l w g at t q n c h =
           follow f x ts mo tb (log_action_m 16 n s r) (log_action now (Kind.wait n) src (R r))
           (add_is f x ts mo tb
-          (subst (λ (y : Run). L now room (put_run_m k (phase_m (phase.Waiting (acts.wait at (now + n) c s)) r) m)
+          (subst (λ (y : Run). L now room (put_run_m k (phase_m (Some (acts.wait at (now + n) c s)) r) m)
           (store y e)) (wait_run at t q (now + n) c h)
-          (store_is f x ts mo tb l k w.inside (phase_m (phase.Waiting (acts.wait at (now + n) c s)) r)
+          (store_is f x ts mo tb l k w.inside (phase_m (Some (acts.wait at (now + n) c s)) r)
           (record { rule = g.rule; old = g.old; places = g.places; phase = (t, (q, h)) })
           (ap (λ (y : ARun). y.automation) w.is) (ap (λ (y : ARun). y.sequence) w.is))) (now + n)
           (queue.Timeout r.automation r.sequence) low)

@@ -1,6 +1,6 @@
 -- When a machine stands for an engine: either nothing is full and every part corresponds, or both say which area was full.
 -- The primitive changes keep that.
-use Rattle.std.specs.Prelude.{if◌then◌else◌}
+use Rattle.std.specs.Prelude.{if◌then◌else◌, Option as Maybe, Some, None}
 use mathlib.Core.Path.{◌≡◌, refl, sym, ap, ◌∙◌, subst}
 use mathlib.Core.List.{List, [], ◌∷◌, ◌++◌}
 use mathlib.Core.Bool.{Bool, true, false, ◌&&◌, not}
@@ -26,9 +26,8 @@ use Rattle.records.specs.declared.Record.{Record}
 use Rattle.records.specs.Records.{record_words}
 use Rattle.runs.specs.Runs.{is_run, in_line, run_of, other}
 use Rattle.runs.specs.Lists as places
+use Rattle.runs.specs.declared.Wait.{Wait}
 use Rattle.runs.specs.declared.Run.{Run as ARun}
-use Rattle.runs.specs.declared.Phase.{Phase}
-use Rattle.runs.specs.declared.Phase.TheVariants as phase
 use Rattle.reasons.specs.declared.Reason.{Reason}
 use Rattle.reasons.specs.Reasons.{render}
 use Rattle.reasons.specs.Lists.{push_t}
@@ -154,9 +153,9 @@ module _ (f x : List ℕ) (ts : List Text) (mo : Model) (tb : Tabled f x ts mo) 
     pub is : tr ≡ each (record_of x ts) l
     pub words : Each (Worded x ts mo) l
 
-  abbrev pub GoodPhase : Phase → Type 0
-  GoodPhase phase.Going = Unit {0}
-  GoodPhase (phase.Waiting w) = (t : Trigger) × ((q : ℕ) × (trigger ts f w.trigger ≡ got t q))
+  abbrev pub GoodPhase : Maybe Wait → Type 0
+  GoodPhase None = Unit {0}
+  GoodPhase (Some w) = (t : Trigger) × ((q : ℕ) × (trigger ts f w.trigger ≡ got t q))
 
   pub record GoodRun (sequences : List ℕ) (r : ARun) : Type 0 where
     pub rule : r.automation < rules
@@ -506,7 +505,7 @@ module _ (f x : List ℕ) (ts : List Text) (mo : Model) (tb : Tabled f x ts mo) 
     pub automation : r.automation ≡ i
     pub sequence : r.sequence ≡ get_or sequences i 0
     pub places : Places f x ts mo tb r.depth r.places
-    pub phase : r.phase ≡ phase.Going
+    pub phase : r.phase ≡ None
 
   module _ (sequences : List ℕ) (i n : ℕ) (h : i < rules) (made : List Text) (g : Made n sequences made)
       (low : get_or sequences i 0 < 4294967295) where
@@ -537,7 +536,7 @@ module _ (f x : List ℕ) (ts : List Text) (mo : Model) (tb : Tabled f x ts mo) 
           o.phase;
     }
 
-    going : (p : Phase) → p ≡ phase.Going → GoodPhase p
+    going : (p : Maybe Wait) → p ≡ None → GoodPhase p
     going p e = rw e tt
 
     new_good : (r : ARun) → NewRun sequences i r → GoodRun after r

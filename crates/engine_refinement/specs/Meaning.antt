@@ -1,6 +1,6 @@
 -- What the machine's numbers stand for: texts, cells, items, records and runs of the definition.
 -- A place is a text's number among `ts`, an automation is a row of the table x, a position is one of the file f.
-use Rattle.std.specs.Prelude.{ℕ, zero, suc, ◌+◌, ◌≤◌, ◌<◌, ◌≡◌, true, List, [], ◌∷◌, ◌++◌, eqb, length, get_or, if◌then◌else◌}
+use Rattle.std.specs.Prelude.{ℕ, zero, suc, ◌+◌, ◌≤◌, ◌<◌, ◌≡◌, true, Option as Maybe, Some, None, List, [], ◌∷◌, ◌++◌, eqb, length, get_or, if◌then◌else◌}
 use Rattle.std.proofs.Math.Option.{Option, none, some}
 use Rattle.layout.specs.Table.{
   actions_word,
@@ -62,8 +62,6 @@ use Rattle.runs.specs.declared.Place.{Place}
 use Rattle.runs.specs.declared.Run.{Run as ARun}
 use Rattle.runs.specs.declared.Wait.{Wait}
 use Rattle.runs.specs.declared.Source.{Source as ASource}
-use Rattle.runs.specs.declared.Phase.{Phase}
-use Rattle.runs.specs.declared.Phase.TheVariants as phase
 use Rattle.engine_spec.specs.Cells.{Cell}
 use Rattle.engine_spec.specs.Kleene as kleene
 use Rattle.engine_spec.specs.Records.{Key, Waiting, Run, Work, Item, Kind, Change, Trace}
@@ -217,9 +215,9 @@ module _ (x : List ℕ) (ts : List Text) where
       source = source_of w.source;
     }
 
-    abbrev pub waiting_of : Phase → Option Waiting
-    waiting_of phase.Going = none
-    waiting_of (phase.Waiting w) = some (wait_of w)
+    abbrev pub waiting_of : Maybe Wait → Option Waiting
+    waiting_of None = none
+    waiting_of (Some w) = some (wait_of w)
 
     unfoldable pub meant_run : ARun → Run
     meant_run r = record {
