@@ -1,10 +1,8 @@
 -- What each kind of action does, over the file f and the table x.
-use Rattle.std.specs.Prelude.{ℕ, ◌+◌, Bool, List, ltb, eqb, get_or, if◌then◌else◌, Some}
+use Rattle.std.specs.Prelude.{ℕ, ◌+◌, Bool, Some, List, ltb, eqb, get_or, if◌then◌else◌}
 use Rattle.layout.specs.Table.{off_word, on_word}
 use Rattle.records.specs.Kinds.{choose_kind, condition_kind, delay_kind, unknown_kind, wait_kind}
 use Rattle.queue.specs.declared.Work.TheVariants.{Timeout}
-use Rattle.records.specs.declared.Rule.TheVariants.{Of}
-use Rattle.records.specs.declared.Where.TheVariants.{From}
 use Rattle.runs.specs.declared.Run.{Run}
 use Rattle.runs.specs.declared.Source.{Source}
 use Rattle.runs.specs.declared.Wait.{Wait}
@@ -24,7 +22,7 @@ use Rattle.engine_trigger.specs.Runs.{put_run_m, phase_m, finish_m}
 use Rattle.reasons.specs.Kinds as kinds
 
 unfoldable pub written_m : List ℕ → Run → Source → (entity value : ℕ) → Machine → Machine
-written_m x r s e v m = update_m x (setting e v 2 (Of r.automation) (From s.line s.column)) m
+written_m x r s e v m = update_m x (setting e v 2 (Some r.automation) (Some (record { line = s.line; column = s.column }))) m
 
 unfoldable pub set_m : List ℕ → Run → Source → (entity value : ℕ) → Machine → Machine
 set_m x r s e v m = now_m r (written_m x r s e v m)

@@ -27,7 +27,6 @@ use engine_trigger::{finish, with_phase};
 use engine_update::update;
 use layout::Table;
 use queue::Work;
-use records::{Rule, Where};
 use runs::{Run, Source, Wait};
 
 fn write(
@@ -46,17 +45,15 @@ fn write(
     ensures { Moves (written_m x.now run s entity value) st result (by q) (by a) kept still (by values) (by versions)
         kept }
 {
-    let rule = Rule::Of(run.automation);
-    let source = Where::From {
-        line: s.line,
-        column: s.column,
-    };
     let w = Setting {
         entity,
         value,
         kind: records::ACTION,
-        rule,
-        source,
+        rule: Some(run.automation),
+        source: Some(records::Source {
+            line: s.line,
+            column: s.column,
+        }),
     };
     update(x, q, a, values, versions, st, w)
 }

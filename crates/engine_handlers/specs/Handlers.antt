@@ -2,8 +2,6 @@
 use Rattle.std.specs.Prelude.{ℕ, Option, Some, None, List, [], ltb, eqb, get_or, if◌then◌else◌}
 use Rattle.layout.specs.Table.{unknown_word}
 use Rattle.records.specs.Kinds.{restart_kind, timeout_kind}
-use Rattle.records.specs.declared.Rule.TheVariants.{NoRule}
-use Rattle.records.specs.declared.Where.TheVariants.{Nowhere}
 use Rattle.runs.specs.Lists.{place_from}
 use Rattle.runs.specs.Runs.{is_run}
 use Rattle.runs.specs.declared.Run.{Run}
@@ -43,7 +41,7 @@ time_out_m a n m = time_at_m (place_from (is_run a n) 0 m.runs) m
 
 -- the entity's value becomes `unknown`
 unfoldable pub expire_to_m : (entity from to : ℕ) → Cells → Machine → Machine
-expire_to_m e v u c m = changed_m (move e v u) (log_write_m (setting e u 3 NoRule Nowhere) (move e v u) (put_cells c m))
+expire_to_m e v u c m = changed_m (move e v u) (log_write_m (setting e u 3 None None) (move e v u) (put_cells c m))
 
 unfoldable pub expire_m : List ℕ → (e : ℕ) → Machine → Machine
 expire_m x e m = expire_to_m (name x e) (get_or m.values e 0) (get_or x unknown_word 0)
@@ -66,4 +64,4 @@ unfoldable pub drop_all_m : Machine → Machine
 drop_all_m m = log_plain_m restart_kind (no_runs_m m)
 
 unfoldable pub external_m : List ℕ → (entity value : ℕ) → Machine → Machine
-external_m x e v m = update_m x (setting e v 1 NoRule Nowhere) m
+external_m x e v m = update_m x (setting e v 1 None None) m

@@ -10,7 +10,6 @@ use engine_state::{Move, Setting, State, log_action, next_step};
 use engine_trigger::{finish, with_phase};
 use engine_update::update;
 use layout::Table;
-use records::{Rule, Where};
 use runs::{Run, Wait};
 
 fn wait_over(
@@ -82,8 +81,8 @@ fn expire(
         entity,
         value: to,
         kind: records::STALE,
-        rule: Rule::NoRule,
-        source: Where::Nowhere,
+        rule: None,
+        source: None,
     };
     let s1 = engine_state::log_write(a, st, w, m);
     engine_update::changed(q, s1, m)
@@ -144,8 +143,8 @@ pub fn external(
         entity,
         value,
         kind: records::EXTERNAL,
-        rule: Rule::NoRule,
-        source: Where::Nowhere,
+        rule: None,
+        source: None,
     };
     update(x, q, a, values, versions, st, w)
 }

@@ -10,7 +10,7 @@ use engine_evaluate::Truth;
 use engine_fields::rule_word;
 use engine_state::{Move, State, Told, log, log_rule, next_step};
 use layout::Table;
-use records::{Change, Rule, Where};
+use records::Source;
 use runs::{Run, Wait};
 
 // ---- runs
@@ -149,9 +149,9 @@ fn log_trigger(f: &[u8], x: &Table, a: &mut [u32], st: State, i: usize, t: Truth
             kind: records::TRIGGER,
             detail,
         },
-        Rule::Of(i as u32),
-        Where::From { line, column },
-        Change::NoChange,
+        Some(i as u32),
+        Some(Source { line, column }),
+        None,
     )
 }
 
