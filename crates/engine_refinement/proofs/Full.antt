@@ -9,9 +9,8 @@ use lib.Dec.{ltb, eqb}
 use borrow.Author.Tests.{ne_eqb}
 use Rattle.layout.specs.Sizes.{last_simulation_reason}
 use Rattle.queue.specs.declared.Work.{Work}
-use Rattle.records.specs.declared.Rule.{Rule}
-use Rattle.records.specs.declared.Where.{Where}
-use Rattle.records.specs.declared.Change.{Change}
+use Rattle.records.specs.declared.Source.{Source as RecordSource}
+use Rattle.records.specs.declared.Write.{Write}
 use Rattle.runs.specs.declared.Wait.{Wait}
 use Rattle.runs.specs.declared.Run.{Run}
 use Rattle.runs.specs.declared.Source.{Source}
@@ -83,7 +82,7 @@ module _ (n : ℕ) (z : n ≡ 0 → ⊥) where
   unfolding add_m
   s_add s w m p = rw (not_open m p) p
 
-  pub s_log : (t : Told) (u : Rule) (w : Where) (c : Change) (m : Machine) → S m → S (log_m t u w c m)
+  pub s_log : (t : Told) (u : Option ℕ) (w : Option RecordSource) (c : Option Write) (m : Machine) → S m → S (log_m t u w c m)
   unfolding log_m
   s_log t u w c m p = rw (not_open m p) p
 

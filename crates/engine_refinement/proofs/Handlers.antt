@@ -15,8 +15,6 @@ use Rattle.texts.specs.Texts.{Text, text, eq_t}
 use Rattle.model_spec.specs.Model.{Actions, done, Model}
 use Rattle.queue.specs.declared.Work.{Work as QWork}
 use Rattle.queue.specs.declared.Work.TheVariants as queue
-use Rattle.records.specs.declared.Rule.TheVariants.{NoRule}
-use Rattle.records.specs.declared.Where.TheVariants.{Nowhere}
 use Rattle.runs.specs.Lists.{place_from}
 use Rattle.runs.specs.Runs.{is_run}
 use Rattle.runs.specs.declared.Run.{Run as ARun}
@@ -409,7 +407,7 @@ module _ (f x : List ℕ) (ts : List Text) (mo : Model) (tb : Tabled f x ts mo) 
           follow f x ts mo tb (changed_m mv) (adds (change_of now X (T old) (T gone)))
           (log_write_is f x ts mo tb (cells_are f x ts mo tb l (stored_m (cells m) j gone) (put X (T gone) 0 e.cells)
           celled
-          l.low) (setting (name x j) gone 3 NoRule Nowhere) mv Kind.stale staling tt moved)
+          l.low) (setting (name x j) gone 3 None None) mv Kind.stale staling tt moved)
           (λ y. changed_is f x ts mo tb y mv moved)
           (λ n z p. s_changed n z mv _ p)
           (λ n o. c_adds (Over n) (overflow_stays n) (change_of now X (T old) (T gone)) _ o)
@@ -482,7 +480,7 @@ module _ (f x : List ℕ) (ts : List Text) (mo : Model) (tb : Tabled f x ts mo) 
       GoodWork f x ts mo w → S now room (process_m f x w m) (process now mo.rules (work_of x ts w) e)
   unfolding process_m process work_of external_m
   process_is l (queue.Set a v) h =
-      update_is f x ts mo tb (weaker f x ts mo tb (omega arith) l) (setting a v 1 NoRule Nowhere) h.0.0
+      update_is f x ts mo tb (weaker f x ts mo tb (omega arith) l) (setting a v 1 None None) h.0.0
       h.0.1.0 h.0.1.1 h.1.1 Kind.external outside tt
   process_is l queue.Restart h = drop_is (weaker f x ts mo tb (omega arith) l)
   process_is l queue.Reload h = drop_is (weaker f x ts mo tb (omega arith) l)

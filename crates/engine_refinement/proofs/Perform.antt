@@ -1,6 +1,6 @@
 -- A run's next action: each of the seven effects does what the definition says.
 -- `Here k r m`: the run at k is r.
-use Rattle.std.specs.Prelude.{if◌then◌else◌, Some}
+use Rattle.std.specs.Prelude.{if◌then◌else◌, Some, Option as Maybe}
 use mathlib.Core.Path.{◌≡◌, refl, sym, ap, ◌∙◌, subst}
 use mathlib.Core.List.{List, [], ◌∷◌}
 use mathlib.Core.Bool.{Bool, true, false}
@@ -36,11 +36,8 @@ use Rattle.model_spec.specs.File.{got, u16, predicate, trigger, branches, action
 use Rattle.model_spec.specs.Validate.{undecided}
 use Rattle.queue.specs.declared.Work.{Work as QWork}
 use Rattle.queue.specs.declared.Work.TheVariants as queue
-use Rattle.records.specs.declared.Rule.{Rule}
-use Rattle.records.specs.declared.Rule.TheVariants.{Of}
-use Rattle.records.specs.declared.Where.{Where}
-use Rattle.records.specs.declared.Where.TheVariants.{From}
-use Rattle.records.specs.declared.Change.{Change as AChange}
+use Rattle.records.specs.declared.Source.{Source as RecordSource}
+use Rattle.records.specs.declared.Write.{Write}
 use Rattle.runs.specs.declared.Run.{Run as ARun}
 use Rattle.runs.specs.declared.Source.{Source as ASource}
 use Rattle.reasons.specs.Kinds as kinds
@@ -185,7 +182,7 @@ use Rattle.engine_refinement.proofs.Runs.{Keyed, store_is, finish_is}
 
 -- ---- what stays
 
-log_runs : (t : Told) (u : Rule) (w : Where) (c : AChange) (m : Machine) → (log_m t u w c m).runs ≡ m.runs
+log_runs : (t : Told) (u : Maybe ℕ) (w : Maybe RecordSource) (c : Maybe Write) (m : Machine) → (log_m t u w c m).runs ≡ m.runs
 unfolding log_m
 log_runs t u w c m = by (eqb m.«overflow» 0) (ltb (length m.records) m.record_size) _ _ refl refl
   where
@@ -362,7 +359,7 @@ module _ (f x : List ℕ) (ts : List Text) (mo : Model) (tb : Tabled f x ts mo) 
     unfolding written_m write meant_run key_of
     writing l low j v h i =
         update_is f x ts mo tb l
-        (setting (name x j) v 2 (Of r.automation) (From s.line s.column)) j h refl i Kind.action acting low
+        (setting (name x j) v 2 (Some r.automation) (Some (record { line = s.line; column = s.column }))) j h refl i Kind.action acting low
 
     -- the run's automation is one of the model's
     module _ (low : r.automation < rules) where

@@ -19,9 +19,8 @@ use Rattle.model_spec.specs.Model.{Trigger, single, done, Automation, Model}
 use Rattle.model_spec.specs.File.{got, trigger}
 use Rattle.queue.specs.declared.Item.{Item as QItem}
 use Rattle.queue.specs.declared.Work.{Work as QWork}
-use Rattle.records.specs.declared.Rule.{Rule}
-use Rattle.records.specs.declared.Where.{Where}
-use Rattle.records.specs.declared.Change.{Change as AChange}
+use Rattle.records.specs.declared.Source.{Source as RecordSource}
+use Rattle.records.specs.declared.Write.{Write}
 use Rattle.records.specs.declared.Record.{Record}
 use Rattle.records.specs.Records.{record_words}
 use Rattle.runs.specs.Runs.{is_run, in_line, run_of, other}
@@ -85,12 +84,12 @@ module _ (m : Machine) (z : m.«overflow» ≡ 0) where
   unfolding add_m
   add_full s w t = rw (eq-eqb m.«overflow» 0 z, t)
 
-  log_goes : (t : Told) (u : Rule) (w : Where) (c : AChange) → ltb (length m.records) m.record_size ≡ true →
+  log_goes : (t : Told) (u : Maybe ℕ) (w : Maybe RecordSource) (c : Maybe Write) → ltb (length m.records) m.record_size ≡ true →
       log_m t u w c m ≡ put_records (m.records ++ entry m.now t u w c ∷ []) m
   unfolding log_m
   log_goes t u w c e = rw (eq-eqb m.«overflow» 0 z, e)
 
-  log_full : (t : Told) (u : Rule) (w : Where) (c : AChange) → ltb (length m.records) m.record_size ≡ false →
+  log_full : (t : Told) (u : Maybe ℕ) (w : Maybe RecordSource) (c : Maybe Write) → ltb (length m.records) m.record_size ≡ false →
       log_m t u w c m ≡ put_full 42 m
   unfolding log_m
   log_full t u w c e = rw (eq-eqb m.«overflow» 0 z, e)
@@ -286,7 +285,7 @@ module _ (f x : List ℕ) (ts : List Text) (mo : Model) (tb : Tabled f x ts mo) 
   -- ---- a record more
 
   pub log_is : {now s : ℕ} {m : Machine} {e : Engine} → Live now s m e →
-      (t : Told) (u : Rule) (w : Where) (c : AChange) (r : Trace) → record_of x ts (entry now t u w c) ≡ r →
+      (t : Told) (u : Maybe ℕ) (w : Maybe RecordSource) (c : Maybe Write) (r : Trace) → record_of x ts (entry now t u w c) ≡ r →
       Worded x ts mo (entry now t u w c) → Sim now s (log_m t u w c m) (append r e)
   unfolding append
   log_is {now} {s} {m} {e} l t u w c r q v = cases (case (ltb (length m.records) m.record_size))

@@ -50,12 +50,8 @@ use Rattle.model_order.specs.Order.{Fixed}
 use Rattle.queue.specs.declared.Item.{Item as QItem}
 use Rattle.queue.specs.declared.Work.{Work as QWork}
 use Rattle.queue.specs.declared.Work.TheVariants as queue
-use Rattle.records.specs.declared.Rule.{Rule}
-use Rattle.records.specs.declared.Rule.TheVariants.{NoRule, Of}
-use Rattle.records.specs.declared.Where.{Where}
-use Rattle.records.specs.declared.Where.TheVariants.{Nowhere, From}
-use Rattle.records.specs.declared.Change.{Change as AChange}
-use Rattle.records.specs.declared.Change.TheVariants.{NoChange, Write}
+use Rattle.records.specs.declared.Source.{Source as RecordSource}
+use Rattle.records.specs.declared.Write.{Write}
 use Rattle.records.specs.declared.Record.{Record}
 use Rattle.runs.specs.Runs.{place_in}
 use Rattle.runs.specs.declared.Place.{Place}
@@ -105,14 +101,14 @@ stale_of w = if eqb w 4294967295 then none else some w
 abbrev pub source_of : ASource → Source
 source_of s = record { line = s.line; column = s.column }
 
-abbrev pub where_of : Where → Option Source
-where_of Nowhere = none
-where_of (From l c) = some (record { line = l; column = c })
+abbrev pub where_of : Maybe RecordSource → Option Source
+where_of None = none
+where_of (Some s) = some (record { line = s.line; column = s.column })
 
 -- the places of a change are those of texts
-abbrev pub Placed : List Text → AChange → Type 0
-Placed ts NoChange = Unit {0}
-Placed ts (Write e b v) = (e < length ts) × ((b < length ts) × (v < length ts))
+abbrev pub Placed : List Text → Maybe Write → Type 0
+Placed ts None = Unit {0}
+Placed ts (Some w) = (w.entity < length ts) × ((w.before < length ts) × (w.after < length ts))
 
 module _ (x : List ℕ) (ts : List Text) where
   -- the automation's identifier
@@ -178,13 +174,13 @@ module _ (x : List ℕ) (ts : List Text) where
       else if eqb k 17 then Kind.timeout (eqb d 1)
       else Kind.unknown (get_or ts d [])
 
-  abbrev pub rule_of : Rule → Option Text
-  rule_of NoRule = none
-  rule_of (Of a) = some (id_at a)
+  abbrev pub rule_of : Maybe ℕ → Option Text
+  rule_of None = none
+  rule_of (Some a) = some (id_at a)
 
-  abbrev pub change_of : AChange → Option Change
-  change_of NoChange = none
-  change_of (Write e b a) = some (record { entity = get_or ts e []; before = get_or ts b []; after = get_or ts a [] })
+  abbrev pub change_of : Maybe Write → Option Change
+  change_of None = none
+  change_of (Some w) = some (record { entity = get_or ts w.entity []; before = get_or ts w.before []; after = get_or ts w.after [] })
 
   unfoldable pub record_of : Record → Trace
   record_of r = record {
