@@ -1,6 +1,6 @@
 -- The work of one item: a run goes on, a wait's time is up, a value expires, runs are dropped, a write comes from outside.
 -- `process_is`: the machine does with an item what the definition does.
-use Rattle.std.specs.Prelude.{if◌then◌else◌, Option as Maybe, Some, None}
+use Rattle.std.specs.Prelude.{if◌then◌else◌, Option, Some, None}
 use mathlib.Core.Path.{◌≡◌, refl, sym, ap, ◌∙◌, subst}
 use mathlib.Core.List.{List, [], ◌∷◌}
 use mathlib.Core.Bool.{Bool, true, false, not, ◌||◌, ◌&&◌}
@@ -219,7 +219,7 @@ module _ (f x : List ℕ) (ts : List Text) (mo : Model) (tb : Tabled f x ts mo) 
             (record { inside = h; automation = refl; sequence = refl; number = refl })))
         by (suc n) z = rw (ne_eqb r.depth 0 (λ o. absurd (omega arith))) (act_is n z)
 
-    resting : (b : Bool) (p : Maybe Wait) {B : Type 0} (u v : B) →
+    resting : (b : Bool) (p : Option Wait) {B : Type 0} (u v : B) →
         (if b || not (absent (waiting_of x ts f p)) then u else v) ≡ (if (if b then false else going_phase p) then v else u)
     unfolding absent going_phase
     resting true p u v = refl
@@ -306,7 +306,7 @@ module _ (f x : List ℕ) (ts : List Text) (mo : Model) (tb : Tabled f x ts mo) 
         by true false = over_end_is w
         by false b = live less
 
-    timed : (p : Maybe Wait) → S now room (time_phase_m k r p m) (if_some (λ w. wait_over now w (R r)) (waiting_of x ts f p) e)
+    timed : (p : Option Wait) → S now room (time_phase_m k r p m) (if_some (λ w. wait_over now w (R r)) (waiting_of x ts f p) e)
     unfolding time_phase_m if_some
     timed None = live less
     timed (Some w) = over_is w

@@ -1,6 +1,6 @@
 -- Lists by place and lists by test: where one element passes a test, what is done at its place is what is done by the test.
 -- `g` maps the machine's entries to the definition's.
-use Rattle.std.specs.Prelude.{if◌then◌else◌, Option as Maybe, Some, None}
+use Rattle.std.specs.Prelude.{if◌then◌else◌, Option, Some, None}
 use mathlib.Core.Path.{◌≡◌, refl, ap, ◌∙◌}
 use mathlib.Core.Bool.{Bool, true, false, cond, not}
 use mathlib.Core.List.{List, [], ◌∷◌, ◌++◌}
@@ -48,7 +48,7 @@ module _ {A B : Type 0} (g : A → B) where
     abbrev pub Agree : List A → Type 0
     Agree l = Each (λ (a : A). q (g a) ≡ p a) l
 
-    pub data Sought (d : A) (l : List A) (f : Maybe ℕ) (i : ℕ) : Type 0 where
+    pub data Sought (d : A) (l : List A) (f : Option ℕ) (i : ℕ) : Type 0 where
       here : (k : ℕ) → f ≡ Some (i + k) → k < length l → find q (each g l) ≡ some (g (get_or l k d)) →
           p (get_or l k d) ≡ true → Sought d l f i
       nowhere : f ≡ None → find q (each g l) ≡ none → Sought d l f i

@@ -1,6 +1,6 @@
 -- What a change sets off: the runs that wait for it wake, and each automation is offered it.
 -- The machine wakes run after run; the definition wakes all at once.
-use Rattle.std.specs.Prelude.{if◌then◌else◌, Option as Maybe, Some, None}
+use Rattle.std.specs.Prelude.{if◌then◌else◌, Option, Some, None}
 use mathlib.Core.Path.{◌≡◌, refl, sym, ap, ◌∙◌, subst}
 use mathlib.Core.List.{List, [], ◌∷◌, ◌++◌, append-nil}
 use mathlib.Core.Bool.{Bool, true, false}
@@ -221,7 +221,7 @@ module _ (f : List ℕ) (v : Move) where
         ∙ get_or-set_other m.runs k j y no_run (λ e. absurd (omega arith));
   }
 
-  phase_untouched : (k : ℕ) (r : ARun) (p : Maybe Wait) (m : Machine) → Untouched (suc k) m (wake_phase_m f v k r p m)
+  phase_untouched : (k : ℕ) (r : ARun) (p : Option Wait) (m : Machine) → Untouched (suc k) m (wake_phase_m f v k r p m)
   unfolding wake_phase_m
   phase_untouched k r None m = itself (suc k) m
   phase_untouched k r (Some w) m = by (matches_m f v w.trigger)
@@ -373,7 +373,7 @@ module _ (f x : List ℕ) (ts : List Text) (mo : Model) (tb : Tabled f x ts mo) 
       stays : aw (R r) ≡ false → wake_run_m f v k r m ≡ m → Woke k r m
       wakes : aw (R r) ≡ true → wake_run_m f v k r m ≡ now_m r (put_run_m k (phase_m None r) m) → Woke k r m
 
-    woke : (k : ℕ) (r : ARun) (m : Machine) → (p : Maybe Wait) → r.phase ≡ p → GoodPhase f x ts mo tb p → Woke k r m
+    woke : (k : ℕ) (r : ARun) (m : Machine) → (p : Option Wait) → r.phase ≡ p → GoodPhase f x ts mo tb p → Woke k r m
     unfolding wake_run_m wake_phase_m awaits present_and meant_run wait_of found_trigger
     woke k r m None e g = stays (rw (e, present_and)) (rw (e, wake_phase_m))
     woke k r m (Some y) e g = by (case (matches_m f v y.trigger))
