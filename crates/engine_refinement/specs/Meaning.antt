@@ -1,5 +1,6 @@
 -- What the machine's numbers stand for: texts, cells, items, records and runs of the definition.
 -- A place is a text's number among `ts`, an automation is a row of the table x, a position is one of the file f.
+-- `Maybe`, `None` and `Some` are the code's option, `Option`, `none` and `some` the definition's.
 use Rattle.std.specs.Prelude.{ℕ, zero, suc, ◌+◌, ◌≤◌, ◌<◌, ◌≡◌, true, Option as Maybe, Some, None, List, [], ◌∷◌, ◌++◌, eqb, length, get_or, if◌then◌else◌}
 use Rattle.std.proofs.Math.Option.{Option, none, some}
 use Rattle.layout.specs.Table.{
