@@ -1,11 +1,10 @@
 -- Violations as numbers, and what judging one invariant after the other gathers.
-use Rattle.std.specs.Prelude.{ℕ, zero, suc, ◌+◌, ◌≤◌, ◌≡◌, List, [], ◌∷◌, ◌++◌, eqb, length, get_or, if◌then◌else◌}
+use Rattle.std.specs.Prelude.{ℕ, zero, suc, ◌+◌, ◌≤◌, ◌≡◌, Option, Some, None, List, [], ◌∷◌, ◌++◌, eqb, length, get_or, if◌then◌else◌}
 use Rattle.texts.specs.Texts.{Text}
 use Rattle.areas.specs.Areas.{area}
 use Rattle.records.specs.Records.{recorded}
 use Rattle.records.specs.declared.Record.{Record}
-use Rattle.records.specs.declared.Where.{Where}
-use Rattle.records.specs.declared.Where.TheVariants.{Nowhere, From}
+use Rattle.records.specs.declared.Source.{Source}
 use Rattle.reasons.specs.Lists.{insert_all, Holds}
 use Rattle.bounds.specs.Bounds.{at_most}
 use Rattle.engine_fields.specs.Fields.{two, cap}
@@ -40,9 +39,9 @@ failure_deadline GuardViolated = 0
 failure_deadline ForbiddenTransition = 0
 failure_deadline (DeadlineMissed d) = d
 
-abbrev pub source_m : Where → ℕ → ℕ
-source_m Nowhere j = 0
-source_m (From l c) j = if eqb j 0 then 1 else if eqb j 1 then l else c
+abbrev pub source_m : Option Source → ℕ → ℕ
+source_m None j = 0
+source_m (Some s) j = if eqb j 0 then 1 else if eqb j 1 then s.line else s.column
 
 -- eight numbers: the identifier's place, second, index, failure, deadline, source
 abbrev pub numbers_m : (id : ℕ) → Reading → List ℕ

@@ -18,7 +18,7 @@ use checker_response::Failure;
 use engine_fields::two_at;
 use engine_state::Cells;
 use layout::{Positions, Table};
-use records::Where;
+use records::Source;
 
 // ---- violations, eight numbers each
 
@@ -52,20 +52,16 @@ fn failure_deadline(e: Failure) -> u64
 }
 
 // 1, line and column; or zeros.
-fn source_part(s: Where, j: usize) -> u64
+fn source_part(s: Option<Source>, j: usize) -> u64
     ensures { result ≡ source_m s j }
 {
     match s {
-        Where::Nowhere => 0,
-        Where::From { line, column } => {
-            if j == 0 {
-                return 1;
-            }
-            if j == 1 {
-                return line as u64;
-            }
-            column as u64
-        }
+        None => 0,
+        Some(place) => match j {
+            0 => 1,
+            1 => u64::from(place.line),
+            _ => u64::from(place.column),
+        },
     }
 }
 

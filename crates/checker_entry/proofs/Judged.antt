@@ -11,8 +11,8 @@ use Rattle.texts.specs.Texts.{Text, sorted_t}
 use Rattle.areas.specs.Areas.{words}
 use Rattle.areas.proofs.Laws as areas
 use Rattle.records.specs.declared.Record.{Record}
-use Rattle.records.specs.declared.Where.{Where}
-use Rattle.records.specs.declared.Where.TheVariants.{Nowhere, From}
+use Rattle.records.specs.declared.Source.{Source}
+use Rattle.std.specs.Prelude.{Option, Some, None}
 use Rattle.reasons.specs.Lists.{insert_all}
 use Rattle.reasons.proofs.Sorting.{merged, either_way}
 use Rattle.model_spec.specs.Model.{Invariant, id_of, Model}
@@ -75,10 +75,10 @@ sorted_more l a b = merged b (l ++ a) ∙ either_way b (l ++ a) ∙ ap sorted_t 
 
 -- ---- one invariant
 
-source_as : (s : Where) → source_m s 0 ∷ source_m s 1 ∷ source_m s 2 ∷ [] ≡ source_words (where_of s)
+source_as : (s : Option Source) → source_m s 0 ∷ source_m s 1 ∷ source_m s 2 ∷ [] ≡ source_words (where_of s)
 unfolding source_words
-source_as Nowhere = refl
-source_as (From l c) = refl
+source_as None = refl
+source_as (Some s) = refl
 
 module _ (f x : List ℕ) (ts : List Text) (m : Model) (tb : Tabled f x ts m) where
   -- an invariant's identifier is a text of the file

@@ -1,5 +1,5 @@
 -- The values after a record; the reading of the records from an index on: its end, a record that fails, one that doesn't.
-use Rattle.std.specs.Prelude.{if◌then◌else◌}
+use Rattle.std.specs.Prelude.{if◌then◌else◌, Option, Some, None}
 use Prim.Native.Nat.{ℕ, zero, suc, ◌+◌, ◌-◌, ◌≤◌, ◌<◌}
 use mathlib.Core.Path.{◌≡◌, refl, sym, ap, ◌∙◌, subst}
 use mathlib.Core.Bool.{Bool, true, false, not, false≢true}
@@ -12,10 +12,7 @@ use lib.ListN.{length, get_or, set, drop, drop_of_length-le}
 use lib.Seq.{drop-cons}
 use Rattle.model_walk.proofs.Found.{Case, is_true, is_false, case}
 use Rattle.records.specs.Records.{recorded, GotChange, Got}
-use Rattle.records.specs.declared.Rule.TheVariants.{NoRule}
-use Rattle.records.specs.declared.Where.TheVariants.{Nowhere}
-use Rattle.records.specs.declared.Change.{Change}
-use Rattle.records.specs.declared.Change.TheVariants.{NoChange, Write}
+use Rattle.records.specs.declared.Write.{Write}
 use Rattle.records.specs.declared.Record.{Record}
 use Rattle.engine_fields.specs.Fields.{cap, entity_of}
 use Rattle.engine_state.specs.Machine.{stored_m}
@@ -50,13 +47,14 @@ use Rattle.checker_judge.proofs.Quiet.{unchanged, read_same, read_unchanged, fre
 -- ---- one record
 
 -- the values after a change need only the values before it
-after_values : (x : List ℕ) (d : Change) (c : Cells) → (after_m x d c).values ≡ set_m c.values (entity_m x d) (value_m d)
+after_values : (x : List ℕ) (d : Option Write) (c : Cells) → (after_m x d c).values ≡ set_m c.values (entity_m x d) (value_m d)
 unfolding after_m put_m entity_m value_m set_m
-after_values x NoChange c = refl
-after_values x (Write e b v) c = cases (ltb (entity_of x e) 32)
+after_values x None c = refl
+after_values x (Some d) c = cases (ltb (entity_of x d.entity) 32)
   where
     cases : (y : Bool) →
-        (if y then stored_m c (entity_of x e) v else c).values ≡ (if y then set c.values (entity_of x e) v else c.values)
+        (if y then stored_m c (entity_of x d.entity) d.after else c).values
+        ≡ (if y then set c.values (entity_of x d.entity) d.after else c.values)
     cases true = refl
     cases false = refl
 
@@ -101,7 +99,7 @@ module _ (f x : List ℕ) (at : ℕ) (vs : List ℕ) (m : Memory) where
 -- ---- all records
 
 no_record : Record
-no_record = record { second = 0; kind = 0; detail = 0; number = 0; rule = NoRule; source = Nowhere; change = NoChange }
+no_record = record { second = 0; kind = 0; detail = 0; number = 0; rule = None; source = None; change = None }
 
 -- the reading goes on behind a record that shows nothing new
 reads_over : (f x : List ℕ) (p : ℕ) (c : Cells) (m : Memory) (k : ℕ) (r : Record) (l : List Record)
@@ -263,7 +261,7 @@ module _ (named : List Bool) (a : List ℕ) (n k : ℕ) where
   }
 
 -- a record's answer
-pub quiet_is : (named : List Bool) (a : List ℕ) (n k : ℕ) (change : Change) → k < n → GotChange a k change
+pub quiet_is : (named : List Bool) (a : List ℕ) (n k : ℕ) (change : Option Write) → k < n → GotChange a k change
     → {touched yes : Bool} → touched ≡ touches_m named change → yes ≡ not touched → Quiet named a n k yes
 quiet_is named a n k change h got {touched} {yes} e g = record {
   among = λ _. h;

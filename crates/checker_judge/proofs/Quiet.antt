@@ -1,6 +1,6 @@
 -- What a record shows by values that agree, a record that is passed over, and that a record without a change shows nothing
 -- new after one that was read.
-use Rattle.std.specs.Prelude.{if◌then◌else◌}
+use Rattle.std.specs.Prelude.{if◌then◌else◌, Option, Some, None}
 use Prim.Native.Nat.{ℕ, ◌+◌}
 use mathlib.Core.Path.{◌≡◌, refl, sym}
 use mathlib.Core.Bool.{Bool, true, false, ◌||◌, false≢true}
@@ -10,8 +10,7 @@ use lib.ListN.{get_or}
 use borrow.Author.Tests.{ne_eqb}
 use Rattle.texts.proofs.Bool.{and_false, or_again, or_false}
 use Rattle.model_walk.proofs.Found.{Case, is_true, is_false, case}
-use Rattle.records.specs.declared.Change.{Change}
-use Rattle.records.specs.declared.Change.TheVariants.{NoChange, Write}
+use Rattle.records.specs.declared.Write.{Write}
 use Rattle.records.specs.declared.Record.{Record}
 use Rattle.engine_fields.specs.Fields.{two}
 use Rattle.engine_state.specs.Machine.{later}
@@ -77,7 +76,7 @@ unchanged r = record {
   number = r.number;
   rule = r.rule;
   source = r.source;
-  change = NoChange;
+  change = None;
 }
 
 -- ---- a response to which nothing happens
@@ -159,15 +158,17 @@ module _ (f x : List ℕ) (at : ℕ) where
           )
 
   module _ (has : has_m (named_in f at) (two f (at + 3)) ≡ true) where
-    not_written : (d : Change) → touches_m (named_in f at) d ≡ false → writes_m f at d ≡ false
+    not_written : (d : Option Write) → touches_m (named_in f at) d ≡ false → writes_m f at d ≡ false
     unfolding writes_m touches_m
-    not_written NoChange k = refl
-    not_written (Write e b v) k = rw (ne_eqb e (two f (at + 3)) (apart (named_in f at) e (two f (at + 3)) k has))
+    not_written None k = refl
+    not_written (Some d) k =
+        rw (ne_eqb d.entity (two f (at + 3)) (apart (named_in f at) d.entity (two f (at + 3)) k has))
 
-    not_passed : (d : Change) → touches_m (named_in f at) d ≡ false → passes_m f at d ≡ false
+    not_passed : (d : Option Write) → touches_m (named_in f at) d ≡ false → passes_m f at d ≡ false
     unfolding passes_m touches_m
-    not_passed NoChange k = refl
-    not_passed (Write e b v) k = rw (ne_eqb e (two f (at + 3)) (apart (named_in f at) e (two f (at + 3)) k has))
+    not_passed None k = refl
+    not_passed (Some d) k =
+        rw (ne_eqb d.entity (two f (at + 3)) (apart (named_in f at) d.entity (two f (at + 3)) k has))
 
   -- a write of an entity that isn't named is read as no change
   pub read_unchanged : (bs ps : List ℕ) (r : Record) (m : Memory) → touches_m (named_in f at) r.change ≡ false
@@ -178,14 +179,14 @@ module _ (f x : List ℕ) (at : ℕ) where
       by : Kind → read_m f x at bs ps r m ≡ read_m f x at bs ps (unchanged r) m
       by (never a) = rw a
       by (guard a b) =
-          rw (a, b, not_written (guard_has f at a b) r.change h, not_written (guard_has f at a b) NoChange refl)
+          rw (a, b, not_written (guard_has f at a b) r.change h, not_written (guard_has f at a b) None refl)
       by (transition a b c) =
           rw (
             a,
             b,
             c,
             not_passed (transition_has f at a b c) r.change h,
-            not_passed (transition_has f at a b c) NoChange refl,
+            not_passed (transition_has f at a b c) None refl,
           )
       by (response a b c) = rw (a, b, c)
 
@@ -233,7 +234,7 @@ module _ (f x : List ℕ) (at : ℕ) where
   unfolding read_m
   fresh_after bs ps r m h = record { still = λ idle q same. by kind_of idle q same }
     where
-      by : Kind → pending_m (read_m f x at bs ps r m).memory.wait ≡ false → (q : Record) → q.change ≡ NoChange
+      by : Kind → pending_m (read_m f x at bs ps r m).memory.wait ≡ false → (q : Record) → q.change ≡ None
           → read_m f x at ps ps q (read_m f x at bs ps r m).memory ≡ nothing_new (read_m f x at bs ps r m).memory
       by (never a) idle q same = rw a (never_again ps m (rw a at h))
       by (guard a b) idle q same = rw (a, b) (unfold guard_m about_m writes_m in (rw (same, and_false (eqb q.kind 2))))

@@ -1,9 +1,8 @@
 -- The entities that an invariant names, as 64 cells: an entity's cell is the one at its place's remainder. So a cell may say
 -- yes for an entity that isn't named, but never no for one that is.
-use Rattle.std.specs.Prelude.{ℕ, zero, suc, ◌+◌, ◌%◌, ◌≤◌, ◌<◌, ◌≡◌, Bool, true, false, List, eqb, length, get_or, set, replicate, if◌then◌else◌}
+use Rattle.std.specs.Prelude.{ℕ, zero, suc, ◌+◌, ◌%◌, ◌≤◌, ◌<◌, ◌≡◌, Bool, true, false, Option, Some, None, List, eqb, length, get_or, set, replicate, if◌then◌else◌}
 use Rattle.records.specs.Records.{recorded}
-use Rattle.records.specs.declared.Change.{Change}
-use Rattle.records.specs.declared.Change.TheVariants.{NoChange, Write}
+use Rattle.records.specs.declared.Write.{Write}
 use Rattle.records.specs.declared.Record.{Record}
 use Rattle.engine_fields.specs.Fields.{two}
 use Rattle.engine_state.specs.Machine.{later}
@@ -43,9 +42,9 @@ abbrev pub named_in : List ℕ → (at : ℕ) → List Bool
 named_in f at = names_m f at (replicate 64 false)
 
 -- the change writes an entity whose cell says yes
-unfoldable pub touches_m : List Bool → Change → Bool
-touches_m l NoChange = false
-touches_m l (Write e b v) = has_m l e
+unfoldable pub touches_m : List Bool → Option Write → Bool
+touches_m l None = false
+touches_m l (Some w) = has_m l w.entity
 
 unfoldable pub pending_m : Wait → Bool
 pending_m NoWait = false

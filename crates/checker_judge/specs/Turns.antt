@@ -1,7 +1,6 @@
 -- One record's turn in the code: it keeps the values of the named entities only, and shows what the definition's turn shows.
-use Rattle.std.specs.Prelude.{ℕ, ◌<◌, ◌≡◌, Bool, true, false, List, length, get_or}
+use Rattle.std.specs.Prelude.{ℕ, ◌<◌, ◌≡◌, Bool, true, false, None, List, length, get_or}
 use Rattle.records.specs.Records.{recorded}
-use Rattle.records.specs.declared.Change.TheVariants.{NoChange}
 use Rattle.records.specs.declared.Record.{Record}
 use Rattle.engine_fields.specs.Fields.{entity_of}
 use Rattle.engine_state.specs.declared.Cells.{Cells}
@@ -24,7 +23,7 @@ nothing_new m = record { failure = NoFailure; memory = m }
 
 -- with these values a record without a change shows nothing new, unless a deadline is awaited
 pub record Fresh (f x : List ℕ) (at : ℕ) (vs : List ℕ) (m : Memory) : Type 0 where
-  pub still : pending_m m.wait ≡ false → (r : Record) → r.change ≡ NoChange → read_m f x at vs vs r m ≡ nothing_new m
+  pub still : pending_m m.wait ≡ false → (r : Record) → r.change ≡ None → read_m f x at vs vs r m ≡ nothing_new m
 
 -- the reading r is that of the definition's turn t, and the values after it agree with the turn's
 pub record Follows (f x : List ℕ) (at : ℕ) (t : Turn) (r : Reading) (after : List ℕ) : Type 0 where

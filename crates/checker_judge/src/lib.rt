@@ -35,7 +35,7 @@ use engine_evaluate::{Truth, evaluate, evaluate_all};
 use engine_fields::{byte_at, four_at, two_at};
 use engine_state::{Cells, after};
 use layout::Table;
-use records::{Change, Record, Where};
+use records::{Record, Source, Write};
 
 // The failing record: its index, its second, its source; without a failure these are 0 and none.
 #[derive(Clone, Copy)]
@@ -43,7 +43,7 @@ pub struct Reading {
     pub failure: Failure,
     pub index: usize,
     pub second: u32,
-    pub source: Where,
+    pub source: Option<Source>,
     pub memory: Memory,
 }
 
@@ -59,30 +59,24 @@ fn unsure(b: bool, m: Memory) -> Memory
 // ---- the values after a change
 
 // The entity that a change writes, or 32.
-fn entity_in(x: &Table, change: Change) -> usize
+#[tactic(auto, unfolding(crate::specs::Judging::entity_m))]
+fn entity_in(x: &Table, change: Option<Write>) -> usize
     ensures { result ≡ entity_m x.now change }
 {
     match change {
-        Change::NoChange => 32,
-        Change::Write {
-            entity,
-            before: _,
-            after: _,
-        } => engine_fields::entity_of(x, entity),
+        None => 32,
+        Some(w) => engine_fields::entity_of(x, w.entity),
     }
 }
 
 // The value that it writes, or 0.
-fn value_in(change: Change) -> u32
+#[tactic(auto, unfolding(crate::specs::Judging::value_m))]
+fn value_in(change: Option<Write>) -> u32
     ensures { result ≡ value_m change }
 {
     match change {
-        Change::NoChange => 0,
-        Change::Write {
-            entity: _,
-            before: _,
-            after,
-        } => after,
+        None => 0,
+        Some(w) => w.after,
     }
 }
 
@@ -108,18 +102,15 @@ fn read_never(f: &[u8], x: &Table, at: u32, present: &[u32; 32], m: Memory) -> S
 }
 
 // Whether a change sets the guard's entity to its value.
-fn writes(f: &[u8], at: u32, change: Change) -> bool
+#[tactic(auto, unfolding(crate::specs::Judging::writes_m))]
+fn writes(f: &[u8], at: u32, change: Option<Write>) -> bool
     ensures { result ≡ writes_m f.now at change }
 {
     match change {
-        Change::NoChange => false,
-        Change::Write {
-            entity,
-            before: _,
-            after,
-        } => both(
-            entity == two_at(f, at as usize + 3),
-            after == two_at(f, at as usize + 5),
+        None => false,
+        Some(w) => both(
+            w.entity == two_at(f, at as usize + 3),
+            w.after == two_at(f, at as usize + 5),
         ),
     }
 }
@@ -159,21 +150,18 @@ fn read_guard(f: &[u8], x: &Table, at: u32, before: &[u32; 32], r: Record, m: Me
 }
 
 // Whether a change takes the transition's entity from its first value to its second.
-fn passes(f: &[u8], at: u32, change: Change) -> bool
+#[tactic(auto, unfolding(crate::specs::Judging::passes_m))]
+fn passes(f: &[u8], at: u32, change: Option<Write>) -> bool
     ensures { result ≡ passes_m f.now at change }
 {
     match change {
-        Change::NoChange => false,
-        Change::Write {
-            entity,
-            before,
-            after,
-        } => both(
+        None => false,
+        Some(w) => both(
             both(
-                entity == two_at(f, at as usize + 3),
-                before == two_at(f, at as usize + 5),
+                w.entity == two_at(f, at as usize + 3),
+                w.before == two_at(f, at as usize + 5),
             ),
-            after == two_at(f, at as usize + 7),
+            w.after == two_at(f, at as usize + 7),
         ),
     }
 }
@@ -294,16 +282,13 @@ fn name_all(f: &[u8], at: u32, named: &mut [bool; 64])
 
 // ---- all records
 
-fn touches(named: &[bool; 64], change: Change) -> bool
+#[tactic(auto, unfolding(crate::specs::Names::touches_m, crate::specs::Names::has_m))]
+fn touches(named: &[bool; 64], change: Option<Write>) -> bool
     ensures { result ≡ touches_m named.now change }
 {
     match change {
-        Change::NoChange => false,
-        Change::Write {
-            entity,
-            before: _,
-            after: _,
-        } => named[(entity % 64) as usize],
+        None => false,
+        Some(w) => named[(w.entity % 64) as usize],
     }
 }
 
@@ -399,7 +384,7 @@ fn unfailed(m: Memory) -> Reading
         failure: Failure::NoFailure,
         index: 0,
         second: 0,
-        source: Where::Nowhere,
+        source: None,
         memory: m,
     }
 }

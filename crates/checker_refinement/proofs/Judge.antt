@@ -14,8 +14,8 @@ use Rattle.model_spec.specs.Windows.{windowless_invariant}
 use Rattle.model_spec.specs.File.{got, invariant, kinds, u8}
 use Rattle.model_walk.proofs.Found.{Case, is_true, is_false, case, bound, u8_wide}
 use Rattle.model_parts.specs.Stand.{Reads}
-use Rattle.records.specs.declared.Change.{Change}
-use Rattle.records.specs.declared.Change.TheVariants.{NoChange, Write}
+use Rattle.records.specs.declared.Write.{Write}
+use Rattle.std.specs.Prelude.{Option, Some, None}
 use Rattle.records.specs.declared.Record.{Record}
 use Rattle.engine_spec.specs.Cells.{Cell, is_cell, cell_of, overwrite, put}
 use Rattle.engine_spec.proofs.Lists.{none_some, Each}
@@ -93,10 +93,10 @@ module _ (f x : List ℕ) (ts : List Text) (mo : Model) (tb : Tabled f x ts mo) 
   unfolding after record_of after_m
   after_is c ns cs g r p = cases r.change p
     where
-      cases : (d : Change) → Placed ts d → After (after_m x d c)
+      cases : (d : Option Write) → Placed ts d → After (after_m x d c)
           (elim (change_of x ts d) [ none ↦ cs | some w ↦ put w.entity w.after 0 cs ])
-      cases NoChange p = record { versions = ns; are = g }
-      cases (Write e b v) p = put_after c ns cs g e v p.0 p.1.1
+      cases None p = record { versions = ns; are = g }
+      cases (Some d) p = put_after c ns cs g d.entity d.after p.0 p.1.1
 
   -- ---- a record, and those behind it
 

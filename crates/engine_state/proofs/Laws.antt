@@ -1,5 +1,5 @@
 -- The primitive changes by cases, and how changes are put together.
-use Rattle.std.specs.Prelude.{if◌then◌else◌}
+use Rattle.std.specs.Prelude.{Option, if◌then◌else◌}
 use Prim.Native.Nat.{ℕ, suc, ◌+◌, ◌-◌, ◌/◌, ◌*◌, ◌≤◌, ◌<◌}
 use mathlib.Core.Path.{◌≡◌, refl, sym, ◌∙◌, ap, subst}
 use mathlib.Core.Bool.{Bool, true, false}
@@ -18,9 +18,8 @@ use Rattle.queue.specs.Queue.{laid, Inserted}
 use Rattle.queue.specs.declared.Item.{Item}
 use Rattle.queue.specs.declared.Work.{Work}
 use Rattle.records.specs.Records as records
-use Rattle.records.specs.declared.Rule.{Rule}
-use Rattle.records.specs.declared.Where.{Where}
-use Rattle.records.specs.declared.Change.{Change}
+use Rattle.records.specs.declared.Source.{Source}
+use Rattle.records.specs.declared.Write.{Write}
 use Rattle.records.specs.declared.Record.{Record}
 use Rattle.runs.specs.Runs as runs
 use Rattle.runs.specs.declared.Run.{Run}
@@ -274,7 +273,7 @@ module _ (st : Entire) (q : List ℕ) (s : ℕ) (w : Work) where
 
 -- ---- a record more
 
-module _ (t : Told) (v : Rule) (w : Where) (x : Change) (m : Machine) where
+module _ (t : Told) (v : Option ℕ) (w : Option Source) (x : Option Write) (m : Machine) where
   log_stuck : (m.«overflow» ≡ 0 → ⊥) → m ≡ log_m t v w x m
   unfolding log_m
   log_stuck z = rw (ne_eqb m.«overflow» 0 z)
@@ -288,7 +287,7 @@ module _ (t : Told) (v : Rule) (w : Where) (x : Change) (m : Machine) where
   unfolding log_m
   log_full z e = rw (eq-eqb m.«overflow» 0 z, e)
 
-module _ (st : Entire) (a : List ℕ) (t : Told) (v : Rule) (w : Where) (x : Change) where
+module _ (st : Entire) (a : List ℕ) (t : Told) (v : Option ℕ) (w : Option Source) (x : Option Write) where
   pub unlogged : st.records * 13 ≤ length a → (st.«overflow» ≡ 0 → ⊥) →
       Turns (log_m t v w x) st st kept (goes a a) kept still
   unlogged h z = record {

@@ -10,8 +10,8 @@ use engine_evaluate::Truth;
 use engine_fields::rule_word;
 use engine_state::{Move, State, Told, log, log_rule, next_step};
 use layout::Table;
-use records::{Change, Rule, Where};
-use runs::{Found, Phase, Run};
+use records::Source;
+use runs::{Run, Wait};
 
 // ---- runs
 
@@ -23,7 +23,7 @@ pub fn released(run: Run) -> Run
     r
 }
 
-pub fn with_phase(run: Run, phase: Phase) -> Run
+pub fn with_phase(run: Run, phase: Option<Wait>) -> Run
     ensures { result ≡ phase_m phase run }
 {
     let places = run.places;
@@ -45,12 +45,12 @@ pub fn release(q: &mut [u32], r: &mut [u32], st: State, automation: u32) -> Stat
 {
     let found = runs::find_queued(r, st.live_runs, automation);
     match found {
-        Found::At(k) => {
+        Some(k) => {
             let run = runs::run_at(r, k);
             runs::put_run(r, k, released(run));
             next_step(q, st, run, st.now)
         }
-        Found::Nothing => st,
+        None => st,
     }
 }
 
@@ -73,12 +73,12 @@ fn wake_one(f: &[u8], q: &mut [u32], r: &mut [u32], st: State, k: usize, m: Move
     ensures { Does (wake_one_m f.now m k) st result (by q) kept (by r) still × (result.live_runs ≡ st.live_runs) }
 {
     let phase = runs::phase_at(r, k);
-    let Phase::Waiting(w) = phase else {
+    let Some(w) = phase else {
         return st;
     };
     if engine_evaluate::matches(f, w.trigger, m) {
         let run = runs::run_at(r, k);
-        let going = with_phase(run, Phase::Going);
+        let going = with_phase(run, None);
         runs::put_run(r, k, going);
         return next_step(q, st, run, st.now);
     }
@@ -147,9 +147,9 @@ fn log_trigger(f: &[u8], x: &Table, a: &mut [u32], st: State, i: usize, t: Truth
             kind: records::TRIGGER,
             detail,
         },
-        Rule::Of(i as u32),
-        Where::From { line, column },
-        Change::NoChange,
+        Some(i as u32),
+        Some(Source { line, column }),
+        None,
     )
 }
 

@@ -15,7 +15,7 @@ ghost use Rattle.simulate_lines.specs.FileTexts.{texts_of, text_of};
 ghost use Rattle.record_lines.specs.RecordWords.{name_of, detail_begins, detail_ends, RecordPut};
 
 use layout::Table;
-use records::{Change, Record, Rule, Where};
+use records::{Record, Write};
 use show::Source;
 use simulate_lines::put_place;
 
@@ -45,21 +45,21 @@ fn id_place(x: &Table, i: u32) -> u32
     word_at(x, 80 + i as usize * 8)
 }
 
-fn put_rule(out: &mut [u8], n: usize, f: &[u8], x: &Table, rule: Rule) -> usize
+fn put_rule(out: &mut [u8], n: usize, f: &[u8], x: &Table, rule: Option<u32>) -> usize
     ensures { Written (quoted_if (rule_of x.now (texts_of f.now x.now) rule)) out.old n out.new result }
 {
     match rule {
-        Rule::NoRule => show::put_byte(out, n, 45),
-        Rule::Of(i) => put_place(out, n, f, x, id_place(x, i)),
+        None => show::put_byte(out, n, 45),
+        Some(i) => put_place(out, n, f, x, id_place(x, i)),
     }
 }
 
-fn put_where(out: &mut [u8], n: usize, source: Where) -> usize
+fn put_where(out: &mut [u8], n: usize, source: Option<records::Source>) -> usize
     ensures { Written (placed_if (where_of source)) out.old n out.new result }
 {
     match source {
-        Where::Nowhere => show::put_byte(out, n, 45),
-        Where::From { line, column } => show::put_source(out, n, Source::At(line, column)),
+        None => show::put_byte(out, n, 45),
+        Some(place) => show::put_source(out, n, Source::At(place.line, place.column)),
     }
 }
 
@@ -76,16 +76,12 @@ fn put_write(out: &mut [u8], n: usize, f: &[u8], x: &Table, e: u32, b: u32, a: u
     put_place(out, l, f, x, a)
 }
 
-fn put_change(out: &mut [u8], n: usize, f: &[u8], x: &Table, change: Change) -> usize
+fn put_change(out: &mut [u8], n: usize, f: &[u8], x: &Table, change: Option<Write>) -> usize
     ensures { Written (changed (change_of x.now (texts_of f.now x.now) change)) out.old n out.new result }
 {
     match change {
-        Change::NoChange => show::put(out, n, b"- - -"),
-        Change::Write {
-            entity,
-            before,
-            after,
-        } => put_write(out, n, f, x, entity, before, after),
+        None => show::put(out, n, b"- - -"),
+        Some(w) => put_write(out, n, f, x, w.entity, w.before, w.after),
     }
 }
 
