@@ -1,5 +1,5 @@
 -- The laws that the proofs of walks cite.
-use Rattle.std.specs.Prelude.{if◌then◌else◌}
+use Rattle.std.specs.Prelude.{Some, None, if◌then◌else◌}
 use mathlib.Core.Path.{◌≡◌, refl, sym, ap, ◌∙◌}
 use mathlib.Core.List.{List}
 use mathlib.Core.Bool.{Bool, true, false}
@@ -11,11 +11,9 @@ use lib.ListN.{length, get_or}
 use lib.Dec.{eqb}
 use borrow.Author.Tests.{lt-ltb, le-ltb, le-leb, lt-leb, ne_eqb}
 use Rattle.model_spec.specs.File.{Got, got, broken, Reader, ◌>>=◌, give, u8, u16, u32}
-use Rattle.model_walk.specs.declared.Num.{Num}
-use Rattle.model_walk.specs.declared.Num.TheVariants as num
-use Rattle.model_walk.specs.declared.Walked.{Walked}
-use Rattle.model_walk.specs.declared.Walked.TheVariants as walked
 use Rattle.model_walk.specs.Walk.{
+  Num,
+  Walked,
   found,
   capped,
   Walk,
@@ -99,19 +97,19 @@ u32_out s at h = elim (dec_lt (at + 1) (length s)) [
 ]
 
 -- what a number's answer says of its reader
-pub is_got : {x : Num} {g : Got ℕ} {v q : ℕ} → found x ≡ g → x ≡ num.Is v q → g ≡ got v q
+pub is_got : {x : Num} {g : Got ℕ} {v q : ℕ} → found x ≡ g → x ≡ Some (v, q) → g ≡ got v q
 unfolding found
 is_got e h = sym e ∙ ap found h
 
-pub is_broken : {x : Num} {g : Got ℕ} → found x ≡ g → x ≡ num.Broken → g ≡ broken
+pub is_broken : {x : Num} {g : Got ℕ} → found x ≡ g → x ≡ None → g ≡ broken
 unfolding found
 is_broken e h = sym e ∙ ap found h
 
-pub says_got : {v w q : ℕ} {g : Got ℕ} → g ≡ got w q → v ≡ w → found (num.Is v q) ≡ g
+pub says_got : {v w q : ℕ} {g : Got ℕ} → g ≡ got w q → v ≡ w → found (Some (v, q)) ≡ g
 unfolding found
 says_got {q = q} e h = ap (λ x. got x q) h ∙ sym e
 
-pub says_broken : {g : Got ℕ} → g ≡ broken → found num.Broken ≡ g
+pub says_broken : {g : Got ℕ} → g ≡ broken → found None ≡ g
 unfolding found
 says_broken e = sym e
 
@@ -128,49 +126,49 @@ no_if x y h = rw h
 module _ (s : List ℕ) (p n : ℕ) where
   -- the code's answer x of the first number, and its case
   module _ (r : Reader ℕ) (f : ℕ → Walk) {x : Num} (e : found x ≡ r s p) where
-    pub by_is : {v q : ℕ} → x ≡ num.Is v q → by r f s p n ≡ f v s q n
+    pub by_is : {v q : ℕ} → x ≡ Some (v, q) → by r f s p n ≡ f v s q n
     unfolding by
     by_is h = rw (is_got e h, by)
 
-    pub by_broken : x ≡ num.Broken → by r f s p n ≡ walked.Broken
+    pub by_broken : x ≡ None → by r f s p n ≡ None
     unfolding by
     by_broken h = rw (is_broken e h, by)
 
   -- the code's answer x of the first walk, and its case
   module _ (k l : Walk) {x : Walked} (e : x ≡ k s p n) where
-    pub to : {q m : ℕ} → x ≡ walked.To q m → (k ⨾ l) s p n ≡ l s q m
+    pub to : {q m : ℕ} → x ≡ Some (q, m) → (k ⨾ l) s p n ≡ l s q m
     unfolding ◌⨾◌ and_then
     to h = rw (sym e ∙ h, and_then)
 
-    pub broke : x ≡ walked.Broken → (k ⨾ l) s p n ≡ walked.Broken
+    pub broke : x ≡ None → (k ⨾ l) s p n ≡ None
     unfolding ◌⨾◌ and_then
     broke h = rw (sym e ∙ h, and_then)
 
-  pub stopped : stop s p n ≡ walked.Broken
+  pub stopped : stop s p n ≡ None
   unfolding stop
   stopped = refl
 
-  pub stayed : stay s p n ≡ walked.To p n
+  pub stayed : stay s p n ≡ Some (p, n)
   unfolding stay
   stayed = refl
 
-  pub noted_is : noted s p n ≡ walked.To p (capped (n + 1))
+  pub noted_is : noted s p n ≡ Some (p, capped (n + 1))
   unfolding noted
   noted_is = refl
 
-  pub stay_if : {b : Bool} → b ≡ true → staying b s p n ≡ walked.To p n
+  pub stay_if : {b : Bool} → b ≡ true → staying b s p n ≡ Some (p, n)
   unfolding staying stay
   stay_if h = rw h
 
-  pub stop_if : {b : Bool} → b ≡ false → staying b s p n ≡ walked.Broken
+  pub stop_if : {b : Bool} → b ≡ false → staying b s p n ≡ None
   unfolding staying stop
   stop_if h = rw h
 
-  pub bytes_in : (w : ℕ) → p + w ≤ length s → bytes_m w s p n ≡ walked.To (p + w) n
+  pub bytes_in : (w : ℕ) → p + w ≤ length s → bytes_m w s p n ≡ Some (p + w, n)
   unfolding bytes_m
   bytes_in w h = rw (le-leb (p + w) (length s) h)
 
-  pub bytes_out : (w : ℕ) → length s < p + w → bytes_m w s p n ≡ walked.Broken
+  pub bytes_out : (w : ℕ) → length s < p + w → bytes_m w s p n ≡ None
   unfolding bytes_m
   bytes_out w h = rw (lt-leb (p + w) (length s) h)
 
@@ -179,19 +177,23 @@ module _ (s : List ℕ) (p n : ℕ) (k : Walk) where
   unfolding or_zeros_m
   zeros_before h = rw (lt-ltb p (length s) h)
 
-  pub zeros_at_end : length s ≤ p → or_zeros_m k s p n ≡ walked.To p n
+  pub zeros_at_end : length s ≤ p → or_zeros_m k s p n ≡ Some (p, n)
   unfolding or_zeros_m
   zeros_at_end h = rw (le-ltb p (length s) h)
 
-pub to_same : {p n m : ℕ} → m ≡ n → walked.To p n ≡ walked.To p m
-to_same {p} e = ap (walked.To p) (sym e)
+pub to_same : {p n m : ℕ} → m ≡ n → ◌≡◌ {A = Walked} (Some (p, n)) (Some (p, m))
+to_same {p} e = ap (λ (x : ℕ). Some (p, x)) (sym e)
+
+pub same_to : {p n q m : ℕ} → ◌≡◌ {A = Walked} (Some (p, n)) (Some (q, m)) → (p ≡ q) × (n ≡ m)
+same_to {p} {n} {q} {m} e =
+    let h : ◌≡◌ {A = ℕ × ℕ} (p, n) (q, m) = cc in (ap (λ (x : ℕ × ℕ). x.0) h, ap (λ (x : ℕ × ℕ). x.1) h)
 
 -- a test, and then a walk
 pub stay_then : {b : Bool} (l : Walk) (s : List ℕ) (p n : ℕ) → b ≡ true → (staying b ⨾ l) s p n ≡ l s p n
 unfolding staying stay ◌⨾◌ and_then
 stay_then l s p n h = rw h
 
-pub stop_then : {b : Bool} (l : Walk) (s : List ℕ) (p n : ℕ) → b ≡ false → (staying b ⨾ l) s p n ≡ walked.Broken
+pub stop_then : {b : Bool} (l : Walk) (s : List ℕ) (p n : ℕ) → b ≡ false → (staying b ⨾ l) s p n ≡ None
 unfolding staying stop ◌⨾◌ and_then
 stop_then l s p n h = rw h
 
@@ -234,12 +236,12 @@ no_walk k l s p n h = rw h
 
 and_then_assoc : (x : Walked) (f g : ℕ → ℕ → Walked) → and_then (and_then x f) g ≡ and_then x (λ p n. and_then (f p n) g)
 unfolding and_then
-and_then_assoc (walked.To p n) f g = refl
-and_then_assoc walked.Broken f g = refl
+and_then_assoc (Some (p, n)) f g = refl
+and_then_assoc None f g = refl
 
 by_and_then : (g : Got ℕ) (f : ℕ → ℕ → Walked) (h : ℕ → ℕ → Walked) →
-    and_then (elim g [ got x q ↦ f x q | broken ↦ walked.Broken ]) h
-    ≡ elim g [ got x q ↦ and_then (f x q) h | broken ↦ walked.Broken ]
+    and_then (elim g [ got x q ↦ f x q | broken ↦ None ]) h
+    ≡ elim g [ got x q ↦ and_then (f x q) h | broken ↦ None ]
 unfolding and_then
 by_and_then (got x q) f h = refl
 by_and_then broken f h = refl
@@ -261,7 +263,7 @@ module _ (k : Walk) (s : List ℕ) (p n : ℕ) where
   times_more zero h = absurd (omega arith)
   times_more (suc i) h = rw (sub-one (suc i))
 
-  pub times_none : (i : ℕ) → i ≤ 0 → times_m i k s p n ≡ walked.To p n
+  pub times_none : (i : ℕ) → i ≤ 0 → times_m i k s p n ≡ Some (p, n)
   unfolding times_m stay
   times_none zero h = refl
   times_none (suc i) h = absurd (omega arith)
@@ -277,7 +279,7 @@ unfolding times_m ◌⨾◌ stay and_then
 none_then k l s p n zero h = refl
 none_then k l s p n (suc i) h = absurd (omega arith)
 
-pub actions_none : (ts : ℕ) (s : List ℕ) (p n : ℕ) → actions_m ts 0 s p n ≡ walked.Broken
+pub actions_none : (ts : ℕ) (s : List ℕ) (p n : ℕ) → actions_m ts 0 s p n ≡ None
 unfolding actions_m stop
 actions_none ts s p n = refl
 
@@ -334,7 +336,7 @@ module _ (ts : ℕ) (s : List ℕ) (p n : ℕ) where
     simple_6 e = rw e
 
     pub simple_else : (k ≡ 0 → ⊥) → (k ≡ 1 → ⊥) → (k ≡ 2 → ⊥) → (k ≡ 3 → ⊥) → (k ≡ 5 → ⊥) → (k ≡ 6 → ⊥) →
-        simple_m ts k s p n ≡ walked.Broken
+        simple_m ts k s p n ≡ None
     unfolding simple_m stop
     simple_else a b c d e f = rw (ne_eqb _ _ a, ne_eqb _ _ b, ne_eqb _ _ c, ne_eqb _ _ d, ne_eqb _ _ e, ne_eqb _ _ f)
 
