@@ -1,5 +1,6 @@
 -- The laws that the proofs of walks cite.
 use Rattle.std.specs.Prelude.{Some, None, if◌then◌else◌}
+use Rattle.std.specs.Bool.{then_some}
 use mathlib.Core.Path.{◌≡◌, refl, sym, ap, ◌∙◌}
 use mathlib.Core.List.{List}
 use mathlib.Core.Bool.{Bool, true, false}
@@ -172,6 +173,25 @@ module _ (s : List ℕ) (p n : ℕ) where
   unfolding bytes_m
   bytes_out w h = rw (lt-leb (p + w) (length s) h)
 
+  -- the code's test whether to stay
+  pub staying_is : (b : Bool) → then_some b (p, n) ≡ staying b s p n
+  unfolding staying stay stop
+  staying_is true = refl
+  staying_is false = refl
+
+  -- one test or the other
+  pub first_stays : {b t : Bool} (k : Walk) → t ≡ b → b ≡ true → then_some t (p, n) ≡ (if b then stay else k) s p n
+  unfolding stay
+  first_stays k e h = rw (e, h)
+
+  pub other_stays : {b c t : Bool} → t ≡ c → b ≡ false → then_some t (p, n) ≡ (if b then stay else staying c) s p n
+  other_stays {c = c} e h = rw (e, h) (staying_is c)
+
+  pub noted_if : (b : Bool) {m : ℕ} → m ≡ capped (n + 1) → then_some b (p, m) ≡ (if b then noted else stop) s p n
+  unfolding noted stop
+  noted_if true e = ap (λ (x : ℕ). Some (p, x)) e
+  noted_if false e = refl
+
 module _ (s : List ℕ) (p n : ℕ) (k : Walk) where
   pub zeros_before : p < length s → or_zeros_m k s p n ≡ k s p n
   unfolding or_zeros_m
@@ -304,10 +324,28 @@ module _ (ts : ℕ) (s : List ℕ) (p n : ℕ) where
   unfolding trigger_m
   trigger_is = refl
 
-  pub predicate_is : predicate_m ts s p n ≡ by u8 (λ k. if eqb k 0 then place_m ts ⨾ place_m ts else if eqb k 1 then note_m ts
-      else if eqb k 2 then bytes_m 9 else stop) s p n
+  -- what stands behind a predicate's kind
+  abbrev pub of_kind : ℕ → Walk
+  of_kind k =
+      if eqb k 0 then place_m ts ⨾ place_m ts else if eqb k 1 then note_m ts else if eqb k 2 then bytes_m 9 else stop
+
+  pub predicate_is : predicate_m ts s p n ≡ by u8 of_kind s p n
   unfolding predicate_m
   predicate_is = refl
+
+  module _ {k : ℕ} where
+    pub kind_0 : k ≡ 0 → of_kind k s p n ≡ (place_m ts ⨾ place_m ts) s p n
+    kind_0 e = rw e
+
+    pub kind_1 : k ≡ 1 → of_kind k s p n ≡ note_m ts s p n
+    kind_1 e = rw e
+
+    pub kind_2 : k ≡ 2 → of_kind k s p n ≡ bytes_m 9 s p n
+    kind_2 e = rw e
+
+    pub kind_else : (k ≡ 0 → ⊥) → (k ≡ 1 → ⊥) → (k ≡ 2 → ⊥) → of_kind k s p n ≡ None
+    unfolding stop
+    kind_else a b c = rw (ne_eqb _ _ a, ne_eqb _ _ b, ne_eqb _ _ c)
 
   -- an effect's kind
   module _ {k : ℕ} where

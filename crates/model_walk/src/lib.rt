@@ -55,10 +55,7 @@ pub fn u8_at(s: &[u8], at: usize) -> Num
 pub fn u16_at(s: &[u8], at: usize) -> Num
     ensures { found result ≡ u16 s.now at }
 {
-    if s.len() < 2 {
-        return None;
-    }
-    if s.len() - 2 < at {
+    if s.len() < 2 || s.len() - 2 < at {
         return None;
     }
     Some((texts::byte(s, at) + 256 * texts::byte(s, at + 1), at + 2))
@@ -67,10 +64,7 @@ pub fn u16_at(s: &[u8], at: usize) -> Num
 pub fn u32_at(s: &[u8], at: usize) -> Num
     ensures { found result ≡ u32 s.now at }
 {
-    if s.len() < 4 {
-        return None;
-    }
-    if s.len() - 4 < at {
+    if s.len() < 4 || s.len() - 4 < at {
         return None;
     }
     Some((
@@ -84,10 +78,7 @@ pub fn u32_at(s: &[u8], at: usize) -> Num
 pub fn bytes_at(s: &[u8], size: usize, at: usize, notes: u32) -> Walked
     ensures { result ≡ bytes_m size s.now at notes }
 {
-    if s.len() < size {
-        return None;
-    }
-    if s.len() - size < at {
+    if s.len() < size || s.len() - size < at {
         return None;
     }
     Some((at + size, notes))
@@ -98,9 +89,10 @@ pub fn bytes_or_end_at(s: &[u8], size: usize, at: usize, notes: u32) -> Walked
     ensures { result ≡ or_zeros_m (bytes_m size) s.now at notes }
 {
     if at < s.len() {
-        return bytes_at(s, size, at, notes);
+        bytes_at(s, size, at, notes)
+    } else {
+        Some((at, notes))
     }
-    Some((at, notes))
 }
 
 fn more(notes: u32) -> u32
@@ -113,10 +105,7 @@ pub fn kind_at(s: &[u8], limit: u32, at: usize, notes: u32) -> Walked
     ensures { result ≡ kind_m limit s.now at notes }
 {
     let (k, next) = u8_at(s, at)?;
-    if k < limit {
-        return Some((next, notes));
-    }
-    None
+    (k < limit).then_some((next, notes))
 }
 
 // ---- places in the texts, of which there are `texts`
@@ -125,23 +114,14 @@ pub fn place_at(s: &[u8], texts: u32, at: usize, notes: u32) -> Walked
     ensures { result ≡ place_m texts s.now at notes }
 {
     let (place, next) = u16_at(s, at)?;
-    if place < texts {
-        return Some((next, notes));
-    }
-    None
+    (place < texts).then_some((next, notes))
 }
 
 fn optional_at(s: &[u8], texts: u32, at: usize, notes: u32) -> Walked
     ensures { result ≡ place?M texts s.now at notes }
 {
     let (place, next) = u16_at(s, at)?;
-    if place == layout::NO_PLACE {
-        return Some((next, notes));
-    }
-    if place < texts {
-        return Some((next, notes));
-    }
-    None
+    (place == layout::NO_PLACE || place < texts).then_some((next, notes))
 }
 
 fn optional_note_at(s: &[u8], texts: u32, at: usize, notes: u32) -> Walked
@@ -151,10 +131,7 @@ fn optional_note_at(s: &[u8], texts: u32, at: usize, notes: u32) -> Walked
     if place == layout::NO_PLACE {
         return Some((next, notes));
     }
-    if place < texts {
-        return Some((next, more(notes)));
-    }
-    None
+    (place < texts).then_some((next, more(notes)))
 }
 
 fn note_at(s: &[u8], texts: u32, at: usize, notes: u32) -> Walked
@@ -177,29 +154,23 @@ pub fn two_places_at(s: &[u8], texts: u32, at: usize, notes: u32) -> Walked
 pub fn predicate_size(kind: u32) -> u32
     ensures { result ≡ predicate_size kind }
 {
-    if kind == 0 {
-        return 5;
+    match kind {
+        0 => 5,
+        1 => 3,
+        _ => 10,
     }
-    if kind == 1 {
-        return 3;
-    }
-    10
 }
 
 pub fn predicate_at(s: &[u8], texts: u32, at: usize, notes: u32) -> Walked
     ensures { result ≡ predicate_m texts s.now at notes }
 {
     let (k, p) = u8_at(s, at)?;
-    if k == 0 {
-        return two_places_at(s, texts, p, notes);
+    match k {
+        0 => two_places_at(s, texts, p, notes),
+        1 => note_at(s, texts, p, notes),
+        2 => bytes_at(s, predicate_size(k) as usize - 1, p, notes),
+        _ => None,
     }
-    if k == 1 {
-        return note_at(s, texts, p, notes);
-    }
-    if k == 2 {
-        return bytes_at(s, predicate_size(k) as usize - 1, p, notes);
-    }
-    None
 }
 
 fn trigger_at(s: &[u8], texts: u32, at: usize, notes: u32) -> Walked
@@ -246,25 +217,15 @@ pub fn pieces_at(s: &[u8], texts: u32, piece: Piece, at: usize, notes: u32) -> W
 fn simple_at(s: &[u8], texts: u32, kind: u32, at: usize, notes: u32) -> Walked
     ensures { result ≡ simple_m texts kind s.now at notes }
 {
-    if kind == 0 {
-        return two_places_at(s, texts, at, notes);
+    match kind {
+        0 => two_places_at(s, texts, at, notes),
+        1 => place_at(s, texts, at, notes),
+        2 => bytes_at(s, 4, at, notes),
+        3 => predicate_at(s, texts, at, notes),
+        5 => wait_at(s, texts, at, notes),
+        6 => note_at(s, texts, at, notes),
+        _ => None,
     }
-    if kind == 1 {
-        return place_at(s, texts, at, notes);
-    }
-    if kind == 2 {
-        return bytes_at(s, 4, at, notes);
-    }
-    if kind == 3 {
-        return predicate_at(s, texts, at, notes);
-    }
-    if kind == 5 {
-        return wait_at(s, texts, at, notes);
-    }
-    if kind == 6 {
-        return note_at(s, texts, at, notes);
-    }
-    None
 }
 
 fn wait_at(s: &[u8], texts: u32, at: usize, notes: u32) -> Walked

@@ -1,5 +1,5 @@
 use mathlib.Core.Path.{sym, ◌∙◌}
-use borrow.Author.Tests.{lt-ltb, le-ltb, eq-eqb, ne_eqb}
+use borrow.Author.Tests.{eq-eqb, ne_eqb}
 use Rattle.model_walk.proofs.Laws as laws
 use Rattle.model_walk.proofs.optional_note_at.Goals as goal
 
@@ -11,15 +11,8 @@ returns-then-place-eq-NO_PLACE c =
     sym (laws.by_is _ _ _ _ _ c.u16_at.ensures c.in_ok-place.was
     ∙ laws.yes_walk _ _ _ _ _ (eq-eqb _ _ c.if-place-eq-NO_PLACE.true) ∙ laws.stayed _ _ _)
 
-pub returns-then-place-texts : goal.returns-then-place-texts
-returns-then-place-texts c =
-    sym (laws.by_is _ _ _ _ _ c.u16_at.ensures c.in_ok-place.was
-    ∙ laws.no_walk _ _ _ _ _ (ne_eqb _ _ c.if-place-eq-NO_PLACE.false)
-    ∙ laws.yes_walk _ _ _ _ _ (lt-ltb _ _ c.if-place-texts.true) ∙ laws.noted_is _ _ _
-    ∙ laws.to_same c.more.ensures)
-
 pub returns : goal.returns
 returns c =
-    sym (laws.by_is _ _ _ _ _ c.u16_at.ensures c.in_ok-place.was
-    ∙ laws.no_walk _ _ _ _ _ (ne_eqb _ _ c.if-place-eq-NO_PLACE.false) ∙ laws.no_walk _ _ _ _ _ (le-ltb _ _ c.if-place-texts.false)
-    ∙ laws.stopped _ _ _)
+    c.then_some.ensures ∙ laws.noted_if _ _ _ _ c.more.ensures
+    ∙ sym (laws.by_is _ _ _ _ _ c.u16_at.ensures c.in_ok-place.was
+    ∙ laws.no_walk _ _ _ _ _ (ne_eqb _ _ c.if-place-eq-NO_PLACE.false))
