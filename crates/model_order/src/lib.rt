@@ -16,7 +16,7 @@ ghost use Rattle.model_order.specs.Order.{
 };
 
 use model_parts::Part;
-use model_walk::{Num, Walked};
+use model_walk::Walked;
 
 fn text_fits(s: &[u8], p: usize) -> bool
     ensures { result ≡ fits s.now p }

@@ -18,7 +18,7 @@ ghost use Rattle.model_parts.specs.Parts.{
 };
 
 use layout::Positions;
-use model_walk::{Num, Piece, Walked};
+use model_walk::{Piece, Walked};
 
 // What a section is a list of. Texts don't name texts; any other part does.
 #[derive(Clone, Copy)]
