@@ -7,7 +7,7 @@ pub returns-in_default : goal.returns-in_default
 returns-in_default c =
     record {
       is = sym (laws.parts_is _ _ _ _ _
-          ∙ laws.by_broken _ _ _ _ _ c.u16_at-x.ensures c.in_default.is);
+          ∙ laws.by_broken _ _ _ _ _ c.u16_at.ensures c.in_default.is);
       clean = λ t k. k;
     }
 
@@ -15,7 +15,7 @@ pub loop-left-init : goal.loop-left-init
 loop-left-init c = (
   (refl, λ t k. k),
   laws.parts_is _ _ _ _ _
-      ∙ laws.by_is _ _ _ _ _ c.u16_at-x.ensures c.in-Is.is,
+      ∙ laws.by_is _ _ _ _ _ c.u16_at.ensures c.in-Some.is,
 )
 
 pub loop-left-preserved : goal.loop-left-preserved

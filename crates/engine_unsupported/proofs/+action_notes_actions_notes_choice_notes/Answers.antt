@@ -31,7 +31,7 @@ pub actions_notes-returns-in_default : goal.actions_notes-returns-in_default
 actions_notes-returns-in_default t c =
     record {
       is = sym (laws.actions_more _ _ _ _ c.if-left-eq0.false
-          ∙ notes.by_broken _ _ _ _ _ c.u16_at-x.ensures c.in_default.is);
+          ∙ notes.by_broken _ _ _ _ _ c.u16_at.ensures c.in_default.is);
       clean = λ t k. k;
     }
 
@@ -39,7 +39,7 @@ pub actions_notes-loop-i-init : goal.actions_notes-loop-i-init
 actions_notes-loop-i-init t c = (
   (refl, λ t k. k),
   laws.actions_more _ _ _ _ c.if-left-eq0.false
-      ∙ notes.by_is _ _ _ _ _ c.u16_at-x.ensures c.in-Is.is,
+      ∙ notes.by_is _ _ _ _ _ c.u16_at.ensures c.in-Some.is,
 )
 
 pub actions_notes-loop-i-preserved : goal.actions_notes-loop-i-preserved
@@ -61,12 +61,12 @@ actions_notes-returns t c =
 pub choice_notes-returns-in_default : goal.choice_notes-returns-in_default
 choice_notes-returns-in_default t c =
     record {
-      is = sym (notes.by_broken _ _ _ _ _ c.u16_at-x.ensures c.in_default.is);
+      is = sym (notes.by_broken _ _ _ _ _ c.u16_at.ensures c.in_default.is);
       clean = λ t k. k;
     }
 
 pub choice_notes-loop-i-init : goal.choice_notes-loop-i-init
-choice_notes-loop-i-init t c = ((refl, λ t k. k), notes.by_is _ _ _ _ _ c.u16_at-x.ensures c.in-Is.is)
+choice_notes-loop-i-init t c = ((refl, λ t k. k), notes.by_is _ _ _ _ _ c.u16_at.ensures c.in-Some.is)
 
 pub choice_notes-loop-i-preserved : goal.choice_notes-loop-i-preserved
 choice_notes-loop-i-preserved t c = (
