@@ -3,7 +3,7 @@ use Rattle.std.specs.Prelude.{Some, if◌then◌else◌}
 use mathlib.Core.Path.{◌≡◌, refl, sym, ap, ◌∙◌}
 use mathlib.Core.List.{List, [], ◌∷◌, ◌++◌, append-nil, append_assoc}
 use mathlib.Core.Option.{Option, none, some}
-use Prim.Native.Nat.{ℕ, zero, suc, ◌+◌, ◌-◌, ◌≤◌, ◌<◌}
+use Prim.Native.Nat.{ℕ, zero, suc, ◌-◌, ◌≤◌, ◌<◌}
 use native.Mathlib.Omega.{arith}
 use native.Mathlib.Decide.{dec_lt}
 use lib.ListN.{length, get_or}
@@ -12,7 +12,7 @@ use borrow.Author.Tests.{lt-ltb, le-ltb, ne_eqb}
 use Rattle.texts.specs.Lists.{listed, each, flat}
 use Rattle.texts.specs.Texts.{Text, text}
 use Rattle.texts.specs.Places.{text_at, start_from}
-use Rattle.model_spec.specs.Model.{Predicate, state, window, Trigger}
+use Rattle.model_spec.specs.Model.{Predicate, state, window}
 use Rattle.model_spec.specs.File.{◌>>=◌ as ◌>>=ᵣ◌}
 use Rattle.model_spec.specs.File.{got, Reader, give, refuse, u8, u16, u32, times, counted, place, predicate, trigger}
 use Rattle.model_spec.specs.Notes.{of_predicate, of_trigger}
