@@ -2,8 +2,6 @@ use borrow.Author.Rules.{rules}
 use mathlib.Core.Path.{refl, sym, ◌∙◌}
 use Rattle.engine_notes.proofs.Laws as notes
 use Rattle.engine_unsupported.proofs.Laws as laws
-use Prim.Native.Nat.{◌-◌}
-use borrow.Fn.PlainCycle.{is}
 use Rattle.engine_unsupported.proofs.+action_notes_actions_notes_choice_notes.Goals as goal
 
 pub action_notes-returns-then-kind-eq4 : goal.action_notes-returns-then-kind-eq4
