@@ -14,14 +14,13 @@ use borrow.Author.Tests.{eq-eqb, ne_eqb}
 use Rattle.texts.specs.Lists.{any, keep, each, through, present_and}
 use Rattle.texts.specs.Texts.{Text}
 use Rattle.model_spec.specs.Model.{Automation, Model}
-use Rattle.model_spec.specs.File.{got, times, give, u16, counted, place, trigger}
-use Rattle.queue.specs.declared.Work.{Work as QWork}
+use Rattle.model_spec.specs.File.{got, times, give, u16, counted, place}
 use Rattle.runs.specs.declared.Run.{Run as ARun}
 use Rattle.runs.specs.declared.Phase.{Phase}
 use Rattle.runs.specs.declared.Phase.TheVariants as phase
 use Rattle.engine_spec.specs.Kleene as kleene
 use Rattle.engine_spec.specs.Truth.{moment_after, matches, evaluate_all}
-use Rattle.engine_spec.specs.Records.{Run, Waiting, Item, Kind, Engine}
+use Rattle.engine_spec.specs.Records.{Run, Item, Kind, Engine}
 use Rattle.engine_spec.specs.Words.{truth_number, kind_number, detail_number}
 use Rattle.engine_spec.specs.Changes.{with_runs, add, adds}
 use Rattle.engine_spec.specs.Reasons.{unknown_trigger_condition}
