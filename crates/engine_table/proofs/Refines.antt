@@ -12,7 +12,7 @@ use lib.ListN.{length, get_or}
 use lib.Dec.{eqb}
 use borrow.Author.Tests.{lt-ltb, le-ltb}
 use Rattle.texts.specs.Texts.{Text, text, mem_t}
-use Rattle.model_spec.specs.Answer.{answer, refused}
+use Rattle.model_spec.specs.Answer.{answer}
 use Rattle.model_spec.specs.Model.{
   Predicate,
   Actions,
