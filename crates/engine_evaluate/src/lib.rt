@@ -178,8 +178,8 @@ fn end_of(w: Walked, at: u32) -> u32
     ensures { result ≡ end_m w at }
 {
     match w {
-        Walked::To(p, _) => engine_fields::capped(p),
-        Walked::Broken => at,
+        Some((p, _)) => engine_fields::capped(p),
+        None => at,
     }
 }
 

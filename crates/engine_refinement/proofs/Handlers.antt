@@ -5,7 +5,7 @@ use mathlib.Core.Path.{◌≡◌, refl, sym, ap, ◌∙◌, subst}
 use mathlib.Core.List.{List, [], ◌∷◌}
 use mathlib.Core.Bool.{Bool, true, false, not, ◌||◌, ◌&&◌}
 use mathlib.Core.Option.{none, some}
-use Prim.Native.Nat.{ℕ, zero, suc, ◌+◌, ◌-◌, ◌<◌}
+use Prim.Native.Nat.{ℕ, zero, suc, ◌+◌, ◌<◌}
 use native.Mathlib.Omega.{arith}
 use lib.ListN.{length, get_or, set}
 use lib.Dec.{ltb, eqb}
@@ -21,7 +21,7 @@ use Rattle.runs.specs.declared.Run.{Run as ARun}
 use Rattle.runs.specs.declared.Source.{Source as ASource}
 use Rattle.runs.specs.declared.Wait.{Wait}
 use Rattle.engine_spec.specs.Cells.{cell_of, put}
-use Rattle.engine_spec.specs.Records.{Run, Work, Kind, Waiting, Engine}
+use Rattle.engine_spec.specs.Records.{Run, Work, Kind, Engine}
 use Rattle.engine_spec.specs.Words.{kind_number, detail_number}
 use Rattle.engine_spec.specs.Changes.{if_some, with_cells, add, adds}
 use Rattle.engine_spec.specs.Engine.{

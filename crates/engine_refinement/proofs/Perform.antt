@@ -5,7 +5,7 @@ use mathlib.Core.Path.{◌≡◌, refl, sym, ap, ◌∙◌, subst}
 use mathlib.Core.List.{List, [], ◌∷◌}
 use mathlib.Core.Bool.{Bool, true, false}
 use mathlib.Core.Option.{Option, none, some}
-use Prim.Native.Nat.{ℕ, suc, ◌+◌, ◌-◌, ◌≤◌, ◌<◌}
+use Prim.Native.Nat.{ℕ, suc, ◌+◌, ◌≤◌, ◌<◌}
 use native.Mathlib.Omega.{arith}
 use lib.ListN.{length, get_or, length-set}
 use lib.Seq.{get_or-set_same}
@@ -14,27 +14,9 @@ use borrow.Author.Tests.{le-ltb, eqb-true}
 use Rattle.layout.specs.Sizes.{last_simulation_reason}
 use Rattle.texts.specs.Lists.{absent, find}
 use Rattle.texts.specs.Texts.{Text, text, eq_t, mem_t}
-use Rattle.model_spec.specs.Model.{
-  Source,
-  Entity,
-  Trigger,
-  Predicate,
-  Effect,
-  toggle,
-  delay,
-  condition,
-  choose,
-  wait,
-  Actions,
-  Branches,
-  no_branch,
-  branch,
-  named,
-  Model,
-}
+use Rattle.model_spec.specs.Model.{Source, Entity, Trigger, Predicate, Effect, choose, Actions, Branches, no_branch, branch, named, Model}
 use Rattle.model_spec.specs.File.{got, u16, predicate, trigger, branches, actions}
 use Rattle.model_spec.specs.Validate.{undecided}
-use Rattle.queue.specs.declared.Work.{Work as QWork}
 use Rattle.queue.specs.declared.Work.TheVariants as queue
 use Rattle.records.specs.declared.Source.{Source as RecordSource}
 use Rattle.records.specs.declared.Write.{Write}
@@ -45,7 +27,7 @@ use Rattle.reasons.specs.declared.Reason.{Reason}
 use Rattle.reasons.specs.Reasons.{render}
 use Rattle.engine_spec.specs.Truth.{moment_after, evaluate}
 use Rattle.engine_spec.specs.Cells.{value_of}
-use Rattle.engine_spec.specs.Records.{Run, Work, Kind, Waiting, Engine}
+use Rattle.engine_spec.specs.Records.{Run, Work, Kind, Engine}
 use Rattle.engine_spec.specs.Words.{truth_number, kind_number, detail_number}
 use Rattle.engine_spec.specs.Changes.{add, uncertain}
 use Rattle.engine_spec.specs.Reasons.{

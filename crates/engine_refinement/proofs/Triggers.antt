@@ -20,7 +20,7 @@ use Rattle.runs.specs.declared.Wait.{Wait}
 use Rattle.runs.specs.declared.Run.{Run as ARun}
 use Rattle.engine_spec.specs.Kleene as kleene
 use Rattle.engine_spec.specs.Truth.{moment_after, matches, evaluate_all}
-use Rattle.engine_spec.specs.Records.{Run, Waiting, Item, Kind, Engine}
+use Rattle.engine_spec.specs.Records.{Run, Item, Kind, Engine}
 use Rattle.engine_spec.specs.Words.{truth_number, kind_number, detail_number}
 use Rattle.engine_spec.specs.Changes.{with_runs, add, adds}
 use Rattle.engine_spec.specs.Reasons.{unknown_trigger_condition}

@@ -28,8 +28,8 @@ fn end_of(w: Walked, at: usize) -> usize
     ensures { result ≡ end_of w at }
 {
     match w {
-        Walked::To(p, _) => p,
-        Walked::Broken => at,
+        Some((p, _)) => p,
+        None => at,
     }
 }
 

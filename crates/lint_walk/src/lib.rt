@@ -29,15 +29,13 @@ ghost use Rattle.lint_walk.specs.Walks.{
 };
 
 use layout::ActionPositions;
-use model_walk::Num;
 
 // ---- numbers
 
 pub fn byte_at(s: &[u8], at: usize) -> u32
     ensures { result ≡ byte_m s.now at }
 {
-    let x = model_walk::u8_at(s, at);
-    let Num::Is(v, _) = x else {
+    let Some((v, _)) = model_walk::u8_at(s, at) else {
         return 0;
     };
     v
@@ -46,8 +44,7 @@ pub fn byte_at(s: &[u8], at: usize) -> u32
 pub fn place_at(s: &[u8], at: usize) -> u32
     ensures { result ≡ place_m s.now at }
 {
-    let x = model_walk::u16_at(s, at);
-    let Num::Is(v, _) = x else {
+    let Some((v, _)) = model_walk::u16_at(s, at) else {
         return 0;
     };
     v
@@ -56,8 +53,7 @@ pub fn place_at(s: &[u8], at: usize) -> u32
 pub fn number_at(s: &[u8], at: usize) -> u32
     ensures { result ≡ number_m s.now at }
 {
-    let x = model_walk::u32_at(s, at);
-    let Num::Is(v, _) = x else {
+    let Some((v, _)) = model_walk::u32_at(s, at) else {
         return 0;
     };
     v

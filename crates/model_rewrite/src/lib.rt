@@ -15,7 +15,6 @@ ghost use Rattle.model_rewrite.specs.Written.{
 ghost use Rattle.model_rewrite.specs.Written.{EventFits, EventsFit, Room, Wrote};
 
 use model_parts::Part;
-use model_walk::Walked;
 
 // The events section of a file: its count stands at `start`, and it ends before `end`.
 #[derive(Clone, Copy)]
@@ -34,18 +33,15 @@ fn no_span() -> Span
 fn events_behind(file: &[u8], texts: u32, at: usize) -> Span
     ensures { result ≡ body_m file.now texts at }
 {
-    let a = model_walk::place_at(file, texts, at, 0);
-    let Walked::To(p, _) = a else {
+    let Some((p, _)) = model_walk::place_at(file, texts, at, 0) else {
         return no_span();
     };
     let entities = model_parts::section_at(file, texts, Part::Entity, p, 0);
-    let b = entities.end;
-    let Walked::To(start, _) = b else {
+    let Some((start, _)) = entities.end else {
         return no_span();
     };
     let events = model_parts::section_at(file, texts, Part::Event, start, 0);
-    let d = events.end;
-    let Walked::To(end, _) = d else {
+    let Some((end, _)) = events.end else {
         return no_span();
     };
     Span { start, end }
@@ -57,8 +53,7 @@ pub fn events_in(file: &[u8]) -> Span
 {
     let texts = model_parts::section_at(file, 0, Part::Text, 4, 0);
     let count = texts.count;
-    let a = texts.end;
-    let Walked::To(p, _) = a else {
+    let Some((p, _)) = texts.end else {
         return no_span();
     };
     events_behind(file, count, p)

@@ -10,7 +10,7 @@ pub returns-in_default : goal.returns-in_default
 returns-in_default c =
     record {
       is = sym (laws.parts_is _ _ _ _ _
-          ∙ laws.by_broken _ _ _ _ _ c.u16_at-x.ensures c.in_default.is);
+          ∙ laws.by_broken _ _ _ _ _ c.u16_at.ensures c.in_default.is);
       clean = λ t k. k;
     }
 
@@ -19,7 +19,7 @@ loop-init c =
     rw sub-zero ((
   (refl, λ t k. k),
   laws.parts_is _ _ _ _ _
-      ∙ laws.by_is _ _ _ _ _ c.u16_at-x.ensures c.in-Is.is,
+      ∙ laws.by_is _ _ _ _ _ c.u16_at.ensures c.in-Some.is,
 ))
 
 pub loop-preserved : goal.loop-preserved

@@ -4,8 +4,6 @@ use borrow.Author.Rules.{rules}
 use mathlib.Core.Path.{refl, sym, ◌∙◌}
 use Rattle.engine_notes.proofs.Laws as notes
 use Rattle.engine_unsupported.proofs.Laws as laws
-use Prim.Native.Nat.{◌-◌}
-use borrow.Fn.PlainCycle.{is}
 use Rattle.engine_unsupported.proofs.+action_notes_actions_notes_choice_notes.Goals as goal
 
 pub action_notes-returns-then-kind-eq4 : goal.action_notes-returns-then-kind-eq4
@@ -33,7 +31,7 @@ pub actions_notes-returns-in_default : goal.actions_notes-returns-in_default
 actions_notes-returns-in_default t c =
     record {
       is = sym (laws.actions_more _ _ _ _ c.if-left-eq0.false
-          ∙ notes.by_broken _ _ _ _ _ c.u16_at-x.ensures c.in_default.is);
+          ∙ notes.by_broken _ _ _ _ _ c.u16_at.ensures c.in_default.is);
       clean = λ t k. k;
     }
 
@@ -41,7 +39,7 @@ pub actions_notes-loop-init : goal.actions_notes-loop-init
 actions_notes-loop-init t c = (
   (refl, λ t k. k),
   rw sub-zero (laws.actions_more _ _ _ _ c.if-left-eq0.false
-      ∙ notes.by_is _ _ _ _ _ c.u16_at-x.ensures c.in-Is.is),
+      ∙ notes.by_is _ _ _ _ _ c.u16_at.ensures c.in-Some.is),
 )
 
 pub actions_notes-loop-preserved : goal.actions_notes-loop-preserved
@@ -63,12 +61,12 @@ actions_notes-returns t c =
 pub choice_notes-returns-in_default : goal.choice_notes-returns-in_default
 choice_notes-returns-in_default t c =
     record {
-      is = sym (notes.by_broken _ _ _ _ _ c.u16_at-x.ensures c.in_default.is);
+      is = sym (notes.by_broken _ _ _ _ _ c.u16_at.ensures c.in_default.is);
       clean = λ t k. k;
     }
 
 pub choice_notes-loop-init : goal.choice_notes-loop-init
-choice_notes-loop-init t c = ((refl, λ t k. k), rw sub-zero (notes.by_is _ _ _ _ _ c.u16_at-x.ensures c.in-Is.is))
+choice_notes-loop-init t c = ((refl, λ t k. k), rw sub-zero (notes.by_is _ _ _ _ _ c.u16_at.ensures c.in-Some.is))
 
 pub choice_notes-loop-preserved : goal.choice_notes-loop-preserved
 choice_notes-loop-preserved t c = (

@@ -1,7 +1,6 @@
-use borrow.Author.Rules.{rules}
+use Rattle.model_walk.specs.Walk.{Walked}
 use mathlib.Core.Path.{◌≡◌}
 use Prim.Native.Nat.{◌-◌}
-use Rattle.model_walk.specs.declared.Walked.{Walked}
 use Rattle.lint_collect.specs.Collect.{cycle_writes_from, cycle_writes_m}
 use Rattle.lint_collect.proofs.cycle_writes.Given as goal
 

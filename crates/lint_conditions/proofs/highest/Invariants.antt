@@ -1,6 +1,6 @@
+use Rattle.model_walk.specs.Walk.{Walked}
 use mathlib.Core.Path.{◌≡◌}
 use Prim.Native.Nat.{◌-◌}
-use Rattle.model_walk.specs.declared.Walked.{Walked}
 use Rattle.lint_conditions.specs.Conditions.{highest_from, highest_m}
 use Rattle.lint_conditions.proofs.highest.Given as goal
 

@@ -2,8 +2,6 @@ use mathlib.Core.Path.{sym, ◌∙◌}
 use borrow.Author.Tests.{eq-eqb, ne_eqb}
 use Rattle.model_check.proofs.Laws as checks
 use Rattle.model_actions.proofs.Laws as laws
-use Prim.Native.Nat.{◌-◌}
-use borrow.Fn.PlainCycle.{is}
 use Rattle.model_actions.proofs.+actions_check_choice_check.Goals as goal
 use Rattle.model_actions.proofs.+actions_check_choice_check.Goals.{actions_check-else-kind-eq4, actions_check-then-kind-eq4}
 
@@ -13,27 +11,27 @@ actions_check-returns-then-left-eq0 t c = rw c.if-left-eq0.true (sym (laws.actio
 pub actions_check-returns-in_default : goal.actions_check-returns-in_default
 actions_check-returns-in_default t c =
     sym (laws.actions_more _ _ _ _ _ c.if-left-eq0.false
-    ∙ checks.by_broken _ _ _ _ _ c.u16_at-x.ensures c.in_default.is)
+    ∙ checks.by_broken _ _ _ _ _ c.u16_at.ensures c.in_default.is)
 
 pub actions_check-loop-i-init : goal.actions_check-loop-i-init
-actions_check-loop-i-init t c = laws.actions_more _ _ _ _ _ c.if-left-eq0.false ∙ checks.by_is _ _ _ _ _ c.u16_at-x.ensures c.in-Is.is
+actions_check-loop-i-init t c = laws.actions_more _ _ _ _ _ c.if-left-eq0.false ∙ checks.by_is _ _ _ _ _ c.u16_at.ensures c.in-Some.is
 
 pub actions_check-returns-in_default-y : goal.actions_check-returns-in_default-y
 actions_check-returns-in_default-y t c =
     sym (c.loop-i.invariant ∙ checks.times_more _ _ _ _ _ c.loop-i-test.true ∙ laws.assoc _ _ _ _ _ _
     ∙ checks.refused _ _ _ _ _ c.head_check-y.ensures c.in_default-y.is)
 
-pub actions_check-returns-in_default-z : goal.actions_check-returns-in_default-z
-actions_check-returns-in_default-z t c =
+pub actions_check-returns-in_default-u8_at : goal.actions_check-returns-in_default-u8_at
+actions_check-returns-in_default-u8_at t c =
     sym (c.loop-i.invariant ∙ checks.times_more _ _ _ _ _ c.loop-i-test.true ∙ laws.assoc _ _ _ _ _ _
     ∙ checks.to _ _ _ _ _ c.head_check-y.ensures c.in-To.is ∙ laws.by_then _ _ _ _ _ _
-    ∙ checks.by_broken _ _ _ _ _ c.u8_at-z.ensures c.in_default-z.is)
+    ∙ checks.by_broken _ _ _ _ _ c.u8_at.ensures c.in_default-u8_at.is)
 
 pub actions_check-returns-in_default-r : goal.actions_check-returns-in_default-r
 actions_check-returns-in_default-r t c =
     sym (c.loop-i.invariant ∙ checks.times_more _ _ _ _ _ c.loop-i-test.true ∙ laws.assoc _ _ _ _ _ _
     ∙ checks.to _ _ _ _ _ c.head_check-y.ensures c.in-To.is ∙ laws.by_then _ _ _ _ _ _
-    ∙ checks.by_is _ _ _ _ _ c.u8_at-z.ensures c.in-Is-z.is
+    ∙ checks.by_is _ _ _ _ _ c.u8_at.ensures c.in-Some-u8_at.is
     ∙ checks.refused _ _ _ _ _
     ((elim c.if-kind-eq4.branch [ actions_check-then-kind-eq4 w ↦ w.r-is ∙ w.choice_check-r.ensures ∙ sym (checks.yes_check _ _ _ _ _ (eq-eqb _ _ w.if-kind-eq4.true)) | actions_check-else-kind-eq4 w ↦ w.r-is ∙ w.simple_check-r.ensures ∙ sym (checks.no_check _ _ _ _ _ (ne_eqb _ _ w.if-kind-eq4.false)) ])) c.in_default-r.is)
 
@@ -41,7 +39,7 @@ pub actions_check-loop-i-preserved : goal.actions_check-loop-i-preserved
 actions_check-loop-i-preserved t c =
     c.loop-i.invariant ∙ checks.times_more _ _ _ _ _ c.loop-i-test.true ∙ laws.assoc _ _ _ _ _ _
     ∙ checks.to _ _ _ _ _ c.head_check-y.ensures c.in-To.is ∙ laws.by_then _ _ _ _ _ _
-    ∙ checks.by_is _ _ _ _ _ c.u8_at-z.ensures c.in-Is-z.is
+    ∙ checks.by_is _ _ _ _ _ c.u8_at.ensures c.in-Some-u8_at.is
     ∙ checks.to _ _ _ _ _
     ((elim c.if-kind-eq4.branch [ actions_check-then-kind-eq4 w ↦ w.r-is ∙ w.choice_check-r.ensures ∙ sym (checks.yes_check _ _ _ _ _ (eq-eqb _ _ w.if-kind-eq4.true)) | actions_check-else-kind-eq4 w ↦ w.r-is ∙ w.simple_check-r.ensures ∙ sym (checks.no_check _ _ _ _ _ (ne_eqb _ _ w.if-kind-eq4.false)) ]))
     c.in-To-r.is
@@ -50,10 +48,10 @@ pub actions_check-returns : goal.actions_check-returns
 actions_check-returns t c = sym (c.loop-i.invariant ∙ checks.times_none _ _ _ _ _ c.loop-i-test.false)
 
 pub choice_check-returns-in_default : goal.choice_check-returns-in_default
-choice_check-returns-in_default t c = sym (checks.by_broken _ _ _ _ _ c.u16_at-x.ensures c.in_default.is)
+choice_check-returns-in_default t c = sym (checks.by_broken _ _ _ _ _ c.u16_at.ensures c.in_default.is)
 
 pub choice_check-loop-i-init : goal.choice_check-loop-i-init
-choice_check-loop-i-init t c = checks.by_is _ _ _ _ _ c.u16_at-x.ensures c.in-Is.is
+choice_check-loop-i-init t c = checks.by_is _ _ _ _ _ c.u16_at.ensures c.in-Some.is
 
 pub choice_check-returns-in_default-y : goal.choice_check-returns-in_default-y
 choice_check-returns-in_default-y t c =

@@ -1,7 +1,6 @@
 use mathlib.Core.Path.{sym, ◌∙◌}
 use native.Mathlib.Omega.{arith}
 use Rattle.model_check.proofs.Laws as laws
-use Prim.Native.Nat.{◌-◌}
 use Rattle.model_check.proofs.first_of.Goals as goal
 
 pub loop-i-init : goal.loop-i-init

@@ -5,10 +5,10 @@ use Rattle.model_check.proofs.predicates_check.Goals as goal
 pub returns-in_default : goal.returns-in_default
 returns-in_default c =
     sym (laws.predicates_is _ _ _ _ _
-    ∙ laws.by_broken _ _ _ _ _ c.u16_at-x.ensures c.in_default.is)
+    ∙ laws.by_broken _ _ _ _ _ c.u16_at.ensures c.in_default.is)
 
 pub loop-left-init : goal.loop-left-init
-loop-left-init c = laws.predicates_is _ _ _ _ _ ∙ laws.by_is _ _ _ _ _ c.u16_at-x.ensures c.in-Is.is
+loop-left-init c = laws.predicates_is _ _ _ _ _ ∙ laws.by_is _ _ _ _ _ c.u16_at.ensures c.in-Some.is
 
 pub returns-in_default-y : goal.returns-in_default-y
 returns-in_default-y c =

@@ -1,7 +1,6 @@
 use mathlib.Core.Path.{sym, ◌∙◌}
 use native.Mathlib.Omega.{arith}
 use Rattle.model_order.proofs.Laws as laws
-use Prim.Native.Nat.{◌-◌}
 use Rattle.model_order.proofs.place_of.Goals as goal
 
 pub loop-place-init : goal.loop-place-init
