@@ -11,7 +11,7 @@ use engine_fields::rule_word;
 use engine_state::{Move, State, Told, log, log_rule, next_step};
 use layout::Table;
 use records::Source;
-use runs::{Run, Wait};
+use runs::{Phase, Run};
 
 // ---- runs
 
@@ -23,7 +23,7 @@ pub fn released(run: Run) -> Run
     r
 }
 
-pub fn with_phase(run: Run, phase: Option<Wait>) -> Run
+pub fn with_phase(run: Run, phase: Phase) -> Run
     ensures { result ≡ phase_m phase run }
 {
     let places = run.places;

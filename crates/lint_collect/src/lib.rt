@@ -181,19 +181,18 @@ fn later_entries(
 {
     let extent = given.rules;
     let count = extent.count as usize;
-    let mut j = i + 1;
-    if count <= j {
+    let from = i + 1;
+    if count <= from {
         return o;
     }
     let mut list = [0usize; layout::ACTION_POSITIONS];
     let c = lint_walk::rule_walk(s, rules[i], &mut list);
     let m = c.count;
     let mut out = o;
-    while j < count {
+    for j in from..count {
         out = pair_entries(
             s, entities, invariants, rules, given, i, &list, m, j, findings, out,
         );
-        j += 1;
     }
     out
 }

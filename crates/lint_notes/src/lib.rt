@@ -91,7 +91,9 @@ fn rule_notes(s: &[u8], at: usize, i: usize, words: &mut Table, findings: &mut [
     let source = lint_walk::source_at(s, at);
     put_row(s, at, source, words);
     let mut reasons = [0u32; layout::SIMULATION_REASON_WORDS];
-    let count = engine_unsupported::rule_notes(s, words, &mut reasons, 0, 0).min(layout::SIMULATION_REASONS);
+    let count = engine_unsupported::rule_notes(s, words, &mut reasons, 0, 0).min(
+        layout::SIMULATION_REASONS,
+    );
     let line = lint_walk::number_at(s, source);
     let column = lint_walk::number_at(s, lint_walk::past(s, source, 4));
     note_findings(

@@ -151,10 +151,10 @@ fn put_plain_message(out: &mut [u8], n: usize, code: u32) -> usize
         3 => show::put_quoted(out, n, b"Choose branch has contradictory state predicates"),
         4 => show::put_quoted(out, n, b"More than eight literal entity targets"),
         _ => show::put_quoted(
-        out,
-        n,
-        b"Cyclic trigger/write interaction; simulate to distinguish stable states from repeated toggling",
-    ),
+            out,
+            n,
+            b"Cyclic trigger/write interaction; simulate to distinguish stable states from repeated toggling",
+        ),
     }
 }
 

@@ -97,10 +97,9 @@ pub fn actions_check(
     let Some((count, start)) = model_walk::u16_at(s, at) else {
         return Checked::Refused(30);
     };
-    let mut i = count;
     let mut p = start;
     let mut m = n;
-    while 0 < i {
+    for _ in 0..count {
         let y = head_check(s, p, m);
         let Checked::To(after, kept) = y else {
             return y;
@@ -118,7 +117,6 @@ pub fn actions_check(
         };
         p = q;
         m = k;
-        i -= 1;
     }
     Checked::To(p, m)
 }
@@ -140,10 +138,9 @@ pub fn choice_check(
     let Some((count, start)) = model_walk::u16_at(s, at) else {
         return Checked::Refused(30);
     };
-    let mut i = count;
     let mut p = start;
     let mut m = n;
-    while 0 < i {
+    for _ in 0..count {
         let y = model_check::predicates_check(s, d, entities, 0, p, m);
         let Checked::To(next, kept) = y else {
             return y;
@@ -154,7 +151,6 @@ pub fn choice_check(
         };
         p = q;
         m = k;
-        i -= 1;
     }
     actions_check(s, d, entities, left, p, m)
 }

@@ -90,9 +90,8 @@ pub fn place_is(s: &[u8], at: usize, place: u32) -> bool
 pub fn among(s: &[u8], count: u32, at: usize, place: u32) -> bool
     ensures { result ≡ among count s.now at place }
 {
-    let mut left = count;
     let mut p = at;
-    while 0 < left {
+    for _ in 0..count {
         let Some((z, q)) = model_walk::u16_at(s, p) else {
             return false;
         };
@@ -100,7 +99,6 @@ pub fn among(s: &[u8], count: u32, at: usize, place: u32) -> bool
             return true;
         }
         p = q;
-        left -= 1;
     }
     false
 }
@@ -121,15 +119,13 @@ pub fn first_of(s: &[u8], starts: &Positions, count: u32, place: u32) -> usize
     ensures { (result ≡ first_from starts.now place s.now count 0) × (result ≤ count) }
 {
     let end = count as usize;
-    let mut i: usize = 0;
-    while i < end {
+    for i in 0..end {
         let p = starts[i];
         if place_is(s, p, place) {
             return i;
         }
-        i += 1;
     }
-    i
+    end
 }
 
 // The number of the section's first part that begins with this place, or the count.
@@ -288,17 +284,15 @@ pub fn predicates_check(
     let Some((count, start)) = model_walk::u16_at(s, at) else {
         return Checked::Refused(30);
     };
-    let mut left = count;
     let mut p = start;
     let mut m = n;
-    while 0 < left {
+    for _ in 0..count {
         let y = predicate_check(s, d, entities, banned, p, m);
         let Checked::To(q, k) = y else {
             return y;
         };
         p = q;
         m = k;
-        left -= 1;
     }
     Checked::To(p, m)
 }
@@ -405,17 +399,15 @@ pub fn triggers_check(
     requires { d.count ≤ 100 }
     ensures { result ≡ triggers_m (declaration d entities.now) count s.now at n }
 {
-    let mut left = count;
     let mut p = at;
     let mut m = n;
-    while 0 < left {
+    for _ in 0..count {
         let y = trigger_check(s, d, entities, p, m);
         let Checked::To(q, k) = y else {
             return y;
         };
         p = q;
         m = k;
-        left -= 1;
     }
     Checked::To(p, m)
 }

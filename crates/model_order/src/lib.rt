@@ -118,15 +118,13 @@ pub fn ascending_at(s: &[u8], texts: u32, part: Part, as_texts: bool, at: usize)
     let (next, _) = model_parts::part_at(s, texts, part, start, 0)?;
     let mut last = start;
     let mut p = next;
-    let mut left = count - 1;
-    while 0 < left {
+    for _ in 1..count {
         let (q, _) = model_parts::part_at(s, texts, part, p, 0)?;
         if !precedes(s, as_texts, last, p) {
             return None;
         }
         last = p;
         p = q;
-        left -= 1;
     }
     Some((p, 0))
 }
@@ -138,9 +136,8 @@ fn has(s: &[u8], word: &[u8], at: usize) -> bool
     let Some((count, start)) = model_walk::u16_at(s, at) else {
         return false;
     };
-    let mut left = count;
     let mut p = start;
-    while 0 < left {
+    for _ in 0..count {
         let Some((q, _)) = model_parts::text_at(s, p, 0) else {
             return false;
         };
@@ -148,7 +145,6 @@ fn has(s: &[u8], word: &[u8], at: usize) -> bool
             return true;
         }
         p = q;
-        left -= 1;
     }
     false
 }
@@ -158,15 +154,13 @@ pub fn place_of(s: &[u8], word: &[u8], count: u32) -> u32
     ensures { result ≡ place_from count 0 word.now s.now 6 }
 {
     let mut p: usize = 6;
-    let mut place: u32 = 0;
-    while place < count {
+    for place in 0..count {
         if text_is(s, p, word) {
             return place;
         }
         p = p + 1 + texts::length_byte(s, p);
-        place += 1;
     }
-    place
+    count
 }
 
 // The section of texts: they ascend, and the four fixed texts are there.

@@ -51,15 +51,13 @@ pub fn text_at(s: &[u8], at: usize, notes: u32) -> Walked
     ensures { result ≡ text_m s.now at notes }
 {
     let (count, start) = model_walk::u8_at(s, at)?;
-    let mut left = count;
     let mut p = start;
-    while 0 < left {
+    for _ in 0..count {
         let (b, q) = model_walk::u8_at(s, p)?;
         if b < 32 || 126 < b {
             return None;
         }
         p = q;
-        left -= 1;
     }
     Some((p, notes))
 }
@@ -177,19 +175,15 @@ pub fn section_into(
             end: None,
         };
     };
-    let mut i: usize = 0;
-    let mut left = count;
     let mut p = start;
     let mut n = notes;
-    while 0 < left {
-        put(starts, i, p);
+    for i in 0..count {
+        put(starts, i as usize, p);
         let Some((q, m)) = part_at(s, texts, part, p, n) else {
             return Extent { count, end: None };
         };
         p = q;
         n = m;
-        i += 1;
-        left -= 1;
     }
     Extent {
         count,

@@ -64,9 +64,8 @@ fn bad_place(s: &[u8], place: u32) -> bool
 fn any_bad(s: &[u8], count: u32, at: usize) -> bool
     ensures { result ≡ any_bad count s.now at }
 {
-    let mut left = count;
     let mut p = at;
-    while 0 < left {
+    for _ in 0..count {
         let Some((place, q)) = model_walk::u16_at(s, p) else {
             return false;
         };
@@ -74,7 +73,6 @@ fn any_bad(s: &[u8], count: u32, at: usize) -> bool
             return true;
         }
         p = q;
-        left -= 1;
     }
     false
 }
@@ -82,17 +80,15 @@ fn any_bad(s: &[u8], count: u32, at: usize) -> bool
 fn doubled(s: &[u8], count: u32, at: usize) -> bool
     ensures { result ≡ doubled count s.now at }
 {
-    let mut left = count;
     let mut p = at;
-    while 0 < left {
+    for i in 0..count {
         let Some((place, q)) = model_walk::u16_at(s, p) else {
             return false;
         };
-        if model_check::among(s, left - 1, q, place) {
+        if model_check::among(s, count - i - 1, q, place) {
             return true;
         }
         p = q;
-        left -= 1;
     }
     false
 }

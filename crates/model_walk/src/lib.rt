@@ -199,14 +199,12 @@ pub fn pieces_at(s: &[u8], texts: u32, piece: Piece, at: usize, notes: u32) -> W
     ensures { result ≡ pieces_m texts piece s.now at notes }
 {
     let (count, start) = u16_at(s, at)?;
-    let mut left = count;
     let mut p = start;
     let mut n = notes;
-    while 0 < left {
+    for _ in 0..count {
         let (q, m) = piece_at(s, texts, piece, p, n)?;
         p = q;
         n = m;
-        left -= 1;
     }
     Some((p, n))
 }
@@ -245,10 +243,9 @@ pub fn actions_at(s: &[u8], texts: u32, left: usize, at: usize, notes: u32) -> W
         return None;
     }
     let (count, start) = u16_at(s, at)?;
-    let mut i = count;
     let mut p = start;
     let mut n = notes;
-    while 0 < i {
+    for _ in 0..count {
         let (after, kept) = bytes_at(s, 8, p, n)?;
         let (kind, next) = u8_at(s, after)?;
         let r = if kind == 4 {
@@ -259,7 +256,6 @@ pub fn actions_at(s: &[u8], texts: u32, left: usize, at: usize, notes: u32) -> W
         let (q, m) = r?;
         p = q;
         n = m;
-        i -= 1;
     }
     Some((p, n))
 }
@@ -270,15 +266,13 @@ pub fn choice_at(s: &[u8], texts: u32, left: usize, at: usize, notes: u32) -> Wa
     ensures { result ≡ choice_m texts (actions_m texts left) s.now at notes }
 {
     let (count, start) = u16_at(s, at)?;
-    let mut i = count;
     let mut p = start;
     let mut n = notes;
-    while 0 < i {
+    for _ in 0..count {
         let (next, kept) = pieces_at(s, texts, Piece::Predicate, p, n)?;
         let (q, m) = actions_at(s, texts, left, next, kept)?;
         p = q;
         n = m;
-        i -= 1;
     }
     actions_at(s, texts, left, p, n)
 }

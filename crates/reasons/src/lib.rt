@@ -87,10 +87,8 @@ fn digit(n: u32, left: usize) -> u8
     ensures { result ≡ get_or (decimal n) (length (decimal n) - 1 - left) 0 }
 {
     let mut x = n;
-    let mut k = left;
-    while 0 < k {
+    for _ in 0..left {
         x = x / 10;
-        k -= 1;
     }
     48 + (x % 10) as u8
 }
@@ -182,8 +180,7 @@ pub fn compare(f: &[u8], a: Reason, b: Reason) -> Ordering
 {
     let n = rendered_len(f, a);
     let m = rendered_len(f, b);
-    let mut i: usize = 0;
-    while i < n {
+    for i in 0..n {
         if m <= i {
             return Ordering::Greater;
         }
@@ -195,9 +192,8 @@ pub fn compare(f: &[u8], a: Reason, b: Reason) -> Ordering
         if y < x {
             return Ordering::Greater;
         }
-        i += 1;
     }
-    if i < m {
+    if n < m {
         return Ordering::Less;
     }
     Ordering::Equal
@@ -255,15 +251,14 @@ fn find_spot(f: &[u8], a: &[u32], n: usize, r: Reason) -> Option<usize>
     requires { n * 5 ≤ length a.now }
     ensures { Goes (render f.now r) (listed f.now n a.now) result }
 {
-    let mut i: usize = 0;
-    while i < n {
+    for i in 0..n {
         match compare(f, r, get(a, i)) {
             Ordering::Equal => return None,
             Ordering::Less => return Some(i),
-            Ordering::Greater => i += 1,
+            Ordering::Greater => {}
         }
     }
-    Some(i)
+    Some(n)
 }
 
 // A reason at index k of the first n; those from there on move up.

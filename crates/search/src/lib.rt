@@ -185,8 +185,7 @@ fn deepen(
         words: [0u32; 20],
     };
     let mut s = o;
-    let mut d: usize = 0;
-    while d <= depth {
+    for d in 0..=depth {
         s = visit(
             file,
             table,
@@ -205,7 +204,6 @@ fn deepen(
             unknowns,
             incompletes,
         );
-        d += 1;
     }
     s
 }

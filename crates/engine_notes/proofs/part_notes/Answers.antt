@@ -17,19 +17,19 @@ returns-in_default c =
 pub loop-init : goal.loop-init
 loop-init c =
     rw sub-zero ((
-  (refl, λ t k. k),
-  laws.parts_is _ _ _ _ _
-      ∙ laws.by_is _ _ _ _ _ c.u16_at.ensures c.in-Some.is,
-))
+      (refl, λ t k. k),
+      laws.parts_is _ _ _ _ _
+          ∙ laws.by_is _ _ _ _ _ c.u16_at.ensures c.in-Some.is,
+    ))
 
 pub loop-preserved : goal.loop-preserved
 loop-preserved c =
     rw sub-add-eq ((
-  (search rules, λ t k. c.part_note-d.ensures.clean t (c.loop.invariant.0.1 t k)),
-  c.loop.invariant.1
-      ∙ laws.times_more _ _ _ _ _ (omega arith)
-      ∙ laws.to _ _ _ _ _ _ _ c.part_note-d.ensures.is,
-))
+      (search rules, λ t k. c.part_note-d.ensures.clean t (c.loop.invariant.0.1 t k)),
+      c.loop.invariant.1
+          ∙ laws.times_more _ _ _ _ _ (omega arith)
+          ∙ laws.to _ _ _ _ _ _ _ c.part_note-d.ensures.is,
+    ))
 
 pub returns : goal.returns
 returns c =

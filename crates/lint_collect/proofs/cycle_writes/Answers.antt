@@ -15,9 +15,9 @@ pub loop-i-preserved : goal.loop-i-preserved
 loop-i-preserved c =
     elim c.if-has.branch [
       | then-has w ↦ rw w.writes-is (λ z y. c.loop-i.invariant z y ∙ laws.writes_yes _ _ _ _ _ _ _ c.loop-i-test.true c.has.ensures w.if-has.true
-    w.rule_walk-c.ensures w.writes-more.ensures w.union-writes.ensures)
+          w.rule_walk-c.ensures w.writes-more.ensures w.union-writes.ensures)
       | else-has w ↦ rw w.writes-is (λ z y. c.loop-i.invariant z y ∙ laws.writes_no _ _ _ _ _ _ _ c.loop-i-test.true c.has.ensures
-    w.if-has.false)
+          w.if-has.false)
     ]
 
 pub returns : goal.returns

@@ -11,9 +11,9 @@ pub loop-k-preserved : goal.loop-k-preserved
 loop-k-preserved c =
     elim c.if-has.branch [
       | then-has w ↦ rw w.best-is (λ z. c.loop-k.invariant z ∙ laws.highest_yes _ _ _ _ _ _ c.loop-k-test.true c.has.ensures w.if-has.true
-    w.tier.ensures w.greater-best.ensures)
+          w.tier.ensures w.greater-best.ensures)
       | else-has w ↦ rw w.best-is (λ z. c.loop-k.invariant z ∙ laws.highest_no _ _ _ _ _ _ c.loop-k-test.true c.has.ensures
-    w.if-has.false)
+          w.if-has.false)
     ]
 
 pub returns : goal.returns

@@ -15,11 +15,11 @@ loop-init c =
 pub loop-preserved : goal.loop-preserved
 loop-preserved c =
     rw sub-add-eq ((
-  (λ i. c.loop.invariant.0 i ∙ laws.parts_more _ _ _ _ _ (omega arith)
-      (laws.with_finding _ c.contradictory.ensures refl (c.push_if-out.ensures i))
-      (c.list_end-p.ensures ∙ ap (list_end _) c.predicates_end.ensures)),
-  search rules,
-))
+      (λ i. c.loop.invariant.0 i ∙ laws.parts_more _ _ _ _ _ (omega arith)
+          (laws.with_finding _ c.contradictory.ensures refl (c.push_if-out.ensures i))
+          (c.list_end-p.ensures ∙ ap (list_end _) c.predicates_end.ensures)),
+      search rules,
+    ))
 
 pub returns : goal.returns
 returns c =

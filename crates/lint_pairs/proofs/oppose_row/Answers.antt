@@ -16,17 +16,17 @@ pub loop-k-preserved : goal.loop-k-preserved
 loop-k-preserved c =
     elim c.if-opposing.branch [
       | then-opposing w ↦ rw (w.out-is, w.findings-is) ((
-  (λ i. c.loop-k.invariant.0 i ∙ items.numbers_more _ _ _ _ c.loop-k-test.true
-      (laws.oppose_yes _ _ _ _ _ c.kind_at.ensures c.if-kind_at-gt1.false c.past.ensures c.place_at-x.ensures
-      c.value-v.ensures _ c.opposing.ensures w.if-opposing.true (w.oppose-out.ensures i))),
-  search rules,
-))
+        (λ i. c.loop-k.invariant.0 i ∙ items.numbers_more _ _ _ _ c.loop-k-test.true
+            (laws.oppose_yes _ _ _ _ _ c.kind_at.ensures c.if-kind_at-gt1.false c.past.ensures c.place_at-x.ensures
+            c.value-v.ensures _ c.opposing.ensures w.if-opposing.true (w.oppose-out.ensures i))),
+        search rules,
+      ))
       | else-opposing w ↦ rw (w.out-is, w.findings-is) ((
-  (λ i. c.loop-k.invariant.0 i ∙ items.numbers_more _ _ _ _ c.loop-k-test.true
-      (laws.oppose_no _ _ _ _ _ c.kind_at.ensures c.if-kind_at-gt1.false c.past.ensures c.place_at-x.ensures
-      c.value-v.ensures _ c.opposing.ensures w.if-opposing.false)),
-  search rules,
-))
+        (λ i. c.loop-k.invariant.0 i ∙ items.numbers_more _ _ _ _ c.loop-k-test.true
+            (laws.oppose_no _ _ _ _ _ c.kind_at.ensures c.if-kind_at-gt1.false c.past.ensures c.place_at-x.ensures
+            c.value-v.ensures _ c.opposing.ensures w.if-opposing.false)),
+        search rules,
+      ))
     ]
 
 pub returns : goal.returns

@@ -15,16 +15,16 @@ pub loop-i-preserved : goal.loop-i-preserved
 loop-i-preserved c =
     elim c.if-has.branch [
       | then-has w ↦ rw w.best-is ((
-  c.loop-i.invariant.0 ∙ loops.yes 32 (holds c.args.set) _ _ c.loop-i.i _ c.loop-i-test.true
-      (sym c.has.ensures ∙ w.if-has.true)
-      ∙ laws.next_best _ _ _ _ _ _ w.name_place.ensures w.lesser-best.ensures,
-  search rules,
-))
+        c.loop-i.invariant.0 ∙ loops.yes 32 (holds c.args.set) _ _ c.loop-i.i _ c.loop-i-test.true
+            (sym c.has.ensures ∙ w.if-has.true)
+            ∙ laws.next_best _ _ _ _ _ _ w.name_place.ensures w.lesser-best.ensures,
+        search rules,
+      ))
       | else-has w ↦ rw w.best-is ((
-  c.loop-i.invariant.0 ∙ loops.no 32 (holds c.args.set) _ _ c.loop-i.i _ c.loop-i-test.true
-      (sym c.has.ensures ∙ w.if-has.false),
-  search rules,
-))
+        c.loop-i.invariant.0 ∙ loops.no 32 (holds c.args.set) _ _ c.loop-i.i _ c.loop-i-test.true
+            (sym c.has.ensures ∙ w.if-has.false),
+        search rules,
+      ))
     ]
 
 pub returns : goal.returns

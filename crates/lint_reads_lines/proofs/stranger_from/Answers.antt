@@ -14,16 +14,16 @@ pub loop-k-preserved : goal.loop-k-preserved
 loop-k-preserved c =
     elim c.if-is_read.branch [
       | then-is_read w ↦ rw w.least-is ((
-  c.loop-k.invariant.0 ∙ loops.yes 64 _ _ _ c.loop-k.k _ c.loop-k-test.true
-      (sym c.is_read.ensures ∙ w.if-is_read.true)
-      ∙ laws.next_best _ _ _ _ _ _ refl w.lesser-least.ensures,
-  search rules,
-))
+        c.loop-k.invariant.0 ∙ loops.yes 64 _ _ _ c.loop-k.k _ c.loop-k-test.true
+            (sym c.is_read.ensures ∙ w.if-is_read.true)
+            ∙ laws.next_best _ _ _ _ _ _ refl w.lesser-least.ensures,
+        search rules,
+      ))
       | else-is_read w ↦ rw w.least-is ((
-  c.loop-k.invariant.0 ∙ loops.no 64 _ _ _ c.loop-k.k _ c.loop-k-test.true
-      (sym c.is_read.ensures ∙ w.if-is_read.false),
-  search rules,
-))
+        c.loop-k.invariant.0 ∙ loops.no 64 _ _ _ c.loop-k.k _ c.loop-k-test.true
+            (sym c.is_read.ensures ∙ w.if-is_read.false),
+        search rules,
+      ))
     ]
 
 pub returns : goal.returns

@@ -15,9 +15,9 @@ pub loop-place-preserved : goal.loop-place-preserved
 loop-place-preserved c =
     elim c.if-awaits.branch [
       | then-awaits w ↦ rw w.v-is (c.loop-place.invariant ∙ laws.names_more _ _ _ _ _ _ _ c.loop-place-test.true
-    (laws.name_yes _ _ _ _ _ _ c.awaits.ensures w.if-awaits.true w.with_strange-v.ensures))
+          (laws.name_yes _ _ _ _ _ _ c.awaits.ensures w.if-awaits.true w.with_strange-v.ensures))
       | else-awaits w ↦ rw w.v-is (c.loop-place.invariant ∙ laws.names_more _ _ _ _ _ _ _ c.loop-place-test.true
-    (laws.name_no _ _ _ _ _ _ c.awaits.ensures w.if-awaits.false))
+          (laws.name_no _ _ _ _ _ _ c.awaits.ensures w.if-awaits.false))
     ]
 
 pub returns : goal.returns

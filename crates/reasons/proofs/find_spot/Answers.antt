@@ -3,7 +3,7 @@ use lib.ListN.{drop}
 use Rattle.texts.proofs.Ordering as ordering
 use Rattle.reasons.specs.Reasons.{render}
 use Rattle.reasons.specs.Lists.{reason_of}
-use mathlib.Core.Path.{refl}
+use mathlib.Core.Path.{◌≡◌, refl}
 use native.Mathlib.Omega.{arith}
 use borrow.Author.Rules.{rules}
 use Rattle.reasons.proofs.Listing as listing
@@ -38,7 +38,7 @@ loop-i-preserved c =
 
 pub returns : goal.returns
 returns c =
-    let a = c.args in let l = c.loop-i in (
+    let a = c.args in let l = c.loop-i in let e : l.i ≡ a.n = omega arith in (
       omega (arith, listing.length_listed a.f.now a.n a.a.now),
-      listing.at_end _ _ l.i (omega (arith, listing.length_listed a.f.now a.n a.a.now)) l.invariant.1,
+      rw e at (listing.at_end _ _ l.i (omega (arith, listing.length_listed a.f.now a.n a.a.now)) l.invariant.1),
     )

@@ -18,12 +18,6 @@ visit-s-requires c =
           omega (arith, c.loop-d-test.true, c.requires.0);
     }
 
-pub overflow_add-d : goal.overflow_add-d
-overflow_add-d c = omega (arith, c.loop-d-test.true, c.requires.0)
-
-pub loop-d-smaller : goal.loop-d-smaller
-loop-d-smaller c = omega (arith, c.loop-d-test.true)
-
 pub loop-d-preserved : goal.loop-d-preserved
 loop-d-preserved c = (
   omega (arith, c.loop-d.invariant.0, c.visit-s.auto.queue),
