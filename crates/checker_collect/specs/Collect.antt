@@ -9,9 +9,9 @@ use Rattle.reasons.specs.Lists.{insert_all, Holds}
 use Rattle.bounds.specs.Bounds.{at_most}
 use Rattle.engine_fields.specs.Fields.{two, cap}
 use Rattle.engine_state.specs.declared.Cells.{Cells}
+use Rattle.std.specs.Prelude.{Option, Some, None}
 use Rattle.checker_response.specs.declared.Failure.{Failure}
 use Rattle.checker_response.specs.declared.Failure.TheVariants.{
-  NoFailure,
   ProhibitedState,
   GuardViolated,
   ForbiddenTransition,
@@ -25,19 +25,19 @@ use Rattle.checker_collect.specs.declared.Counts.{Counts}
 
 -- ---- violations
 
-abbrev pub failure_number : Failure → ℕ
-failure_number NoFailure = 0
-failure_number ProhibitedState = 1
-failure_number GuardViolated = 2
-failure_number ForbiddenTransition = 3
-failure_number (DeadlineMissed d) = 4
+abbrev pub failure_number : Option Failure → ℕ
+failure_number None = 0
+failure_number (Some ProhibitedState) = 1
+failure_number (Some GuardViolated) = 2
+failure_number (Some ForbiddenTransition) = 3
+failure_number (Some (DeadlineMissed d)) = 4
 
-abbrev pub failure_deadline : Failure → ℕ
-failure_deadline NoFailure = 0
-failure_deadline ProhibitedState = 0
-failure_deadline GuardViolated = 0
-failure_deadline ForbiddenTransition = 0
-failure_deadline (DeadlineMissed d) = d
+abbrev pub failure_deadline : Option Failure → ℕ
+failure_deadline None = 0
+failure_deadline (Some ProhibitedState) = 0
+failure_deadline (Some GuardViolated) = 0
+failure_deadline (Some ForbiddenTransition) = 0
+failure_deadline (Some (DeadlineMissed d)) = d
 
 abbrev pub source_m : Option Source → ℕ → ℕ
 source_m None j = 0

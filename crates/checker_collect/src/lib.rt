@@ -27,27 +27,24 @@ pub struct Numbers {
     pub list: [u64; 8],
 }
 
-pub fn failure_number(e: Failure) -> u64
+pub fn failure_number(e: Option<Failure>) -> u64
     ensures { result ≡ failure_number e }
 {
     match e {
-        Failure::NoFailure => 0,
-        Failure::ProhibitedState => 1,
-        Failure::GuardViolated => 2,
-        Failure::ForbiddenTransition => 3,
-        Failure::DeadlineMissed(_) => 4,
+        None => 0,
+        Some(Failure::ProhibitedState) => 1,
+        Some(Failure::GuardViolated) => 2,
+        Some(Failure::ForbiddenTransition) => 3,
+        Some(Failure::DeadlineMissed(_)) => 4,
     }
 }
 
-fn failure_deadline(e: Failure) -> u64
+fn failure_deadline(e: Option<Failure>) -> u64
     ensures { result ≡ failure_deadline e }
 {
     match e {
-        Failure::NoFailure => 0,
-        Failure::ProhibitedState => 0,
-        Failure::GuardViolated => 0,
-        Failure::ForbiddenTransition => 0,
-        Failure::DeadlineMissed(d) => d,
+        Some(Failure::DeadlineMissed(d)) => d,
+        _ => 0,
     }
 }
 

@@ -17,9 +17,9 @@ use Rattle.records.specs.declared.Record.{Record}
 use Rattle.engine_fields.specs.Fields.{cap, entity_of}
 use Rattle.engine_state.specs.Machine.{stored_m}
 use Rattle.engine_state.specs.declared.Cells.{Cells}
+use Rattle.std.specs.Prelude.{Option, Some, None}
 use Rattle.checker_response.specs.declared.Failure.{Failure}
 use Rattle.checker_response.specs.declared.Memory.{Memory}
-use Rattle.checker_response.specs.declared.Wait.{Wait}
 use Rattle.checker_response.specs.declared.Shown.{Shown}
 use Rattle.checker_judge.specs.declared.Reading.{Reading}
 use Rattle.checker_response.specs.Response.{failed_m}
@@ -185,7 +185,7 @@ module _ (f x : List ℕ) (at : ℕ) (us a : List ℕ) (n p : ℕ) where
         is = λ l g o. let y : length l ≤ k = omega arith in e ∙ sym ((inv cells w l g o).is ∙ rw (drop_of_length-le l y));
       }
 
-      module _ (r : Reading) (after : List ℕ) (h : k < n) (is : Turned f x p vs m a k r after) (b : Bool) (e : Failure)
+      module _ (r : Reading) (after : List ℕ) (h : k < n) (is : Turned f x p vs m a k r after) (b : Bool) (e : Option Failure)
           (told : e ≡ r.failure) (test : b ≡ failed_m e) where
         tests : b ≡ failed_m r.failure
         tests = test ∙ ap failed_m told
@@ -253,7 +253,7 @@ module _ (named : List Bool) (a : List ℕ) (n k : ℕ) where
           let e : j ≡ i = omega (arith, ltb-false i j c) in
           subst (Untouched named a) e (q.untouched y)
 
-  pub skips_none : (wait : Wait) (r : ℕ) → k ≡ r → Skips named wait a n k r
+  pub skips_none : (wait : Option ℕ) (r : ℕ) → k ≡ r → Skips named wait a n k r
   skips_none wait r e = record {
     quiet = none_quiet r e;
     later_ones = λ h. absurd (omega (arith, h, e));

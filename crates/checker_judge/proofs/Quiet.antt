@@ -17,9 +17,9 @@ use Rattle.engine_state.specs.Machine.{later}
 use Rattle.engine_evaluate.specs.Evaluate.{evaluate_m, all_m}
 use Rattle.engine_evaluate.specs.declared.Truth.{Truth}
 use Rattle.engine_evaluate.specs.declared.Truth.TheVariants.{Yes, No, Unknown}
-use Rattle.checker_response.specs.declared.Failure.TheVariants.{NoFailure, ProhibitedState}
-use Rattle.checker_response.specs.declared.Wait.{Wait}
-use Rattle.checker_response.specs.declared.Wait.TheVariants.{NoWait, Until}
+use Rattle.std.specs.Prelude.{Option, Some, None}
+use Rattle.checker_response.specs.declared.Failure.{Failure}
+use Rattle.checker_response.specs.declared.Failure.TheVariants.{ProhibitedState}
 use Rattle.checker_response.specs.declared.Memory.{Memory}
 use Rattle.checker_response.specs.declared.Seen.{Seen}
 use Rattle.checker_response.specs.declared.Shown.{Shown}
@@ -81,30 +81,33 @@ unchanged r = record {
 
 -- ---- a response to which nothing happens
 
-module _ (s : Seen) (now : ℕ) (end : Bool) (m : Memory) (idle : m.wait ≡ NoWait) (held : m.held ≡ yes_m s.cause)
+abbrev no_failure : Option Failure
+no_failure = None
+
+module _ (s : Seen) (now : ℕ) (end : Bool) (m : Memory) (idle : m.wait ≡ None) (held : m.held ≡ yes_m s.cause)
     (known : m.unknown || unknown_m s.cause || unknown_m s.goal ≡ m.unknown) where
-  none_begun : waits_m now s m.held m.wait ≡ NoWait
+  none_begun : waits_m now s m.held m.wait ≡ None
   unfolding waits_m begun_m kept_m overdue_m started_m
   none_begun = rw (idle, held) (by (yes_m s.goal) (yes_m s.cause))
     where
-      by : (goal cause : Bool) → (if goal then NoWait else if cause then NoWait else if cause then Until (now + s.within)
-          else NoWait)
-          ≡ NoWait
+      by : (goal cause : Bool) → (if goal then None else if cause then None else if cause then Some (now + s.within)
+          else None)
+          ≡ None
       by true cause = refl
       by false true = refl
       by false false = refl
 
-  none_failed : failure_m s now end m.wait NoWait ≡ NoFailure
+  none_failed : failure_m s now end m.wait None ≡ None
   unfolding failure_m or_else_m at_end_m missed_m failed_m
   none_failed = rw idle (by end)
     where
-      by : (b : Bool) → (if failed_m (if b then NoFailure else NoFailure) then (if b then NoFailure else NoFailure)
-          else NoFailure)
-          ≡ NoFailure
+      by : (b : Bool) → (if failed_m (if b then no_failure else no_failure) then (if b then no_failure else no_failure)
+          else no_failure)
+          ≡ no_failure
       by true = refl
       by false = refl
 
-  remembered : memory_m s now end m NoWait ≡ m
+  remembered : memory_m s now end m None ≡ m
   unfolding memory_m overdue_m beyond_m
   remembered = rw (known, idle, and_false end, or_false m.unclear, or_false m.beyond, ← held) refl
 
@@ -218,9 +221,9 @@ module _ (f x : List ℕ) (at : ℕ) where
       (idle _ h) refl
       (or_twice m.unknown (unknown_m (evaluate_m f x ps 0 (later at 3))) (unknown_m (evaluate_m f x ps 0 (goal_at f at))))
     where
-      idle : (w : Wait) → pending_m w ≡ false → w ≡ NoWait
-      idle NoWait g = refl
-      idle (Until d) g = absurd (false≢true (sym (unfold pending_m in g)))
+      idle : (w : Option ℕ) → pending_m w ≡ false → w ≡ None
+      idle None g = refl
+      idle (Some d) g = absurd (false≢true (sym (unfold pending_m in g)))
 
       or_twice : (a b c : Bool) → (a || b || c) || b || c ≡ a || b || c
       or_twice true b c = refl

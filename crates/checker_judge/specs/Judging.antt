@@ -9,13 +9,12 @@ use Rattle.engine_state.specs.Machine.{later, stored_m}
 use Rattle.engine_state.specs.declared.Cells.{Cells}
 use Rattle.engine_evaluate.specs.Evaluate.{evaluate_m, size_m, all_m}
 use Rattle.engine_evaluate.specs.declared.Truth.{Truth}
+use Rattle.std.specs.Prelude.{Option, Some, None}
 use Rattle.checker_response.specs.declared.Failure.TheVariants.{
-  NoFailure,
   ProhibitedState,
   GuardViolated,
   ForbiddenTransition,
 }
-use Rattle.checker_response.specs.declared.Wait.TheVariants.{NoWait}
 use Rattle.checker_response.specs.declared.Memory.{Memory}
 use Rattle.checker_response.specs.declared.Shown.{Shown}
 use Rattle.checker_response.specs.declared.Seen.{Seen}
@@ -23,7 +22,7 @@ use Rattle.checker_response.specs.Response.{yes_m, no_m, unknown_m, fails_m, fai
 use Rattle.checker_judge.specs.declared.Reading.{Reading}
 
 abbrev pub nothing_m : Memory
-nothing_m = record { wait = NoWait; held = false; unknown = false; unclear = false; beyond = false }
+nothing_m = record { wait = None; held = false; unknown = false; unclear = false; beyond = false }
 
 -- a predicate is unknown at this record
 unfoldable pub unsure_m : Bool → Memory → Memory
@@ -71,7 +70,7 @@ guarded_m t m = record { failure = fails_m (no_m t) GuardViolated; memory = unsu
 
 unfoldable pub guard_m : (f x : List ℕ) → (at : ℕ) → (before : List ℕ) → Record → Memory → Shown
 guard_m f x at before r m =
-    if about_m f at r then guarded_m (all_m f x before 0 (later at 7)).truth m else record { failure = NoFailure; memory = m }
+    if about_m f at r then guarded_m (all_m f x before 0 (later at 7)).truth m else record { failure = None; memory = m }
 
 -- the change takes the transition's entity from its first value to its second
 unfoldable pub passes_m : List ℕ → (at : ℕ) → Option Write → Bool
@@ -128,7 +127,7 @@ turn_m f x at c m k r =
     turned_m k r present (read_m f x at c.values present.values r m)
 
 abbrev pub unfailed_m : Memory → Reading
-unfailed_m m = record { failure = NoFailure; index = 0; second = 0; source = None; memory = m }
+unfailed_m m = record { failure = None; index = 0; second = 0; source = None; memory = m }
 
 -- the records from index k on: the first that fails, or none
 unfoldable pub reading_m : (f x : List ℕ) → (at : ℕ) → Cells → Memory → (k : ℕ) → List Record → Reading

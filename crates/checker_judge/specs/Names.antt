@@ -7,8 +7,6 @@ use Rattle.records.specs.declared.Record.{Record}
 use Rattle.engine_fields.specs.Fields.{two}
 use Rattle.engine_state.specs.Machine.{later}
 use Rattle.engine_evaluate.specs.Evaluate.{size_m}
-use Rattle.checker_response.specs.declared.Wait.{Wait}
-use Rattle.checker_response.specs.declared.Wait.TheVariants.{NoWait, Until}
 use Rattle.checker_judge.specs.Judging.{goal_at}
 
 unfoldable pub has_m : List Bool → (id : ℕ) → Bool
@@ -46,9 +44,9 @@ unfoldable pub touches_m : List Bool → Option Write → Bool
 touches_m l None = false
 touches_m l (Some w) = has_m l w.entity
 
-unfoldable pub pending_m : Wait → Bool
-pending_m NoWait = false
-pending_m (Until d) = true
+unfoldable pub pending_m : Option ℕ → Bool
+pending_m None = false
+pending_m (Some d) = true
 
 -- the record at k, whatever records the area a holds, writes no entity whose cell says yes
 pub record Untouched (named : List Bool) (a : List ℕ) (k : ℕ) : Type 0 where
@@ -67,7 +65,7 @@ pub record AllQuiet (named : List Bool) (a : List ℕ) (n k r : ℕ) : Type 0 wh
   pub untouched : (j : ℕ) → k ≤ j → j < r → Untouched named a j
 
 -- the records from k up to r can show nothing new: they are quiet, none is the first, and no deadline is awaited
-pub record Skips (named : List Bool) (wait : Wait) (a : List ℕ) (n k r : ℕ) : Type 0 where
+pub record Skips (named : List Bool) (wait : Option ℕ) (a : List ℕ) (n k r : ℕ) : Type 0 where
   pub quiet : AllQuiet named a n k r
   pub later_ones : k < r → 0 < k
   pub idle : k < r → pending_m wait ≡ false

@@ -4,7 +4,7 @@ use Rattle.records.specs.Records.{recorded}
 use Rattle.records.specs.declared.Record.{Record}
 use Rattle.engine_fields.specs.Fields.{entity_of}
 use Rattle.engine_state.specs.declared.Cells.{Cells}
-use Rattle.checker_response.specs.declared.Failure.TheVariants.{NoFailure}
+use Rattle.std.specs.Prelude.{Option, Some, None}
 use Rattle.checker_response.specs.declared.Memory.{Memory}
 use Rattle.checker_response.specs.declared.Shown.{Shown}
 use Rattle.checker_response.specs.Response.{failed_m}
@@ -19,7 +19,7 @@ pub record Agree (x : List ℕ) (named : List Bool) (vs ws : List ℕ) : Type 0 
 
 -- nothing failed, and nothing is learnt
 abbrev pub nothing_new : Memory → Shown
-nothing_new m = record { failure = NoFailure; memory = m }
+nothing_new m = record { failure = None; memory = m }
 
 -- with these values a record without a change shows nothing new, unless a deadline is awaited
 pub record Fresh (f x : List ℕ) (at : ℕ) (vs : List ℕ) (m : Memory) : Type 0 where

@@ -28,7 +28,7 @@ ghost use Rattle.checker_judge.specs.Names.{with_m, predicate_m, list_m, names_m
 ghost use Rattle.checker_judge.specs.Turns.{Turned};
 
 use checker_response::{
-    Failure, Memory, Seen, Shown, Wait, both, either, failed, fails_if, is_no, is_unknown, is_yes,
+    Failure, Memory, Seen, Shown, both, either, failed, fails_if, is_no, is_unknown, is_yes,
     responded,
 };
 use engine_evaluate::{Truth, evaluate, evaluate_all};
@@ -40,7 +40,7 @@ use records::{Record, Source, Write};
 // The failing record: its index, its second, its source; without a failure these are 0 and none.
 #[derive(Clone, Copy)]
 pub struct Reading {
-    pub failure: Failure,
+    pub failure: Option<Failure>,
     pub index: usize,
     pub second: u32,
     pub source: Option<Source>,
@@ -144,7 +144,7 @@ fn read_guard(f: &[u8], x: &Table, at: u32, before: &[u32; 32], r: Record, m: Me
         return guarded(t, m);
     }
     Shown {
-        failure: Failure::NoFailure,
+        failure: None,
         memory: m,
     }
 }
@@ -292,13 +292,11 @@ fn touches(named: &[bool; 64], change: Option<Write>) -> bool
     }
 }
 
-fn pending(wait: Wait) -> bool
+#[tactic(auto, unfolding(crate::specs::Names::pending_m))]
+fn pending(wait: Option<u64>) -> bool
     ensures { result ≡ pending_m wait }
 {
-    match wait {
-        Wait::NoWait => false,
-        Wait::Until(_) => true,
-    }
+    wait.is_some()
 }
 
 // Whether there is a record at k, of n, and it writes no named entity.
@@ -313,7 +311,7 @@ fn is_quiet(named: &[bool; 64], a: &[u32], n: usize, k: usize) -> bool
 }
 
 // The next record to be read, from k on: those before it can show nothing new.
-fn next_to_read(named: &[bool; 64], wait: Wait, a: &[u32], n: usize, k: usize) -> usize
+fn next_to_read(named: &[bool; 64], wait: Option<u64>, a: &[u32], n: usize, k: usize) -> usize
     requires { n * 13 ≤ length a.now }
     ensures { Skips named.now wait a.now n k result }
 {
@@ -354,14 +352,12 @@ fn next_turn(
     put(present, e, value);
     let s = read(f, x, at, before, present, r, m);
     put(before, e, value);
-    let failure = s.failure;
-    let memory = s.memory;
     Reading {
-        failure,
+        failure: s.failure,
         index: k,
         second: r.second,
         source,
-        memory,
+        memory: s.memory,
     }
 }
 
@@ -369,7 +365,7 @@ fn nothing_yet() -> Memory
     ensures { result ≡ nothing_m }
 {
     Memory {
-        wait: Wait::NoWait,
+        wait: None,
         held: false,
         unknown: false,
         unclear: false,
@@ -381,7 +377,7 @@ fn unfailed(m: Memory) -> Reading
     ensures { result ≡ unfailed_m m }
 {
     Reading {
-        failure: Failure::NoFailure,
+        failure: None,
         index: 0,
         second: 0,
         source: None,

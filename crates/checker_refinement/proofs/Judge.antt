@@ -28,11 +28,11 @@ use Rattle.engine_refinement.proofs.Relation.{Celled}
 use Rattle.engine_refinement.proofs.Update.{stored_is}
 use Rattle.checker_spec.specs.Judge.{after, read, reading, read_all}
 use Rattle.checker_spec.specs.Judge as judge
+use Rattle.std.specs.Prelude.{Option, Some, None}
 use Rattle.checker_response.specs.Response.{failed_m}
 use Rattle.checker_judge.specs.Judging.{nothing_m, put_m, after_m, read_m, turned_m, turn_m, reading_m, judge_m}
 use Rattle.checker_response.specs.declared.Failure.{Failure}
 use Rattle.checker_response.specs.declared.Failure.TheVariants.{
-  NoFailure,
   ProhibitedState,
   GuardViolated,
   ForbiddenTransition,
@@ -123,7 +123,7 @@ module _ (f x : List ℕ) (ts : List Text) (mo : Model) (tb : Tabled f x ts mo) 
     unfolding reading_of failing_of failed_m shown_of
     step s ih = cases s.failure
       where
-        cases : (y : Failure) →
+        cases : (y : Option Failure) →
             reading_of (elim (failed_m y) [
               | true ↦ record {
                 failure = y;
@@ -135,11 +135,11 @@ module _ (f x : List ℕ) (ts : List Text) (mo : Model) (tb : Tabled f x ts mo) 
               | false ↦ reading_m f x at c s.memory (k + 1) l
             ])
             ≡ told (record { failure = failure_of y; memory = memory_of s.memory })
-        cases NoFailure = ih
-        cases ProhibitedState = refl
-        cases GuardViolated = refl
-        cases ForbiddenTransition = refl
-        cases (DeadlineMissed d) = refl
+        cases None = ih
+        cases (Some ProhibitedState) = refl
+        cases (Some GuardViolated) = refl
+        cases (Some ForbiddenTransition) = refl
+        cases (Some (DeadlineMissed d)) = refl
 
   module _ (at : ℕ) (i : Invariant) (q : ℕ) (stands : invariant ts f at ≡ got i q) (w : windowless_invariant i ≡ true) where
     reading_is : (l : List Record) → Traced ts l → (k : ℕ) (c : Cells) (m : Memory) (ns : List ℕ) (cs : List Cell) →

@@ -56,6 +56,7 @@ use Rattle.checker_spec.specs.Judge.{
   read,
 }
 use Rattle.checker_spec.specs.Judge as judge
+use Rattle.std.specs.Prelude.{Option, Some, None}
 use Rattle.checker_response.specs.Response.{yes_m, no_m, unknown_m, fails_m, responded_m}
 use Rattle.checker_judge.specs.Judging.{
   unsure_m,
@@ -72,7 +73,6 @@ use Rattle.checker_judge.specs.Judging.{
   read_m,
 }
 use Rattle.checker_response.specs.declared.Failure.TheVariants.{
-  NoFailure,
   ProhibitedState,
   GuardViolated,
   ForbiddenTransition,
@@ -95,7 +95,7 @@ never_is t v m e =
     rw (← e, ← yes_is t, ← unknown_is t, fails_is (yes_m t) ProhibitedState judge.prohibited_state refl)
 
 guard_is : (about : Bool) (t : Truth) (v : kleene.Truth) (m : Memory) → truth_of t ≡ v →
-    shown_of (if about then guarded_m t m else record { failure = NoFailure; memory = m })
+    shown_of (if about then guarded_m t m else record { failure = None; memory = m })
     ≡ record {
       failure = fails_if (about && is_no v) judge.guard_violated;
       memory =
