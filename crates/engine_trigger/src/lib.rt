@@ -18,24 +18,16 @@ use runs::{Phase, Run};
 pub fn released(run: Run) -> Run
     ensures { result ≡ released_m run }
 {
-    let mut r = run;
-    r.queued = false;
-    r
+    Run {
+        queued: false,
+        ..run
+    }
 }
 
 pub fn with_phase(run: Run, phase: Phase) -> Run
     ensures { result ≡ phase_m phase run }
 {
-    let places = run.places;
-    Run {
-        automation: run.automation,
-        sequence: run.sequence,
-        number: run.number,
-        queued: run.queued,
-        phase,
-        depth: run.depth,
-        places,
-    }
+    Run { phase, ..run }
 }
 
 // The automation's first queued run goes on.
