@@ -9,7 +9,6 @@ use Rattle.reasons.specs.Lists.{insert_all, Holds}
 use Rattle.bounds.specs.Bounds.{at_most}
 use Rattle.engine_fields.specs.Fields.{two, cap}
 use Rattle.engine_state.specs.declared.Cells.{Cells}
-use Rattle.std.specs.Prelude.{Option, Some, None}
 use Rattle.checker_response.specs.declared.Failure.{Failure}
 use Rattle.checker_response.specs.declared.Failure.TheVariants.{
   ProhibitedState,

@@ -29,7 +29,6 @@ use Rattle.engine_refinement.proofs.Evaluate.{Valued}
 use Rattle.engine_refinement.proofs.Words.{text_place}
 use Rattle.checker_spec.specs.Check.{Violation, violation_of}
 use Rattle.checker_spec.specs.Judge.{Reading, read_all, unknown_reasons, incomplete_reasons}
-use Rattle.std.specs.Prelude.{Option, Some, None}
 use Rattle.checker_response.specs.declared.Failure.{Failure}
 use Rattle.checker_response.specs.declared.Failure.TheVariants.{
   ProhibitedState,

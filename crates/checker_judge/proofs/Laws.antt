@@ -17,7 +17,6 @@ use Rattle.records.specs.declared.Record.{Record}
 use Rattle.engine_fields.specs.Fields.{cap, entity_of}
 use Rattle.engine_state.specs.Machine.{stored_m}
 use Rattle.engine_state.specs.declared.Cells.{Cells}
-use Rattle.std.specs.Prelude.{Option, Some, None}
 use Rattle.checker_response.specs.declared.Failure.{Failure}
 use Rattle.checker_response.specs.declared.Memory.{Memory}
 use Rattle.checker_response.specs.declared.Shown.{Shown}

@@ -17,7 +17,6 @@ use Rattle.engine_state.specs.Machine.{later}
 use Rattle.engine_evaluate.specs.Evaluate.{evaluate_m, all_m}
 use Rattle.engine_evaluate.specs.declared.Truth.{Truth}
 use Rattle.engine_evaluate.specs.declared.Truth.TheVariants.{Yes, No, Unknown}
-use Rattle.std.specs.Prelude.{Option, Some, None}
 use Rattle.checker_response.specs.declared.Failure.{Failure}
 use Rattle.checker_response.specs.declared.Failure.TheVariants.{ProhibitedState}
 use Rattle.checker_response.specs.declared.Memory.{Memory}

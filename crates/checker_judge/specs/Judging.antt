@@ -9,7 +9,6 @@ use Rattle.engine_state.specs.Machine.{later, stored_m}
 use Rattle.engine_state.specs.declared.Cells.{Cells}
 use Rattle.engine_evaluate.specs.Evaluate.{evaluate_m, size_m, all_m}
 use Rattle.engine_evaluate.specs.declared.Truth.{Truth}
-use Rattle.std.specs.Prelude.{Option, Some, None}
 use Rattle.checker_response.specs.declared.Failure.TheVariants.{
   ProhibitedState,
   GuardViolated,

@@ -4,7 +4,7 @@ use Rattle.records.specs.Records.{recorded}
 use Rattle.records.specs.declared.Record.{Record}
 use Rattle.engine_fields.specs.Fields.{entity_of}
 use Rattle.engine_state.specs.declared.Cells.{Cells}
-use Rattle.std.specs.Prelude.{Option, Some, None}
+use Rattle.std.specs.Prelude.{Option, Some}
 use Rattle.checker_response.specs.declared.Memory.{Memory}
 use Rattle.checker_response.specs.declared.Shown.{Shown}
 use Rattle.checker_response.specs.Response.{failed_m}

@@ -28,7 +28,6 @@ use Rattle.engine_refinement.proofs.Relation.{Celled}
 use Rattle.engine_refinement.proofs.Update.{stored_is}
 use Rattle.checker_spec.specs.Judge.{after, read, reading, read_all}
 use Rattle.checker_spec.specs.Judge as judge
-use Rattle.std.specs.Prelude.{Option, Some, None}
 use Rattle.checker_response.specs.Response.{failed_m}
 use Rattle.checker_judge.specs.Judging.{nothing_m, put_m, after_m, read_m, turned_m, turn_m, reading_m, judge_m}
 use Rattle.checker_response.specs.declared.Failure.{Failure}

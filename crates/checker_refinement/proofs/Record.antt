@@ -56,7 +56,6 @@ use Rattle.checker_spec.specs.Judge.{
   read,
 }
 use Rattle.checker_spec.specs.Judge as judge
-use Rattle.std.specs.Prelude.{Option, Some, None}
 use Rattle.checker_response.specs.Response.{yes_m, no_m, unknown_m, fails_m, responded_m}
 use Rattle.checker_judge.specs.Judging.{
   unsure_m,
