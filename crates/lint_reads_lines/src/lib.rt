@@ -127,7 +127,7 @@ fn reads_count(f: &[u8], entities: Section, r: Report, i: usize) -> u64
 {
     let mut many: u64 = 0;
     let mut from: u32 = 0;
-    for _ in 0..97 {
+    for _ in 0..97u32 {
         let place = read_from(f, entities, r, i, from);
         many = counted(place, many);
         from = behind(place);
@@ -153,7 +153,7 @@ fn put_reads(out: &mut [u8], n: usize, f: &[u8], entities: Section, r: Report, i
 {
     let mut m = show::put_number(out, n, reads_count(f, entities, r, i));
     let mut from: u32 = 0;
-    for _ in 0..97 {
+    for _ in 0..97u32 {
         let place = read_from(f, entities, r, i, from);
         m = put_text_at(out, m, f, place);
         from = behind(place);

@@ -15,7 +15,6 @@ use Rattle.engine_spec.specs.Truth.{truth_name}
 use Rattle.engine_spec.specs.Records.{detail}
 use Rattle.engine_fields.specs.Fields.{word}
 use Rattle.engine_refinement.specs.Meaning.{verdict_of, id_at, kind_of, rule_of, where_of, change_of, record_of}
-use Rattle.show.specs.declared.Source.TheVariants.{At}
 use Rattle.show.specs.Lines.{newline, quoted, dash, source}
 use Rattle.record_lines.specs.Lines.{quoted_if, placed_if, changed, record_line}
 use Rattle.record_lines.specs.RecordWords.{name_of, detail_ends}
@@ -52,7 +51,7 @@ pub nowhere : (s : Option Source) → s ≡ None → dash ≡ placed_if (where_o
 unfolding placed_if
 nowhere s e = rw e
 
-pub somewhere : (s : Option Source) (p : Source) → s ≡ Some p → source (At p.line p.column) ≡ placed_if (where_of s)
+pub somewhere : (s : Option Source) (p : Source) → s ≡ Some p → source (Some (p.line, p.column)) ≡ placed_if (where_of s)
 unfolding placed_if source
 somewhere s p e = rw e
 

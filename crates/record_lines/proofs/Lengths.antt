@@ -19,7 +19,6 @@ use Rattle.engine_spec.specs.Kleene as kleene
 use Rattle.engine_spec.specs.Truth.{truth_name}
 use Rattle.engine_spec.specs.Records.{kind_name, detail}
 use Rattle.engine_refinement.specs.Meaning.{verdict_of, id_at, kind_of, rule_of, where_of, change_of, record_of}
-use Rattle.show.specs.declared.Source.TheVariants.{At}
 use Rattle.show.specs.Lines.{newline, quoted, source}
 use Rattle.show.proofs.Laws as show
 use Rattle.simulate_lines.specs.FileTexts.{texts_of, text_of}
@@ -81,7 +80,7 @@ module _ (f : List ℕ) (bytes : (i : ℕ) → get_or f i 0 < 256) (x : List ℕ
   where_short : (w : Option Source) → length (placed_if (where_of w)) ≤ 41
   unfolding placed_if source
   where_short None = omega arith
-  where_short (Some s) = show.length_source (At s.line s.column)
+  where_short (Some s) = show.length_source (Some (s.line, s.column))
 
   change_short : (c : Option Write) → length (changed (change_of x (texts_of f x) c)) ≤ 1538
   unfolding changed

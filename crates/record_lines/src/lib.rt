@@ -16,7 +16,6 @@ ghost use Rattle.record_lines.specs.RecordWords.{name_of, detail_begins, detail_
 
 use layout::Table;
 use records::{Record, Write};
-use show::Source;
 use simulate_lines::put_place;
 
 // The names of the kinds 0 to 17, and what their details begin with, each behind its length.
@@ -59,7 +58,7 @@ fn put_where(out: &mut [u8], n: usize, source: Option<records::Source>) -> usize
 {
     match source {
         None => show::put_byte(out, n, 45),
-        Some(place) => show::put_source(out, n, Source::At(place.line, place.column)),
+        Some(place) => show::put_source(out, n, Some((place.line, place.column))),
     }
 }
 
@@ -134,19 +133,13 @@ fn put_seconds(out: &mut [u8], n: usize, number: u32) -> usize
 fn put_end(out: &mut [u8], n: usize, kind: u32, number: u32) -> usize
     ensures { Written (detail_ends kind number) out.old n out.new result }
 {
-    if kind < 10 {
-        return n;
+    match kind {
+        0..records::TRIGGER => n,
+        records::TRIGGER | records::CONDITION => put_verdict(out, n, number),
+        records::DELAY => put_seconds(out, n, number),
+        records::TIMEOUT => put_flag(out, n, number),
+        _ => show::put_number(out, n, number as u64),
     }
-    if kind < 12 {
-        return put_verdict(out, n, number);
-    }
-    if kind == 15 {
-        return put_seconds(out, n, number);
-    }
-    if kind == 17 {
-        return put_flag(out, n, number);
-    }
-    show::put_number(out, n, number as u64)
 }
 
 // A record's detail, quoted.

@@ -185,7 +185,7 @@ fn deepen(
         words: [0u32; 20],
     };
     let mut s = o;
-    for d in 0..=depth {
+    for d in 0..depth + 1 {
         s = visit(
             file,
             table,

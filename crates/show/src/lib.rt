@@ -17,13 +17,6 @@ pub const FULL: usize = 18446744073709551615;
 // No line of the programs is longer, however its texts are escaped, but for those of lint.
 pub const LINE: usize = 4096;
 
-// Where a thing stands in the user's file.
-#[derive(Clone, Copy)]
-pub enum Source {
-    At(u32, u32),
-    Absent,
-}
-
 // ---- parts of lines
 
 pub fn put_byte(out: &mut [u8], n: usize, b: u8) -> usize
@@ -130,17 +123,17 @@ pub fn put_quoted_reason(out: &mut [u8], n: usize, f: &[u8], r: Reason) -> usize
     put_byte(out, m, 34)
 }
 
-// LINE:COLUMN, or `-`.
-pub fn put_source(out: &mut [u8], n: usize, s: Source) -> usize
+// Where a thing stands in the user's file: LINE:COLUMN, or `-`.
+pub fn put_source(out: &mut [u8], n: usize, s: Option<(u32, u32)>) -> usize
     ensures { Written (source s) out.old n out.new result }
 {
     match s {
-        Source::At(line, column) => {
+        Some((line, column)) => {
             let m = put_number(out, n, line as u64);
             let k = put_byte(out, m, 58);
             put_number(out, k, column as u64)
         }
-        Source::Absent => put_byte(out, n, 45),
+        None => put_byte(out, n, 45),
     }
 }
 

@@ -39,5 +39,5 @@ loop-d-preserved c = (
 
 pub returns : goal.returns
 returns c =
-    visits.depth_end c.args.depth c.loop-d-test.false c.loop-d.invariant.1.1.1.1.0
+    visits.depth_end c.args.depth (omega arith) c.loop-d.invariant.1.1.1.1.0
     c.loop-d.invariant.1.1.1.1.1
