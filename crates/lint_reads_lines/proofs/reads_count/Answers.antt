@@ -11,7 +11,7 @@ loop-init c =
     rw sub-zero ((omega arith, search rules))
 
 pub counted-many-requires : goal.counted-many-requires
-counted-many-requires c = omega (arith, c.loop.invariant.1, (omega arith))
+counted-many-requires c = omega (arith, c.loop.invariant.1, c.loop-test.true)
 
 pub loop-preserved : goal.loop-preserved
 loop-preserved c =
