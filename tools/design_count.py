@@ -84,13 +84,18 @@ def twins():
 
 
 def counted_loops():
-    """Loops with an index that the body itself raises or lowers."""
+    """Loops with an index that the body itself raises or lowers; a loop in a loop counts too."""
     found = []
     for path, text in sources():
-        for m in re.finditer(r"^( *)while ([^\n{]*)\{\n(.*?)^\1\}", text, re.M | re.S):
-            names = set(re.findall(r"\b(\w+) [+-]= 1;", m.group(3)))
+        lines = text.split("\n")
+        for i, line in enumerate(lines):
+            m = re.match(r"^( *)while (.*) \{$", line)
+            if not m:
+                continue
+            end = next(j for j in range(i + 1, len(lines)) if lines[j] == m.group(1) + "}")
+            names = set(re.findall(r"\b(\w+) [+-]= 1;", "\n".join(lines[i + 1:end])))
             if any(re.search(r"\b%s\b" % n, m.group(2)) for n in names):
-                found.append("%s:%d: while %s" % (path, text.count("\n", 0, m.start()) + 1, m.group(2)))
+                found.append("%s:%d: while %s" % (path, i + 1, m.group(2)))
     return found
 
 
