@@ -31,10 +31,8 @@ fn number(t: &[u8], most: usize) -> usize
     ensures { (result ≡ number_of most t.now) × (result ≤ most) }
 {
     let mut k: usize = 0;
-    let mut i: usize = 0;
-    while i < t.len() {
-        k = next(k, t[i], most);
-        i += 1;
+    for x in t {
+        k = next(k, *x, most);
     }
     k
 }

@@ -1,7 +1,9 @@
--- The smaller of two numbers, by cases.
-use Prim.Native.Nat.{ℕ, ◌≤◌, ◌<◌}
-use mathlib.Core.Path.{◌≡◌, refl}
+-- The smaller of two numbers: the library's `min`, and the definition.
+use Prim.Native.Nat.{ℕ, ◌≤◌, ◌<◌, min}
+use mathlib.Core.Path.{◌≡◌, ◌∙◌}
 use borrow.Author.Tests.{le-leb, lt-leb}
+use Rattle.texts.proofs.Ordering.{lt_or_ge}
+use mathlib.Core.Logic.{◌⊎◌, inl, inr}
 use native.Mathlib.Omega.{arith}
 use Rattle.bounds.specs.Bounds.{at_most, AtMost}
 
@@ -13,9 +15,14 @@ pub most_no : (n m : ℕ) → m < n → m ≡ at_most n m
 unfolding at_most
 most_no n m h = rw (lt-leb n m h)
 
-pub smaller_yes : (n m : ℕ) → n ≤ m → AtMost n m n
-smaller_yes n m h = record { is = most_yes n m h; most = h; inside = omega arith; same = λ k. refl }
+pub min_is : (n m : ℕ) → min n m ≡ at_most n m
+min_is n m = go (lt_or_ge m n)
+  where
+    go : (m < n) ⊎ (n ≤ m) → min n m ≡ at_most n m
+    go (inl h) = let e : min n m ≡ m = omega arith in e ∙ most_no n m h
+    go (inr h) = let e : min n m ≡ n = omega arith in e ∙ most_yes n m h
 
-pub smaller_no : (n m : ℕ) → m < n → AtMost n m m
-smaller_no n m h =
-    record { is = most_no n m h; most = omega arith; inside = omega arith; same = λ k. absurd (omega arith) }
+-- what the library's `min` answers
+pub smaller : {n m r : ℕ} → r ≡ min n m → AtMost n m r
+smaller {n} {m} {r} e =
+    record { is = e ∙ min_is n m; most = omega arith; inside = omega arith; same = λ k. omega arith }

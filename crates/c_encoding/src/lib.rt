@@ -43,11 +43,7 @@ fn put_numbers(out: &mut [u64], at: usize, w: &[u64])
     requires { at + length w.now ≤ length out.old }
     ensures { out.new ≡ written out.old at w.now }
 {
-    let mut k = 0;
-    while k < w.len() {
-        out[at + k] = w[k];
-        k += 1;
-    }
+    out[at..at + w.len()].copy_from_slice(w);
 }
 
 fn wide(x: u32) -> u64
@@ -60,10 +56,8 @@ fn put_words(out: &mut [u64], at: usize, w: &[u32])
     requires { at + length w.now ≤ length out.old }
     ensures { out.new ≡ written out.old at w.now }
 {
-    let mut k = 0;
-    while k < w.len() {
-        out[at + k] = wide(w[k]);
-        k += 1;
+    for (k, x) in w.iter().enumerate() {
+        out[at + k] = wide(*x);
     }
 }
 

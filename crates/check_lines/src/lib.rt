@@ -95,16 +95,12 @@ fn put_deadline(out: &mut [u8], n: usize, deadline: u64) -> usize
 fn put_message(out: &mut [u8], n: usize, failure: u64, deadline: u64) -> usize
     ensures { Written (quoted (message (failure_of failure deadline))) out.old n out.new result }
 {
-    if failure == 1 {
-        return show::put_quoted(out, n, b"prohibited state reached");
+    match failure {
+        1 => show::put_quoted(out, n, b"prohibited state reached"),
+        2 => show::put_quoted(out, n, b"action guard violated"),
+        3 => show::put_quoted(out, n, b"forbidden transition"),
+        _ => put_deadline(out, n, deadline),
     }
-    if failure == 2 {
-        return show::put_quoted(out, n, b"action guard violated");
-    }
-    if failure == 3 {
-        return show::put_quoted(out, n, b"forbidden transition");
-    }
-    put_deadline(out, n, deadline)
 }
 
 // ---- a violation's line
@@ -205,12 +201,10 @@ pub fn print_violations(
     a: &[u64],
     count: usize,
 ) -> usize {
-    let many = bounds::min_usize(count, a.len() / 8);
+    let many = count.min(a.len() / 8);
     let mut m = n;
-    let mut k: usize = 0;
-    while k < many {
+    for k in 0..many {
         m = print_violated(out, m, form, f, a, k);
-        k += 1;
     }
     m
 }
@@ -243,12 +237,10 @@ pub fn print_reasons(
     a: &[u32],
     count: usize,
 ) -> usize {
-    let many = bounds::min_usize(count, a.len() / 5);
+    let many = count.min(a.len() / 5);
     let mut m = n;
-    let mut i: usize = 0;
-    while i < many {
+    for i in 0..many {
         m = print_reason(out, m, form, word, f, a, i);
-        i += 1;
     }
     m
 }

@@ -12,8 +12,6 @@ use Rattle.areas.specs.Areas.{area, written}
 use Rattle.areas.proofs.Laws as areas
 use Rattle.records.specs.Records.{recorded}
 use Rattle.records.specs.declared.Record.{Record}
-use Rattle.records.specs.declared.Where.{Where}
-use Rattle.records.specs.declared.Where.TheVariants.{From}
 use Rattle.reasons.specs.Kinds as kinds
 use Rattle.reasons.specs.Readable.{AllReadable}
 use Rattle.reasons.specs.Lists.{listed, insert_all, Holds, Grows}
@@ -52,16 +50,6 @@ sized : (b : Broken) → length (broken_m b) ≡ 8
 sized b = refl
 
 -- ---- a violation
-
-module _ {s : Where} {l k : ℕ} (j : ℕ) (e : s ≡ From l k) where
-  pub source_flag : j ≡ 0 → 1 ≡ source_m s j
-  source_flag z = rw (e, eq-eqb j 0 z)
-
-  pub source_line : (j ≡ 0 → ⊥) → j ≡ 1 → l ≡ source_m s j
-  source_line n z = rw (e, ne_eqb j 0 n, eq-eqb j 1 z)
-
-  pub source_column : (j ≡ 0 → ⊥) → (j ≡ 1 → ⊥) → k ≡ source_m s j
-  source_column n z = rw (e, ne_eqb j 0 n, ne_eqb j 1 z)
 
 pub numbers_are : (id : ℕ) (r : Reading) {n d x y z : ℕ} → n ≡ failure_number r.failure →
     d ≡ failure_deadline r.failure →

@@ -1,18 +1,16 @@
 -- Violations as numbers, and what judging one invariant after the other gathers.
-use Rattle.std.specs.Prelude.{ℕ, zero, suc, ◌+◌, ◌≤◌, ◌≡◌, List, [], ◌∷◌, ◌++◌, eqb, length, get_or, if◌then◌else◌}
+use Rattle.std.specs.Prelude.{ℕ, zero, suc, ◌+◌, ◌≤◌, ◌≡◌, Option, Some, None, List, [], ◌∷◌, ◌++◌, eqb, length, get_or, if◌then◌else◌}
 use Rattle.texts.specs.Texts.{Text}
 use Rattle.areas.specs.Areas.{area}
 use Rattle.records.specs.Records.{recorded}
 use Rattle.records.specs.declared.Record.{Record}
-use Rattle.records.specs.declared.Where.{Where}
-use Rattle.records.specs.declared.Where.TheVariants.{Nowhere, From}
+use Rattle.records.specs.declared.Source.{Source}
 use Rattle.reasons.specs.Lists.{insert_all, Holds}
 use Rattle.bounds.specs.Bounds.{at_most}
 use Rattle.engine_fields.specs.Fields.{two, cap}
 use Rattle.engine_state.specs.declared.Cells.{Cells}
 use Rattle.checker_response.specs.declared.Failure.{Failure}
 use Rattle.checker_response.specs.declared.Failure.TheVariants.{
-  NoFailure,
   ProhibitedState,
   GuardViolated,
   ForbiddenTransition,
@@ -26,23 +24,23 @@ use Rattle.checker_collect.specs.declared.Counts.{Counts}
 
 -- ---- violations
 
-abbrev pub failure_number : Failure → ℕ
-failure_number NoFailure = 0
-failure_number ProhibitedState = 1
-failure_number GuardViolated = 2
-failure_number ForbiddenTransition = 3
-failure_number (DeadlineMissed d) = 4
+abbrev pub failure_number : Option Failure → ℕ
+failure_number None = 0
+failure_number (Some ProhibitedState) = 1
+failure_number (Some GuardViolated) = 2
+failure_number (Some ForbiddenTransition) = 3
+failure_number (Some (DeadlineMissed d)) = 4
 
-abbrev pub failure_deadline : Failure → ℕ
-failure_deadline NoFailure = 0
-failure_deadline ProhibitedState = 0
-failure_deadline GuardViolated = 0
-failure_deadline ForbiddenTransition = 0
-failure_deadline (DeadlineMissed d) = d
+abbrev pub failure_deadline : Option Failure → ℕ
+failure_deadline None = 0
+failure_deadline (Some ProhibitedState) = 0
+failure_deadline (Some GuardViolated) = 0
+failure_deadline (Some ForbiddenTransition) = 0
+failure_deadline (Some (DeadlineMissed d)) = d
 
-abbrev pub source_m : Where → ℕ → ℕ
-source_m Nowhere j = 0
-source_m (From l c) j = if eqb j 0 then 1 else if eqb j 1 then l else c
+abbrev pub source_m : Option Source → ℕ → ℕ
+source_m None j = 0
+source_m (Some s) j = if eqb j 0 then 1 else if eqb j 1 then s.line else s.column
 
 -- eight numbers: the identifier's place, second, index, failure, deadline, source
 abbrev pub numbers_m : (id : ℕ) → Reading → List ℕ

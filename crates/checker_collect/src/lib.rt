@@ -18,7 +18,7 @@ use checker_response::Failure;
 use engine_fields::two_at;
 use engine_state::Cells;
 use layout::{Positions, Table};
-use records::Where;
+use records::Source;
 
 // ---- violations, eight numbers each
 
@@ -27,45 +27,38 @@ pub struct Numbers {
     pub list: [u64; 8],
 }
 
-pub fn failure_number(e: Failure) -> u64
+pub fn failure_number(e: Option<Failure>) -> u64
     ensures { result ≡ failure_number e }
 {
     match e {
-        Failure::NoFailure => 0,
-        Failure::ProhibitedState => 1,
-        Failure::GuardViolated => 2,
-        Failure::ForbiddenTransition => 3,
-        Failure::DeadlineMissed(_) => 4,
+        None => 0,
+        Some(Failure::ProhibitedState) => 1,
+        Some(Failure::GuardViolated) => 2,
+        Some(Failure::ForbiddenTransition) => 3,
+        Some(Failure::DeadlineMissed(_)) => 4,
     }
 }
 
-fn failure_deadline(e: Failure) -> u64
+fn failure_deadline(e: Option<Failure>) -> u64
     ensures { result ≡ failure_deadline e }
 {
     match e {
-        Failure::NoFailure => 0,
-        Failure::ProhibitedState => 0,
-        Failure::GuardViolated => 0,
-        Failure::ForbiddenTransition => 0,
-        Failure::DeadlineMissed(d) => d,
+        Some(Failure::DeadlineMissed(d)) => d,
+        _ => 0,
     }
 }
 
 // 1, line and column; or zeros.
-fn source_part(s: Where, j: usize) -> u64
+fn source_part(s: Option<Source>, j: usize) -> u64
     ensures { result ≡ source_m s j }
 {
     match s {
-        Where::Nowhere => 0,
-        Where::From { line, column } => {
-            if j == 0 {
-                return 1;
-            }
-            if j == 1 {
-                return line as u64;
-            }
-            column as u64
-        }
+        None => 0,
+        Some(place) => match j {
+            0 => 1,
+            1 => u64::from(place.line),
+            _ => u64::from(place.column),
+        },
     }
 }
 
@@ -97,11 +90,7 @@ fn put(v: &mut [u64], at: usize, w: &[u64])
     requires { at + length w.now ≤ length v.old }
     ensures { v.new ≡ written v.old at w.now }
 {
-    let mut k = 0;
-    while k < w.len() {
-        v[at + k] = w[k];
-        k += 1;
-    }
+    v[at..at + w.len()].copy_from_slice(w);
 }
 
 // A violation more, if the reading has a failing record; the answer is how many there are then.
@@ -182,10 +171,8 @@ pub fn judge_all(
 {
     let many = bounds::at_most(count, 32);
     let mut t = s;
-    let mut k: usize = 0;
-    while k < many {
+    for k in 0..many {
         t = judge_one(f, x, starts[k], cells, a, n, v, u, w, t);
-        k += 1;
     }
     t
 }

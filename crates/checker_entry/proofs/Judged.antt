@@ -11,8 +11,8 @@ use Rattle.texts.specs.Texts.{Text, sorted_t}
 use Rattle.areas.specs.Areas.{words}
 use Rattle.areas.proofs.Laws as areas
 use Rattle.records.specs.declared.Record.{Record}
-use Rattle.records.specs.declared.Where.{Where}
-use Rattle.records.specs.declared.Where.TheVariants.{Nowhere, From}
+use Rattle.records.specs.declared.Source.{Source}
+use Rattle.std.specs.Prelude.{Option, Some, None}
 use Rattle.reasons.specs.Lists.{insert_all}
 use Rattle.reasons.proofs.Sorting.{merged, either_way}
 use Rattle.model_spec.specs.Model.{Invariant, id_of, Model}
@@ -31,7 +31,6 @@ use Rattle.checker_spec.specs.Check.{Violation, violation_of}
 use Rattle.checker_spec.specs.Judge.{Reading, read_all, unknown_reasons, incomplete_reasons}
 use Rattle.checker_response.specs.declared.Failure.{Failure}
 use Rattle.checker_response.specs.declared.Failure.TheVariants.{
-  NoFailure,
   ProhibitedState,
   GuardViolated,
   ForbiddenTransition,
@@ -75,10 +74,10 @@ sorted_more l a b = merged b (l ++ a) ∙ either_way b (l ++ a) ∙ ap sorted_t 
 
 -- ---- one invariant
 
-source_as : (s : Where) → source_m s 0 ∷ source_m s 1 ∷ source_m s 2 ∷ [] ≡ source_words (where_of s)
+source_as : (s : Option Source) → source_m s 0 ∷ source_m s 1 ∷ source_m s 2 ∷ [] ≡ source_words (where_of s)
 unfolding source_words
-source_as Nowhere = refl
-source_as (From l c) = refl
+source_as None = refl
+source_as (Some s) = refl
 
 module _ (f x : List ℕ) (ts : List Text) (m : Model) (tb : Tabled f x ts m) where
   -- an invariant's identifier is a text of the file
@@ -113,25 +112,25 @@ module _ (f x : List ℕ) (ts : List Text) (m : Model) (tb : Tabled f x ts m) wh
           ∙ ap (λ (k : ℕ). k ∷ r.second ∷ r.index ∷ n ∷ d ∷ source_words (where_of r.source))
           (sym (text_place f x ts m tb id h) ∙ ap (λ (t : Text). place_of t ts) (sym e))
 
-      by : (y : Failure) → r.failure ≡ y →
+      by : (y : Option Failure) → r.failure ≡ y →
           words broken_m (violated_m id r) ≡ words (violation_words ts) (violation_of i (reading_of r).failing)
-      by NoFailure z = rw z
-      by ProhibitedState z = rw z (ap (λ (l : List ℕ). l ++ []) (one 1 0))
-      by GuardViolated z = rw z (ap (λ (l : List ℕ). l ++ []) (one 2 0))
-      by ForbiddenTransition z = rw z (ap (λ (l : List ℕ). l ++ []) (one 3 0))
-      by (DeadlineMissed d) z = rw z (ap (λ (l : List ℕ). l ++ []) (one 4 d))
+      by None z = rw z
+      by (Some ProhibitedState) z = rw z (ap (λ (l : List ℕ). l ++ []) (one 1 0))
+      by (Some GuardViolated) z = rw z (ap (λ (l : List ℕ). l ++ []) (one 2 0))
+      by (Some ForbiddenTransition) z = rw z (ap (λ (l : List ℕ). l ++ []) (one 3 0))
+      by (Some (DeadlineMissed d)) z = rw z (ap (λ (l : List ℕ). l ++ []) (one 4 d))
 
   violation_count : (id : ℕ) (i : Invariant) (r : Read) →
       length (violated_m id r) ≡ length (violation_of i (reading_of r).failing)
   unfolding violated_m failed_m reading_of failing_of violation_of
   violation_count id i r = by r.failure refl
     where
-      by : (y : Failure) → r.failure ≡ y → length (violated_m id r) ≡ length (violation_of i (reading_of r).failing)
-      by NoFailure z = rw z
-      by ProhibitedState z = rw z
-      by GuardViolated z = rw z
-      by ForbiddenTransition z = rw z
-      by (DeadlineMissed d) z = rw z
+      by : (y : Option Failure) → r.failure ≡ y → length (violated_m id r) ≡ length (violation_of i (reading_of r).failing)
+      by None z = rw z
+      by (Some ProhibitedState) z = rw z
+      by (Some GuardViolated) z = rw z
+      by (Some ForbiddenTransition) z = rw z
+      by (Some (DeadlineMissed d)) z = rw z
 
   -- ---- all invariants, over the records l
 

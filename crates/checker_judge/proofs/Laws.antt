@@ -1,5 +1,5 @@
 -- The values after a record; the reading of the records from an index on: its end, a record that fails, one that doesn't.
-use Rattle.std.specs.Prelude.{if◌then◌else◌}
+use Rattle.std.specs.Prelude.{if◌then◌else◌, Option, Some, None}
 use Prim.Native.Nat.{ℕ, zero, suc, ◌+◌, ◌-◌, ◌≤◌, ◌<◌}
 use mathlib.Core.Path.{◌≡◌, refl, sym, ap, ◌∙◌, subst}
 use mathlib.Core.Bool.{Bool, true, false, not, false≢true}
@@ -12,17 +12,13 @@ use lib.ListN.{length, get_or, set, drop, drop_of_length-le}
 use lib.Seq.{drop-cons}
 use Rattle.model_walk.proofs.Found.{Case, is_true, is_false, case}
 use Rattle.records.specs.Records.{recorded, GotChange, Got}
-use Rattle.records.specs.declared.Rule.TheVariants.{NoRule}
-use Rattle.records.specs.declared.Where.TheVariants.{Nowhere}
-use Rattle.records.specs.declared.Change.{Change}
-use Rattle.records.specs.declared.Change.TheVariants.{NoChange, Write}
+use Rattle.records.specs.declared.Write.{Write}
 use Rattle.records.specs.declared.Record.{Record}
 use Rattle.engine_fields.specs.Fields.{cap, entity_of}
 use Rattle.engine_state.specs.Machine.{stored_m}
 use Rattle.engine_state.specs.declared.Cells.{Cells}
 use Rattle.checker_response.specs.declared.Failure.{Failure}
 use Rattle.checker_response.specs.declared.Memory.{Memory}
-use Rattle.checker_response.specs.declared.Wait.{Wait}
 use Rattle.checker_response.specs.declared.Shown.{Shown}
 use Rattle.checker_judge.specs.declared.Reading.{Reading}
 use Rattle.checker_response.specs.Response.{failed_m}
@@ -50,13 +46,14 @@ use Rattle.checker_judge.proofs.Quiet.{unchanged, read_same, read_unchanged, fre
 -- ---- one record
 
 -- the values after a change need only the values before it
-after_values : (x : List ℕ) (d : Change) (c : Cells) → (after_m x d c).values ≡ set_m c.values (entity_m x d) (value_m d)
+after_values : (x : List ℕ) (d : Option Write) (c : Cells) → (after_m x d c).values ≡ set_m c.values (entity_m x d) (value_m d)
 unfolding after_m put_m entity_m value_m set_m
-after_values x NoChange c = refl
-after_values x (Write e b v) c = cases (ltb (entity_of x e) 32)
+after_values x None c = refl
+after_values x (Some d) c = cases (ltb (entity_of x d.entity) 32)
   where
     cases : (y : Bool) →
-        (if y then stored_m c (entity_of x e) v else c).values ≡ (if y then set c.values (entity_of x e) v else c.values)
+        (if y then stored_m c (entity_of x d.entity) d.after else c).values
+        ≡ (if y then set c.values (entity_of x d.entity) d.after else c.values)
     cases true = refl
     cases false = refl
 
@@ -101,7 +98,7 @@ module _ (f x : List ℕ) (at : ℕ) (vs : List ℕ) (m : Memory) where
 -- ---- all records
 
 no_record : Record
-no_record = record { second = 0; kind = 0; detail = 0; number = 0; rule = NoRule; source = Nowhere; change = NoChange }
+no_record = record { second = 0; kind = 0; detail = 0; number = 0; rule = None; source = None; change = None }
 
 -- the reading goes on behind a record that shows nothing new
 reads_over : (f x : List ℕ) (p : ℕ) (c : Cells) (m : Memory) (k : ℕ) (r : Record) (l : List Record)
@@ -187,7 +184,7 @@ module _ (f x : List ℕ) (at : ℕ) (us a : List ℕ) (n p : ℕ) where
         is = λ l g o. let y : length l ≤ k = omega arith in e ∙ sym ((inv cells w l g o).is ∙ rw (drop_of_length-le l y));
       }
 
-      module _ (r : Reading) (after : List ℕ) (h : k < n) (is : Turned f x p vs m a k r after) (b : Bool) (e : Failure)
+      module _ (r : Reading) (after : List ℕ) (h : k < n) (is : Turned f x p vs m a k r after) (b : Bool) (e : Option Failure)
           (told : e ≡ r.failure) (test : b ≡ failed_m e) where
         tests : b ≡ failed_m r.failure
         tests = test ∙ ap failed_m told
@@ -255,7 +252,7 @@ module _ (named : List Bool) (a : List ℕ) (n k : ℕ) where
           let e : j ≡ i = omega (arith, ltb-false i j c) in
           subst (Untouched named a) e (q.untouched y)
 
-  pub skips_none : (wait : Wait) (r : ℕ) → k ≡ r → Skips named wait a n k r
+  pub skips_none : (wait : Option ℕ) (r : ℕ) → k ≡ r → Skips named wait a n k r
   skips_none wait r e = record {
     quiet = none_quiet r e;
     later_ones = λ h. absurd (omega (arith, h, e));
@@ -263,7 +260,7 @@ module _ (named : List Bool) (a : List ℕ) (n k : ℕ) where
   }
 
 -- a record's answer
-pub quiet_is : (named : List Bool) (a : List ℕ) (n k : ℕ) (change : Change) → k < n → GotChange a k change
+pub quiet_is : (named : List Bool) (a : List ℕ) (n k : ℕ) (change : Option Write) → k < n → GotChange a k change
     → {touched yes : Bool} → touched ≡ touches_m named change → yes ≡ not touched → Quiet named a n k yes
 quiet_is named a n k change h got {touched} {yes} e g = record {
   among = λ _. h;

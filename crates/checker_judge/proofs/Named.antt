@@ -1,6 +1,6 @@
 -- The cells of an invariant's names say yes for each entity that its predicates name, and values that agree there are read
 -- alike.
-use Rattle.std.specs.Prelude.{if◌then◌else◌}
+use Rattle.std.specs.Prelude.{if◌then◌else◌, Option, Some, None}
 use Prim.Native.Nat.{ℕ, zero, suc, ◌+◌, ◌-◌, ◌%◌, ◌≤◌, ◌<◌}
 use mathlib.Core.Path.{◌≡◌, refl, sym, ap, ◌∙◌}
 use mathlib.Core.Bool.{Bool, true, false, false≢true}
@@ -11,8 +11,7 @@ use lib.ListN.{length, get_or, set, replicate, length-set, length-replicate}
 use lib.Seq.{get_or-set_same, get_or-set_other}
 use borrow.Author.Tests.{eqb-true, ltb-true}
 use Rattle.model_walk.proofs.Found.{Case, is_true, is_false, case}
-use Rattle.records.specs.declared.Change.{Change}
-use Rattle.records.specs.declared.Change.TheVariants.{NoChange, Write}
+use Rattle.records.specs.declared.Write.{Write}
 use Rattle.engine_fields.specs.Fields.{two, name, entities, entity_from, entity_of}
 use Rattle.engine_state.specs.Machine.{later, stored_m}
 use Rattle.engine_state.specs.declared.Cells.{Cells}
@@ -198,19 +197,20 @@ module _ (x : List ℕ) (l : List Bool) where
       (sym (named_there x e (entities x) 0 k) ∙ ap (name x) (sym q) ∙ named_there x id (entities x) 0 (omega (arith, k, q)))
 
   -- a change of an entity without a cell
-  pub agree_over : (c : Cells) (vs : List ℕ) (d : Change) → touches_m l d ≡ false → Agree x l c.values vs
+  pub agree_over : (c : Cells) (vs : List ℕ) (d : Option Write) → touches_m l d ≡ false → Agree x l c.values vs
       → Agree x l (after_m x d c).values vs
   unfolding after_m put_m touches_m
-  agree_over c vs NoChange h g = g
-  agree_over c vs (Write e b v) h g = by (case (ltb (entity_of x e) 32))
+  agree_over c vs None h g = g
+  agree_over c vs (Some d) h g = by (case (ltb (entity_of x d.entity) 32))
     where
-      by : Case (ltb (entity_of x e) 32) →
-          Agree x l (if ltb (entity_of x e) 32 then stored_m c (entity_of x e) v else c).values vs
+      by : Case (ltb (entity_of x d.entity) 32) →
+          Agree x l (if ltb (entity_of x d.entity) 32 then stored_m c (entity_of x d.entity) d.after else c).values vs
       by (is_false z) = rw z g
       by (is_true z) = rw z (record {
-        long = length-set c.values (entity_of x e) v ∙ g.long;
+        long = length-set c.values (entity_of x d.entity) d.after ∙ g.long;
         same = λ id k.
-            get_or-set_other c.values (entity_of x e) (entity_of x id) v 0 (elsewhere e id h k (ltb-true _ _ z))
+            get_or-set_other c.values (entity_of x d.entity) (entity_of x id) d.after 0
+            (elsewhere d.entity id h k (ltb-true _ _ z))
             ∙ g.same id k;
       })
 

@@ -1,6 +1,6 @@
 -- What a record shows by values that agree, a record that is passed over, and that a record without a change shows nothing
 -- new after one that was read.
-use Rattle.std.specs.Prelude.{if◌then◌else◌}
+use Rattle.std.specs.Prelude.{if◌then◌else◌, Option, Some, None}
 use Prim.Native.Nat.{ℕ, ◌+◌}
 use mathlib.Core.Path.{◌≡◌, refl, sym}
 use mathlib.Core.Bool.{Bool, true, false, ◌||◌, false≢true}
@@ -10,17 +10,15 @@ use lib.ListN.{get_or}
 use borrow.Author.Tests.{ne_eqb}
 use Rattle.texts.proofs.Bool.{and_false, or_again, or_false}
 use Rattle.model_walk.proofs.Found.{Case, is_true, is_false, case}
-use Rattle.records.specs.declared.Change.{Change}
-use Rattle.records.specs.declared.Change.TheVariants.{NoChange, Write}
+use Rattle.records.specs.declared.Write.{Write}
 use Rattle.records.specs.declared.Record.{Record}
 use Rattle.engine_fields.specs.Fields.{two}
 use Rattle.engine_state.specs.Machine.{later}
 use Rattle.engine_evaluate.specs.Evaluate.{evaluate_m, all_m}
 use Rattle.engine_evaluate.specs.declared.Truth.{Truth}
 use Rattle.engine_evaluate.specs.declared.Truth.TheVariants.{Yes, No, Unknown}
-use Rattle.checker_response.specs.declared.Failure.TheVariants.{NoFailure, ProhibitedState}
-use Rattle.checker_response.specs.declared.Wait.{Wait}
-use Rattle.checker_response.specs.declared.Wait.TheVariants.{NoWait, Until}
+use Rattle.checker_response.specs.declared.Failure.{Failure}
+use Rattle.checker_response.specs.declared.Failure.TheVariants.{ProhibitedState}
 use Rattle.checker_response.specs.declared.Memory.{Memory}
 use Rattle.checker_response.specs.declared.Seen.{Seen}
 use Rattle.checker_response.specs.declared.Shown.{Shown}
@@ -77,35 +75,38 @@ unchanged r = record {
   number = r.number;
   rule = r.rule;
   source = r.source;
-  change = NoChange;
+  change = None;
 }
 
 -- ---- a response to which nothing happens
 
-module _ (s : Seen) (now : ℕ) (end : Bool) (m : Memory) (idle : m.wait ≡ NoWait) (held : m.held ≡ yes_m s.cause)
+abbrev no_failure : Option Failure
+no_failure = None
+
+module _ (s : Seen) (now : ℕ) (end : Bool) (m : Memory) (idle : m.wait ≡ None) (held : m.held ≡ yes_m s.cause)
     (known : m.unknown || unknown_m s.cause || unknown_m s.goal ≡ m.unknown) where
-  none_begun : waits_m now s m.held m.wait ≡ NoWait
+  none_begun : waits_m now s m.held m.wait ≡ None
   unfolding waits_m begun_m kept_m overdue_m started_m
   none_begun = rw (idle, held) (by (yes_m s.goal) (yes_m s.cause))
     where
-      by : (goal cause : Bool) → (if goal then NoWait else if cause then NoWait else if cause then Until (now + s.within)
-          else NoWait)
-          ≡ NoWait
+      by : (goal cause : Bool) → (if goal then None else if cause then None else if cause then Some (now + s.within)
+          else None)
+          ≡ None
       by true cause = refl
       by false true = refl
       by false false = refl
 
-  none_failed : failure_m s now end m.wait NoWait ≡ NoFailure
+  none_failed : failure_m s now end m.wait None ≡ None
   unfolding failure_m or_else_m at_end_m missed_m failed_m
   none_failed = rw idle (by end)
     where
-      by : (b : Bool) → (if failed_m (if b then NoFailure else NoFailure) then (if b then NoFailure else NoFailure)
-          else NoFailure)
-          ≡ NoFailure
+      by : (b : Bool) → (if failed_m (if b then no_failure else no_failure) then (if b then no_failure else no_failure)
+          else no_failure)
+          ≡ no_failure
       by true = refl
       by false = refl
 
-  remembered : memory_m s now end m NoWait ≡ m
+  remembered : memory_m s now end m None ≡ m
   unfolding memory_m overdue_m beyond_m
   remembered = rw (known, idle, and_false end, or_false m.unclear, or_false m.beyond, ← held) refl
 
@@ -159,15 +160,17 @@ module _ (f x : List ℕ) (at : ℕ) where
           )
 
   module _ (has : has_m (named_in f at) (two f (at + 3)) ≡ true) where
-    not_written : (d : Change) → touches_m (named_in f at) d ≡ false → writes_m f at d ≡ false
+    not_written : (d : Option Write) → touches_m (named_in f at) d ≡ false → writes_m f at d ≡ false
     unfolding writes_m touches_m
-    not_written NoChange k = refl
-    not_written (Write e b v) k = rw (ne_eqb e (two f (at + 3)) (apart (named_in f at) e (two f (at + 3)) k has))
+    not_written None k = refl
+    not_written (Some d) k =
+        rw (ne_eqb d.entity (two f (at + 3)) (apart (named_in f at) d.entity (two f (at + 3)) k has))
 
-    not_passed : (d : Change) → touches_m (named_in f at) d ≡ false → passes_m f at d ≡ false
+    not_passed : (d : Option Write) → touches_m (named_in f at) d ≡ false → passes_m f at d ≡ false
     unfolding passes_m touches_m
-    not_passed NoChange k = refl
-    not_passed (Write e b v) k = rw (ne_eqb e (two f (at + 3)) (apart (named_in f at) e (two f (at + 3)) k has))
+    not_passed None k = refl
+    not_passed (Some d) k =
+        rw (ne_eqb d.entity (two f (at + 3)) (apart (named_in f at) d.entity (two f (at + 3)) k has))
 
   -- a write of an entity that isn't named is read as no change
   pub read_unchanged : (bs ps : List ℕ) (r : Record) (m : Memory) → touches_m (named_in f at) r.change ≡ false
@@ -178,14 +181,14 @@ module _ (f x : List ℕ) (at : ℕ) where
       by : Kind → read_m f x at bs ps r m ≡ read_m f x at bs ps (unchanged r) m
       by (never a) = rw a
       by (guard a b) =
-          rw (a, b, not_written (guard_has f at a b) r.change h, not_written (guard_has f at a b) NoChange refl)
+          rw (a, b, not_written (guard_has f at a b) r.change h, not_written (guard_has f at a b) None refl)
       by (transition a b c) =
           rw (
             a,
             b,
             c,
             not_passed (transition_has f at a b c) r.change h,
-            not_passed (transition_has f at a b c) NoChange refl,
+            not_passed (transition_has f at a b c) None refl,
           )
       by (response a b c) = rw (a, b, c)
 
@@ -217,9 +220,9 @@ module _ (f x : List ℕ) (at : ℕ) where
       (idle _ h) refl
       (or_twice m.unknown (unknown_m (evaluate_m f x ps 0 (later at 3))) (unknown_m (evaluate_m f x ps 0 (goal_at f at))))
     where
-      idle : (w : Wait) → pending_m w ≡ false → w ≡ NoWait
-      idle NoWait g = refl
-      idle (Until d) g = absurd (false≢true (sym (unfold pending_m in g)))
+      idle : (w : Option ℕ) → pending_m w ≡ false → w ≡ None
+      idle None g = refl
+      idle (Some d) g = absurd (false≢true (sym (unfold pending_m in g)))
 
       or_twice : (a b c : Bool) → (a || b || c) || b || c ≡ a || b || c
       or_twice true b c = refl
@@ -233,7 +236,7 @@ module _ (f x : List ℕ) (at : ℕ) where
   unfolding read_m
   fresh_after bs ps r m h = record { still = λ idle q same. by kind_of idle q same }
     where
-      by : Kind → pending_m (read_m f x at bs ps r m).memory.wait ≡ false → (q : Record) → q.change ≡ NoChange
+      by : Kind → pending_m (read_m f x at bs ps r m).memory.wait ≡ false → (q : Record) → q.change ≡ None
           → read_m f x at ps ps q (read_m f x at bs ps r m).memory ≡ nothing_new (read_m f x at bs ps r m).memory
       by (never a) idle q same = rw a (never_again ps m (rw a at h))
       by (guard a b) idle q same = rw (a, b) (unfold guard_m about_m writes_m in (rw (same, and_false (eqb q.kind 2))))

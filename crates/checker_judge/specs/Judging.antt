@@ -1,10 +1,8 @@
 -- The judging of one invariant, on places: the invariant at a position of the file f, with the table x, over records and
 -- the values by entity number. It goes as checker's Judge does for texts.
-use Rattle.std.specs.Prelude.{ℕ, ◌+◌, ◌≡◌, Bool, true, false, ◌&&◌, ◌||◌, List, [], ◌∷◌, ltb, eqb, length, get_or, set, if◌then◌else◌}
+use Rattle.std.specs.Prelude.{ℕ, ◌+◌, ◌≡◌, Bool, true, false, Option, Some, None, ◌&&◌, ◌||◌, List, [], ◌∷◌, ltb, eqb, length, get_or, set, if◌then◌else◌}
 use Rattle.records.specs.Records.{recorded}
-use Rattle.records.specs.declared.Where.TheVariants.{Nowhere}
-use Rattle.records.specs.declared.Change.{Change}
-use Rattle.records.specs.declared.Change.TheVariants.{NoChange, Write}
+use Rattle.records.specs.declared.Write.{Write}
 use Rattle.records.specs.declared.Record.{Record}
 use Rattle.engine_fields.specs.Fields.{two, four, cap, entity_of}
 use Rattle.engine_state.specs.Machine.{later, stored_m}
@@ -12,12 +10,10 @@ use Rattle.engine_state.specs.declared.Cells.{Cells}
 use Rattle.engine_evaluate.specs.Evaluate.{evaluate_m, size_m, all_m}
 use Rattle.engine_evaluate.specs.declared.Truth.{Truth}
 use Rattle.checker_response.specs.declared.Failure.TheVariants.{
-  NoFailure,
   ProhibitedState,
   GuardViolated,
   ForbiddenTransition,
 }
-use Rattle.checker_response.specs.declared.Wait.TheVariants.{NoWait}
 use Rattle.checker_response.specs.declared.Memory.{Memory}
 use Rattle.checker_response.specs.declared.Shown.{Shown}
 use Rattle.checker_response.specs.declared.Seen.{Seen}
@@ -25,7 +21,7 @@ use Rattle.checker_response.specs.Response.{yes_m, no_m, unknown_m, fails_m, fai
 use Rattle.checker_judge.specs.declared.Reading.{Reading}
 
 abbrev pub nothing_m : Memory
-nothing_m = record { wait = NoWait; held = false; unknown = false; unclear = false; beyond = false }
+nothing_m = record { wait = None; held = false; unknown = false; unclear = false; beyond = false }
 
 -- a predicate is unknown at this record
 unfoldable pub unsure_m : Bool → Memory → Memory
@@ -36,18 +32,18 @@ unsure_m b m = record { wait = m.wait; held = m.held; unknown = m.unknown || b; 
 unfoldable pub put_m : (x : List ℕ) → Cells → (id value : ℕ) → Cells
 put_m x c id v = if ltb (entity_of x id) 32 then stored_m c (entity_of x id) v else c
 
-unfoldable pub after_m : (x : List ℕ) → Change → Cells → Cells
-after_m x NoChange c = c
-after_m x (Write e b v) c = put_m x c e v
+unfoldable pub after_m : (x : List ℕ) → Option Write → Cells → Cells
+after_m x None c = c
+after_m x (Some w) c = put_m x c w.entity w.after
 
 -- the same for the values alone: the entity that a change writes, or 32, and the value
-unfoldable pub entity_m : (x : List ℕ) → Change → ℕ
-entity_m x NoChange = 32
-entity_m x (Write e b v) = entity_of x e
+unfoldable pub entity_m : (x : List ℕ) → Option Write → ℕ
+entity_m x None = 32
+entity_m x (Some w) = entity_of x w.entity
 
-unfoldable pub value_m : Change → ℕ
-value_m NoChange = 0
-value_m (Write e b v) = v
+unfoldable pub value_m : Option Write → ℕ
+value_m None = 0
+value_m (Some w) = w.after
 
 unfoldable pub set_m : List ℕ → (e value : ℕ) → List ℕ
 set_m vs e v = if ltb e 32 then set vs e v else vs
@@ -60,9 +56,9 @@ never_m f x at present m =
     record { failure = fails_m (yes_m t) ProhibitedState; memory = unsure_m (unknown_m t) m }
 
 -- the change sets the guard's entity to its value
-unfoldable pub writes_m : List ℕ → (at : ℕ) → Change → Bool
-writes_m f at NoChange = false
-writes_m f at (Write e b v) = eqb e (two f (at + 3)) && eqb v (two f (at + 5))
+unfoldable pub writes_m : List ℕ → (at : ℕ) → Option Write → Bool
+writes_m f at None = false
+writes_m f at (Some w) = eqb w.entity (two f (at + 3)) && eqb w.after (two f (at + 5))
 
 unfoldable pub about_m : List ℕ → (at : ℕ) → Record → Bool
 about_m f at r = eqb r.kind 2 && writes_m f at r.change
@@ -73,12 +69,12 @@ guarded_m t m = record { failure = fails_m (no_m t) GuardViolated; memory = unsu
 
 unfoldable pub guard_m : (f x : List ℕ) → (at : ℕ) → (before : List ℕ) → Record → Memory → Shown
 guard_m f x at before r m =
-    if about_m f at r then guarded_m (all_m f x before 0 (later at 7)).truth m else record { failure = NoFailure; memory = m }
+    if about_m f at r then guarded_m (all_m f x before 0 (later at 7)).truth m else record { failure = None; memory = m }
 
 -- the change takes the transition's entity from its first value to its second
-unfoldable pub passes_m : List ℕ → (at : ℕ) → Change → Bool
-passes_m f at NoChange = false
-passes_m f at (Write e b v) = eqb e (two f (at + 3)) && eqb b (two f (at + 5)) && eqb v (two f (at + 7))
+unfoldable pub passes_m : List ℕ → (at : ℕ) → Option Write → Bool
+passes_m f at None = false
+passes_m f at (Some w) = eqb w.entity (two f (at + 3)) && eqb w.before (two f (at + 5)) && eqb w.after (two f (at + 7))
 
 unfoldable pub transition_m : List ℕ → (at : ℕ) → Record → Memory → Shown
 transition_m f at r m = record { failure = fails_m (passes_m f at r.change) ForbiddenTransition; memory = m }
@@ -130,7 +126,7 @@ turn_m f x at c m k r =
     turned_m k r present (read_m f x at c.values present.values r m)
 
 abbrev pub unfailed_m : Memory → Reading
-unfailed_m m = record { failure = NoFailure; index = 0; second = 0; source = Nowhere; memory = m }
+unfailed_m m = record { failure = None; index = 0; second = 0; source = None; memory = m }
 
 -- the records from index k on: the first that fails, or none
 unfoldable pub reading_m : (f x : List ℕ) → (at : ℕ) → Cells → Memory → (k : ℕ) → List Record → Reading

@@ -1,15 +1,12 @@
 -- The entities that an invariant names, as 64 cells: an entity's cell is the one at its place's remainder. So a cell may say
 -- yes for an entity that isn't named, but never no for one that is.
-use Rattle.std.specs.Prelude.{ℕ, zero, suc, ◌+◌, ◌%◌, ◌≤◌, ◌<◌, ◌≡◌, Bool, true, false, List, eqb, length, get_or, set, replicate, if◌then◌else◌}
+use Rattle.std.specs.Prelude.{ℕ, zero, suc, ◌+◌, ◌%◌, ◌≤◌, ◌<◌, ◌≡◌, Bool, true, false, Option, Some, None, List, eqb, length, get_or, set, replicate, if◌then◌else◌}
 use Rattle.records.specs.Records.{recorded}
-use Rattle.records.specs.declared.Change.{Change}
-use Rattle.records.specs.declared.Change.TheVariants.{NoChange, Write}
+use Rattle.records.specs.declared.Write.{Write}
 use Rattle.records.specs.declared.Record.{Record}
 use Rattle.engine_fields.specs.Fields.{two}
 use Rattle.engine_state.specs.Machine.{later}
 use Rattle.engine_evaluate.specs.Evaluate.{size_m}
-use Rattle.checker_response.specs.declared.Wait.{Wait}
-use Rattle.checker_response.specs.declared.Wait.TheVariants.{NoWait, Until}
 use Rattle.checker_judge.specs.Judging.{goal_at}
 
 unfoldable pub has_m : List Bool → (id : ℕ) → Bool
@@ -43,13 +40,13 @@ abbrev pub named_in : List ℕ → (at : ℕ) → List Bool
 named_in f at = names_m f at (replicate 64 false)
 
 -- the change writes an entity whose cell says yes
-unfoldable pub touches_m : List Bool → Change → Bool
-touches_m l NoChange = false
-touches_m l (Write e b v) = has_m l e
+unfoldable pub touches_m : List Bool → Option Write → Bool
+touches_m l None = false
+touches_m l (Some w) = has_m l w.entity
 
-unfoldable pub pending_m : Wait → Bool
-pending_m NoWait = false
-pending_m (Until d) = true
+unfoldable pub pending_m : Option ℕ → Bool
+pending_m None = false
+pending_m (Some d) = true
 
 -- the record at k, whatever records the area a holds, writes no entity whose cell says yes
 pub record Untouched (named : List Bool) (a : List ℕ) (k : ℕ) : Type 0 where
@@ -68,7 +65,7 @@ pub record AllQuiet (named : List Bool) (a : List ℕ) (n k r : ℕ) : Type 0 wh
   pub untouched : (j : ℕ) → k ≤ j → j < r → Untouched named a j
 
 -- the records from k up to r can show nothing new: they are quiet, none is the first, and no deadline is awaited
-pub record Skips (named : List Bool) (wait : Wait) (a : List ℕ) (n k r : ℕ) : Type 0 where
+pub record Skips (named : List Bool) (wait : Option ℕ) (a : List ℕ) (n k r : ℕ) : Type 0 where
   pub quiet : AllQuiet named a n k r
   pub later_ones : k < r → 0 < k
   pub idle : k < r → pending_m wait ≡ false

@@ -1,11 +1,10 @@
 -- One record's turn in the code: it keeps the values of the named entities only, and shows what the definition's turn shows.
-use Rattle.std.specs.Prelude.{ℕ, ◌<◌, ◌≡◌, Bool, true, false, List, length, get_or}
+use Rattle.std.specs.Prelude.{ℕ, ◌<◌, ◌≡◌, Bool, true, false, None, List, length, get_or}
 use Rattle.records.specs.Records.{recorded}
-use Rattle.records.specs.declared.Change.TheVariants.{NoChange}
 use Rattle.records.specs.declared.Record.{Record}
 use Rattle.engine_fields.specs.Fields.{entity_of}
 use Rattle.engine_state.specs.declared.Cells.{Cells}
-use Rattle.checker_response.specs.declared.Failure.TheVariants.{NoFailure}
+use Rattle.std.specs.Prelude.{Option, Some}
 use Rattle.checker_response.specs.declared.Memory.{Memory}
 use Rattle.checker_response.specs.declared.Shown.{Shown}
 use Rattle.checker_response.specs.Response.{failed_m}
@@ -20,11 +19,11 @@ pub record Agree (x : List ℕ) (named : List Bool) (vs ws : List ℕ) : Type 0 
 
 -- nothing failed, and nothing is learnt
 abbrev pub nothing_new : Memory → Shown
-nothing_new m = record { failure = NoFailure; memory = m }
+nothing_new m = record { failure = None; memory = m }
 
 -- with these values a record without a change shows nothing new, unless a deadline is awaited
 pub record Fresh (f x : List ℕ) (at : ℕ) (vs : List ℕ) (m : Memory) : Type 0 where
-  pub still : pending_m m.wait ≡ false → (r : Record) → r.change ≡ NoChange → read_m f x at vs vs r m ≡ nothing_new m
+  pub still : pending_m m.wait ≡ false → (r : Record) → r.change ≡ None → read_m f x at vs vs r m ≡ nothing_new m
 
 -- the reading r is that of the definition's turn t, and the values after it agree with the turn's
 pub record Follows (f x : List ℕ) (at : ℕ) (t : Turn) (r : Reading) (after : List ℕ) : Type 0 where

@@ -28,22 +28,22 @@ ghost use Rattle.checker_judge.specs.Names.{with_m, predicate_m, list_m, names_m
 ghost use Rattle.checker_judge.specs.Turns.{Turned};
 
 use checker_response::{
-    Failure, Memory, Seen, Shown, Wait, both, either, failed, fails_if, is_no, is_unknown, is_yes,
+    Failure, Memory, Seen, Shown, both, either, failed, fails_if, is_no, is_unknown, is_yes,
     responded,
 };
 use engine_evaluate::{Truth, evaluate, evaluate_all};
 use engine_fields::{byte_at, four_at, two_at};
 use engine_state::{Cells, after};
 use layout::Table;
-use records::{Change, Record, Where};
+use records::{Record, Source, Write};
 
 // The failing record: its index, its second, its source; without a failure these are 0 and none.
 #[derive(Clone, Copy)]
 pub struct Reading {
-    pub failure: Failure,
+    pub failure: Option<Failure>,
     pub index: usize,
     pub second: u32,
-    pub source: Where,
+    pub source: Option<Source>,
     pub memory: Memory,
 }
 
@@ -59,30 +59,24 @@ fn unsure(b: bool, m: Memory) -> Memory
 // ---- the values after a change
 
 // The entity that a change writes, or 32.
-fn entity_in(x: &Table, change: Change) -> usize
+#[tactic(auto, unfolding(crate::specs::Judging::entity_m))]
+fn entity_in(x: &Table, change: Option<Write>) -> usize
     ensures { result ≡ entity_m x.now change }
 {
     match change {
-        Change::NoChange => 32,
-        Change::Write {
-            entity,
-            before: _,
-            after: _,
-        } => engine_fields::entity_of(x, entity),
+        None => 32,
+        Some(w) => engine_fields::entity_of(x, w.entity),
     }
 }
 
 // The value that it writes, or 0.
-fn value_in(change: Change) -> u32
+#[tactic(auto, unfolding(crate::specs::Judging::value_m))]
+fn value_in(change: Option<Write>) -> u32
     ensures { result ≡ value_m change }
 {
     match change {
-        Change::NoChange => 0,
-        Change::Write {
-            entity: _,
-            before: _,
-            after,
-        } => after,
+        None => 0,
+        Some(w) => w.after,
     }
 }
 
@@ -108,18 +102,15 @@ fn read_never(f: &[u8], x: &Table, at: u32, present: &[u32; 32], m: Memory) -> S
 }
 
 // Whether a change sets the guard's entity to its value.
-fn writes(f: &[u8], at: u32, change: Change) -> bool
+#[tactic(auto, unfolding(crate::specs::Judging::writes_m))]
+fn writes(f: &[u8], at: u32, change: Option<Write>) -> bool
     ensures { result ≡ writes_m f.now at change }
 {
     match change {
-        Change::NoChange => false,
-        Change::Write {
-            entity,
-            before: _,
-            after,
-        } => both(
-            entity == two_at(f, at as usize + 3),
-            after == two_at(f, at as usize + 5),
+        None => false,
+        Some(w) => both(
+            w.entity == two_at(f, at as usize + 3),
+            w.after == two_at(f, at as usize + 5),
         ),
     }
 }
@@ -153,27 +144,24 @@ fn read_guard(f: &[u8], x: &Table, at: u32, before: &[u32; 32], r: Record, m: Me
         return guarded(t, m);
     }
     Shown {
-        failure: Failure::NoFailure,
+        failure: None,
         memory: m,
     }
 }
 
 // Whether a change takes the transition's entity from its first value to its second.
-fn passes(f: &[u8], at: u32, change: Change) -> bool
+#[tactic(auto, unfolding(crate::specs::Judging::passes_m))]
+fn passes(f: &[u8], at: u32, change: Option<Write>) -> bool
     ensures { result ≡ passes_m f.now at change }
 {
     match change {
-        Change::NoChange => false,
-        Change::Write {
-            entity,
-            before,
-            after,
-        } => both(
+        None => false,
+        Some(w) => both(
             both(
-                entity == two_at(f, at as usize + 3),
-                before == two_at(f, at as usize + 5),
+                w.entity == two_at(f, at as usize + 3),
+                w.before == two_at(f, at as usize + 5),
             ),
-            after == two_at(f, at as usize + 7),
+            w.after == two_at(f, at as usize + 7),
         ),
     }
 }
@@ -262,12 +250,11 @@ fn name_predicate(f: &[u8], at: u32, named: &mut [bool; 64])
 fn name_list(f: &[u8], at: u32, named: &mut [bool; 64])
     ensures { named.new ≡ list_m f.now at named.old }
 {
-    let mut left = two_at(f, at as usize);
+    let count = two_at(f, at as usize);
     let mut p = after(at, 2);
-    while 0 < left {
+    for _ in 0..count {
         name_predicate(f, p, named);
         p = after_predicate(f, p);
-        left -= 1;
     }
 }
 
@@ -295,26 +282,21 @@ fn name_all(f: &[u8], at: u32, named: &mut [bool; 64])
 
 // ---- all records
 
-fn touches(named: &[bool; 64], change: Change) -> bool
+#[tactic(auto, unfolding(crate::specs::Names::touches_m, crate::specs::Names::has_m))]
+fn touches(named: &[bool; 64], change: Option<Write>) -> bool
     ensures { result ≡ touches_m named.now change }
 {
     match change {
-        Change::NoChange => false,
-        Change::Write {
-            entity,
-            before: _,
-            after: _,
-        } => named[(entity % 64) as usize],
+        None => false,
+        Some(w) => named[(w.entity % 64) as usize],
     }
 }
 
-fn pending(wait: Wait) -> bool
+#[tactic(auto, unfolding(crate::specs::Names::pending_m))]
+fn pending(wait: Option<u64>) -> bool
     ensures { result ≡ pending_m wait }
 {
-    match wait {
-        Wait::NoWait => false,
-        Wait::Until(_) => true,
-    }
+    wait.is_some()
 }
 
 // Whether there is a record at k, of n, and it writes no named entity.
@@ -329,7 +311,7 @@ fn is_quiet(named: &[bool; 64], a: &[u32], n: usize, k: usize) -> bool
 }
 
 // The next record to be read, from k on: those before it can show nothing new.
-fn next_to_read(named: &[bool; 64], wait: Wait, a: &[u32], n: usize, k: usize) -> usize
+fn next_to_read(named: &[bool; 64], wait: Option<u64>, a: &[u32], n: usize, k: usize) -> usize
     requires { n * 13 ≤ length a.now }
     ensures { Skips named.now wait a.now n k result }
 {
@@ -370,14 +352,12 @@ fn next_turn(
     put(present, e, value);
     let s = read(f, x, at, before, present, r, m);
     put(before, e, value);
-    let failure = s.failure;
-    let memory = s.memory;
     Reading {
-        failure,
+        failure: s.failure,
         index: k,
         second: r.second,
         source,
-        memory,
+        memory: s.memory,
     }
 }
 
@@ -385,7 +365,7 @@ fn nothing_yet() -> Memory
     ensures { result ≡ nothing_m }
 {
     Memory {
-        wait: Wait::NoWait,
+        wait: None,
         held: false,
         unknown: false,
         unclear: false,
@@ -397,10 +377,10 @@ fn unfailed(m: Memory) -> Reading
     ensures { result ≡ unfailed_m m }
 {
     Reading {
-        failure: Failure::NoFailure,
+        failure: None,
         index: 0,
         second: 0,
-        source: Where::Nowhere,
+        source: None,
         memory: m,
     }
 }

@@ -14,8 +14,8 @@ use Rattle.model_spec.specs.Windows.{windowless_invariant}
 use Rattle.model_spec.specs.File.{got, invariant, kinds, u8}
 use Rattle.model_walk.proofs.Found.{Case, is_true, is_false, case, bound, u8_wide}
 use Rattle.model_parts.specs.Stand.{Reads}
-use Rattle.records.specs.declared.Change.{Change}
-use Rattle.records.specs.declared.Change.TheVariants.{NoChange, Write}
+use Rattle.records.specs.declared.Write.{Write}
+use Rattle.std.specs.Prelude.{Option, Some, None}
 use Rattle.records.specs.declared.Record.{Record}
 use Rattle.engine_spec.specs.Cells.{Cell, is_cell, cell_of, overwrite, put}
 use Rattle.engine_spec.proofs.Lists.{none_some, Each}
@@ -32,7 +32,6 @@ use Rattle.checker_response.specs.Response.{failed_m}
 use Rattle.checker_judge.specs.Judging.{nothing_m, put_m, after_m, read_m, turned_m, turn_m, reading_m, judge_m}
 use Rattle.checker_response.specs.declared.Failure.{Failure}
 use Rattle.checker_response.specs.declared.Failure.TheVariants.{
-  NoFailure,
   ProhibitedState,
   GuardViolated,
   ForbiddenTransition,
@@ -93,10 +92,10 @@ module _ (f x : List ℕ) (ts : List Text) (mo : Model) (tb : Tabled f x ts mo) 
   unfolding after record_of after_m
   after_is c ns cs g r p = cases r.change p
     where
-      cases : (d : Change) → Placed ts d → After (after_m x d c)
+      cases : (d : Option Write) → Placed ts d → After (after_m x d c)
           (elim (change_of x ts d) [ none ↦ cs | some w ↦ put w.entity w.after 0 cs ])
-      cases NoChange p = record { versions = ns; are = g }
-      cases (Write e b v) p = put_after c ns cs g e v p.0 p.1.1
+      cases None p = record { versions = ns; are = g }
+      cases (Some d) p = put_after c ns cs g d.entity d.after p.0 p.1.1
 
   -- ---- a record, and those behind it
 
@@ -123,7 +122,7 @@ module _ (f x : List ℕ) (ts : List Text) (mo : Model) (tb : Tabled f x ts mo) 
     unfolding reading_of failing_of failed_m shown_of
     step s ih = cases s.failure
       where
-        cases : (y : Failure) →
+        cases : (y : Option Failure) →
             reading_of (elim (failed_m y) [
               | true ↦ record {
                 failure = y;
@@ -135,11 +134,11 @@ module _ (f x : List ℕ) (ts : List Text) (mo : Model) (tb : Tabled f x ts mo) 
               | false ↦ reading_m f x at c s.memory (k + 1) l
             ])
             ≡ told (record { failure = failure_of y; memory = memory_of s.memory })
-        cases NoFailure = ih
-        cases ProhibitedState = refl
-        cases GuardViolated = refl
-        cases ForbiddenTransition = refl
-        cases (DeadlineMissed d) = refl
+        cases None = ih
+        cases (Some ProhibitedState) = refl
+        cases (Some GuardViolated) = refl
+        cases (Some ForbiddenTransition) = refl
+        cases (Some (DeadlineMissed d)) = refl
 
   module _ (at : ℕ) (i : Invariant) (q : ℕ) (stands : invariant ts f at ≡ got i q) (w : windowless_invariant i ≡ true) where
     reading_is : (l : List Record) → Traced ts l → (k : ℕ) (c : Cells) (m : Memory) (ns : List ℕ) (cs : List Cell) →

@@ -1,5 +1,5 @@
 -- One record, for the invariant that stands at a position: what it shows on places is what Judge says of it.
-use Rattle.std.specs.Prelude.{if◌then◌else◌}
+use Rattle.std.specs.Prelude.{if◌then◌else◌, Option, Some, None}
 use mathlib.Core.Path.{◌≡◌, refl, sym, ap, ◌∙◌, subst}
 use mathlib.Core.Bool.{Bool, true, false, ◌&&◌, false≢true}
 use mathlib.Core.List.{List, [], ◌∷◌}
@@ -29,8 +29,7 @@ use Rattle.model_walk.proofs.Found.{
   place_found,
 }
 use Rattle.model_walk.proofs.Found as found
-use Rattle.records.specs.declared.Change.{Change}
-use Rattle.records.specs.declared.Change.TheVariants.{NoChange, Write}
+use Rattle.records.specs.declared.Write.{Write}
 use Rattle.records.specs.declared.Record.{Record}
 use Rattle.engine_spec.specs.Kleene.{is_yes, is_no, is_unknown}
 use Rattle.engine_spec.specs.Kleene as kleene
@@ -73,7 +72,6 @@ use Rattle.checker_judge.specs.Judging.{
   read_m,
 }
 use Rattle.checker_response.specs.declared.Failure.TheVariants.{
-  NoFailure,
   ProhibitedState,
   GuardViolated,
   ForbiddenTransition,
@@ -96,7 +94,7 @@ never_is t v m e =
     rw (← e, ← yes_is t, ← unknown_is t, fails_is (yes_m t) ProhibitedState judge.prohibited_state refl)
 
 guard_is : (about : Bool) (t : Truth) (v : kleene.Truth) (m : Memory) → truth_of t ≡ v →
-    shown_of (if about then guarded_m t m else record { failure = NoFailure; memory = m })
+    shown_of (if about then guarded_m t m else record { failure = None; memory = m })
     ≡ record {
       failure = fails_if (about && is_no v) judge.guard_violated;
       memory =
@@ -260,22 +258,22 @@ module _ (f x : List ℕ) (ts : List Text) (mo : Model) (tb : Tabled f x ts mo) 
 
   -- ---- the change of a record
 
-  writes_is : (at : ℕ) (c : Change) → Placed ts c → two f (at + 3) < length ts → two f (at + 5) < length ts →
+  writes_is : (at : ℕ) (c : Option Write) → Placed ts c → two f (at + 3) < length ts → two f (at + 5) < length ts →
       writes_m f at c ≡ present_and (writes (T (two f (at + 3))) (T (two f (at + 5)))) (change_of x ts c)
   unfolding writes_m present_and writes
-  writes_is at NoChange h i j = refl
-  writes_is at (Write y u w) h i j = rw (tb.same y (two f (at + 3)) h.0 i, tb.same w (two f (at + 5)) h.1.1 j)
+  writes_is at None h i j = refl
+  writes_is at (Some w) h i j = rw (tb.same w.entity (two f (at + 3)) h.0 i, tb.same w.after (two f (at + 5)) h.1.1 j)
 
-  passes_is : (at : ℕ) (c : Change) → Placed ts c → two f (at + 3) < length ts → two f (at + 5) < length ts →
+  passes_is : (at : ℕ) (c : Option Write) → Placed ts c → two f (at + 3) < length ts → two f (at + 5) < length ts →
       two f (at + 7) < length ts →
       passes_m f at c ≡ present_and (passes (T (two f (at + 3))) (T (two f (at + 5))) (T (two f (at + 7)))) (change_of x ts c)
   unfolding passes_m present_and passes
-  passes_is at NoChange h i j k = refl
-  passes_is at (Write y u z) h i j k =
+  passes_is at None h i j k = refl
+  passes_is at (Some w) h i j k =
       rw (
-        tb.same y (two f (at + 3)) h.0 i,
-        tb.same u (two f (at + 5)) h.1.0 j,
-        tb.same z (two f (at + 7)) h.1.1 k,
+        tb.same w.entity (two f (at + 3)) h.0 i,
+        tb.same w.before (two f (at + 5)) h.1.0 j,
+        tb.same w.after (two f (at + 7)) h.1.1 k,
       )
 
   about_is : (at : ℕ) (r : Record) → Placed ts r.change → two f (at + 3) < length ts → two f (at + 5) < length ts →

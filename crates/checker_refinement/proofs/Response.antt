@@ -14,6 +14,8 @@ use Rattle.engine_evaluate.specs.declared.Truth.TheVariants.{Yes, No, Unknown}
 use Rattle.engine_refinement.specs.Meaning.{truth_of}
 use Rattle.checker_spec.specs.Judge.{fails_if, overdue, missed, waits_after, missed_at_end, beyond, or_else}
 use Rattle.checker_spec.specs.Judge as judge
+use Rattle.std.specs.Prelude as core
+use Rattle.std.specs.Prelude.{Some, None}
 use Rattle.checker_response.specs.Response.{
   yes_m,
   no_m,
@@ -35,14 +37,11 @@ use Rattle.checker_response.specs.Response.{
 }
 use Rattle.checker_response.specs.declared.Failure.{Failure}
 use Rattle.checker_response.specs.declared.Failure.TheVariants.{
-  NoFailure,
   ProhibitedState,
   GuardViolated,
   ForbiddenTransition,
   DeadlineMissed,
 }
-use Rattle.checker_response.specs.declared.Wait.{Wait}
-use Rattle.checker_response.specs.declared.Wait.TheVariants.{NoWait, Until}
 use Rattle.checker_response.specs.declared.Memory.{Memory}
 use Rattle.checker_response.specs.declared.Seen.{Seen}
 use Rattle.checker_refinement.specs.Meaning.{failure_of, wait_of, memory_of, shown_of}
@@ -67,48 +66,48 @@ unknown_is Yes = refl
 unknown_is No = refl
 unknown_is Unknown = refl
 
-pub fails_is : (b : Bool) (e : Failure) (g : judge.Failure) → failure_of e ≡ some g → failure_of (fails_m b e) ≡ fails_if b g
+pub fails_is : (b : Bool) (e : Failure) (g : judge.Failure) → failure_of (Some e) ≡ some g → failure_of (fails_m b e) ≡ fails_if b g
 unfolding fails_m fails_if
 fails_is true e g h = h
 fails_is false e g h = refl
 
-or_else_is : (a b : Failure) → failure_of (or_else_m a b) ≡ or_else (failure_of a) (failure_of b)
+or_else_is : (a b : core.Option Failure) → failure_of (or_else_m a b) ≡ or_else (failure_of a) (failure_of b)
 unfolding or_else_m failed_m or_else
-or_else_is NoFailure b = refl
-or_else_is ProhibitedState b = refl
-or_else_is GuardViolated b = refl
-or_else_is ForbiddenTransition b = refl
-or_else_is (DeadlineMissed d) b = refl
+or_else_is None b = refl
+or_else_is (Some ProhibitedState) b = refl
+or_else_is (Some GuardViolated) b = refl
+or_else_is (Some ForbiddenTransition) b = refl
+or_else_is (Some (DeadlineMissed d)) b = refl
 
 -- ---- deadlines
 
-overdue_is : (now : ℕ) (w : Wait) → overdue_m now w ≡ overdue now (wait_of w)
+overdue_is : (now : ℕ) (w : core.Option ℕ) → overdue_m now w ≡ overdue now (wait_of w)
 unfolding overdue_m overdue present_and
-overdue_is now NoWait = refl
-overdue_is now (Until d) = refl
+overdue_is now None = refl
+overdue_is now (Some d) = refl
 
-beyond_is : (now : ℕ) (w : Wait) → beyond_m now w ≡ beyond now (wait_of w)
+beyond_is : (now : ℕ) (w : core.Option ℕ) → beyond_m now w ≡ beyond now (wait_of w)
 unfolding beyond_m beyond present_and
-beyond_is now NoWait = refl
-beyond_is now (Until d) = refl
+beyond_is now None = refl
+beyond_is now (Some d) = refl
 
-missed_is : (now : ℕ) (g : Truth) (w : Wait) → failure_of (missed_m now g w) ≡ missed now (truth_of g) (wait_of w)
+missed_is : (now : ℕ) (g : Truth) (w : core.Option ℕ) → failure_of (missed_m now g w) ≡ missed now (truth_of g) (wait_of w)
 unfolding missed_m missed
-missed_is now g NoWait = refl
-missed_is now g (Until d) =
+missed_is now g None = refl
+missed_is now g (Some d) =
     fails_is (ltb d now && no_m g) (DeadlineMissed d) _ refl
     ∙ ap (λ (b : Bool). fails_if (ltb d now && b) (judge.deadline_missed d)) (no_is g)
 
-at_end_is : (now : ℕ) (g : Truth) (w : Wait) → failure_of (at_end_m now g w) ≡ missed_at_end now (truth_of g) (wait_of w)
+at_end_is : (now : ℕ) (g : Truth) (w : core.Option ℕ) → failure_of (at_end_m now g w) ≡ missed_at_end now (truth_of g) (wait_of w)
 unfolding at_end_m missed_at_end
-at_end_is now g NoWait = refl
-at_end_is now g (Until d) =
+at_end_is now g None = refl
+at_end_is now g (Some d) =
     fails_is (leb d now && no_m g) (DeadlineMissed d) _ refl
     ∙ ap (λ (b : Bool). fails_if (leb d now && b) (judge.deadline_missed d)) (no_is g)
 
 -- ---- what waits after a record
 
-kept_is : (now : ℕ) (w : Wait) → wait_of (kept_m now w) ≡ (if overdue now (wait_of w) then none else wait_of w)
+kept_is : (now : ℕ) (w : core.Option ℕ) → wait_of (kept_m now w) ≡ (if overdue now (wait_of w) then none else wait_of w)
 unfolding kept_m
 kept_is now w = cases (case (overdue_m now w))
   where
@@ -120,18 +119,18 @@ module _ (now within : ℕ) where
   abbrev begun : kleene.Truth → Bool → Option ℕ → Option ℕ
   begun t held k = if is_yes t && not held && absent k then some (now + within) else k
 
-  begun_is : (t : Truth) (held : Bool) (w : Wait) →
+  begun_is : (t : Truth) (held : Bool) (w : core.Option ℕ) →
       wait_of (begun_m now within t held w) ≡ begun (truth_of t) held (wait_of w)
   unfolding begun_m yes_m started_m is_yes absent
   begun_is Yes true w = refl
-  begun_is Yes false NoWait = refl
-  begun_is Yes false (Until d) = refl
+  begun_is Yes false None = refl
+  begun_is Yes false (Some d) = refl
   begun_is No true w = refl
   begun_is No false w = refl
   begun_is Unknown true w = refl
   begun_is Unknown false w = refl
 
-waits_is : (now : ℕ) (s : Seen) (held : Bool) (w : Wait) →
+waits_is : (now : ℕ) (s : Seen) (held : Bool) (w : core.Option ℕ) →
     wait_of (waits_m now s held w) ≡ waits_after now s.within (truth_of s.cause) (truth_of s.goal) held (wait_of w)
 unfolding waits_m waits_after
 waits_is now s held w = cases (case (yes_m s.goal))
@@ -166,10 +165,10 @@ told w g e within now end m =
     }
 
 module _ (s : Seen) (now : ℕ) (end : Bool) (m : Memory) where
-  new : Wait
+  new : core.Option ℕ
   new = waits_m now s m.held m.wait
 
-  end_is : (b : Bool) → failure_of (if b then at_end_m now s.goal new else NoFailure)
+  end_is : (b : Bool) → failure_of (if b then at_end_m now s.goal new else None)
       ≡ (if b then missed_at_end now (truth_of s.goal) (wait_of new) else none)
   end_is true = at_end_is now s.goal new
   end_is false = refl
@@ -179,7 +178,7 @@ module _ (s : Seen) (now : ℕ) (end : Bool) (m : Memory) where
       (missed now (truth_of s.earlier) (wait_of m.wait))
   unfolding failure_m
   failure_is =
-      or_else_is (if end then at_end_m now s.goal new else NoFailure) (missed_m now s.earlier m.wait)
+      or_else_is (if end then at_end_m now s.goal new else None) (missed_m now s.earlier m.wait)
       ∙ rw (end_is end, missed_is now s.earlier m.wait)
 
   pub responded_is : shown_of (responded_m s now end m)

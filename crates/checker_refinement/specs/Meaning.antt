@@ -2,31 +2,30 @@
 use Rattle.std.specs.Prelude.{ℕ}
 use Rattle.std.proofs.Math.Option.{Option, none, some}
 use Rattle.checker_spec.specs.Judge as judge
+use Rattle.std.specs.Prelude as core
+use Rattle.std.specs.Prelude.{Some, None}
 use Rattle.checker_response.specs.declared.Failure.{Failure}
 use Rattle.checker_response.specs.declared.Failure.TheVariants.{
-  NoFailure,
   ProhibitedState,
   GuardViolated,
   ForbiddenTransition,
   DeadlineMissed,
 }
-use Rattle.checker_response.specs.declared.Wait.{Wait}
-use Rattle.checker_response.specs.declared.Wait.TheVariants.{NoWait, Until}
 use Rattle.checker_response.specs.declared.Memory.{Memory}
 use Rattle.checker_response.specs.declared.Shown.{Shown}
 use Rattle.checker_judge.specs.declared.Reading.{Reading}
 use Rattle.engine_refinement.specs.Meaning.{where_of}
 
-abbrev pub failure_of : Failure → Option judge.Failure
-failure_of NoFailure = none
-failure_of ProhibitedState = some judge.prohibited_state
-failure_of GuardViolated = some judge.guard_violated
-failure_of ForbiddenTransition = some judge.forbidden_transition
-failure_of (DeadlineMissed d) = some (judge.deadline_missed d)
+abbrev pub failure_of : core.Option Failure → Option judge.Failure
+failure_of None = none
+failure_of (Some ProhibitedState) = some judge.prohibited_state
+failure_of (Some GuardViolated) = some judge.guard_violated
+failure_of (Some ForbiddenTransition) = some judge.forbidden_transition
+failure_of (Some (DeadlineMissed d)) = some (judge.deadline_missed d)
 
-abbrev pub wait_of : Wait → Option ℕ
-wait_of NoWait = none
-wait_of (Until d) = some d
+abbrev pub wait_of : core.Option ℕ → Option ℕ
+wait_of None = none
+wait_of (Some d) = some d
 
 unfoldable pub memory_of : Memory → judge.Memory
 memory_of m = record {

@@ -24,28 +24,21 @@ ghost use Rattle.checker_response.specs.Response.{
 
 use engine_evaluate::Truth;
 
-// Why a record fails an invariant, if it does.
+// Why a record fails an invariant.
 #[derive(Clone, Copy)]
 pub enum Failure {
-    NoFailure,
     ProhibitedState,
     GuardViolated,
     ForbiddenTransition,
     DeadlineMissed(u64),
 }
 
-// Whether a response waits, and for which second. A second and `within` are words, so their sum fits.
-#[derive(Clone, Copy)]
-pub enum Wait {
-    NoWait,
-    Until(u64),
-}
-
-// What a reading keeps from record to record: the response's wait; whether its `when` held at the last record; whether a
+// What a reading keeps from record to record: the second for which a response waits, if it does (a second and `within`
+// are words, so their sum fits); whether its `when` held at the last record; whether a
 // predicate was unknown, the goal was unknown when its deadline had passed, a deadline lay beyond the horizon.
 #[derive(Clone, Copy)]
 pub struct Memory {
-    pub wait: Wait,
+    pub wait: Option<u64>,
     pub held: bool,
     pub unknown: bool,
     pub unclear: bool,
@@ -55,7 +48,7 @@ pub struct Memory {
 // What one record shows.
 #[derive(Clone, Copy)]
 pub struct Shown {
-    pub failure: Failure,
+    pub failure: Option<Failure>,
     pub memory: Memory,
 }
 
@@ -70,214 +63,175 @@ pub struct Seen {
 
 // ---- truths, failures
 
+#[tactic(auto, unfolding(crate::specs::Response::yes_m))]
 pub fn is_yes(t: Truth) -> bool
     ensures { result ≡ yes_m t }
 {
-    match t {
-        Truth::Yes => true,
-        Truth::No => false,
-        Truth::Unknown => false,
-    }
+    matches!(t, Truth::Yes)
 }
 
+#[tactic(auto, unfolding(crate::specs::Response::no_m))]
 pub fn is_no(t: Truth) -> bool
     ensures { result ≡ no_m t }
 {
-    match t {
-        Truth::Yes => false,
-        Truth::No => true,
-        Truth::Unknown => false,
-    }
+    matches!(t, Truth::No)
 }
 
+#[tactic(auto, unfolding(crate::specs::Response::unknown_m))]
 pub fn is_unknown(t: Truth) -> bool
     ensures { result ≡ unknown_m t }
 {
-    match t {
-        Truth::Yes => false,
-        Truth::No => false,
-        Truth::Unknown => true,
-    }
+    matches!(t, Truth::Unknown)
 }
 
 pub fn both(a: bool, b: bool) -> bool
     ensures { result ≡ (a && b) }
 {
-    if a {
-        return b;
-    }
-    false
+    a && b
 }
 
 pub fn either(a: bool, b: bool) -> bool
     ensures { result ≡ (a || b) }
 {
-    if a {
-        return true;
-    }
-    b
+    a || b
 }
 
 // The failure, if the test holds.
-pub fn fails_if(b: bool, e: Failure) -> Failure
+#[tactic(auto, unfolding(crate::specs::Response::fails_m))]
+pub fn fails_if(b: bool, e: Failure) -> Option<Failure>
     ensures { result ≡ fails_m b e }
 {
-    if b {
-        return e;
-    }
-    Failure::NoFailure
+    b.then_some(e)
 }
 
-pub fn failed(e: Failure) -> bool
+#[tactic(auto, unfolding(crate::specs::Response::failed_m))]
+pub fn failed(e: Option<Failure>) -> bool
     ensures { result ≡ failed_m e }
 {
-    match e {
-        Failure::NoFailure => false,
-        Failure::ProhibitedState => true,
-        Failure::GuardViolated => true,
-        Failure::ForbiddenTransition => true,
-        Failure::DeadlineMissed(_) => true,
-    }
-}
-
-fn or_else(a: Failure, b: Failure) -> Failure
-    ensures { result ≡ or_else_m a b }
-{
-    if failed(a) {
-        return a;
-    }
-    b
+    e.is_some()
 }
 
 // ---- a response
 
 // Whether the deadline, if there is one, has passed.
-fn overdue(now: u32, w: Wait) -> bool
+#[tactic(auto, unfolding(crate::specs::Response::overdue_m))]
+fn overdue(now: u32, w: Option<u64>) -> bool
     ensures { result ≡ overdue_m now w }
 {
-    match w {
-        Wait::NoWait => false,
-        Wait::Until(d) => d < now as u64,
-    }
+    w.is_some_and(|d| d < u64::from(now))
 }
 
 // A deadline that has passed is missed if the goal did not hold before the record.
-fn missed(now: u32, earlier: Truth, w: Wait) -> Failure
+#[tactic(auto, unfolding(crate::specs::Response::missed_m, crate::specs::Response::fails_m))]
+fn missed(now: u32, earlier: Truth, w: Option<u64>) -> Option<Failure>
     ensures { result ≡ missed_m now earlier w }
 {
-    match w {
-        Wait::NoWait => Failure::NoFailure,
-        Wait::Until(d) => fails_if(
-            both(d < now as u64, is_no(earlier)),
-            Failure::DeadlineMissed(d),
-        ),
-    }
+    let d = w?;
+    fails_if(
+        d < u64::from(now) && is_no(earlier),
+        Failure::DeadlineMissed(d),
+    )
 }
 
 // A deadline that has passed is dropped.
-fn kept(now: u32, w: Wait) -> Wait
+#[tactic(auto, unfolding(crate::specs::Response::kept_m))]
+fn kept(now: u32, w: Option<u64>) -> Option<u64>
     ensures { result ≡ kept_m now w }
 {
     if overdue(now, w) {
-        return Wait::NoWait;
+        return None;
     }
     w
 }
 
-fn started(deadline: u64, w: Wait) -> Wait
+#[tactic(auto, unfolding(crate::specs::Response::started_m))]
+fn started(deadline: u64, w: Option<u64>) -> Option<u64>
     ensures { result ≡ started_m deadline w }
 {
-    match w {
-        Wait::NoWait => Wait::Until(deadline),
-        Wait::Until(d) => Wait::Until(d),
-    }
+    w.or(Some(deadline))
 }
 
 // If `when` rises and nothing waits, a wait begins.
-fn begun(now: u32, within: u32, cause: Truth, held: bool, w: Wait) -> Wait
+#[tactic(auto, unfolding(crate::specs::Response::begun_m))]
+fn begun(now: u32, within: u32, cause: Truth, held: bool, w: Option<u64>) -> Option<u64>
     ensures { result ≡ begun_m now within cause held w }
 {
     if held {
         return w;
     }
     if is_yes(cause) {
-        return started(now as u64 + within as u64, w);
+        return started(u64::from(now) + u64::from(within), w);
     }
     w
 }
 
 // What waits after a record. The goal ends it.
-fn waits_after(now: u32, s: Seen, held: bool, w: Wait) -> Wait
+#[tactic(auto, unfolding(crate::specs::Response::waits_m))]
+fn waits_after(now: u32, s: Seen, held: bool, w: Option<u64>) -> Option<u64>
     ensures { result ≡ waits_m now s held w }
 {
-    let goal = s.goal;
-    let cause = s.cause;
-    if is_yes(goal) {
-        return Wait::NoWait;
+    if is_yes(s.goal) {
+        return None;
     }
-    begun(now, s.within, cause, held, kept(now, w))
+    begun(now, s.within, s.cause, held, kept(now, w))
 }
 
 // At the horizon what still waits is missed, if its deadline is reached.
-fn missed_at_end(now: u32, goal: Truth, w: Wait) -> Failure
+#[tactic(auto, unfolding(crate::specs::Response::at_end_m, crate::specs::Response::fails_m))]
+fn missed_at_end(now: u32, goal: Truth, w: Option<u64>) -> Option<Failure>
     ensures { result ≡ at_end_m now goal w }
 {
-    match w {
-        Wait::NoWait => Failure::NoFailure,
-        Wait::Until(d) => fails_if(
-            both(d <= now as u64, is_no(goal)),
-            Failure::DeadlineMissed(d),
-        ),
-    }
+    let d = w?;
+    fails_if(
+        d <= u64::from(now) && is_no(goal),
+        Failure::DeadlineMissed(d),
+    )
 }
 
-fn is_beyond(now: u32, w: Wait) -> bool
+#[tactic(auto, unfolding(crate::specs::Response::beyond_m))]
+fn is_beyond(now: u32, w: Option<u64>) -> bool
     ensures { result ≡ beyond_m now w }
 {
-    match w {
-        Wait::NoWait => false,
-        Wait::Until(d) => (now as u64) < d,
-    }
+    w.is_some_and(|d| u64::from(now) < d)
 }
 
-fn response_failure(s: Seen, now: u32, end: bool, old: Wait, new: Wait) -> Failure
+#[tactic(auto, unfolding(crate::specs::Response::failure_m, crate::specs::Response::or_else_m, crate::specs::Response::failed_m))]
+fn response_failure(
+    s: Seen,
+    now: u32,
+    end: bool,
+    old: Option<u64>,
+    new: Option<u64>,
+) -> Option<Failure>
     ensures { result ≡ failure_m s now end old new }
 {
-    let goal = s.goal;
-    let earlier = s.earlier;
-    let late = missed(now, earlier, old);
+    let late = missed(now, s.earlier, old);
     if end {
-        return or_else(missed_at_end(now, goal, new), late);
+        return missed_at_end(now, s.goal, new).or(late);
     }
     late
 }
 
-fn response_memory(s: Seen, now: u32, end: bool, m: Memory, new: Wait) -> Memory
+#[tactic(auto, unfolding(crate::specs::Response::memory_m))]
+fn response_memory(s: Seen, now: u32, end: bool, m: Memory, new: Option<u64>) -> Memory
     ensures { result ≡ memory_m s now end m new }
 {
-    let cause = s.cause;
-    let goal = s.goal;
-    let earlier = s.earlier;
-    let old = m.wait;
-    let held = is_yes(cause);
-    let unknown = either(either(m.unknown, is_unknown(cause)), is_unknown(goal));
-    let unclear = either(m.unclear, both(overdue(now, old), is_unknown(earlier)));
-    let beyond = either(m.beyond, both(end, is_beyond(now, new)));
     Memory {
         wait: new,
-        held,
-        unknown,
-        unclear,
-        beyond,
+        held: is_yes(s.cause),
+        unknown: m.unknown || is_unknown(s.cause) || is_unknown(s.goal),
+        unclear: m.unclear || overdue(now, m.wait) && is_unknown(s.earlier),
+        beyond: m.beyond || end && is_beyond(now, new),
     }
 }
 
+#[tactic(auto, unfolding(crate::specs::Response::responded_m))]
 pub fn responded(s: Seen, now: u32, end: bool, m: Memory) -> Shown
     ensures { result ≡ responded_m s now end m }
 {
-    let old = m.wait;
-    let new = waits_after(now, s, m.held, old);
-    let failure = response_failure(s, now, end, old, new);
-    let memory = response_memory(s, now, end, m, new);
-    Shown { failure, memory }
+    let new = waits_after(now, s, m.held, m.wait);
+    Shown {
+        failure: response_failure(s, now, end, m.wait, new),
+        memory: response_memory(s, now, end, m, new),
+    }
 }

@@ -147,7 +147,7 @@ pub fn verdict(
     *violated = none;
     *unknowns = [0u32; layout::VERDICT_REASON_WORDS];
     *incompletes = [0u32; layout::INCOMPLETE_REASON_WORDS];
-    let many = bounds::min_usize(s.unknown, layout::SIMULATION_REASONS);
+    let many = s.unknown.min(layout::SIMULATION_REASONS);
     let unknown = reasons::merge(f, unknowns, 0, told, many);
     let stopped = add_stopped(f, incompletes, s.stop_reason);
     let incomplete = add_waiting(f, incompletes, stopped, s.runs_left);

@@ -33,9 +33,9 @@ fn check_part(
         (result_of result violated.new unknowns.new incompletes.new reasons.new) (length queue.old) (length records.old)
         (length runs.old) }
 {
-    let items = bounds::min_usize(queue.len(), 640);
-    let lines = bounds::min_usize(records.len(), 3328);
-    let rows = bounds::min_usize(runs.len(), 896);
+    let items = queue.len().min(640);
+    let lines = records.len().min(3328);
+    let rows = runs.len().min(896);
     *reasons = *notes;
     checker_entry::check_events(
         file,

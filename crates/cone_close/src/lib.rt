@@ -28,14 +28,12 @@ fn first(writes: [u32; 32], c: ConeSets, count: usize) -> usize
     requires { count ≤ 32 }
     ensures { result ≡ first_m writes c count 0 }
 {
-    let mut i: usize = 0;
-    while i < count {
+    for i in 0..count {
         if adds(writes, c, i) {
             return i;
         }
-        i += 1;
     }
-    i
+    count
 }
 
 // One round.
@@ -62,10 +60,8 @@ pub fn close(writes: [u32; 32], needs: [u32; 32], start: u32, count: usize) -> C
         entities: start,
         automations: 0,
     };
-    let mut n: usize = 0;
-    while n < count {
+    for _ in 0..count {
         c = round(writes, needs, c, count);
-        n += 1;
     }
     c
 }

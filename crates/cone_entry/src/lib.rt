@@ -47,15 +47,13 @@ fn rule_sets(s: &[u8], entities: Section, rules: Section) -> Touched
     let many = entities.count;
     let mut writes = [0u32; 32];
     let mut needs = [0u32; 32];
-    let mut i: usize = 0;
-    while i < n {
+    for i in 0..n {
         let at = rules.starts[i];
         let mut list = [0usize; layout::ACTION_POSITIONS];
         let c = lint_walk::rule_walk(s, at, &mut list);
         let count = c.count;
         writes[i] = lint_access::writes(s, &entities.starts, many, &list, count);
         needs[i] = cone_sets::needs(s, &entities.starts, many, at, &list, count);
-        i += 1;
     }
     Touched { writes, needs }
 }

@@ -26,15 +26,13 @@ fn wanted(u: Undeclared, automations: u32, place: u32) -> bool
     ensures { result ≡ wanted_m u automations place }
 {
     let count = u.count;
-    let mut j: usize = 0;
-    while j < 64 {
+    for j in 0..64 {
         if count <= j {
             return false;
         }
         if read_by(u, automations, place, j) {
             return true;
         }
-        j += 1;
     }
     false
 }
@@ -79,10 +77,8 @@ pub fn names_in(u: Undeclared, automations: u32, texts: u32) -> ConeNames
         count: 0,
         list: [0u32; 64],
     };
-    let mut place: u32 = 0;
-    while place < texts {
+    for place in 0..texts {
         n = with_wanted(u, automations, place, n);
-        place += 1;
     }
     n
 }

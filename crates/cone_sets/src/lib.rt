@@ -40,10 +40,8 @@ pub fn named(s: &[u8], entities: &Positions, many: u32, invariants: Section) -> 
 {
     let count = invariants.count as usize;
     let mut set: u32 = 0;
-    let mut k: usize = 0;
-    while k < count {
+    for k in 0..count {
         set = add_named(s, entities, many, set, invariants.starts[k]);
-        k += 1;
     }
     set
 }
@@ -75,10 +73,8 @@ pub fn needs(
     ensures { result ≡ needs_m s.now (section_by entities.now many) at (walk_by list.now count) }
 {
     let mut set = lint_access::reads(s, entities, many, at, list, count);
-    let mut k: usize = 0;
-    while k < count {
+    for k in 0..count {
         set = add_toggle(s, entities, many, set, list[k]);
-        k += 1;
     }
     set
 }

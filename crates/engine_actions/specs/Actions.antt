@@ -1,14 +1,11 @@
 -- What each kind of action does, over the file f and the table x.
-use Rattle.std.specs.Prelude.{ℕ, ◌+◌, Bool, List, ltb, eqb, get_or, if◌then◌else◌}
+use Rattle.std.specs.Prelude.{ℕ, ◌+◌, Bool, Some, List, ltb, eqb, get_or, if◌then◌else◌}
 use Rattle.layout.specs.Table.{off_word, on_word}
 use Rattle.records.specs.Kinds.{choose_kind, condition_kind, delay_kind, unknown_kind, wait_kind}
 use Rattle.queue.specs.declared.Work.TheVariants.{Timeout}
-use Rattle.records.specs.declared.Rule.TheVariants.{Of}
-use Rattle.records.specs.declared.Where.TheVariants.{From}
 use Rattle.runs.specs.declared.Run.{Run}
 use Rattle.runs.specs.declared.Source.{Source}
 use Rattle.runs.specs.declared.Wait.{Wait}
-use Rattle.runs.specs.declared.Phase.TheVariants.{Waiting}
 use Rattle.bounds.specs.Bounds.{at_most}
 use Rattle.engine_fields.specs.Fields.{two, four, entity_of, about_rule, alone, note_reason}
 use Rattle.engine_evaluate.specs.Evaluate.{number_m, undecided_m, evaluate_m, select_m}
@@ -25,7 +22,7 @@ use Rattle.engine_trigger.specs.Runs.{put_run_m, phase_m, finish_m}
 use Rattle.reasons.specs.Kinds as kinds
 
 unfoldable pub written_m : List ℕ → Run → Source → (entity value : ℕ) → Machine → Machine
-written_m x r s e v m = update_m x (setting e v 2 (Of r.automation) (From s.line s.column)) m
+written_m x r s e v m = update_m x (setting e v 2 (Some r.automation) (Some (record { line = s.line; column = s.column }))) m
 
 unfoldable pub set_m : List ℕ → Run → Source → (entity value : ℕ) → Machine → Machine
 set_m x r s e v m = now_m r (written_m x r s e v m)
@@ -86,7 +83,7 @@ wait t d b s = record { trigger = t; deadline = d; continue_on_timeout = b; sour
 
 unfoldable pub waiting_m : (k : ℕ) → Run → Source → (seconds deadline : ℕ) → Wait → Machine → Machine
 waiting_m k r s n d w m =
-    log_action_m wait_kind n s r (add_m d (Timeout r.automation r.sequence) (put_run_m k (phase_m (Waiting w) r) m))
+    log_action_m wait_kind n s r (add_m d (Timeout r.automation r.sequence) (put_run_m k (phase_m (Some w) r) m))
 
 -- a trigger with a note isn't waited for
 unfoldable pub begin_wait_m : (f : List ℕ) → (k : ℕ) → Run → Source → (at : ℕ) → Machine → Machine

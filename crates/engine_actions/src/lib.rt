@@ -27,8 +27,7 @@ use engine_trigger::{finish, with_phase};
 use engine_update::update;
 use layout::Table;
 use queue::Work;
-use records::{Rule, Where};
-use runs::{Phase, Run, Source, Wait};
+use runs::{Run, Source, Wait};
 
 fn write(
     x: &Table,
@@ -46,17 +45,15 @@ fn write(
     ensures { Moves (written_m x.now run s entity value) st result (by q) (by a) kept still (by values) (by versions)
         kept }
 {
-    let rule = Rule::Of(run.automation);
-    let source = Where::From {
-        line: s.line,
-        column: s.column,
-    };
     let w = Setting {
         entity,
         value,
         kind: records::ACTION,
-        rule,
-        source,
+        rule: Some(run.automation),
+        source: Some(records::Source {
+            line: s.line,
+            column: s.column,
+        }),
     };
     update(x, q, a, values, versions, st, w)
 }
@@ -273,7 +270,7 @@ pub fn begin_wait(
         continue_on_timeout,
         source: s,
     };
-    let waiting = with_phase(run, Phase::Waiting(w));
+    let waiting = with_phase(run, Some(w));
     runs::put_run(r, k, waiting);
     let work = Work::Timeout {
         automation: run.automation,

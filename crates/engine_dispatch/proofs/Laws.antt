@@ -1,7 +1,7 @@
 -- The next action, and the work of an item, by cases.
 use Prim.Native.Nat.{ℕ}
-use mathlib.Core.Path.{◌≡◌, sym, ◌∙◌, ap}
-use mathlib.Core.Bool.{Bool, true, false}
+use mathlib.Core.Path.{◌≡◌, refl, sym, ◌∙◌, ap}
+use mathlib.Core.Bool.{Bool, true, false, not}
 use mathlib.Core.List.{List}
 use borrow.Author.Tests.{eq-eqb, ne_eqb}
 use Rattle.queue.specs.declared.Work.{Work}
@@ -9,7 +9,7 @@ use Rattle.runs.specs.declared.Run.{Run}
 use Rattle.runs.specs.declared.Place.{Place}
 use Rattle.runs.specs.declared.Source.{Source}
 use Rattle.runs.specs.declared.Wait.{Wait}
-use Rattle.runs.specs.declared.Phase.TheVariants.{Going, Waiting}
+use Rattle.std.specs.Prelude.{Option, Some, None, is_some}
 use Rattle.engine_evaluate.specs.Actions.{action_m, top_m, stepped_m}
 use Rattle.engine_evaluate.specs.declared.Effect.{Effect}
 use Rattle.engine_evaluate.specs.declared.Action.{Action}
@@ -43,17 +43,20 @@ on_act f x k r n p a m h ep ea en = rw (ne_eqb r.depth 0 h)
     (ap (λ z. act_m f x k z a.source a.effect m) en
     ∙ ap (λ z. act_next_m f x k r z m) (ea ∙ ap (λ z. action_m f x z.position) ep))
 
-pub going_queued : (r : Run) → r.queued ≡ true → false ≡ going_m r
+-- a queued run doesn't go on, and of another its phase decides
+pub going_queued : (r : Run) → r.queued ≡ true → not r.queued ≡ going_m r
 unfolding going_m
-going_queued r e = rw e
+going_queued r e = rw e refl
 
-pub going_yes : (r : Run) → r.queued ≡ false → r.phase ≡ Going → true ≡ going_m r
+pub going_free : (r : Run) (b : Bool) → r.queued ≡ false → is_some r.phase ≡ not b → b ≡ going_m r
 unfolding going_m going_phase
-going_yes r e g = rw e (sym (ap going_phase g))
-
-pub going_no : (r : Run) (w : Wait) → r.queued ≡ false → r.phase ≡ Waiting w → false ≡ going_m r
-unfolding going_m going_phase
-going_no r w e g = rw e (sym (ap going_phase g))
+going_free r b e g = rw e (by r.phase b g)
+  where
+    by : (p : Option Wait) (b : Bool) → is_some p ≡ not b → b ≡ going_phase p
+    by None true g = refl
+    by None false g = cc
+    by (Some w) true g = cc
+    by (Some w) false g = refl
 
 module _ (f x : List ℕ) (k : ℕ) (r : Run) (b : Bool) (m : Machine) (is : b ≡ going_m r) where
   pub resume_yes : b ≡ true → go_on_m f x k m ≡ resume_run_m f x k r m

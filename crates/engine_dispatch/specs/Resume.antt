@@ -1,13 +1,10 @@
 -- What a run does next: its next action, or its end.
-use Rattle.std.specs.Prelude.{ℕ, Bool, true, false, List, eqb, if◌then◌else◌}
+use Rattle.std.specs.Prelude.{ℕ, Bool, true, false, Option, Some, None, List, eqb, if◌then◌else◌}
 use Rattle.runs.specs.Lists.{place_from}
 use Rattle.runs.specs.Runs.{is_run}
 use Rattle.runs.specs.declared.Run.{Run}
 use Rattle.runs.specs.declared.Source.{Source}
-use Rattle.runs.specs.declared.Phase.{Phase}
-use Rattle.runs.specs.declared.Phase.TheVariants.{Going, Waiting}
-use Rattle.runs.specs.declared.Found.{Found}
-use Rattle.runs.specs.declared.Found.TheVariants.{At, Nothing}
+use Rattle.runs.specs.declared.Wait.{Wait}
 use Rattle.engine_evaluate.specs.Actions.{action_m, top_m, stepped_m}
 use Rattle.engine_evaluate.specs.declared.Effect.{Effect}
 use Rattle.engine_evaluate.specs.declared.Effect.TheVariants as effect
@@ -38,9 +35,9 @@ go_on_run_m f x k r m = if eqb r.depth 0 then finish_m k m else act_next_m f x k
 unfoldable pub go_on_m : (f x : List ℕ) → (k : ℕ) → Machine → Machine
 go_on_m f x k m = go_on_run_m f x k (run_m k m) m
 
-unfoldable pub going_phase : Phase → Bool
-going_phase Going = true
-going_phase (Waiting w) = false
+unfoldable pub going_phase : Option Wait → Bool
+going_phase None = true
+going_phase (Some w) = false
 
 unfoldable pub going_m : Run → Bool
 going_m r = if r.queued then false else going_phase r.phase
@@ -48,9 +45,9 @@ going_m r = if r.queued then false else going_phase r.phase
 unfoldable pub resume_run_m : (f x : List ℕ) → (k : ℕ) → Run → Machine → Machine
 resume_run_m f x k r m = if going_m r then go_on_m f x k m else m
 
-unfoldable pub resume_at_m : (f x : List ℕ) → Found → Machine → Machine
-resume_at_m f x (At k) m = resume_run_m f x k (run_m k m) m
-resume_at_m f x Nothing m = m
+unfoldable pub resume_at_m : (f x : List ℕ) → Option ℕ → Machine → Machine
+resume_at_m f x (Some k) m = resume_run_m f x k (run_m k m) m
+resume_at_m f x None m = m
 
 unfoldable pub resume_m : (f x : List ℕ) → (automation sequence : ℕ) → Machine → Machine
 resume_m f x a n m = resume_at_m f x (place_from (is_run a n) 0 m.runs) m

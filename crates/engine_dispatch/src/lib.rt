@@ -13,7 +13,7 @@ use engine_state::{Move, State};
 use engine_trigger::finish;
 use layout::Table;
 use queue::Work;
-use runs::{Found, Phase, Run, Source};
+use runs::{Run, Source};
 
 fn perform(
     f: &[u8],
@@ -83,14 +83,7 @@ fn go_on(
 fn is_going(run: Run) -> bool
     ensures { result ≡ going_m run }
 {
-    if run.queued {
-        return false;
-    }
-    let phase = run.phase;
-    match phase {
-        Phase::Going => true,
-        Phase::Waiting(_) => false,
-    }
+    !run.queued && run.phase.is_none()
 }
 
 fn resume(
@@ -111,7 +104,7 @@ fn resume(
         (told f.now u.old u.new) (by values) (by versions) kept }
 {
     let found = runs::find_run(r, st.live_runs, automation, sequence);
-    let Found::At(k) = found else {
+    let Some(k) = found else {
         return st;
     };
     let run = runs::run_at(r, k);

@@ -98,7 +98,7 @@ pub fn run_events(
     ensures { Ran file.now (prepared_of table.now cells notes reasons.old) events.now n
         (simulation_of result reasons.new) queue.old queue.new records.old records.new runs.old runs.new }
 {
-    let count = bounds::min_usize(notes, layout::SIMULATION_REASONS);
+    let count = notes.min(layout::SIMULATION_REASONS);
     let s = engine_run::simulated(
         file, table, events, n, cells, count, queue, records, runs, reasons,
     );

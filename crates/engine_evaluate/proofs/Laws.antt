@@ -1,5 +1,5 @@
 -- The definitions by cases.
-use Rattle.std.specs.Prelude.{if◌then◌else◌}
+use Rattle.std.specs.Prelude.{Some, None, if◌then◌else◌}
 use Prim.Native.Nat.{ℕ, suc, ◌+◌, ◌-◌, ◌%◌, ◌≤◌, ◌<◌}
 use mathlib.Core.Path.{◌≡◌, sym, ◌∙◌, ap}
 use mathlib.Core.Bool.{Bool, true, false}
@@ -7,9 +7,7 @@ use mathlib.Core.List.{List}
 use lib.ListN.{get_or}
 use borrow.Author.Tests.{ne_eqb, lt-ltb, le-ltb}
 use native.Mathlib.Omega.{arith}
-use Rattle.model_walk.specs.Walk.{predicate_size, actions_m}
-use Rattle.model_walk.specs.declared.Walked.{Walked}
-use Rattle.model_walk.specs.declared.Walked.TheVariants as walked
+use Rattle.model_walk.specs.Walk.{Walked, predicate_size, actions_m}
 use Rattle.runs.specs.Runs.{place_in}
 use Rattle.runs.specs.declared.Place.{Place}
 use Rattle.engine_fields.specs.Fields.{two, cap, entity_of}
@@ -118,11 +116,11 @@ any_end f m n p h = rw (none_left n h)
 
 -- ---- branches
 
-pub end_to : (w : Walked) (at p n r : ℕ) → w ≡ walked.To p n → r ≡ cap p → r ≡ end_m w at
+pub end_to : (w : Walked) (at p n r : ℕ) → w ≡ Some (p, n) → r ≡ cap p → r ≡ end_m w at
 unfolding end_m
 end_to w at p n r e g = g ∙ sym (ap (λ v. end_m v at) e)
 
-pub end_broken : (w : Walked) (at : ℕ) → w ≡ walked.Broken → at ≡ end_m w at
+pub end_broken : (w : Walked) (at : ℕ) → w ≡ None → at ≡ end_m w at
 unfolding end_m
 end_broken w at e = sym (ap (λ v. end_m v at) e)
 

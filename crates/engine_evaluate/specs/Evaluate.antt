@@ -1,9 +1,7 @@
 -- Predicates, triggers and branches at positions of the file f, with the table x and the entities' values vs, at a second.
-use Rattle.std.specs.Prelude.{ℕ, zero, suc, ◌+◌, Bool, true, false, List, ltb, eqb, get_or, if◌then◌else◌}
+use Rattle.std.specs.Prelude.{Some, None, ℕ, zero, suc, ◌+◌, Bool, true, false, List, ltb, eqb, get_or, if◌then◌else◌}
 use Rattle.layout.specs.Table.{text_count_word, unavailable_word, unknown_word}
-use Rattle.model_walk.specs.Walk.{predicate_size, actions_m}
-use Rattle.model_walk.specs.declared.Walked.{Walked}
-use Rattle.model_walk.specs.declared.Walked.TheVariants as walked
+use Rattle.model_walk.specs.Walk.{Walked, predicate_size, actions_m}
 use Rattle.engine_fields.specs.Fields.{two, cap, entity_of}
 use Rattle.engine_window.specs.Window.{open_m}
 use Rattle.engine_state.specs.Machine.{later}
@@ -81,8 +79,8 @@ any_m f m at = any_from f m (two f at) (later at 2)
 -- ---- branches
 
 unfoldable pub end_m : Walked → (at : ℕ) → ℕ
-end_m (walked.To p n) at = cap p
-end_m walked.Broken at = at
+end_m (Some (p, n)) at = cap p
+end_m None at = at
 
 -- what is done with a branch whose predicates have this verdict
 unfoldable pub judged_m : (f x : List ℕ) → Judged → Branch

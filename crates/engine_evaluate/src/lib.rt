@@ -119,13 +119,12 @@ pub fn predicate_size(f: &[u8], at: u32) -> u32
 pub fn evaluate_all(f: &[u8], x: &Table, values: &[u32; 32], second: u32, at: u32) -> Judged
     ensures { result ≡ all_m f.now x.now values.now second at }
 {
-    let mut left = two_at(f, at as usize);
+    let count = two_at(f, at as usize);
     let mut p = after(at, 2);
     let mut t = Truth::Yes;
-    while 0 < left {
+    for _ in 0..count {
         t = both(t, evaluate(f, x, values, second, p));
         p = after(p, predicate_size(f, p));
-        left -= 1;
     }
     Judged { truth: t, next: p }
 }
@@ -163,14 +162,13 @@ pub fn matches(f: &[u8], at: u32, m: Move) -> bool
 pub fn any_matches(f: &[u8], at: u32, m: Move) -> bool
     ensures { result ≡ any_m f.now m at }
 {
-    let mut left = two_at(f, at as usize);
+    let count = two_at(f, at as usize);
     let mut p = after(at, 2);
-    while 0 < left {
+    for _ in 0..count {
         if matches(f, p, m) {
             return true;
         }
         p = after(p, 16);
-        left -= 1;
     }
     false
 }
@@ -180,8 +178,8 @@ fn end_of(w: Walked, at: u32) -> u32
     ensures { result ≡ end_m w at }
 {
     match w {
-        Walked::To(p, _) => engine_fields::capped(p),
-        Walked::Broken => at,
+        Some((p, _)) => engine_fields::capped(p),
+        None => at,
     }
 }
 
@@ -213,9 +211,9 @@ fn branch_at(f: &[u8], x: &Table, values: &[u32; 32], second: u32, at: u32) -> B
 pub fn select(f: &[u8], x: &Table, values: &[u32; 32], second: u32, at: u32) -> Branch
     ensures { result ≡ select_m f.now x.now values.now second at }
 {
-    let mut left = two_at(f, at as usize);
+    let count = two_at(f, at as usize);
     let mut p = after(at, 2);
-    while 0 < left {
+    for _ in 0..count {
         let b = branch_at(f, x, values, second, p);
         match b {
             Branch::Take(list) => {
@@ -226,7 +224,6 @@ pub fn select(f: &[u8], x: &Table, values: &[u32; 32], second: u32, at: u32) -> 
             }
             Branch::Skip(next) => {
                 p = next;
-                left -= 1;
             }
         }
     }
@@ -256,33 +253,23 @@ pub struct Action {
 fn effect_at(f: &[u8], kind: u32, at: u32) -> Effect
     ensures { result ≡ effect_m f.now kind at }
 {
-    if kind == 0 {
-        return Effect::Set {
+    match kind {
+        0 => Effect::Set {
             entity: two_at(f, at as usize),
             value: two_at(f, at as usize + 2),
-        };
-    }
-    if kind == 1 {
-        return Effect::Toggle {
+        },
+        1 => Effect::Toggle {
             entity: two_at(f, at as usize),
-        };
-    }
-    if kind == 2 {
-        return Effect::Delay {
+        },
+        2 => Effect::Delay {
             seconds: four_at(f, at as usize),
-        };
-    }
-    if kind == 3 {
-        return Effect::Condition { at };
-    }
-    if kind == 4 {
-        return Effect::Choose { at };
-    }
-    if kind == 5 {
-        return Effect::Wait { at };
-    }
-    Effect::Unknown {
-        reason: two_at(f, at as usize),
+        },
+        3 => Effect::Condition { at },
+        4 => Effect::Choose { at },
+        5 => Effect::Wait { at },
+        _ => Effect::Unknown {
+            reason: two_at(f, at as usize),
+        },
     }
 }
 

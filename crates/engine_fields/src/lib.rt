@@ -106,12 +106,10 @@ pub fn entity_of(x: &Table, id: u32) -> usize
     ensures { result ≡ entity_of x.now id }
 {
     let n = bounds::at_most(x[layout::ENTITY_COUNT], 32);
-    let mut e: usize = 0;
-    while e < n {
+    for e in 0..n {
         if name_of(x, e) == id {
             return e;
         }
-        e += 1;
     }
     32
 }

@@ -11,7 +11,7 @@ use Rattle.areas.proofs.Laws as areas
 use Rattle.runs.specs.Runs.{run_words}
 use Rattle.runs.specs.declared.Run.{Run}
 use Rattle.runs.specs.declared.Wait.{Wait}
-use Rattle.runs.specs.declared.Phase.TheVariants.{Going, Waiting}
+use Rattle.std.specs.Prelude.{Some, None}
 use Rattle.runs.proofs.Laws as runs
 use Rattle.engine_fields.specs.Fields.{name, entity_of}
 use Rattle.engine_state.specs.declared.State.{State}
@@ -45,11 +45,11 @@ module _ (k : ℕ) (r : Run) (w : Wait) (m : Machine) where
   unfolding wait_over_m
   over_ends h e = rw (eq-eqb w.deadline m.now h, e)
 
-  pub time_wait : r.phase ≡ Waiting w → wait_over_m k r w m ≡ time_run_m k r m
+  pub time_wait : r.phase ≡ Some w → wait_over_m k r w m ≡ time_run_m k r m
   unfolding time_run_m time_phase_m
   time_wait e = sym (ap (λ p. time_phase_m k r p m) e)
 
-pub time_going : (k : ℕ) (r : Run) (m : Machine) → r.phase ≡ Going → m ≡ time_run_m k r m
+pub time_going : (k : ℕ) (r : Run) (m : Machine) → r.phase ≡ None → m ≡ time_run_m k r m
 unfolding time_run_m time_phase_m
 time_going k r m e = sym (ap (λ p. time_phase_m k r p m) e)
 

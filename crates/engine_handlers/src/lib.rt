@@ -10,8 +10,7 @@ use engine_state::{Move, Setting, State, log_action, next_step};
 use engine_trigger::{finish, with_phase};
 use engine_update::update;
 use layout::Table;
-use records::{Rule, Where};
-use runs::{Found, Phase, Run, Wait};
+use runs::{Run, Wait};
 
 fn wait_over(
     q: &mut [u32],
@@ -31,7 +30,7 @@ fn wait_over(
     let s = w.source;
     if w.continue_on_timeout {
         let s1 = log_action(a, st, records::TIMEOUT, 1, s, run);
-        let going = with_phase(run, Phase::Going);
+        let going = with_phase(run, None);
         runs::put_run(r, k, going);
         return next_step(q, s1, run, s1.now);
     }
@@ -51,12 +50,12 @@ pub fn time_out(
     ensures { Does (time_out_m automation sequence) st result (by q) (by a) (by r) still }
 {
     let found = runs::find_run(r, st.live_runs, automation, sequence);
-    let Found::At(k) = found else {
+    let Some(k) = found else {
         return st;
     };
     let run = runs::run_at(r, k);
     let phase = run.phase;
-    let Phase::Waiting(w) = phase else {
+    let Some(w) = phase else {
         return st;
     };
     wait_over(q, a, r, st, k, run, w)
@@ -82,8 +81,8 @@ fn expire(
         entity,
         value: to,
         kind: records::STALE,
-        rule: Rule::NoRule,
-        source: Where::Nowhere,
+        rule: None,
+        source: None,
     };
     let s1 = engine_state::log_write(a, st, w, m);
     engine_update::changed(q, s1, m)
@@ -144,8 +143,8 @@ pub fn external(
         entity,
         value,
         kind: records::EXTERNAL,
-        rule: Rule::NoRule,
-        source: Where::Nowhere,
+        rule: None,
+        source: None,
     };
     update(x, q, a, values, versions, st, w)
 }

@@ -69,10 +69,8 @@ pub fn events_of(s: &[u8], index: Index) -> Events
     let starts = events.starts;
     let n = bounds::at_most(events.count, 100);
     let mut words = [0u32; layout::EVENT_WORDS];
-    let mut k: usize = 0;
-    while k < n * 4 {
+    for k in 0..n * 4 {
         words[k] = event_word(s, &starts, k);
-        k += 1;
     }
     Events { words }
 }
@@ -105,10 +103,8 @@ pub fn cells_of(s: &[u8], index: Index) -> Cells
     let starts = entities.starts;
     let count = entities.count;
     let mut values = [0u32; 32];
-    let mut e: usize = 0;
-    while e < 32 {
+    for e in 0..32 {
         values[e] = value_word(s, &starts, count, e);
-        e += 1;
     }
     Cells {
         values,

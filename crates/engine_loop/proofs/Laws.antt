@@ -11,8 +11,8 @@ use Rattle.queue.specs.Order.{pop, in_order, left_of}
 use Rattle.queue.specs.Queue.{second_of, taken_of, laid, Took}
 use Rattle.queue.proofs.Order.{order_pop, order_length, told}
 use Rattle.queue.specs.declared.Item.{Item}
-use Rattle.queue.specs.declared.Taken.{Taken}
-use Rattle.queue.specs.declared.Taken.TheVariants.{One, Nothing}
+use Rattle.std.specs.Prelude as core
+use Rattle.std.specs.Prelude.{Some, None}
 use Rattle.engine_state.specs.declared.State.{State}
 use Rattle.engine_state.specs.Machine.{Machine, Content, Entire, entire, machine, put_now}
 use Rattle.engine_state.specs.Steps as steps
@@ -25,7 +25,7 @@ use Rattle.engine_loop.specs.declared.Ended.{Ended}
 
 -- ---- a turn
 
-nothing_of : (l : List Item) → length l ≡ 0 → Nothing ≡ taken_of (pop second_of l)
+nothing_of : (l : List Item) → length l ≡ 0 → None ≡ taken_of (pop second_of l)
 unfolding pop
 nothing_of [] e = refl
 nothing_of (x ∷ l) e = absurd (omega arith)
@@ -37,10 +37,10 @@ left_length l h = by (pop second_of l) (order_pop second_of l)
     by none e = absurd (omega (arith, order_length second_of l, ap length e))
     by (some (y, r)) e = omega (arith, order_length second_of l, ap length e, order_length second_of r)
 
-not_nothing : (l : List Item) → 0 < length l → Nothing ≡ taken_of (pop second_of l) → ⊥
+not_nothing : (l : List Item) → 0 < length l → None ≡ taken_of (pop second_of l) → ⊥
 not_nothing l h = by (pop second_of l) (order_pop second_of l)
   where
-    by : (p : Option (Item × List Item)) → in_order second_of l ≡ told second_of p → Nothing ≡ taken_of p → ⊥
+    by : (p : Option (Item × List Item)) → in_order second_of l ≡ told second_of p → None ≡ taken_of p → ⊥
     by none e g = omega (arith, order_length second_of l, ap length e)
     by (some (y, r)) e g = let z : ◌≡◌ {A = ℕ} 0 1 = cc in omega arith
 
@@ -51,9 +51,9 @@ unfolding turn_m turn_with_m
 turn_empty f x {st} e d = states.knowing (λ c. turn_m f x (machine st c)) d
     (λ _ q a r u c held. ap (λ t. turn_with_m f x t (machine st c)) (nothing_of c.queue (sym held.queue.many ∙ e)))
 
-module _ (st : State) (q b : List ℕ) (t : Taken) (took : Took q st.queue_start st.items b t)
+module _ (st : State) (q b : List ℕ) (t : core.Option Item) (took : Took q st.queue_start st.items b t)
     (same : length b ≡ length q) (h : (st.queue_start + st.items) * 5 ≤ length q) (some : 0 < st.items) where
-  pub taken : (s : State) (i : Item) → t ≡ One i → s ≡ with_turn i.second st → {v n c : List ℕ} →
+  pub taken : (s : State) (i : Item) → t ≡ Some i → s ≡ with_turn i.second st → {v n c : List ℕ} →
       Steps (λ k. took_m i (machine (entire st v n c) k)) (entire st v n c) (entire s v n c) (goes q b) kept kept still
   taken s i _ e {v} {n} {c = l} =
       subst (λ z. Steps (λ c. took_m i (machine (entire st v n l) c)) (entire st v n l) (entire z v n l) (goes q b)
@@ -85,7 +85,7 @@ module _ (st : State) (q b : List ℕ) (t : Taken) (took : Took q st.queue_start
       })
 
   -- a queue with items has a next one
-  pub never : (F : Content → Machine) {a r u f v n c : List ℕ} → t ≡ Nothing → st.records * 13 ≤ length a →
+  pub never : (F : Content → Machine) {a r u f v n c : List ℕ} → t ≡ None → st.records * 13 ≤ length a →
       st.live_runs * 28 ≤ length r → st.reasons * 5 ≤ length u →
       Steps F (entire st v n c) (entire st v n c) (goes q b) (goes a a) (goes r r) (steps.told f u u)
   never F e ha hr hu = record {
@@ -98,8 +98,8 @@ module _ (st : State) (q b : List ℕ) (t : Taken) (took : Took q st.queue_start
         (sym e ∙ took.is c.queue (sym held.queue.many) held.queue.is));
   }
 
-pub with_taken : {st s : Entire} {A R : Lent} {q b : List ℕ} {U : Listing} (F : Taken → Machine → Machine)
-    {b' : List ℕ} {t y : Taken} → Took q st.queue_start st.items b' t → t ≡ y →
+pub with_taken : {st s : Entire} {A R : Lent} {q b : List ℕ} {U : Listing} (F : core.Option Item → Machine → Machine)
+    {b' : List ℕ} {t y : core.Option Item} → Took q st.queue_start st.items b' t → t ≡ y →
     Steps (λ c. F y (machine st c)) st s (goes q b) A R U →
     Steps (λ c. F (taken_of (pop second_of c.queue)) (machine st c)) st s (goes q b) A R U
 with_taken {st} F took e d = states.knowing (λ c. F (taken_of (pop second_of c.queue)) (machine st c)) d

@@ -1,12 +1,10 @@
 -- The loop of a simulation, over the file f and the table x.
-use Rattle.std.specs.Prelude.{ℕ, zero, suc, ◌+◌, ◌-◌, ◌≡◌, true, false, List, eqb, length, get_or, if◌then◌else◌}
+use Rattle.std.specs.Prelude.{ℕ, zero, suc, ◌+◌, ◌-◌, ◌≡◌, true, false, List, Option, Some, None, eqb, length, get_or, if◌then◌else◌}
 use Rattle.layout.specs.Table.{horizon_word, max_steps_word}
 use Rattle.records.specs.Kinds.{horizon_kind}
 use Rattle.queue.specs.Order.{pop, left_of}
 use Rattle.queue.specs.Queue.{second_of, taken_of}
 use Rattle.queue.specs.declared.Item.{Item}
-use Rattle.queue.specs.declared.Taken.{Taken}
-use Rattle.queue.specs.declared.Taken.TheVariants.{One, Nothing}
 use Rattle.engine_state.specs.declared.State.{State}
 use Rattle.engine_state.specs.Machine.{Machine, Content, entire, machine, put_now, put_queue}
 use Rattle.engine_state.specs.Changes.{log_plain_m}
@@ -21,9 +19,9 @@ use Rattle.engine_schedule.specs.Next.{why_m}
 abbrev pub took_m : Item → Machine → Machine
 took_m i m = put_now i.second (put_queue (left_of second_of (pop second_of m.queue)) m)
 
-unfoldable pub turn_with_m : (f x : List ℕ) → Taken → Machine → Machine
-turn_with_m f x (One i) m = process_m f x i.work (took_m i m)
-turn_with_m f x Nothing m = m
+unfoldable pub turn_with_m : (f x : List ℕ) → Option Item → Machine → Machine
+turn_with_m f x (Some i) m = process_m f x i.work (took_m i m)
+turn_with_m f x None m = m
 
 unfoldable pub turn_m : (f x : List ℕ) → Machine → Machine
 turn_m f x m = turn_with_m f x (taken_of (pop second_of m.queue)) m

@@ -8,7 +8,6 @@ ghost use Rattle.engine_state.specs.Machine.{put_now};
 
 use engine_state::{State, log_plain};
 use layout::Table;
-use queue::Taken;
 
 // ---- the loop
 
@@ -32,8 +31,7 @@ fn turn(
     if st.items == 0 {
         return st;
     }
-    let t = queue::take(q, st.queue_start, st.items);
-    let Taken::One(it) = t else {
+    let Some(it) = queue::take(q, st.queue_start, st.items) else {
         return st;
     };
     let work = it.work;

@@ -1,11 +1,10 @@
 -- Runs that begin, and what the modes decide.
-use Rattle.std.specs.Prelude.{ℕ, Bool, true, false, List, ltb, leb, eqb, get_or, replicate, if◌then◌else◌}
+use Rattle.std.specs.Prelude.{ℕ, Bool, true, false, None, List, ltb, leb, eqb, get_or, replicate, if◌then◌else◌}
 use Rattle.layout.specs.Table.{actions_word, max_word, mode_word}
 use Rattle.records.specs.Kinds.{cancel_kind, max_reached_kind, queued_kind, single_running_kind, start_kind}
 use Rattle.runs.specs.Lists.{tally, keep}
 use Rattle.runs.specs.Runs.{run_of, other}
 use Rattle.runs.specs.declared.Run.{Run}
-use Rattle.runs.specs.declared.Phase.TheVariants.{Going}
 use Rattle.engine_fields.specs.Fields.{word}
 use Rattle.engine_evaluate.specs.Actions.{list_m}
 use Rattle.engine_state.specs.Machine.{Machine, more, put_runs}
@@ -32,7 +31,7 @@ new_run f x i later made sequences =
       sequence = get_or sequences i 0;
       number = more made;
       queued = later;
-      phase = Going;
+      phase = None;
       depth = 0;
       places = replicate 17 0;
     }) (word x i actions_word)

@@ -8,7 +8,7 @@ ghost use Rattle.engine_modes.specs.Modes.{new_run, begin_now_m, begin_later_m, 
 use engine_fields::rule_word;
 use engine_state::{State, log_rule, next_step};
 use layout::Table;
-use runs::{Phase, Run};
+use runs::Run;
 
 // A run of the i-th automation, where so many runs were made.
 fn new_run(f: &[u8], x: &Table, sequences: &[u32; 32], made: u32, i: usize, later: bool) -> Run
@@ -22,7 +22,7 @@ fn new_run(f: &[u8], x: &Table, sequences: &[u32; 32], made: u32, i: usize, late
         sequence,
         number,
         queued: later,
-        phase: Phase::Going,
+        phase: None,
         depth: 0,
         places: [0u32; 17],
     };

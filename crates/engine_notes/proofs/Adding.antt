@@ -1,7 +1,6 @@
 -- Texts added one by one while there is place.
 use mathlib.Core.Path.{◌≡◌, refl, ap, ◌∙◌}
 use mathlib.Core.List.{List, [], ◌∷◌, ◌++◌}
-use Prim.Native.Nat.{◌+◌}
 use Rattle.texts.specs.Lists.{each, flat}
 use Rattle.texts.specs.Texts.{Text}
 use Rattle.engine_notes.specs.Listing.{insert_m}

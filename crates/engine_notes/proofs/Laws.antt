@@ -1,5 +1,5 @@
 -- The laws that the proofs of listings cite.
-use Rattle.std.specs.Prelude.{if◌then◌else◌}
+use Rattle.std.specs.Prelude.{Some, None, if◌then◌else◌}
 use mathlib.Core.Path.{◌≡◌, refl, sym, ap, ◌∙◌}
 use mathlib.Core.List.{List}
 use mathlib.Core.Bool.{Bool, true, false}
@@ -12,9 +12,7 @@ use borrow.Author.Tests.{lt-ltb, le-ltb, le-leb, lt-leb, eq-eqb, ne_eqb}
 use Rattle.layout.specs.Sizes.{last_simulation_reason, simulation_reason_words}
 use Rattle.texts.specs.Texts.{Text, insert_t}
 use Rattle.model_spec.specs.File.{Reader, u8, u16}
-use Rattle.model_walk.specs.declared.Num.{Num}
-use Rattle.model_walk.specs.declared.Num.TheVariants as num
-use Rattle.model_walk.specs.Walk.{found, predicate_size}
+use Rattle.model_walk.specs.Walk.{Num, found, predicate_size}
 use Rattle.model_walk.proofs.Laws.{is_got, is_broken}
 use Rattle.reasons.specs.Kinds as kinds
 use Rattle.reasons.specs.declared.Reason.{Reason}
@@ -57,21 +55,21 @@ use Rattle.engine_notes.specs.Listing.{
 
 -- the code's answer x of a number, and its case
 module _ {A : Type 0} (f : List ℕ) (p : ℕ) (r : Reader ℕ) (z : A) (k : ℕ → ℕ → A) {x : Num} (e : found x ≡ r f p) where
-  pub read_is : {v q : ℕ} → x ≡ num.Is v q → read r z k f p ≡ k v q
+  pub read_is : {v q : ℕ} → x ≡ Some (v, q) → read r z k f p ≡ k v q
   unfolding read
   read_is h = rw (is_got e h, read)
 
-  pub read_broken : x ≡ num.Broken → read r z k f p ≡ z
+  pub read_broken : x ≡ None → read r z k f p ≡ z
   unfolding read
   read_broken h = rw (is_broken e h, read)
 
 module _ (f : List ℕ) (p : ℕ) (l : List Text) where
   module _ (r : Reader ℕ) (k : ℕ → Listing) {x : Num} (e : found x ≡ r f p) where
-    pub by_is : {v q : ℕ} → x ≡ num.Is v q → by r k f p l ≡ k v f q l
+    pub by_is : {v q : ℕ} → x ≡ Some (v, q) → by r k f p l ≡ k v f q l
     unfolding by
     by_is h = read_is f p r (after p l) (λ x q. k x f q l) e h
 
-    pub by_broken : x ≡ num.Broken → by r k f p l ≡ after p l
+    pub by_broken : x ≡ None → by r k f p l ≡ after p l
     unfolding by
     by_broken h = read_broken f p r (after p l) (λ x q. k x f q l) e h
 

@@ -1,9 +1,9 @@
 -- Each listing adds the reasons of the part that the reader of `File` finds at its position.
-use Rattle.std.specs.Prelude.{if◌then◌else◌}
+use Rattle.std.specs.Prelude.{Some, if◌then◌else◌}
 use mathlib.Core.Path.{◌≡◌, refl, sym, ap, ◌∙◌}
 use mathlib.Core.List.{List, [], ◌∷◌, ◌++◌, append-nil, append_assoc}
 use mathlib.Core.Option.{Option, none, some}
-use Prim.Native.Nat.{ℕ, zero, suc, ◌+◌, ◌-◌, ◌≤◌, ◌<◌}
+use Prim.Native.Nat.{ℕ, zero, suc, ◌-◌, ◌≤◌, ◌<◌}
 use native.Mathlib.Omega.{arith}
 use native.Mathlib.Decide.{dec_lt}
 use lib.ListN.{length, get_or}
@@ -12,12 +12,11 @@ use borrow.Author.Tests.{lt-ltb, le-ltb, ne_eqb}
 use Rattle.texts.specs.Lists.{listed, each, flat}
 use Rattle.texts.specs.Texts.{Text, text}
 use Rattle.texts.specs.Places.{text_at, start_from}
-use Rattle.model_spec.specs.Model.{Predicate, state, window, Trigger}
+use Rattle.model_spec.specs.Model.{Predicate, state, window}
 use Rattle.model_spec.specs.File.{◌>>=◌ as ◌>>=ᵣ◌}
 use Rattle.model_spec.specs.File.{got, Reader, give, refuse, u8, u16, u32, times, counted, place, predicate, trigger}
 use Rattle.model_spec.specs.Notes.{of_predicate, of_trigger}
 use Rattle.model_walk.specs.Walk.{found, predicate_size}
-use Rattle.model_walk.specs.declared.Num.TheVariants as num
 use Rattle.model_walk.proofs.Found.{
   bound,
   given,
@@ -70,7 +69,7 @@ use Rattle.engine_notes.proofs.Adding.{add_all, add_both, flat_one, flat_each}
 module _ (f : List ℕ) (p : ℕ) (l : List Text) where
   pub by_got : (r : Reader ℕ) (k : ℕ → Listing) {v q : ℕ} → r f p ≡ got v q → by r k f p l ≡ k v f q l
   unfolding found
-  by_got r k {v} {q} e = laws.by_is f p l r k {x = num.Is v q} (sym e) refl
+  by_got r k {v} {q} e = laws.by_is f p l r k {x = Some (v, q)} (sym e) refl
 
   pub next : (k m : Listing) {q : ℕ} {t : List Text} → k f p l ≡ after q t → (k ⨾ m) f p l ≡ m f q t
   unfolding ◌⨾◌

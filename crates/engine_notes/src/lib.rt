@@ -21,7 +21,6 @@ ghost use Rattle.engine_notes.specs.Listing.{
   parts_m,
 };
 
-use model_walk::Num;
 use reasons::Reason;
 
 // How many reasons there are, and the position after what was read.
@@ -104,8 +103,7 @@ fn note_at(f: &[u8], u: &mut [u32], id: u32, at: usize, n: usize) -> Noted
     requires { simulation_reason_words ≤ length u.old }
     ensures { Lists (note_m id) f.now at n u.old result u.new }
 {
-    let x = model_walk::u16_at(f, at);
-    let Num::Is(note, next) = x else {
+    let Some((note, next)) = model_walk::u16_at(f, at) else {
         return Noted { count: n, next: at };
     };
     let k = add_note(f, u, id, note, n);
@@ -124,8 +122,7 @@ pub fn predicate_note(f: &[u8], u: &mut [u32], id: u32, at: usize, n: usize) -> 
     requires { simulation_reason_words ≤ length u.old }
     ensures { Lists (predicate_m id) f.now at n u.old result u.new }
 {
-    let x = model_walk::u8_at(f, at);
-    let Num::Is(kind, p) = x else {
+    let Some((kind, p)) = model_walk::u8_at(f, at) else {
         return Noted { count: n, next: at };
     };
     if kind == 1 {
@@ -153,18 +150,15 @@ pub fn part_notes(f: &[u8], u: &mut [u32], part: Part, id: u32, at: usize, n: us
     requires { simulation_reason_words ≤ length u.old }
     ensures { Lists (parts_m part id) f.now at n u.old result u.new }
 {
-    let x = model_walk::u16_at(f, at);
-    let Num::Is(count, start) = x else {
+    let Some((count, start)) = model_walk::u16_at(f, at) else {
         return Noted { count: n, next: at };
     };
-    let mut left = count;
     let mut p = start;
     let mut k = n;
-    while 0 < left {
+    for _ in 0..count {
         let d = part_note(f, u, part, id, p, k);
         p = d.next;
         k = d.count;
-        left -= 1;
     }
     Noted { count: k, next: p }
 }

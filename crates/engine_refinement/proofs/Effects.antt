@@ -46,8 +46,7 @@ use Rattle.model_spec.specs.File.{
   effect_kinds,
 }
 use Rattle.model_spec.specs.Notes.{of_effect}
-use Rattle.model_walk.specs.Walk.{seen, capped, by, actions_m, choice_m, simple_m}
-use Rattle.model_walk.specs.declared.Walked.{Walked}
+use Rattle.model_walk.specs.Walk.{Walked, seen, capped, by, actions_m, choice_m, simple_m}
 use Rattle.model_walk.proofs.Laws.{bind_got}
 use Rattle.model_walk.proofs.Refines.{marks, sees_actions, sees_effect, sees_flag}
 use Rattle.model_walk.proofs.Found.{bound, given, u8_wide, u16_wide, u32_wide, kind_wide, Kind, kind_found, place_found}

@@ -45,8 +45,7 @@ use Rattle.model_spec.specs.File.{
 }
 use Rattle.model_spec.specs.Validate.{undecided}
 use Rattle.model_spec.specs.Notes.{of_actions}
-use Rattle.model_walk.specs.Walk.{seen, capped, actions_m}
-use Rattle.model_walk.specs.declared.Walked.{Walked}
+use Rattle.model_walk.specs.Walk.{Walked, seen, capped, actions_m}
 use Rattle.model_walk.proofs.Refines.{marks, sees_actions}
 use Rattle.model_walk.proofs.Found.{
   Case,

@@ -1,5 +1,5 @@
 -- A machine that is full stays full, with the same number, whatever it does: one lemma for each function that a proof cites.
-use Rattle.std.specs.Prelude.{if◌then◌else◌}
+use Rattle.std.specs.Prelude.{if◌then◌else◌, Option, Some, None}
 use mathlib.Core.Path.{◌≡◌, sym, ◌∙◌}
 use mathlib.Core.List.{List}
 use mathlib.Core.Bool.{Bool, true, false}
@@ -9,15 +9,11 @@ use lib.Dec.{ltb, eqb}
 use borrow.Author.Tests.{ne_eqb}
 use Rattle.layout.specs.Sizes.{last_simulation_reason}
 use Rattle.queue.specs.declared.Work.{Work}
-use Rattle.records.specs.declared.Rule.{Rule}
-use Rattle.records.specs.declared.Where.{Where}
-use Rattle.records.specs.declared.Change.{Change}
+use Rattle.records.specs.declared.Source.{Source as RecordSource}
+use Rattle.records.specs.declared.Write.{Write}
+use Rattle.runs.specs.declared.Wait.{Wait}
 use Rattle.runs.specs.declared.Run.{Run}
 use Rattle.runs.specs.declared.Source.{Source}
-use Rattle.runs.specs.declared.Phase.{Phase}
-use Rattle.runs.specs.declared.Phase.TheVariants.{Going, Waiting}
-use Rattle.runs.specs.declared.Found.{Found}
-use Rattle.runs.specs.declared.Found.TheVariants.{At, Nothing}
 use Rattle.reasons.specs.Kinds as kinds
 use Rattle.reasons.specs.declared.Reason.{Reason}
 use Rattle.engine_evaluate.specs.Evaluate.{matches_m, any_m}
@@ -86,7 +82,7 @@ module _ (n : ℕ) (z : n ≡ 0 → ⊥) where
   unfolding add_m
   s_add s w m p = rw (not_open m p) p
 
-  pub s_log : (t : Told) (u : Rule) (w : Where) (c : Change) (m : Machine) → S m → S (log_m t u w c m)
+  pub s_log : (t : Told) (u : Option ℕ) (w : Option RecordSource) (c : Option Write) (m : Machine) → S m → S (log_m t u w c m)
   unfolding log_m
   s_log t u w c m p = rw (not_open m p) p
 
@@ -134,9 +130,9 @@ module _ (n : ℕ) (z : n ≡ 0 → ⊥) where
   unfolding release_m
   s_release a m p = cases _
     where
-      cases : (o : Found) → S (release_at_m o m)
-      cases (At k) = unfold release_at_m release_run_m in s_next _ _ _ (record { is = p.is })
-      cases Nothing = unfold release_at_m in p
+      cases : (o : Option ℕ) → S (release_at_m o m)
+      cases (Some k) = unfold release_at_m release_run_m in s_next _ _ _ (record { is = p.is })
+      cases None = unfold release_at_m in p
 
   pub s_finish_run : (k : ℕ) (r : Run) (m : Machine) → S m → S (finish_run_m k r m)
   unfolding finish_run_m out_m
@@ -150,9 +146,9 @@ module _ (n : ℕ) (z : n ≡ 0 → ⊥) where
   unfolding wake_run_m
   s_wake_run f v k r m p = cases _
     where
-      cases : (h : Phase) → S (wake_phase_m f v k r h m)
-      cases Going = unfold wake_phase_m in p
-      cases (Waiting w) = unfold wake_phase_m in s_if (matches_m f v w.trigger) _ _ (s_next _ _ _ (record { is = p.is })) p
+      cases : (h : Option Wait) → S (wake_phase_m f v k r h m)
+      cases None = unfold wake_phase_m in p
+      cases (Some w) = unfold wake_phase_m in s_if (matches_m f v w.trigger) _ _ (s_next _ _ _ (record { is = p.is })) p
 
   pub s_wake_one : (f : List ℕ) (v : Move) (k : ℕ) (m : Machine) → S m → S (wake_one_m f v k m)
   unfolding wake_one_m

@@ -1,11 +1,11 @@
 -- The work of one item: a run goes on, a wait's time is up, a value expires, runs are dropped, a write comes from outside.
 -- `process_is`: the machine does with an item what the definition does.
-use Rattle.std.specs.Prelude.{if◌then◌else◌}
+use Rattle.std.specs.Prelude.{if◌then◌else◌, Option, Some, None}
 use mathlib.Core.Path.{◌≡◌, refl, sym, ap, ◌∙◌, subst}
 use mathlib.Core.List.{List, [], ◌∷◌}
 use mathlib.Core.Bool.{Bool, true, false, not, ◌||◌, ◌&&◌}
 use mathlib.Core.Option.{none, some}
-use Prim.Native.Nat.{ℕ, zero, suc, ◌+◌, ◌-◌, ◌<◌}
+use Prim.Native.Nat.{ℕ, zero, suc, ◌+◌, ◌<◌}
 use native.Mathlib.Omega.{arith}
 use lib.ListN.{length, get_or, set}
 use lib.Dec.{ltb, eqb}
@@ -15,18 +15,13 @@ use Rattle.texts.specs.Texts.{Text, text, eq_t}
 use Rattle.model_spec.specs.Model.{Actions, done, Model}
 use Rattle.queue.specs.declared.Work.{Work as QWork}
 use Rattle.queue.specs.declared.Work.TheVariants as queue
-use Rattle.records.specs.declared.Rule.TheVariants.{NoRule}
-use Rattle.records.specs.declared.Where.TheVariants.{Nowhere}
 use Rattle.runs.specs.Lists.{place_from}
 use Rattle.runs.specs.Runs.{is_run}
 use Rattle.runs.specs.declared.Run.{Run as ARun}
 use Rattle.runs.specs.declared.Source.{Source as ASource}
 use Rattle.runs.specs.declared.Wait.{Wait}
-use Rattle.runs.specs.declared.Phase.{Phase}
-use Rattle.runs.specs.declared.Phase.TheVariants as phase
-use Rattle.runs.specs.declared.Found.TheVariants.{At}
 use Rattle.engine_spec.specs.Cells.{cell_of, put}
-use Rattle.engine_spec.specs.Records.{Run, Work, Kind, Waiting, Engine}
+use Rattle.engine_spec.specs.Records.{Run, Work, Kind, Engine}
 use Rattle.engine_spec.specs.Words.{kind_number, detail_number}
 use Rattle.engine_spec.specs.Changes.{if_some, with_cells, add, adds}
 use Rattle.engine_spec.specs.Engine.{
@@ -224,12 +219,12 @@ module _ (f x : List ℕ) (ts : List Text) (mo : Model) (tb : Tabled f x ts mo) 
             (record { inside = h; automation = refl; sequence = refl; number = refl })))
         by (suc n) z = rw (ne_eqb r.depth 0 (λ o. absurd (omega arith))) (act_is n z)
 
-    resting : (b : Bool) (p : Phase) {B : Type 0} (u v : B) →
+    resting : (b : Bool) (p : Option Wait) {B : Type 0} (u v : B) →
         (if b || not (absent (waiting_of x ts f p)) then u else v) ≡ (if (if b then false else going_phase p) then v else u)
     unfolding absent going_phase
     resting true p u v = refl
-    resting false phase.Going u v = refl
-    resting false (phase.Waiting w) u v = refl
+    resting false None u v = refl
+    resting false (Some w) u v = refl
 
     step_is : S now room (resume_run_m f x k r m) (step now (R r) e)
     unfolding resume_run_m step going_m meant_run
@@ -255,18 +250,18 @@ module _ (f x : List ℕ) (ts : List Text) (mo : Model) (tb : Tabled f x ts mo) 
         log_action_is f x ts mo tb less 17 (if c then 1 else 0) w.source r
         (Kind.timeout c) (timing c) g.rule
 
-    calm : R (phase_m phase.Going r) ≡ waits none (R r)
+    calm : R (phase_m None r) ≡ waits none (R r)
     unfolding meant_run
     calm = refl
 
     -- the run goes on after its wait
     let_on : (n : Machine) (d : Engine) → n.runs ≡ m.runs → n.sequences ≡ m.sequences → L now room n d →
-        S now room (now_m r (put_run_m k (phase_m phase.Going r) n)) (add (next_step now (R r)) (store (waits none (R r)) d))
+        S now room (now_m r (put_run_m k (phase_m None r) n)) (add (next_step now (R r)) (store (waits none (R r)) d))
     let_on n d q p y =
         let o = still_here {m = m} {n = n} (record { inside = h; is = refl }) q in
         now_is f x ts mo tb
-        (subst (λ (u : Run). L now room (put_run_m k (phase_m phase.Going r) n) (store u d)) calm
-        (store_is f x ts mo tb y k o.inside (phase_m phase.Going r)
+        (subst (λ (u : Run). L now room (put_run_m k (phase_m None r) n) (store u d)) calm
+        (store_is f x ts mo tb y k o.inside (phase_m None r)
         (rw p (record { rule = g.rule; old = g.old; places = g.places; phase = tt }))
         (ap (λ (u : ARun). u.automation) o.is) (ap (λ (u : ARun). u.sequence) o.is))) r
         g.rule
@@ -277,7 +272,7 @@ module _ (f x : List ℕ) (ts : List Text) (mo : Model) (tb : Tabled f x ts mo) 
         (log_action now (Kind.timeout true) (source_of w.source) (R r) e)))
     unfolding over_on_m
     over_on_is w =
-        follow f x ts mo tb (λ (n : Machine). now_m r (put_run_m k (phase_m phase.Going r) n))
+        follow f x ts mo tb (λ (n : Machine). now_m r (put_run_m k (phase_m None r) n))
         (λ (d : Engine). add (next_step now (R r)) (store (waits none (R r)) d)) (told_time w true)
         (λ y. let_on _ _ (action_runs 17 1 w.source r m) (action_sequences 17 1 w.source r m) y)
         (λ n z p. s_next n z r _ _ (record { is = p.is }))
@@ -311,10 +306,10 @@ module _ (f x : List ℕ) (ts : List Text) (mo : Model) (tb : Tabled f x ts mo) 
         by true false = over_end_is w
         by false b = live less
 
-    timed : (p : Phase) → S now room (time_phase_m k r p m) (if_some (λ w. wait_over now w (R r)) (waiting_of x ts f p) e)
+    timed : (p : Option Wait) → S now room (time_phase_m k r p m) (if_some (λ w. wait_over now w (R r)) (waiting_of x ts f p) e)
     unfolding time_phase_m if_some
-    timed phase.Going = live less
-    timed (phase.Waiting w) = over_is w
+    timed None = live less
+    timed (Some w) = over_is w
 
     time_is : S now room (time_run_m k r m) (end_wait now (R r) e)
     unfolding time_run_m end_wait meant_run
@@ -338,7 +333,7 @@ module _ (f x : List ℕ) (ts : List Text) (mo : Model) (tb : Tabled f x ts mo) 
             let z : 0 + k ≡ k = omega arith in
             let y : find (same_run (key_of x ts a n)) e.runs ≡ some (R (get_or m.runs k no_run)) =
             ap (find (same_run (key_of x ts a n))) l.runs.is ∙ q in
-            rw (p ∙ ap At z, y, run_is f x ts mo tb l k o) (step_is l k o)
+            rw (p ∙ ap Some z, y, run_is f x ts mo tb l k o) (step_is l k o)
         by (lists.nowhere p q) =
             let y : find (same_run (key_of x ts a n)) e.runs ≡ none =
             ap (find (same_run (key_of x ts a n))) l.runs.is ∙ q in
@@ -355,7 +350,7 @@ module _ (f x : List ℕ) (ts : List Text) (mo : Model) (tb : Tabled f x ts mo) 
             let z : 0 + k ≡ k = omega arith in
             let y : find (same_run (key_of x ts a n)) e.runs ≡ some (R (get_or m.runs k no_run)) =
             ap (find (same_run (key_of x ts a n))) l.runs.is ∙ q in
-            rw (p ∙ ap At z, y, run_is f x ts mo tb l k o) (time_is l k o)
+            rw (p ∙ ap Some z, y, run_is f x ts mo tb l k o) (time_is l k o)
         by (lists.nowhere p q) =
             let y : find (same_run (key_of x ts a n)) e.runs ≡ none =
             ap (find (same_run (key_of x ts a n))) l.runs.is ∙ q in
@@ -412,7 +407,7 @@ module _ (f x : List ℕ) (ts : List Text) (mo : Model) (tb : Tabled f x ts mo) 
           follow f x ts mo tb (changed_m mv) (adds (change_of now X (T old) (T gone)))
           (log_write_is f x ts mo tb (cells_are f x ts mo tb l (stored_m (cells m) j gone) (put X (T gone) 0 e.cells)
           celled
-          l.low) (setting (name x j) gone 3 NoRule Nowhere) mv Kind.stale staling tt moved)
+          l.low) (setting (name x j) gone 3 None None) mv Kind.stale staling tt moved)
           (λ y. changed_is f x ts mo tb y mv moved)
           (λ n z p. s_changed n z mv _ p)
           (λ n o. c_adds (Over n) (overflow_stays n) (change_of now X (T old) (T gone)) _ o)
@@ -485,7 +480,7 @@ module _ (f x : List ℕ) (ts : List Text) (mo : Model) (tb : Tabled f x ts mo) 
       GoodWork f x ts mo w → S now room (process_m f x w m) (process now mo.rules (work_of x ts w) e)
   unfolding process_m process work_of external_m
   process_is l (queue.Set a v) h =
-      update_is f x ts mo tb (weaker f x ts mo tb (omega arith) l) (setting a v 1 NoRule Nowhere) h.0.0
+      update_is f x ts mo tb (weaker f x ts mo tb (omega arith) l) (setting a v 1 None None) h.0.0
       h.0.1.0 h.0.1.1 h.1.1 Kind.external outside tt
   process_is l queue.Restart h = drop_is (weaker f x ts mo tb (omega arith) l)
   process_is l queue.Reload h = drop_is (weaker f x ts mo tb (omega arith) l)

@@ -1,6 +1,6 @@
 -- Lists by place and lists by test: where one element passes a test, what is done at its place is what is done by the test.
 -- `g` maps the machine's entries to the definition's.
-use Rattle.std.specs.Prelude.{if◌then◌else◌}
+use Rattle.std.specs.Prelude.{if◌then◌else◌, Option, Some, None}
 use mathlib.Core.Path.{◌≡◌, refl, ap, ◌∙◌}
 use mathlib.Core.Bool.{Bool, true, false, cond, not}
 use mathlib.Core.List.{List, [], ◌∷◌, ◌++◌}
@@ -11,8 +11,6 @@ use lib.ListN.{length, get_or, take, drop, set}
 use Rattle.texts.specs.Lists.{find, keep, tally, each}
 use Rattle.runs.specs.Lists.{place_from}
 use Rattle.runs.specs.Lists as places
-use Rattle.runs.specs.declared.Found.{Found}
-use Rattle.runs.specs.declared.Found.TheVariants.{At, Nothing}
 use Rattle.engine_spec.proofs.Lists.{Case, is_true, is_false, case, Each}
 
 module _ {A B : Type 0} (g : A → B) where
@@ -50,10 +48,10 @@ module _ {A B : Type 0} (g : A → B) where
     abbrev pub Agree : List A → Type 0
     Agree l = Each (λ (a : A). q (g a) ≡ p a) l
 
-    pub data Sought (d : A) (l : List A) (f : Found) (i : ℕ) : Type 0 where
-      here : (k : ℕ) → f ≡ At (i + k) → k < length l → find q (each g l) ≡ some (g (get_or l k d)) →
+    pub data Sought (d : A) (l : List A) (f : Option ℕ) (i : ℕ) : Type 0 where
+      here : (k : ℕ) → f ≡ Some (i + k) → k < length l → find q (each g l) ≡ some (g (get_or l k d)) →
           p (get_or l k d) ≡ true → Sought d l f i
-      nowhere : f ≡ Nothing → find q (each g l) ≡ none → Sought d l f i
+      nowhere : f ≡ None → find q (each g l) ≡ none → Sought d l f i
 
     pub sought : (d : A) (l : List A) (i : ℕ) → Agree l → Sought d l (place_from p i l) i
     unfolding place_from find each
@@ -61,8 +59,8 @@ module _ {A B : Type 0} (g : A → B) where
     sought d (y ∷ l) i h = cases (case (p y)) (sought d l (suc i) h.1)
       where
         cases : Case (p y) → Sought d l (place_from p (suc i) l) (suc i) → Sought d (y ∷ l) (place_from p i (y ∷ l)) i
-        cases (is_true b) r = here 0 (rw b (ap At (omega arith))) (omega arith) (rw (h.0 ∙ b)) b
-        cases (is_false b) (here k e o f t) = here (suc k) (rw b (e ∙ ap At (omega arith))) (omega arith) (rw (h.0 ∙ b) f) t
+        cases (is_true b) r = here 0 (rw b (ap Some (omega arith))) (omega arith) (rw (h.0 ∙ b)) b
+        cases (is_false b) (here k e o f t) = here (suc k) (rw b (e ∙ ap Some (omega arith))) (omega arith) (rw (h.0 ∙ b) f) t
         cases (is_false b) (nowhere e f) = nowhere (rw b e) (rw (h.0 ∙ b) f)
 
     pub kept : (l : List A) → Agree l → keep q (each g l) ≡ each g (places.keep p l)

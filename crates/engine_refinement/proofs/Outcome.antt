@@ -22,7 +22,6 @@ use Rattle.engine_spec.specs.Reasons.{runs_left}
 use Rattle.engine_spec.specs.Engine.{Ended, left_over}
 use Rattle.engine_spec.specs.Simulate.{Simulation, ended, outcome, unless_full, simulated}
 use Rattle.engine_spec.proofs.Lists.{Each}
-use Rattle.engine_fields.specs.Fields.{name, entities}
 use Rattle.engine_state.specs.Machine.{Machine}
 use Rattle.engine_schedule.specs.Events.{event_m, begun_m}
 use Rattle.engine_loop.specs.Loop.{Halt, loop_m, closed_m}

@@ -1,11 +1,11 @@
 -- A run's next action: each of the seven effects does what the definition says.
 -- `Here k r m`: the run at k is r.
-use Rattle.std.specs.Prelude.{if◌then◌else◌}
+use Rattle.std.specs.Prelude.{if◌then◌else◌, Some, Option as Maybe}
 use mathlib.Core.Path.{◌≡◌, refl, sym, ap, ◌∙◌, subst}
 use mathlib.Core.List.{List, [], ◌∷◌}
 use mathlib.Core.Bool.{Bool, true, false}
 use mathlib.Core.Option.{Option, none, some}
-use Prim.Native.Nat.{ℕ, suc, ◌+◌, ◌-◌, ◌≤◌, ◌<◌}
+use Prim.Native.Nat.{ℕ, suc, ◌+◌, ◌≤◌, ◌<◌}
 use native.Mathlib.Omega.{arith}
 use lib.ListN.{length, get_or, length-set}
 use lib.Seq.{get_or-set_same}
@@ -14,42 +14,20 @@ use borrow.Author.Tests.{le-ltb, eqb-true}
 use Rattle.layout.specs.Sizes.{last_simulation_reason}
 use Rattle.texts.specs.Lists.{absent, find}
 use Rattle.texts.specs.Texts.{Text, text, eq_t, mem_t}
-use Rattle.model_spec.specs.Model.{
-  Source,
-  Entity,
-  Trigger,
-  Predicate,
-  Effect,
-  toggle,
-  delay,
-  condition,
-  choose,
-  wait,
-  Actions,
-  Branches,
-  no_branch,
-  branch,
-  named,
-  Model,
-}
+use Rattle.model_spec.specs.Model.{Source, Entity, Trigger, Predicate, Effect, choose, Actions, Branches, no_branch, branch, named, Model}
 use Rattle.model_spec.specs.File.{got, u16, predicate, trigger, branches, actions}
 use Rattle.model_spec.specs.Validate.{undecided}
-use Rattle.queue.specs.declared.Work.{Work as QWork}
 use Rattle.queue.specs.declared.Work.TheVariants as queue
-use Rattle.records.specs.declared.Rule.{Rule}
-use Rattle.records.specs.declared.Rule.TheVariants.{Of}
-use Rattle.records.specs.declared.Where.{Where}
-use Rattle.records.specs.declared.Where.TheVariants.{From}
-use Rattle.records.specs.declared.Change.{Change as AChange}
+use Rattle.records.specs.declared.Source.{Source as RecordSource}
+use Rattle.records.specs.declared.Write.{Write}
 use Rattle.runs.specs.declared.Run.{Run as ARun}
 use Rattle.runs.specs.declared.Source.{Source as ASource}
-use Rattle.runs.specs.declared.Phase.TheVariants as phase
 use Rattle.reasons.specs.Kinds as kinds
 use Rattle.reasons.specs.declared.Reason.{Reason}
 use Rattle.reasons.specs.Reasons.{render}
 use Rattle.engine_spec.specs.Truth.{moment_after, evaluate}
 use Rattle.engine_spec.specs.Cells.{value_of}
-use Rattle.engine_spec.specs.Records.{Run, Work, Kind, Waiting, Engine}
+use Rattle.engine_spec.specs.Records.{Run, Work, Kind, Engine}
 use Rattle.engine_spec.specs.Words.{truth_number, kind_number, detail_number}
 use Rattle.engine_spec.specs.Changes.{add, uncertain}
 use Rattle.engine_spec.specs.Reasons.{
@@ -186,7 +164,7 @@ use Rattle.engine_refinement.proofs.Runs.{Keyed, store_is, finish_is}
 
 -- ---- what stays
 
-log_runs : (t : Told) (u : Rule) (w : Where) (c : AChange) (m : Machine) → (log_m t u w c m).runs ≡ m.runs
+log_runs : (t : Told) (u : Maybe ℕ) (w : Maybe RecordSource) (c : Maybe Write) (m : Machine) → (log_m t u w c m).runs ≡ m.runs
 unfolding log_m
 log_runs t u w c m = by (eqb m.«overflow» 0) (ltb (length m.records) m.record_size) _ _ refl refl
   where
@@ -363,7 +341,7 @@ module _ (f x : List ℕ) (ts : List Text) (mo : Model) (tb : Tabled f x ts mo) 
     unfolding written_m write meant_run key_of
     writing l low j v h i =
         update_is f x ts mo tb l
-        (setting (name x j) v 2 (Of r.automation) (From s.line s.column)) j h refl i Kind.action acting low
+        (setting (name x j) v 2 (Some r.automation) (Some (record { line = s.line; column = s.column }))) j h refl i Kind.action acting low
 
     -- the run's automation is one of the model's
     module _ (low : r.automation < rules) where
@@ -537,7 +515,7 @@ module _ (f x : List ℕ) (ts : List Text) (mo : Model) (tb : Tabled f x ts mo) 
 
       -- the run waits
       wait_run : (at : ℕ) (t : Trigger) (q d : ℕ) (c : Bool) → trigger ts f at ≡ got t q →
-          R (phase_m (phase.Waiting (acts.wait at d c s)) r)
+          R (phase_m (Some (acts.wait at d c s)) r)
           ≡ waits (some (record { trigger = t; deadline = d; continue = c; source = src })) (R r)
       unfolding meant_run wait_of found_trigger
       wait_run at t q d c h = rw (h, found_trigger)
@@ -553,9 +531,9 @@ module _ (f x : List ℕ) (ts : List Text) (mo : Model) (tb : Tabled f x ts mo) 
       waiting_is {room} {m} {e} l w g at t q n c h =
           follow f x ts mo tb (log_action_m 16 n s r) (log_action now (Kind.wait n) src (R r))
           (add_is f x ts mo tb
-          (subst (λ (y : Run). L now room (put_run_m k (phase_m (phase.Waiting (acts.wait at (now + n) c s)) r) m)
+          (subst (λ (y : Run). L now room (put_run_m k (phase_m (Some (acts.wait at (now + n) c s)) r) m)
           (store y e)) (wait_run at t q (now + n) c h)
-          (store_is f x ts mo tb l k w.inside (phase_m (phase.Waiting (acts.wait at (now + n) c s)) r)
+          (store_is f x ts mo tb l k w.inside (phase_m (Some (acts.wait at (now + n) c s)) r)
           (record { rule = g.rule; old = g.old; places = g.places; phase = (t, (q, h)) })
           (ap (λ (y : ARun). y.automation) w.is) (ap (λ (y : ARun). y.sequence) w.is))) (now + n)
           (queue.Timeout r.automation r.sequence) low)

@@ -1,11 +1,11 @@
 -- When a machine stands for an engine: either nothing is full and every part corresponds, or both say which area was full.
 -- The primitive changes keep that.
-use Rattle.std.specs.Prelude.{if◌then◌else◌}
+use Rattle.std.specs.Prelude.{if◌then◌else◌, Option as Maybe, Some, None}
 use mathlib.Core.Path.{◌≡◌, refl, sym, ap, ◌∙◌, subst}
 use mathlib.Core.List.{List, [], ◌∷◌, ◌++◌}
 use mathlib.Core.Bool.{Bool, true, false, ◌&&◌, not}
 use mathlib.Core.Option.{Option, none, some}
-use Prim.Native.Nat.{ℕ, suc, ◌+◌, ◌-◌, ◌≤◌, ◌<◌}
+use Prim.Native.Nat.{ℕ, suc, ◌+◌, ◌≤◌, ◌<◌}
 use native.Mathlib.Omega.{arith}
 use native.Mathlib.Numerals.{add-one}
 use lib.ListN.{length, get_or, set, take, drop, length-set, length-append}
@@ -19,16 +19,14 @@ use Rattle.model_spec.specs.Model.{Trigger, single, done, Automation, Model}
 use Rattle.model_spec.specs.File.{got, trigger}
 use Rattle.queue.specs.declared.Item.{Item as QItem}
 use Rattle.queue.specs.declared.Work.{Work as QWork}
-use Rattle.records.specs.declared.Rule.{Rule}
-use Rattle.records.specs.declared.Where.{Where}
-use Rattle.records.specs.declared.Change.{Change as AChange}
+use Rattle.records.specs.declared.Source.{Source as RecordSource}
+use Rattle.records.specs.declared.Write.{Write}
 use Rattle.records.specs.declared.Record.{Record}
 use Rattle.records.specs.Records.{record_words}
 use Rattle.runs.specs.Runs.{is_run, in_line, run_of, other}
 use Rattle.runs.specs.Lists as places
+use Rattle.runs.specs.declared.Wait.{Wait}
 use Rattle.runs.specs.declared.Run.{Run as ARun}
-use Rattle.runs.specs.declared.Phase.{Phase}
-use Rattle.runs.specs.declared.Phase.TheVariants as phase
 use Rattle.reasons.specs.declared.Reason.{Reason}
 use Rattle.reasons.specs.Reasons.{render}
 use Rattle.reasons.specs.Lists.{push_t}
@@ -86,12 +84,12 @@ module _ (m : Machine) (z : m.«overflow» ≡ 0) where
   unfolding add_m
   add_full s w t = rw (eq-eqb m.«overflow» 0 z, t)
 
-  log_goes : (t : Told) (u : Rule) (w : Where) (c : AChange) → ltb (length m.records) m.record_size ≡ true →
+  log_goes : (t : Told) (u : Maybe ℕ) (w : Maybe RecordSource) (c : Maybe Write) → ltb (length m.records) m.record_size ≡ true →
       log_m t u w c m ≡ put_records (m.records ++ entry m.now t u w c ∷ []) m
   unfolding log_m
   log_goes t u w c e = rw (eq-eqb m.«overflow» 0 z, e)
 
-  log_full : (t : Told) (u : Rule) (w : Where) (c : AChange) → ltb (length m.records) m.record_size ≡ false →
+  log_full : (t : Told) (u : Maybe ℕ) (w : Maybe RecordSource) (c : Maybe Write) → ltb (length m.records) m.record_size ≡ false →
       log_m t u w c m ≡ put_full 42 m
   unfolding log_m
   log_full t u w c e = rw (eq-eqb m.«overflow» 0 z, e)
@@ -154,9 +152,9 @@ module _ (f x : List ℕ) (ts : List Text) (mo : Model) (tb : Tabled f x ts mo) 
     pub is : tr ≡ each (record_of x ts) l
     pub words : Each (Worded x ts mo) l
 
-  abbrev pub GoodPhase : Phase → Type 0
-  GoodPhase phase.Going = Unit {0}
-  GoodPhase (phase.Waiting w) = (t : Trigger) × ((q : ℕ) × (trigger ts f w.trigger ≡ got t q))
+  abbrev pub GoodPhase : Maybe Wait → Type 0
+  GoodPhase None = Unit {0}
+  GoodPhase (Some w) = (t : Trigger) × ((q : ℕ) × (trigger ts f w.trigger ≡ got t q))
 
   pub record GoodRun (sequences : List ℕ) (r : ARun) : Type 0 where
     pub rule : r.automation < rules
@@ -287,7 +285,7 @@ module _ (f x : List ℕ) (ts : List Text) (mo : Model) (tb : Tabled f x ts mo) 
   -- ---- a record more
 
   pub log_is : {now s : ℕ} {m : Machine} {e : Engine} → Live now s m e →
-      (t : Told) (u : Rule) (w : Where) (c : AChange) (r : Trace) → record_of x ts (entry now t u w c) ≡ r →
+      (t : Told) (u : Maybe ℕ) (w : Maybe RecordSource) (c : Maybe Write) (r : Trace) → record_of x ts (entry now t u w c) ≡ r →
       Worded x ts mo (entry now t u w c) → Sim now s (log_m t u w c m) (append r e)
   unfolding append
   log_is {now} {s} {m} {e} l t u w c r q v = cases (case (ltb (length m.records) m.record_size))
@@ -506,7 +504,7 @@ module _ (f x : List ℕ) (ts : List Text) (mo : Model) (tb : Tabled f x ts mo) 
     pub automation : r.automation ≡ i
     pub sequence : r.sequence ≡ get_or sequences i 0
     pub places : Places f x ts mo tb r.depth r.places
-    pub phase : r.phase ≡ phase.Going
+    pub phase : r.phase ≡ None
 
   module _ (sequences : List ℕ) (i n : ℕ) (h : i < rules) (made : List Text) (g : Made n sequences made)
       (low : get_or sequences i 0 < 4294967295) where
@@ -537,7 +535,7 @@ module _ (f x : List ℕ) (ts : List Text) (mo : Model) (tb : Tabled f x ts mo) 
           o.phase;
     }
 
-    going : (p : Phase) → p ≡ phase.Going → GoodPhase p
+    going : (p : Maybe Wait) → p ≡ None → GoodPhase p
     going p e = rw e tt
 
     new_good : (r : ARun) → NewRun sequences i r → GoodRun after r

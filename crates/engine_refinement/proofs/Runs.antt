@@ -1,6 +1,6 @@
 -- Runs that are stored, end and begin: the machine's are the definition's.
 -- `Keyed k r m`: the run at k has the automation, the sequence and the number of r.
-use Rattle.std.specs.Prelude.{if◌then◌else◌}
+use Rattle.std.specs.Prelude.{if◌then◌else◌, Some, None}
 use mathlib.Core.Path.{◌≡◌, refl, sym, ap, ◌∙◌, subst}
 use mathlib.Core.List.{List, [], ◌∷◌, ◌++◌}
 use mathlib.Core.Bool.{Bool, true, false}
@@ -18,8 +18,6 @@ use Rattle.runs.specs.Runs.{whole, fit, in_line, run_of}
 use Rattle.runs.specs.Lists.{place_from}
 use Rattle.runs.specs.Lists as places
 use Rattle.runs.specs.declared.Run.{Run as ARun}
-use Rattle.runs.specs.declared.Phase.TheVariants as phase
-use Rattle.runs.specs.declared.Found.TheVariants.{At}
 use Rattle.engine_spec.specs.Records.{Run, Kind, Engine}
 use Rattle.engine_spec.specs.Words.{kind_number, detail_number}
 use Rattle.engine_spec.specs.Changes.{if_some, add, add_run, adds}
@@ -191,7 +189,7 @@ module _ (f x : List ℕ) (ts : List Text) (mo : Model) (tb : Tabled f x ts mo) 
           let z : 0 + k ≡ k = omega arith in
           let y : find (queued_for (id_at x ts a)) e.runs ≡ some (R (get_or m.runs k no_run)) =
           ap (find (queued_for (id_at x ts a))) l.runs.is ∙ q in
-          rw (p ∙ ap At z, y, run_is l k o) (let_go_is l k o)
+          rw (p ∙ ap Some z, y, run_is l k o) (let_go_is l k o)
       cases (lists.nowhere p q) =
           let y : find (queued_for (id_at x ts a)) e.runs ≡ none = ap (find (queued_for (id_at x ts a))) l.runs.is ∙ q in
           rw (p, y) (live l)
@@ -262,7 +260,7 @@ module _ (f x : List ℕ) (ts : List Text) (mo : Model) (tb : Tabled f x ts mo) 
         number = more n;
         queued = later;
         phase =
-            phase.Going;
+            None;
         depth = 0;
         places = replicate 17 0;
       } in

@@ -1,6 +1,6 @@
 -- What a change sets off: the runs that wait for it wake, and each automation is offered it.
 -- The machine wakes run after run; the definition wakes all at once.
-use Rattle.std.specs.Prelude.{if◌then◌else◌}
+use Rattle.std.specs.Prelude.{if◌then◌else◌, Option, Some, None}
 use mathlib.Core.Path.{◌≡◌, refl, sym, ap, ◌∙◌, subst}
 use mathlib.Core.List.{List, [], ◌∷◌, ◌++◌, append-nil}
 use mathlib.Core.Bool.{Bool, true, false}
@@ -16,12 +16,11 @@ use Rattle.texts.specs.Texts.{Text}
 use Rattle.model_spec.specs.Model.{Automation, Model}
 use Rattle.model_spec.specs.File.{got, times, give, u16, counted, place, trigger}
 use Rattle.queue.specs.declared.Work.{Work as QWork}
+use Rattle.runs.specs.declared.Wait.{Wait}
 use Rattle.runs.specs.declared.Run.{Run as ARun}
-use Rattle.runs.specs.declared.Phase.{Phase}
-use Rattle.runs.specs.declared.Phase.TheVariants as phase
 use Rattle.engine_spec.specs.Kleene as kleene
 use Rattle.engine_spec.specs.Truth.{moment_after, matches, evaluate_all}
-use Rattle.engine_spec.specs.Records.{Run, Waiting, Item, Kind, Engine}
+use Rattle.engine_spec.specs.Records.{Run, Item, Kind, Engine}
 use Rattle.engine_spec.specs.Words.{truth_number, kind_number, detail_number}
 use Rattle.engine_spec.specs.Changes.{with_runs, add, adds}
 use Rattle.engine_spec.specs.Reasons.{unknown_trigger_condition}
@@ -222,13 +221,13 @@ module _ (f : List ℕ) (v : Move) where
         ∙ get_or-set_other m.runs k j y no_run (λ e. absurd (omega arith));
   }
 
-  phase_untouched : (k : ℕ) (r : ARun) (p : Phase) (m : Machine) → Untouched (suc k) m (wake_phase_m f v k r p m)
+  phase_untouched : (k : ℕ) (r : ARun) (p : Option Wait) (m : Machine) → Untouched (suc k) m (wake_phase_m f v k r p m)
   unfolding wake_phase_m
-  phase_untouched k r phase.Going m = itself (suc k) m
-  phase_untouched k r (phase.Waiting w) m = by (matches_m f v w.trigger)
+  phase_untouched k r None m = itself (suc k) m
+  phase_untouched k r (Some w) m = by (matches_m f v w.trigger)
     where
-      by : (b : Bool) → Untouched (suc k) m (if b then now_m r (put_run_m k (phase_m phase.Going r) m) else m)
-      by true = put_untouched k r (phase_m phase.Going r) m
+      by : (b : Bool) → Untouched (suc k) m (if b then now_m r (put_run_m k (phase_m None r) m) else m)
+      by true = put_untouched k r (phase_m None r) m
       by false = itself (suc k) m
 
   wake_untouched : (n : ℕ) (m : Machine) → Untouched n m (wake_first_m f v n m)
@@ -372,12 +371,12 @@ module _ (f x : List ℕ) (ts : List Text) (mo : Model) (tb : Tabled f x ts mo) 
 
     data Woke (k : ℕ) (r : ARun) (m : Machine) : Type 0 where
       stays : aw (R r) ≡ false → wake_run_m f v k r m ≡ m → Woke k r m
-      wakes : aw (R r) ≡ true → wake_run_m f v k r m ≡ now_m r (put_run_m k (phase_m phase.Going r) m) → Woke k r m
+      wakes : aw (R r) ≡ true → wake_run_m f v k r m ≡ now_m r (put_run_m k (phase_m None r) m) → Woke k r m
 
-    woke : (k : ℕ) (r : ARun) (m : Machine) → (p : Phase) → r.phase ≡ p → GoodPhase f x ts mo tb p → Woke k r m
+    woke : (k : ℕ) (r : ARun) (m : Machine) → (p : Option Wait) → r.phase ≡ p → GoodPhase f x ts mo tb p → Woke k r m
     unfolding wake_run_m wake_phase_m awaits present_and meant_run wait_of found_trigger
-    woke k r m phase.Going e g = stays (rw (e, present_and)) (rw (e, wake_phase_m))
-    woke k r m (phase.Waiting y) e g = by (case (matches_m f v y.trigger))
+    woke k r m None e g = stays (rw (e, present_and)) (rw (e, wake_phase_m))
+    woke k r m (Some y) e g = by (case (matches_m f v y.trigger))
       where
         same : matches_m f v y.trigger ≡ matches (T v.entity) (T v.from) (T v.to) g.0
         same = (matches_is f x ts mo tb y.trigger g.0 g.1.0 g.1.1).is v w
@@ -428,20 +427,20 @@ module _ (f x : List ℕ) (ts : List Text) (mo : Model) (tb : Tabled f x ts mo) 
         good : GoodRun f x ts mo tb k.sequences r
         good = subst (GoodRun f x ts mo tb k.sequences) same (run_good f x ts mo tb y n long_k)
 
-        calm_good : GoodRun f x ts mo tb k.sequences (phase_m phase.Going r)
+        calm_good : GoodRun f x ts mo tb k.sequences (phase_m None r)
         calm_good = record { rule = good.rule; old = good.old; places = good.places; phase = tt }
 
-        going : R (phase_m phase.Going r) ≡ waits none (R r)
+        going : R (phase_m None r) ≡ waits none (R r)
         unfolding meant_run
         going = refl
 
-        woken_live : L now room (put_run_m n (phase_m phase.Going r) k)
+        woken_live : L now room (put_run_m n (phase_m None r) k)
             (with_runs (set (to e n).runs n (waits none (R r))) (to e n))
         woken_live =
-            runs_are f x ts mo tb y (set k.runs n (phase_m phase.Going r)) _
-            (subst (λ (q : Run). Running f x ts mo tb k.sequences (set k.runs n (phase_m phase.Going r))
+            runs_are f x ts mo tb y (set k.runs n (phase_m None r)) _
+            (subst (λ (q : Run). Running f x ts mo tb k.sequences (set k.runs n (phase_m None r))
             (set (to e n).runs n q)) going (placed f x ts mo tb k.sequences k.runs (to e n).runs y.runs
-            n long_k (phase_m phase.Going r) calm_good (ap (λ (q : ARun). q.automation) same)
+            n long_k (phase_m None r) calm_good (ap (λ (q : ARun). q.automation) same)
             (ap (λ (q : ARun). q.sequence) same)))
 
         one_is : wake_one_m f v n k ≡ wake_run_m f v n r k

@@ -14,9 +14,7 @@ use Rattle.texts.specs.Lists.{find, through}
 use Rattle.texts.specs.Texts.{Text, eq_t}
 use Rattle.model_spec.specs.Model.{Source, observational, Entity, Model}
 use Rattle.queue.specs.declared.Work.TheVariants as queue
-use Rattle.records.specs.declared.Rule.TheVariants.{NoRule, Of}
-use Rattle.records.specs.declared.Where.TheVariants.{Nowhere, From}
-use Rattle.records.specs.declared.Change.TheVariants.{NoChange, Write}
+use Rattle.std.specs.Prelude.{Some, None}
 use Rattle.runs.specs.declared.Run.{Run as ARun}
 use Rattle.runs.specs.declared.Source.{Source as ASource}
 use Rattle.engine_spec.specs.Cells.{Cell, cell_of, value_of, put}
@@ -95,24 +93,24 @@ module _ (f x : List ℕ) (ts : List Text) (mo : Model) (tb : Tabled f x ts mo) 
         S now s (log_rule_m k d a m) (log_rule now K (id_at x ts a) e)
     unfolding log_rule_m log_rule log record_of
     log_rule_is k d a K h g =
-        log_is f x ts mo tb l (saying k d) (Of a) Nowhere NoChange _
+        log_is f x ts mo tb l (saying k d) (Some a) None None _
         (ap (λ (y : Kind). record { at = now; kind = y; automation = some (id_at x ts a); source = none; change = none })
         h.is)
-        (worded f x ts mo tb now k d (Of a) Nowhere NoChange K h g tt)
+        (worded f x ts mo tb now k d (Some a) None None K h g tt)
 
     pub log_plain_is : (k : ℕ) (K : Kind) → Says k 0 K → S now s (log_plain_m k m) (log now K none none none e)
     unfolding log_plain_m log record_of
     log_plain_is k K h =
-        log_is f x ts mo tb l (saying k 0) NoRule Nowhere NoChange _
+        log_is f x ts mo tb l (saying k 0) None None None _
         (ap (λ (y : Kind). record { at = now; kind = y; automation = none; source = none; change = none }) h.is)
-        (worded f x ts mo tb now k 0 NoRule Nowhere NoChange K h tt tt)
+        (worded f x ts mo tb now k 0 None None None K h tt tt)
 
     pub log_action_is : (k d : ℕ) (src : ASource) (r : ARun) (K : Kind) → Says k d K →
         r.automation < length mo.rules →
         S now s (log_action_m k d src r m) (log_action now K (source_of src) (meant_run x ts f r) e)
     unfolding log_action_m log_action log record_of meant_run key_of
     log_action_is k d src r K h g =
-        log_is f x ts mo tb l (saying k d) (Of r.automation) (From src.line src.column) NoChange _
+        log_is f x ts mo tb l (saying k d) (Some r.automation) (Some (record { line = src.line; column = src.column })) None _
         (ap (λ (y : Kind). record {
           at = now;
           kind = y;
@@ -121,14 +119,14 @@ module _ (f x : List ℕ) (ts : List Text) (mo : Model) (tb : Tabled f x ts mo) 
               some (source_of src);
           change = none;
         }) h.is)
-        (worded f x ts mo tb now k d (Of r.automation) (From src.line src.column) NoChange K h g tt)
+        (worded f x ts mo tb now k d (Some r.automation) (Some (record { line = src.line; column = src.column })) None K h g tt)
 
     pub log_at_is : (k d a line column : ℕ) (K : Kind) → Says k d K → a < length mo.rules →
-        S now s (log_m (saying k d) (Of a) (From line column) NoChange m)
+        S now s (log_m (saying k d) (Some a) (Some (record { line = line; column = column })) None m)
         (log now K (some (id_at x ts a)) (some (record { line = line; column = column })) none e)
     unfolding log record_of
     log_at_is k d a line column K h g =
-        log_is f x ts mo tb l (saying k d) (Of a) (From line column) NoChange _
+        log_is f x ts mo tb l (saying k d) (Some a) (Some (record { line = line; column = column })) None _
         (ap (λ (y : Kind). record {
           at = now;
           kind = y;
@@ -137,7 +135,7 @@ module _ (f x : List ℕ) (ts : List Text) (mo : Model) (tb : Tabled f x ts mo) 
               some (record { line = line; column = column });
           change = none;
         }) h.is)
-        (worded f x ts mo tb now k d (Of a) (From line column) NoChange K h g tt)
+        (worded f x ts mo tb now k d (Some a) (Some (record { line = line; column = column })) None K h g tt)
 
     pub log_write_is : (w : Setting) (v : Move) (K : Kind) → Says w.kind 0 K → GoodRule f x ts mo tb w.rule →
         Moved f x ts mo tb v →
@@ -146,7 +144,7 @@ module _ (f x : List ℕ) (ts : List Text) (mo : Model) (tb : Tabled f x ts mo) 
         (some (record { entity = T v.entity; before = T v.from; after = T v.to })) e)
     unfolding log_write_m log record_of
     log_write_is w v K h g i =
-        log_is f x ts mo tb l (saying w.kind 0) w.rule w.source (Write v.entity v.from v.to) _
+        log_is f x ts mo tb l (saying w.kind 0) w.rule w.source (Some (record { entity = v.entity; before = v.from; after = v.to })) _
         (ap (λ (y : Kind). record {
           at = now;
           kind = y;
@@ -154,7 +152,7 @@ module _ (f x : List ℕ) (ts : List Text) (mo : Model) (tb : Tabled f x ts mo) 
           source = where_of w.source;
           change = some (record { entity = T v.entity; before = T v.from; after = T v.to });
         }) h.is)
-        (worded f x ts mo tb now w.kind 0 w.rule w.source (Write v.entity v.from v.to) K h g
+        (worded f x ts mo tb now w.kind 0 w.rule w.source (Some (record { entity = v.entity; before = v.from; after = v.to })) K h g
         (i.entity_in, (i.from_in, i.to_in)))
 
   -- ---- the queue

@@ -12,12 +12,9 @@ use Rattle.texts.specs.Lists.{each}
 use Rattle.texts.specs.Texts.{Text, eq_t}
 use Rattle.model_spec.specs.Model.{Automation, Model}
 use Rattle.records.specs.Records.{rule_words, where_words, change_words, record_words}
-use Rattle.records.specs.declared.Rule.{Rule}
-use Rattle.records.specs.declared.Rule.TheVariants.{NoRule, Of}
-use Rattle.records.specs.declared.Where.{Where}
-use Rattle.records.specs.declared.Where.TheVariants.{Nowhere, From}
-use Rattle.records.specs.declared.Change.{Change as AChange}
-use Rattle.records.specs.declared.Change.TheVariants.{NoChange, Write}
+use Rattle.records.specs.declared.Source.{Source as RecordSource}
+use Rattle.records.specs.declared.Write.{Write}
+use Rattle.std.specs.Prelude.{Option, Some, None}
 use Rattle.records.specs.declared.Record.{Record}
 use Rattle.engine_spec.specs.Records.{Kind}
 use Rattle.model_spec.specs.Rewrite.{place_of}
@@ -80,26 +77,26 @@ module _ (f x : List ℕ) (ts : List Text) (mo : Model) (tb : Tabled f x ts mo) 
     pub number : kind_number K ≡ k
     pub detail : detail_number ts ids K ≡ d
 
-  abbrev pub GoodRule : Rule → Type 0
-  GoodRule NoRule = Unit {0}
-  GoodRule (Of a) = a < length mo.rules
+  abbrev pub GoodRule : Option ℕ → Type 0
+  GoodRule None = Unit {0}
+  GoodRule (Some a) = a < length mo.rules
 
-  rule_words_lem : (u : Rule) → GoodRule u → automation_words ts ids (rule_of x ts u) ≡ rule_words u
+  rule_words_lem : (u : Option ℕ) → GoodRule u → automation_words ts ids (rule_of x ts u) ≡ rule_words u
   unfolding automation_words
-  rule_words_lem NoRule g = refl
-  rule_words_lem (Of a) g = rw (rule_place a g)
+  rule_words_lem None g = refl
+  rule_words_lem (Some a) g = rw (rule_place a g)
 
-  where_words_lem : (w : Where) → source_words (where_of w) ≡ where_words w
+  where_words_lem : (w : Option RecordSource) → source_words (where_of w) ≡ where_words w
   unfolding source_words
-  where_words_lem Nowhere = refl
-  where_words_lem (From l c) = refl
+  where_words_lem None = refl
+  where_words_lem (Some s) = refl
 
-  changed_words : (c : AChange) → Placed ts c → words_of_change ts ids (change_of x ts c) ≡ change_words c
+  changed_words : (c : Option Write) → Placed ts c → words_of_change ts ids (change_of x ts c) ≡ change_words c
   unfolding words_of_change
-  changed_words NoChange g = refl
-  changed_words (Write e b a) g = rw (text_place e g.0, text_place b g.1.0, text_place a g.1.1)
+  changed_words None g = refl
+  changed_words (Some w) g = rw (text_place w.entity g.0, text_place w.before g.1.0, text_place w.after g.1.1)
 
-  pub worded : (now k d : ℕ) (u : Rule) (w : Where) (c : AChange) (K : Kind) → Tells k d K → GoodRule u → Placed ts c →
+  pub worded : (now k d : ℕ) (u : Option ℕ) (w : Option RecordSource) (c : Option Write) (K : Kind) → Tells k d K → GoodRule u → Placed ts c →
       Worded x ts mo (entry now (saying k d) u w c)
   unfolding record_words trace_words record_of
   worded now k d u w c K t g h = record {

@@ -1,6 +1,7 @@
 -- What the machine's numbers stand for: texts, cells, items, records and runs of the definition.
 -- A place is a text's number among `ts`, an automation is a row of the table x, a position is one of the file f.
-use Rattle.std.specs.Prelude.{ℕ, zero, suc, ◌+◌, ◌≤◌, ◌<◌, ◌≡◌, true, List, [], ◌∷◌, ◌++◌, eqb, length, get_or, if◌then◌else◌}
+-- `Maybe`, `None` and `Some` are the code's option, `Option`, `none` and `some` the definition's.
+use Rattle.std.specs.Prelude.{ℕ, zero, suc, ◌+◌, ◌≤◌, ◌<◌, ◌≡◌, true, Option as Maybe, Some, None, List, [], ◌∷◌, ◌++◌, eqb, length, get_or, if◌then◌else◌}
 use Rattle.std.proofs.Math.Option.{Option, none, some}
 use Rattle.layout.specs.Table.{
   actions_word,
@@ -50,20 +51,14 @@ use Rattle.model_order.specs.Order.{Fixed}
 use Rattle.queue.specs.declared.Item.{Item as QItem}
 use Rattle.queue.specs.declared.Work.{Work as QWork}
 use Rattle.queue.specs.declared.Work.TheVariants as queue
-use Rattle.records.specs.declared.Rule.{Rule}
-use Rattle.records.specs.declared.Rule.TheVariants.{NoRule, Of}
-use Rattle.records.specs.declared.Where.{Where}
-use Rattle.records.specs.declared.Where.TheVariants.{Nowhere, From}
-use Rattle.records.specs.declared.Change.{Change as AChange}
-use Rattle.records.specs.declared.Change.TheVariants.{NoChange, Write}
+use Rattle.records.specs.declared.Source.{Source as RecordSource}
+use Rattle.records.specs.declared.Write.{Write}
 use Rattle.records.specs.declared.Record.{Record}
 use Rattle.runs.specs.Runs.{place_in}
 use Rattle.runs.specs.declared.Place.{Place}
 use Rattle.runs.specs.declared.Run.{Run as ARun}
 use Rattle.runs.specs.declared.Wait.{Wait}
 use Rattle.runs.specs.declared.Source.{Source as ASource}
-use Rattle.runs.specs.declared.Phase.{Phase}
-use Rattle.runs.specs.declared.Phase.TheVariants as phase
 use Rattle.engine_spec.specs.Cells.{Cell}
 use Rattle.engine_spec.specs.Kleene as kleene
 use Rattle.engine_spec.specs.Records.{Key, Waiting, Run, Work, Item, Kind, Change, Trace}
@@ -107,14 +102,14 @@ stale_of w = if eqb w 4294967295 then none else some w
 abbrev pub source_of : ASource → Source
 source_of s = record { line = s.line; column = s.column }
 
-abbrev pub where_of : Where → Option Source
-where_of Nowhere = none
-where_of (From l c) = some (record { line = l; column = c })
+abbrev pub where_of : Maybe RecordSource → Option Source
+where_of None = none
+where_of (Some s) = some (record { line = s.line; column = s.column })
 
 -- the places of a change are those of texts
-abbrev pub Placed : List Text → AChange → Type 0
-Placed ts NoChange = Unit {0}
-Placed ts (Write e b v) = (e < length ts) × ((b < length ts) × (v < length ts))
+abbrev pub Placed : List Text → Maybe Write → Type 0
+Placed ts None = Unit {0}
+Placed ts (Some w) = (w.entity < length ts) × ((w.before < length ts) × (w.after < length ts))
 
 module _ (x : List ℕ) (ts : List Text) where
   -- the automation's identifier
@@ -180,13 +175,13 @@ module _ (x : List ℕ) (ts : List Text) where
       else if eqb k 17 then Kind.timeout (eqb d 1)
       else Kind.unknown (get_or ts d [])
 
-  abbrev pub rule_of : Rule → Option Text
-  rule_of NoRule = none
-  rule_of (Of a) = some (id_at a)
+  abbrev pub rule_of : Maybe ℕ → Option Text
+  rule_of None = none
+  rule_of (Some a) = some (id_at a)
 
-  abbrev pub change_of : AChange → Option Change
-  change_of NoChange = none
-  change_of (Write e b a) = some (record { entity = get_or ts e []; before = get_or ts b []; after = get_or ts a [] })
+  abbrev pub change_of : Maybe Write → Option Change
+  change_of None = none
+  change_of (Some w) = some (record { entity = get_or ts w.entity []; before = get_or ts w.before []; after = get_or ts w.after [] })
 
   unfoldable pub record_of : Record → Trace
   record_of r = record {
@@ -217,9 +212,9 @@ module _ (x : List ℕ) (ts : List Text) where
       source = source_of w.source;
     }
 
-    abbrev pub waiting_of : Phase → Option Waiting
-    waiting_of phase.Going = none
-    waiting_of (phase.Waiting w) = some (wait_of w)
+    abbrev pub waiting_of : Maybe Wait → Option Waiting
+    waiting_of None = none
+    waiting_of (Some w) = some (wait_of w)
 
     unfoldable pub meant_run : ARun → Run
     meant_run r = record {

@@ -8,10 +8,9 @@ use lib.ListN.{length, get_or}
 use borrow.Author.Tests.{eq-eqb, ne_eqb, lt-ltb, le-ltb, le-leb, lt-leb}
 use native.Mathlib.Numerals.{add-one}
 use native.Mathlib.Omega.{arith}
+use Rattle.std.specs.Prelude.{Option, Some, None}
 use Rattle.queue.specs.Queue as queue
 use Rattle.queue.specs.declared.Item.{Item}
-use Rattle.queue.specs.declared.Taken.{Taken}
-use Rattle.queue.specs.declared.Taken.TheVariants.{One, Nothing}
 use Rattle.bounds.specs.Bounds.{at_most}
 use Rattle.engine_fields.specs.Fields.{entities}
 use Rattle.engine_state.specs.declared.State.{State}
@@ -25,18 +24,18 @@ use Rattle.engine_schedule.specs.declared.Next.TheVariants.{Stop, Space, Take}
 
 -- ---- what comes next
 
-module _ (x q : List ℕ) (st : State) (t : Taken) (ens : queue.Next q st.queue_start st.items t) where
-  after_is : (y : Taken) → t ≡ y → (f a b u v n c : List ℕ) (k : Content) → Held f q a b u (entire st v n c) k →
+module _ (x q : List ℕ) (st : State) (t : Option Item) (ens : queue.Next q st.queue_start st.items t) where
+  after_is : (y : Option Item) → t ≡ y → (f a b u v n c : List ℕ) (k : Content) → Held f q a b u (entire st v n c) k →
       next_after_m x y (machine (entire st v n c) k) ≡ next_m x (machine (entire st v n c) k)
   unfolding next_m
   after_is y e f a b u v n c k held = ap (λ z. next_after_m x z (machine (entire st v n c) k))
       (sym e ∙ ens.is k.queue (sym held.queue.many) held.queue.is)
 
-  pub seen_nothing : t ≡ Nothing → Seen (next_m x) q st Stop
+  pub seen_nothing : t ≡ None → Seen (next_m x) q st Stop
   unfolding next_after_m
-  seen_nothing e = record { is = λ f a b u v n c k held. after_is Nothing e f a b u v n c k held }
+  seen_nothing e = record { is = λ f a b u v n c k held. after_is None e f a b u v n c k held }
 
-  module _ (i : Item) (e : t ≡ One i) where
+  module _ (i : Item) (e : t ≡ Some i) where
     pub seen_records : 10000 ≤ st.records → Seen (next_m x) q st Space
     unfolding next_after_m
     seen_records h =
@@ -44,7 +43,7 @@ module _ (x q : List ℕ) (st : State) (t : Taken) (ens : queue.Next q st.queue_
           is =
               λ f a b u v n c k held. rw (le-leb 10000 (length k.records)
               (subst (λ i. 10000 ≤ i) held.records.many h)) at
-              (after_is (One i) e f a b u v n c k held);
+              (after_is (Some i) e f a b u v n c k held);
         }
 
     module _ (hr : st.records < 10000) where
@@ -60,7 +59,7 @@ module _ (x q : List ℕ) (st : State) (t : Taken) (ens : queue.Next q st.queue_
               few f a b u v n c k held,
               lt-ltb 20000 (length k.queue) (subst (λ i. 20000 < i) held.queue.many h),
             ) at
-                (after_is (One i) e f a b u v n c k held);
+                (after_is (Some i) e f a b u v n c k held);
           }
 
       module _ (hi : st.items ≤ 20000) where
@@ -76,7 +75,7 @@ module _ (x q : List ℕ) (st : State) (t : Taken) (ens : queue.Next q st.queue_
                 few f a b u v n c k held,
                 short f a b u v n c k held,
                 lt-ltb (get_or x 2 0) i.second h,
-              ) at (after_is (One i) e f a b u v n c k held);
+              ) at (after_is (Some i) e f a b u v n c k held);
             }
 
         pub seen_take : i.second ≤ get_or x 2 0 → Seen (next_m x) q st Take
@@ -87,7 +86,7 @@ module _ (x q : List ℕ) (st : State) (t : Taken) (ens : queue.Next q st.queue_
                 few f a b u v n c k held,
                 short f a b u v n c k held,
                 le-ltb (get_or x 2 0) i.second h,
-              ) at (after_is (One i) e f a b u v n c k held);
+              ) at (after_is (Some i) e f a b u v n c k held);
             }
 
 module _ (x : List ℕ) (left : ℕ) (q : List ℕ) (st : State) where

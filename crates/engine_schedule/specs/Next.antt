@@ -1,10 +1,9 @@
 -- Whether the loop takes the queue's next item, over the table x.
-use Rattle.std.specs.Prelude.{ℕ, ◌+◌, ◌-◌, ◌<◌, ◌≡◌, List, ltb, leb, eqb, length, get_or, if◌then◌else◌}
+use Rattle.std.specs.Prelude.{ℕ, ◌+◌, ◌-◌, ◌<◌, ◌≡◌, List, Option, Some, None, ltb, leb, eqb, length, get_or, if◌then◌else◌}
 use Rattle.layout.specs.Table.{horizon_word}
 use Rattle.queue.specs.Order.{pop}
 use Rattle.queue.specs.Queue.{second_of, taken_of}
-use Rattle.queue.specs.declared.Taken.{Taken}
-use Rattle.queue.specs.declared.Taken.TheVariants.{One, Nothing}
+use Rattle.queue.specs.declared.Item.{Item}
 use Rattle.engine_state.specs.declared.State.{State}
 use Rattle.engine_state.specs.Machine.{Machine, Content, entire, machine}
 use Rattle.engine_state.specs.Steps.{Held}
@@ -15,9 +14,9 @@ use Rattle.engine_schedule.specs.declared.Next.TheVariants.{Stop, Space, Take}
 pub record Seen {B : Type 0} (F : Machine → B) (q : List ℕ) (st : State) (r : B) : Type 0 where
   pub is : (f a b u v n c : List ℕ) (k : Content) → Held f q a b u (entire st v n c) k → r ≡ F (machine (entire st v n c) k)
 
-unfoldable pub next_after_m : List ℕ → Taken → Machine → Next
-next_after_m x Nothing m = Stop
-next_after_m x (One i) m =
+unfoldable pub next_after_m : List ℕ → Option Item → Machine → Next
+next_after_m x None m = Stop
+next_after_m x (Some i) m =
     if leb 10000 (length m.records) then Space else
     if ltb 20000 (length m.queue) then Space else
     if ltb (get_or x horizon_word 0) i.second then Stop else Take

@@ -9,7 +9,7 @@ ghost use Rattle.engine_schedule.specs.Events.{event_m, add_event_m, add_events_
 use bounds::at_most;
 use engine_state::{State, add, log_plain};
 use layout::Table;
-use queue::{Taken, Work};
+use queue::Work;
 
 // ---- whether the next item is taken
 
@@ -25,8 +25,7 @@ fn next_of(x: &Table, q: &[u32], st: State) -> Next
     requires { FitsQ st q.now }
     ensures { Seen (next_m x.now) q.now st result }
 {
-    let t = queue::next(q, st.queue_start, st.items);
-    let Taken::One(it) = t else {
+    let Some(it) = queue::next(q, st.queue_start, st.items) else {
         return Next::Stop;
     };
     if 10000 <= st.records {
@@ -80,13 +79,11 @@ pub fn at_second(st: State, second: u32) -> State
 fn event_work(kind: u32, entity: u32, value: u32) -> Work
     ensures { result ≡ event_m kind entity value }
 {
-    if kind == 0 {
-        return Work::Set { entity, value };
+    match kind {
+        0 => Work::Set { entity, value },
+        1 => Work::Restart,
+        _ => Work::Reload,
     }
-    if kind == 1 {
-        return Work::Restart;
-    }
-    Work::Reload
 }
 
 // The i-th event: a second, a kind, an entity and a value.
@@ -104,10 +101,8 @@ fn add_events(events: &[u32], count: usize, q: &mut [u32], st: State) -> State
     ensures { Does (add_events_m events.now count) st result (by q) kept kept still }
 {
     let mut s = st;
-    let mut i: usize = 0;
-    while i < count {
+    for i in 0..count {
         s = add_event(events, q, s, i);
-        i += 1;
     }
     s
 }
@@ -119,10 +114,8 @@ fn add_expiries(x: &Table, q: &mut [u32], versions: &[u32; 32], st: State) -> St
 {
     let n = at_most(x[layout::ENTITY_COUNT], 32);
     let mut s = st;
-    let mut e: usize = 0;
-    while e < n {
+    for e in 0..n {
         s = engine_update::expiry(x, q, versions, s, e);
-        e += 1;
     }
     s
 }

@@ -1,5 +1,5 @@
 -- The primitive changes by cases, and how changes are put together.
-use Rattle.std.specs.Prelude.{if◌then◌else◌}
+use Rattle.std.specs.Prelude.{Option, if◌then◌else◌}
 use Prim.Native.Nat.{ℕ, suc, ◌+◌, ◌-◌, ◌/◌, ◌*◌, ◌≤◌, ◌<◌}
 use mathlib.Core.Path.{◌≡◌, refl, sym, ◌∙◌, ap, subst}
 use mathlib.Core.Bool.{Bool, true, false}
@@ -13,14 +13,13 @@ use native.Mathlib.Numerals.{add-one}
 use Rattle.layout.specs.Sizes.{last_simulation_reason, simulation_reason_words}
 use Rattle.texts.specs.Texts.{Text, mem_t}
 use Rattle.areas.specs.Areas.{area}
+use Rattle.std.specs.Prelude.{Option, Some, None, is_some}
 use Rattle.queue.specs.Queue.{laid, Inserted}
 use Rattle.queue.specs.declared.Item.{Item}
-use Rattle.queue.specs.declared.Put.{Put}
 use Rattle.queue.specs.declared.Work.{Work}
 use Rattle.records.specs.Records as records
-use Rattle.records.specs.declared.Rule.{Rule}
-use Rattle.records.specs.declared.Where.{Where}
-use Rattle.records.specs.declared.Change.{Change}
+use Rattle.records.specs.declared.Source.{Source}
+use Rattle.records.specs.declared.Write.{Write}
 use Rattle.records.specs.declared.Record.{Record}
 use Rattle.runs.specs.Runs as runs
 use Rattle.runs.specs.declared.Run.{Run}
@@ -207,14 +206,14 @@ module _ (st : Entire) (q : List ℕ) (s : ℕ) (w : Work) where
         λ f _ a r u k held. record { content = k; held = held; is = add_stuck s w (machine st k) z };
   }
 
-  module _ (b : List ℕ) (p : Put) (ins : Inserted q st.queue_start st.items (item s w) b p) (z : st.«overflow» ≡ 0)
+  module _ (b : List ℕ) (p : Option ℕ) (ins : Inserted q st.queue_start st.items (item s w) b p) (z : st.«overflow» ≡ 0)
       (same : length b ≡ length q) where
-    size_is : (size : ℕ) (l : List Item) → Queued q st.queue_start st.items size l → ltb (length l) size ≡ p.done
+    size_is : (size : ℕ) (l : List Item) → Queued q st.queue_start st.items size l → ltb (length l) size ≡ is_some p
     size_is size l h = ap (λ n. ltb n size) (sym h.many) ∙ ap (λ n. ltb st.items n) (sym h.room) ∙ sym ins.room
 
-    pub added : p.done ≡ true → Turns (add_m s w) st (with_queue p.first (st.items + 1) st) (goes q b) kept kept still
-    added e = record {
-      queue = (same, rw same (ins.within e));
+    pub added : (to : ℕ) → p ≡ Some to → Turns (add_m s w) st (with_queue to (st.items + 1) st) (goes q b) kept kept still
+    added to e = record {
+      queue = (same, rw same (ins.within to e));
       records = refl;
       runs = refl;
       reasons = refl;
@@ -228,21 +227,21 @@ module _ (st : Entire) (q : List ℕ) (s : ℕ) (w : Work) where
                   held.runs;
               reasons = held.reasons;
             };
-            is = add_goes s w (machine st k) z (size_is k.queue_size k.queue held.queue ∙ e);
+            is = add_goes s w (machine st k) z (size_is k.queue_size k.queue held.queue ∙ ap is_some e);
           };
     }
       where
         more_queued : (size : ℕ) (l : List Item) → Queued q st.queue_start st.items size l →
-            Queued b p.first (st.items + 1) size (l ++ item s w ∷ [])
+            Queued b to (st.items + 1) size (l ++ item s w ∷ [])
         more_queued size l h = record {
           room = ap (λ n. n / 5) same ∙ h.room;
           many =
               ap (λ n. n + 1) h.many ∙ sym (length_one l (item s w));
           is =
-              ins.more e l (sym h.many) h.is ∙ ap (λ n. laid p.first n (l ++ item s w ∷ [])) (sym same);
+              ins.more to e l (sym h.many) h.is ∙ ap (λ n. laid to n (l ++ item s w ∷ [])) (sym same);
         }
 
-    pub add_refused : (st.queue_start + st.items) * 5 ≤ length q → p.done ≡ false →
+    pub add_refused : (st.queue_start + st.items) * 5 ≤ length q → p ≡ None →
         Turns (add_m s w) st (with_full 41 st) (goes q b) kept kept still
     add_refused h e = record {
       queue = (same, omega (arith, h, same));
@@ -259,7 +258,7 @@ module _ (st : Entire) (q : List ℕ) (s : ℕ) (w : Work) where
                   held.runs;
               reasons = held.reasons;
             };
-            is = add_full s w (machine st k) z (size_is k.queue_size k.queue held.queue ∙ e);
+            is = add_full s w (machine st k) z (size_is k.queue_size k.queue held.queue ∙ ap is_some e);
           };
     }
       where
@@ -269,12 +268,12 @@ module _ (st : Entire) (q : List ℕ) (s : ℕ) (w : Work) where
           room = ap (λ n. n / 5) same ∙ h.room;
           many = h.many;
           is =
-              (ins.same e).0 ∙ h.is ∙ ap (λ n. laid st.queue_start n l) (sym same);
+              ins.same e ∙ h.is ∙ ap (λ n. laid st.queue_start n l) (sym same);
         }
 
 -- ---- a record more
 
-module _ (t : Told) (v : Rule) (w : Where) (x : Change) (m : Machine) where
+module _ (t : Told) (v : Option ℕ) (w : Option Source) (x : Option Write) (m : Machine) where
   log_stuck : (m.«overflow» ≡ 0 → ⊥) → m ≡ log_m t v w x m
   unfolding log_m
   log_stuck z = rw (ne_eqb m.«overflow» 0 z)
@@ -288,7 +287,7 @@ module _ (t : Told) (v : Rule) (w : Where) (x : Change) (m : Machine) where
   unfolding log_m
   log_full z e = rw (eq-eqb m.«overflow» 0 z, e)
 
-module _ (st : Entire) (a : List ℕ) (t : Told) (v : Rule) (w : Where) (x : Change) where
+module _ (st : Entire) (a : List ℕ) (t : Told) (v : Option ℕ) (w : Option Source) (x : Option Write) where
   pub unlogged : st.records * 13 ≤ length a → (st.«overflow» ≡ 0 → ⊥) →
       Turns (log_m t v w x) st st kept (goes a a) kept still
   unlogged h z = record {

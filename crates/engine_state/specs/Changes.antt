@@ -1,15 +1,11 @@
 -- The primitive changes of a machine. Nothing goes into an area once one was full.
-use Rattle.std.specs.Prelude.{ℕ, List, [], ◌∷◌, ◌++◌, ltb, eqb, length, get_or, set, if◌then◌else◌}
+use Rattle.std.specs.Prelude.{ℕ, Option, Some, None, List, [], ◌∷◌, ◌++◌, ltb, eqb, length, get_or, set, if◌then◌else◌}
 use Rattle.layout.specs.Sizes.{last_simulation_reason}
 use Rattle.queue.specs.declared.Item.{Item}
 use Rattle.queue.specs.declared.Work.{Work}
 use Rattle.queue.specs.declared.Work.TheVariants.{Resume}
-use Rattle.records.specs.declared.Rule.{Rule}
-use Rattle.records.specs.declared.Rule.TheVariants.{NoRule, Of}
-use Rattle.records.specs.declared.Where.{Where}
-use Rattle.records.specs.declared.Where.TheVariants.{Nowhere, From}
-use Rattle.records.specs.declared.Change.{Change}
-use Rattle.records.specs.declared.Change.TheVariants.{NoChange, Write}
+use Rattle.records.specs.declared.Source.{Source as RecordSource}
+use Rattle.records.specs.declared.Write.{Write}
 use Rattle.records.specs.declared.Record.{Record}
 use Rattle.runs.specs.declared.Run.{Run}
 use Rattle.runs.specs.declared.Source.{Source}
@@ -35,7 +31,7 @@ use Rattle.engine_state.specs.Machine.{
 abbrev pub item : (second : ℕ) → Work → Item
 item s w = record { second = s; work = w }
 
-abbrev pub entry : (second : ℕ) → Told → Rule → Where → Change → Record
+abbrev pub entry : (second : ℕ) → Told → Option ℕ → Option RecordSource → Option Write → Record
 entry s t u w c = record { second = s; kind = t.kind; detail = t.detail; number = 0; rule = u; source = w; change = c }
 
 abbrev pub saying : (kind detail : ℕ) → Told
@@ -52,7 +48,7 @@ add_m s w m =
     else m
 
 -- a record more; 42: no room for records
-unfoldable pub log_m : Told → Rule → Where → Change → Machine → Machine
+unfoldable pub log_m : Told → Option ℕ → Option RecordSource → Option Write → Machine → Machine
 log_m t u w c m =
     if eqb m.«overflow» 0 then
     (if ltb (length m.records) m.record_size then put_records (m.records ++ entry m.now t u w c ∷ []) m
@@ -75,16 +71,16 @@ uncertain_m f r m = if ltb last_simulation_reason (length m.reasons) then m
 -- ---- records
 
 unfoldable pub log_rule_m : (kind detail automation : ℕ) → Machine → Machine
-log_rule_m k d a = log_m (saying k d) (Of a) Nowhere NoChange
+log_rule_m k d a = log_m (saying k d) (Some a) None None
 
 unfoldable pub log_action_m : (kind detail : ℕ) → Source → Run → Machine → Machine
-log_action_m k d s r = log_m (saying k d) (Of r.automation) (From s.line s.column) NoChange
+log_action_m k d s r = log_m (saying k d) (Some r.automation) (Some (record { line = s.line; column = s.column })) None
 
 unfoldable pub log_plain_m : (kind : ℕ) → Machine → Machine
-log_plain_m k = log_m (saying k 0) NoRule Nowhere NoChange
+log_plain_m k = log_m (saying k 0) None None None
 
 unfoldable pub log_write_m : Setting → Move → Machine → Machine
-log_write_m w v = log_m (saying w.kind 0) w.rule w.source (Write v.entity v.from v.to)
+log_write_m w v = log_m (saying w.kind 0) w.rule w.source (Some (record { entity = v.entity; before = v.from; after = v.to }))
 
 -- the run goes on at a second
 unfoldable pub next_step_m : Run → (second : ℕ) → Machine → Machine

@@ -22,7 +22,7 @@ ghost use Rattle.engine_state.specs.Steps.{Moves, Does, kept, told, still, by};
 
 use queue::{Item, Work};
 use reasons::Reason;
-use records::{Change, Record, Rule, Where};
+use records::{Record, Write};
 use runs::{Run, Source};
 
 // What the entities have at the start: values and versions.
@@ -67,8 +67,8 @@ pub struct Setting {
     pub entity: u32,
     pub value: u32,
     pub kind: u32,
-    pub rule: Rule,
-    pub source: Where,
+    pub rule: Option<u32>,
+    pub source: Option<records::Source>,
 }
 
 // One more, unless that is too many.
@@ -113,18 +113,24 @@ pub fn add(q: &mut [u32], st: State, second: u32, work: Work) -> State
         return s;
     }
     let n = s.items;
-    let p = queue::insert(q, s.queue_start, n, Item { second, work });
-    if p.done {
-        s.items = n + 1;
-        s.queue_start = p.first;
+    let Some(first) = queue::insert(q, s.queue_start, n, Item { second, work }) else {
+        s.overflow = 41;
         return s;
-    }
-    s.overflow = 41;
+    };
+    s.items = n + 1;
+    s.queue_start = first;
     s
 }
 
 // A record more, unless an area is full.
-pub fn log(a: &mut [u32], st: State, what: Told, rule: Rule, source: Where, change: Change) -> State
+pub fn log(
+    a: &mut [u32],
+    st: State,
+    what: Told,
+    rule: Option<u32>,
+    source: Option<records::Source>,
+    change: Option<Write>,
+) -> State
     requires { st.records * 13 ≤ length a.old }
     ensures { Does (log_m what rule source change) st result kept (by a) kept still }
 {
@@ -194,14 +200,7 @@ pub fn log_rule(a: &mut [u32], st: State, kind: u32, detail: u32, automation: u3
     requires { st.records * 13 ≤ length a.old }
     ensures { Does (log_rule_m kind detail automation) st result kept (by a) kept still }
 {
-    log(
-        a,
-        st,
-        Told { kind, detail },
-        Rule::Of(automation),
-        Where::Nowhere,
-        Change::NoChange,
-    )
+    log(a, st, Told { kind, detail }, Some(automation), None, None)
 }
 
 // A record about an action of a run.
@@ -213,12 +212,12 @@ pub fn log_action(a: &mut [u32], st: State, kind: u32, detail: u32, s: Source, r
         a,
         st,
         Told { kind, detail },
-        Rule::Of(run.automation),
-        Where::From {
+        Some(run.automation),
+        Some(records::Source {
             line: s.line,
             column: s.column,
-        },
-        Change::NoChange,
+        }),
+        None,
     )
 }
 
@@ -227,14 +226,7 @@ pub fn log_plain(a: &mut [u32], st: State, kind: u32) -> State
     requires { st.records * 13 ≤ length a.old }
     ensures { Does (log_plain_m kind) st result kept (by a) kept still }
 {
-    log(
-        a,
-        st,
-        Told { kind, detail: 0 },
-        Rule::NoRule,
-        Where::Nowhere,
-        Change::NoChange,
-    )
+    log(a, st, Told { kind, detail: 0 }, None, None, None)
 }
 
 // A record of a write.
@@ -242,8 +234,6 @@ pub fn log_write(a: &mut [u32], st: State, w: Setting, m: Move) -> State
     requires { st.records * 13 ≤ length a.old }
     ensures { Does (log_write_m w m) st result kept (by a) kept still }
 {
-    let rule = w.rule;
-    let source = w.source;
     log(
         a,
         st,
@@ -251,13 +241,13 @@ pub fn log_write(a: &mut [u32], st: State, w: Setting, m: Move) -> State
             kind: w.kind,
             detail: 0,
         },
-        rule,
-        source,
-        Change::Write {
+        w.rule,
+        w.source,
+        Some(Write {
             entity: m.entity,
             before: m.from,
             after: m.to,
-        },
+        }),
     )
 }
 

@@ -52,10 +52,8 @@ fn first_values(values: [u32; 32], n: usize) -> Values
     ensures { Firsts values n result.places }
 {
     let mut places = [0u32; 32];
-    let mut e: usize = 0;
-    while e < n {
+    for e in 0..n {
         places[e] = values[e];
-        e += 1;
     }
     Values { places }
 }

@@ -1,5 +1,5 @@
 -- The laws that the proofs of this crate's functions cite.
-use Rattle.std.specs.Prelude.{if◌then◌else◌}
+use Rattle.std.specs.Prelude.{Some, None, if◌then◌else◌}
 use mathlib.Core.Path.{◌≡◌, sym, ap, ◌∙◌}
 use mathlib.Core.List.{List}
 use Prim.Native.Nat.{ℕ, ◌+◌, ◌-◌, ◌*◌, ◌/◌, ◌%◌, ◌≤◌, ◌<◌}
@@ -10,10 +10,8 @@ use lib.Dec.{ltb}
 use lib.Seq.{get_or-set_same, get_or-set_other}
 use borrow.Author.Tests.{lt-ltb, le-ltb, ne_eqb}
 use Rattle.texts.specs.Texts.{text}
-use Rattle.model_walk.specs.declared.Walked.{Walked}
-use Rattle.model_walk.specs.declared.Walked.TheVariants as walked
 use Rattle.model_walk.specs.declared.Piece.TheVariants as piece
-use Rattle.model_walk.specs.Walk.{pieces_m, actions_m}
+use Rattle.model_walk.specs.Walk.{Walked, pieces_m, actions_m}
 use Rattle.model_order.specs.Order.{place_from}
 use Rattle.model_index.specs.declared.Index.{Index}
 use Rattle.engine_fields.specs.Fields.{two, four, cap}
@@ -33,11 +31,11 @@ use Rattle.engine_table.specs.Table.{
   Headed,
 }
 
-pub end_to : {w : Walked} (at : ℕ) {p n : ℕ} → w ≡ walked.To p n → p ≡ end_of w at
+pub end_to : {w : Walked} (at : ℕ) {p n : ℕ} → w ≡ Some (p, n) → p ≡ end_of w at
 unfolding end_of
 end_to at e = sym (ap (λ (w : Walked). end_of w at) e)
 
-pub end_broken : {w : Walked} (at : ℕ) → w ≡ walked.Broken → at ≡ end_of w at
+pub end_broken : {w : Walked} (at : ℕ) → w ≡ None → at ≡ end_of w at
 unfolding end_of
 end_broken at e = sym (ap (λ (w : Walked). end_of w at) e)
 

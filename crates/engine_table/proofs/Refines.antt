@@ -12,7 +12,7 @@ use lib.ListN.{length, get_or}
 use lib.Dec.{eqb}
 use borrow.Author.Tests.{lt-ltb, le-ltb}
 use Rattle.texts.specs.Texts.{Text, text, mem_t}
-use Rattle.model_spec.specs.Answer.{answer, refused}
+use Rattle.model_spec.specs.Answer.{answer}
 use Rattle.model_spec.specs.Model.{
   Predicate,
   Actions,
@@ -70,8 +70,7 @@ use Rattle.model_walk.proofs.Found.{
 }
 use Rattle.model_walk.proofs.Laws.{u8_in, u16_in, u32_in}
 use Rattle.model_walk.proofs.Refines.{sees_conditions, sees_actions, sees_mode}
-use Rattle.model_walk.specs.Walk.{seen, capped, piece_m, pieces_m, actions_m}
-use Rattle.model_walk.specs.declared.Walked.{Walked}
+use Rattle.model_walk.specs.Walk.{Walked, seen, capped, piece_m, pieces_m, actions_m}
 use Rattle.model_walk.specs.declared.Piece.TheVariants as piece
 use Rattle.model_parts.specs.Stand.{Reads}
 use Rattle.model_parts.proofs.Stands.{more}

@@ -1,10 +1,8 @@
 -- The table that the engine goes by: what each of its 336 words is, from the file s and its index.
-use Rattle.std.specs.Prelude.{ℕ, ◌+◌, ◌-◌, ◌*◌, ◌/◌, ◌%◌, ◌<◌, ◌≡◌, List, ltb, eqb, length, get_or, if◌then◌else◌}
+use Rattle.std.specs.Prelude.{Some, None, ℕ, ◌+◌, ◌-◌, ◌*◌, ◌/◌, ◌%◌, ◌<◌, ◌≡◌, List, ltb, eqb, length, get_or, if◌then◌else◌}
 use Rattle.texts.specs.Texts.{text}
-use Rattle.model_walk.specs.declared.Walked.{Walked}
-use Rattle.model_walk.specs.declared.Walked.TheVariants as walked
 use Rattle.model_walk.specs.declared.Piece.TheVariants as piece
-use Rattle.model_walk.specs.Walk.{pieces_m, actions_m}
+use Rattle.model_walk.specs.Walk.{Walked, pieces_m, actions_m}
 use Rattle.model_order.specs.Order.{place_from}
 use Rattle.model_index.specs.declared.Index.{Index}
 use Rattle.bounds.specs.Bounds.{at_most}
@@ -12,8 +10,8 @@ use Rattle.engine_fields.specs.Fields.{two, four, cap}
 
 -- where a walk ended; a file that was read has all its parts
 unfoldable pub end_of : Walked → (at : ℕ) → ℕ
-end_of (walked.To p n) at = p
-end_of walked.Broken at = at
+end_of (Some (p, n)) at = p
+end_of None at = at
 
 -- ---- an entity at p: name, count and values, initial, tier, stale_after
 

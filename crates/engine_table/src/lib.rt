@@ -28,8 +28,8 @@ fn end_of(w: Walked, at: usize) -> usize
     ensures { result ≡ end_of w at }
 {
     match w {
-        Walked::To(p, _) => p,
-        Walked::Broken => at,
+        Some((p, _)) => p,
+        None => at,
     }
 }
 
@@ -73,28 +73,16 @@ fn rule_word(s: &[u8], texts: u32, p: usize, k: usize) -> u32
     requires { p ≤ 4294967295 }
     ensures { result ≡ rule_word texts s.now p k }
 {
-    if k == layout::ID {
-        return engine_fields::two_at(s, p);
+    match k {
+        layout::ID => engine_fields::two_at(s, p),
+        layout::MODE => engine_fields::byte_at(s, p + 2),
+        layout::MAX => engine_fields::four_at(s, p + 3),
+        layout::TRIGGERS => engine_fields::capped(p + 7),
+        layout::CONDITIONS => engine_fields::capped(conditions_at(s, p)),
+        layout::ACTIONS => engine_fields::capped(actions_at(s, texts, p)),
+        layout::SOURCE => engine_fields::capped(source_at(s, texts, p)),
+        _ => notes_word(s, texts, p),
     }
-    if k == layout::MODE {
-        return engine_fields::byte_at(s, p + 2);
-    }
-    if k == layout::MAX {
-        return engine_fields::four_at(s, p + 3);
-    }
-    if k == layout::TRIGGERS {
-        return engine_fields::capped(p + 7);
-    }
-    if k == layout::CONDITIONS {
-        return engine_fields::capped(conditions_at(s, p));
-    }
-    if k == layout::ACTIONS {
-        return engine_fields::capped(actions_at(s, texts, p));
-    }
-    if k == layout::SOURCE {
-        return engine_fields::capped(source_at(s, texts, p));
-    }
-    notes_word(s, texts, p)
 }
 
 // The position of an automation's notes, behind its source.
@@ -221,10 +209,8 @@ fn headed(s: &[u8], index: Index) -> Table
     ensures { Headed s.now index result }
 {
     let mut words = [0u32; layout::TABLE];
-    let mut k: usize = 0;
-    while k < layout::HEAD_WORDS {
+    for k in 0..layout::HEAD_WORDS {
         words[k] = head_word(s, index, k);
-        k += 1;
     }
     words
 }
@@ -241,10 +227,8 @@ pub fn table_of(s: &[u8], index: Index) -> Table
     let count = texts.count;
     let n = bounds::at_most(automations.count, 32);
     let mut words = headed(s, index);
-    let mut k = layout::HEAD_WORDS;
-    while k < layout::AUTOMATIONS + n * layout::AUTOMATION_WORDS {
+    for k in layout::HEAD_WORDS..layout::AUTOMATIONS + n * layout::AUTOMATION_WORDS {
         words[k] = part_word(s, count, &names, &rules, k);
-        k += 1;
     }
     words
 }

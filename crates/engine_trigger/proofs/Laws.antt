@@ -14,8 +14,7 @@ use Rattle.runs.specs.Runs.{run_words, run_at, whole, Sought, Replaced, Removed}
 use Rattle.runs.proofs.Laws as runs
 use Rattle.runs.specs.declared.Run.{Run}
 use Rattle.runs.specs.declared.Wait.{Wait}
-use Rattle.runs.specs.declared.Phase.TheVariants.{Going, Waiting}
-use Rattle.runs.specs.declared.Found.{Found}
+use Rattle.std.specs.Prelude.{Option, Some, None}
 use Rattle.reasons.specs.Kinds as kinds
 use Rattle.reasons.specs.declared.Reason.{Reason}
 use Rattle.bounds.specs.Bounds.{at_most}
@@ -122,7 +121,7 @@ module _ {st s : Entire} {Q A : Lent} {r b : List ℕ} {U : Listing} where
       ap (λ z. F z (machine st c)) (e ∙ ap (λ z. run_at z k) held.runs.is
       ∙ runs.run_is (length r) c.runs k no_run (subst (λ n. k < n) held.runs.many lt)))
 
-  pub with_found : (F : Found → Machine → Machine) {p : Run → Bool} {x y : Found} → Sought p r st.live_runs x → x ≡ y →
+  pub with_found : (F : Option ℕ → Machine → Machine) {p : Run → Bool} {x y : Option ℕ} → Sought p r st.live_runs x → x ≡ y →
       Steps (λ c. F y (machine st c)) st s Q A (goes r b) U →
       Steps (λ c. F (place_from p 0 c.runs) (machine st c)) st s Q A (goes r b) U
   with_found F {p} sought e d = states.knowing (λ c. F (place_from p 0 c.runs) (machine st c)) d (λ f q a _ u c held.
@@ -133,19 +132,19 @@ module _ {st s : State} {Q A : Lent} {r b : List ℕ} {U : Listing} {L N C : Len
       Moves (F x) st s Q A (goes r b) U L N C → Moves (λ m. F (run_m k m) m) st s Q A (goes r b) U L N C
   ran F e lt d = states.moves (λ v n c. with_run F e lt (d.does v n c))
 
-  pub found : (F : Found → Machine → Machine) {p : Run → Bool} {x y : Found} → Sought p r st.live_runs x → x ≡ y →
+  pub found : (F : Option ℕ → Machine → Machine) {p : Run → Bool} {x y : Option ℕ} → Sought p r st.live_runs x → x ≡ y →
       Moves (F y) st s Q A (goes r b) U L N C → Moves (λ m. F (place_from p 0 m.runs) m) st s Q A (goes r b) U L N C
   found F sought e d = states.moves (λ v n c. with_found F sought e (d.does v n c))
 
 -- ---- runs that wake
 
 module _ (f : List ℕ) (v : Move) (k : ℕ) (r : Run) (m : Machine) where
-  pub wake_going : r.phase ≡ Going → m ≡ wake_run_m f v k r m
+  pub wake_going : r.phase ≡ None → m ≡ wake_run_m f v k r m
   unfolding wake_run_m wake_phase_m
   wake_going e = sym (ap (λ p. wake_phase_m f v k r p m) e)
 
-  module _ (w : Wait) (t : Bool) (e : r.phase ≡ Waiting w) (is : t ≡ matches_m f v w.trigger) where
-    pub wake_yes : t ≡ true → now_m r (put_run_m k (phase_m Going r) m) ≡ wake_run_m f v k r m
+  module _ (w : Wait) (t : Bool) (e : r.phase ≡ Some w) (is : t ≡ matches_m f v w.trigger) where
+    pub wake_yes : t ≡ true → now_m r (put_run_m k (phase_m None r) m) ≡ wake_run_m f v k r m
     unfolding wake_run_m wake_phase_m
     wake_yes g = sym (ap (λ p. wake_phase_m f v k r p m) e ∙ rw (← is, g))
 

@@ -1,13 +1,10 @@
 -- Runs that end and wake. A run is read back with just 17 places.
-use Rattle.std.specs.Prelude.{ℕ, zero, suc, ◌+◌, false, List, [], ◌++◌, length, get_or, take, drop, set, if◌then◌else◌}
+use Rattle.std.specs.Prelude.{ℕ, zero, suc, ◌+◌, false, Option, Some, None, List, [], ◌++◌, length, get_or, take, drop, set, if◌then◌else◌}
 use Rattle.records.specs.Kinds.{complete_kind}
 use Rattle.runs.specs.Lists.{place_from}
 use Rattle.runs.specs.Runs.{whole, in_line}
 use Rattle.runs.specs.declared.Run.{Run}
-use Rattle.runs.specs.declared.Phase.{Phase}
-use Rattle.runs.specs.declared.Phase.TheVariants.{Going, Waiting}
-use Rattle.runs.specs.declared.Found.{Found}
-use Rattle.runs.specs.declared.Found.TheVariants.{At, Nothing}
+use Rattle.runs.specs.declared.Wait.{Wait}
 use Rattle.engine_evaluate.specs.Evaluate.{matches_m}
 use Rattle.engine_state.specs.declared.Move.{Move}
 use Rattle.engine_state.specs.Machine.{Machine, put_runs}
@@ -15,7 +12,7 @@ use Rattle.engine_state.specs.Changes.{log_rule_m}
 use Rattle.engine_modes.specs.Modes.{now_m}
 
 abbrev pub no_run : Run
-no_run = record { automation = 0; sequence = 0; number = 0; queued = false; phase = Going; depth = 0; places = [] }
+no_run = record { automation = 0; sequence = 0; number = 0; queued = false; phase = None; depth = 0; places = [] }
 
 -- the run at k
 unfoldable pub run_m : (k : ℕ) → Machine → Run
@@ -36,7 +33,7 @@ released_m r = record {
   places = r.places;
 }
 
-abbrev pub phase_m : Phase → Run → Run
+abbrev pub phase_m : Option Wait → Run → Run
 phase_m p r = record {
   automation = r.automation;
   sequence = r.sequence;
@@ -52,9 +49,9 @@ phase_m p r = record {
 unfoldable pub release_run_m : (k : ℕ) → Run → Machine → Machine
 release_run_m k r m = now_m r (put_run_m k (released_m r) m)
 
-unfoldable pub release_at_m : Found → Machine → Machine
-release_at_m (At k) m = release_run_m k (run_m k m) m
-release_at_m Nothing m = m
+unfoldable pub release_at_m : Option ℕ → Machine → Machine
+release_at_m (Some k) m = release_run_m k (run_m k m) m
+release_at_m None m = m
 
 unfoldable pub release_m : (automation : ℕ) → Machine → Machine
 release_m a m = release_at_m (place_from (in_line a) 0 m.runs) m
@@ -71,9 +68,9 @@ finish_m k m = finish_run_m k (run_m k m) m
 
 -- ---- a run that waits for a change
 
-unfoldable pub wake_phase_m : List ℕ → Move → (k : ℕ) → Run → Phase → Machine → Machine
-wake_phase_m f v k r Going m = m
-wake_phase_m f v k r (Waiting w) m = if matches_m f v w.trigger then now_m r (put_run_m k (phase_m Going r) m) else m
+unfoldable pub wake_phase_m : List ℕ → Move → (k : ℕ) → Run → Option Wait → Machine → Machine
+wake_phase_m f v k r None m = m
+wake_phase_m f v k r (Some w) m = if matches_m f v w.trigger then now_m r (put_run_m k (phase_m None r) m) else m
 
 unfoldable pub wake_run_m : List ℕ → Move → (k : ℕ) → Run → Machine → Machine
 wake_run_m f v k r m = wake_phase_m f v k r r.phase m

@@ -1,10 +1,7 @@
 -- What a change sets off.
-use Rattle.std.specs.Prelude.{ℕ, zero, suc, ◌+◌, List, eqb, if◌then◌else◌}
+use Rattle.std.specs.Prelude.{ℕ, zero, suc, ◌+◌, Some, None, List, eqb, if◌then◌else◌}
 use Rattle.layout.specs.Table.{conditions_word, notes_word, source_word, triggers_word}
 use Rattle.records.specs.Kinds.{trigger_kind}
-use Rattle.records.specs.declared.Rule.TheVariants.{Of}
-use Rattle.records.specs.declared.Where.TheVariants.{From}
-use Rattle.records.specs.declared.Change.TheVariants.{NoChange}
 use Rattle.engine_fields.specs.Fields.{two, four, word, rules, about_rule}
 use Rattle.engine_evaluate.specs.Evaluate.{number_m, any_m, all_m}
 use Rattle.engine_evaluate.specs.declared.Truth.{Truth}
@@ -23,9 +20,8 @@ admit_m f x i No m = m
 admit_m f x i Unknown m = uncertain_m f (about_rule f x i kinds.trigger_condition) m
 
 unfoldable pub log_trigger_m : (f x : List ℕ) → (i : ℕ) → Truth → Machine → Machine
-log_trigger_m f x i t m = log_m (saying trigger_kind (number_m t)) (Of i)
-    (From (four f (word x i source_word)) (four f (word x i source_word + 4)))
-    NoChange m
+log_trigger_m f x i t m = log_m (saying trigger_kind (number_m t)) (Some i)
+    (Some (record { line = four f (word x i source_word); column = four f (word x i source_word + 4) })) None m
 
 unfoldable pub offer_as_m : (f x : List ℕ) → (i : ℕ) → Truth → Machine → Machine
 offer_as_m f x i t m = admit_m f x i t (log_trigger_m f x i t m)

@@ -10,32 +10,24 @@ use engine_evaluate::Truth;
 use engine_fields::rule_word;
 use engine_state::{Move, State, Told, log, log_rule, next_step};
 use layout::Table;
-use records::{Change, Rule, Where};
-use runs::{Found, Phase, Run};
+use records::Source;
+use runs::{Phase, Run};
 
 // ---- runs
 
 pub fn released(run: Run) -> Run
     ensures { result ≡ released_m run }
 {
-    let mut r = run;
-    r.queued = false;
-    r
+    Run {
+        queued: false,
+        ..run
+    }
 }
 
 pub fn with_phase(run: Run, phase: Phase) -> Run
     ensures { result ≡ phase_m phase run }
 {
-    let places = run.places;
-    Run {
-        automation: run.automation,
-        sequence: run.sequence,
-        number: run.number,
-        queued: run.queued,
-        phase,
-        depth: run.depth,
-        places,
-    }
+    Run { phase, ..run }
 }
 
 // The automation's first queued run goes on.
@@ -45,12 +37,12 @@ pub fn release(q: &mut [u32], r: &mut [u32], st: State, automation: u32) -> Stat
 {
     let found = runs::find_queued(r, st.live_runs, automation);
     match found {
-        Found::At(k) => {
+        Some(k) => {
             let run = runs::run_at(r, k);
             runs::put_run(r, k, released(run));
             next_step(q, st, run, st.now)
         }
-        Found::Nothing => st,
+        None => st,
     }
 }
 
@@ -73,12 +65,12 @@ fn wake_one(f: &[u8], q: &mut [u32], r: &mut [u32], st: State, k: usize, m: Move
     ensures { Does (wake_one_m f.now m k) st result (by q) kept (by r) still × (result.live_runs ≡ st.live_runs) }
 {
     let phase = runs::phase_at(r, k);
-    let Phase::Waiting(w) = phase else {
+    let Some(w) = phase else {
         return st;
     };
     if engine_evaluate::matches(f, w.trigger, m) {
         let run = runs::run_at(r, k);
-        let going = with_phase(run, Phase::Going);
+        let going = with_phase(run, None);
         runs::put_run(r, k, going);
         return next_step(q, st, run, st.now);
     }
@@ -91,10 +83,8 @@ fn wake(f: &[u8], q: &mut [u32], r: &mut [u32], st: State, m: Move) -> State
 {
     let n = st.live_runs;
     let mut s = st;
-    let mut k: usize = 0;
-    while k < n {
+    for k in 0..n {
         s = wake_one(f, q, r, s, k, m);
-        k += 1;
     }
     s
 }
@@ -149,9 +139,9 @@ fn log_trigger(f: &[u8], x: &Table, a: &mut [u32], st: State, i: usize, t: Truth
             kind: records::TRIGGER,
             detail,
         },
-        Rule::Of(i as u32),
-        Where::From { line, column },
-        Change::NoChange,
+        Some(i as u32),
+        Some(Source { line, column }),
+        None,
     )
 }
 
@@ -207,10 +197,8 @@ pub fn trigger(
 {
     let n = bounds::at_most(x[layout::AUTOMATION_COUNT], 32);
     let mut s = wake(f, q, r, st, m);
-    let mut i: usize = 0;
-    while i < n {
+    for i in 0..n {
         s = offer(f, x, q, a, r, u, values, sequences, s, i, m);
-        i += 1;
     }
     s
 }

@@ -1,4 +1,5 @@
 -- Each listing of actions and of automations adds the reasons of the part that the reader of `File` finds at its position.
+use Rattle.std.specs.Prelude.{Some}
 use mathlib.Core.Path.{◌≡◌, refl, sym, ap, ◌∙◌, subst}
 use mathlib.Core.List.{List, [], ◌∷◌, ◌++◌, append-nil, append_assoc}
 use Prim.Native.Nat.{ℕ, zero, suc, ◌+◌, ◌≤◌, ◌<◌}
@@ -29,7 +30,6 @@ use Rattle.model_spec.specs.File.{
 }
 use Rattle.model_spec.specs.Notes.{of_predicate, of_trigger, of_invariant, of_rule, notes_of}
 use Rattle.model_walk.specs.Walk.{found}
-use Rattle.model_walk.specs.declared.Num.TheVariants as num
 use Rattle.model_walk.proofs.Found.{bound, given, Wide, wide_sum, u32_wide, kind_wide, Kind, kind_found, place_found}
 use Rattle.model_walk.proofs.Found as found
 use Rattle.model_walk.proofs.Refines.{sees_flag}
@@ -99,7 +99,7 @@ use Rattle.engine_unsupported.proofs.Adding.{add_sorted, each_same, many_rules}
 read_got : {A : Type 0} (f : List ℕ) (p : ℕ) (r : Reader ℕ) (z : A) (k : ℕ → ℕ → A) {v q : ℕ} → r f p ≡ got v q →
     read r z k f p ≡ k v q
 unfolding found
-read_got f p r z k {v} {q} e = notes.read_is f p r z k {x = num.Is v q} (sym e) refl
+read_got f p r z k {v} {q} e = notes.read_is f p r z k {x = Some (v, q)} (sym e) refl
 
 source_words : words kinds.source_note_kind ≡ text ": "
 unfolding words

@@ -23,7 +23,6 @@ ghost use Rattle.engine_unsupported.specs.Listing.{
 
 use engine_notes::{Noted, Part};
 use layout::Table;
-use model_walk::Num;
 use reasons::Reason;
 
 // What stands before an action's effect.
@@ -40,8 +39,7 @@ pub struct Head {
 fn head_at(f: &[u8], at: usize) -> Head
     ensures { result ≡ head_of f.now at }
 {
-    let x = model_walk::u32_at(f, at);
-    let Num::Is(line, p) = x else {
+    let Some((line, p)) = model_walk::u32_at(f, at) else {
         return Head {
             line: 0,
             column: 0,
@@ -49,8 +47,7 @@ fn head_at(f: &[u8], at: usize) -> Head
             next: at,
         };
     };
-    let y = model_walk::u32_at(f, p);
-    let Num::Is(column, q) = y else {
+    let Some((column, q)) = model_walk::u32_at(f, p) else {
         return Head {
             line: 0,
             column: 0,
@@ -58,8 +55,7 @@ fn head_at(f: &[u8], at: usize) -> Head
             next: at,
         };
     };
-    let z = model_walk::u8_at(f, q);
-    let Num::Is(kind, next) = z else {
+    let Some((kind, next)) = model_walk::u8_at(f, q) else {
         return Head {
             line: 0,
             column: 0,
@@ -92,8 +88,7 @@ fn unknown_note(f: &[u8], u: &mut [u32], line: u32, column: u32, at: usize, n: u
     requires { simulation_reason_words ≤ length u.old }
     ensures { Lists (unknown_m line column) f.now at n u.old result u.new }
 {
-    let x = model_walk::u16_at(f, at);
-    let Num::Is(note, next) = x else {
+    let Some((note, next)) = model_walk::u16_at(f, at) else {
         return Noted { count: n, next: at };
     };
     let r = source_note(f, line, column, note);
@@ -145,18 +140,15 @@ fn actions_notes(f: &[u8], u: &mut [u32], left: usize, at: usize, n: usize) -> N
     if left == 0 {
         return Noted { count: n, next: at };
     }
-    let x = model_walk::u16_at(f, at);
-    let Num::Is(count, start) = x else {
+    let Some((count, start)) = model_walk::u16_at(f, at) else {
         return Noted { count: n, next: at };
     };
-    let mut i = count;
     let mut p = start;
     let mut k = n;
-    while 0 < i {
+    for _ in 0..count {
         let d = action_notes(f, u, left - 1, p, k);
         p = d.next;
         k = d.count;
-        i -= 1;
     }
     Noted { count: k, next: p }
 }
@@ -182,19 +174,16 @@ fn choice_notes(f: &[u8], u: &mut [u32], left: usize, at: usize, n: usize) -> No
     requires { simulation_reason_words ≤ length u.old }
     ensures { Lists (choice_m (actions_m left)) f.now at n u.old result u.new }
 {
-    let x = model_walk::u16_at(f, at);
-    let Num::Is(count, start) = x else {
+    let Some((count, start)) = model_walk::u16_at(f, at) else {
         return Noted { count: n, next: at };
     };
-    let mut i = count;
     let mut p = start;
     let mut k = n;
-    while 0 < i {
+    for _ in 0..count {
         let d = engine_notes::part_notes(f, u, Part::Predicate, layout::NO_PLACE, p, k);
         let e = actions_notes(f, u, left, d.next, d.count);
         p = e.next;
         k = e.count;
-        i -= 1;
     }
     actions_notes(f, u, left, p, k)
 }
@@ -235,10 +224,8 @@ pub fn unsupported(f: &[u8], x: &Table, u: &mut [u32]) -> usize
 {
     let rules = bounds::at_most(x[layout::AUTOMATION_COUNT], 32);
     let mut k: usize = 0;
-    let mut i: usize = 0;
-    while i < rules {
+    for i in 0..rules {
         k = rule_notes(f, x, u, i, k);
-        i += 1;
     }
     k
 }

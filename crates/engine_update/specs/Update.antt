@@ -1,8 +1,7 @@
 -- Writes, over the table x.
-use Rattle.std.specs.Prelude.{ℕ, List, ltb, eqb, get_or, if◌then◌else◌}
+use Rattle.std.specs.Prelude.{ℕ, Option, List, ltb, eqb, get_or, if◌then◌else◌}
 use Rattle.queue.specs.declared.Work.TheVariants.{Changed, Stale}
-use Rattle.records.specs.declared.Rule.{Rule}
-use Rattle.records.specs.declared.Where.{Where}
+use Rattle.records.specs.declared.Source.{Source}
 use Rattle.engine_fields.specs.Fields.{name, stale, entity_of}
 use Rattle.engine_state.specs.Machine.{Machine, later, put_cells, stored_m, raised_m}
 use Rattle.engine_state.specs.Changes.{add_m, log_write_m}
@@ -21,7 +20,7 @@ changed_m v m = if eqb v.from v.to then m else add_m m.now (Changed v.entity v.f
 abbrev pub cells : Machine → Cells
 cells m = record { values = m.values; versions = m.versions }
 
-abbrev pub setting : (entity value kind : ℕ) → Rule → Where → Setting
+abbrev pub setting : (entity value kind : ℕ) → Option ℕ → Option Source → Setting
 setting e v k u w = record { entity = e; value = v; kind = k; rule = u; source = w }
 
 abbrev pub move : (entity from to : ℕ) → Move

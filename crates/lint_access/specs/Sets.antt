@@ -1,7 +1,6 @@
 -- The entities that an automation reads and writes, as sets of numbers of declared entities.
-use Rattle.std.specs.Prelude.{ℕ, zero, suc, ◌+◌, ◌^◌, List, ltb, eqb, get_or, if◌then◌else◌}
+use Rattle.std.specs.Prelude.{None, ℕ, zero, suc, ◌+◌, ◌^◌, List, ltb, eqb, get_or, if◌then◌else◌}
 use Rattle.std.specs.Int.Bits.{bit_or}
-use Rattle.model_walk.specs.declared.Walked.TheVariants as walked
 use Rattle.model_parts.specs.declared.Section.{Section}
 use Rattle.model_check.specs.Checks.{number_of}
 use Rattle.lint_walk.specs.declared.Walk.{Walk}
@@ -10,7 +9,7 @@ use Rattle.lint_walk.specs.Walks.{list_end}
 
 -- a section by its first n positions alone
 abbrev pub section_by : List ℕ → (n : ℕ) → Section
-section_by l n = record { count = n; starts = l; end = walked.Broken }
+section_by l n = record { count = n; starts = l; end = None }
 
 -- a change of a set
 abbrev pub Adds : Type 0

@@ -53,13 +53,12 @@ pub fn add_predicates(s: &[u8], entities: &Positions, many: u32, set: u32, at: u
     requires { many ≤ 32 }
     ensures { result ≡ add_predicates_m s.now (section_by entities.now many) at set }
 {
-    let mut left = lint_walk::place_at(s, at);
+    let count = lint_walk::place_at(s, at);
     let mut p = lint_walk::past(s, at, 2);
     let mut out = set;
-    while 0 < left {
+    for _ in 0..count {
         out = add_predicate(s, entities, many, out, p);
         p = lint_walk::predicate_end(s, p);
-        left -= 1;
     }
     out
 }
@@ -81,13 +80,12 @@ fn add_triggers(s: &[u8], entities: &Positions, many: u32, set: u32, at: usize) 
     requires { many ≤ 32 }
     ensures { result ≡ add_triggers_m s.now (section_by entities.now many) at set }
 {
-    let mut left = lint_walk::place_at(s, at);
+    let count = lint_walk::place_at(s, at);
     let mut p = lint_walk::past(s, at, 2);
     let mut out = set;
-    while 0 < left {
+    for _ in 0..count {
         out = add_trigger(s, entities, many, out, p);
         p = lint_walk::past(s, p, 16);
-        left -= 1;
     }
     out
 }
@@ -97,13 +95,12 @@ fn add_branches(s: &[u8], entities: &Positions, many: u32, set: u32, at: usize) 
     requires { many ≤ 32 }
     ensures { result ≡ add_branches_m s.now (section_by entities.now many) at set }
 {
-    let mut left = lint_walk::place_at(s, at);
+    let count = lint_walk::place_at(s, at);
     let mut p = lint_walk::past(s, at, 2);
     let mut out = set;
-    while 0 < left {
+    for _ in 0..count {
         out = add_predicates(s, entities, many, out, p);
         p = lint_walk::list_end(s, lint_walk::predicates_end(s, p));
-        left -= 1;
     }
     out
 }
@@ -156,10 +153,8 @@ pub fn reads(
     ensures { result ≡ reads_m s.now (section_by entities.now many) at (walk_by list.now count) }
 {
     let mut set = add_triggers(s, entities, many, 0, lint_walk::triggers_at(s, at));
-    let mut k: usize = 0;
-    while k < count {
+    for k in 0..count {
         set = add_reads(s, entities, many, set, list[k]);
-        k += 1;
     }
     add_predicates(s, entities, many, set, lint_walk::conditions_at(s, at))
 }
@@ -176,10 +171,8 @@ pub fn writes(
     ensures { result ≡ writes_m s.now (section_by entities.now many) (walk_by list.now count) }
 {
     let mut set: u32 = 0;
-    let mut k: usize = 0;
-    while k < count {
+    for k in 0..count {
         set = add_write(s, entities, many, set, list[k]);
-        k += 1;
     }
     set
 }

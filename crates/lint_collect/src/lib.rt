@@ -118,8 +118,7 @@ pub fn rules_entries(
     let extent = given.rules;
     let count = extent.count as usize;
     let mut out = o;
-    let mut i: usize = 0;
-    while i < count {
+    for i in 0..count {
         out = rule_entries(
             s,
             entities,
@@ -131,7 +130,6 @@ pub fn rules_entries(
             interactions,
             out,
         );
-        i += 1;
     }
     out
 }
@@ -183,19 +181,18 @@ fn later_entries(
 {
     let extent = given.rules;
     let count = extent.count as usize;
-    let mut j = i + 1;
-    if count <= j {
+    let from = i + 1;
+    if count <= from {
         return o;
     }
     let mut list = [0usize; layout::ACTION_POSITIONS];
     let c = lint_walk::rule_walk(s, rules[i], &mut list);
     let m = c.count;
     let mut out = o;
-    while j < count {
+    for j in from..count {
         out = pair_entries(
             s, entities, invariants, rules, given, i, &list, m, j, findings, out,
         );
-        j += 1;
     }
     out
 }
@@ -218,10 +215,8 @@ pub fn opposing_entries(
     let extent = given.rules;
     let count = extent.count as usize;
     let mut out = o;
-    let mut i: usize = 0;
-    while i < count {
+    for i in 0..count {
         out = later_entries(s, entities, invariants, rules, given, i, findings, out);
-        i += 1;
     }
     out
 }
@@ -233,12 +228,10 @@ fn leads_to(s: &[u8], star: u32, list: &ActionPositions, count: usize, at: usize
     requires { count ≤ 512 }
     ensures { result ≡ leads_to_m s.now star (walk_by list.now count) at }
 {
-    let mut k: usize = 0;
-    while k < count {
+    for k in 0..count {
         if action_leads(s, star, list[k], at) {
             return true;
         }
-        k += 1;
     }
     false
 }
@@ -269,10 +262,8 @@ fn reach_row(
 {
     let n = extent.count as usize;
     let mut row = [false; 32];
-    let mut j: usize = 0;
-    while j < n {
+    for j in 0..n {
         row[j] = leads_to(s, star, list, count, rules[j]);
-        j += 1;
     }
     row
 }
@@ -284,12 +275,10 @@ pub fn edges(s: &[u8], star: u32, rules: &Positions, extent: Extent) -> [[bool; 
 {
     let count = extent.count as usize;
     let mut start = [[false; 32]; 32];
-    let mut i: usize = 0;
-    while i < count {
+    for i in 0..count {
         let mut list = [0usize; layout::ACTION_POSITIONS];
         let c = lint_walk::rule_walk(s, rules[i], &mut list);
         start[i] = reach_row(s, star, rules, extent, &list, c.count);
-        i += 1;
     }
     start
 }
@@ -315,16 +304,12 @@ fn cycle_writes(s: &[u8], entities: &Positions, rules: &Positions, given: Given,
     let written = given.entities;
     let many = written.count;
     let mut writes: u32 = 0;
-    let mut i: usize = 0;
-    while i < count {
+    for i in 0..count {
         if lint_reach::has(set, i) {
             let mut list = [0usize; layout::ACTION_POSITIONS];
             let c = lint_walk::rule_walk(s, rules[i], &mut list);
             let more = lint_access::writes(s, entities, many, &list, c.count);
             writes = lint_reach::union(writes, more);
-            i += 1;
-        } else {
-            i += 1;
         }
     }
     writes
@@ -364,14 +349,12 @@ pub fn cycle_entries(
 {
     let count = found.count;
     let mut out = o;
-    let mut i: usize = 0;
-    while i < count {
+    for i in 0..count {
         out = lint_areas::push_finding(
             findings,
             out,
             cycle_words(s, entities, rules, given, found.sets[i]),
         );
-        i += 1;
     }
     out
 }

@@ -68,14 +68,12 @@ fn clash(s: &[u8], x: u32, v: u32, at: usize) -> bool
 fn clashes(s: &[u8], x: u32, v: u32, count: u32, at: usize) -> bool
     ensures { result ≡ clashes_m s.now x v count at }
 {
-    let mut left = count;
     let mut p = at;
-    while 0 < left {
+    for _ in 0..count {
         if clash(s, x, v, p) {
             return true;
         }
         p = lint_walk::predicate_end(s, p);
-        left -= 1;
     }
     false
 }
@@ -96,14 +94,13 @@ fn meets(s: &[u8], behind: u32, at: usize) -> bool
 pub fn contradictory(s: &[u8], at: usize) -> bool
     ensures { result ≡ contradictory_m s.now at }
 {
-    let mut left = lint_walk::place_at(s, at);
+    let count = lint_walk::place_at(s, at);
     let mut p = lint_walk::past(s, at, 2);
-    while 0 < left {
-        if meets(s, left - 1, p) {
+    for i in 0..count {
+        if meets(s, count - i - 1, p) {
             return true;
         }
         p = lint_walk::predicate_end(s, p);
-        left -= 1;
     }
     false
 }
@@ -132,14 +129,13 @@ pub fn mismatched(s: &[u8], at: usize) -> bool
 {
     let conditions = lint_walk::conditions_at(s, at);
     let triggers = lint_walk::triggers_at(s, at);
-    let mut left = lint_walk::place_at(s, triggers);
+    let count = lint_walk::place_at(s, triggers);
     let mut p = lint_walk::past(s, triggers, 2);
-    while 0 < left {
+    for _ in 0..count {
         if !mismatch(s, conditions, p) {
             return false;
         }
         p = lint_walk::past(s, p, 16);
-        left -= 1;
     }
     true
 }
@@ -169,14 +165,13 @@ pub fn leads(s: &[u8], star: u32, x: u32, v: u32, at: usize) -> bool
     ensures { result ≡ leads_m s.now star x v at }
 {
     let triggers = lint_walk::triggers_at(s, at);
-    let mut left = lint_walk::place_at(s, triggers);
+    let count = lint_walk::place_at(s, triggers);
     let mut p = lint_walk::past(s, triggers, 2);
-    while 0 < left {
+    for _ in 0..count {
         if sets_off(s, star, x, v, p) {
             return true;
         }
         p = lint_walk::past(s, p, 16);
-        left -= 1;
     }
     false
 }
@@ -188,12 +183,10 @@ pub fn delays(s: &[u8], list: &ActionPositions, count: usize) -> bool
     requires { count ≤ 512 }
     ensures { result ≡ delays_m s.now (walk_by list.now count) }
 {
-    let mut k: usize = 0;
-    while k < count {
+    for k in 0..count {
         if lint_walk::kind_at(s, list[k]) == 2 {
             return true;
         }
-        k += 1;
     }
     false
 }
@@ -231,12 +224,10 @@ fn guarded(s: &[u8], invariants: &Positions, extent: Extent, x: u32, v: u32) -> 
     ensures { result ≡ guarded_m s.now (section_of invariants.now extent) x v }
 {
     let count = extent.count as usize;
-    let mut k: usize = 0;
-    while k < count {
+    for k in 0..count {
         if guard(s, x, v, invariants[k]) {
             return true;
         }
-        k += 1;
     }
     false
 }
@@ -304,13 +295,9 @@ pub fn highest(s: &[u8], entities: &Positions, extent: Extent, set: u32) -> u32
 {
     let count = extent.count as usize;
     let mut best: u32 = 0;
-    let mut k: usize = 0;
-    while k < count {
+    for k in 0..count {
         if lint_reach::has(set, k) {
             best = greater(best, tier(s, entities[k]));
-            k += 1;
-        } else {
-            k += 1;
         }
     }
     best

@@ -65,10 +65,8 @@ fn first_sets(sets: [u32; 32], n: usize) -> Sets
     ensures { result.list ≡ first_m sets n }
 {
     let mut list = [0u32; 32];
-    let mut i: usize = 0;
-    while i < n {
+    for i in 0..n {
         list[i] = sets[i];
-        i += 1;
     }
     Sets { list }
 }
@@ -95,15 +93,13 @@ fn rule_sets(
     let many = declared.count;
     let mut reads = [0u32; 32];
     let mut writes = [0u32; 32];
-    let mut i: usize = 0;
-    while i < n {
+    for i in 0..n {
         let at = rules[i];
         let mut list = [0usize; layout::ACTION_POSITIONS];
         let c = lint_walk::rule_walk(s, at, &mut list);
         let count = c.count;
         reads[i] = lint_access::reads(s, entities, many, at, &list, count);
         writes[i] = lint_access::writes(s, entities, many, &list, count);
-        i += 1;
     }
     Touched { reads, writes }
 }

@@ -102,13 +102,12 @@ fn choice_findings(s: &[u8], a: About, at: usize, findings: &mut [u32], o: Out) 
 {
     let words = at_action(s, a, 3, 0, 0, at);
     let start = lint_walk::past(s, at, 9);
-    let mut left = lint_walk::place_at(s, start);
+    let count = lint_walk::place_at(s, start);
     let mut p = lint_walk::past(s, start, 2);
     let mut out = o;
-    while 0 < left {
+    for _ in 0..count {
         out = lint_areas::push_if(findings, out, lint_conditions::contradictory(s, p), words);
         p = lint_walk::list_end(s, lint_walk::predicates_end(s, p));
-        left -= 1;
     }
     out
 }
@@ -126,14 +125,10 @@ fn branch_findings(
         (board findings.old i o) }
 {
     let mut out = o;
-    let mut k: usize = 0;
-    while k < count {
+    for k in 0..count {
         let p = list[k];
         if lint_walk::kind_at(s, p) == 4 {
             out = choice_findings(s, a, p, findings, out);
-            k += 1;
-        } else {
-            k += 1;
         }
     }
     out
@@ -168,8 +163,7 @@ fn fresh_findings(
     let line = a.line;
     let column = a.column;
     let mut out = o;
-    let mut k: usize = 0;
-    while k < count {
+    for k in 0..count {
         let test = stale_here(s, entities, extent, reads, k);
         out = lint_areas::push_if(
             findings,
@@ -177,7 +171,6 @@ fn fresh_findings(
             test,
             finding(a, 6, 1, k as u32, line, column),
         );
-        k += 1;
     }
     out
 }
@@ -232,11 +225,9 @@ fn interactions_of(
 {
     let count = extent.count as usize;
     let mut out = o;
-    let mut k: usize = 0;
-    while k < count {
+    for k in 0..count {
         let test = lint_conditions::leads(s, star, x, v, rules[k]);
         out = lint_areas::interact_if(interactions, out, test, [from, k as u32, e]);
-        k += 1;
     }
     out
 }
@@ -307,8 +298,7 @@ fn writes_findings(
         a (walk_by list.now count)) (board findings.old interactions.old o) }
 {
     let mut out = o;
-    let mut k: usize = 0;
-    while k < count {
+    for k in 0..count {
         out = write_findings(
             s,
             entities,
@@ -321,7 +311,6 @@ fn writes_findings(
             interactions,
             out,
         );
-        k += 1;
     }
     out
 }

@@ -19,7 +19,7 @@ use Rattle.lint_reach.specs.Sets.{members}
 use Rattle.lint_walk.specs.Raw.{number_m, past}
 use Rattle.lint_walk.specs.Walks.{walk_m}
 use Rattle.lint_entry.specs.declared.Report.{Report}
-use Rattle.show.specs.declared.Source.TheVariants.{At}
+use Rattle.std.specs.Prelude.{Some}
 use Rattle.show.specs.Lines.{newline, quoted, source}
 use Rattle.lint_words.specs.Lines.{spaced, listed, quoted_list}
 use Rattle.lint_words.specs.Numbers.{start_at, name_of, names_of, problem_of, certainty_of, tier_of}
@@ -62,7 +62,7 @@ pub rule_placed : (f : List ℕ) (s : Section) (i p w line q column : ℕ) → p
 unfolding rule_source source_at
 rule_placed f s i p w line q column a b c d e = rw (c, e, d, b, a)
 
-pub placed_is : (line column : ℕ) → source (At line column) ≡ placed line column
+pub placed_is : (line column : ℕ) → source (Some (line, column)) ≡ placed line column
 unfolding source
 placed_is line column = refl
 

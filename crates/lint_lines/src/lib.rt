@@ -36,7 +36,6 @@ use lint_words::{
 use model_index::Index;
 use model_parts::Section;
 use reasons::Reason;
-use show::Source;
 
 // ---- sources
 
@@ -45,7 +44,7 @@ fn put_place(out: &mut [u8], n: usize, line: u32, column: u32) -> usize
     ensures { Written (32 ∷ placed line column) out.old n out.new result }
 {
     let m = show::put_byte(out, n, 32);
-    show::put_source(out, m, Source::At(line, column))
+    show::put_source(out, m, Some((line, column)))
 }
 
 // The source of the i-th automation, if it is in the set.
@@ -69,10 +68,8 @@ fn put_rule_sources(out: &mut [u8], n: usize, f: &[u8], rules: Section, set: u32
 {
     let many = u32::count_ones(set);
     let mut m = show::put_number(out, n, long(many));
-    let mut i: usize = 0;
-    while i < 32 {
+    for i in 0..32 {
         m = put_rule_source(out, m, f, rules, set, i);
-        i += 1;
     }
     m
 }

@@ -77,10 +77,8 @@ fn note_findings(
         (board findings.old k o) }
 {
     let mut out = o;
-    let mut j: usize = 0;
-    while j < count {
+    for j in 0..count {
         out = lint_areas::push_finding(findings, out, note_words(set, line, column, reasons, j));
-        j += 1;
     }
     out
 }
@@ -93,8 +91,7 @@ fn rule_notes(s: &[u8], at: usize, i: usize, words: &mut Table, findings: &mut [
     let source = lint_walk::source_at(s, at);
     put_row(s, at, source, words);
     let mut reasons = [0u32; layout::SIMULATION_REASON_WORDS];
-    let count = bounds::min_usize(
-        engine_unsupported::rule_notes(s, words, &mut reasons, 0, 0),
+    let count = engine_unsupported::rule_notes(s, words, &mut reasons, 0, 0).min(
         layout::SIMULATION_REASONS,
     );
     let line = lint_walk::number_at(s, source);
@@ -118,11 +115,9 @@ pub fn notes(s: &[u8], rules: Section, findings: &mut [u32], o: Out) -> Out
     let count = rules.count as usize;
     let mut words = [0u32; layout::TABLE];
     let mut out = o;
-    let mut i: usize = 0;
-    while i < count {
+    for i in 0..count {
         let at = rules.starts[i];
         out = rule_notes(s, at, i, &mut words, findings, out);
-        i += 1;
     }
     out
 }

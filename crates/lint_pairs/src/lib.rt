@@ -112,8 +112,7 @@ fn oppose_row(
     let x = lint_walk::place_at(s, lint_walk::past(s, at, 9));
     let v = lint_findings::value(s, star, at);
     let mut out = o;
-    let mut k: usize = 0;
-    while k < count {
+    for k in 0..count {
         let other = list[k];
         if opposing(s, star, x, v, other) {
             out = oppose(
@@ -127,9 +126,6 @@ fn oppose_row(
                 findings,
                 out,
             );
-            k += 1;
-        } else {
-            k += 1;
         }
     }
     out
@@ -155,12 +151,10 @@ pub fn oppose_pair(
         (board findings.old i o) }
 {
     let mut out = o;
-    let mut k: usize = 0;
-    while k < m {
+    for k in 0..m {
         out = oppose_row(
             s, entities, invariants, given, set, list[k], others, n, findings, out,
         );
-        k += 1;
     }
     out
 }

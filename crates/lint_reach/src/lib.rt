@@ -51,12 +51,10 @@ fn leads(row: [bool; 32]) -> bool
     ensures { result ≡ leads_m row 32 }
 {
     let mut some = false;
-    let mut j: usize = 0;
-    while j < 32 {
+    for j in 0..32 {
         if row[j] {
             some = true;
         }
-        j += 1;
     }
     some
 }
@@ -67,25 +65,19 @@ pub fn close(start: [[bool; 32]; 32]) -> [[bool; 32]; 32]
     ensures { Closes start result }
 {
     let mut reach = start;
-    let mut k: usize = 0;
-    while k < 32 {
+    for k in 0..32 {
         let row = reach[k];
         if leads(row) {
-            let mut i: usize = 0;
-            while i < 32 {
+            for i in 0..32 {
                 if reach[i][k] {
-                    let mut j: usize = 0;
-                    while j < 32 {
+                    for j in 0..32 {
                         if reach[k][j] {
                             reach[i][j] = true;
                         }
-                        j += 1;
                     }
                 }
-                i += 1;
             }
         }
-        k += 1;
     }
     reach
 }
@@ -98,10 +90,8 @@ fn component(reach: [[bool; 32]; 32], n: usize, i: usize) -> u32
     ensures { result ≡ component_m reach n i }
 {
     let mut set: u32 = 0;
-    let mut j: usize = 0;
-    while j < n {
+    for j in 0..n {
         set = with_if(set, j, both(reach, i, j));
-        j += 1;
     }
     set
 }
@@ -153,10 +143,8 @@ fn gather(reach: [[bool; 32]; 32], n: usize) -> Components
         assigned: 0,
         sets: [0u32; 32],
     };
-    let mut i: usize = 0;
-    while i < n {
+    for i in 0..n {
         found = with_component(reach, n, i, found);
-        i += 1;
     }
     found
 }

@@ -59,13 +59,9 @@ fn member_from(f: &[u8], section: Section, set: u32, from: u32) -> u32
     ensures { result ≡ least_from from (each (name_place f.now section) (members set)) }
 {
     let mut best: u32 = 65536;
-    let mut i: usize = 0;
-    while i < 32 {
+    for i in 0..32 {
         if lint_reach::has(set, i) {
             best = lesser(from, name_place(f, section, i), best);
-            i += 1;
-        } else {
-            i += 1;
         }
     }
     best
@@ -88,13 +84,9 @@ fn stranger_from(r: Report, i: usize, from: u32, best: u32) -> u32
 {
     let names = r.names;
     let mut least = best;
-    let mut k: usize = 0;
-    while k < 64 {
+    for k in 0..64 {
         if is_read(r, i, k) {
             least = lesser(from, names[k], least);
-            k += 1;
-        } else {
-            k += 1;
         }
     }
     least
@@ -135,12 +127,10 @@ fn reads_count(f: &[u8], entities: Section, r: Report, i: usize) -> u64
 {
     let mut many: u64 = 0;
     let mut from: u32 = 0;
-    let mut left: u32 = 97;
-    while 0 < left {
+    for _ in 0..97u32 {
         let place = read_from(f, entities, r, i, from);
         many = counted(place, many);
         from = behind(place);
-        left -= 1;
     }
     many
 }
@@ -163,12 +153,10 @@ fn put_reads(out: &mut [u8], n: usize, f: &[u8], entities: Section, r: Report, i
 {
     let mut m = show::put_number(out, n, reads_count(f, entities, r, i));
     let mut from: u32 = 0;
-    let mut left: u32 = 97;
-    while 0 < left {
+    for _ in 0..97u32 {
         let place = read_from(f, entities, r, i, from);
         m = put_text_at(out, m, f, place);
         from = behind(place);
-        left -= 1;
     }
     m
 }
@@ -196,10 +184,8 @@ pub fn rule_from(f: &[u8], rules: Section, from: u32) -> usize
 {
     let count = wide(rules.count);
     let mut found: usize = 32;
-    let mut i: usize = 0;
-    while i < count {
+    for i in 0..count {
         found = better(f, rules, from, i, found);
-        i += 1;
     }
     found
 }

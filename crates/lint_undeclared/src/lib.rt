@@ -24,12 +24,10 @@ fn awaits(s: &[u8], list: &ActionPositions, count: usize, place: u32) -> bool
     requires { count ≤ 512 }
     ensures { result ≡ awaits_m s.now (walk_by list.now count) place }
 {
-    let mut k: usize = 0;
-    while k < count {
+    for k in 0..count {
         if awaits_at(s, place, list[k]) {
             return true;
         }
-        k += 1;
     }
     false
 }
@@ -96,13 +94,9 @@ fn rule_names(
     let mut list = [0usize; layout::ACTION_POSITIONS];
     let c = lint_walk::rule_walk(s, rules[i], &mut list);
     let mut v = u;
-    let mut place: u32 = 0;
-    while place < texts {
+    for place in 0..texts {
         if awaits(s, &list, c.count, place) {
             v = with_strange(s, entities, declared, i as u32, place, v);
-            place += 1;
-        } else {
-            place += 1;
         }
     }
     v
@@ -126,10 +120,8 @@ pub fn undeclared_names(
         names: [0u32; 64],
         readers: [0u32; 64],
     };
-    let mut i: usize = 0;
-    while i < count {
+    for i in 0..count {
         u = rule_names(s, entities, declared, rules, extent, texts, i, u);
-        i += 1;
     }
     u
 }

@@ -1,4 +1,5 @@
 -- The laws that the proofs of walks cite.
+use Rattle.std.specs.Prelude.{Some, None}
 use mathlib.Core.Path.{◌≡◌, refl, sym, ap, ◌∙◌}
 use mathlib.Core.List.{List}
 use Prim.Native.Nat.{ℕ, zero, suc, ◌+◌, ◌-◌, ◌*◌, ◌≤◌, ◌<◌}
@@ -7,9 +8,7 @@ use native.Mathlib.Omega.{arith}
 use lib.ListN.{length, set, replicate}
 use borrow.Author.Tests.{lt-ltb, le-ltb, le-leb, lt-leb, eq-eqb, ne_eqb}
 use Rattle.model_spec.specs.File.{Got, u8, u16, u32}
-use Rattle.model_walk.specs.declared.Num.{Num}
-use Rattle.model_walk.specs.declared.Num.TheVariants as num
-use Rattle.model_walk.specs.Walk.{found, predicate_size}
+use Rattle.model_walk.specs.Walk.{Num, found, predicate_size}
 use Rattle.model_walk.proofs.Laws.{is_got, is_broken}
 use Rattle.lint_walk.specs.declared.Walk.{Walk}
 use Rattle.lint_walk.specs.declared.Cursor.{Cursor}
@@ -47,11 +46,11 @@ use Rattle.lint_walk.specs.Walks.{
 -- ---- numbers
 
 module _ {x : Num} {g : Got ℕ} (e : found x ≡ g) where
-  pub value_got : {v q : ℕ} → x ≡ num.Is v q → value_of g ≡ v
+  pub value_got : {v q : ℕ} → x ≡ Some (v, q) → value_of g ≡ v
   unfolding value_of
   value_got h = ap value_of (is_got e h)
 
-  pub value_broken : x ≡ num.Broken → value_of g ≡ 0
+  pub value_broken : x ≡ None → value_of g ≡ 0
   unfolding value_of
   value_broken h = ap value_of (is_broken e h)
 

@@ -29,15 +29,13 @@ ghost use Rattle.lint_walk.specs.Walks.{
 };
 
 use layout::ActionPositions;
-use model_walk::Num;
 
 // ---- numbers
 
 pub fn byte_at(s: &[u8], at: usize) -> u32
     ensures { result ≡ byte_m s.now at }
 {
-    let x = model_walk::u8_at(s, at);
-    let Num::Is(v, _) = x else {
+    let Some((v, _)) = model_walk::u8_at(s, at) else {
         return 0;
     };
     v
@@ -46,8 +44,7 @@ pub fn byte_at(s: &[u8], at: usize) -> u32
 pub fn place_at(s: &[u8], at: usize) -> u32
     ensures { result ≡ place_m s.now at }
 {
-    let x = model_walk::u16_at(s, at);
-    let Num::Is(v, _) = x else {
+    let Some((v, _)) = model_walk::u16_at(s, at) else {
         return 0;
     };
     v
@@ -56,8 +53,7 @@ pub fn place_at(s: &[u8], at: usize) -> u32
 pub fn number_at(s: &[u8], at: usize) -> u32
     ensures { result ≡ number_m s.now at }
 {
-    let x = model_walk::u32_at(s, at);
-    let Num::Is(v, _) = x else {
+    let Some((v, _)) = model_walk::u32_at(s, at) else {
         return 0;
     };
     v
@@ -89,11 +85,10 @@ pub fn predicate_end(s: &[u8], at: usize) -> usize
 pub fn predicates_end(s: &[u8], at: usize) -> usize
     ensures { result ≡ predicates_end s.now at }
 {
-    let mut left = place_at(s, at);
+    let count = place_at(s, at);
     let mut p = past(s, at, 2);
-    while 0 < left {
+    for _ in 0..count {
         p = predicate_end(s, p);
-        left -= 1;
     }
     p
 }
@@ -102,19 +97,13 @@ pub fn predicates_end(s: &[u8], at: usize) -> usize
 fn simple_end(s: &[u8], kind: u32, at: usize) -> usize
     ensures { result ≡ simple_end s.now kind at }
 {
-    if kind == 0 {
-        return past(s, at, 4);
+    match kind {
+        0 => past(s, at, 4),
+        2 => past(s, at, 4),
+        3 => predicate_end(s, at),
+        5 => past(s, at, 21),
+        _ => past(s, at, 2),
     }
-    if kind == 2 {
-        return past(s, at, 4);
-    }
-    if kind == 3 {
-        return predicate_end(s, at);
-    }
-    if kind == 5 {
-        return past(s, at, 21);
-    }
-    past(s, at, 2)
 }
 
 // The kind of the action at a position.
@@ -214,16 +203,14 @@ fn list_walk(s: &[u8], left: usize, list: &mut ActionPositions, c: Cursor) -> Cu
     if left == 0 {
         return c;
     }
-    let mut i = place_at(s, c.next);
+    let count = place_at(s, c.next);
     let mut v = moved(c, past(s, c.next, 2));
-    while 0 < i {
+    for _ in 0..count {
         if kind_at(s, v.next) == 4 {
             let w = entered(s, list, v);
             v = choice_walk(s, left - 1, list, w);
-            i -= 1;
         } else {
             v = simple_walk(s, list, v);
-            i -= 1;
         }
     }
     v
@@ -234,11 +221,10 @@ fn list_walk(s: &[u8], left: usize, list: &mut ActionPositions, c: Cursor) -> Cu
 fn choice_walk(s: &[u8], left: usize, list: &mut ActionPositions, c: Cursor) -> Cursor
     ensures { walk_of list.new result ≡ choice_m s.now (list_m left s.now) (walk_of list.old c) }
 {
-    let mut i = place_at(s, c.next);
+    let count = place_at(s, c.next);
     let mut v = moved(c, past(s, c.next, 2));
-    while 0 < i {
+    for _ in 0..count {
         v = list_walk(s, left, list, moved(v, predicates_end(s, v.next)));
-        i -= 1;
     }
     list_walk(s, left, list, v)
 }

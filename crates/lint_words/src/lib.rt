@@ -35,67 +35,41 @@ pub fn long(x: u32) -> u64
 pub fn put_code(out: &mut [u8], n: usize, code: u32) -> usize
     ensures { (x t : Text) → Written (code_name (problem_of x t code)) out.old n out.new result }
 {
-    if code == 0 {
-        return show::put(out, n, b"unreachable_conditions");
+    match code {
+        0 => show::put(out, n, b"unreachable_conditions"),
+        1 => show::put(out, n, b"trigger_condition_mismatch"),
+        2 => show::put(out, n, b"delayed_write"),
+        3 => show::put(out, n, b"unreachable_branch"),
+        4 => show::put(out, n, b"high_fanout"),
+        5 => show::put(out, n, b"trigger_cycle"),
+        6 => show::put(out, n, b"freshness_assumption"),
+        7 => show::put(out, n, b"missing_safety_guard"),
+        8 => show::put(out, n, b"opposing_writes"),
+        _ => show::put(out, n, b"unsupported"),
     }
-    if code == 1 {
-        return show::put(out, n, b"trigger_condition_mismatch");
-    }
-    if code == 2 {
-        return show::put(out, n, b"delayed_write");
-    }
-    if code == 3 {
-        return show::put(out, n, b"unreachable_branch");
-    }
-    if code == 4 {
-        return show::put(out, n, b"high_fanout");
-    }
-    if code == 5 {
-        return show::put(out, n, b"trigger_cycle");
-    }
-    if code == 6 {
-        return show::put(out, n, b"freshness_assumption");
-    }
-    if code == 7 {
-        return show::put(out, n, b"missing_safety_guard");
-    }
-    if code == 8 {
-        return show::put(out, n, b"opposing_writes");
-    }
-    show::put(out, n, b"unsupported")
 }
 
 pub fn put_certainty(out: &mut [u8], n: usize, certainty: u32) -> usize
     ensures { Written (certainty_of certainty) out.old n out.new result }
 {
-    if certainty == 0 {
-        return show::put(out, n, b"static");
+    match certainty {
+        0 => show::put(out, n, b"static"),
+        1 => show::put(out, n, b"potential"),
+        _ => show::put(out, n, b"unknown"),
     }
-    if certainty == 1 {
-        return show::put(out, n, b"potential");
-    }
-    show::put(out, n, b"unknown")
 }
 
 pub fn put_tier(out: &mut [u8], n: usize, tier: u32) -> usize
     ensures { Written (tier_of tier) out.old n out.new result }
 {
-    if tier == 0 {
-        return show::put(out, n, b"observational");
+    match tier {
+        0 => show::put(out, n, b"observational"),
+        1 => show::put(out, n, b"comfort"),
+        2 => show::put(out, n, b"property"),
+        3 => show::put(out, n, b"access_safety"),
+        4 => show::put(out, n, b"accesssafety"),
+        _ => show::put(out, n, b"unknown"),
     }
-    if tier == 1 {
-        return show::put(out, n, b"comfort");
-    }
-    if tier == 2 {
-        return show::put(out, n, b"property");
-    }
-    if tier == 3 {
-        return show::put(out, n, b"access_safety");
-    }
-    if tier == 4 {
-        return show::put(out, n, b"accesssafety");
-    }
-    show::put(out, n, b"unknown")
 }
 
 // ---- names
@@ -130,10 +104,8 @@ fn put_escaped(out: &mut [u8], n: usize, t: &[u8]) -> usize
     ensures { Written (flat escape t.now) out.old n out.new result }
 {
     let mut m = n;
-    let mut i: usize = 0;
-    while i < t.len() {
-        m = show::put_escaped(out, m, t[i]);
-        i += 1;
+    for x in t {
+        m = show::put_escaped(out, m, *x);
     }
     m
 }
@@ -164,34 +136,26 @@ fn put_plain_message(out: &mut [u8], n: usize, code: u32) -> usize
     requires { code < 6 }
     ensures { (x t : Text) → Written (quoted (message (problem_of x t code))) out.old n out.new result }
 {
-    if code == 0 {
-        return show::put_quoted(out, n, b"Admission conditions require contradictory states");
-    }
-    if code == 1 {
-        return show::put_quoted(
+    match code {
+        0 => show::put_quoted(out, n, b"Admission conditions require contradictory states"),
+        1 => show::put_quoted(
             out,
             n,
             b"Trigger target differs from admission conditions; same-time event ordering can matter",
-        );
-    }
-    if code == 2 {
-        return show::put_quoted(
+        ),
+        2 => show::put_quoted(
             out,
             n,
             b"Delayed writes may outlive trigger-time safety conditions; replay with changed state",
-        );
+        ),
+        3 => show::put_quoted(out, n, b"Choose branch has contradictory state predicates"),
+        4 => show::put_quoted(out, n, b"More than eight literal entity targets"),
+        _ => show::put_quoted(
+            out,
+            n,
+            b"Cyclic trigger/write interaction; simulate to distinguish stable states from repeated toggling",
+        ),
     }
-    if code == 3 {
-        return show::put_quoted(out, n, b"Choose branch has contradictory state predicates");
-    }
-    if code == 4 {
-        return show::put_quoted(out, n, b"More than eight literal entity targets");
-    }
-    show::put_quoted(
-        out,
-        n,
-        b"Cyclic trigger/write interaction; simulate to distinguish stable states from repeated toggling",
-    )
 }
 
 // The message that names an entity.
@@ -263,10 +227,8 @@ pub fn put_members(out: &mut [u8], n: usize, f: &[u8], section: Section, set: u3
 {
     let many = u32::count_ones(set);
     let mut m = show::put_number(out, n, long(many));
-    let mut i: usize = 0;
-    while i < 32 {
+    for i in 0..32 {
         m = put_member(out, m, f, section, set, i);
-        i += 1;
     }
     m
 }

@@ -26,7 +26,7 @@ fn raise(live: &mut [usize; 32], automation: u32, n: usize)
     if 31 < i {
         return;
     }
-    live[i] = bounds::min_usize(live[i], n) + 1;
+    live[i] = live[i].min(n) + 1;
 }
 
 fn less(n: usize) -> usize
@@ -84,10 +84,8 @@ pub fn drop_of(r: &mut [u32], live: &mut [usize; 32], n: usize, i: usize) -> usi
 fn forget(live: &mut [usize; 32])
     ensures { Forgotten live.old live.new }
 {
-    let mut i: usize = 0;
-    while i < 32 {
+    for i in 0..32 {
         live[i] = 0;
-        i += 1;
     }
 }
 

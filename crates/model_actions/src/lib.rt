@@ -8,14 +8,12 @@ ghost use Rattle.model_actions.specs.Actions.{toggle_m, wait_m, count_m, simple_
 
 use layout::Positions;
 use model_check::{Checked, Declared};
-use model_walk::Num;
 
 fn toggle_check(s: &[u8], d: Declared, entities: &Positions, at: usize, n: u32) -> Checked
     requires { d.count ≤ 100 }
     ensures { result ≡ toggle_m (declaration d entities.now) s.now at n }
 {
-    let x = model_walk::u16_at(s, at);
-    let Num::Is(entity, p) = x else {
+    let Some((entity, p)) = model_walk::u16_at(s, at) else {
         return Checked::Refused(30);
     };
     let a = model_check::value_check(s, d, entities, entity, d.on, p, n);
@@ -96,20 +94,17 @@ pub fn actions_check(
     if left == 0 {
         return Checked::Refused(16);
     }
-    let x = model_walk::u16_at(s, at);
-    let Num::Is(count, start) = x else {
+    let Some((count, start)) = model_walk::u16_at(s, at) else {
         return Checked::Refused(30);
     };
-    let mut i = count;
     let mut p = start;
     let mut m = n;
-    while 0 < i {
+    for _ in 0..count {
         let y = head_check(s, p, m);
         let Checked::To(after, kept) = y else {
             return y;
         };
-        let z = model_walk::u8_at(s, after);
-        let Num::Is(kind, next) = z else {
+        let Some((kind, next)) = model_walk::u8_at(s, after) else {
             return Checked::Refused(30);
         };
         let r = if kind == 4 {
@@ -122,7 +117,6 @@ pub fn actions_check(
         };
         p = q;
         m = k;
-        i -= 1;
     }
     Checked::To(p, m)
 }
@@ -141,14 +135,12 @@ pub fn choice_check(
     ensures { result ≡ choice_m (declaration d entities.now) (actions_m (declaration d entities.now) left) s.now
         at n }
 {
-    let x = model_walk::u16_at(s, at);
-    let Num::Is(count, start) = x else {
+    let Some((count, start)) = model_walk::u16_at(s, at) else {
         return Checked::Refused(30);
     };
-    let mut i = count;
     let mut p = start;
     let mut m = n;
-    while 0 < i {
+    for _ in 0..count {
         let y = model_check::predicates_check(s, d, entities, 0, p, m);
         let Checked::To(next, kept) = y else {
             return y;
@@ -159,7 +151,6 @@ pub fn choice_check(
         };
         p = q;
         m = k;
-        i -= 1;
     }
     actions_check(s, d, entities, left, p, m)
 }

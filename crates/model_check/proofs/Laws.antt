@@ -1,5 +1,5 @@
 -- The laws that the proofs of checks cite.
-use Rattle.std.specs.Prelude.{if◌then◌else◌}
+use Rattle.std.specs.Prelude.{Some, None, if◌then◌else◌}
 use mathlib.Core.Path.{◌≡◌, refl, sym, ap, ◌∙◌}
 use mathlib.Core.List.{List}
 use mathlib.Core.Bool.{Bool, true, false}
@@ -11,9 +11,7 @@ use lib.Dec.{ltb, leb, eqb}
 use borrow.Author.Tests.{le-leb, lt-leb, eq-eqb, ne_eqb}
 use Rattle.model_spec.specs.File.{Reader, u8, u16, u32}
 use Rattle.model_spec.specs.Validate.{bad_window}
-use Rattle.model_walk.specs.declared.Num.{Num}
-use Rattle.model_walk.specs.declared.Num.TheVariants as num
-use Rattle.model_walk.specs.Walk.{found, predicate_size}
+use Rattle.model_walk.specs.Walk.{Num, found, predicate_size}
 use Rattle.model_walk.proofs.Laws.{is_got, is_broken, u16_out}
 use Rattle.model_check.specs.declared.Checked.{Checked}
 use Rattle.model_check.specs.declared.Checked.TheVariants as checked
@@ -50,11 +48,11 @@ use Rattle.model_check.specs.Checks.{
 module _ (s : List ℕ) (p n : ℕ) where
   -- the code's answer x of the first number, and its case
   module _ (r : Reader ℕ) (f : ℕ → Check) {x : Num} (e : found x ≡ r s p) where
-    pub by_is : {v q : ℕ} → x ≡ num.Is v q → by r f s p n ≡ f v s q n
+    pub by_is : {v q : ℕ} → x ≡ Some (v, q) → by r f s p n ≡ f v s q n
     unfolding by
     by_is h = rw (is_got e h, by)
 
-    pub by_broken : x ≡ num.Broken → by r f s p n ≡ checked.Refused 30
+    pub by_broken : x ≡ None → by r f s p n ≡ checked.Refused 30
     unfolding by
     by_broken h = rw (is_broken e h, by)
 
@@ -111,34 +109,34 @@ module _ (k : Check) (s : List ℕ) (p n : ℕ) where
 -- ---- places
 
 module _ (s : List ℕ) (p x : ℕ) {a : Num} (e : found a ≡ u16 s p) where
-  pub place_got : {y q : ℕ} → a ≡ num.Is y q → place_is s p x ≡ eqb y x
+  pub place_got : {y q : ℕ} → a ≡ Some (y, q) → place_is s p x ≡ eqb y x
   unfolding place_is
   place_got h = rw (is_got e h, place_is)
 
-  pub place_broken : a ≡ num.Broken → place_is s p x ≡ false
+  pub place_broken : a ≡ None → place_is s p x ≡ false
   unfolding place_is
   place_broken h = rw (is_broken e h, place_is)
 
-  pub listed_got : {c q : ℕ} → a ≡ num.Is c q → listed_at s p x ≡ among c s q x
+  pub listed_got : {c q : ℕ} → a ≡ Some (c, q) → listed_at s p x ≡ among c s q x
   unfolding listed_at
   listed_got h = rw (is_got e h, listed_at)
 
-  pub listed_broken : a ≡ num.Broken → listed_at s p x ≡ false
+  pub listed_broken : a ≡ None → listed_at s p x ≡ false
   unfolding listed_at
   listed_broken h = rw (is_broken e h, listed_at)
 
-  pub among_here : (left : ℕ) {y q : ℕ} → 0 < left → a ≡ num.Is y q → y ≡ x → among left s p x ≡ true
+  pub among_here : (left : ℕ) {y q : ℕ} → 0 < left → a ≡ Some (y, q) → y ≡ x → among left s p x ≡ true
   unfolding among
   among_here zero o h w = absurd (omega arith)
   among_here (suc left) {y} o h w = rw (is_got e h, among) (rw (eq-eqb y x w, among))
 
-  pub among_later : (left : ℕ) {y q : ℕ} → 0 < left → a ≡ num.Is y q → (y ≡ x → ⊥) →
+  pub among_later : (left : ℕ) {y q : ℕ} → 0 < left → a ≡ Some (y, q) → (y ≡ x → ⊥) →
       among left s p x ≡ among (left - 1) s q x
   unfolding among
   among_later zero o h w = absurd (omega arith)
   among_later (suc left) {y} o h w = rw (sub-one (suc left)) (rw (is_got e h, among) (rw (ne_eqb y x w, among)))
 
-  pub among_broken : (left : ℕ) → 0 < left → a ≡ num.Broken → among left s p x ≡ false
+  pub among_broken : (left : ℕ) → 0 < left → a ≡ None → among left s p x ≡ false
   unfolding among
   among_broken zero o h = absurd (omega arith)
   among_broken (suc left) o h = rw (is_broken e h, among)

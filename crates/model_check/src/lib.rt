@@ -28,7 +28,6 @@ ghost use Rattle.model_check.specs.Checks.{
 
 use layout::Positions;
 use model_parts::Section;
-use model_walk::Num;
 
 // The position after a part that passed and the actions counted so far, or the refusal.
 #[derive(Clone, Copy)]
@@ -66,8 +65,7 @@ pub fn skip(s: &[u8], size: usize, at: usize, n: u32) -> Checked
 pub fn day_check(s: &[u8], refusal: u32, at: usize, n: u32) -> Checked
     ensures { result ≡ day_m refusal s.now at n }
 {
-    let x = model_walk::u32_at(s, at);
-    let Num::Is(seconds, next) = x else {
+    let Some((seconds, next)) = model_walk::u32_at(s, at) else {
         return Checked::Refused(30);
     };
     if 86400 < seconds {
@@ -82,8 +80,7 @@ pub fn day_check(s: &[u8], refusal: u32, at: usize, n: u32) -> Checked
 pub fn place_is(s: &[u8], at: usize, place: u32) -> bool
     ensures { result ≡ place_is s.now at place }
 {
-    let x = model_walk::u16_at(s, at);
-    let Num::Is(y, _) = x else {
+    let Some((y, _)) = model_walk::u16_at(s, at) else {
         return false;
     };
     y == place
@@ -93,18 +90,15 @@ pub fn place_is(s: &[u8], at: usize, place: u32) -> bool
 pub fn among(s: &[u8], count: u32, at: usize, place: u32) -> bool
     ensures { result ≡ among count s.now at place }
 {
-    let mut left = count;
     let mut p = at;
-    while 0 < left {
-        let y = model_walk::u16_at(s, p);
-        let Num::Is(z, q) = y else {
+    for _ in 0..count {
+        let Some((z, q)) = model_walk::u16_at(s, p) else {
             return false;
         };
         if z == place {
             return true;
         }
         p = q;
-        left -= 1;
     }
     false
 }
@@ -113,8 +107,7 @@ pub fn among(s: &[u8], count: u32, at: usize, place: u32) -> bool
 fn listed_at(s: &[u8], at: usize, place: u32) -> bool
     ensures { result ≡ listed_at s.now at place }
 {
-    let x = model_walk::u16_at(s, at);
-    let Num::Is(count, start) = x else {
+    let Some((count, start)) = model_walk::u16_at(s, at) else {
         return false;
     };
     among(s, count, start, place)
@@ -126,15 +119,13 @@ pub fn first_of(s: &[u8], starts: &Positions, count: u32, place: u32) -> usize
     ensures { (result ≡ first_from starts.now place s.now count 0) × (result ≤ count) }
 {
     let end = count as usize;
-    let mut i: usize = 0;
-    while i < end {
+    for i in 0..end {
         let p = starts[i];
         if place_is(s, p, place) {
             return i;
         }
-        i += 1;
     }
-    i
+    end
 }
 
 // The number of the section's first part that begins with this place, or the count.
@@ -202,12 +193,10 @@ pub fn pair_check(s: &[u8], d: Declared, entities: &Positions, at: usize, n: u32
     requires { d.count ≤ 100 }
     ensures { result ≡ pair_m (declaration d entities.now) s.now at n }
 {
-    let x = model_walk::u16_at(s, at);
-    let Num::Is(entity, p) = x else {
+    let Some((entity, p)) = model_walk::u16_at(s, at) else {
         return Checked::Refused(30);
     };
-    let y = model_walk::u16_at(s, p);
-    let Num::Is(value, q) = y else {
+    let Some((value, q)) = model_walk::u16_at(s, p) else {
         return Checked::Refused(30);
     };
     value_check(s, d, entities, entity, value, q, n)
@@ -238,16 +227,13 @@ fn window_bad(days: u32, start: u32, end: u32) -> bool
 fn window_check(s: &[u8], at: usize, n: u32) -> Checked
     ensures { result ≡ window_m s.now at n }
 {
-    let x = model_walk::u8_at(s, at);
-    let Num::Is(days, p) = x else {
+    let Some((days, p)) = model_walk::u8_at(s, at) else {
         return Checked::Refused(30);
     };
-    let y = model_walk::u32_at(s, p);
-    let Num::Is(start, q) = y else {
+    let Some((start, q)) = model_walk::u32_at(s, p) else {
         return Checked::Refused(30);
     };
-    let z = model_walk::u32_at(s, q);
-    let Num::Is(end, next) = z else {
+    let Some((end, next)) = model_walk::u32_at(s, q) else {
         return Checked::Refused(30);
     };
     if window_bad(days, start, end) {
@@ -268,8 +254,7 @@ pub fn predicate_check(
     requires { d.count ≤ 100 }
     ensures { result ≡ predicate_m (declaration d entities.now) banned s.now at n }
 {
-    let x = model_walk::u8_at(s, at);
-    let Num::Is(kind, p) = x else {
+    let Some((kind, p)) = model_walk::u8_at(s, at) else {
         return Checked::Refused(30);
     };
     if kind == 0 {
@@ -296,21 +281,18 @@ pub fn predicates_check(
     requires { d.count ≤ 100 }
     ensures { result ≡ predicates_m (declaration d entities.now) banned s.now at n }
 {
-    let x = model_walk::u16_at(s, at);
-    let Num::Is(count, start) = x else {
+    let Some((count, start)) = model_walk::u16_at(s, at) else {
         return Checked::Refused(30);
     };
-    let mut left = count;
     let mut p = start;
     let mut m = n;
-    while 0 < left {
+    for _ in 0..count {
         let y = predicate_check(s, d, entities, banned, p, m);
         let Checked::To(q, k) = y else {
             return y;
         };
         p = q;
         m = k;
-        left -= 1;
     }
     Checked::To(p, m)
 }
@@ -383,24 +365,20 @@ pub fn trigger_check(s: &[u8], d: Declared, entities: &Positions, at: usize, n: 
     requires { d.count ≤ 100 }
     ensures { result ≡ trigger_m (declaration d entities.now) s.now at n }
 {
-    let x = model_walk::u16_at(s, at);
-    let Num::Is(entity, p) = x else {
+    let Some((entity, p)) = model_walk::u16_at(s, at) else {
         return Checked::Refused(30);
     };
-    let y = model_walk::u16_at(s, p);
-    let Num::Is(from, q) = y else {
+    let Some((from, q)) = model_walk::u16_at(s, p) else {
         return Checked::Refused(30);
     };
-    let z = model_walk::u16_at(s, q);
-    let Num::Is(to, t) = z else {
+    let Some((to, t)) = model_walk::u16_at(s, q) else {
         return Checked::Refused(30);
     };
     let a = skip(s, 8, t, n);
     let Checked::To(u, m) = a else {
         return a;
     };
-    let w = model_walk::u16_at(s, u);
-    let Num::Is(note, next) = w else {
+    let Some((note, next)) = model_walk::u16_at(s, u) else {
         return Checked::Refused(30);
     };
     if note == layout::NO_PLACE {
@@ -421,17 +399,15 @@ pub fn triggers_check(
     requires { d.count ≤ 100 }
     ensures { result ≡ triggers_m (declaration d entities.now) count s.now at n }
 {
-    let mut left = count;
     let mut p = at;
     let mut m = n;
-    while 0 < left {
+    for _ in 0..count {
         let y = trigger_check(s, d, entities, p, m);
         let Checked::To(q, k) = y else {
             return y;
         };
         p = q;
         m = k;
-        left -= 1;
     }
     Checked::To(p, m)
 }

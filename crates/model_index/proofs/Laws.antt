@@ -1,4 +1,5 @@
 -- The laws of the walk over a file that the proofs of functions cite.
+use Rattle.std.specs.Prelude.{Some, None}
 use mathlib.Core.Path.{◌≡◌, refl, sym, ap, ◌∙◌}
 use mathlib.Core.List.{List}
 use mathlib.Core.Bool.{false}
@@ -6,11 +7,7 @@ use Prim.Native.Nat.{ℕ, ◌≤◌, ◌<◌}
 use lib.ListN.{length}
 use borrow.Author.Tests.{lt-ltb, le-ltb}
 use Rattle.model_spec.specs.File.{u32}
-use Rattle.model_walk.specs.declared.Num.{Num}
-use Rattle.model_walk.specs.declared.Num.TheVariants as num
-use Rattle.model_walk.specs.declared.Walked.{Walked}
-use Rattle.model_walk.specs.declared.Walked.TheVariants as walked
-use Rattle.model_walk.specs.Walk.{found, place_m, bytes_m, or_zeros_m}
+use Rattle.model_walk.specs.Walk.{Num, Walked, found, place_m, bytes_m, or_zeros_m}
 use Rattle.model_walk.proofs.Laws.{is_got, is_broken}
 use Rattle.model_parts.specs.declared.Section.{Section}
 use Rattle.model_parts.specs.declared.Part.TheVariants as part
@@ -38,20 +35,20 @@ use Rattle.model_index.specs.Index.{
 }
 
 module _ (w : Walked) (f : ℕ → ℕ → File) {x : Walked} (e : x ≡ w) where
-  pub on_to : {p n : ℕ} → x ≡ walked.To p n → on w f ≡ f p n
+  pub on_to : {p n : ℕ} → x ≡ Some (p, n) → on w f ≡ f p n
   unfolding on
   on_to h = ap (λ (y : Walked). on y f) (sym e ∙ h)
 
-  pub on_broken : x ≡ walked.Broken → on w f ≡ refused_m 30
+  pub on_broken : x ≡ None → on w f ≡ refused_m 30
   unfolding on
   on_broken h = ap (λ (y : Walked). on y f) (sym e ∙ h)
 
 module _ (w : Section) (f : Section → ℕ → ℕ → File) {x : Section} (e : x ≡ w) where
-  pub sec_to : {p n : ℕ} → x.end ≡ walked.To p n → on_section w f ≡ f x p n
+  pub sec_to : {p n : ℕ} → x.end ≡ Some (p, n) → on_section w f ≡ f x p n
   unfolding on_section on
   sec_to h = ap (λ (y : Section). on y.end (f y)) (sym e) ∙ ap (λ (y : Walked). on y (f x)) h
 
-  pub sec_broken : x.end ≡ walked.Broken → on_section w f ≡ refused_m 30
+  pub sec_broken : x.end ≡ None → on_section w f ≡ refused_m 30
   unfolding on_section on
   sec_broken h = ap (λ (y : Section). on y.end (f y)) (sym e) ∙ ap (λ (y : Walked). on y (f x)) h
 
@@ -196,11 +193,11 @@ module _ (s : List ℕ) where
   too_long h = rw (lt-ltb 32768 (length s) h)
 
   module _ (h : length s ≤ 32768) {x : Num} (e : found x ≡ u32 s 0) where
-    pub no_version : x ≡ num.Broken → read_m s ≡ refused_m 30
+    pub no_version : x ≡ None → read_m s ≡ refused_m 30
     unfolding read_m
     no_version g = rw (le-ltb 32768 (length s) h, is_broken e g, read_m)
 
-    pub version_is : {v p : ℕ} → x ≡ num.Is v p → read_m s
+    pub version_is : {v p : ℕ} → x ≡ Some (v, p) → read_m s
         ≡ on (texts_m s p) (λ p₁ n₁. given (section_m (part_m 0 part.Text) s p 0) λ texts. body_m s v texts p₁)
     unfolding read_m
     version_is g = rw (le-ltb 32768 (length s) h, is_got e g, read_m)

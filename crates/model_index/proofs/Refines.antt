@@ -1,5 +1,5 @@
 -- The walk over a file says what `decode` says.
-use Rattle.std.specs.Prelude.{if◌then◌else◌}
+use Rattle.std.specs.Prelude.{Some, if◌then◌else◌}
 use mathlib.Core.Path.{◌≡◌, refl, sym, ap, ◌∙◌, subst}
 use mathlib.Core.List.{List, [], ◌∷◌}
 use mathlib.Core.Bool.{Bool, true, false, ◌&&◌}
@@ -12,7 +12,7 @@ use borrow.Author.Tests.{lt-ltb, le-ltb}
 use Rattle.texts.specs.Lists.{flat, each}
 use Rattle.texts.specs.Texts.{Text}
 use Rattle.model_spec.specs.Answer.{Answer, answer, refused}
-use Rattle.model_spec.specs.Model.{Model, Entity, Event, Input, Invariant, midnight}
+use Rattle.model_spec.specs.Model.{Model, Entity, midnight}
 use Rattle.model_spec.specs.Notes.{of_invariant, of_rule, notes_of}
 use Rattle.model_spec.specs.File.{
   Got,
@@ -48,9 +48,7 @@ use Rattle.model_spec.specs.File.{
   require,
   made,
 }
-use Rattle.model_walk.specs.declared.Walked.{Walked}
-use Rattle.model_walk.specs.declared.Walked.TheVariants as walked
-use Rattle.model_walk.specs.Walk.{capped, seen, Walk, place_m, bytes_m, or_zeros_m}
+use Rattle.model_walk.specs.Walk.{Walked, capped, seen, Walk, place_m, bytes_m, or_zeros_m}
 use Rattle.model_walk.proofs.Laws.{bind_got, bind_broken, u32_in, u32_out}
 use Rattle.model_walk.proofs.Refines.{
   Sees,
@@ -137,7 +135,7 @@ module _ (s : List ℕ) (size : ℕ) where
   -- a section: its reader is a count and its parts
   pub sec_bind : {A : Type 0} (v : A → ℕ) (u : List A → ℕ) → u [] ≡ 0 → ((x : A) (l : List A) → u (x ∷ l) ≡ v x + u l) →
       (r : Reader A) (j : Walk) → Sees v r j → (n p : ℕ) (k : List A → Reader Model) (f : Section → ℕ → ℕ → File) →
-      ((l : List A) (q : ℕ) → (section_m j s p (capped n)).end ≡ walked.To q (capped (n + u l)) →
+      ((l : List A) (q : ℕ) → (section_m j s p (capped n)).end ≡ Some (q, capped (n + u l)) →
       Holds r s (section_m j s p (capped n)) l → Finds s (f (section_m j s p (capped n)) q (capped (n + u l)))
       (decoded (k l s q) size)) →
       Finds s (on_section (section_m j s p (capped n)) f) (decoded ((counted r >>= k) s p) size)

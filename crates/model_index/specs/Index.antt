@@ -1,9 +1,7 @@
 -- The walk over a whole file.
-use Rattle.std.specs.Prelude.{ℕ, ◌≡◌, false, List, ltb, length, if◌then◌else◌}
+use Rattle.std.specs.Prelude.{Some, None, ℕ, ◌≡◌, false, List, ltb, length, if◌then◌else◌}
 use Rattle.model_spec.specs.File.{got, broken, u32}
-use Rattle.model_walk.specs.declared.Walked.{Walked}
-use Rattle.model_walk.specs.declared.Walked.TheVariants as walked
-use Rattle.model_walk.specs.Walk.{place_m, bytes_m, or_zeros_m}
+use Rattle.model_walk.specs.Walk.{Walked, place_m, bytes_m, or_zeros_m}
 use Rattle.model_parts.specs.declared.Section.{Section}
 use Rattle.model_parts.specs.declared.Extent.{Extent}
 use Rattle.model_parts.specs.declared.Part.TheVariants as part
@@ -16,7 +14,7 @@ use Rattle.model_index.specs.declared.Front.{Front}
 use Rattle.model_index.specs.declared.Outline.{Outline}
 
 abbrev pub empty : Section
-empty = record { count = 0; starts = no_starts; end = walked.Broken }
+empty = record { count = 0; starts = no_starts; end = None }
 
 unfoldable pub refused_m : ℕ → File
 refused_m n = record {
@@ -36,7 +34,7 @@ refused_m n = record {
 }
 
 abbrev pub no_extent : Extent
-no_extent = record { count = 0; end = walked.Broken }
+no_extent = record { count = 0; end = None }
 
 -- the outline of a refused file
 abbrev pub refusal_m : ℕ → Outline
@@ -62,8 +60,8 @@ whole_m i = record { status = status.Read; index = i }
 
 -- go on behind a walk, or refuse
 unfoldable pub on : Walked → (ℕ → ℕ → File) → File
-on (walked.To p n) f = f p n
-on walked.Broken f = refused_m 30
+on (Some (p, n)) f = f p n
+on None f = refused_m 30
 
 -- go on behind a section
 unfoldable pub on_section : Section → (Section → ℕ → ℕ → File) → File

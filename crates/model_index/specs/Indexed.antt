@@ -1,5 +1,5 @@
 -- What the reader's answer says of a file: the model that `decode` finds, and where its parts stand.
-use Rattle.std.specs.Prelude.{ℕ, ◌≡◌, true, List, length}
+use Rattle.std.specs.Prelude.{Some, ℕ, ◌≡◌, true, List, length}
 use Rattle.texts.specs.Lists.{each}
 use Rattle.texts.specs.Texts.{Text}
 use Rattle.model_spec.specs.Answer.{Answer, answer, refused}
@@ -19,7 +19,6 @@ use Rattle.model_spec.specs.File.{
   automation,
   ascending,
 }
-use Rattle.model_walk.specs.declared.Walked.TheVariants as walked
 use Rattle.model_parts.specs.declared.Section.{Section}
 use Rattle.model_parts.specs.Stand.{Reads, Stand}
 use Rattle.model_spec.specs.File.{Reader}
@@ -51,7 +50,7 @@ pub record Indexed (s : List ℕ) (i : Index) (m : Model) : Type 0 where
   pub rules : Holds (automation ts) s i.rules m.rules
   pub behind_rules : ℕ
   pub notes : ℕ
-  pub rules_end : i.rules.end ≡ walked.To behind_rules notes
+  pub rules_end : i.rules.end ≡ Some (behind_rules, notes)
   pub start_at : Reads (or_zeros midnight start) s behind_rules m.start
 
 -- the answer for a file that decodes to a model: all that the walk over the file finds, with the ends of the sections and

@@ -9,7 +9,6 @@ ghost use Rattle.model_index.specs.Indexed.{Says};
 
 use layout::Positions;
 use model_parts::{Extent, Part, Section};
-use model_walk::{Num, Walked};
 
 // Where the parts of a model file stand.
 #[derive(Clone, Copy)]
@@ -67,7 +66,7 @@ fn no_section() -> Section
     Section {
         count: 0,
         starts: [0usize; layout::POSITIONS],
-        end: Walked::Broken,
+        end: None,
     }
 }
 
@@ -100,7 +99,7 @@ pub fn refusal(number: u32) -> Outline
 {
     let x = Extent {
         count: 0,
-        end: Walked::Broken,
+        end: None,
     };
     let front = Front {
         version: 0,
@@ -183,26 +182,21 @@ fn rest_at(
 {
     let count = front.texts.count;
     let a = model_parts::section_into(s, count, Part::Input, at, notes, alphabet);
-    let f = a.end;
-    let Walked::To(p4, n4) = f else {
+    let Some((p4, n4)) = a.end else {
         return refusal(30);
     };
     let b = model_parts::section_into(s, count, Part::Gap, p4, n4, gaps);
-    let g = b.end;
-    let Walked::To(p5, n5) = g else {
+    let Some((p5, n5)) = b.end else {
         return refusal(30);
     };
-    let h = model_walk::bytes_at(s, 16, p5, n5);
-    let Walked::To(p6, n6) = h else {
+    let Some((p6, n6)) = model_walk::bytes_at(s, 16, p5, n5) else {
         return refusal(30);
     };
     let d = model_parts::section_into(s, count, Part::Rule, p6, n6, rules);
-    let k = d.end;
-    let Walked::To(p7, n7) = k else {
+    let Some((p7, n7)) = d.end else {
         return refusal(30);
     };
-    let u = model_walk::bytes_or_end_at(s, 8, p7, n7);
-    let Walked::To(p8, n8) = u else {
+    let Some((p8, n8)) = model_walk::bytes_or_end_at(s, 8, p7, n7) else {
         return refusal(30);
     };
     if 64 < n8 {
@@ -239,23 +233,19 @@ fn body_at(
         ≡ body_m s.now version (section texts t) at }
 {
     let count = texts.count;
-    let a = model_walk::place_at(s, count, at, 0);
-    let Walked::To(p0, _) = a else {
+    let Some((p0, _)) = model_walk::place_at(s, count, at, 0) else {
         return refusal(30);
     };
-    let b = model_order::ascending_at(s, count, Part::Entity, false, p0);
-    let Walked::To(p1, _) = b else {
+    let Some((p1, _)) = model_order::ascending_at(s, count, Part::Entity, false, p0) else {
         return refusal(30);
     };
     let x = model_parts::section_into(s, count, Part::Entity, p0, 0, entities);
     let y = model_parts::section_into(s, count, Part::Event, p1, 0, events);
-    let d = y.end;
-    let Walked::To(p2, n2) = d else {
+    let Some((p2, n2)) = y.end else {
         return refusal(30);
     };
     let z = model_parts::section_into(s, count, Part::Invariant, p2, n2, invariants);
-    let e = z.end;
-    let Walked::To(p3, n3) = e else {
+    let Some((p3, n3)) = z.end else {
         return refusal(30);
     };
     let front = Front {
@@ -288,12 +278,10 @@ pub fn read(
     if 32768 < s.len() {
         return refusal(30);
     }
-    let x = model_walk::u32_at(s, 0);
-    let Num::Is(version, start) = x else {
+    let Some((version, start)) = model_walk::u32_at(s, 0) else {
         return refusal(30);
     };
-    let a = model_order::texts_at(s, start);
-    let Walked::To(p, _) = a else {
+    let Some((p, _)) = model_order::texts_at(s, start) else {
         return refusal(30);
     };
     let b = model_parts::section_into(s, 0, Part::Text, start, 0, texts);

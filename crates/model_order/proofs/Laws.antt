@@ -1,4 +1,5 @@
 -- The laws that the proofs of ordered sections cite.
+use Rattle.std.specs.Prelude.{Some, None}
 use mathlib.Core.Path.{◌≡◌, refl, sym, ap, ◌∙◌}
 use mathlib.Core.List.{List}
 use mathlib.Core.Bool.{Bool, true, false, ◌&&◌}
@@ -8,16 +9,12 @@ use native.Mathlib.Omega.{arith}
 use lib.ListN.{length, get_or, drop}
 use lib.Dec.{ltb, leb}
 use borrow.Author.Tests.{le-leb, lt-leb, leb-true}
-use Rattle.texts.specs.Texts.{Text, text, eq_t, lt_t}
+use Rattle.texts.specs.Texts.{text, eq_t, lt_t}
 use Rattle.texts.specs.Places.{text_at}
 use Rattle.texts.proofs.Laws.{text_length, text_byte}
 use Rattle.texts.proofs.FromIndex.{lt_shorter, lt_longer, lt_less, lt_more, lt_same, eq_ended, eq_longer, eq_other, eq_same}
 use Rattle.model_spec.specs.File.{u16}
-use Rattle.model_walk.specs.declared.Num.{Num}
-use Rattle.model_walk.specs.declared.Num.TheVariants as num
-use Rattle.model_walk.specs.declared.Walked.{Walked}
-use Rattle.model_walk.specs.declared.Walked.TheVariants as walked
-use Rattle.model_walk.specs.Walk.{found, Walk, and_then}
+use Rattle.model_walk.specs.Walk.{Num, Walked, found, Walk, and_then}
 use Rattle.model_walk.proofs.Laws.{is_got, is_broken}
 use Rattle.model_parts.specs.declared.Part.{Part}
 use Rattle.model_parts.specs.declared.Part.TheVariants as part
@@ -125,16 +122,16 @@ module _ (w s : List ℕ) (p : ℕ) where
 
 module _ (s : List ℕ) (a b : ℕ) where
   module _ {f : Num} (e : found f ≡ u16 s a) where
-    pub place_none : f ≡ num.Broken → place_before s a b ≡ false
+    pub place_none : f ≡ None → place_before s a b ≡ false
     unfolding place_before
     place_none h = rw (is_broken e h, place_before)
 
-    module _ {x o : ℕ} (h : f ≡ num.Is x o) {g : Num} (d : found g ≡ u16 s b) where
-      pub place_none₂ : g ≡ num.Broken → place_before s a b ≡ false
+    module _ {x o : ℕ} (h : f ≡ Some (x, o)) {g : Num} (d : found g ≡ u16 s b) where
+      pub place_none₂ : g ≡ None → place_before s a b ≡ false
       unfolding place_before
       place_none₂ k = rw (is_got e h, is_broken d k, place_before)
 
-      pub place_both : {y q : ℕ} → g ≡ num.Is y q → place_before s a b ≡ ltb x y
+      pub place_both : {y q : ℕ} → g ≡ Some (y, q) → place_before s a b ≡ ltb x y
       unfolding place_before
       place_both k = rw (is_got e h, is_got d k, place_before)
 
@@ -149,38 +146,38 @@ module _ (s : List ℕ) (a b : ℕ) where
 -- ---- chains
 
 module _ (ts : ℕ) (t : Part) (x : Bool) (s : List ℕ) (p : ℕ) {f : Num} (e : found f ≡ u16 s p) where
-  pub ascending_none : f ≡ num.Broken → ascending_m ts t x s p ≡ walked.Broken
+  pub ascending_none : f ≡ None → ascending_m ts t x s p ≡ None
   unfolding ascending_m
   ascending_none h = rw (is_broken e h, ascending_m)
 
-  pub ascending_is : {c q : ℕ} → f ≡ num.Is c q → ascending_m ts t x s p ≡ chained (part_m ts t) c x s q
+  pub ascending_is : {c q : ℕ} → f ≡ Some (c, q) → ascending_m ts t x s p ≡ chained (part_m ts t) c x s q
   unfolding ascending_m
   ascending_is h = rw (is_got e h, ascending_m)
 
 module _ (k : Walk) (x : Bool) (s : List ℕ) (p : ℕ) where
-  pub chained_none : (c : ℕ) → c ≡ 0 → chained k c x s p ≡ walked.To p 0
+  pub chained_none : (c : ℕ) → c ≡ 0 → chained k c x s p ≡ Some (p, 0)
   unfolding chained
   chained_none c h = rw h
 
   module _ {y : Walked} (e : y ≡ k s p 0) where
-    pub chained_broken : (c : ℕ) → (c ≡ 0 → ⊥) → y ≡ walked.Broken → chained k c x s p ≡ walked.Broken
+    pub chained_broken : (c : ℕ) → (c ≡ 0 → ⊥) → y ≡ None → chained k c x s p ≡ None
     unfolding chained and_then
     chained_broken zero n h = absurd (n refl)
     chained_broken (suc c) n h = rw (sym e ∙ h, and_then)
 
-    pub chained_to : {q m : ℕ} (c : ℕ) → (c ≡ 0 → ⊥) → y ≡ walked.To q m → chained k c x s p ≡ chain k (c - 1) x p s q
+    pub chained_to : {q m : ℕ} (c : ℕ) → (c ≡ 0 → ⊥) → y ≡ Some (q, m) → chained k c x s p ≡ chain k (c - 1) x p s q
     unfolding chained and_then
     chained_to zero n h = absurd (n refl)
     chained_to (suc c) n h = rw (sub-one (suc c), sym e ∙ h, and_then)
 
     module _ (a : ℕ) where
-      pub chain_broken : (c : ℕ) → 0 < c → y ≡ walked.Broken → chain k c x a s p ≡ walked.Broken
+      pub chain_broken : (c : ℕ) → 0 < c → y ≡ None → chain k c x a s p ≡ None
       unfolding chain and_then
       chain_broken zero n h = absurd (omega arith)
       chain_broken (suc c) n h = rw (sym e ∙ h, and_then)
 
-      module _ {q m : ℕ} (h : y ≡ walked.To q m) {z : Bool} (f : z ≡ before x s a p) where
-        pub chain_off : (c : ℕ) → 0 < c → z ≡ false → chain k c x a s p ≡ walked.Broken
+      module _ {q m : ℕ} (h : y ≡ Some (q, m)) {z : Bool} (f : z ≡ before x s a p) where
+        pub chain_off : (c : ℕ) → 0 < c → z ≡ false → chain k c x a s p ≡ None
         unfolding chain and_then
         chain_off zero n g = absurd (omega arith)
         chain_off (suc c) n g = rw (sym e ∙ h, sym f ∙ g, and_then)
@@ -190,7 +187,7 @@ module _ (k : Walk) (x : Bool) (s : List ℕ) (p : ℕ) where
         chain_on zero n g = absurd (omega arith)
         chain_on (suc c) n g = rw (sub-one (suc c), sym e ∙ h, sym f ∙ g, and_then)
 
-  pub chain_end : (a c : ℕ) → c ≤ 0 → chain k c x a s p ≡ walked.To p 0
+  pub chain_end : (a c : ℕ) → c ≤ 0 → chain k c x a s p ≡ Some (p, 0)
   unfolding chain
   chain_end a zero h = refl
   chain_end a (suc c) h = absurd (omega arith)
@@ -199,11 +196,11 @@ module _ (k : Walk) (x : Bool) (s : List ℕ) (p : ℕ) where
 
 module _ (w s : List ℕ) (p : ℕ) where
   module _ {f : Num} (e : found f ≡ u16 s p) where
-    pub has_none : f ≡ num.Broken → has w s p ≡ false
+    pub has_none : f ≡ None → has w s p ≡ false
     unfolding has
     has_none h = rw (is_broken e h, has)
 
-    pub has_is : {c q : ℕ} → f ≡ num.Is c q → has w s p ≡ among c w s q
+    pub has_is : {c q : ℕ} → f ≡ Some (c, q) → has w s p ≡ among c w s q
     unfolding has
     has_is h = rw (is_got e h, has)
 
@@ -213,12 +210,12 @@ module _ (w s : List ℕ) (p : ℕ) where
   among_end (suc c) h = absurd (omega arith)
 
   module _ {y : Walked} (e : y ≡ text_m s p 0) where
-    pub among_broken : (c : ℕ) → 0 < c → y ≡ walked.Broken → among c w s p ≡ false
+    pub among_broken : (c : ℕ) → 0 < c → y ≡ None → among c w s p ≡ false
     unfolding among
     among_broken zero n h = absurd (omega arith)
     among_broken (suc c) n h = rw (sym e ∙ h, among)
 
-    module _ {q m : ℕ} (h : y ≡ walked.To q m) {z : Bool} (f : z ≡ (fits s p && eq_t w (text_at s p))) where
+    module _ {q m : ℕ} (h : y ≡ Some (q, m)) {z : Bool} (f : z ≡ (fits s p && eq_t w (text_at s p))) where
       pub among_here : (c : ℕ) → 0 < c → z ≡ true → among c w s p ≡ true
       unfolding among
       among_here zero n g = absurd (omega arith)
@@ -232,22 +229,22 @@ module _ (w s : List ℕ) (p : ℕ) where
 -- ---- the section of texts
 
 module _ (s : List ℕ) (p : ℕ) where
-  pub no_on : has (text "on") s p ≡ false → texts_m s p ≡ walked.Broken
+  pub no_on : has (text "on") s p ≡ false → texts_m s p ≡ None
   unfolding texts_m
   no_on e = rw e
 
   module _ (a : has (text "on") s p ≡ true) where
-    pub no_off : has (text "off") s p ≡ false → texts_m s p ≡ walked.Broken
+    pub no_off : has (text "off") s p ≡ false → texts_m s p ≡ None
     unfolding texts_m
     no_off e = rw (a, e)
 
     module _ (b : has (text "off") s p ≡ true) where
-      pub no_unknown : has (text "unknown") s p ≡ false → texts_m s p ≡ walked.Broken
+      pub no_unknown : has (text "unknown") s p ≡ false → texts_m s p ≡ None
       unfolding texts_m
       no_unknown e = rw (a, b, e)
 
       module _ (c : has (text "unknown") s p ≡ true) where
-        pub no_unavailable : has (text "unavailable") s p ≡ false → texts_m s p ≡ walked.Broken
+        pub no_unavailable : has (text "unavailable") s p ≡ false → texts_m s p ≡ None
         unfolding texts_m
         no_unavailable e = rw (a, b, c, e)
 

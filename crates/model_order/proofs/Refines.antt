@@ -1,5 +1,5 @@
 -- The walks over ordered sections end where the readers of `File` end.
-use Rattle.std.specs.Prelude.{if◌then◌else◌}
+use Rattle.std.specs.Prelude.{Some, None, if◌then◌else◌}
 use mathlib.Core.Path.{◌≡◌, refl, sym, ap, ap₂, ◌∙◌, subst}
 use mathlib.Core.List.{List, [], ◌∷◌}
 use mathlib.Core.Bool.{Bool, true, false, ◌&&◌, ◌||◌}
@@ -33,9 +33,7 @@ use Rattle.model_spec.specs.File.{
   entity,
   entities,
 }
-use Rattle.model_walk.specs.declared.Walked.{Walked}
-use Rattle.model_walk.specs.declared.Walked.TheVariants as walked
-use Rattle.model_walk.specs.Walk.{capped, seen, Walk, and_then}
+use Rattle.model_walk.specs.Walk.{Walked, capped, seen, Walk, and_then}
 use Rattle.model_walk.proofs.Laws.{bind_got, bind_broken}
 use Rattle.model_walk.proofs.Refines.{Sees, quiet}
 use Rattle.model_parts.specs.declared.Part.TheVariants as part
@@ -52,16 +50,16 @@ less_one i = omega arith
 -- ---- a list of values, judged as a whole
 
 unfoldable pub judge : {A : Type 0} → (List A → Bool) → Got (List A) → Walked
-judge t (got l q) = if t l then walked.To q 0 else walked.Broken
-judge t broken = walked.Broken
+judge t (got l q) = if t l then Some (q, 0) else None
+judge t broken = None
 
 module _ {A : Type 0} (r : Reader A) (k : Walk) (e : Sees quiet r k) (key : A → Text) (x : Bool) (s : List ℕ)
     (h : (a b : ℕ) (u v : A) (o q : ℕ) → r s a ≡ got u o → r s b ≡ got v q → before x s a b ≡ lt_t (key u) (key v)) where
-  walks_to : (p : ℕ) {v : A} {q : ℕ} → r s p ≡ got v q → k s p 0 ≡ walked.To q 0
+  walks_to : (p : ℕ) {v : A} {q : ℕ} → r s p ≡ got v q → k s p 0 ≡ Some (q, 0)
   unfolding capped seen
   walks_to p f = e 0 s p ∙ ap (seen quiet 0) f
 
-  walks_off : (p : ℕ) → r s p ≡ broken → k s p 0 ≡ walked.Broken
+  walks_off : (p : ℕ) → r s p ≡ broken → k s p 0 ≡ None
   unfolding capped seen
   walks_off p f = e 0 s p ∙ ap (seen quiet 0) f
 
@@ -76,11 +74,11 @@ module _ {A : Type 0} (r : Reader A) (k : Walk) (e : Sees quiet r k) (key : A �
       rest (got l o) d = ap (judge t) (bind_got (times i r) _ d)
       rest broken d = ap (judge t) (bind_broken (times i r) _ d)
 
-  never : (i q : ℕ) (t : List A → Bool) → ((l : List A) → t l ≡ false) → judge t (times i r s q) ≡ walked.Broken
+  never : (i q : ℕ) (t : List A → Bool) → ((l : List A) → t l ≡ false) → judge t (times i r s q) ≡ None
   unfolding judge
   never i q t f = rest (times i r s q)
     where
-      rest : (g : Got (List A)) → judge t g ≡ walked.Broken
+      rest : (g : Got (List A)) → judge t g ≡ None
       rest (got l o) = rw (f l)
       rest broken = refl
 
@@ -214,13 +212,13 @@ module _ (ts : List Text) where
           ≡ seen quiet 0 (((λ _ _. g) >>= λ es. require (ascending (each (λ e. e.name) es)) es) s p)
       last (got l q) = tested (ascending (each (λ e. e.name) l))
         where
-          tested : (b : Bool) → (if b then walked.To q 0 else walked.Broken)
+          tested : (b : Bool) → (if b then Some (q, 0) else None)
               ≡ seen {A = List Entity} quiet 0 (if b then got l q else broken)
           tested true = refl
           tested false = refl
       last broken = refl
 
-      cases : (g : Got ℕ) → (elim g [ got c q ↦ chained (entity_m (length ts)) c false s q | broken ↦ walked.Broken ])
+      cases : (g : Got ℕ) → (elim g [ got c q ↦ chained (entity_m (length ts)) c false s q | broken ↦ None ])
           ≡ seen quiet 0
           ((((λ _ _. g) >>= λ c. times c (entity ts)) >>= λ es. require (ascending (each (λ e. e.name) es)) es) s p)
       cases (got c q) = sees_chained (entity ts) (entity_m (length ts)) (sees_entity ts) (λ e. e.name) false s
@@ -242,7 +240,7 @@ none_read : (s : List ℕ) (p : ℕ) (l : List Text) (next : ℕ) → times 0 on
 unfolding times give
 none_read s p l next h = cc
 
-text_walks : (s : List ℕ) (p : ℕ) {t : Text} {q : ℕ} → one_text s p ≡ got t q → text_m s p 0 ≡ walked.To q 0
+text_walks : (s : List ℕ) (p : ℕ) {t : Text} {q : ℕ} → one_text s p ≡ got t q → text_m s p 0 ≡ Some (q, 0)
 unfolding capped seen
 text_walks s p f = sees_text 0 s p ∙ ap (seen quiet 0) f
 
@@ -291,9 +289,9 @@ ascending_in : (s : List ℕ) (p : ℕ) {c q : ℕ} → u16 s p ≡ got c q →
 unfolding ascending_m part_m
 ascending_in s p {c} {q} e = rw (e, ascending_m) (sees_chained one_text text_m sees_text (λ t. t) true s (texts_before s) c q)
 
-nothing : (a b c d : Bool) (x : Walked) → x ≡ walked.Broken →
-    (if a then if b then if c then if d then x else walked.Broken else walked.Broken else walked.Broken else walked.Broken)
-    ≡ walked.Broken
+nothing : (a b c d : Bool) (x : Walked) → x ≡ None →
+    (if a then if b then if c then if d then x else None else None else None else None)
+    ≡ None
 nothing true true true true x e = e
 nothing true true true false x e = refl
 nothing true true false d x e = refl
@@ -301,8 +299,8 @@ nothing true false c d x e = refl
 nothing false b c d x e = refl
 
 something : (l : List Text) (o : ℕ) (e a b c d : Bool) →
-    (if a then if b then if c then if d then (if e then walked.To o 0 else walked.Broken) else walked.Broken
-    else walked.Broken else walked.Broken else walked.Broken)
+    (if a then if b then if c then if d then (if e then Some (o, 0) else None) else None
+    else None else None else None)
     ≡ seen {A = List Text} quiet 0 (if e && (a && b && c && d) then got l o else broken)
 unfolding seen capped
 something l o true true true true true = refl
@@ -326,9 +324,9 @@ module _ (s : List ℕ) (p : ℕ) where
   unfolding texts texts_m has_fixed require judge
   texts_read {c} {q} {l} {o} e f =
       let m : (w : Text) → has w s p ≡ mem_t w l = λ w. has_in w s p e ∙ sees_among w s c q l o f in
-      let a : ascending_m 0 part.Text true s p ≡ (if ascending l then walked.To o 0 else walked.Broken) =
+      let a : ascending_m 0 part.Text true s p ≡ (if ascending l then Some (o, 0) else None) =
       ascending_in s p e ∙ ap (judge (λ l. ascending (each (λ t. t) l))) f
-      ∙ ap (λ (x : List Text). if ascending x then walked.To o 0 else walked.Broken) (each_same l) in
+      ∙ ap (λ (x : List Text). if ascending x then Some (o, 0) else None) (each_same l) in
       rw (m (text "on"), m (text "off"), m (text "unknown"), m (text "unavailable"), a)
       (something l o (ascending l) (mem_t (text "on") l) (mem_t (text "off") l) (mem_t (text "unknown") l)
       (mem_t (text "unavailable") l)

@@ -16,7 +16,7 @@ ghost use Rattle.model_order.specs.Order.{
 };
 
 use model_parts::Part;
-use model_walk::{Num, Walked};
+use model_walk::Walked;
 
 fn text_fits(s: &[u8], p: usize) -> bool
     ensures { result ≡ fits s.now p }
@@ -89,12 +89,10 @@ fn text_is(s: &[u8], p: usize, word: &[u8]) -> bool
 fn place_before(s: &[u8], a: usize, b: usize) -> bool
     ensures { result ≡ place_before s.now a b }
 {
-    let f = model_walk::u16_at(s, a);
-    let Num::Is(x, _) = f else {
+    let Some((x, _)) = model_walk::u16_at(s, a) else {
         return false;
     };
-    let g = model_walk::u16_at(s, b);
-    let Num::Is(y, _) = g else {
+    let Some((y, _)) = model_walk::u16_at(s, b) else {
         return false;
     };
     x < y
@@ -113,55 +111,40 @@ fn precedes(s: &[u8], as_texts: bool, a: usize, b: usize) -> bool
 pub fn ascending_at(s: &[u8], texts: u32, part: Part, as_texts: bool, at: usize) -> Walked
     ensures { result ≡ ascending_m texts part as_texts s.now at }
 {
-    let x = model_walk::u16_at(s, at);
-    let Num::Is(count, start) = x else {
-        return Walked::Broken;
-    };
+    let (count, start) = model_walk::u16_at(s, at)?;
     if count == 0 {
-        return Walked::To(start, 0);
+        return Some((start, 0));
     }
-    let y = model_parts::part_at(s, texts, part, start, 0);
-    let Walked::To(next, _) = y else {
-        return Walked::Broken;
-    };
+    let (next, _) = model_parts::part_at(s, texts, part, start, 0)?;
     let mut last = start;
     let mut p = next;
-    let mut left = count - 1;
-    while 0 < left {
-        let z = model_parts::part_at(s, texts, part, p, 0);
-        let Walked::To(q, _) = z else {
-            return Walked::Broken;
-        };
+    for _ in 1..count {
+        let (q, _) = model_parts::part_at(s, texts, part, p, 0)?;
         if !precedes(s, as_texts, last, p) {
-            return Walked::Broken;
+            return None;
         }
         last = p;
         p = q;
-        left -= 1;
     }
-    Walked::To(p, 0)
+    Some((p, 0))
 }
 
 // Whether the word is a text of the section.
 fn has(s: &[u8], word: &[u8], at: usize) -> bool
     ensures { result ≡ has word.now s.now at }
 {
-    let x = model_walk::u16_at(s, at);
-    let Num::Is(count, start) = x else {
+    let Some((count, start)) = model_walk::u16_at(s, at) else {
         return false;
     };
-    let mut left = count;
     let mut p = start;
-    while 0 < left {
-        let y = model_parts::text_at(s, p, 0);
-        let Walked::To(q, _) = y else {
+    for _ in 0..count {
+        let Some((q, _)) = model_parts::text_at(s, p, 0) else {
             return false;
         };
         if text_is(s, p, word) {
             return true;
         }
         p = q;
-        left -= 1;
     }
     false
 }
@@ -171,15 +154,13 @@ pub fn place_of(s: &[u8], word: &[u8], count: u32) -> u32
     ensures { result ≡ place_from count 0 word.now s.now 6 }
 {
     let mut p: usize = 6;
-    let mut place: u32 = 0;
-    while place < count {
+    for place in 0..count {
         if text_is(s, p, word) {
             return place;
         }
         p = p + 1 + texts::length_byte(s, p);
-        place += 1;
     }
-    place
+    count
 }
 
 // The section of texts: they ascend, and the four fixed texts are there.
@@ -187,16 +168,16 @@ pub fn texts_at(s: &[u8], at: usize) -> Walked
     ensures { result ≡ texts_m s.now at }
 {
     if !has(s, b"on", at) {
-        return Walked::Broken;
+        return None;
     }
     if !has(s, b"off", at) {
-        return Walked::Broken;
+        return None;
     }
     if !has(s, b"unknown", at) {
-        return Walked::Broken;
+        return None;
     }
     if !has(s, b"unavailable", at) {
-        return Walked::Broken;
+        return None;
     }
     ascending_at(s, 0, Part::Text, true, at)
 }

@@ -1,5 +1,6 @@
 -- The laws of parts and sections that the proofs of functions cite.
-use Rattle.std.specs.Prelude.{if◌then◌else◌}
+use Rattle.std.specs.Prelude.{Some, None, if◌then◌else◌}
+use mathlib.Core.Logic.{◌⊎◌, inl, inr}
 use mathlib.Core.Path.{◌≡◌, refl, sym, ◌∙◌}
 use mathlib.Core.List.{List}
 use mathlib.Core.Bool.{true, false}
@@ -10,12 +11,10 @@ use lib.ListN.{set}
 use lib.Dec.{ltb, eqb}
 use borrow.Author.Tests.{lt-ltb, le-ltb, le-leb, lt-leb, ne_eqb}
 use Rattle.model_spec.specs.File.{u8, u16, printable}
-use Rattle.model_walk.specs.declared.Num.{Num}
-use Rattle.model_walk.specs.declared.Num.TheVariants as num
-use Rattle.model_walk.specs.declared.Walked.{Walked}
-use Rattle.model_walk.specs.declared.Walked.TheVariants as walked
 use Rattle.model_walk.specs.declared.Piece.TheVariants as piece
 use Rattle.model_walk.specs.Walk.{
+  Num,
+  Walked,
   found,
   Walk,
   ◌⨾◌,
@@ -57,13 +56,10 @@ pub printable_in : (b : ℕ) → 32 ≤ b → b ≤ 126 → printable b ≡ true
 unfolding printable
 printable_in b h k = simp (le-leb _ _ h, le-leb _ _ k)
 
-pub printable_low : (b : ℕ) → b < 32 → printable b ≡ false
+pub printable_out : (b : ℕ) → (b < 32) ⊎ ((32 ≤ b) × (126 < b)) → printable b ≡ false
 unfolding printable
-printable_low b h = simp (lt-leb _ _ h)
-
-pub printable_high : (b : ℕ) → 32 ≤ b → 126 < b → printable b ≡ false
-unfolding printable
-printable_high b k h = simp (le-leb _ _ k, lt-leb _ _ h)
+printable_out b (inl h) = simp (lt-leb _ _ h)
+printable_out b (inr (k, h)) = simp (le-leb _ _ k, lt-leb _ _ h)
 
 module _ (ts : ℕ) (s : List ℕ) (p n : ℕ) where
   pub entity_is : entity_m ts s p n ≡ (place_m ts ⨾ pieces_m ts piece.Place ⨾ place_m ts ⨾ kind_m 4 ⨾ bytes_m 4) s p n
@@ -104,7 +100,7 @@ module _ (ts : ℕ) (s : List ℕ) (p n : ℕ) where
     unfolding condition_m
     condition_3 e = rw e
 
-    pub condition_else : (k ≡ 0 → ⊥) → (k ≡ 1 → ⊥) → (k ≡ 2 → ⊥) → (k ≡ 3 → ⊥) → condition_m ts k s p n ≡ walked.Broken
+    pub condition_else : (k ≡ 0 → ⊥) → (k ≡ 1 → ⊥) → (k ≡ 2 → ⊥) → (k ≡ 3 → ⊥) → condition_m ts k s p n ≡ None
     unfolding condition_m stop
     condition_else a b c d = rw (ne_eqb _ _ a, ne_eqb _ _ b, ne_eqb _ _ c, ne_eqb _ _ d)
 
@@ -149,29 +145,29 @@ put_out i p l h = rw (le-ltb i 100 h)
 
 module _ (k : Walk) (s : List ℕ) (p n : ℕ) {x : Num} (e : found x ≡ u16 s p) where
   module _ {l : List ℕ} (f : l ≡ no_starts) where
-    pub section_is : {c q : ℕ} → x ≡ num.Is c q → section_m k s p n ≡ fill c 0 c k l s q n
+    pub section_is : {c q : ℕ} → x ≡ Some (c, q) → section_m k s p n ≡ fill c 0 c k l s q n
     unfolding section_m
     section_is h = rw (is_got e h, f, section_m)
 
-    pub section_broken : x ≡ num.Broken → section_m k s p n ≡ record { count = 0; starts = l; end = walked.Broken }
+    pub section_broken : x ≡ None → section_m k s p n ≡ record { count = 0; starts = l; end = None }
     unfolding section_m
     section_broken h = rw (is_broken e h, f, section_m)
 
 module _ (k : Walk) (s : List ℕ) (p n i c : ℕ) (l : List ℕ) where
-  pub fill_end : (left : ℕ) → left ≤ 0 → fill left i c k l s p n ≡ record { count = c; starts = l; end = walked.To p n }
+  pub fill_end : (left : ℕ) → left ≤ 0 → fill left i c k l s p n ≡ record { count = c; starts = l; end = Some (p, n) }
   unfolding fill
   fill_end zero h = refl
   fill_end (suc left) h = absurd (omega arith)
 
   module _ {x : Walked} (e : x ≡ k s p n) {l' : List ℕ} (f : l' ≡ put i p l) where
-    pub fill_more : {q m : ℕ} (left : ℕ) → 0 < left → x ≡ walked.To q m →
+    pub fill_more : {q m : ℕ} (left : ℕ) → 0 < left → x ≡ Some (q, m) →
         fill left i c k l s p n ≡ fill (left - 1) (i + 1) c k l' s q m
     unfolding fill
     fill_more zero h g = absurd (omega arith)
     fill_more (suc left) h g = rw (sub-one (suc left), f, sym e ∙ g, fill)
 
-    pub fill_broken : (left : ℕ) → 0 < left → x ≡ walked.Broken →
-        fill left i c k l s p n ≡ record { count = c; starts = l'; end = walked.Broken }
+    pub fill_broken : (left : ℕ) → 0 < left → x ≡ None →
+        fill left i c k l s p n ≡ record { count = c; starts = l'; end = None }
     unfolding fill
     fill_broken zero h g = absurd (omega arith)
     fill_broken (suc left) h g = rw (f, sym e ∙ g, fill)

@@ -1,9 +1,9 @@
 -- Each part's walk ends where the reader of `File` ends, with the notes of what the reader found.
-use Rattle.std.specs.Prelude.{if◌then◌else◌}
+use Rattle.std.specs.Prelude.{Some, None, if◌then◌else◌}
 use mathlib.Core.Path.{◌≡◌, refl, sym, ap, ◌∙◌}
 use mathlib.Core.List.{List, [], ◌∷◌, ◌++◌}
 use mathlib.Core.Bool.{Bool, true, false, ◌&&◌}
-use Prim.Native.Nat.{ℕ, zero, suc, ◌+◌, ◌-◌}
+use Prim.Native.Nat.{ℕ, zero, suc, ◌+◌}
 use native.Mathlib.Omega.{arith}
 use lib.ListN.{length, get_or, length-append}
 use lib.Dec.{ltb, eqb}
@@ -53,10 +53,9 @@ use Rattle.model_spec.specs.File.{
   actions,
   automation,
 }
-use Rattle.model_walk.specs.declared.Walked.{Walked}
-use Rattle.model_walk.specs.declared.Walked.TheVariants as walked
 use Rattle.model_walk.specs.declared.Piece.TheVariants as piece
 use Rattle.model_walk.specs.Walk.{
+  Walked,
   capped,
   seen,
   Walk,
@@ -110,11 +109,11 @@ use Rattle.model_parts.specs.Parts.{letter_m, text_m, entity_m, input_m, event_m
 -- bytes, tested one by one, are the bytes tested at the end
 module _ {B : Type 0} (w : B → ℕ) (n m : ℕ) where
   never_found : (i : ℕ) (f : List ℕ → B) (s : List ℕ) (p : ℕ) →
-      seen w n ((times i u8 >>= λ t. require false (f t)) s p) ≡ walked.Broken
+      seen w n ((times i u8 >>= λ t. require false (f t)) s p) ≡ None
   unfolding seen ◌>>=◌ require
   never_found i f s p = cases (times i u8 s p)
     where
-      cases : (g : Got (List ℕ)) → seen w n (elim g [ got t q ↦ broken | broken ↦ broken ]) ≡ walked.Broken
+      cases : (g : Got (List ℕ)) → seen w n (elim g [ got t q ↦ broken | broken ↦ broken ]) ≡ None
       cases (got t q) = refl
       cases broken = refl
 
@@ -175,13 +174,13 @@ regroup : {B : Type 0} (w : B → ℕ) (n m : ℕ) (r : Reader B) (a b c : Walk)
     Runs w n r m ((a ⨾ b) ⨾ c)
 regroup w n m r a b c h s p = walks.assoc s p (capped m) a b c ∙ h s p
 
-then_stop : (k : Walk) (s : List ℕ) (p n : ℕ) → (k ⨾ stop) s p n ≡ walked.Broken
+then_stop : (k : Walk) (s : List ℕ) (p n : ℕ) → (k ⨾ stop) s p n ≡ None
 unfolding ◌⨾◌ and_then stop
 then_stop k s p n = cases (k s p n)
   where
-    cases : (x : Walked) → and_then x (stop s) ≡ walked.Broken
-    cases (walked.To q m) = refl
-    cases walked.Broken = refl
+    cases : (x : Walked) → and_then x (stop s) ≡ None
+    cases (Some (q, m)) = refl
+    cases None = refl
 
 module _ (ts : List Text) where
   pub sees_entity : Sees quiet (entity ts) (entity_m (length ts))
@@ -237,7 +236,7 @@ module _ (ts : List Text) where
           ∷ (place ts >>= λ i. predicate ts >>= λ p. predicate ts >>= λ q. u32 >>= λ x. give (response i p q x))
           ∷ []
 
-      refuses_is : (s : List ℕ) (p : ℕ) → walked.Broken ≡ seen w n (refuse s p)
+      refuses_is : (s : List ℕ) (p : ℕ) → None ≡ seen w n (refuse s p)
       refuses_is s p = refl
 
       cases : (k : ℕ) → Runs w n (get_or table k refuse) n (place_m (length ts) ⨾ condition_m (length ts) k)

@@ -1,15 +1,14 @@
 -- A section: it ends where its walk ends, and its positions are those of its parts.
+use Rattle.std.specs.Prelude.{Some, None}
 use mathlib.Core.Path.{◌≡◌, refl, sym, ap, ◌∙◌, subst}
 use mathlib.Core.List.{List, [], ◌∷◌}
-use Prim.Native.Nat.{ℕ, zero, suc, ◌+◌, ◌-◌, ◌<◌}
+use Prim.Native.Nat.{ℕ, zero, suc, ◌+◌, ◌<◌}
 use native.Mathlib.Omega.{arith}
 use native.Mathlib.Decide.{dec_lt}
 use lib.ListN.{length, get_or, length-set, length-replicate}
 use lib.Seq.{get_or-set_same, get_or-set_other}
 use Rattle.model_spec.specs.File.{Got, got, broken, Reader, ◌>>=◌, give, u16, times}
-use Rattle.model_walk.specs.declared.Walked.{Walked}
-use Rattle.model_walk.specs.declared.Walked.TheVariants as walked
-use Rattle.model_walk.specs.Walk.{capped, seen, Walk, and_then, ◌⨾◌, by, stay, times_m, counted_m}
+use Rattle.model_walk.specs.Walk.{Walked, capped, seen, Walk, and_then, ◌⨾◌, by, stay, times_m, counted_m}
 use Rattle.model_walk.proofs.Refines.{Sees}
 use Rattle.model_walk.proofs.Laws as walks
 use Rattle.model_parts.specs.declared.Section.{Section}
@@ -21,20 +20,20 @@ use Rattle.model_parts.proofs.Laws as laws
 
 -- one part more: by the case of its walk
 module _ (left i c : ℕ) (k : Walk) (l s : List ℕ) (p n : ℕ) (P : Walked → Section → Type 0) where
-  next_case : ((q m : ℕ) → P (walked.To q m) (fill left (i + 1) c k (put i p l) s q m)) →
-      P walked.Broken (record { count = c; starts = put i p l; end = walked.Broken }) →
+  next_case : ((q m : ℕ) → P (Some (q, m)) (fill left (i + 1) c k (put i p l) s q m)) →
+      P None (record { count = c; starts = put i p l; end = None }) →
       P (k s p n) (fill (suc left) i c k l s p n)
   unfolding fill
   next_case f g = cases (k s p n)
     where
       cases : (x : Walked) →
           P x (elim x [
-            | walked.To q m ↦ fill left (i + 1) c k (put i p l) s q m
-            | walked.Broken ↦
-                record { count = c; starts = put i p l; end = walked.Broken }
+            | Some (q, m) ↦ fill left (i + 1) c k (put i p l) s q m
+            | None ↦
+                record { count = c; starts = put i p l; end = None }
           ])
-      cases (walked.To q m) = f q m
-      cases walked.Broken = g
+      cases (Some (q, m)) = f q m
+      cases None = g
 
 module _ (k : Walk) (s : List ℕ) where
   fill_ends : (left i c : ℕ) (l : List ℕ) (p n : ℕ) → (fill left i c k l s p n).end ≡ times_m left k s p n
@@ -55,9 +54,9 @@ module _ (k : Walk) (s : List ℕ) where
     where
       section : Got ℕ → Section
       section (got c q) = fill c 0 c k no_starts s q n
-      section broken = record { count = 0; starts = no_starts; end = walked.Broken }
+      section broken = record { count = 0; starts = no_starts; end = None }
 
-      cases : (x : Got ℕ) → (section x).end ≡ elim x [ got c q ↦ times_m c k s q n | broken ↦ walked.Broken ]
+      cases : (x : Got ℕ) → (section x).end ≡ elim x [ got c q ↦ times_m c k s q n | broken ↦ None ]
       cases (got c q) = fill_ends c 0 c no_starts q n
       cases broken = refl
 
@@ -99,7 +98,7 @@ first_at left i c k l s p n h o =
     (λ q m. stays left (i + 1) c k (put i p l) s q m i (omega arith) ∙ put_same i p l h o)
     (put_same i p l h o)
 
-fill_to : (left i c : ℕ) (k : Walk) (l s : List ℕ) (p n : ℕ) {q m : ℕ} → k s p n ≡ walked.To q m →
+fill_to : (left i c : ℕ) (k : Walk) (l s : List ℕ) (p n : ℕ) {q m : ℕ} → k s p n ≡ Some (q, m) →
     fill (suc left) i c k l s p n ≡ fill left (i + 1) c k (put i p l) s q m
 unfolding fill
 fill_to left i c k l s p n e = rw (e, fill)
@@ -138,7 +137,7 @@ module _ {A : Type 0} (r : Reader A) (s : List ℕ) where
           absurd (omega arith)
 
 module _ {A : Type 0} (w : A → ℕ) (r : Reader A) (k : Walk) (e : Sees w r k) (s : List ℕ) (d : A) where
-  walks_on : (p n : ℕ) {x : A} {q : ℕ} → r s p ≡ got x q → k s p (capped n) ≡ walked.To q (capped (n + w x))
+  walks_on : (p n : ℕ) {x : A} {q : ℕ} → r s p ≡ got x q → k s p (capped n) ≡ Some (q, capped (n + w x))
   unfolding seen
   walks_on p n f = e n s p ∙ ap (seen w n) f
 

@@ -1,7 +1,6 @@
 -- Walks over the parts that stand in a section, and a section: its count, and where its parts start.
-use Rattle.std.specs.Prelude.{ℕ, zero, suc, ◌+◌, List, ltb, eqb, set, replicate, if◌then◌else◌}
+use Rattle.std.specs.Prelude.{Some, None, ℕ, zero, suc, ◌+◌, List, ltb, eqb, set, replicate, if◌then◌else◌}
 use Rattle.model_spec.specs.File.{got, broken, u8, u16, printable}
-use Rattle.model_walk.specs.declared.Walked.TheVariants as walked
 use Rattle.model_walk.specs.declared.Piece.TheVariants as piece
 use Rattle.model_walk.specs.Walk.{Walk, ◌⨾◌, by, stop, staying, bytes_m, times_m, kind_m, place_m, pieces_m, predicate_m, actions_m}
 use Rattle.model_parts.specs.declared.Part.{Part}
@@ -62,16 +61,16 @@ no_starts = replicate 100 0
 
 -- `left` parts more, the first of them the i-th of c
 unfoldable pub fill : (left i c : ℕ) → Walk → List ℕ → List ℕ → ℕ → ℕ → Section
-fill zero i c k l s p n = record { count = c; starts = l; end = walked.To p n }
+fill zero i c k l s p n = record { count = c; starts = l; end = Some (p, n) }
 fill (suc left) i c k l s p n = elim (k s p n) [
-  | walked.To q m ↦ fill left (i + 1) c k (put i p l) s q m
-  | walked.Broken ↦ record { count = c; starts = put i p l; end = walked.Broken }
+  | Some (q, m) ↦ fill left (i + 1) c k (put i p l) s q m
+  | None ↦ record { count = c; starts = put i p l; end = None }
 ]
 
 unfoldable pub section_m : Walk → List ℕ → ℕ → ℕ → Section
 section_m k s p n = elim (u16 s p) [
   | got c q ↦ fill c 0 c k no_starts s q n
-  | broken ↦ record { count = 0; starts = no_starts; end = walked.Broken }
+  | broken ↦ record { count = 0; starts = no_starts; end = None }
 ]
 
 -- a section from its extent and its positions

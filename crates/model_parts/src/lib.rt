@@ -18,7 +18,7 @@ ghost use Rattle.model_parts.specs.Parts.{
 };
 
 use layout::Positions;
-use model_walk::{Num, Piece, Walked};
+use model_walk::{Piece, Walked};
 
 // What a section is a list of. Texts don't name texts; any other part does.
 #[derive(Clone, Copy)]
@@ -50,74 +50,43 @@ pub struct Extent {
 pub fn text_at(s: &[u8], at: usize, notes: u32) -> Walked
     ensures { result ≡ text_m s.now at notes }
 {
-    let x = model_walk::u8_at(s, at);
-    let Num::Is(count, start) = x else {
-        return Walked::Broken;
-    };
-    let mut left = count;
+    let (count, start) = model_walk::u8_at(s, at)?;
     let mut p = start;
-    while 0 < left {
-        let y = model_walk::u8_at(s, p);
-        let Num::Is(b, q) = y else {
-            return Walked::Broken;
-        };
-        if b < 32 {
-            return Walked::Broken;
-        }
-        if 126 < b {
-            return Walked::Broken;
+    for _ in 0..count {
+        let (b, q) = model_walk::u8_at(s, p)?;
+        if b < 32 || 126 < b {
+            return None;
         }
         p = q;
-        left -= 1;
     }
-    Walked::To(p, notes)
+    Some((p, notes))
 }
 
 fn entity_at(s: &[u8], texts: u32, at: usize, notes: u32) -> Walked
     ensures { result ≡ entity_m texts s.now at notes }
 {
-    let a = model_walk::place_at(s, texts, at, notes);
-    let Walked::To(p, k) = a else {
-        return Walked::Broken;
-    };
-    let b = model_walk::pieces_at(s, texts, Piece::Place, p, k);
-    let Walked::To(q, l) = b else {
-        return Walked::Broken;
-    };
-    let d = model_walk::place_at(s, texts, q, l);
-    let Walked::To(t, m) = d else {
-        return Walked::Broken;
-    };
-    let e = model_walk::kind_at(s, 4, t, m);
-    let Walked::To(u, n) = e else {
-        return Walked::Broken;
-    };
+    let (p, k) = model_walk::place_at(s, texts, at, notes)?;
+    let (q, l) = model_walk::pieces_at(s, texts, Piece::Place, p, k)?;
+    let (t, m) = model_walk::place_at(s, texts, q, l)?;
+    let (u, n) = model_walk::kind_at(s, 4, t, m)?;
     model_walk::bytes_at(s, 4, u, n)
 }
 
 fn input_at(s: &[u8], texts: u32, at: usize, notes: u32) -> Walked
     ensures { result ≡ input_m texts s.now at notes }
 {
-    let x = model_walk::u8_at(s, at);
-    let Num::Is(k, p) = x else {
-        return Walked::Broken;
-    };
-    if k == 0 {
-        return model_walk::two_places_at(s, texts, p, notes);
+    let (k, p) = model_walk::u8_at(s, at)?;
+    match k {
+        0 => model_walk::two_places_at(s, texts, p, notes),
+        1 | 2 => Some((p, notes)),
+        _ => None,
     }
-    if k < 3 {
-        return Walked::To(p, notes);
-    }
-    Walked::Broken
 }
 
 fn event_at(s: &[u8], texts: u32, at: usize, notes: u32) -> Walked
     ensures { result ≡ event_m texts s.now at notes }
 {
-    let a = model_walk::bytes_at(s, 4, at, notes);
-    let Walked::To(p, k) = a else {
-        return Walked::Broken;
-    };
+    let (p, k) = model_walk::bytes_at(s, 4, at, notes)?;
     input_at(s, texts, p, k)
 }
 
@@ -125,82 +94,43 @@ fn event_at(s: &[u8], texts: u32, at: usize, notes: u32) -> Walked
 fn condition_at(s: &[u8], texts: u32, kind: u32, at: usize, notes: u32) -> Walked
     ensures { result ≡ condition_m texts kind s.now at notes }
 {
-    if kind == 0 {
-        return model_walk::pieces_at(s, texts, Piece::Predicate, at, notes);
+    match kind {
+        0 => model_walk::pieces_at(s, texts, Piece::Predicate, at, notes),
+        1 => {
+            let (p, k) = model_walk::two_places_at(s, texts, at, notes)?;
+            model_walk::pieces_at(s, texts, Piece::Predicate, p, k)
+        }
+        2 => {
+            let (q, l) = model_walk::two_places_at(s, texts, at, notes)?;
+            model_walk::place_at(s, texts, q, l)
+        }
+        3 => {
+            let (t, m) = model_walk::predicate_at(s, texts, at, notes)?;
+            let (u, n) = model_walk::predicate_at(s, texts, t, m)?;
+            model_walk::bytes_at(s, 4, u, n)
+        }
+        _ => None,
     }
-    if kind == 1 {
-        let a = model_walk::two_places_at(s, texts, at, notes);
-        let Walked::To(p, k) = a else {
-            return Walked::Broken;
-        };
-        return model_walk::pieces_at(s, texts, Piece::Predicate, p, k);
-    }
-    if kind == 2 {
-        let b = model_walk::two_places_at(s, texts, at, notes);
-        let Walked::To(q, l) = b else {
-            return Walked::Broken;
-        };
-        return model_walk::place_at(s, texts, q, l);
-    }
-    if kind == 3 {
-        let d = model_walk::predicate_at(s, texts, at, notes);
-        let Walked::To(t, m) = d else {
-            return Walked::Broken;
-        };
-        let e = model_walk::predicate_at(s, texts, t, m);
-        let Walked::To(u, n) = e else {
-            return Walked::Broken;
-        };
-        return model_walk::bytes_at(s, 4, u, n);
-    }
-    Walked::Broken
 }
 
 fn invariant_at(s: &[u8], texts: u32, at: usize, notes: u32) -> Walked
     ensures { result ≡ invariant_m texts s.now at notes }
 {
-    let x = model_walk::u8_at(s, at);
-    let Num::Is(kind, p) = x else {
-        return Walked::Broken;
-    };
-    let a = model_walk::place_at(s, texts, p, notes);
-    let Walked::To(q, n) = a else {
-        return Walked::Broken;
-    };
+    let (kind, p) = model_walk::u8_at(s, at)?;
+    let (q, n) = model_walk::place_at(s, texts, p, notes)?;
     condition_at(s, texts, kind, q, n)
 }
 
 fn rule_at(s: &[u8], texts: u32, at: usize, notes: u32) -> Walked
     ensures { result ≡ rule_m texts s.now at notes }
 {
-    let a = model_walk::place_at(s, texts, at, notes);
-    let Walked::To(p0, n0) = a else {
-        return Walked::Broken;
-    };
-    let b = model_walk::kind_at(s, 4, p0, n0);
-    let Walked::To(p1, n1) = b else {
-        return Walked::Broken;
-    };
-    let d = model_walk::bytes_at(s, 4, p1, n1);
-    let Walked::To(p2, n2) = d else {
-        return Walked::Broken;
-    };
-    let e = model_walk::pieces_at(s, texts, Piece::Trigger, p2, n2);
-    let Walked::To(p3, n3) = e else {
-        return Walked::Broken;
-    };
-    let f = model_walk::pieces_at(s, texts, Piece::Predicate, p3, n3);
-    let Walked::To(p4, n4) = f else {
-        return Walked::Broken;
-    };
-    let g = model_walk::actions_at(s, texts, 18, p4, n4);
-    let Walked::To(p5, n5) = g else {
-        return Walked::Broken;
-    };
-    let h = model_walk::bytes_at(s, 8, p5, n5);
-    let Walked::To(p6, n6) = h else {
-        return Walked::Broken;
-    };
+    let (p0, n0) = model_walk::place_at(s, texts, at, notes)?;
+    let (p1, n1) = model_walk::kind_at(s, 4, p0, n0)?;
+    let (p2, n2) = model_walk::bytes_at(s, 4, p1, n1)?;
+    let (p3, n3) = model_walk::pieces_at(s, texts, Piece::Trigger, p2, n2)?;
+    let (p4, n4) = model_walk::pieces_at(s, texts, Piece::Predicate, p3, n3)?;
+    let (p5, n5) = model_walk::actions_at(s, texts, 18, p4, n4)?;
+    let (p6, n6) = model_walk::bytes_at(s, 8, p5, n5)?;
     model_walk::pieces_at(s, texts, Piece::Note, p6, n6)
 }
 
@@ -239,34 +169,25 @@ pub fn section_into(
     requires { starts.old ≡ no_starts }
     ensures { section result starts.new ≡ section_m (part_m texts part) s.now at notes }
 {
-    let x = model_walk::u16_at(s, at);
-    let Num::Is(count, start) = x else {
+    let Some((count, start)) = model_walk::u16_at(s, at) else {
         return Extent {
             count: 0,
-            end: Walked::Broken,
+            end: None,
         };
     };
-    let mut i: usize = 0;
-    let mut left = count;
     let mut p = start;
     let mut n = notes;
-    while 0 < left {
-        put(starts, i, p);
-        let y = part_at(s, texts, part, p, n);
-        let Walked::To(q, m) = y else {
-            return Extent {
-                count,
-                end: Walked::Broken,
-            };
+    for i in 0..count {
+        put(starts, i as usize, p);
+        let Some((q, m)) = part_at(s, texts, part, p, n) else {
+            return Extent { count, end: None };
         };
         p = q;
         n = m;
-        i += 1;
-        left -= 1;
     }
     Extent {
         count,
-        end: Walked::To(p, n),
+        end: Some((p, n)),
     }
 }
 

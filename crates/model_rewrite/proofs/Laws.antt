@@ -1,4 +1,5 @@
 -- What stands in an output after writes to its front, and the laws of the walk to the events.
+use Rattle.std.specs.Prelude.{Some, None}
 use mathlib.Core.Path.{◌≡◌, refl, sym, ap, ◌∙◌, subst}
 use mathlib.Core.List.{List, [], ◌∷◌, ◌++◌, append_assoc, append-nil}
 use Prim.Native.Nat.{ℕ, zero, suc, ◌+◌, ◌-◌, ◌*◌, ◌≤◌, ◌<◌, ◌%◌, ◌/◌}
@@ -10,9 +11,7 @@ use lib.Dec.{eqb}
 use borrow.Author.Tests.{ne_eqb}
 use borrow.Rule.Slice.PartMut.{put_mid}
 use Rattle.model_spec.specs.Rewrite.{bytes2, bytes4}
-use Rattle.model_walk.specs.declared.Walked.{Walked}
-use Rattle.model_walk.specs.declared.Walked.TheVariants as walked
-use Rattle.model_walk.specs.Walk.{place_m}
+use Rattle.model_walk.specs.Walk.{Walked, place_m}
 use Rattle.model_parts.specs.declared.Section.{Section}
 use Rattle.model_parts.specs.declared.Part.TheVariants as part
 use Rattle.model_parts.specs.Parts.{part_m, section_m}
@@ -279,11 +278,11 @@ module _ (f : List ℕ) (s : Span) (l : List ℕ) (n : ℕ) (hs : s.start ≤ le
 -- ---- the walk to the events
 
 module _ (w : Walked) (f : ℕ → Span) {x : Walked} (e : x ≡ w) where
-  pub behind_to : {p n : ℕ} → x ≡ walked.To p n → behind w f ≡ f p
+  pub behind_to : {p n : ℕ} → x ≡ Some (p, n) → behind w f ≡ f p
   unfolding behind
   behind_to h = ap (λ (y : Walked). behind y f) (sym e ∙ h)
 
-  pub behind_broken : x ≡ walked.Broken → behind w f ≡ nowhere
+  pub behind_broken : x ≡ None → behind w f ≡ nowhere
   unfolding behind
   behind_broken h = ap (λ (y : Walked). behind y f) (sym e ∙ h)
 

@@ -1,8 +1,9 @@
 -- The bytes of events that stand as words are those of the definition, and so is the file with them.
+use Rattle.std.specs.Prelude.{Some}
 use mathlib.Core.Path.{◌≡◌, refl, sym, ap, ◌∙◌, subst}
 use mathlib.Core.List.{List, [], ◌∷◌, ◌++◌, append_assoc, append-nil}
 use mathlib.Core.Bool.{true}
-use Prim.Native.Nat.{ℕ, zero, suc, ◌+◌, ◌*◌, ◌-◌, ◌≤◌, ◌<◌}
+use Prim.Native.Nat.{ℕ, zero, suc, ◌+◌, ◌*◌, ◌≤◌, ◌<◌}
 use native.Mathlib.Omega.{arith}
 use lib.ListN.{length, get_or, take, drop, length-append, length-drop}
 use lib.Seq.{take-suc, take_all}
@@ -31,7 +32,6 @@ use Rattle.model_spec.specs.File.{
 use Rattle.model_spec.specs.Events.{InputWords, EventWords}
 use Rattle.model_spec.specs.Rewrite.{bytes2, bytes4, place_of, input_bytes, event_bytes, events_bytes, rewritten}
 use Rattle.model_spec.proofs.Places.{place_first}
-use Rattle.model_walk.specs.declared.Walked.TheVariants as walked
 use Rattle.model_walk.specs.Walk.{capped, seen, Walk, place_m}
 use Rattle.model_walk.proofs.Found.{bound, given, required, counted_found, u8_wide}
 use Rattle.model_walk.proofs.Refines.{Sees, quiet, sees_counted, sees_place}
@@ -149,7 +149,7 @@ times_length r s (suc n) p l q e =
 
 module _ {A : Type 0} (r : Reader A) (k : Walk) (e : Sees quiet r k) (s : List ℕ) (p : ℕ) {l : List A} {q : ℕ}
     (h : counted r s p ≡ got l q) where
-  section_end : (section_m k s p 0).end ≡ walked.To q 0
+  section_end : (section_m k s p 0).end ≡ Some (q, 0)
   unfolding seen capped
   section_end = section_ends k s p 0 ∙ sees_counted quiet quiet refl (λ x l. refl) r k e 0 s p ∙ ap (seen quiet 0) h
 
@@ -181,7 +181,7 @@ entities_found ts s p e =
     cc
 
 place_end : (ts : List Text) (s : List ℕ) (p : ℕ) {t : Text} {q : ℕ} → place ts s p ≡ got t q →
-    place_m (length ts) s p 0 ≡ walked.To q 0
+    place_m (length ts) s p 0 ≡ Some (q, 0)
 unfolding seen capped
 place_end ts s p h = sees_place ts 0 s p ∙ ap (seen quiet 0) h
 

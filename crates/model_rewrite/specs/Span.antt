@@ -1,8 +1,6 @@
 -- Where the events section of a file stands: a walk over the sections up to it.
-use Rattle.std.specs.Prelude.{ℕ, List}
-use Rattle.model_walk.specs.declared.Walked.{Walked}
-use Rattle.model_walk.specs.declared.Walked.TheVariants as walked
-use Rattle.model_walk.specs.Walk.{place_m}
+use Rattle.std.specs.Prelude.{Some, None, ℕ, List}
+use Rattle.model_walk.specs.Walk.{Walked, place_m}
 use Rattle.model_parts.specs.declared.Section.{Section}
 use Rattle.model_parts.specs.declared.Part.TheVariants as part
 use Rattle.model_parts.specs.Parts.{part_m, section_m}
@@ -14,8 +12,8 @@ nowhere = record { start = 0; end = 0 }
 
 -- go on behind a walk
 unfoldable pub behind : Walked → (ℕ → Span) → Span
-behind (walked.To p n) f = f p
-behind walked.Broken f = nowhere
+behind (Some (p, n)) f = f p
+behind None f = nowhere
 
 -- from the title on
 unfoldable pub body_m : List ℕ → (texts : ℕ) → ℕ → Span

@@ -15,7 +15,6 @@ ghost use Rattle.model_rewrite.specs.Written.{
 ghost use Rattle.model_rewrite.specs.Written.{EventFits, EventsFit, Room, Wrote};
 
 use model_parts::Part;
-use model_walk::Walked;
 
 // The events section of a file: its count stands at `start`, and it ends before `end`.
 #[derive(Clone, Copy)]
@@ -34,18 +33,15 @@ fn no_span() -> Span
 fn events_behind(file: &[u8], texts: u32, at: usize) -> Span
     ensures { result ≡ body_m file.now texts at }
 {
-    let a = model_walk::place_at(file, texts, at, 0);
-    let Walked::To(p, _) = a else {
+    let Some((p, _)) = model_walk::place_at(file, texts, at, 0) else {
         return no_span();
     };
     let entities = model_parts::section_at(file, texts, Part::Entity, p, 0);
-    let b = entities.end;
-    let Walked::To(start, _) = b else {
+    let Some((start, _)) = entities.end else {
         return no_span();
     };
     let events = model_parts::section_at(file, texts, Part::Event, start, 0);
-    let d = events.end;
-    let Walked::To(end, _) = d else {
+    let Some((end, _)) = events.end else {
         return no_span();
     };
     Span { start, end }
@@ -57,8 +53,7 @@ pub fn events_in(file: &[u8]) -> Span
 {
     let texts = model_parts::section_at(file, 0, Part::Text, 4, 0);
     let count = texts.count;
-    let a = texts.end;
-    let Walked::To(p, _) = a else {
+    let Some((p, _)) = texts.end else {
         return no_span();
     };
     events_behind(file, count, p)
@@ -68,11 +63,7 @@ fn copy(s: &[u8], out: &mut [u8])
     requires { length s.now ≤ length out.old }
     ensures { out.new ≡ s.now ++ drop (length s.now) out.old }
 {
-    let mut i = 0;
-    while i < s.len() {
-        out[i] = s[i];
-        i += 1;
-    }
+    out[..s.len()].copy_from_slice(s);
 }
 
 // An event's second and its kind.
@@ -122,10 +113,8 @@ fn write_each(events: &[u32], n: usize, out: &mut [u8]) -> usize
     ensures { Wrote (first_events events.now n) result out.old out.new }
 {
     let mut at: usize = 0;
-    let mut k: usize = 0;
-    while k < n {
+    for k in 0..n {
         at += write_event(events, k, &mut out[at..]);
-        k += 1;
     }
     at
 }

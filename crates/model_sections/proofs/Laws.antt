@@ -1,5 +1,5 @@
 -- The laws that the proofs of this crate's functions cite.
-use Rattle.std.specs.Prelude.{if◌then◌else◌}
+use Rattle.std.specs.Prelude.{Some, None, if◌then◌else◌}
 use mathlib.Core.Path.{◌≡◌, refl, sym, ap, ◌∙◌}
 use mathlib.Core.List.{List, [], ◌∷◌}
 use mathlib.Core.Bool.{Bool, true, false, ◌||◌}
@@ -14,9 +14,7 @@ use Rattle.texts.specs.Texts.{Text}
 use Rattle.texts.specs.Places.{text_at, start_from}
 use Rattle.model_spec.specs.File.{u8, u16, u32}
 use Rattle.model_spec.specs.Validate.{bad_length}
-use Rattle.model_walk.specs.declared.Num.{Num}
-use Rattle.model_walk.specs.declared.Num.TheVariants as num
-use Rattle.model_walk.specs.Walk.{found}
+use Rattle.model_walk.specs.Walk.{Num, found}
 use Rattle.model_walk.proofs.Laws.{is_got, is_broken}
 use Rattle.model_check.specs.declared.Checked.{Checked}
 use Rattle.model_check.specs.declared.Checked.TheVariants as checked
@@ -37,7 +35,6 @@ use Rattle.model_check.specs.Checks.{
   triggers_m,
 }
 use Rattle.model_actions.specs.Actions.{actions_m}
-use Rattle.model_check.proofs.Laws as checks
 use Rattle.model_sections.specs.declared.Part.{Part}
 use Rattle.model_sections.specs.declared.Part.TheVariants as part
 use Rattle.model_sections.specs.Sections.{
@@ -109,17 +106,17 @@ module _ (s : List ℕ) (place : ℕ) {at n : ℕ} (e : at ≡ start_from s 6 pl
   place_other h = other_text (text_at s (start_from s 6 place)) (λ g. h (place_length ∙ g)) ∙ ap (ltb 100) (sym place_length)
 
 module _ (s : List ℕ) (p : ℕ) {a : Num} (e : found a ≡ u16 s p) where
-  pub any_broken : (left : ℕ) → 0 < left → a ≡ num.Broken → any_bad left s p ≡ false
+  pub any_broken : (left : ℕ) → 0 < left → a ≡ None → any_bad left s p ≡ false
   unfolding any_bad
   any_broken zero o h = absurd (omega arith)
   any_broken (suc left) o h = rw (is_broken e h, any_bad)
 
-  pub double_broken : (left : ℕ) → 0 < left → a ≡ num.Broken → doubled left s p ≡ false
+  pub double_broken : (left : ℕ) → 0 < left → a ≡ None → doubled left s p ≡ false
   unfolding doubled
   double_broken zero o h = absurd (omega arith)
   double_broken (suc left) o h = rw (is_broken e h, doubled)
 
-  module _ {x q : ℕ} (h : a ≡ num.Is x q) where
+  module _ {x q : ℕ} (h : a ≡ Some (x, q)) where
     pub any_here : (left : ℕ) → 0 < left → bad_place s x ≡ true → any_bad left s p ≡ true
     unfolding any_bad
     any_here zero o b = absurd (omega arith)
@@ -204,16 +201,16 @@ module _ (d : Declaration) (s : List ℕ) (p n : ℕ) where
   entity_rest_is x c q = refl
 
   module _ {a : Num} (e : found a ≡ u16 s p) where
-    pub entity_none : a ≡ num.Broken → entity_m d s p n ≡ checked.Refused 30
+    pub entity_none : a ≡ None → entity_m d s p n ≡ checked.Refused 30
     unfolding entity_m
     entity_none h = rw (is_broken e h, entity_m)
 
-    module _ {x o : ℕ} (h : a ≡ num.Is x o) {b : Num} (f : found b ≡ u16 s o) where
-      pub entity_no_count : b ≡ num.Broken → entity_m d s p n ≡ checked.Refused 30
+    module _ {x o : ℕ} (h : a ≡ Some (x, o)) {b : Num} (f : found b ≡ u16 s o) where
+      pub entity_no_count : b ≡ None → entity_m d s p n ≡ checked.Refused 30
       unfolding entity_m
       entity_no_count k = rw (is_got e h, entity_m) (rw (is_broken f k, entity_m))
 
-      module _ {c q : ℕ} (k : b ≡ num.Is c q) where
+      module _ {c q : ℕ} (k : b ≡ Some (c, q)) where
         pub entity_is : entity_m d s p n ≡ (skip_m (2 * c) ⨾ entity_rest_m d x c q) s q n
         unfolding entity_m ◌⨾◌
         entity_is = rw (is_got e h, entity_m) (rw (is_got f k, entity_m))
@@ -238,12 +235,12 @@ module _ (h : ℕ) (starts s : List ℕ) where
   seconds_left j last e = ap (λ (x : ℕ). seconds_bad h starts s x j last) e
 
   module _ (j last : ℕ) {a : Num} (e : found a ≡ u32 s (get_or starts j 0)) where
-    pub seconds_broken : (left : ℕ) → 0 < left → a ≡ num.Broken → seconds_bad h starts s left j last ≡ false
+    pub seconds_broken : (left : ℕ) → 0 < left → a ≡ None → seconds_bad h starts s left j last ≡ false
     unfolding seconds_bad
     seconds_broken zero o g = absurd (omega arith)
     seconds_broken (suc left) o g = rw (is_broken e g, seconds_bad)
 
-    module _ {t q : ℕ} (g : a ≡ num.Is t q) where
+    module _ {t q : ℕ} (g : a ≡ Some (t, q)) where
       pub seconds_late : (left : ℕ) → 0 < left → h < t → seconds_bad h starts s left j last ≡ true
       unfolding seconds_bad
       seconds_late zero o k = absurd (omega arith)
@@ -272,12 +269,12 @@ module _ (starts s : List ℕ) where
   gaps_left j e = ap (λ (x : ℕ). gaps_bad starts s x j) e
 
   module _ (j : ℕ) {a : Num} (e : found a ≡ u32 s (get_or starts j 0)) where
-    pub gaps_broken : (left : ℕ) → 0 < left → a ≡ num.Broken → gaps_bad starts s left j ≡ false
+    pub gaps_broken : (left : ℕ) → 0 < left → a ≡ None → gaps_bad starts s left j ≡ false
     unfolding gaps_bad
     gaps_broken zero o g = absurd (omega arith)
     gaps_broken (suc left) o g = rw (is_broken e g, gaps_bad)
 
-    module _ {t q : ℕ} (g : a ≡ num.Is t q) where
+    module _ {t q : ℕ} (g : a ≡ Some (t, q)) where
       pub gaps_long : (left : ℕ) → 0 < left → 86400 < t → gaps_bad starts s left j ≡ true
       unfolding gaps_bad
       gaps_long zero o k = absurd (omega arith)
@@ -292,11 +289,11 @@ module _ (starts s : List ℕ) where
 
 module _ (s : List ℕ) (p x : ℕ) {k : Part} where
   module _ (h : k ≡ part.Invariant) {a : Num} (e : found a ≡ u8 s p) where
-    pub id_broken : a ≡ num.Broken → id_is k s p x ≡ false
+    pub id_broken : a ≡ None → id_is k s p x ≡ false
     unfolding id_is
     id_broken g = rw h (rw (is_broken e g, id_is))
 
-    pub id_behind : {i q : ℕ} → a ≡ num.Is i q → id_is k s p x ≡ place_is s q x
+    pub id_behind : {i q : ℕ} → a ≡ Some (i, q) → id_is k s p x ≡ place_is s q x
     unfolding id_is
     id_behind g = rw h (rw (is_got e g, id_is))
 
@@ -347,11 +344,11 @@ module _ (k : Part) (starts : List ℕ) (j : ℕ) (s : List ℕ) (x : ℕ) where
 -- ---- invariants
 module _ (d : Declaration) (s : List ℕ) (p n : ℕ) where
   module _ {a : Num} (e : found a ≡ u16 s p) where
-    pub conditions_broken : a ≡ num.Broken → conditions_m d s p n ≡ checked.Refused 30
+    pub conditions_broken : a ≡ None → conditions_m d s p n ≡ checked.Refused 30
     unfolding conditions_m
     conditions_broken h = rw (is_broken e h, conditions_m)
 
-    module _ {c q : ℕ} (h : a ≡ num.Is c q) where
+    module _ {c q : ℕ} (h : a ≡ Some (c, q)) where
       pub conditions_none : c ≡ 0 → conditions_m d s p n ≡ checked.Refused 11
       unfolding conditions_m
       conditions_none k = rw (is_got e h, conditions_m) (rw (eq-eqb c 0 k))
@@ -394,16 +391,16 @@ module _ (d : Declaration) (s : List ℕ) (p n : ℕ) where
     invariant_else a b c = rw (ne_eqb _ _ a, ne_eqb _ _ b, ne_eqb _ _ c)
 
   module _ (starts : List ℕ) (j : ℕ) {a : Num} (e : found a ≡ u8 s p) where
-    pub invariant_none : a ≡ num.Broken → invariant_m d starts j s p n ≡ checked.Refused 30
+    pub invariant_none : a ≡ None → invariant_m d starts j s p n ≡ checked.Refused 30
     unfolding invariant_m
     invariant_none h = rw (is_broken e h, invariant_m)
 
-    module _ {k o : ℕ} (h : a ≡ num.Is k o) {b : Num} (f : found b ≡ u16 s o) where
-      pub invariant_no_id : b ≡ num.Broken → invariant_m d starts j s p n ≡ checked.Refused 30
+    module _ {k o : ℕ} (h : a ≡ Some (k, o)) {b : Num} (f : found b ≡ u16 s o) where
+      pub invariant_no_id : b ≡ None → invariant_m d starts j s p n ≡ checked.Refused 30
       unfolding invariant_m
       invariant_no_id g = rw (is_got e h, invariant_m) (rw (is_broken f g, invariant_m))
 
-      module _ {x q : ℕ} (g : b ≡ num.Is x q) where
+      module _ {x q : ℕ} (g : b ≡ Some (x, q)) where
         pub invariant_10 : bad_id part.Invariant starts j s x ≡ true → invariant_m d starts j s p n ≡ checked.Refused 10
         unfolding invariant_m
         invariant_10 m = rw (is_got e h, invariant_m) (rw (is_got f g, invariant_m) (rw m))
@@ -419,21 +416,21 @@ module _ (d : Declaration) (s : List ℕ) (p n : ℕ) where
   lists_are t = refl
 
   module _ (m : ℕ) {a : Num} (e : found a ≡ u16 s p) where
-    pub rule_lists_broken : a ≡ num.Broken → rule_lists_m d m s p n ≡ checked.Refused 30
+    pub rule_lists_broken : a ≡ None → rule_lists_m d m s p n ≡ checked.Refused 30
     unfolding rule_lists_m
     rule_lists_broken h = rw (is_broken e h, rule_lists_m)
 
-    module _ {t q : ℕ} (h : a ≡ num.Is t q) {x : Checked} (f : x ≡ skip_m (16 * t) s q n) where
+    module _ {t q : ℕ} (h : a ≡ Some (t, q)) {x : Checked} (f : x ≡ skip_m (16 * t) s q n) where
       pub rule_lists_short : {i : ℕ} → x ≡ checked.Refused i → rule_lists_m d m s p n ≡ x
       unfolding rule_lists_m and_then
       rule_lists_short g = rw (is_got e h, rule_lists_m) (rw (sym f ∙ g, and_then) (sym g))
 
       module _ {r o : ℕ} (g : x ≡ checked.To r o) {b : Num} (u : found b ≡ u16 s r) where
-        pub rule_lists_no_count : b ≡ num.Broken → rule_lists_m d m s p n ≡ checked.Refused 30
+        pub rule_lists_no_count : b ≡ None → rule_lists_m d m s p n ≡ checked.Refused 30
         unfolding rule_lists_m and_then
         rule_lists_no_count v = rw (is_got e h, rule_lists_m) (rw (sym f ∙ g, and_then) (rw (is_broken u v, rule_lists_m)))
 
-        module _ {c w : ℕ} (v : b ≡ num.Is c w) where
+        module _ {c w : ℕ} (v : b ≡ Some (c, w)) where
           pub rule_lists_14 : bad_counts m t c ≡ true → rule_lists_m d m s p n ≡ checked.Refused 14
           unfolding rule_lists_m and_then
           rule_lists_14 y = rw (is_got e h, rule_lists_m) (rw (sym f ∙ g, and_then) (rw (is_got u v, rule_lists_m) (rw y)))
@@ -447,11 +444,11 @@ module _ (d : Declaration) (s : List ℕ) (p n : ℕ) where
   rule_of_is = refl
 
   module _ (starts : List ℕ) (j : ℕ) {a : Num} (e : found a ≡ u16 s p) where
-    pub rule_none : a ≡ num.Broken → rule_m d starts j s p n ≡ checked.Refused 30
+    pub rule_none : a ≡ None → rule_m d starts j s p n ≡ checked.Refused 30
     unfolding rule_m
     rule_none h = rw (is_broken e h, rule_m)
 
-    module _ {x q : ℕ} (h : a ≡ num.Is x q) where
+    module _ {x q : ℕ} (h : a ≡ Some (x, q)) where
       pub rule_13 : bad_id part.Rule starts j s x ≡ true → rule_m d starts j s p n ≡ checked.Refused 13
       unfolding rule_m
       rule_13 m = rw (is_got e h, rule_m) (rw m)

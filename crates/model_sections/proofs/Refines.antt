@@ -4,7 +4,7 @@ use mathlib.Core.Path.{◌≡◌, refl, sym, ap, ◌∙◌, subst}
 use mathlib.Core.List.{List, [], ◌∷◌}
 use mathlib.Core.Bool.{Bool, true, false, ◌&&◌, ◌||◌, not}
 use mathlib.Core.Option.{Option, none, some}
-use Prim.Native.Nat.{ℕ, zero, suc, ◌+◌, ◌-◌, ◌*◌, ◌≤◌, ◌<◌}
+use Prim.Native.Nat.{ℕ, zero, suc, ◌+◌, ◌*◌, ◌≤◌, ◌<◌}
 use native.Mathlib.Omega.{arith}
 use native.Mathlib.Numerals.{add-one}
 use lib.ListN.{length, get_or}
@@ -98,7 +98,6 @@ use Rattle.model_parts.specs.declared.Section.{Section}
 use Rattle.model_parts.specs.Stand.{Reads}
 use Rattle.model_parts.proofs.Stands.{more}
 use Rattle.model_order.proofs.Places.{same_place, texts_ascend, placed_text}
-use Rattle.model_index.specs.declared.Status.TheVariants as status
 use Rattle.model_index.specs.Indexed.{Holds}
 use Rattle.model_check.specs.declared.Checked.{Checked}
 use Rattle.model_check.specs.declared.Checked.TheVariants as checked
@@ -119,29 +118,7 @@ use Rattle.model_check.specs.Checks.{
 }
 use Rattle.model_actions.specs.Actions.{actions_m}
 use Rattle.model_check.proofs.Laws as checks
-use Rattle.model_check.proofs.Refines.{
-  after,
-  after_same,
-  and_bind,
-  and_assoc,
-  eqb_sym,
-  or_is,
-  by_got,
-  next,
-  next_and,
-  skip_wide,
-  skip_then,
-  stays,
-  Grounded,
-  among_agrees,
-  value_agrees,
-  pair_agrees,
-  stated_agrees,
-  predicates_agree,
-  all_stated_agree,
-  triggers_agree,
-  day_agrees,
-}
+use Rattle.model_check.proofs.Refines.{after, after_same, and_bind, and_assoc, eqb_sym, or_is, by_got, next_and, skip_wide, skip_then, stays, Grounded, among_agrees, value_agrees, pair_agrees, stated_agrees, predicates_agree, all_stated_agree, triggers_agree, day_agrees}
 use Rattle.model_actions.proofs.Refines.{actions_agree}
 use Rattle.model_sections.specs.declared.Part.{Part}
 use Rattle.model_sections.specs.declared.Part.TheVariants as part

@@ -36,7 +36,6 @@ ghost use Rattle.model_sections.specs.Sections.{
 
 use layout::Positions;
 use model_check::{Checked, Declared};
-use model_walk::Num;
 
 // What a section is a list of.
 #[derive(Clone, Copy)]
@@ -65,18 +64,15 @@ fn bad_place(s: &[u8], place: u32) -> bool
 fn any_bad(s: &[u8], count: u32, at: usize) -> bool
     ensures { result ≡ any_bad count s.now at }
 {
-    let mut left = count;
     let mut p = at;
-    while 0 < left {
-        let x = model_walk::u16_at(s, p);
-        let Num::Is(place, q) = x else {
+    for _ in 0..count {
+        let Some((place, q)) = model_walk::u16_at(s, p) else {
             return false;
         };
         if bad_place(s, place) {
             return true;
         }
         p = q;
-        left -= 1;
     }
     false
 }
@@ -84,18 +80,15 @@ fn any_bad(s: &[u8], count: u32, at: usize) -> bool
 fn doubled(s: &[u8], count: u32, at: usize) -> bool
     ensures { result ≡ doubled count s.now at }
 {
-    let mut left = count;
     let mut p = at;
-    while 0 < left {
-        let x = model_walk::u16_at(s, p);
-        let Num::Is(place, q) = x else {
+    for i in 0..count {
+        let Some((place, q)) = model_walk::u16_at(s, p) else {
             return false;
         };
-        if model_check::among(s, left - 1, q, place) {
+        if model_check::among(s, count - i - 1, q, place) {
             return true;
         }
         p = q;
-        left -= 1;
     }
     false
 }
@@ -168,16 +161,14 @@ fn entity_rest_check(
     requires { d.count ≤ 100 }
     ensures { result ≡ entity_rest_m (declaration d entities.now) name count domain s.now at n }
 {
-    let x = model_walk::u16_at(s, at);
-    let Num::Is(value, p) = x else {
+    let Some((value, p)) = model_walk::u16_at(s, at) else {
         return Checked::Refused(30);
     };
     let a = model_check::skip(s, 1, p, n);
     let Checked::To(q, m) = a else {
         return a;
     };
-    let y = model_walk::u32_at(s, q);
-    let Num::Is(stale, next) = y else {
+    let Some((stale, next)) = model_walk::u32_at(s, q) else {
         return Checked::Refused(30);
     };
     entity_of_check(s, d, entities, name, count, domain, value, stale, next, m)
@@ -187,12 +178,10 @@ fn entity_check(s: &[u8], d: Declared, entities: &Positions, at: usize, n: u32) 
     requires { d.count ≤ 100 }
     ensures { result ≡ entity_m (declaration d entities.now) s.now at n }
 {
-    let x = model_walk::u16_at(s, at);
-    let Num::Is(name, p) = x else {
+    let Some((name, p)) = model_walk::u16_at(s, at) else {
         return Checked::Refused(30);
     };
-    let y = model_walk::u16_at(s, p);
-    let Num::Is(count, domain) = y else {
+    let Some((count, domain)) = model_walk::u16_at(s, p) else {
         return Checked::Refused(30);
     };
     let a = model_check::skip(s, 2 * (count as usize), domain, n);
@@ -208,8 +197,7 @@ fn input_check(s: &[u8], d: Declared, entities: &Positions, at: usize, n: u32) -
     requires { d.count ≤ 100 }
     ensures { result ≡ input_m (declaration d entities.now) s.now at n }
 {
-    let x = model_walk::u8_at(s, at);
-    let Num::Is(kind, p) = x else {
+    let Some((kind, p)) = model_walk::u8_at(s, at) else {
         return Checked::Refused(30);
     };
     if kind == 0 {
@@ -235,12 +223,10 @@ pub fn seconds_bad(s: &[u8], events: &Positions, count: u32, horizon: u32) -> bo
     ensures { result ≡ seconds_bad horizon events.now s.now count 0 0 }
 {
     let end = count as usize;
-    let mut j: usize = 0;
     let mut last: u32 = 0;
-    while j < end {
+    for j in 0..end {
         let p = events[j];
-        let x = model_walk::u32_at(s, p);
-        let Num::Is(second, _) = x else {
+        let Some((second, _)) = model_walk::u32_at(s, p) else {
             return false;
         };
         if horizon < second {
@@ -250,7 +236,6 @@ pub fn seconds_bad(s: &[u8], events: &Positions, count: u32, horizon: u32) -> bo
             return true;
         }
         last = second;
-        j += 1;
     }
     false
 }
@@ -260,17 +245,14 @@ pub fn gaps_bad(s: &[u8], gaps: &Positions, count: u32) -> bool
     ensures { result ≡ gaps_bad gaps.now s.now count 0 }
 {
     let end = count as usize;
-    let mut j: usize = 0;
-    while j < end {
+    for j in 0..end {
         let p = gaps[j];
-        let x = model_walk::u32_at(s, p);
-        let Num::Is(gap, _) = x else {
+        let Some((gap, _)) = model_walk::u32_at(s, p) else {
             return false;
         };
         if 86400 < gap {
             return true;
         }
-        j += 1;
     }
     false
 }
@@ -283,8 +265,7 @@ fn id_is(s: &[u8], part: Part, at: usize, place: u32) -> bool
 {
     match part {
         Part::Invariant => {
-            let x = model_walk::u8_at(s, at);
-            let Num::Is(_, p) = x else {
+            let Some((_, p)) = model_walk::u8_at(s, at) else {
                 return false;
             };
             model_check::place_is(s, p, place)
@@ -329,8 +310,7 @@ fn conditions_check(s: &[u8], d: Declared, entities: &Positions, at: usize, n: u
     requires { d.count ≤ 100 }
     ensures { result ≡ conditions_m (declaration d entities.now) s.now at n }
 {
-    let x = model_walk::u16_at(s, at);
-    let Num::Is(count, _) = x else {
+    let Some((count, _)) = model_walk::u16_at(s, at) else {
         return Checked::Refused(30);
     };
     if count == 0 {
@@ -346,12 +326,10 @@ fn guard_check(s: &[u8], d: Declared, entities: &Positions, at: usize, n: u32) -
     requires { d.count ≤ 100 }
     ensures { result ≡ guard_m (declaration d entities.now) s.now at n }
 {
-    let x = model_walk::u16_at(s, at);
-    let Num::Is(entity, p) = x else {
+    let Some((entity, p)) = model_walk::u16_at(s, at) else {
         return Checked::Refused(30);
     };
-    let y = model_walk::u16_at(s, p);
-    let Num::Is(value, q) = y else {
+    let Some((value, q)) = model_walk::u16_at(s, p) else {
         return Checked::Refused(30);
     };
     let a = conditions_check(s, d, entities, q, n);
@@ -365,16 +343,13 @@ fn transition_check(s: &[u8], d: Declared, entities: &Positions, at: usize, n: u
     requires { d.count ≤ 100 }
     ensures { result ≡ transition_m (declaration d entities.now) s.now at n }
 {
-    let x = model_walk::u16_at(s, at);
-    let Num::Is(entity, p) = x else {
+    let Some((entity, p)) = model_walk::u16_at(s, at) else {
         return Checked::Refused(30);
     };
-    let y = model_walk::u16_at(s, p);
-    let Num::Is(from, q) = y else {
+    let Some((from, q)) = model_walk::u16_at(s, p) else {
         return Checked::Refused(30);
     };
-    let z = model_walk::u16_at(s, q);
-    let Num::Is(to, t) = z else {
+    let Some((to, t)) = model_walk::u16_at(s, q) else {
         return Checked::Refused(30);
     };
     let a = model_check::value_check(s, d, entities, entity, from, t, n);
@@ -435,12 +410,10 @@ fn invariant_check(
     requires { (d.count ≤ 100) × (j ≤ 100) }
     ensures { result ≡ invariant_m (declaration d entities.now) starts.now j s.now at n }
 {
-    let x = model_walk::u8_at(s, at);
-    let Num::Is(kind, p) = x else {
+    let Some((kind, p)) = model_walk::u8_at(s, at) else {
         return Checked::Refused(30);
     };
-    let y = model_walk::u16_at(s, p);
-    let Num::Is(id, q) = y else {
+    let Some((id, q)) = model_walk::u16_at(s, p) else {
         return Checked::Refused(30);
     };
     if bad_id(s, Part::Invariant, starts, j, id) {
@@ -504,16 +477,14 @@ fn rule_lists_check(
     requires { d.count ≤ 100 }
     ensures { result ≡ rule_lists_m (declaration d entities.now) max s.now at n }
 {
-    let x = model_walk::u16_at(s, at);
-    let Num::Is(triggers, start) = x else {
+    let Some((triggers, start)) = model_walk::u16_at(s, at) else {
         return Checked::Refused(30);
     };
     let a = model_check::skip(s, 16 * (triggers as usize), start, n);
     let Checked::To(p, _) = a else {
         return a;
     };
-    let y = model_walk::u16_at(s, p);
-    let Num::Is(conditions, _) = y else {
+    let Some((conditions, _)) = model_walk::u16_at(s, p) else {
         return Checked::Refused(30);
     };
     if bad_counts(max, triggers, conditions) {
@@ -531,8 +502,7 @@ fn rule_of_check(s: &[u8], d: Declared, entities: &Positions, at: usize, n: u32)
     let Checked::To(p, m) = a else {
         return a;
     };
-    let x = model_walk::u32_at(s, p);
-    let Num::Is(max, q) = x else {
+    let Some((max, q)) = model_walk::u32_at(s, p) else {
         return Checked::Refused(30);
     };
     rule_lists_check(s, d, entities, max, q, m)
@@ -550,8 +520,7 @@ fn rule_check(
     requires { (d.count ≤ 100) × (j ≤ 100) }
     ensures { result ≡ rule_m (declaration d entities.now) starts.now j s.now at n }
 {
-    let x = model_walk::u16_at(s, at);
-    let Num::Is(id, p) = x else {
+    let Some((id, p)) = model_walk::u16_at(s, at) else {
         return Checked::Refused(30);
     };
     if bad_id(s, Part::Rule, starts, j, id) {
@@ -598,16 +567,14 @@ pub fn section_check(
     ensures { result ≡ parts_m (declaration d entities.now) part starts.now count 0 s.now n }
 {
     let end = count as usize;
-    let mut j: usize = 0;
     let mut m = n;
-    while j < end {
+    for j in 0..end {
         let p = starts[j];
         let x = part_check(s, d, entities, part, starts, j, p, m);
         let Checked::To(_, k) = x else {
             return x;
         };
         m = k;
-        j += 1;
     }
     Checked::To(0, m)
 }

@@ -1,8 +1,9 @@
 -- The laws that the proofs of this crate's functions cite.
+use Rattle.std.specs.Prelude.{Some, None}
 use mathlib.Core.Path.{◌≡◌, refl, sym, ap, ◌∙◌}
 use mathlib.Core.List.{List}
 use mathlib.Core.Bool.{Bool, true, false, ◌||◌}
-use Prim.Native.Nat.{ℕ, ◌-◌, ◌≤◌, ◌<◌}
+use Prim.Native.Nat.{ℕ, ◌≤◌, ◌<◌}
 use native.Mathlib.Omega.{arith}
 use lib.ListN.{length}
 use native.Mathlib.Decide.{dec_lt}
@@ -14,11 +15,7 @@ use Rattle.texts.proofs.Ordering.{not_both}
 use Rattle.model_spec.specs.Model.{Limits, Moment, midnight}
 use Rattle.model_spec.specs.File.{got, broken, give, u16, u32, or_zeros, start, limits}
 use Rattle.model_spec.specs.Validate.{bad_limits, bad_start}
-use Rattle.model_walk.specs.declared.Walked.{Walked}
-use Rattle.model_walk.specs.declared.Walked.TheVariants as walked
-use Rattle.model_walk.specs.declared.Num.{Num}
-use Rattle.model_walk.specs.declared.Num.TheVariants as num
-use Rattle.model_walk.specs.Walk.{found}
+use Rattle.model_walk.specs.Walk.{Num, Walked, found}
 use Rattle.model_walk.proofs.Laws.{is_got, is_broken, bind_got, bind_broken}
 use Rattle.model_order.specs.Order.{place_from}
 use Rattle.model_index.specs.declared.Index.{Index}
@@ -48,11 +45,11 @@ use Rattle.model_validate.specs.ModelChecks.{
 -- ---- the tests before the sections
 
 module _ (s : List ℕ) (i : Numbers) {a : Num} (e : found a ≡ u16 s i.title) where
-  pub title_broken : a ≡ num.Broken → title_bad s i ≡ false
+  pub title_broken : a ≡ None → title_bad s i ≡ false
   unfolding title_bad
   title_broken h = rw (is_broken e h, title_bad)
 
-  module _ {x q : ℕ} (h : a ≡ num.Is x q) where
+  module _ {x q : ℕ} (h : a ≡ Some (x, q)) where
     pub title_version : (i.version ≡ 1 → ⊥) → title_bad s i ≡ true
     unfolding title_bad
     title_version k = rw (is_got e h, title_bad) (rw (ne_eqb i.version 1 k))
@@ -136,11 +133,11 @@ ended : (s : List ℕ) (p : ℕ) → length s ≤ p → or_zeros midnight start 
 unfolding or_zeros
 ended s p k = rw (le-ltb p (length s) k)
 
-pub start_none : (s : List ℕ) {w : Walked} → w ≡ walked.Broken → start_bad s w ≡ false
+pub start_none : (s : List ℕ) {w : Walked} → w ≡ None → start_bad s w ≡ false
 unfolding start_bad
 start_none s h = rw (h, start_bad)
 
-module _ (s : List ℕ) {w : Walked} {p n : ℕ} (h : w ≡ walked.To p n) where
+module _ (s : List ℕ) {w : Walked} {p n : ℕ} (h : w ≡ Some (p, n)) where
   pub start_read : {m : Moment} {q : ℕ} → or_zeros midnight start s p ≡ got m q → start_bad s w ≡ bad_start m
   unfolding start_bad
   start_read e = rw (h, start_bad) (rw (e, start_bad))
@@ -153,27 +150,27 @@ module _ (s : List ℕ) {w : Walked} {p n : ℕ} (h : w ≡ walked.To p n) where
   unfolding bad_start
   start_ended k = start_read (ended s p k)
 
-  pub no_weekday : p < length s → {a : Num} → found a ≡ u32 s p → a ≡ num.Broken → start_bad s w ≡ false
+  pub no_weekday : p < length s → {a : Num} → found a ≡ u32 s p → a ≡ None → start_bad s w ≡ false
   unfolding start
   no_weekday k e g = start_broken (starts s p k ∙ bind_broken u32 _ (is_broken e g))
 
-  pub no_second : p < length s → {a : Num} → found a ≡ u32 s p → {x q : ℕ} → a ≡ num.Is x q → {c : Num} → found c ≡ u32 s q
-      → c ≡ num.Broken → start_bad s w ≡ false
+  pub no_second : p < length s → {a : Num} → found a ≡ u32 s p → {x q : ℕ} → a ≡ Some (x, q) → {c : Num} → found c ≡ u32 s q
+      → c ≡ None → start_bad s w ≡ false
   unfolding start
   no_second k e g f l = start_broken (starts s p k ∙ bind_got u32 _ (is_got e g) ∙ bind_broken u32 _ (is_broken f l))
 
-  start_is : p < length s → {a : Num} → found a ≡ u32 s p → {x q : ℕ} → a ≡ num.Is x q → {c : Num} → found c ≡ u32 s q
-      → {y r : ℕ} → c ≡ num.Is y r → start_bad s w ≡ bad_start (record { weekday = x; second = y })
+  start_is : p < length s → {a : Num} → found a ≡ u32 s p → {x q : ℕ} → a ≡ Some (x, q) → {c : Num} → found c ≡ u32 s q
+      → {y r : ℕ} → c ≡ Some (y, r) → start_bad s w ≡ bad_start (record { weekday = x; second = y })
   unfolding start give
   start_is k e g f l = start_read (starts s p k ∙ bind_got u32 _ (is_got e g) ∙ bind_got u32 _ (is_got f l))
 
-  pub late_weekday : p < length s → {a : Num} → found a ≡ u32 s p → {x q : ℕ} → a ≡ num.Is x q →
-      {c : Num} → found c ≡ u32 s q → {y r : ℕ} → c ≡ num.Is y r → 6 < x → start_bad s w ≡ true
+  pub late_weekday : p < length s → {a : Num} → found a ≡ u32 s p → {x q : ℕ} → a ≡ Some (x, q) →
+      {c : Num} → found c ≡ u32 s q → {y r : ℕ} → c ≡ Some (y, r) → 6 < x → start_bad s w ≡ true
   unfolding bad_start
   late_weekday k e {x} g f l o = start_is k e g f l ∙ rw (lt-ltb 6 x o)
 
-  pub by_second : p < length s → {a : Num} → found a ≡ u32 s p → {x q : ℕ} → a ≡ num.Is x q → {c : Num} → found c ≡ u32 s q
-      → {y r : ℕ} → c ≡ num.Is y r → x ≤ 6 → start_bad s w ≡ ltb 86399 y
+  pub by_second : p < length s → {a : Num} → found a ≡ u32 s p → {x q : ℕ} → a ≡ Some (x, q) → {c : Num} → found c ≡ u32 s q
+      → {y r : ℕ} → c ≡ Some (y, r) → x ≤ 6 → start_bad s w ≡ ltb 86399 y
   unfolding bad_start
   by_second k e {x} g f {y} l o = start_is k e g f l ∙ rw (le-ltb 6 x o) (go (dec_lt 86399 y))
     where
@@ -183,27 +180,27 @@ module _ (s : List ℕ) {w : Walked} {p n : ℕ} (h : w ≡ walked.To p n) where
 
 -- the four numbers, read one after the other
 module _ (s : List ℕ) (p : ℕ) {a : Num} (e : found a ≡ u32 s p) where
-  pub no_horizon : a ≡ num.Broken → limits s p ≡ broken
+  pub no_horizon : a ≡ None → limits s p ≡ broken
   unfolding limits
   no_horizon h = bind_broken u32 _ (is_broken e h)
 
-  module _ {x q : ℕ} (h : a ≡ num.Is x q) {b : Num} (f : found b ≡ u32 s q) where
-    pub no_steps : b ≡ num.Broken → limits s p ≡ broken
+  module _ {x q : ℕ} (h : a ≡ Some (x, q)) {b : Num} (f : found b ≡ u32 s q) where
+    pub no_steps : b ≡ None → limits s p ≡ broken
     unfolding limits
     no_steps k = bind_got u32 _ (is_got e h) ∙ bind_broken u32 _ (is_broken f k)
 
-    module _ {y r : ℕ} (k : b ≡ num.Is y r) {c : Num} (g : found c ≡ u32 s r) where
-      pub no_depth : c ≡ num.Broken → limits s p ≡ broken
+    module _ {y r : ℕ} (k : b ≡ Some (y, r)) {c : Num} (g : found c ≡ u32 s r) where
+      pub no_depth : c ≡ None → limits s p ≡ broken
       unfolding limits
       no_depth m = bind_got u32 _ (is_got e h) ∙ bind_got u32 _ (is_got f k) ∙ bind_broken u32 _ (is_broken g m)
 
-      module _ {z t : ℕ} (m : c ≡ num.Is z t) {d : Num} (o : found d ≡ u32 s t) where
-        pub no_cases : d ≡ num.Broken → limits s p ≡ broken
+      module _ {z t : ℕ} (m : c ≡ Some (z, t)) {d : Num} (o : found d ≡ u32 s t) where
+        pub no_cases : d ≡ None → limits s p ≡ broken
         unfolding limits
         no_cases u = bind_got u32 _ (is_got e h) ∙ bind_got u32 _ (is_got f k) ∙ bind_got u32 _ (is_got g m)
             ∙ bind_broken u32 _ (is_broken o u)
 
-        pub all_limits : {w v : ℕ} → d ≡ num.Is w v → limits s p
+        pub all_limits : {w v : ℕ} → d ≡ Some (w, v) → limits s p
             ≡ got (record { horizon = x; max_steps = y; search_depth = z; max_cases = w }) v
         unfolding limits give
         all_limits u = bind_got u32 _ (is_got e h) ∙ bind_got u32 _ (is_got f k) ∙ bind_got u32 _ (is_got g m)
@@ -231,11 +228,11 @@ module _ (s : List ℕ) (i : Numbers) (gaps : List ℕ) where
 -- ---- the model
 
 module _ (i : Numbers) (events s : List ℕ) (p n : ℕ) {a : Num} (e : found a ≡ u32 s i.limits) where
-  pub orders_broken : a ≡ num.Broken → orders_m i events s p n ≡ checked.Refused 30
+  pub orders_broken : a ≡ None → orders_m i events s p n ≡ checked.Refused 30
   unfolding orders_m
   orders_broken h = rw (is_broken e h, orders_m)
 
-  module _ {x q : ℕ} (h : a ≡ num.Is x q) where
+  module _ {x q : ℕ} (h : a ≡ Some (x, q)) where
     pub orders_9 : seconds_bad x events s i.events 0 0 ≡ true → orders_m i events s p n ≡ checked.Refused 9
     unfolding orders_m
     orders_9 k = rw (is_got e h, orders_m) (checks.refuse_yes s p n 9 k)

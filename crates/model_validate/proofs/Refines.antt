@@ -3,7 +3,7 @@ use Rattle.std.specs.Prelude.{if◌then◌else◌}
 use mathlib.Core.Path.{◌≡◌, refl, sym, ap, ◌∙◌, subst}
 use mathlib.Core.List.{List, [], ◌∷◌, ◌++◌}
 use mathlib.Core.Bool.{Bool, true, false, ◌||◌, not}
-use Prim.Native.Nat.{ℕ, ◌+◌, ◌-◌, ◌≤◌, ◌<◌}
+use Prim.Native.Nat.{ℕ, ◌+◌, ◌≤◌, ◌<◌}
 use native.Mathlib.Omega.{arith}
 use lib.ListN.{length, get_or}
 use lib.Dec.{ltb, eqb}
@@ -12,9 +12,8 @@ use Rattle.texts.specs.Lists.{any, each}
 use Rattle.texts.specs.Texts.{Text, text, mem_t}
 use Rattle.texts.specs.Places.{text_at, start_from}
 use Rattle.model_spec.specs.Answer.{Answer, answer, refused, Verdict, ◌>>=◌, ◌and◌, ◌when◌, each_accepted}
-use Rattle.model_spec.specs.Model.{Entity, Input, Event, Invariant, Limits, Scenario, Model}
-use Rattle.model_spec.specs.File.{◌>>=◌ as ◌>>=ᵣ◌}
-use Rattle.model_spec.specs.File.{got, Reader, u32, limits, texts, entity, input, event, invariant, automation, decode}
+use Rattle.model_spec.specs.Model.{Limits, Scenario, Model}
+use Rattle.model_spec.specs.File.{got, Reader, u32, limits, entity, input, event, invariant, automation, decode}
 use Rattle.model_spec.specs.Validate.{
   day,
   ordered,
@@ -31,7 +30,6 @@ use Rattle.model_spec.specs.Validate.{
   validate,
   accepted,
 }
-use Rattle.model_walk.proofs.Found as found
 use Rattle.model_walk.proofs.Found.{Case, is_true, is_false, case, bound, given, place_found}
 use Rattle.model_parts.specs.declared.Section.{Section}
 use Rattle.model_parts.specs.Parts.{section}
@@ -49,8 +47,7 @@ use Rattle.model_check.specs.declared.Checked.{Checked}
 use Rattle.model_check.specs.declared.Checked.TheVariants as checked
 use Rattle.model_check.specs.declared.Declared.{Declared}
 use Rattle.model_check.specs.Checks.{Declaration, declaration, refuse_if}
-use Rattle.model_check.proofs.Laws as checks
-use Rattle.model_check.proofs.Refines.{after, and_assoc, accept_and, next, next_and, refuse_if_is, Grounded}
+use Rattle.model_check.proofs.Refines.{after, and_assoc, accept_and, next_and, refuse_if_is, Grounded}
 use Rattle.model_validate.specs.declared.Validity.TheVariants as validity
 use Rattle.model_validate.specs.Contract.{validity_of, validated}
 use Rattle.model_validate.specs.declared.Numbers.{Numbers}

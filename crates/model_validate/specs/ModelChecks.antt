@@ -1,12 +1,11 @@
 -- The checks of a whole model, on places: the tests before the sections, and the sections in their order.
 -- `proofs/Refines` has that they say what `Validate` says of the model that the file holds.
-use Rattle.std.specs.Prelude.{ℕ, ◌≤◌, Bool, false, ◌||◌, not, List, ltb, eqb, length, if◌then◌else◌}
+use Rattle.model_walk.specs.Walk.{Walked}
+use Rattle.std.specs.Prelude.{Some, None, ℕ, ◌≤◌, Bool, false, ◌||◌, not, List, ltb, eqb, length, if◌then◌else◌}
 use Rattle.texts.specs.Texts.{text}
 use Rattle.model_spec.specs.Model.{midnight}
 use Rattle.model_spec.specs.File.{got, broken, u16, u32, or_zeros, start, limits}
 use Rattle.model_spec.specs.Validate.{bad_limits, bad_start}
-use Rattle.model_walk.specs.declared.Walked.{Walked}
-use Rattle.model_walk.specs.declared.Walked.TheVariants as walked
 use Rattle.model_order.specs.Order.{place_from}
 use Rattle.model_index.specs.declared.Index.{Index}
 use Rattle.model_check.specs.declared.Checked.{Checked}
@@ -33,8 +32,8 @@ limits_bad s p = elim (limits s p) [ got l q ↦ bad_limits l | broken ↦ false
 
 -- the start stands where the automations end
 unfoldable pub start_bad : List ℕ → Walked → Bool
-start_bad s (walked.To p n) = elim (or_zeros midnight start s p) [ got m q ↦ bad_start m | broken ↦ false ]
-start_bad s walked.Broken = false
+start_bad s (Some (p, n)) = elim (or_zeros midnight start s p) [ got m q ↦ bad_start m | broken ↦ false ]
+start_bad s None = false
 
 unfoldable pub alphabet_bad : List ℕ → Numbers → (gaps : List ℕ) → Bool
 alphabet_bad s i gaps = ltb 12 i.alphabet || eqb i.gaps 0 || ltb 4 i.gaps || gaps_bad gaps s i.gaps 0

@@ -25,7 +25,7 @@ use layout::Positions;
 use model_check::{Checked, Declared};
 use model_index::{File, Outline, Status};
 use model_sections::Part;
-use model_walk::{Num, Walked};
+use model_walk::Walked;
 
 // lib.rs: the version of the model file.
 pub const FORMAT_VERSION: u32 = 1;
@@ -56,8 +56,7 @@ pub enum Validity {
 fn title_bad(s: &[u8], numbers: Numbers) -> bool
     ensures { result ≡ title_bad s.now numbers }
 {
-    let x = model_walk::u16_at(s, numbers.title);
-    let Num::Is(place, _) = x else {
+    let Some((place, _)) = model_walk::u16_at(s, numbers.title) else {
         return false;
     };
     if numbers.version != FORMAT_VERSION {
@@ -110,20 +109,16 @@ fn numbers_bad(horizon: u32, steps: u32, depth: u32, cases: u32) -> bool
 fn limits_bad(s: &[u8], at: usize) -> bool
     ensures { result ≡ limits_bad s.now at }
 {
-    let x = model_walk::u32_at(s, at);
-    let Num::Is(horizon, p) = x else {
+    let Some((horizon, p)) = model_walk::u32_at(s, at) else {
         return false;
     };
-    let y = model_walk::u32_at(s, p);
-    let Num::Is(steps, q) = y else {
+    let Some((steps, q)) = model_walk::u32_at(s, p) else {
         return false;
     };
-    let z = model_walk::u32_at(s, q);
-    let Num::Is(depth, t) = z else {
+    let Some((depth, t)) = model_walk::u32_at(s, q) else {
         return false;
     };
-    let w = model_walk::u32_at(s, t);
-    let Num::Is(cases, _) = w else {
+    let Some((cases, _)) = model_walk::u32_at(s, t) else {
         return false;
     };
     numbers_bad(horizon, steps, depth, cases)
@@ -133,18 +128,16 @@ fn limits_bad(s: &[u8], at: usize) -> bool
 fn start_bad(s: &[u8], end: Walked) -> bool
     ensures { result ≡ start_bad s.now end }
 {
-    let Walked::To(at, _) = end else {
+    let Some((at, _)) = end else {
         return false;
     };
     if s.len() <= at {
         return false;
     }
-    let x = model_walk::u32_at(s, at);
-    let Num::Is(weekday, p) = x else {
+    let Some((weekday, p)) = model_walk::u32_at(s, at) else {
         return false;
     };
-    let y = model_walk::u32_at(s, p);
-    let Num::Is(second, _) = y else {
+    let Some((second, _)) = model_walk::u32_at(s, p) else {
         return false;
     };
     if 6 < weekday {
@@ -174,8 +167,7 @@ fn orders_check(s: &[u8], numbers: Numbers, events: &Positions, at: usize, n: u3
     requires { numbers.events ≤ 100 }
     ensures { result ≡ orders_m numbers events.now s.now at n }
 {
-    let x = model_walk::u32_at(s, numbers.limits);
-    let Num::Is(horizon, _) = x else {
+    let Some((horizon, _)) = model_walk::u32_at(s, numbers.limits) else {
         return Checked::Refused(30);
     };
     if model_sections::seconds_bad(s, events, numbers.events, horizon) {

@@ -1,6 +1,6 @@
 -- What a reader found, part by part: from the value that the reader of a part gave back to the numbers that stand in the
 -- file.
-use Rattle.std.specs.Prelude.{if◌then◌else◌}
+use Rattle.std.specs.Prelude.{Some, None, if◌then◌else◌}
 use mathlib.Core.Path.{◌≡◌, refl, sym, ap, ◌∙◌, subst}
 use mathlib.Core.List.{List, [], ◌∷◌}
 use mathlib.Core.Bool.{Bool, true, false}
@@ -37,10 +37,9 @@ use Rattle.model_spec.specs.File.{
   trigger,
   entity,
 }
-use Rattle.model_walk.specs.declared.Walked.TheVariants as walked
-use Rattle.model_walk.specs.Walk.{seen, capped, predicate_size, kind_m, by, staying, stay, stop}
+use Rattle.model_walk.specs.Walk.{Walked, seen, capped, predicate_size, kind_m, by, staying, stay, stop}
 use Rattle.model_walk.proofs.Refines.{Sees, quiet, sees_tier}
-use Rattle.model_walk.proofs.Laws.{bind_got, bind_broken, u8_in, u8_out, u16_in, u16_out, u32_in, u32_out}
+use Rattle.model_walk.proofs.Laws.{same_to, bind_got, bind_broken, u8_in, u8_out, u16_in, u16_out, u32_in, u32_out}
 
 -- a test, with its equation
 pub data Case (b : Bool) : Type 0 where
@@ -160,16 +159,16 @@ pub kind_wide : {A : Type 0} (limit : ℕ) (r : Reader A) → Sees quiet r (kind
 unfolding seen by staying stay stop capped
 kind_wide limit r f {s} {p} {a} {q} e = cases (u8 s p) refl
   where
-    told : kind_m limit s p 0 ≡ walked.To q 0
+    told : kind_m limit s p 0 ≡ Some (q, 0)
     told = f 0 s p ∙ ap (seen quiet 0) e
 
-    ended : (x o : ℕ) (b : Bool) → (if b then stay else stop) s o 0 ≡ walked.To q 0 → o ≡ q
-    ended x o true h = (cc)
+    ended : (x o : ℕ) (b : Bool) → (if b then stay else stop) s o 0 ≡ Some (q, 0) → o ≡ q
+    ended x o true h = (same_to h).0
     ended x o false h = let z : ◌≡◌ {A = ℕ} 0 1 = cc in absurd (omega arith)
 
     cases : (g : Got ℕ) → u8 s p ≡ g → Wide 1 s p q
     cases (got x o) d = subst (Wide 1 s p) (ended x o (ltb x limit) (rw (d, by) at told)) (u8_wide s p d)
-    cases broken d = let g : walked.Broken ≡ walked.To q 0 = rw (d, by) at told in let z : ◌≡◌ {A = ℕ} 0 1 = cc in
+    cases broken d = let g : ◌≡◌ {A = Walked} None (Some (q, 0)) = rw (d, by) at told in let z : ◌≡◌ {A = ℕ} 0 1 = cc in
         absurd (omega arith)
 
 -- ---- places

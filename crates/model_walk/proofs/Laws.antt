@@ -1,5 +1,6 @@
 -- The laws that the proofs of walks cite.
-use Rattle.std.specs.Prelude.{if◌then◌else◌}
+use Rattle.std.specs.Prelude.{Some, None, if◌then◌else◌}
+use Rattle.std.specs.Bool.{then_some}
 use mathlib.Core.Path.{◌≡◌, refl, sym, ap, ◌∙◌}
 use mathlib.Core.List.{List}
 use mathlib.Core.Bool.{Bool, true, false}
@@ -11,11 +12,9 @@ use lib.ListN.{length, get_or}
 use lib.Dec.{eqb}
 use borrow.Author.Tests.{lt-ltb, le-ltb, le-leb, lt-leb, ne_eqb}
 use Rattle.model_spec.specs.File.{Got, got, broken, Reader, ◌>>=◌, give, u8, u16, u32}
-use Rattle.model_walk.specs.declared.Num.{Num}
-use Rattle.model_walk.specs.declared.Num.TheVariants as num
-use Rattle.model_walk.specs.declared.Walked.{Walked}
-use Rattle.model_walk.specs.declared.Walked.TheVariants as walked
 use Rattle.model_walk.specs.Walk.{
+  Num,
+  Walked,
   found,
   capped,
   Walk,
@@ -99,19 +98,19 @@ u32_out s at h = elim (dec_lt (at + 1) (length s)) [
 ]
 
 -- what a number's answer says of its reader
-pub is_got : {x : Num} {g : Got ℕ} {v q : ℕ} → found x ≡ g → x ≡ num.Is v q → g ≡ got v q
+pub is_got : {x : Num} {g : Got ℕ} {v q : ℕ} → found x ≡ g → x ≡ Some (v, q) → g ≡ got v q
 unfolding found
 is_got e h = sym e ∙ ap found h
 
-pub is_broken : {x : Num} {g : Got ℕ} → found x ≡ g → x ≡ num.Broken → g ≡ broken
+pub is_broken : {x : Num} {g : Got ℕ} → found x ≡ g → x ≡ None → g ≡ broken
 unfolding found
 is_broken e h = sym e ∙ ap found h
 
-pub says_got : {v w q : ℕ} {g : Got ℕ} → g ≡ got w q → v ≡ w → found (num.Is v q) ≡ g
+pub says_got : {v w q : ℕ} {g : Got ℕ} → g ≡ got w q → v ≡ w → found (Some (v, q)) ≡ g
 unfolding found
 says_got {q = q} e h = ap (λ x. got x q) h ∙ sym e
 
-pub says_broken : {g : Got ℕ} → g ≡ broken → found num.Broken ≡ g
+pub says_broken : {g : Got ℕ} → g ≡ broken → found None ≡ g
 unfolding found
 says_broken e = sym e
 
@@ -128,70 +127,93 @@ no_if x y h = rw h
 module _ (s : List ℕ) (p n : ℕ) where
   -- the code's answer x of the first number, and its case
   module _ (r : Reader ℕ) (f : ℕ → Walk) {x : Num} (e : found x ≡ r s p) where
-    pub by_is : {v q : ℕ} → x ≡ num.Is v q → by r f s p n ≡ f v s q n
+    pub by_is : {v q : ℕ} → x ≡ Some (v, q) → by r f s p n ≡ f v s q n
     unfolding by
     by_is h = rw (is_got e h, by)
 
-    pub by_broken : x ≡ num.Broken → by r f s p n ≡ walked.Broken
+    pub by_broken : x ≡ None → by r f s p n ≡ None
     unfolding by
     by_broken h = rw (is_broken e h, by)
 
   -- the code's answer x of the first walk, and its case
   module _ (k l : Walk) {x : Walked} (e : x ≡ k s p n) where
-    pub to : {q m : ℕ} → x ≡ walked.To q m → (k ⨾ l) s p n ≡ l s q m
+    pub to : {q m : ℕ} → x ≡ Some (q, m) → (k ⨾ l) s p n ≡ l s q m
     unfolding ◌⨾◌ and_then
     to h = rw (sym e ∙ h, and_then)
 
-    pub broke : x ≡ walked.Broken → (k ⨾ l) s p n ≡ walked.Broken
+    pub broke : x ≡ None → (k ⨾ l) s p n ≡ None
     unfolding ◌⨾◌ and_then
     broke h = rw (sym e ∙ h, and_then)
 
-  pub stopped : stop s p n ≡ walked.Broken
+  pub stopped : stop s p n ≡ None
   unfolding stop
   stopped = refl
 
-  pub stayed : stay s p n ≡ walked.To p n
+  pub stayed : stay s p n ≡ Some (p, n)
   unfolding stay
   stayed = refl
 
-  pub noted_is : noted s p n ≡ walked.To p (capped (n + 1))
+  pub noted_is : noted s p n ≡ Some (p, capped (n + 1))
   unfolding noted
   noted_is = refl
 
-  pub stay_if : {b : Bool} → b ≡ true → staying b s p n ≡ walked.To p n
+  pub stay_if : {b : Bool} → b ≡ true → staying b s p n ≡ Some (p, n)
   unfolding staying stay
   stay_if h = rw h
 
-  pub stop_if : {b : Bool} → b ≡ false → staying b s p n ≡ walked.Broken
+  pub stop_if : {b : Bool} → b ≡ false → staying b s p n ≡ None
   unfolding staying stop
   stop_if h = rw h
 
-  pub bytes_in : (w : ℕ) → p + w ≤ length s → bytes_m w s p n ≡ walked.To (p + w) n
+  pub bytes_in : (w : ℕ) → p + w ≤ length s → bytes_m w s p n ≡ Some (p + w, n)
   unfolding bytes_m
   bytes_in w h = rw (le-leb (p + w) (length s) h)
 
-  pub bytes_out : (w : ℕ) → length s < p + w → bytes_m w s p n ≡ walked.Broken
+  pub bytes_out : (w : ℕ) → length s < p + w → bytes_m w s p n ≡ None
   unfolding bytes_m
   bytes_out w h = rw (lt-leb (p + w) (length s) h)
+
+  -- the code's test whether to stay
+  pub staying_is : (b : Bool) → then_some b (p, n) ≡ staying b s p n
+  unfolding staying stay stop
+  staying_is true = refl
+  staying_is false = refl
+
+  -- one test or the other
+  pub first_stays : {b t : Bool} (k : Walk) → t ≡ b → b ≡ true → then_some t (p, n) ≡ (if b then stay else k) s p n
+  unfolding stay
+  first_stays k e h = rw (e, h)
+
+  pub other_stays : {b c t : Bool} → t ≡ c → b ≡ false → then_some t (p, n) ≡ (if b then stay else staying c) s p n
+  other_stays {c = c} e h = rw (e, h) (staying_is c)
+
+  pub noted_if : (b : Bool) {m : ℕ} → m ≡ capped (n + 1) → then_some b (p, m) ≡ (if b then noted else stop) s p n
+  unfolding noted stop
+  noted_if true e = ap (λ (x : ℕ). Some (p, x)) e
+  noted_if false e = refl
 
 module _ (s : List ℕ) (p n : ℕ) (k : Walk) where
   pub zeros_before : p < length s → or_zeros_m k s p n ≡ k s p n
   unfolding or_zeros_m
   zeros_before h = rw (lt-ltb p (length s) h)
 
-  pub zeros_at_end : length s ≤ p → or_zeros_m k s p n ≡ walked.To p n
+  pub zeros_at_end : length s ≤ p → or_zeros_m k s p n ≡ Some (p, n)
   unfolding or_zeros_m
   zeros_at_end h = rw (le-ltb p (length s) h)
 
-pub to_same : {p n m : ℕ} → m ≡ n → walked.To p n ≡ walked.To p m
-to_same {p} e = ap (walked.To p) (sym e)
+pub to_same : {p n m : ℕ} → m ≡ n → ◌≡◌ {A = Walked} (Some (p, n)) (Some (p, m))
+to_same {p} e = ap (λ (x : ℕ). Some (p, x)) (sym e)
+
+pub same_to : {p n q m : ℕ} → ◌≡◌ {A = Walked} (Some (p, n)) (Some (q, m)) → (p ≡ q) × (n ≡ m)
+same_to {p} {n} {q} {m} e =
+    let h : ◌≡◌ {A = ℕ × ℕ} (p, n) (q, m) = cc in (ap (λ (x : ℕ × ℕ). x.0) h, ap (λ (x : ℕ × ℕ). x.1) h)
 
 -- a test, and then a walk
 pub stay_then : {b : Bool} (l : Walk) (s : List ℕ) (p n : ℕ) → b ≡ true → (staying b ⨾ l) s p n ≡ l s p n
 unfolding staying stay ◌⨾◌ and_then
 stay_then l s p n h = rw h
 
-pub stop_then : {b : Bool} (l : Walk) (s : List ℕ) (p n : ℕ) → b ≡ false → (staying b ⨾ l) s p n ≡ walked.Broken
+pub stop_then : {b : Bool} (l : Walk) (s : List ℕ) (p n : ℕ) → b ≡ false → (staying b ⨾ l) s p n ≡ None
 unfolding staying stop ◌⨾◌ and_then
 stop_then l s p n h = rw h
 
@@ -234,12 +256,12 @@ no_walk k l s p n h = rw h
 
 and_then_assoc : (x : Walked) (f g : ℕ → ℕ → Walked) → and_then (and_then x f) g ≡ and_then x (λ p n. and_then (f p n) g)
 unfolding and_then
-and_then_assoc (walked.To p n) f g = refl
-and_then_assoc walked.Broken f g = refl
+and_then_assoc (Some (p, n)) f g = refl
+and_then_assoc None f g = refl
 
 by_and_then : (g : Got ℕ) (f : ℕ → ℕ → Walked) (h : ℕ → ℕ → Walked) →
-    and_then (elim g [ got x q ↦ f x q | broken ↦ walked.Broken ]) h
-    ≡ elim g [ got x q ↦ and_then (f x q) h | broken ↦ walked.Broken ]
+    and_then (elim g [ got x q ↦ f x q | broken ↦ None ]) h
+    ≡ elim g [ got x q ↦ and_then (f x q) h | broken ↦ None ]
 unfolding and_then
 by_and_then (got x q) f h = refl
 by_and_then broken f h = refl
@@ -261,7 +283,7 @@ module _ (k : Walk) (s : List ℕ) (p n : ℕ) where
   times_more zero h = absurd (omega arith)
   times_more (suc i) h = rw (sub-one (suc i))
 
-  pub times_none : (i : ℕ) → i ≤ 0 → times_m i k s p n ≡ walked.To p n
+  pub times_none : (i : ℕ) → i ≤ 0 → times_m i k s p n ≡ Some (p, n)
   unfolding times_m stay
   times_none zero h = refl
   times_none (suc i) h = absurd (omega arith)
@@ -277,7 +299,7 @@ unfolding times_m ◌⨾◌ stay and_then
 none_then k l s p n zero h = refl
 none_then k l s p n (suc i) h = absurd (omega arith)
 
-pub actions_none : (ts : ℕ) (s : List ℕ) (p n : ℕ) → actions_m ts 0 s p n ≡ walked.Broken
+pub actions_none : (ts : ℕ) (s : List ℕ) (p n : ℕ) → actions_m ts 0 s p n ≡ None
 unfolding actions_m stop
 actions_none ts s p n = refl
 
@@ -302,10 +324,28 @@ module _ (ts : ℕ) (s : List ℕ) (p n : ℕ) where
   unfolding trigger_m
   trigger_is = refl
 
-  pub predicate_is : predicate_m ts s p n ≡ by u8 (λ k. if eqb k 0 then place_m ts ⨾ place_m ts else if eqb k 1 then note_m ts
-      else if eqb k 2 then bytes_m 9 else stop) s p n
+  -- what stands behind a predicate's kind
+  abbrev pub of_kind : ℕ → Walk
+  of_kind k =
+      if eqb k 0 then place_m ts ⨾ place_m ts else if eqb k 1 then note_m ts else if eqb k 2 then bytes_m 9 else stop
+
+  pub predicate_is : predicate_m ts s p n ≡ by u8 of_kind s p n
   unfolding predicate_m
   predicate_is = refl
+
+  module _ {k : ℕ} where
+    pub kind_0 : k ≡ 0 → of_kind k s p n ≡ (place_m ts ⨾ place_m ts) s p n
+    kind_0 e = rw e
+
+    pub kind_1 : k ≡ 1 → of_kind k s p n ≡ note_m ts s p n
+    kind_1 e = rw e
+
+    pub kind_2 : k ≡ 2 → of_kind k s p n ≡ bytes_m 9 s p n
+    kind_2 e = rw e
+
+    pub kind_else : (k ≡ 0 → ⊥) → (k ≡ 1 → ⊥) → (k ≡ 2 → ⊥) → of_kind k s p n ≡ None
+    unfolding stop
+    kind_else a b c = rw (ne_eqb _ _ a, ne_eqb _ _ b, ne_eqb _ _ c)
 
   -- an effect's kind
   module _ {k : ℕ} where
@@ -334,7 +374,7 @@ module _ (ts : ℕ) (s : List ℕ) (p n : ℕ) where
     simple_6 e = rw e
 
     pub simple_else : (k ≡ 0 → ⊥) → (k ≡ 1 → ⊥) → (k ≡ 2 → ⊥) → (k ≡ 3 → ⊥) → (k ≡ 5 → ⊥) → (k ≡ 6 → ⊥) →
-        simple_m ts k s p n ≡ walked.Broken
+        simple_m ts k s p n ≡ None
     unfolding simple_m stop
     simple_else a b c d e f = rw (ne_eqb _ _ a, ne_eqb _ _ b, ne_eqb _ _ c, ne_eqb _ _ d, ne_eqb _ _ e, ne_eqb _ _ f)
 

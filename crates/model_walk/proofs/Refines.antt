@@ -1,10 +1,10 @@
 -- Each walk ends where the reader of `File` ends, with the notes of what the reader found.
-use Rattle.std.specs.Prelude.{if◌then◌else◌}
+use Rattle.std.specs.Prelude.{Some, None, if◌then◌else◌}
 use mathlib.Core.Path.{◌≡◌, refl, sym, ap, ◌∙◌}
 use mathlib.Core.List.{List, [], ◌∷◌, ◌++◌}
 use mathlib.Core.Bool.{Bool, true, false}
 use mathlib.Core.Option.{none, some}
-use Prim.Native.Nat.{ℕ, zero, suc, ◌+◌, ◌-◌, ◌<◌}
+use Prim.Native.Nat.{ℕ, zero, suc, ◌+◌, ◌<◌}
 use native.Mathlib.Omega.{arith}
 use native.Mathlib.Decide.{dec_lt}
 use lib.ListN.{length, get_or, length-append}
@@ -69,8 +69,6 @@ use Rattle.model_spec.specs.File.{
   actions_of,
   actions,
 }
-use Rattle.model_walk.specs.declared.Walked.TheVariants as walked
-use Rattle.model_walk.specs.declared.Piece.TheVariants as piece
 use Rattle.model_walk.specs.Walk.{
   capped,
   seen,
@@ -127,7 +125,7 @@ module _ {B : Type 0} (w : B → ℕ) (n m : ℕ) where
     last f h s p = e m s p ∙ cases (r s p)
       where
         cases : (g : Got A) → seen v m g ≡ seen w n (elim g [ got a q ↦ got (f a) q | broken ↦ broken ])
-        cases (got a q) = ap (λ x. walked.To q (capped x)) (h a)
+        cases (got a q) = ap (λ x. Some (q, capped x)) (h a)
         cases broken = refl
 
   -- a number that decides
@@ -136,14 +134,14 @@ module _ {B : Type 0} (w : B → ℕ) (n m : ℕ) where
   unfolding ◌>>=◌ by seen
   choice r f g h s p = cases (r s p)
     where
-      cases : (x : Got ℕ) → elim x [ got a q ↦ g a s q (capped m) | broken ↦ walked.Broken ]
+      cases : (x : Got ℕ) → elim x [ got a q ↦ g a s q (capped m) | broken ↦ None ]
           ≡ seen w n (elim x [ got a q ↦ f a s q | broken ↦ broken ])
       cases (got a q) = h a s q
       cases broken = refl
 
   pub gives : (b : B) → m ≡ n + w b → Runs w n (give b) m stay
   unfolding give stay seen
-  gives b h s p = ap (λ x. walked.To p (capped x)) h
+  gives b h s p = ap (λ x. Some (p, capped x)) h
 
   pub refuses : Runs w n refuse m stop
   unfolding refuse stop seen
@@ -151,7 +149,7 @@ module _ {B : Type 0} (w : B → ℕ) (n m : ℕ) where
 
   pub requires : (c : Bool) (b : B) → m ≡ n + w b → Runs w n (require c b) m (staying c)
   unfolding require staying stay stop seen
-  requires true b h s p = ap (λ x. walked.To p (capped x)) h
+  requires true b h s p = ap (λ x. Some (p, capped x)) h
   requires false b h s p = refl
 
   capped_more : (x : ℕ) → capped (capped x + 1) ≡ capped (x + 1)
@@ -163,7 +161,7 @@ module _ {B : Type 0} (w : B → ℕ) (n m : ℕ) where
 
   pub notes : (b : B) → m + 1 ≡ n + w b → Runs w n (give b) m noted
   unfolding give noted seen
-  notes b h s p = ap (walked.To p) (capped_more m ∙ ap capped h)
+  notes b h s p = ap (λ (x : ℕ). Some (p, x)) (capped_more m ∙ ap capped h)
 
 -- no notes
 abbrev pub quiet : {A : Type 0} → A → ℕ
@@ -176,7 +174,7 @@ unfolding seen
 sees_u32 n s p = elim (dec_lt (length s) (p + 4)) [
   | yes h ↦ rw (laws.bytes_out s p (capped n) 4 h, laws.u32_out s p h)
   | no h ↦ rw (laws.bytes_in s p (capped n) 4 (omega arith), laws.u32_in s p (omega arith))
-      (ap (λ x. walked.To (p + 4) (capped x)) (omega arith))
+      (ap (λ x. Some (p + 4, capped x)) (omega arith))
 ]
 
 pub sees_u8 : Sees quiet u8 (bytes_m 1)
@@ -184,7 +182,7 @@ unfolding seen
 sees_u8 n s p = elim (dec_lt (length s) (p + 1)) [
   | yes h ↦ rw (laws.bytes_out s p (capped n) 1 h, laws.u8_out s p (omega arith))
   | no h ↦ rw (laws.bytes_in s p (capped n) 1 (omega arith), laws.u8_in s p (omega arith))
-      (ap (λ x. walked.To (p + 1) (capped x)) (omega arith))
+      (ap (λ x. Some (p + 1, capped x)) (omega arith))
 ]
 
 -- bytes side by side
@@ -194,7 +192,7 @@ bytes_sum a b s p n = elim (dec_lt (length s) (p + a)) [
   | yes h ↦ rw (laws.bytes_out s p n a h) (laws.bytes_out s p n (a + b) (omega arith))
   | no h ↦ rw (laws.bytes_in s p n a (omega arith)) (elim (dec_lt (length s) (p + a + b)) [
     | yes i ↦ laws.bytes_out s p n (a + b) (omega arith) ∙ sym (laws.bytes_out s (p + a) n b i)
-    | no i ↦ laws.bytes_in s p n (a + b) (omega arith) ∙ ap (λ x. walked.To x n) (omega arith)
+    | no i ↦ laws.bytes_in s p n (a + b) (omega arith) ∙ ap (λ x. Some (x, n)) (omega arith)
         ∙ sym (laws.bytes_in s (p + a) n b (omega arith))
   ])
 ]
@@ -210,9 +208,9 @@ pub sees_zeros : {A : Type 0} (w : A → ℕ) (z : A) (r : Reader A) (k : Walk) 
 unfolding or_zeros or_zeros_m seen
 sees_zeros w z r k h e n s p = cases (ltb p (length s))
   where
-    cases : (b : Bool) → (if b then k s p (capped n) else walked.To p (capped n)) ≡ seen w n (if b then r s p else got z p)
+    cases : (b : Bool) → (if b then k s p (capped n) else Some (p, capped n)) ≡ seen w n (if b then r s p else got z p)
     cases true = e n s p
-    cases false = ap (λ x. walked.To p (capped x)) (omega (arith, h))
+    cases false = ap (λ x. Some (p, capped x)) (omega (arith, h))
 
 -- ---- lists
 

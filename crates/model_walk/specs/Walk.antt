@@ -1,19 +1,23 @@
 -- Walks: a reader that keeps no value. A walk goes over a part of the file, from a position on; it ends at a position, with
 -- the notes so far (65 for more than 64), or finds the file rules broken. Places are only compared with the number of texts.
 -- `proofs/Refines` has, for each walk, that it ends where the reader of `File` ends.
-use Rattle.std.specs.Prelude.{ℕ, zero, suc, ◌+◌, Bool, List, ltb, leb, eqb, length, if◌then◌else◌}
+use Rattle.std.specs.Prelude.{Option, Some, None, ℕ, zero, suc, ◌+◌, Bool, List, ltb, leb, eqb, length, if◌then◌else◌}
 use Rattle.model_spec.specs.File.{Got, got, broken, Reader, u8, u16}
-use Rattle.model_walk.specs.declared.Num.{Num}
-use Rattle.model_walk.specs.declared.Num.TheVariants as num
-use Rattle.model_walk.specs.declared.Walked.{Walked}
-use Rattle.model_walk.specs.declared.Walked.TheVariants as walked
 use Rattle.model_walk.specs.declared.Piece.{Piece}
 use Rattle.model_walk.specs.declared.Piece.TheVariants as piece
 
+-- a number and the position after it, where the file has one there
+abbrev pub Num : Type 0
+Num = Option (ℕ × ℕ)
+
+-- the position after a part, and the notes so far, where the part breaks no rule
+abbrev pub Walked : Type 0
+Walked = Option (ℕ × ℕ)
+
 -- what a reader of numbers answers
 unfoldable pub found : Num → Got ℕ
-found (num.Is x next) = got x next
-found num.Broken = broken
+found (Some (x, next)) = got x next
+found None = broken
 
 -- a number of notes: 65 stands for any that is too large
 unfoldable pub capped : ℕ → ℕ
@@ -21,15 +25,15 @@ capped n = if ltb 64 n then 65 else n
 
 -- where the reader ended, and the notes after it: n before, and those of what it found
 unfoldable pub seen : {A : Type 0} → (A → ℕ) → ℕ → Got A → Walked
-seen w n (got a next) = walked.To next (capped (n + w a))
-seen w n broken = walked.Broken
+seen w n (got a next) = Some (next, capped (n + w a))
+seen w n broken = None
 
 abbrev pub Walk : Type 0
 Walk = List ℕ → ℕ → ℕ → Walked
 
 unfoldable pub and_then : Walked → (ℕ → ℕ → Walked) → Walked
-and_then (walked.To p n) f = f p n
-and_then walked.Broken f = walked.Broken
+and_then (Some (p, n)) f = f p n
+and_then None f = None
 
 infixr 25 ◌⨾◌
 -- one walk, and then the other
@@ -38,28 +42,28 @@ unfoldable pub ◌⨾◌ : Walk → Walk → Walk
 
 -- a number, and then a walk that depends on it
 unfoldable pub by : Reader ℕ → (ℕ → Walk) → Walk
-by r f s p n = elim (r s p) [ got x next ↦ f x s next n | broken ↦ walked.Broken ]
+by r f s p n = elim (r s p) [ got x next ↦ f x s next n | broken ↦ None ]
 
 unfoldable pub stop : Walk
-stop s p n = walked.Broken
+stop s p n = None
 
 unfoldable pub stay : Walk
-stay s p n = walked.To p n
+stay s p n = Some (p, n)
 
 -- one more note
 unfoldable pub noted : Walk
-noted s p n = walked.To p (capped (n + 1))
+noted s p n = Some (p, capped (n + 1))
 
 unfoldable pub staying : Bool → Walk
 staying b = if b then stay else stop
 
 -- w bytes
 unfoldable pub bytes_m : ℕ → Walk
-bytes_m w s p n = if leb (p + w) (length s) then walked.To (p + w) n else walked.Broken
+bytes_m w s p n = if leb (p + w) (length s) then Some (p + w, n) else None
 
 -- a group of fields that the file may end before
 unfoldable pub or_zeros_m : Walk → Walk
-or_zeros_m k s p n = if ltb p (length s) then k s p n else walked.To p n
+or_zeros_m k s p n = if ltb p (length s) then k s p n else Some (p, n)
 
 -- how many bytes a predicate of this kind has, the kind itself counted
 unfoldable pub predicate_size : (kind : ℕ) → ℕ

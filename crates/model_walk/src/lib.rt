@@ -24,19 +24,12 @@ ghost use Rattle.model_walk.specs.Walk.{
   actions_m,
 };
 
-// A number and the position after it.
-#[derive(Clone, Copy)]
-pub enum Num {
-    Is(u32, usize),
-    Broken,
-}
+// A number and the position after it, where the file has one there.
+pub type Num = Option<(u32, usize)>;
 
-// The position after a part, and the notes so far: 65 stands for any number that is too large.
-#[derive(Clone, Copy)]
-pub enum Walked {
-    To(usize, u32),
-    Broken,
-}
+// The position after a part, and the notes so far: 65 stands for any number that is too large. None where the part breaks the
+// file rules.
+pub type Walked = Option<(usize, u32)>;
 
 // Parts that stand in lists and hold no list.
 #[derive(Clone, Copy)]
@@ -53,51 +46,42 @@ pub fn u8_at(s: &[u8], at: usize) -> Num
     ensures { found result ≡ u8 s.now at }
 {
     if at < s.len() {
-        Num::Is(texts::byte(s, at), at + 1)
+        Some((texts::byte(s, at), at + 1))
     } else {
-        Num::Broken
+        None
     }
 }
 
 pub fn u16_at(s: &[u8], at: usize) -> Num
     ensures { found result ≡ u16 s.now at }
 {
-    if s.len() < 2 {
-        return Num::Broken;
+    if s.len() < 2 || s.len() - 2 < at {
+        return None;
     }
-    if s.len() - 2 < at {
-        return Num::Broken;
-    }
-    Num::Is(texts::byte(s, at) + 256 * texts::byte(s, at + 1), at + 2)
+    Some((texts::byte(s, at) + 256 * texts::byte(s, at + 1), at + 2))
 }
 
 pub fn u32_at(s: &[u8], at: usize) -> Num
     ensures { found result ≡ u32 s.now at }
 {
-    if s.len() < 4 {
-        return Num::Broken;
+    if s.len() < 4 || s.len() - 4 < at {
+        return None;
     }
-    if s.len() - 4 < at {
-        return Num::Broken;
-    }
-    Num::Is(
+    Some((
         texts::byte(s, at)
             + 256 * texts::byte(s, at + 1)
             + 65536 * (texts::byte(s, at + 2) + 256 * texts::byte(s, at + 3)),
         at + 4,
-    )
+    ))
 }
 
 pub fn bytes_at(s: &[u8], size: usize, at: usize, notes: u32) -> Walked
     ensures { result ≡ bytes_m size s.now at notes }
 {
-    if s.len() < size {
-        return Walked::Broken;
+    if s.len() < size || s.len() - size < at {
+        return None;
     }
-    if s.len() - size < at {
-        return Walked::Broken;
-    }
-    Walked::To(at + size, notes)
+    Some((at + size, notes))
 }
 
 // The bytes of a group of fields that the file may end before.
@@ -105,9 +89,10 @@ pub fn bytes_or_end_at(s: &[u8], size: usize, at: usize, notes: u32) -> Walked
     ensures { result ≡ or_zeros_m (bytes_m size) s.now at notes }
 {
     if at < s.len() {
-        return bytes_at(s, size, at, notes);
+        bytes_at(s, size, at, notes)
+    } else {
+        Some((at, notes))
     }
-    Walked::To(at, notes)
 }
 
 fn more(notes: u32) -> u32
@@ -119,14 +104,8 @@ fn more(notes: u32) -> u32
 pub fn kind_at(s: &[u8], limit: u32, at: usize, notes: u32) -> Walked
     ensures { result ≡ kind_m limit s.now at notes }
 {
-    let x = u8_at(s, at);
-    let Num::Is(k, next) = x else {
-        return Walked::Broken;
-    };
-    if k < limit {
-        return Walked::To(next, notes);
-    }
-    Walked::Broken
+    let (k, next) = u8_at(s, at)?;
+    (k < limit).then_some((next, notes))
 }
 
 // ---- places in the texts, of which there are `texts`
@@ -134,65 +113,38 @@ pub fn kind_at(s: &[u8], limit: u32, at: usize, notes: u32) -> Walked
 pub fn place_at(s: &[u8], texts: u32, at: usize, notes: u32) -> Walked
     ensures { result ≡ place_m texts s.now at notes }
 {
-    let x = u16_at(s, at);
-    let Num::Is(place, next) = x else {
-        return Walked::Broken;
-    };
-    if place < texts {
-        return Walked::To(next, notes);
-    }
-    Walked::Broken
+    let (place, next) = u16_at(s, at)?;
+    (place < texts).then_some((next, notes))
 }
 
 fn optional_at(s: &[u8], texts: u32, at: usize, notes: u32) -> Walked
     ensures { result ≡ place?M texts s.now at notes }
 {
-    let x = u16_at(s, at);
-    let Num::Is(place, next) = x else {
-        return Walked::Broken;
-    };
-    if place == layout::NO_PLACE {
-        return Walked::To(next, notes);
-    }
-    if place < texts {
-        return Walked::To(next, notes);
-    }
-    Walked::Broken
+    let (place, next) = u16_at(s, at)?;
+    (place == layout::NO_PLACE || place < texts).then_some((next, notes))
 }
 
 fn optional_note_at(s: &[u8], texts: u32, at: usize, notes: u32) -> Walked
     ensures { result ≡ note?M texts s.now at notes }
 {
-    let x = u16_at(s, at);
-    let Num::Is(place, next) = x else {
-        return Walked::Broken;
-    };
+    let (place, next) = u16_at(s, at)?;
     if place == layout::NO_PLACE {
-        return Walked::To(next, notes);
+        return Some((next, notes));
     }
-    if place < texts {
-        return Walked::To(next, more(notes));
-    }
-    Walked::Broken
+    (place < texts).then_some((next, more(notes)))
 }
 
 fn note_at(s: &[u8], texts: u32, at: usize, notes: u32) -> Walked
     ensures { result ≡ note_m texts s.now at notes }
 {
-    let x = place_at(s, texts, at, notes);
-    let Walked::To(next, before) = x else {
-        return Walked::Broken;
-    };
-    Walked::To(next, more(before))
+    let (next, before) = place_at(s, texts, at, notes)?;
+    Some((next, more(before)))
 }
 
 pub fn two_places_at(s: &[u8], texts: u32, at: usize, notes: u32) -> Walked
     ensures { result ≡ (place_m texts ⨾ place_m texts) s.now at notes }
 {
-    let x = place_at(s, texts, at, notes);
-    let Walked::To(p, n) = x else {
-        return Walked::Broken;
-    };
+    let (p, n) = place_at(s, texts, at, notes)?;
     place_at(s, texts, p, n)
 }
 
@@ -202,53 +154,32 @@ pub fn two_places_at(s: &[u8], texts: u32, at: usize, notes: u32) -> Walked
 pub fn predicate_size(kind: u32) -> u32
     ensures { result ≡ predicate_size kind }
 {
-    if kind == 0 {
-        return 5;
+    match kind {
+        0 => 5,
+        1 => 3,
+        _ => 10,
     }
-    if kind == 1 {
-        return 3;
-    }
-    10
 }
 
 pub fn predicate_at(s: &[u8], texts: u32, at: usize, notes: u32) -> Walked
     ensures { result ≡ predicate_m texts s.now at notes }
 {
-    let x = u8_at(s, at);
-    let Num::Is(k, p) = x else {
-        return Walked::Broken;
-    };
-    if k == 0 {
-        return two_places_at(s, texts, p, notes);
+    let (k, p) = u8_at(s, at)?;
+    match k {
+        0 => two_places_at(s, texts, p, notes),
+        1 => note_at(s, texts, p, notes),
+        2 => bytes_at(s, predicate_size(k) as usize - 1, p, notes),
+        _ => None,
     }
-    if k == 1 {
-        return note_at(s, texts, p, notes);
-    }
-    if k == 2 {
-        return bytes_at(s, predicate_size(k) as usize - 1, p, notes);
-    }
-    Walked::Broken
 }
 
 fn trigger_at(s: &[u8], texts: u32, at: usize, notes: u32) -> Walked
     ensures { result ≡ trigger_m texts s.now at notes }
 {
-    let a = place_at(s, texts, at, notes);
-    let Walked::To(p, k) = a else {
-        return Walked::Broken;
-    };
-    let b = optional_at(s, texts, p, k);
-    let Walked::To(q, l) = b else {
-        return Walked::Broken;
-    };
-    let d = optional_at(s, texts, q, l);
-    let Walked::To(t, m) = d else {
-        return Walked::Broken;
-    };
-    let e = bytes_at(s, 8, t, m);
-    let Walked::To(u, n) = e else {
-        return Walked::Broken;
-    };
+    let (p, k) = place_at(s, texts, at, notes)?;
+    let (q, l) = optional_at(s, texts, p, k)?;
+    let (t, m) = optional_at(s, texts, q, l)?;
+    let (u, n) = bytes_at(s, 8, t, m)?;
     optional_note_at(s, texts, u, n)
 }
 
@@ -267,23 +198,15 @@ fn piece_at(s: &[u8], texts: u32, piece: Piece, at: usize, notes: u32) -> Walked
 pub fn pieces_at(s: &[u8], texts: u32, piece: Piece, at: usize, notes: u32) -> Walked
     ensures { result ≡ pieces_m texts piece s.now at notes }
 {
-    let x = u16_at(s, at);
-    let Num::Is(count, start) = x else {
-        return Walked::Broken;
-    };
-    let mut left = count;
+    let (count, start) = u16_at(s, at)?;
     let mut p = start;
     let mut n = notes;
-    while 0 < left {
-        let y = piece_at(s, texts, piece, p, n);
-        let Walked::To(q, m) = y else {
-            return Walked::Broken;
-        };
+    for _ in 0..count {
+        let (q, m) = piece_at(s, texts, piece, p, n)?;
         p = q;
         n = m;
-        left -= 1;
     }
-    Walked::To(p, n)
+    Some((p, n))
 }
 
 // ---- actions
@@ -292,38 +215,22 @@ pub fn pieces_at(s: &[u8], texts: u32, piece: Piece, at: usize, notes: u32) -> W
 fn simple_at(s: &[u8], texts: u32, kind: u32, at: usize, notes: u32) -> Walked
     ensures { result ≡ simple_m texts kind s.now at notes }
 {
-    if kind == 0 {
-        return two_places_at(s, texts, at, notes);
+    match kind {
+        0 => two_places_at(s, texts, at, notes),
+        1 => place_at(s, texts, at, notes),
+        2 => bytes_at(s, 4, at, notes),
+        3 => predicate_at(s, texts, at, notes),
+        5 => wait_at(s, texts, at, notes),
+        6 => note_at(s, texts, at, notes),
+        _ => None,
     }
-    if kind == 1 {
-        return place_at(s, texts, at, notes);
-    }
-    if kind == 2 {
-        return bytes_at(s, 4, at, notes);
-    }
-    if kind == 3 {
-        return predicate_at(s, texts, at, notes);
-    }
-    if kind == 5 {
-        return wait_at(s, texts, at, notes);
-    }
-    if kind == 6 {
-        return note_at(s, texts, at, notes);
-    }
-    Walked::Broken
 }
 
 fn wait_at(s: &[u8], texts: u32, at: usize, notes: u32) -> Walked
     ensures { result ≡ (trigger_m texts ⨾ bytes_m 4 ⨾ kind_m 2) s.now at notes }
 {
-    let a = trigger_at(s, texts, at, notes);
-    let Walked::To(p, k) = a else {
-        return Walked::Broken;
-    };
-    let b = bytes_at(s, 4, p, k);
-    let Walked::To(q, l) = b else {
-        return Walked::Broken;
-    };
+    let (p, k) = trigger_at(s, texts, at, notes)?;
+    let (q, l) = bytes_at(s, 4, p, k)?;
     kind_at(s, 2, q, l)
 }
 
@@ -333,37 +240,24 @@ pub fn actions_at(s: &[u8], texts: u32, left: usize, at: usize, notes: u32) -> W
     ensures { result ≡ actions_m texts left s.now at notes }
 {
     if left == 0 {
-        return Walked::Broken;
+        return None;
     }
-    let x = u16_at(s, at);
-    let Num::Is(count, start) = x else {
-        return Walked::Broken;
-    };
-    let mut i = count;
+    let (count, start) = u16_at(s, at)?;
     let mut p = start;
     let mut n = notes;
-    while 0 < i {
-        let y = bytes_at(s, 8, p, n);
-        let Walked::To(after, kept) = y else {
-            return Walked::Broken;
-        };
-        let z = u8_at(s, after);
-        let Num::Is(kind, next) = z else {
-            return Walked::Broken;
-        };
+    for _ in 0..count {
+        let (after, kept) = bytes_at(s, 8, p, n)?;
+        let (kind, next) = u8_at(s, after)?;
         let r = if kind == 4 {
             choice_at(s, texts, left - 1, next, kept)
         } else {
             simple_at(s, texts, kind, next, kept)
         };
-        let Walked::To(q, m) = r else {
-            return Walked::Broken;
-        };
+        let (q, m) = r?;
         p = q;
         n = m;
-        i -= 1;
     }
-    Walked::To(p, n)
+    Some((p, n))
 }
 
 // The branches of a choice and its default; its lists stand at most `left` deep.
@@ -371,25 +265,14 @@ pub fn actions_at(s: &[u8], texts: u32, left: usize, at: usize, notes: u32) -> W
 pub fn choice_at(s: &[u8], texts: u32, left: usize, at: usize, notes: u32) -> Walked
     ensures { result ≡ choice_m texts (actions_m texts left) s.now at notes }
 {
-    let x = u16_at(s, at);
-    let Num::Is(count, start) = x else {
-        return Walked::Broken;
-    };
-    let mut i = count;
+    let (count, start) = u16_at(s, at)?;
     let mut p = start;
     let mut n = notes;
-    while 0 < i {
-        let y = pieces_at(s, texts, Piece::Predicate, p, n);
-        let Walked::To(next, kept) = y else {
-            return Walked::Broken;
-        };
-        let z = actions_at(s, texts, left, next, kept);
-        let Walked::To(q, m) = z else {
-            return Walked::Broken;
-        };
+    for _ in 0..count {
+        let (next, kept) = pieces_at(s, texts, Piece::Predicate, p, n)?;
+        let (q, m) = actions_at(s, texts, left, next, kept)?;
         p = q;
         n = m;
-        i -= 1;
     }
     actions_at(s, texts, left, p, n)
 }

@@ -24,11 +24,9 @@ fn print_findings(
     a: &[u32],
 ) -> usize {
     let mut m = n;
-    let mut k: usize = 0;
-    while k < count {
+    for k in 0..count {
         m = show::room(out, m, LINE);
         m = lint_lines::put_finding_at(out, m, f, index, a, k);
-        k += 1;
     }
     m
 }
@@ -42,22 +40,18 @@ fn print_interactions(
     a: &[u32],
 ) -> usize {
     let mut m = n;
-    let mut k: usize = 0;
-    while k < count {
+    for k in 0..count {
         m = show::room(out, m, LINE);
         m = lint_lines::put_interaction_at(out, m, f, index, a, k);
-        k += 1;
     }
     m
 }
 
 fn print_components(out: &mut [u8], n: usize, f: &[u8], index: Index, r: Report) -> usize {
     let mut m = n;
-    let mut k: usize = 0;
-    while k < 32 {
+    for k in 0..32 {
         m = show::room(out, m, LINE);
         m = lint_lines::put_component_at(out, m, f, index, r, k);
-        k += 1;
     }
     m
 }
@@ -72,12 +66,10 @@ fn print_touched(
 ) -> usize {
     let mut m = n;
     let mut from: u32 = 0;
-    let mut left: u32 = 32;
-    while 0 < left {
+    for _ in 0..32 {
         m = show::room(out, m, LINE);
         m = lint_reads_lines::put_touched(out, m, f, index, r, from, writes);
         from = lint_reads_lines::next_from(f, index, from);
-        left -= 1;
     }
     m
 }

@@ -97,12 +97,10 @@ fn print_event(out: &mut [u8], n: usize, file: &[u8], events: &[u32], k: usize) 
 
 // The first `count` events, or as many as there is room for.
 pub fn print_events(out: &mut [u8], n: usize, file: &[u8], events: &[u32], count: usize) -> usize {
-    let many = bounds::min_usize(count, events.len() / 4);
+    let many = count.min(events.len() / 4);
     let mut m = n;
-    let mut k: usize = 0;
-    while k < many {
+    for k in 0..many {
         m = print_event(out, m, file, events, k);
-        k += 1;
     }
     m
 }

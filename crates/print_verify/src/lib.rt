@@ -77,12 +77,10 @@ fn print_input(out: &mut [u8], n: usize, file: &[u8], inputs: &[u32], k: usize) 
 
 // The first `count` inputs, or as many as there is room for.
 fn print_inputs(out: &mut [u8], n: usize, file: &[u8], inputs: &[u32], count: usize) -> usize {
-    let many = bounds::min_usize(count, inputs.len() / 3);
+    let many = count.min(inputs.len() / 3);
     let mut m = n;
-    let mut k: usize = 0;
-    while k < many {
+    for k in 0..many {
         m = print_input(out, m, file, inputs, k);
-        k += 1;
     }
     m
 }
@@ -94,12 +92,10 @@ fn print_gap(out: &mut [u8], n: usize, gap: u32) -> usize {
 
 // The first `count` gaps, or as many as there is room for.
 fn print_gaps(out: &mut [u8], n: usize, gaps: &[u32], count: usize) -> usize {
-    let many = bounds::min_usize(count, gaps.len());
+    let many = count.min(gaps.len());
     let mut m = n;
-    let mut k: usize = 0;
-    while k < many {
+    for k in 0..many {
         m = print_gap(out, m, gaps[k]);
-        k += 1;
     }
     m
 }

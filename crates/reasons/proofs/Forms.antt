@@ -1,12 +1,12 @@
 -- The words of each kind, and the rendering of each form: what users of reasons cite.
 use mathlib.Core.Path.{◌≡◌, refl, sym, ap, ◌∙◌}
 use mathlib.Core.List.{List, [], ◌∷◌, ◌++◌, append-nil}
-use Prim.Native.Nat.{ℕ, ◌+◌, ◌≤◌}
+use Prim.Native.Nat.{ℕ, ◌≤◌}
 use lib.ListN.{length, get_or, get_or-map, get_or-eq_default}
 use Rattle.texts.specs.Lists.{flat}
 use Rattle.texts.specs.Texts.{text, decimal, digits, order_t, eq_t, lt_t}
 use Rattle.texts.specs.Places.{text_at}
-use Rattle.texts.specs.declared.Order.TheVariants.{Less, Greater}
+use Rattle.std.specs.declared.cmp.Ordering.TheVariants.{Less, Greater}
 use Rattle.texts.proofs.Laws.{absent}
 use Rattle.reasons.specs.Kinds.{Kind, kinds, no_kind, source_note_kind}
 use Rattle.reasons.specs.Reasons.{words_file, words, placed, body, render}

@@ -1,8 +1,6 @@
 -- Lists of reasons in words, five to a reason, and the lists of their renderings.
-use Rattle.std.specs.Prelude.{ℕ, zero, suc, ◌+◌, ◌*◌, ◌≤◌, ◌≡◌, List, [], ◌∷◌, ◌++◌, map, length, get_or, take, drop, if◌then◌else◌}
+use Rattle.std.specs.Prelude.{ℕ, zero, suc, ◌+◌, ◌*◌, ◌≤◌, ◌≡◌, List, [], ◌∷◌, ◌++◌, Option, Some, None, map, length, get_or, take, drop, if◌then◌else◌}
 use Rattle.reasons.specs.declared.Reason.{Reason}
-use Rattle.reasons.specs.declared.Spot.{Spot}
-use Rattle.reasons.specs.declared.Spot.TheVariants.{There, At}
 use Rattle.texts.specs.Texts.{Text, mem_t, insert_t}
 use Rattle.reasons.specs.Reasons.{render}
 use Rattle.reasons.specs.Readable.{AllReadable, HasText}
@@ -31,10 +29,10 @@ reasons (suc n) a = reason_of a ∷ reasons n (drop 5 a)
 abbrev pub listed : List ℕ → ℕ → List ℕ → List Text
 listed f n a = map (render f) (reasons n a)
 
--- where a text goes: it is there, or it comes at an index
-abbrev pub Goes : Text → List Text → Spot → Type 0
-Goes t l There = insert_t t l ≡ l
-Goes t l (At k) = (k ≤ length l) × (insert_t t l ≡ take k l ++ (t ∷ drop k l))
+-- where a text goes: nowhere, as it is there, or it comes at an index
+abbrev pub Goes : Text → List Text → Option ℕ → Type 0
+Goes t l None = insert_t t l ≡ l
+Goes t l (Some k) = (k ≤ length l) × (insert_t t l ≡ take k l ++ (t ∷ drop k l))
 
 -- each of the n reasons in the words a can be read, and every word behind them is 0
 pub record Clean (f : List ℕ) (n : ℕ) (a : List ℕ) : Type 0 where

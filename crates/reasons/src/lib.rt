@@ -8,7 +8,7 @@ ghost use Rattle.reasons.specs.Reasons.{words_file, words, placed, body, render}
 ghost use Rattle.reasons.specs.Lists.{reason_of, listed, push_t, insert_all, Goes, Clean, Grows, Opens};
 ghost use Rattle.reasons.specs.Readable.{Readable};
 
-use texts::{Order, Seek};
+use std::cmp::Ordering;
 
 // The kinds, numbered; a new kind goes to the end.
 pub const NOTE: u32 = 0;
@@ -69,12 +69,6 @@ pub struct Reason {
     pub column: u32,
 }
 
-#[derive(Clone, Copy)]
-pub enum Spot {
-    There,
-    At(usize),
-}
-
 fn digit_count(n: u32) -> usize
     ensures { (result ≡ length (decimal n)) × (result ≤ 20) }
 {
@@ -93,52 +87,40 @@ fn digit(n: u32, left: usize) -> u8
     ensures { result ≡ get_or (decimal n) (length (decimal n) - 1 - left) 0 }
 {
     let mut x = n;
-    let mut k = left;
-    while 0 < k {
+    for _ in 0..left {
         x = x / 10;
-        k -= 1;
     }
     48 + (x % 10) as u8
 }
 
-fn number_seek(n: u32, i: usize) -> Seek
+fn number_seek(n: u32, i: usize) -> Result<u8, usize>
     ensures { result ≡ seek (decimal n) i }
 {
     let c = digit_count(n);
     if i < c {
-        return Seek::Here(digit(n, c - 1 - i));
+        return Ok(digit(n, c - 1 - i));
     }
-    Seek::Left(i - c)
+    Err(i - c)
 }
 
 // LINE:COLUMN
-fn source_seek(line: u32, column: u32, i: usize) -> Seek
+fn source_seek(line: u32, column: u32, i: usize) -> Result<u8, usize>
     ensures { result ≡ seek (placed line column) i }
 {
-    let s = number_seek(line, i);
-    match s {
-        Seek::Here(b) => Seek::Here(b),
-        Seek::Left(j) => {
-            if j == 0 {
-                return Seek::Here(58);
-            }
-            number_seek(column, j - 1)
-        }
-    }
+    number_seek(line, i).or_else(|j| match j {
+        0 => Ok(b':'),
+        _ => number_seek(column, j - 1),
+    })
 }
 
 // Where the words of a kind start; those of a number past the last kind are empty, as NOTE's.
 fn words_start(kind: u32) -> usize
     ensures { text_at words_file result ≡ words kind }
 {
-    let k = kind as usize;
-    if k < KINDS {
-        return STARTS[k];
-    }
-    0
+    STARTS.get(kind as usize).copied().unwrap_or(0)
 }
 
-fn words_seek(kind: u32, i: usize) -> Seek
+fn words_seek(kind: u32, i: usize) -> Result<u8, usize>
     ensures { result ≡ seek (words kind) i }
 {
     texts::text_seek(&WORDS, words_start(kind), i)
@@ -150,32 +132,20 @@ fn words_len(kind: u32) -> usize
     texts::text_len(&WORDS, words_start(kind))
 }
 
-fn body_seek(f: &[u8], r: Reason, i: usize) -> Seek
+fn body_seek(f: &[u8], r: Reason, i: usize) -> Result<u8, usize>
     ensures { result ≡ seek (body f.now r) i }
 {
-    let s = texts::text_seek(f, r.first as usize, i);
-    match s {
-        Seek::Here(b) => Seek::Here(b),
-        Seek::Left(j) => {
-            let t = words_seek(r.kind, j);
-            match t {
-                Seek::Here(b) => Seek::Here(b),
-                Seek::Left(k) => texts::text_seek(f, r.second as usize, k),
-            }
-        }
-    }
+    texts::text_seek(f, r.first as usize, i)
+        .or_else(|j| words_seek(r.kind, j))
+        .or_else(|k| texts::text_seek(f, r.second as usize, k))
 }
 
 // The byte at an index of the rendering, or how far the index is past its end.
-pub fn byte_of(f: &[u8], r: Reason, i: usize) -> Seek
+pub fn byte_of(f: &[u8], r: Reason, i: usize) -> Result<u8, usize>
     ensures { result ≡ seek (render f.now r) i }
 {
     if r.kind == SOURCE_NOTE {
-        let s = source_seek(r.line, r.column, i);
-        return match s {
-            Seek::Here(b) => Seek::Here(b),
-            Seek::Left(j) => body_seek(f, r, j),
-        };
+        return source_seek(r.line, r.column, i).or_else(|j| body_seek(f, r, j));
     }
     body_seek(f, r, i)
 }
@@ -201,49 +171,38 @@ pub fn rendered_len(f: &[u8], r: Reason) -> usize
 pub fn byte_at(f: &[u8], r: Reason, i: usize) -> u8
     ensures { result ≡ get_or (render f.now r) i 0 }
 {
-    let s = byte_of(f, r, i);
-    match s {
-        Seek::Here(b) => b,
-        Seek::Left(_) => 0,
-    }
+    byte_of(f, r, i).unwrap_or(0)
 }
 
 // How the renderings stand to one another, bytewise; a text comes before its continuations.
-pub fn compare(f: &[u8], a: Reason, b: Reason) -> Order
+pub fn compare(f: &[u8], a: Reason, b: Reason) -> Ordering
     ensures { result ≡ order_t (render f.now a) (render f.now b) }
 {
     let n = rendered_len(f, a);
     let m = rendered_len(f, b);
-    let mut i: usize = 0;
-    while i < n {
+    for i in 0..n {
         if m <= i {
-            return Order::Greater;
+            return Ordering::Greater;
         }
         let x = byte_at(f, a, i);
         let y = byte_at(f, b, i);
         if x < y {
-            return Order::Less;
+            return Ordering::Less;
         }
         if y < x {
-            return Order::Greater;
+            return Ordering::Greater;
         }
-        i += 1;
     }
-    if i < m {
-        return Order::Less;
+    if n < m {
+        return Ordering::Less;
     }
-    Order::Same
+    Ordering::Equal
 }
 
 fn equal(f: &[u8], a: Reason, b: Reason) -> bool
     ensures { result ≡ eq_t (render f.now a) (render f.now b) }
 {
-    let o = compare(f, a, b);
-    match o {
-        Order::Same => true,
-        Order::Less => false,
-        Order::Greater => false,
-    }
+    compare(f, a, b).is_eq()
 }
 
 // The reason at an index of a list, five words to a reason.
@@ -266,12 +225,10 @@ pub fn contains(f: &[u8], a: &[u32], n: usize, r: Reason) -> bool
     requires { n * 5 ≤ length a.now }
     ensures { result ≡ mem_t (render f.now r) (listed f.now n a.now) }
 {
-    let mut i: usize = 0;
-    while i < n {
+    for i in 0..n {
         if equal(f, r, get(a, i)) {
             return true;
         }
-        i += 1;
     }
     false
 }
@@ -289,27 +246,19 @@ pub fn push_if_absent(f: &[u8], a: &mut [u32], n: usize, r: Reason) -> usize
     n + 1
 }
 
-// Where a reason goes among the first n, in the order of renderings.
-fn find_spot(f: &[u8], a: &[u32], n: usize, r: Reason) -> Spot
+// Where a reason goes among the first n, in the order of renderings; none where one there is rendered like it.
+fn find_spot(f: &[u8], a: &[u32], n: usize, r: Reason) -> Option<usize>
     requires { n * 5 ≤ length a.now }
     ensures { Goes (render f.now r) (listed f.now n a.now) result }
 {
-    let mut i: usize = 0;
-    while i < n {
-        let o = compare(f, r, get(a, i));
-        match o {
-            Order::Same => {
-                return Spot::There;
-            }
-            Order::Less => {
-                return Spot::At(i);
-            }
-            Order::Greater => {
-                i += 1;
-            }
+    for i in 0..n {
+        match compare(f, r, get(a, i)) {
+            Ordering::Equal => return None,
+            Ordering::Less => return Some(i),
+            Ordering::Greater => {}
         }
     }
-    Spot::At(i)
+    Some(n)
 }
 
 // A reason at index k of the first n; those from there on move up.
@@ -327,14 +276,11 @@ pub fn insert_sorted(f: &[u8], a: &mut [u32], n: usize, r: Reason) -> usize
     ensures { Grows f.now (Readable f.now r) (insert_t (render f.now r) (listed f.now n a.old)) n a.old result
         a.new }
 {
-    let s = find_spot(f, a, n, r);
-    match s {
-        Spot::There => n,
-        Spot::At(k) => {
-            insert_at(a, n, k, r);
-            n + 1
-        }
-    }
+    let Some(k) = find_spot(f, a, n, r) else {
+        return n;
+    };
+    insert_at(a, n, k, r);
+    n + 1
 }
 
 // The first m reasons of b inserted into the first n of a.
@@ -345,10 +291,8 @@ pub fn merge(f: &[u8], a: &mut [u32], n: usize, b: &[u32], m: usize) -> usize
         (insert_all (listed f.now m b.now) (listed f.now n a.old)) n a.old result a.new }
 {
     let mut k = n;
-    let mut j: usize = 0;
-    while j < m {
+    for j in 0..m {
         k = insert_sorted(f, a, k, get(b, j));
-        j += 1;
     }
     k
 }

@@ -7,18 +7,14 @@ use native.Mathlib.Omega.{arith}
 use borrow.Author.Tests.{ne_eqb, lt-ltb, le-ltb}
 use lib.ListN.{length, get_or, get_or-eq_default}
 use Rattle.texts.specs.Texts.{Text, text, decimal}
-use Rattle.records.specs.declared.Rule.{Rule}
-use Rattle.records.specs.declared.Rule.TheVariants.{NoRule, Of}
-use Rattle.records.specs.declared.Where.{Where}
-use Rattle.records.specs.declared.Where.TheVariants.{Nowhere, From}
-use Rattle.records.specs.declared.Change.{Change}
-use Rattle.records.specs.declared.Change.TheVariants.{NoChange, Write}
+use Rattle.records.specs.declared.Source.{Source}
+use Rattle.records.specs.declared.Write.{Write}
+use Rattle.std.specs.Prelude.{Option, Some, None}
 use Rattle.records.specs.declared.Record.{Record}
 use Rattle.engine_spec.specs.Truth.{truth_name}
 use Rattle.engine_spec.specs.Records.{detail}
 use Rattle.engine_fields.specs.Fields.{word}
 use Rattle.engine_refinement.specs.Meaning.{verdict_of, id_at, kind_of, rule_of, where_of, change_of, record_of}
-use Rattle.show.specs.declared.Source.TheVariants.{At}
 use Rattle.show.specs.Lines.{newline, quoted, dash, source}
 use Rattle.record_lines.specs.Lines.{quoted_if, placed_if, changed, record_line}
 use Rattle.record_lines.specs.RecordWords.{name_of, detail_ends}
@@ -33,30 +29,31 @@ pub id_is : (x : List ℕ) (i r : ℕ) → r ≡ get_or x (80 + i * 8) 0 → r �
 id_is x i r e = e ∙ ap (λ (j : ℕ). get_or x j 0) (sym (add-zero (80 + i * 8)))
 
 module _ (x : List ℕ) (ts : List Text) where
-  pub no_rule : (r : Rule) → r ≡ NoRule → dash ≡ quoted_if (rule_of x ts r)
+  pub no_rule : (r : Option ℕ) → r ≡ None → dash ≡ quoted_if (rule_of x ts r)
   unfolding quoted_if
   no_rule r e = rw e
 
-  pub some_rule : (r : Rule) (i p : ℕ) → r ≡ Of i → p ≡ word x i 0 → quoted (get_or ts p []) ≡ quoted_if (rule_of x ts r)
+  pub some_rule : (r : Option ℕ) (i p : ℕ) → r ≡ Some i → p ≡ word x i 0 → quoted (get_or ts p []) ≡ quoted_if (rule_of x ts r)
   unfolding quoted_if id_at
   some_rule r i p e h = rw (e, h)
 
-  pub no_change : (c : Change) → c ≡ NoChange → text "- - -" ≡ changed (change_of x ts c)
+  pub no_change : (c : Option Write) → c ≡ None → text "- - -" ≡ changed (change_of x ts c)
   unfolding changed
   no_change c e = rw e
 
-  pub some_change : (c : Change) (e b a : ℕ) → c ≡ Write e b a →
-      quoted (get_or ts e []) ++ (32 ∷ (quoted (get_or ts b []) ++ (32 ∷ quoted (get_or ts a [])))) ≡ changed (change_of x ts c)
+  pub some_change : (c : Option Write) (w : Write) → c ≡ Some w →
+      quoted (get_or ts w.entity []) ++ (32 ∷ (quoted (get_or ts w.before []) ++ (32 ∷ quoted (get_or ts w.after []))))
+      ≡ changed (change_of x ts c)
   unfolding changed
-  some_change c e b a h = rw h
+  some_change c w h = rw h
 
-pub nowhere : (s : Where) → s ≡ Nowhere → dash ≡ placed_if (where_of s)
+pub nowhere : (s : Option Source) → s ≡ None → dash ≡ placed_if (where_of s)
 unfolding placed_if
 nowhere s e = rw e
 
-pub somewhere : (s : Where) (line column : ℕ) → s ≡ From line column → source (At line column) ≡ placed_if (where_of s)
+pub somewhere : (s : Option Source) (p : Source) → s ≡ Some p → source (Some (p.line, p.column)) ≡ placed_if (where_of s)
 unfolding placed_if source
-somewhere s line column e = rw e
+somewhere s p e = rw e
 
 -- ---- a verdict, a flag, the end of a detail
 

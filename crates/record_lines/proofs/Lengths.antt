@@ -1,5 +1,5 @@
 -- No record's line is longer than the room that is made for it, 4,096 bytes, however its texts are escaped.
-use Rattle.std.specs.Prelude.{if◌then◌else◌}
+use Rattle.std.specs.Prelude.{if◌then◌else◌, Option, Some, None}
 use mathlib.Core.Path.{ap}
 use mathlib.Core.Bool.{Bool, true, false}
 use mathlib.Core.Logic.{⊎_elim}
@@ -12,18 +12,13 @@ use Rattle.texts.specs.Texts.{Text, text, decimal}
 use Rattle.texts.specs.Places.{all_places}
 use Rattle.texts.proofs.Ordering.{lt_or_ge}
 use Rattle.reasons.proofs.Digits as digits
-use Rattle.records.specs.declared.Rule.{Rule}
-use Rattle.records.specs.declared.Rule.TheVariants.{NoRule, Of}
-use Rattle.records.specs.declared.Where.{Where}
-use Rattle.records.specs.declared.Where.TheVariants.{Nowhere, From}
-use Rattle.records.specs.declared.Change.{Change}
-use Rattle.records.specs.declared.Change.TheVariants.{NoChange, Write}
+use Rattle.records.specs.declared.Source.{Source}
+use Rattle.records.specs.declared.Write.{Write}
 use Rattle.records.specs.declared.Record.{Record}
 use Rattle.engine_spec.specs.Kleene as kleene
 use Rattle.engine_spec.specs.Truth.{truth_name}
 use Rattle.engine_spec.specs.Records.{kind_name, detail}
 use Rattle.engine_refinement.specs.Meaning.{verdict_of, id_at, kind_of, rule_of, where_of, change_of, record_of}
-use Rattle.show.specs.declared.Source.TheVariants.{At}
 use Rattle.show.specs.Lines.{newline, quoted, source}
 use Rattle.show.proofs.Laws as show
 use Rattle.simulate_lines.specs.FileTexts.{texts_of, text_of}
@@ -77,21 +72,21 @@ ends_short d k h =
 -- ---- the parts of a line, over a file f of bytes
 
 module _ (f : List ℕ) (bytes : (i : ℕ) → get_or f i 0 < 256) (x : List ℕ) where
-  rule_short : (r : Rule) → length (quoted_if (rule_of x (texts_of f x) r)) ≤ 512
+  rule_short : (r : Option ℕ) → length (quoted_if (rule_of x (texts_of f x) r)) ≤ 512
   unfolding quoted_if id_at
-  rule_short NoRule = omega arith
-  rule_short (Of i) = quoted_short f bytes x _
+  rule_short None = omega arith
+  rule_short (Some i) = quoted_short f bytes x _
 
-  where_short : (w : Where) → length (placed_if (where_of w)) ≤ 41
+  where_short : (w : Option Source) → length (placed_if (where_of w)) ≤ 41
   unfolding placed_if source
-  where_short Nowhere = omega arith
-  where_short (From l c) = show.length_source (At l c)
+  where_short None = omega arith
+  where_short (Some s) = show.length_source (Some (s.line, s.column))
 
-  change_short : (c : Change) → length (changed (change_of x (texts_of f x) c)) ≤ 1538
+  change_short : (c : Option Write) → length (changed (change_of x (texts_of f x) c)) ≤ 1538
   unfolding changed
-  change_short NoChange = omega arith
-  change_short (Write e b a) = glue (quoted (text_of f x e)) _ 512 1025 (quoted_short f bytes x e)
-      (glue (quoted (text_of f x b)) _ 512 512 (quoted_short f bytes x b) (quoted_short f bytes x a))
+  change_short None = omega arith
+  change_short (Some w) = glue (quoted (text_of f x w.entity)) _ 512 1025 (quoted_short f bytes x w.entity)
+      (glue (quoted (text_of f x w.before)) _ 512 512 (quoted_short f bytes x w.before) (quoted_short f bytes x w.after))
 
   detail_short : (k d : ℕ) → length (quoted (detail (kind_of x (texts_of f x) k d))) ≤ 512
   detail_short k d =

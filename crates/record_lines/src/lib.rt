@@ -15,8 +15,7 @@ ghost use Rattle.simulate_lines.specs.FileTexts.{texts_of, text_of};
 ghost use Rattle.record_lines.specs.RecordWords.{name_of, detail_begins, detail_ends, RecordPut};
 
 use layout::Table;
-use records::{Change, Record, Rule, Where};
-use show::Source;
+use records::{Record, Write};
 use simulate_lines::put_place;
 
 // The names of the kinds 0 to 17, and what their details begin with, each behind its length.
@@ -45,21 +44,21 @@ fn id_place(x: &Table, i: u32) -> u32
     word_at(x, 80 + i as usize * 8)
 }
 
-fn put_rule(out: &mut [u8], n: usize, f: &[u8], x: &Table, rule: Rule) -> usize
+fn put_rule(out: &mut [u8], n: usize, f: &[u8], x: &Table, rule: Option<u32>) -> usize
     ensures { Written (quoted_if (rule_of x.now (texts_of f.now x.now) rule)) out.old n out.new result }
 {
     match rule {
-        Rule::NoRule => show::put_byte(out, n, 45),
-        Rule::Of(i) => put_place(out, n, f, x, id_place(x, i)),
+        None => show::put_byte(out, n, 45),
+        Some(i) => put_place(out, n, f, x, id_place(x, i)),
     }
 }
 
-fn put_where(out: &mut [u8], n: usize, source: Where) -> usize
+fn put_where(out: &mut [u8], n: usize, source: Option<records::Source>) -> usize
     ensures { Written (placed_if (where_of source)) out.old n out.new result }
 {
     match source {
-        Where::Nowhere => show::put_byte(out, n, 45),
-        Where::From { line, column } => show::put_source(out, n, Source::At(line, column)),
+        None => show::put_byte(out, n, 45),
+        Some(place) => show::put_source(out, n, Some((place.line, place.column))),
     }
 }
 
@@ -76,16 +75,12 @@ fn put_write(out: &mut [u8], n: usize, f: &[u8], x: &Table, e: u32, b: u32, a: u
     put_place(out, l, f, x, a)
 }
 
-fn put_change(out: &mut [u8], n: usize, f: &[u8], x: &Table, change: Change) -> usize
+fn put_change(out: &mut [u8], n: usize, f: &[u8], x: &Table, change: Option<Write>) -> usize
     ensures { Written (changed (change_of x.now (texts_of f.now x.now) change)) out.old n out.new result }
 {
     match change {
-        Change::NoChange => show::put(out, n, b"- - -"),
-        Change::Write {
-            entity,
-            before,
-            after,
-        } => put_write(out, n, f, x, entity, before, after),
+        None => show::put(out, n, b"- - -"),
+        Some(w) => put_write(out, n, f, x, w.entity, w.before, w.after),
     }
 }
 
@@ -111,13 +106,11 @@ fn put_begin(out: &mut [u8], n: usize, kind: u32) -> usize
 fn put_verdict(out: &mut [u8], n: usize, number: u32) -> usize
     ensures { Written (truth_name (verdict_of number)) out.old n out.new result }
 {
-    if number == 0 {
-        return show::put(out, n, b"Yes");
+    match number {
+        0 => show::put(out, n, b"Yes"),
+        1 => show::put(out, n, b"No"),
+        _ => show::put(out, n, b"Unknown"),
     }
-    if number == 1 {
-        return show::put(out, n, b"No");
-    }
-    show::put(out, n, b"Unknown")
 }
 
 fn put_flag(out: &mut [u8], n: usize, number: u32) -> usize
@@ -140,19 +133,13 @@ fn put_seconds(out: &mut [u8], n: usize, number: u32) -> usize
 fn put_end(out: &mut [u8], n: usize, kind: u32, number: u32) -> usize
     ensures { Written (detail_ends kind number) out.old n out.new result }
 {
-    if kind < 10 {
-        return n;
+    match kind {
+        0..records::TRIGGER => n,
+        records::TRIGGER | records::CONDITION => put_verdict(out, n, number),
+        records::DELAY => put_seconds(out, n, number),
+        records::TIMEOUT => put_flag(out, n, number),
+        _ => show::put_number(out, n, number as u64),
     }
-    if kind < 12 {
-        return put_verdict(out, n, number);
-    }
-    if kind == 15 {
-        return put_seconds(out, n, number);
-    }
-    if kind == 17 {
-        return put_flag(out, n, number);
-    }
-    show::put_number(out, n, number as u64)
 }
 
 // A record's detail, quoted.
@@ -234,12 +221,10 @@ pub fn print_records(
 ) -> usize
     ensures { Kept out.old n out.new result }
 {
-    let many = bounds::min_usize(count, a.len() / 13);
+    let many = count.min(a.len() / 13);
     let mut m = n;
-    let mut k: usize = 0;
-    while k < many {
+    for k in 0..many {
         m = print_record(out, m, f, x, a, k);
-        k += 1;
     }
     m
 }

@@ -40,12 +40,10 @@ fn named(violated: &Violations, n: usize, target: u64) -> bool
     requires { n ≤ 32 }
     ensures { result ≡ among violated.now n target }
 {
-    let mut k: usize = 0;
-    while k < n {
+    for k in 0..n {
         if violated[k * 8] == target {
             return true;
         }
-        k += 1;
     }
     false
 }
@@ -56,7 +54,7 @@ fn violates(j: Judgement, violated: &Violations, target: u64) -> bool
 {
     let status = j.status;
     if checker_result::is_violation(status) {
-        let n = bounds::min_usize(j.violations, 32);
+        let n = j.violations.min(32);
         return named(violated, n, target);
     }
     false

@@ -6,7 +6,6 @@
 
 ghost use Rattle.replay.specs.Reading.{Within};
 
-use model_walk::Num;
 use std::fs::{File, Files};
 use std::os::fd::AsRawFd;
 
@@ -39,8 +38,7 @@ fn read_model(fd: i32, file: &mut [u8]) -> Next
     if got == 0 {
         return Next::End;
     }
-    let x = model_walk::u32_at(&four[..got], 0);
-    let Num::Is(number, _) = x else {
+    let Some((number, _)) = model_walk::u32_at(&four[..got], 0) else {
         return Next::Broken;
     };
     let size = number as usize;
@@ -73,8 +71,7 @@ fn whole_areas() -> Sizes {
 }
 
 fn number_at(s: &[u8], at: usize) -> u32 {
-    let x = model_walk::u32_at(s, at);
-    let Num::Is(number, _) = x else {
+    let Some((number, _)) = model_walk::u32_at(s, at) else {
         return 0;
     };
     number
@@ -191,12 +188,10 @@ fn print_model(fd: i32, entry: Entry, sized: bool, k: u32) -> bool {
 
 // The models of an open batch. No batch has as many as the loop allows.
 fn print_models(fd: i32, entry: Entry, sized: bool) {
-    let mut k: u32 = 0;
-    while k < 4294967295 {
+    for k in 0..4294967295 {
         if !print_model(fd, entry, sized, k) {
             return;
         }
-        k += 1;
     }
 }
 

@@ -134,8 +134,7 @@ fn visit(
     let alphabet = p.alphabet;
     let pairs = gaps.count * alphabet.count;
     let mut s = o;
-    let mut k: usize = 0;
-    while k < pairs {
+    for k in 0..pairs {
         let next = search_cases::next_events(p, placed, k);
         s = visit(
             file,
@@ -155,7 +154,6 @@ fn visit(
             unknowns,
             incompletes,
         );
-        k += 1;
     }
     s
 }
@@ -187,8 +185,7 @@ fn deepen(
         words: [0u32; 20],
     };
     let mut s = o;
-    let mut d: usize = 0;
-    while d <= depth {
+    for d in 0..depth + 1 {
         s = visit(
             file,
             table,
@@ -207,7 +204,6 @@ fn deepen(
             unknowns,
             incompletes,
         );
-        d += 1;
     }
     s
 }

@@ -164,7 +164,7 @@ pub fn told_of(
     let words = x.words;
     let check = x.check;
     *told = [0u32; layout::VERDICT_REASON_WORDS];
-    let many = bounds::min_usize(o.reasons, layout::VERDICT_REASONS);
+    let many = o.reasons.min(layout::VERDICT_REASONS);
     let reasons = reasons::merge(file, told, 0, w, many);
     let status = status_of(o.found, reasons);
     Searched {

@@ -72,7 +72,7 @@ pub fn planned(file: &[u8], index: Index, cells: Cells, notes: usize) -> Plan
     let alphabet = search_inputs::alphabet_of(file, index);
     let gaps = search_inputs::gaps_of(file, index);
     let horizon = limit(file, index.limits, 0);
-    let cases = bounds::min_u32(limit(file, index.limits, 12), 2000);
+    let cases = limit(file, index.limits, 12).min(2000);
     Plan {
         shared,
         alphabet,
@@ -107,7 +107,7 @@ pub fn spent(f: &[u8], o: Search, w: &mut [u32]) -> Search
     ensures { Spends f.now o w.old result w.new }
 {
     let witness = o.witness;
-    let n = bounds::min_usize(o.reasons, layout::VERDICT_REASONS);
+    let n = o.reasons.min(layout::VERDICT_REASONS);
     let why = engine_fields::by_itself(reasons::SEARCH_SPENT);
     let count = reasons::insert_sorted(f, w, n, why);
     Search {
@@ -130,7 +130,7 @@ pub fn found_case(o: Search, placed: Placed, steps: u32) -> Search
     Search {
         refused: o.refused,
         cases: o.cases + 1,
-        steps: o.steps + bounds::min_u32(steps, 10000),
+        steps: o.steps + steps.min(10000),
         reasons: o.reasons,
         found: true,
         shortest: o.reasons == 0,
@@ -152,11 +152,11 @@ pub fn gather(
     requires { length w.old ≡ 4000 }
     ensures { Gathers f.now n unknown unknowns.now incomplete incompletes.now w.old result w.new }
 {
-    let k = bounds::min_usize(n, layout::VERDICT_REASONS);
-    let many = bounds::min_usize(unknown, layout::VERDICT_REASONS);
+    let k = n.min(layout::VERDICT_REASONS);
+    let many = unknown.min(layout::VERDICT_REASONS);
     let first = reasons::merge(f, w, k, unknowns, many);
-    let j = bounds::min_usize(first, layout::VERDICT_REASONS);
-    let more = bounds::min_usize(incomplete, layout::INCOMPLETE_REASONS);
+    let j = first.min(layout::VERDICT_REASONS);
+    let more = incomplete.min(layout::INCOMPLETE_REASONS);
     reasons::merge(f, w, j, incompletes, more)
 }
 
@@ -169,7 +169,7 @@ pub fn other_case(o: Search, count: usize, steps: u32) -> Search
     Search {
         refused: o.refused,
         cases: o.cases + 1,
-        steps: o.steps + bounds::min_u32(steps, 10000),
+        steps: o.steps + steps.min(10000),
         reasons: count,
         found: o.found,
         shortest: o.shortest,
@@ -206,7 +206,7 @@ pub fn begun(f: &[u8], notes: &SimulationReasons, n: usize, w: &mut [u32]) -> Se
     requires { length w.old ≡ 4000 }
     ensures { Begins f.now n notes.now w.old result w.new }
 {
-    let many = bounds::min_usize(n, layout::SIMULATION_REASONS);
+    let many = n.min(layout::SIMULATION_REASONS);
     let count = reasons::merge(f, w, 0, notes, many);
     Search {
         refused: 0,

@@ -49,10 +49,8 @@ pub fn alphabet_of(s: &[u8], index: Index) -> Alphabet
     let alphabet = index.alphabet;
     let count = bounds::at_most(alphabet.count, 12);
     let mut words = [0u32; 36];
-    let mut k: usize = 0;
-    while k < 36 {
+    for k in 0..36 {
         words[k] = input_word(s, index, k);
-        k += 1;
     }
     Alphabet { count, words }
 }
@@ -79,10 +77,8 @@ pub fn gaps_of(s: &[u8], index: Index) -> Gaps
     let gaps = index.gaps;
     let count = bounds::at_most(gaps.count, 4);
     let mut seconds = [0u32; 4];
-    let mut k: usize = 0;
-    while k < 4 {
+    for k in 0..4 {
         seconds[k] = gap_word(s, index, k);
-        k += 1;
     }
     Gaps { count, seconds }
 }

@@ -4,7 +4,7 @@ use mathlib.Core.List.{[], ◌∷◌, ◌++◌}
 use Rattle.texts.specs.Lists.{all_lists}
 use Rattle.texts.specs.Texts.{text, decimal, all_texts}
 use Rattle.reasons.specs.Reasons.{placed}
-use Rattle.show.specs.declared.Source.TheVariants.{At, Absent}
+use Rattle.std.specs.Prelude.{Some, None}
 use Rattle.show.specs.Lines.{newline, quoted, source, accepted_line, refused_line, model_line, all_lines}
 
 -- a, a quote, a backslash, b
@@ -16,11 +16,11 @@ largest : decimal 18446744073709551615 ≡ text "18446744073709551615"
 unfolding all_texts
 largest = refl
 
-some_source : source (At 7 3) ≡ text "7:3"
+some_source : source (Some (7, 3)) ≡ text "7:3"
 unfolding all_lines all_texts placed
 some_source = refl
 
-no_source : source Absent ≡ text "-"
+no_source : source None ≡ text "-"
 unfolding all_lines
 no_source = refl
 

@@ -18,8 +18,7 @@ use Rattle.texts.proofs.Ordering.{lt_or_ge}
 use Rattle.texts.proofs.Laws as texts
 use Rattle.reasons.specs.Reasons.{placed}
 use Rattle.reasons.proofs.Digits as digits
-use Rattle.show.specs.declared.Source.{Source}
-use Rattle.show.specs.declared.Source.TheVariants.{At, Absent}
+use Rattle.std.specs.Prelude.{Option, Some, None}
 use Rattle.show.specs.Writing.{Written, Kept}
 use Rattle.show.specs.Lines.{
   newline,
@@ -184,11 +183,11 @@ pub number_is : (w : Text) (n : ℕ) → w ++ (32 ∷ (decimal n ++ newline)) �
 unfolding number_line
 number_is w n = refl
 
-pub source_at : (s : Source) (line column : ℕ) → s ≡ At line column → decimal line ++ (58 ∷ decimal column) ≡ source s
+pub source_at : (s : Option (ℕ × ℕ)) (line column : ℕ) → s ≡ Some (line, column) → decimal line ++ (58 ∷ decimal column) ≡ source s
 unfolding source placed
 source_at s line column e = rw e
 
-pub source_absent : (s : Source) → s ≡ Absent → dash ≡ source s
+pub source_absent : (s : Option (ℕ × ℕ)) → s ≡ None → dash ≡ source s
 unfolding source
 source_absent s e = rw e
 
@@ -225,15 +224,15 @@ unfolding quoted
 length_quoted t = omega (arith, length-append (flat escape t) (34 ∷ []), length_escaped t)
 
 -- LINE:COLUMN
-pub length_source : (s : Source) → length (source s) ≤ 41
+pub length_source : (s : Option (ℕ × ℕ)) → length (source s) ≤ 41
 unfolding source placed
-length_source (At line column) = omega (
+length_source (Some (line, column)) = omega (
   arith,
   length-append (decimal line) (58 ∷ decimal column),
   digits.at_most line,
   digits.at_most column,
 )
-length_source Absent = omega arith
+length_source None = omega arith
 
 -- a refusal
 pub length_refused : (n : ℕ) → length (refused_line n) ≤ 29

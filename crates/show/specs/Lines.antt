@@ -1,7 +1,5 @@
 -- What the programs print: parts of lines, then whole lines with their newlines.
-use Rattle.std.specs.Prelude.{ℕ, ◌||◌, List, [], ◌∷◌, ◌++◌, eqb, if◌then◌else◌}
-use Rattle.show.specs.declared.Source.{Source}
-use Rattle.show.specs.declared.Source.TheVariants.{At, Absent}
+use Rattle.std.specs.Prelude.{ℕ, ◌||◌, Option, Some, None, List, [], ◌∷◌, ◌++◌, eqb, if◌then◌else◌}
 use Rattle.texts.specs.Lists.{flat}
 use Rattle.texts.specs.Texts.{Text, text, decimal}
 use Rattle.texts.specs.Places.{text_at}
@@ -23,9 +21,9 @@ abbrev pub dash : Text
 dash = 45 ∷ []
 
 -- LINE:COLUMN, or `-`
-unfoldable pub source : Source → Text
-source (At line column) = placed line column
-source Absent = dash
+unfoldable pub source : Option (ℕ × ℕ) → Text
+source (Some (line, column)) = placed line column
+source None = dash
 
 -- ---- lines
 

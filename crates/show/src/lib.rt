@@ -17,13 +17,6 @@ pub const FULL: usize = 18446744073709551615;
 // No line of the programs is longer, however its texts are escaped, but for those of lint.
 pub const LINE: usize = 4096;
 
-// Where a thing stands in the user's file.
-#[derive(Clone, Copy)]
-pub enum Source {
-    At(u32, u32),
-    Absent,
-}
-
 // ---- parts of lines
 
 pub fn put_byte(out: &mut [u8], n: usize, b: u8) -> usize
@@ -41,10 +34,8 @@ pub fn put(out: &mut [u8], n: usize, t: &[u8]) -> usize
     ensures { Written t.now out.old n out.new result }
 {
     let mut m = n;
-    let mut i: usize = 0;
-    while i < t.len() {
-        m = put_byte(out, m, t[i]);
-        i += 1;
+    for x in t {
+        m = put_byte(out, m, *x);
     }
     m
 }
@@ -80,10 +71,8 @@ pub fn put_quoted(out: &mut [u8], n: usize, t: &[u8]) -> usize
     ensures { Written (quoted t.now) out.old n out.new result }
 {
     let mut m = put_byte(out, n, 34);
-    let mut i: usize = 0;
-    while i < t.len() {
-        m = put_escaped(out, m, t[i]);
-        i += 1;
+    for x in t {
+        m = put_escaped(out, m, *x);
     }
     put_byte(out, m, 34)
 }
@@ -117,10 +106,8 @@ pub fn put_reason(out: &mut [u8], n: usize, f: &[u8], r: Reason) -> usize
 {
     let count = reasons::rendered_len(f, r);
     let mut m = n;
-    let mut i: usize = 0;
-    while i < count {
+    for i in 0..count {
         m = put_byte(out, m, reasons::byte_at(f, r, i));
-        i += 1;
     }
     m
 }
@@ -130,25 +117,23 @@ pub fn put_quoted_reason(out: &mut [u8], n: usize, f: &[u8], r: Reason) -> usize
 {
     let count = reasons::rendered_len(f, r);
     let mut m = put_byte(out, n, 34);
-    let mut i: usize = 0;
-    while i < count {
+    for i in 0..count {
         m = put_escaped(out, m, reasons::byte_at(f, r, i));
-        i += 1;
     }
     put_byte(out, m, 34)
 }
 
-// LINE:COLUMN, or `-`.
-pub fn put_source(out: &mut [u8], n: usize, s: Source) -> usize
+// Where a thing stands in the user's file: LINE:COLUMN, or `-`.
+pub fn put_source(out: &mut [u8], n: usize, s: Option<(u32, u32)>) -> usize
     ensures { Written (source s) out.old n out.new result }
 {
     match s {
-        Source::At(line, column) => {
+        Some((line, column)) => {
             let m = put_number(out, n, line as u64);
             let k = put_byte(out, m, 58);
             put_number(out, k, column as u64)
         }
-        Source::Absent => put_byte(out, n, 45),
+        None => put_byte(out, n, 45),
     }
 }
 

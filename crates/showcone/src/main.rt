@@ -41,15 +41,13 @@ fn put_place(out: &mut [u8], n: usize, f: &[u8], place: u32) -> usize {
 
 // Whether the place is that of an undeclared name in the cone.
 fn stray(r: ConeResult, place: u32) -> bool {
-    let mut j: usize = 0;
-    while j < 64 {
+    for j in 0..64 {
         if r.undeclared <= j {
             return false;
         }
         if r.names[j] == place {
             return true;
         }
-        j += 1;
     }
     false
 }
@@ -93,11 +91,9 @@ fn print_entities(out: &mut [u8], n: usize, f: &[u8], index: Index, r: ConeResul
     let texts = index.texts;
     let count = texts.count;
     let mut m = n;
-    let mut place: u32 = 0;
-    while place < count {
+    for place in 0..count {
         m = show::room(out, m, LINE);
         m = put_entity(out, m, f, entities, r, place);
-        place += 1;
     }
     m
 }
@@ -128,11 +124,9 @@ fn put_automation(
 fn print_automations(out: &mut [u8], n: usize, f: &[u8], index: Index, r: ConeResult) -> usize {
     let rules = index.rules;
     let mut m = n;
-    let mut k: usize = 0;
-    while k < 32 {
+    for k in 0..32 {
         m = show::room(out, m, LINE);
         m = put_automation(out, m, f, rules, r, k);
-        k += 1;
     }
     m
 }

@@ -97,18 +97,16 @@ fn put_text_line(out: &mut [u8], n: usize, word: &[u8], t: &[u8]) -> usize
 fn put_halted(out: &mut [u8], n: usize, why: u32) -> usize
     ensures { Written (incomplete_lines (halted why)) out.old n out.new result }
 {
-    if why == 0 {
-        return n;
-    }
-    if why == 1 {
-        return put_text_line(
+    match why {
+        0 => n,
+        1 => put_text_line(
             out,
             n,
             b"sim-incomplete",
             b"trace or queue budget exhausted",
-        );
+        ),
+        _ => put_text_line(out, n, b"sim-incomplete", b"step budget exhausted"),
     }
-    put_text_line(out, n, b"sim-incomplete", b"step budget exhausted")
 }
 
 // By the number of its halt, and whether runs were left.
@@ -186,12 +184,10 @@ pub fn print_reasons(
 ) -> usize
     ensures { Kept out.old n out.new result }
 {
-    let many = bounds::min_usize(count, a.len() / 5);
+    let many = count.min(a.len() / 5);
     let mut m = n;
-    let mut i: usize = 0;
-    while i < many {
+    for i in 0..many {
         m = print_reason(out, m, word, f, a, i);
-        i += 1;
     }
     m
 }
@@ -210,10 +206,8 @@ pub fn print_finals(out: &mut [u8], n: usize, f: &[u8], x: &Table, values: &[u32
 {
     let many = bounds::at_most(x[layout::ENTITY_COUNT], 32);
     let mut m = n;
-    let mut e: usize = 0;
-    while e < many {
+    for e in 0..many {
         m = print_final(out, m, f, x, e, values[e]);
-        e += 1;
     }
     m
 }

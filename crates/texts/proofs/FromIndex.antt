@@ -10,7 +10,7 @@ use lib.Seq.{drop-cons}
 use lib.Dec.{ltb, leb}
 use borrow.Author.Tests.{lt-ltb, le-ltb, le-leb, lt-leb, eq-eqb, ne_eqb}
 use Rattle.texts.specs.Texts.{Text, eq_t, lt_t, order_t}
-use Rattle.texts.specs.declared.Order.TheVariants.{Less, Same, Greater}
+use Rattle.std.specs.declared.cmp.Ordering.TheVariants.{Less, Equal, Greater}
 
 -- ---- the tests
 
@@ -70,7 +70,7 @@ module _ (x y : List ℕ) (i : ℕ) where
 -- ---- the order by cases
 
 module _ (a b : Text) (i : ℕ) where
-  pub ends : length a ≤ i → length b ≤ i → order_t (drop i a) (drop i b) ≡ Same
+  pub ends : length a ≤ i → length b ≤ i → order_t (drop i a) (drop i b) ≡ Equal
   unfolding order_t eq_t
   ends h k = rw (drop_of_length-le a h, drop_of_length-le b k)
 

@@ -1,15 +1,16 @@
 -- Laws of texts in a file: by position, by place, and byte by byte.
 use mathlib.Core.Path.{◌≡◌, refl, sym, ap, ◌∙◌}
 use mathlib.Core.List.{List, [], ◌∷◌, ◌++◌}
-use Prim.Native.Nat.{ℕ, zero, suc, ◌+◌, ◌-◌, ◌≤◌, ◌<◌}
+use Prim.Native.Nat.{ℕ, zero, suc, ◌+◌, ◌-◌, ◌≤◌, ◌<◌, min}
 use native.Mathlib.Nat.{sub-zero}
 use native.Mathlib.Numerals.{sub-one}
 use native.Mathlib.Omega.{arith}
-use lib.ListN.{length, get_or, drop, length-take, length-drop, drop_of_length-le, get_or-eq_default}
-use lib.Seq.{get_or-take, get_or-drop, take_all, take-nil}
+use lib.ListN.{length, get_or, length-take, length-drop, drop_of_length-le, get_or-eq_default}
+use lib.Seq.{get_or-take, get_or-drop, take-nil}
 use Rattle.texts.specs.Texts.{Text}
 use Rattle.texts.specs.Places.{text_at, start_from, texts_from, seek}
-use Rattle.texts.specs.declared.Seek.TheVariants.{Here, Left}
+use Rattle.std.specs.Prelude.{Result, Ok, Err, MatchResult}
+use Rattle.std.specs.Result.{result_unwrap_or}
 
 -- a position past the end has a zero length byte
 pub past : (f : List ℕ) (at : ℕ) → length f ≤ at → 0 ≡ get_or f at 0
@@ -54,15 +55,9 @@ module _ (f : List ℕ) (at : ℕ) where
   unfolding text_at
   text_length h = simp (length-take, length-drop) (omega arith)
 
-  pub length_whole : (n : ℕ) → n ≡ get_or f at 0 → at < length f → n < length f - at - 1 → n ≡ length (text_at f at)
-  length_whole n e h k = e ∙ sym (text_length (omega arith))
-
-  pub length_cut : (n : ℕ) → n ≡ get_or f at 0 → at < length f → length f - at - 1 ≤ n →
-      length f - at - 1 ≡ length (text_at f at)
+  pub length_min : (n : ℕ) → n ≡ get_or f at 0 → at < length f → min n (length f - at - 1) ≡ length (text_at f at)
   unfolding text_at
-  length_cut n e h k =
-      let l : length (drop (at + 1) f) ≡ length f - at - 1 = length-drop (at + 1) f ∙ omega arith in
-      rw (← e, take_all n (drop (at + 1) f) (omega arith)) (sym l)
+  length_min n e h = simp (length-take, length-drop) (omega (arith, e))
 
   pub length_fits : length (text_at f at) ≤ length f - (at + 1)
   unfolding text_at
@@ -81,40 +76,40 @@ module _ (f : List ℕ) (at : ℕ) where
 
 -- ---- seeking
 
-pub seek_in : (t : Text) (i b : ℕ) → i < length t → b ≡ get_or t i 0 → Here b ≡ seek t i
+pub seek_in : (t : Text) (i b : ℕ) → i < length t → b ≡ get_or t i 0 → Ok b ≡ seek t i
 unfolding seek
 seek_in [] i b h e = absurd (omega arith)
-seek_in (x ∷ t) zero b h e = ap Here e
+seek_in (x ∷ t) zero b h e = ap Ok e
 seek_in (x ∷ t) (suc i) b h e = seek_in t i b (omega arith) e
 
-pub seek_past : (t : Text) (i j : ℕ) → length t ≤ i → j ≡ i - length t → Left j ≡ seek t i
+pub seek_past : (t : Text) (i j : ℕ) → length t ≤ i → j ≡ i - length t → Err j ≡ seek t i
 unfolding seek
-seek_past [] i j h e = ap Left (e ∙ sub-zero i)
+seek_past [] i j h e = ap Err (e ∙ sub-zero i)
 seek_past (x ∷ t) zero j h e = absurd (omega arith)
 seek_past (x ∷ t) (suc i) j h e = seek_past t i j (omega arith) (e ∙ omega arith)
 
 -- a byte of the first of two texts, or what is left is sought in the second
-pub seek_here : (t u : Text) (i b : ℕ) → Here b ≡ seek t i → Here b ≡ seek (t ++ u) i
+pub seek_here : (t u : Text) (i b : ℕ) → Ok b ≡ seek t i → Ok b ≡ seek (t ++ u) i
 unfolding seek
 seek_here [] u i b e = absurd (let z : ◌≡◌ {A = ℕ} 0 1 = cc in omega arith)
 seek_here (x ∷ t) u zero b e = e
 seek_here (x ∷ t) u (suc i) b e = seek_here t u i b e
 
-pub seek_left : (t u : Text) (i j : ℕ) → Left j ≡ seek t i → seek u j ≡ seek (t ++ u) i
+pub seek_left : (t u : Text) (i j : ℕ) → Err j ≡ seek t i → seek u j ≡ seek (t ++ u) i
 unfolding seek
 seek_left [] u i j e = ap (seek u) (let z : j ≡ i = cc in z)
 seek_left (x ∷ t) u zero j e = absurd (let z : ◌≡◌ {A = ℕ} 0 1 = cc in omega arith)
 seek_left (x ∷ t) u (suc i) j e = seek_left t u i j e
 
--- the byte sought
-pub got : (t : Text) (i b : ℕ) → Here b ≡ seek t i → b ≡ get_or t i 0
-unfolding seek
-got [] i b e = absurd (let z : ◌≡◌ {A = ℕ} 0 1 = cc in omega arith)
-got (x ∷ t) zero b e = cc
-got (x ∷ t) (suc i) b e = got t i b e
+-- the same of `or_else`: P is what its closure ensures of what is left
+pub seek_or : (t u : Text) (i : ℕ) {P : ℕ → Type 0} (s r : Result ℕ ℕ) → s ≡ seek t i → MatchResult s (λ b. r ≡ Ok b) P →
+    ((j : ℕ) → P j → r ≡ seek u j) → r ≡ seek (t ++ u) i
+seek_or t u i (Ok b) r e h f = h ∙ seek_here t u i b e
+seek_or t u i (Err j) r e h f = f j h ∙ seek_left t u i j e
 
-pub none : (t : Text) (i j : ℕ) → Left j ≡ seek t i → 0 ≡ get_or t i 0
+-- the byte sought, or 0
+pub got_or : (t : Text) (i : ℕ) → result_unwrap_or (seek t i) 0 ≡ get_or t i 0
 unfolding seek
-none [] i j e = refl
-none (x ∷ t) zero j e = absurd (let z : ◌≡◌ {A = ℕ} 0 1 = cc in omega arith)
-none (x ∷ t) (suc i) j e = none t i j e
+got_or [] i = refl
+got_or (x ∷ t) zero = refl
+got_or (x ∷ t) (suc i) = got_or t i

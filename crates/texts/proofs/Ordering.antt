@@ -1,5 +1,6 @@
 -- The order of texts: it is total, and its tests say what they should.
 use Rattle.std.specs.Prelude.{if◌then◌else◌}
+use Rattle.std.specs.Ordering as order
 use mathlib.Core.Path.{◌≡◌, refl, sym, ◌∙◌}
 use mathlib.Core.Bool.{Bool, true, false}
 use mathlib.Core.Logic.{◌⊎◌, inl, inr}
@@ -9,7 +10,7 @@ use native.Mathlib.Omega.{arith}
 use lib.Dec.{ltb}
 use borrow.Author.Tests.{lt-ltb, le-ltb, eq-eqb, ne_eqb, ltb-true, ltb-false}
 use Rattle.texts.specs.Texts.{Text, eq_t, lt_t, order_t}
-use Rattle.texts.specs.declared.Order.TheVariants.{Less, Same, Greater}
+use Rattle.std.specs.declared.cmp.Ordering.TheVariants.{Less, Equal, Greater}
 
 pub lt_or_ge : (a b : ℕ) → (a < b) ⊎ (b ≤ a)
 lt_or_ge a b = go (ltb a b) refl
@@ -122,11 +123,11 @@ lt_is s t h = go (three s t)
 -- ---- what the answer of a comparison says
 
 module _ (s t : Text) where
-  pub is_same : Same ≡ order_t s t → eq_t s t ≡ true
+  pub is_same : Equal ≡ order_t s t → eq_t s t ≡ true
   unfolding order_t
   is_same = go (eq_t s t) (lt_t s t)
     where
-      go : (e l : Bool) → Same ≡ (if e then Same else if l then Less else Greater) → e ≡ true
+      go : (e l : Bool) → Equal ≡ (if e then Equal else if l then Less else Greater) → e ≡ true
       go true l p = refl
       go false true p = cc
       go false false p = cc
@@ -135,7 +136,7 @@ module _ (s t : Text) where
   unfolding order_t
   is_less = go (eq_t s t) (lt_t s t)
     where
-      go : (e l : Bool) → Less ≡ (if e then Same else if l then Less else Greater) → (e ≡ false) × (l ≡ true)
+      go : (e l : Bool) → Less ≡ (if e then Equal else if l then Less else Greater) → (e ≡ false) × (l ≡ true)
       go true l p = (cc, cc)
       go false true p = (refl, refl)
       go false false p = (cc, cc)
@@ -144,7 +145,16 @@ module _ (s t : Text) where
   unfolding order_t
   is_greater = go (eq_t s t) (lt_t s t)
     where
-      go : (e l : Bool) → Greater ≡ (if e then Same else if l then Less else Greater) → (e ≡ false) × (l ≡ false)
+      go : (e l : Bool) → Greater ≡ (if e then Equal else if l then Less else Greater) → (e ≡ false) × (l ≡ false)
       go true l p = (cc, cc)
       go false true p = (cc, cc)
       go false false p = (refl, refl)
+
+  pub equal_is : order.is_eq (order_t s t) ≡ eq_t s t
+  unfolding order_t
+  equal_is = go (eq_t s t) (lt_t s t)
+    where
+      go : (e l : Bool) → order.is_eq (if e then Equal else if l then Less else Greater) ≡ e
+      go true l = refl
+      go false true = refl
+      go false false = refl

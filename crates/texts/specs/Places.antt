@@ -1,7 +1,5 @@
 -- Texts in a file, by position and by place: a length byte, and as many bytes.
-use Rattle.std.specs.Prelude.{ℕ, zero, suc, ◌+◌, List, [], ◌∷◌, get_or, take, drop}
-use Rattle.texts.specs.declared.Seek.{Seek}
-use Rattle.texts.specs.declared.Seek.TheVariants.{Here, Left}
+use Rattle.std.specs.Prelude.{ℕ, zero, suc, ◌+◌, List, [], ◌∷◌, Result, Ok, Err, get_or, take, drop}
 use Rattle.texts.specs.Texts.{Text}
 
 -- the text whose length byte stands at a position; no text past the end
@@ -19,9 +17,9 @@ texts_from f at zero = []
 texts_from f at (suc n) = text_at f at ∷ texts_from f (at + 1 + get_or f at 0) n
 
 -- the byte at an index of a text, or how far past its end the index is
-unfoldable pub seek : Text → ℕ → Seek
-seek [] i = Left i
-seek (x ∷ t) zero = Here x
+unfoldable pub seek : Text → ℕ → Result ℕ ℕ
+seek [] i = Err i
+seek (x ∷ t) zero = Ok x
 seek (x ∷ t) (suc i) = seek t i
 
 -- opens the file, for proofs by computation

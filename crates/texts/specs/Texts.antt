@@ -2,8 +2,8 @@
 use Rattle.std.specs.Prelude.{ℕ, zero, suc, ◌+◌, ◌/◌, ◌%◌, Bool, true, false, ◌&&◌, ◌||◌, List, [], ◌∷◌, ltb, eqb, if◌then◌else◌}
 use Prim.Native.Char.{code}
 use Prim.Native.String.{String}
-use Rattle.texts.specs.declared.Order.{Order}
-use Rattle.texts.specs.declared.Order.TheVariants.{Less, Same, Greater}
+use Rattle.std.specs.declared.cmp.Ordering.{Ordering}
+use Rattle.std.specs.declared.cmp.Ordering.TheVariants.{Less, Equal, Greater}
 use Rattle.texts.specs.Lists.{any}
 
 -- a text: its bytes
@@ -30,8 +30,8 @@ lt_t (a ∷ s) [] = false
 lt_t (a ∷ s) (b ∷ t) = ltb a b || eqb a b && lt_t s t
 
 -- how s stands to t
-unfoldable pub order_t : Text → Text → Order
-order_t s t = if eq_t s t then Same else if lt_t s t then Less else Greater
+unfoldable pub order_t : Text → Text → Ordering
+order_t s t = if eq_t s t then Equal else if lt_t s t then Less else Greater
 
 -- t is one of the texts
 unfoldable pub mem_t : Text → List Text → Bool

@@ -4,36 +4,18 @@
 ghost use Rattle.std.specs.Prelude.{◌≡◌, ◌≤◌, ◌<◌, length, get_or};
 ghost use Rattle.texts.specs.Places.{text_at, start_from, seek};
 
-// How a text stands to another.
-#[derive(Clone, Copy)]
-pub enum Order {
-    Less,
-    Same,
-    Greater,
-}
-
-// The byte at an index, or how far the index is past the end.
-#[derive(Clone, Copy)]
-pub enum Seek {
-    Here(u8),
-    Left(usize),
-}
-
 pub fn byte(s: &[u8], at: usize) -> u32
     requires { at < length s.now }
     ensures { (result ≡ get_or s.now at 0) × (result < 256) }
 {
-    s[at] as u32
+    u32::from(s[at])
 }
 
 // The length byte at a position, 0 past the end.
 pub fn length_byte(f: &[u8], at: usize) -> usize
     ensures { (result ≡ get_or f.now at 0) × (result < 256) }
 {
-    if at < f.len() {
-        return byte(f, at) as usize;
-    }
-    0
+    f.get(at).map_or(0, |b| usize::from(*b))
 }
 
 // The position of the text at a place, where the text at place 0 stands at `from`.
@@ -42,10 +24,8 @@ pub fn text_start(f: &[u8], from: usize, place: u32) -> usize
     ensures { result ≡ start_from f.now from place }
 {
     let mut at = from;
-    let mut left = place;
-    while 0 < left {
+    for _ in 0..place {
         at = at + 1 + length_byte(f, at);
-        left -= 1;
     }
     at
 }
@@ -56,20 +36,16 @@ pub fn text_len(f: &[u8], at: usize) -> usize
     if f.len() <= at {
         return 0;
     }
-    let n = length_byte(f, at);
-    let rest = f.len() - at - 1;
-    if n < rest {
-        return n;
-    }
-    rest
+    length_byte(f, at).min(f.len() - at - 1)
 }
 
-pub fn text_seek(f: &[u8], at: usize, i: usize) -> Seek
+// The byte at an index of the text at a position, or how far the index is past the text's end.
+pub fn text_seek(f: &[u8], at: usize, i: usize) -> Result<u8, usize>
     ensures { result ≡ seek (text_at f.now at) i }
 {
     let n = text_len(f, at);
     if i < n {
-        return Seek::Here(f[at + 1 + i]);
+        return Ok(f[at + 1 + i]);
     }
-    Seek::Left(i - n)
+    Err(i - n)
 }

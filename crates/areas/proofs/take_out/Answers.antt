@@ -8,5 +8,5 @@ use Rattle.areas.proofs.take_out.Goals as goal
 pub returns : goal.returns
 returns c =
     let a = c.args in c.clear.ensures
-    ∙ ap (λ l. cleared l (a.end - a.size) a.size) c.shift_down.ensures
+    ∙ ap (λ l. cleared l (a.end - a.size) a.size) c.copy_within.ensures.after
     ∙ lists.close_is a.a.now a.at a.size a.end (search rules) (search rules)

@@ -6,6 +6,3 @@ use Rattle.c_encoding.proofs.put_words.Given as goal
 
 abbrev pub invariant-loop-k : goal.invariant-loop-k
 invariant-loop-k l = (l.k ≤ length l.w) × ((length l.out ≡ length l.initial.out) × (l.out ≡ paste l.initial.out l.at l.w l.k))
-
-abbrev pub decreases-loop-k : goal.decreases-loop-k
-decreases-loop-k l = length l.w - l.k

@@ -1,21 +1,22 @@
+use borrow.Author.Rules.{rules}
 use Rattle.show.proofs.Laws as show
 use Rattle.check_lines.proofs.Laws as laws
 use Rattle.check_lines.proofs.put_message.Goals as goal
 
-pub returns-then-failure-eq1 : goal.returns-then-failure-eq1
-returns-then-failure-eq1 c =
-    show.is (laws.prohibited _ _ c.if-failure-eq1.true)
+pub returns-in-1 : goal.returns-in-1
+returns-in-1 c =
+    show.is (laws.prohibited _ _ c.in-1.is)
     c.put_quoted.ensures
 
-pub returns-then-failure-eq2 : goal.returns-then-failure-eq2
-returns-then-failure-eq2 c =
-    show.is (laws.guarded _ _ c.if-failure-eq2.true)
-    c.put_quoted-then-failure-eq2.ensures
+pub returns-in-2 : goal.returns-in-2
+returns-in-2 c =
+    show.is (laws.guarded _ _ c.in-2.is)
+    c.put_quoted-in-2.ensures
 
-pub returns-then-failure-eq3 : goal.returns-then-failure-eq3
-returns-then-failure-eq3 c =
-    show.is (laws.forbidden _ _ c.if-failure-eq3.true)
-    c.put_quoted-then-failure-eq3.ensures
+pub returns-in-3 : goal.returns-in-3
+returns-in-3 c =
+    show.is (laws.forbidden _ _ c.in-3.is)
+    c.put_quoted-in-3.ensures
 
-pub returns : goal.returns
-returns c = show.is (laws.late _ _ c.if-failure-eq1.false c.if-failure-eq2.false c.if-failure-eq3.false) c.put_deadline.ensures
+pub returns-in_default : goal.returns-in_default
+returns-in_default c = show.is (laws.late _ _ (search rules) (search rules) (search rules)) c.put_deadline.ensures

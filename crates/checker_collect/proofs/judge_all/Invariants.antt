@@ -6,6 +6,3 @@ use Rattle.checker_collect.proofs.judge_all.Given as goal
 
 abbrev pub invariant-loop-k : goal.invariant-loop-k
 invariant-loop-k s = (s.k ≤ s.many) × Changes (λ (l : List Record). first_m s.f s.x s.starts s.cells l s.k) s.k (s.k * 2) s.k s.f s.a s.n s.initial.t s.t s.initial.v s.v s.initial.u s.u s.initial.w s.w
-
-abbrev pub decreases-loop-k : goal.decreases-loop-k
-decreases-loop-k l = l.many - l.k

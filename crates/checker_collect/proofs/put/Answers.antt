@@ -1,26 +1,8 @@
-use borrow.Author.Rules.{rules}
-use mathlib.Core.Path.{refl, ◌∙◌}
-use Prim.Native.Nat.{◌-◌}
-use native.Mathlib.Omega.{arith}
-use lib.ListN.{length-set}
-use lib.Seq.{paste-zero}
-use Rattle.areas.proofs.Lists as lists
+use Rattle.std.proofs.lemmas.List.{drop-drop}
+use native.Mathlib.Nat.{add-sub_cancel_left}
+use Rattle.areas.specs.Areas.{written}
 use Rattle.checker_collect.proofs.put.Goals as goal
 
-pub loop-k-init : goal.loop-k-init
-loop-k-init c = (search rules, (refl, paste-zero c.args.v.now c.args.at c.args.w.now))
-
-pub loop-k-preserved : goal.loop-k-preserved
-loop-k-preserved c =
-    let a = c.args in let l = c.loop-k in (
-      search rules,
-      (
-        simp length-set l.invariant.1.0,
-        rw l.invariant.1.1 (lists.put_one a.v.now a.w.now a.at l.k (omega arith) (search rules)),
-      ),
-    )
-
 pub returns : goal.returns
-returns c =
-    let a = c.args in let l = c.loop-k in
-    l.invariant.1.1 ∙ lists.put_all a.v.now a.w.now a.at l.k (omega arith)
+unfolding written
+returns c = rw (add-sub_cancel_left, c.copy_from_slice.ensures.after, drop-drop)

@@ -1,4 +1,5 @@
-use mathlib.Core.Path.{sym, ◌∙◌}
+use mathlib.Core.Path.{◌≡◌, sym, ◌∙◌}
+use native.Mathlib.Omega.{arith}
 use Prim.Native.Nat.{◌-◌}
 use Rattle.cone_close.proofs.Laws as laws
 use Rattle.cone_close.proofs.first.Goals as goal
@@ -15,4 +16,5 @@ pub loop-i-preserved : goal.loop-i-preserved
 loop-i-preserved c = c.loop-i.invariant ∙ laws.first_later _ _ _ _ c.loop-i-test.true c.adds.ensures c.if-adds.false
 
 pub returns : goal.returns
-returns c = sym (c.loop-i.invariant ∙ laws.first_end _ _ _ _ c.loop-i-test.false)
+returns c =
+    let e : c.args.count ≡ c.loop-i.i = omega arith in e ∙ sym (c.loop-i.invariant ∙ laws.first_end _ _ _ _ c.loop-i-test.false)

@@ -5,6 +5,3 @@ use Rattle.cone_close.proofs.first.Given as goal
 
 abbrev pub invariant-loop-i : goal.invariant-loop-i
 invariant-loop-i l = first_m l.writes l.c l.count 0 ≡ first_m l.writes l.c (l.count - l.i) l.i
-
-abbrev pub decreases-loop-i : goal.decreases-loop-i
-decreases-loop-i l = l.count - l.i

@@ -13,6 +13,3 @@ invariant-loop-i l =
     (writes_each_m l.s l.entities l.rules ≡ fill_m (λ k. writes_m l.s l.entities (walk_m l.s (get_or l.rules.starts k 0))) (l.n - l.i) l.i l.writes)
     × (needs_each_m l.s l.entities l.rules ≡ fill_m (λ k. needs_m l.s l.entities (get_or l.rules.starts k 0)
     (walk_m l.s (get_or l.rules.starts k 0))) (l.n - l.i) l.i l.needs)
-
-abbrev pub decreases-loop-i : goal.decreases-loop-i
-decreases-loop-i l = l.n - l.i

@@ -5,6 +5,3 @@ use Rattle.cone_names.proofs.names_in.Given as goal
 
 abbrev pub invariant-loop-place : goal.invariant-loop-place
 invariant-loop-place l = names_m l.u l.automations l.texts ≡ from_m l.u l.automations (l.texts - l.place) l.place l.n
-
-abbrev pub decreases-loop-place : goal.decreases-loop-place
-decreases-loop-place l = l.texts - l.place

@@ -5,6 +5,3 @@ use Rattle.cone_names.proofs.wanted.Given as goal
 
 abbrev pub invariant-loop-j : goal.invariant-loop-j
 invariant-loop-j l = wanted_m l.u l.automations l.place ≡ some_m l.u l.automations l.place (64 - l.j) l.j
-
-abbrev pub decreases-loop-j : goal.decreases-loop-j
-decreases-loop-j l = 64 - l.j

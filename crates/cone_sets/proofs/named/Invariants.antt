@@ -8,6 +8,3 @@ abbrev pub invariant-loop-k : goal.invariant-loop-k
 invariant-loop-k l =
     named_m l.s (section_by l.entities l.many) l.invariants ≡ over (add_named_m l.s (section_by l.entities l.many)) l.invariants.starts
     (l.count - l.k) l.k l.set
-
-abbrev pub decreases-loop-k : goal.decreases-loop-k
-decreases-loop-k l = l.count - l.k

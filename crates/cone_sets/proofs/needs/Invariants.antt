@@ -9,6 +9,3 @@ abbrev pub invariant-loop-k : goal.invariant-loop-k
 invariant-loop-k l =
     needs_m l.s (section_by l.entities l.many) l.at (walk_by l.list l.count)
     ≡ over (add_toggle_m l.s (section_by l.entities l.many)) l.list (l.count - l.k) l.k l.set
-
-abbrev pub decreases-loop-k : goal.decreases-loop-k
-decreases-loop-k l = l.count - l.k

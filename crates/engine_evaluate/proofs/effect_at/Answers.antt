@@ -1,67 +1,41 @@
-use borrow.Author.Tests.{eq-eqb, ne_eqb}
+use borrow.Author.Rules.{rules}
+use borrow.Author.Tests.{ne_eqb}
 use Rattle.engine_evaluate.specs.Actions.{effect_m}
 use Rattle.engine_evaluate.proofs.effect_at.Goals as goal
 
-pub returns-then-kind-eq0 : goal.returns-then-kind-eq0
+pub returns-in-0 : goal.returns-in-0
 unfolding effect_m
-returns-then-kind-eq0 c = rw (eq-eqb _ _ c.if-kind-eq0.true, ← c.two_at.ensures.0, ← c.two_at-then-kind-eq0.ensures.0)
+returns-in-0 c = rw (c.in-0.is, ← c.two_at.ensures.0, ← c.two_at-in-0.ensures.0)
 
-pub returns-then-kind-eq1 : goal.returns-then-kind-eq1
+pub returns-in-1 : goal.returns-in-1
 unfolding effect_m
-returns-then-kind-eq1 c = rw (ne_eqb _ _ c.if-kind-eq0.false, eq-eqb _ _ c.if-kind-eq1.true, ← c.two_at-then-kind-eq1.ensures.0)
+returns-in-1 c = rw (c.in-1.is, ← c.two_at-in-1.ensures.0)
 
-pub returns-then-kind-eq2 : goal.returns-then-kind-eq2
+pub returns-in-2 : goal.returns-in-2
 unfolding effect_m
-returns-then-kind-eq2 c =
+returns-in-2 c = rw (c.in-2.is, ← c.four_at.ensures)
+
+pub returns-in-3 : goal.returns-in-3
+unfolding effect_m
+returns-in-3 c = rw c.in-3.is
+
+pub returns-in-4 : goal.returns-in-4
+unfolding effect_m
+returns-in-4 c = rw c.in-4.is
+
+pub returns-in-5 : goal.returns-in-5
+unfolding effect_m
+returns-in-5 c = rw c.in-5.is
+
+pub returns-in_default : goal.returns-in_default
+unfolding effect_m
+returns-in_default c =
     rw (
-      ne_eqb _ _ c.if-kind-eq0.false,
-      ne_eqb _ _ c.if-kind-eq1.false,
-      eq-eqb _ _ c.if-kind-eq2.true,
-      ← c.four_at.ensures,
-    )
-
-pub returns-then-kind-eq3 : goal.returns-then-kind-eq3
-unfolding effect_m
-returns-then-kind-eq3 c =
-    rw (
-      ne_eqb _ _ c.if-kind-eq0.false,
-      ne_eqb _ _ c.if-kind-eq1.false,
-      ne_eqb _ _ c.if-kind-eq2.false,
-      eq-eqb _ _ c.if-kind-eq3.true,
-    )
-
-pub returns-then-kind-eq4 : goal.returns-then-kind-eq4
-unfolding effect_m
-returns-then-kind-eq4 c =
-    rw (
-      ne_eqb _ _ c.if-kind-eq0.false,
-      ne_eqb _ _ c.if-kind-eq1.false,
-      ne_eqb _ _ c.if-kind-eq2.false,
-      ne_eqb _ _ c.if-kind-eq3.false,
-      eq-eqb _ _ c.if-kind-eq4.true,
-    )
-
-pub returns-then-kind-eq5 : goal.returns-then-kind-eq5
-unfolding effect_m
-returns-then-kind-eq5 c =
-    rw (
-      ne_eqb _ _ c.if-kind-eq0.false,
-      ne_eqb _ _ c.if-kind-eq1.false,
-      ne_eqb _ _ c.if-kind-eq2.false,
-      ne_eqb _ _ c.if-kind-eq3.false,
-      ne_eqb _ _ c.if-kind-eq4.false,
-      eq-eqb _ _ c.if-kind-eq5.true,
-    )
-
-pub returns : goal.returns
-unfolding effect_m
-returns c =
-    rw (
-      ne_eqb _ _ c.if-kind-eq0.false,
-      ne_eqb _ _ c.if-kind-eq1.false,
-      ne_eqb _ _ c.if-kind-eq2.false,
-      ne_eqb _ _ c.if-kind-eq3.false,
-      ne_eqb _ _ c.if-kind-eq4.false,
-      ne_eqb _ _ c.if-kind-eq5.false,
-      ← c.two_at-2.ensures.0,
+      ne_eqb c.args.kind 0 (search rules),
+      ne_eqb c.args.kind 1 (search rules),
+      ne_eqb c.args.kind 2 (search rules),
+      ne_eqb c.args.kind 3 (search rules),
+      ne_eqb c.args.kind 4 (search rules),
+      ne_eqb c.args.kind 5 (search rules),
+      ← c.two_at-in_default.ensures.0,
     )

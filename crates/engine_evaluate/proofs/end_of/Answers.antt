@@ -1,8 +1,8 @@
 use Rattle.engine_evaluate.proofs.Laws as laws
 use Rattle.engine_evaluate.proofs.end_of.Goals as goal
 
-pub returns-in-To : goal.returns-in-To
-returns-in-To c = laws.end_to _ _ _ _ _ c.in-To.is c.capped.ensures
+pub returns-in-Some : goal.returns-in-Some
+returns-in-Some c = laws.end_to _ _ _ _ _ c.in-Some.is c.capped.ensures
 
-pub returns-in-Broken : goal.returns-in-Broken
-returns-in-Broken c = laws.end_broken _ _ c.in-Broken.is
+pub returns-in-None : goal.returns-in-None
+returns-in-None c = laws.end_broken _ _ c.in-None.is

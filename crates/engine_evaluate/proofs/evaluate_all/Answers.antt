@@ -1,14 +1,18 @@
+use native.Mathlib.Nat.{sub-zero, sub-add-eq}
+use native.Mathlib.Omega.{arith}
+use Prim.Native.Nat.{◌-◌}
 use mathlib.Core.Path.{sym, ◌∙◌}
 use Rattle.engine_evaluate.proofs.Laws as laws
 use Rattle.engine_evaluate.proofs.evaluate_all.Goals as goal
 
-pub loop-left-init : goal.loop-left-init
-loop-left-init c = laws.all_start _ _ _ _ _ _ _ c.two_at-left.ensures.0 c.after-p.ensures
+pub loop-init : goal.loop-init
+loop-init c =
+    rw sub-zero (laws.all_start _ _ _ _ _ _ _ c.two_at-count.ensures.0 c.after-p.ensures)
 
-pub loop-left-preserved : goal.loop-left-preserved
-loop-left-preserved c =
-    c.loop-left.invariant ∙ laws.all_more _ _ _ _ _ _ _ _ _ _ _ c.loop-left-test.true c.evaluate.ensures
-    c.both-t.ensures c.predicate_size.ensures c.after-p-in-loop-left.ensures
+pub loop-preserved : goal.loop-preserved
+loop-preserved c =
+    rw sub-add-eq (c.loop.invariant ∙ laws.all_more _ _ _ _ _ _ _ _ _ _ _ (omega arith) c.evaluate.ensures
+    c.both-t.ensures c.predicate_size.ensures c.after-p-in-loop.ensures)
 
 pub returns : goal.returns
-returns c = sym (c.loop-left.invariant ∙ laws.all_end _ _ _ _ _ _ _ c.loop-left-test.false)
+returns c = sym (c.loop.invariant ∙ laws.all_end _ _ _ _ _ _ _ (omega arith))

@@ -5,6 +5,3 @@ use Rattle.engine_fields.proofs.entity_of.Given as goal
 
 abbrev pub invariant-loop-e : goal.invariant-loop-e
 invariant-loop-e l = (entity_of l.x l.id ≡ entity_from l.x l.id (l.n - l.e) l.e) × (l.e ≤ l.n)
-
-abbrev pub decreases-loop-e : goal.decreases-loop-e
-decreases-loop-e l = l.n - l.e

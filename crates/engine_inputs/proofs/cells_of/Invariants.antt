@@ -8,6 +8,3 @@ abbrev pub invariant-loop-e : goal.invariant-loop-e
 invariant-loop-e l =
     ((j : ℕ) → j < l.e → get_or l.values j 0 ≡ value_from l.s l.starts l.count j)
     × ((length l.values ≡ 32) × (l.e ≤ 32))
-
-abbrev pub decreases-loop-e : goal.decreases-loop-e
-decreases-loop-e l = 32 - l.e

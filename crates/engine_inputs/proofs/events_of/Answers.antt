@@ -17,8 +17,8 @@ loop-k-init c = (
   ),
 )
 
-pub overflow_mul-n : goal.overflow_mul-n
-overflow_mul-n c = omega (arith, c.at_most-n.ensures.1)
+pub overflow_mul-k-end : goal.overflow_mul-k-end
+overflow_mul-k-end c = omega (arith, c.at_most-n.ensures.1)
 
 pub event_word-requires : goal.event_word-requires
 event_word-requires c = omega (arith, c.at_most-n.ensures.1, c.loop-k-test.true)

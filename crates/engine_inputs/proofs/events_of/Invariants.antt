@@ -9,6 +9,3 @@ abbrev pub invariant-loop-k : goal.invariant-loop-k
 invariant-loop-k l =
     ((j : ℕ) → j < l.k → get_or l.words j 0 ≡ event_from l.s l.starts j)
     × ((length l.words ≡ event_word_count) × ((l.k ≤ l.n * 4) × ((j : ℕ) → l.k ≤ j → get_or l.words j 0 ≡ 0)))
-
-abbrev pub decreases-loop-k : goal.decreases-loop-k
-decreases-loop-k l = l.n * 4 - l.k

@@ -16,7 +16,7 @@ returns-then-st-eq0 c =
 
 pub returns-in_default : goal.returns-in_default
 returns-in_default c =
-    states.moves (λ v n s. laws.never c.args.st _ _ _ c.take-t.ensures (search rules) (omega (arith, c.requires))
+    states.moves (λ v n s. laws.never c.args.st _ _ _ c.take.ensures (search rules) (omega (arith, c.requires))
     (omega (arith, c.if-st-eq0.false)) _ c.in_default.is (omega (arith, c.requires)) (omega (arith, c.requires))
     (omega (arith, c.requires)))
 
@@ -61,7 +61,7 @@ process-requires c = (
 pub returns : goal.returns
 unfolding turn_m turn_with_m
 returns c =
-    states.moves (λ v n s. laws.with_taken (turn_with_m _ _) c.take-t.ensures c.in-One.is
-    (states.follow (process_m _ _ _) (laws.taken _ _ _ _ c.take-t.ensures (search rules) (omega (arith, c.requires))
-    (omega (arith, c.if-st-eq0.false)) _ _ c.in-One.is c.at_second-s.ensures) (c.process.ensures.does v n s)
+    states.moves (λ v n s. laws.with_taken (turn_with_m _ _) c.take.ensures c.in-Some.is
+    (states.follow (process_m _ _ _) (laws.taken _ _ _ _ c.take.ensures (search rules) (omega (arith, c.requires))
+    (omega (arith, c.if-st-eq0.false)) _ _ c.in-Some.is c.at_second-s.ensures) (c.process.ensures.does v n s)
     both two two two))

@@ -6,7 +6,7 @@ pub returns-in_default : goal.returns-in_default
 returns-in_default c =
     record {
       is =
-          sym (laws.note_is _ _ _ _ ∙ laws.by_broken _ _ _ _ _ c.u16_at-x.ensures
+          sym (laws.note_is _ _ _ _ ∙ laws.by_broken _ _ _ _ _ c.u16_at.ensures
           c.in_default.is);
       clean = λ t k. k;
     }
@@ -14,7 +14,7 @@ returns-in_default c =
 pub returns : goal.returns
 returns c =
     record {
-      is = sym (laws.note_is _ _ _ _ ∙ laws.by_is _ _ _ _ _ c.u16_at-x.ensures c.in-Is.is
+      is = sym (laws.note_is _ _ _ _ ∙ laws.by_is _ _ _ _ _ c.u16_at.ensures c.in-Some.is
           ∙ laws.add_put _ _ _ _ _ c.add_note-k.ensures.is);
       clean = c.add_note-k.ensures.clean;
     }

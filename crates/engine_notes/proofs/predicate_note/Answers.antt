@@ -9,7 +9,7 @@ returns-in_default c =
     record {
       is =
           sym (laws.predicate_is _ _ _ _
-          ∙ laws.by_broken _ _ _ _ _ c.u8_at-x.ensures c.in_default.is);
+          ∙ laws.by_broken _ _ _ _ _ c.u8_at.ensures c.in_default.is);
       clean = λ t k. k;
     }
 
@@ -19,7 +19,7 @@ returns-then-kind-eq1 c =
       is =
           c.note_at.ensures.is
           ∙ sym (laws.predicate_is _ _ _ _
-          ∙ laws.by_is _ _ _ _ _ c.u8_at-x.ensures c.in-Is.is
+          ∙ laws.by_is _ _ _ _ _ c.u8_at.ensures c.in-Some.is
           ∙ laws.yes_list _ _ _ _ _ (eq-eqb _ _ c.if-kind-eq1.true));
       clean = c.note_at.ensures.clean;
     }
@@ -33,8 +33,8 @@ returns c =
       is =
           laws.skip_size _ _ _ _ c.skip-q.ensures c.predicate_size.ensures
           ∙ sym (laws.predicate_is _ _ _ _
-          ∙ laws.by_is _ _ _ _ _ c.u8_at-x.ensures
-          c.in-Is.is
+          ∙ laws.by_is _ _ _ _ _ c.u8_at.ensures
+          c.in-Some.is
           ∙ laws.no_list _ _ _ _ _ (ne_eqb _ _ c.if-kind-eq1.false));
       clean = λ t k. k;
     }

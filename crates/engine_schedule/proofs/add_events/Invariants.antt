@@ -5,6 +5,3 @@ use Rattle.engine_schedule.proofs.add_events.Given as goal
 
 abbrev pub invariant-loop-i : goal.invariant-loop-i
 invariant-loop-i l = Does (add_events_m l.events l.i) l.initial.s l.s (goes l.initial.q l.q) kept kept still × (l.i ≤ l.count)
-
-abbrev pub decreases-loop-i : goal.decreases-loop-i
-decreases-loop-i l = l.count - l.i

@@ -18,14 +18,6 @@ expiry-s-requires c = (
   omega (arith, c.loop-e.invariant.0.queue),
 )
 
-pub overflow_add-e : goal.overflow_add-e
-overflow_add-e c =
-    omega (
-      arith,
-      c.loop-e-test.true,
-      c.at_most-n.ensures,
-    )
-
 pub loop-e-preserved : goal.loop-e-preserved
 loop-e-preserved c = (
   states.moves

@@ -7,6 +7,3 @@ abbrev pub invariant-loop-e : goal.invariant-loop-e
 invariant-loop-e l =
     Moves (expiries_m l.x l.e) l.initial.s l.s (goes l.initial.q l.q) kept kept still kept (goes l.versions l.versions)
     kept × (l.e ≤ l.n)
-
-abbrev pub decreases-loop-e : goal.decreases-loop-e
-decreases-loop-e l = l.n - l.e

@@ -1,15 +1,16 @@
-use borrow.Author.Tests.{eq-eqb, ne_eqb}
+use borrow.Author.Rules.{rules}
+use borrow.Author.Tests.{ne_eqb}
 use Rattle.engine_schedule.specs.Events.{event_m}
 use Rattle.engine_schedule.proofs.event_work.Goals as goal
 
-pub returns-then-kind-eq0 : goal.returns-then-kind-eq0
+pub returns-in-0 : goal.returns-in-0
 unfolding event_m
-returns-then-kind-eq0 c = rw (eq-eqb _ _ c.if-kind-eq0.true)
+returns-in-0 c = rw c.in-0.is
 
-pub returns-then-kind-eq1 : goal.returns-then-kind-eq1
+pub returns-in-1 : goal.returns-in-1
 unfolding event_m
-returns-then-kind-eq1 c = rw (ne_eqb _ _ c.if-kind-eq0.false, eq-eqb _ _ c.if-kind-eq1.true)
+returns-in-1 c = rw c.in-1.is
 
-pub returns : goal.returns
+pub returns-in_default : goal.returns-in_default
 unfolding event_m
-returns c = rw (ne_eqb _ _ c.if-kind-eq0.false, ne_eqb _ _ c.if-kind-eq1.false)
+returns-in_default c = rw (ne_eqb c.args.kind 0 (search rules), ne_eqb c.args.kind 1 (search rules))

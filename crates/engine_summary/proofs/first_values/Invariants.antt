@@ -4,6 +4,3 @@ use Rattle.engine_summary.proofs.first_values.Given as goal
 
 abbrev pub invariant-loop-e : goal.invariant-loop-e
 invariant-loop-e l = Firsts l.values l.e l.places × ((l.e ≤ l.n) × (l.n ≤ 32))
-
-abbrev pub decreases-loop-e : goal.decreases-loop-e
-decreases-loop-e l = l.n - l.e

@@ -1,6 +1,6 @@
 use mathlib.Core.Path.{◌∙◌}
 use native.Mathlib.Omega.{arith}
-use Prim.Native.Nat.{ℕ, ◌-◌}
+use Prim.Native.Nat.{ℕ}
 use lib.ListN.{length-replicate, length-set}
 use Rattle.engine_table.proofs.Laws as laws
 use Rattle.engine_table.specs.Table.{head_word}

@@ -1,36 +1,37 @@
+use borrow.Author.Rules.{rules}
 use mathlib.Core.Path.{sym, ap, ◌∙◌}
 use Rattle.engine_table.proofs.Laws as laws
 use Rattle.engine_table.proofs.rule_word.Goals as goal
 
-pub returns-then-k-eq-ID : goal.returns-then-k-eq-ID
-returns-then-k-eq-ID c = c.two_at.ensures.0 ∙ sym (laws.word_0 _ _ _ _ c.if-k-eq-ID.true)
+pub returns-in-0 : goal.returns-in-0
+returns-in-0 c = c.two_at.ensures.0 ∙ sym (laws.word_0 _ _ _ _ c.in-0.is)
 
-pub returns-then-k-eq-MODE : goal.returns-then-k-eq-MODE
-returns-then-k-eq-MODE c = c.byte_at.ensures.0 ∙ sym (laws.word_1 _ _ _ _ c.if-k-eq-MODE.true)
+pub returns-in-1 : goal.returns-in-1
+returns-in-1 c = c.byte_at.ensures.0 ∙ sym (laws.word_1 _ _ _ _ c.in-1.is)
 
-pub returns-then-k-eq-MAX : goal.returns-then-k-eq-MAX
-returns-then-k-eq-MAX c = c.four_at.ensures ∙ sym (laws.word_2 _ _ _ _ c.if-k-eq-MAX.true)
+pub returns-in-2 : goal.returns-in-2
+returns-in-2 c = c.four_at.ensures ∙ sym (laws.word_2 _ _ _ _ c.in-2.is)
 
-pub returns-then-k-eq-TRIGGERS : goal.returns-then-k-eq-TRIGGERS
-returns-then-k-eq-TRIGGERS c = c.capped.ensures ∙ sym (laws.word_3 _ _ _ _ c.if-k-eq-TRIGGERS.true)
+pub returns-in-3 : goal.returns-in-3
+returns-in-3 c = c.capped.ensures ∙ sym (laws.word_3 _ _ _ _ c.in-3.is)
 
-pub returns-then-k-eq-CONDITIONS : goal.returns-then-k-eq-CONDITIONS
-returns-then-k-eq-CONDITIONS c =
-    c.capped-then-k-eq-CONDITIONS.ensures ∙ ap Rattle.engine_fields.specs.Fields.cap c.conditions_at.ensures.0
-    ∙ sym (laws.word_4 _ _ _ _ c.if-k-eq-CONDITIONS.true)
+pub returns-in-4 : goal.returns-in-4
+returns-in-4 c =
+    c.capped-in-4.ensures ∙ ap Rattle.engine_fields.specs.Fields.cap c.conditions_at.ensures.0
+    ∙ sym (laws.word_4 _ _ _ _ c.in-4.is)
 
-pub returns-then-k-eq-ACTIONS : goal.returns-then-k-eq-ACTIONS
-returns-then-k-eq-ACTIONS c =
-    c.capped-then-k-eq-ACTIONS.ensures ∙ ap Rattle.engine_fields.specs.Fields.cap c.actions_at.ensures
-    ∙ sym (laws.word_5 _ _ _ _ c.if-k-eq-ACTIONS.true)
+pub returns-in-5 : goal.returns-in-5
+returns-in-5 c =
+    c.capped-in-5.ensures ∙ ap Rattle.engine_fields.specs.Fields.cap c.actions_at.ensures
+    ∙ sym (laws.word_5 _ _ _ _ c.in-5.is)
 
-pub returns-then-k-eq-SOURCE : goal.returns-then-k-eq-SOURCE
-returns-then-k-eq-SOURCE c =
-    c.capped-then-k-eq-SOURCE.ensures ∙ ap Rattle.engine_fields.specs.Fields.cap c.source_at.ensures
-    ∙ sym (laws.word_6 _ _ _ _ c.if-k-eq-SOURCE.true)
+pub returns-in-6 : goal.returns-in-6
+returns-in-6 c =
+    c.capped-in-6.ensures ∙ ap Rattle.engine_fields.specs.Fields.cap c.source_at.ensures
+    ∙ sym (laws.word_6 _ _ _ _ c.in-6.is)
 
-pub returns : goal.returns
-returns c =
+pub returns-in_default : goal.returns-in_default
+returns-in_default c =
     c.notes_word.ensures
-    ∙ sym (laws.word_else _ _ _ _ c.if-k-eq-ID.false c.if-k-eq-MODE.false c.if-k-eq-MAX.false c.if-k-eq-TRIGGERS.false c.if-k-eq-CONDITIONS.false
-    c.if-k-eq-ACTIONS.false c.if-k-eq-SOURCE.false)
+    ∙ sym (laws.word_else _ _ _ _ (search rules) (search rules) (search rules) (search rules) (search rules)
+    (search rules) (search rules))

@@ -1,6 +1,5 @@
 use mathlib.Core.Path.{◌∙◌}
 use native.Mathlib.Omega.{arith}
-use Prim.Native.Nat.{◌-◌}
 use lib.ListN.{length-set}
 use Rattle.engine_table.proofs.Laws as laws
 use Rattle.engine_table.proofs.table_of.Goals as goal
@@ -8,11 +7,11 @@ use Rattle.engine_table.proofs.table_of.Goals as goal
 pub loop-k-init : goal.loop-k-init
 loop-k-init c = (λ j h. laws.so_low _ _ _ _ _ j h, (c.headed-words.ensures.long, (omega arith, omega arith)))
 
-pub overflow_mul-n : goal.overflow_mul-n
-overflow_mul-n c = omega (arith, c.at_most-n.ensures.1)
+pub overflow_mul-k-end : goal.overflow_mul-k-end
+overflow_mul-k-end c = omega (arith, c.at_most-n.ensures.1)
 
-pub overflow_add-n : goal.overflow_add-n
-overflow_add-n c = omega (arith, c.at_most-n.ensures.1)
+pub overflow_add-k-end : goal.overflow_add-k-end
+overflow_add-k-end c = omega (arith, c.at_most-n.ensures.1)
 
 pub part_word-requires : goal.part_word-requires
 part_word-requires c = (c.loop-k.invariant.1.1.0, omega (arith, c.at_most-n.ensures.1, c.loop-k-test.true))

@@ -1,4 +1,3 @@
-use borrow.Author.Rules.{rules}
 use mathlib.Core.Path.{◌≡◌}
 use Prim.Native.Nat.{ℕ, ◌+◌, ◌-◌, ◌*◌, ◌≤◌, ◌<◌}
 use lib.ListN.{length, get_or}
@@ -9,6 +8,3 @@ abbrev pub invariant-loop-k : goal.invariant-loop-k
 invariant-loop-k l =
     ((j : ℕ) → j < l.k → get_or l.words j 0 ≡ laws.so_far l.count l.s l.names l.rules l.initial.words j)
     × ((length l.words ≡ 336) × ((16 ≤ l.k) × (l.k ≤ 80 + l.n * 8)))
-
-abbrev pub decreases-loop-k : goal.decreases-loop-k
-decreases-loop-k l = 80 + l.n * 8 - l.k

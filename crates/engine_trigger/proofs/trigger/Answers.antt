@@ -26,9 +26,6 @@ offer-s-requires c = (
   ),
 )
 
-pub overflow_add-i : goal.overflow_add-i
-overflow_add-i c = omega (arith, c.loop-i-test.true, c.at_most-n.ensures)
-
 pub loop-i-preserved : goal.loop-i-preserved
 loop-i-preserved c = (
   wholes.named (wholes.next c.loop-i.invariant.0 c.offer-s.ensures both both both both both none both)

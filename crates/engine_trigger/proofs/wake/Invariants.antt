@@ -8,6 +8,3 @@ abbrev pub invariant-loop-k : goal.invariant-loop-k
 invariant-loop-k l =
     Does (wake_first_m l.f l.m l.k) l.initial.s l.s (goes l.initial.q l.q) kept (goes l.initial.r l.r) still
     × ((l.k ≤ l.n) × (l.s.live_runs ≡ l.n))
-
-abbrev pub decreases-loop-k : goal.decreases-loop-k
-decreases-loop-k l = l.n - l.k

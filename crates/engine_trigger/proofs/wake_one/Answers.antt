@@ -35,7 +35,7 @@ returns-then-matches c = (
       (states.follow (now_m _) (laws.replaced _ _ _ c.requires.1.1 (search rules) _ _ _ c.put_run.ensures
       c.with_phase-going.ensures c.requires.0) (c.next_step.ensures.does _ _ _) two none one none)
       (λ k. laws.wake_yes _ _ _ _ _ _ _ (ap (λ z. z.phase) c.run_at-run.ensures ∙ sym c.phase_at-phase.ensures
-      ∙ c.in-Waiting.is) c.matches.ensures c.if-matches.true))),
+      ∙ c.in-Some.is) c.matches.ensures c.if-matches.true))),
   c.next_step.ensures.runs,
 )
 
@@ -43,7 +43,7 @@ pub returns : goal.returns
 unfolding wake_one_m
 returns c = (
   states.moves (λ v n s. laws.with_run (wake_run_m _ _ _) refl c.requires.0
-      (states.stay (λ k. laws.wake_no _ _ _ _ _ _ _ (sym c.phase_at-phase.ensures ∙ c.in-Waiting.is)
+      (states.stay (λ k. laws.wake_no _ _ _ _ _ _ _ (sym c.phase_at-phase.ensures ∙ c.in-Some.is)
       c.matches.ensures c.if-matches.false) (same c.requires.1.0) none (same c.requires.1.1) none)),
   refl,
 )

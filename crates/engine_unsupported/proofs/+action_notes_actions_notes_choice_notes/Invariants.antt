@@ -16,19 +16,13 @@ decreases-actions_notes l = l.left + l.left + l.left
 abbrev pub decreases-choice_notes : goal.decreases-choice_notes
 decreases-choice_notes l = l.left + l.left + l.left + 1
 
-abbrev pub invariant-actions_notes-loop-i : goal.invariant-actions_notes-loop-i
-invariant-actions_notes-loop-i l =
+abbrev pub invariant-actions_notes-loop : goal.invariant-actions_notes-loop
+invariant-actions_notes-loop l =
     ((length l.u ≡ length l.initial.u) × (HasText l.f → Clean l.f l.n l.initial.u → Clean l.f l.k l.u))
-    × (actions_m l.left l.f l.at (listed l.f l.n l.initial.u) ≡ times_m l.i (action_m (actions_m (l.left - 1))) l.f l.p (listed l.f l.k l.u))
+    × (actions_m l.left l.f l.at (listed l.f l.n l.initial.u) ≡ times_m (l.count - l.counter) (action_m (actions_m (l.left - 1))) l.f l.p (listed l.f l.k l.u))
 
-abbrev pub decreases-actions_notes-loop-i : goal.decreases-actions_notes-loop-i
-decreases-actions_notes-loop-i l = l.i
-
-abbrev pub invariant-choice_notes-loop-i : goal.invariant-choice_notes-loop-i
-invariant-choice_notes-loop-i l =
+abbrev pub invariant-choice_notes-loop : goal.invariant-choice_notes-loop
+invariant-choice_notes-loop l =
     ((length l.u ≡ length l.initial.u) × (HasText l.f → Clean l.f l.n l.initial.u → Clean l.f l.k l.u))
-    × (choice_m (actions_m l.left) l.f l.at (listed l.f l.n l.initial.u) ≡ (times_m l.i (branch_m (actions_m l.left)) ⨾ actions_m l.left) l.f l.p
+    × (choice_m (actions_m l.left) l.f l.at (listed l.f l.n l.initial.u) ≡ (times_m (l.count - l.counter) (branch_m (actions_m l.left)) ⨾ actions_m l.left) l.f l.p
     (listed l.f l.k l.u))
-
-abbrev pub decreases-choice_notes-loop-i : goal.decreases-choice_notes-loop-i
-decreases-choice_notes-loop-i l = l.i

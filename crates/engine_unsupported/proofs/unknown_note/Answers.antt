@@ -8,7 +8,7 @@ pub returns-in_default : goal.returns-in_default
 returns-in_default c =
     record {
       is = sym (laws.unknown_is _ _ _ _ _
-          ∙ notes.by_broken _ _ _ _ _ c.u16_at-x.ensures c.in_default.is);
+          ∙ notes.by_broken _ _ _ _ _ c.u16_at.ensures c.in_default.is);
       clean = λ t k. k;
     }
 
@@ -18,7 +18,7 @@ put-k-requires c = (search rules, laws.source_readable _ _ _ c.source_note-r.ens
 pub returns : goal.returns
 returns c =
     record {
-      is = sym (laws.unknown_is _ _ _ _ _ ∙ notes.by_is _ _ _ _ _ c.u16_at-x.ensures c.in-Is.is
+      is = sym (laws.unknown_is _ _ _ _ _ ∙ notes.by_is _ _ _ _ _ c.u16_at.ensures c.in-Some.is
           ∙ laws.source_put _ _ _ _ _ _ c.source_note-r.ensures c.put-k.ensures.is);
       clean = c.put-k.ensures.clean;
     }

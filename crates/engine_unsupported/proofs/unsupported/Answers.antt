@@ -1,7 +1,6 @@
 use borrow.Author.Rules.{rules}
 use mathlib.Core.Path.{refl, sym, ◌∙◌}
 use Rattle.engine_unsupported.proofs.Laws as laws
-use Prim.Native.Nat.{◌-◌}
 use Rattle.reasons.proofs.Listing as listing
 use Rattle.reasons.proofs.Cleaning.{clean_zeros}
 use Rattle.engine_unsupported.proofs.unsupported.Goals as goal

@@ -1,4 +1,3 @@
-use borrow.Author.Rules.{rules}
 use mathlib.Core.Path.{◌≡◌}
 use lib.ListN.{length}
 use Prim.Native.Nat.{◌-◌, ◌≤◌}
@@ -11,6 +10,3 @@ abbrev pub invariant-loop-i : goal.invariant-loop-i
 invariant-loop-i l =
     ((length l.u ≡ length l.initial.u) × ((l.rules ≤ 32) × (HasText l.f → Clean l.f l.k l.u)))
     × (unsupported_m l.f l.x ≡ rules_m l.f l.x (l.rules - l.i) l.i (listed l.f l.k l.u))
-
-abbrev pub decreases-loop-i : goal.decreases-loop-i
-decreases-loop-i l = l.rules - l.i

@@ -7,6 +7,3 @@ abbrev pub invariant-loop-k : goal.invariant-loop-k
 invariant-loop-k l =
     over (add_write_m l.s (section_by l.entities l.many)) l.list l.count 0 0
     ≡ over (add_write_m l.s (section_by l.entities l.many)) l.list (l.count - l.k) l.k l.set
-
-abbrev pub decreases-loop-k : goal.decreases-loop-k
-decreases-loop-k l = l.count - l.k

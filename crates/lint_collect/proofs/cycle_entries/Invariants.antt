@@ -15,6 +15,3 @@ invariant-loop-i l =
     (board l.initial.findings k l.initial.out) ≡ pushes (items_numbers_m
     (λ k. finding (cycle_m l.s (section_of l.entities l.given.entities) (section_of l.rules l.given.rules)
     (get_or l.found.sets k 0)) ∷ []) (l.count - l.i) l.i) (board l.findings k l.out)) × (length l.findings ≡ length l.initial.findings)
-
-abbrev pub decreases-loop-i : goal.decreases-loop-i
-decreases-loop-i l = l.count - l.i

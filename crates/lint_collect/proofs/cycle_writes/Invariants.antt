@@ -1,7 +1,6 @@
-use borrow.Author.Rules.{rules}
+use Rattle.model_walk.specs.Walk.{Walked}
 use mathlib.Core.Path.{◌≡◌}
 use Prim.Native.Nat.{◌-◌}
-use Rattle.model_walk.specs.declared.Walked.{Walked}
 use Rattle.lint_collect.specs.Collect.{cycle_writes_from, cycle_writes_m}
 use Rattle.lint_collect.proofs.cycle_writes.Given as goal
 
@@ -11,6 +10,3 @@ invariant-loop-i l =
     cycle_writes_m l.s (record { count = l.many; starts = l.entities; end = z }) (record { count = l.count; starts = l.rules; end = y })
     l.set ≡ cycle_writes_from l.s (record { count = l.many; starts = l.entities; end = z })
     (record { count = l.count; starts = l.rules; end = y }) l.set (l.count - l.i) l.i l.writes
-
-abbrev pub decreases-loop-i : goal.decreases-loop-i
-decreases-loop-i l = l.count - l.i

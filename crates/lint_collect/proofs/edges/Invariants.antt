@@ -11,6 +11,3 @@ abbrev pub invariant-loop-i : goal.invariant-loop-i
 invariant-loop-i l =
     edges_m l.s l.star (section_of l.rules l.extent) ≡ fill_m (λ i. row_m l.s l.star (section_of l.rules l.extent) (walk_m l.s (get_or l.rules i 0)))
     (l.count - l.i) l.i l.start
-
-abbrev pub decreases-loop-i : goal.decreases-loop-i
-decreases-loop-i l = l.count - l.i

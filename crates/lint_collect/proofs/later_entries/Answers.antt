@@ -6,8 +6,8 @@ use Rattle.lint_findings.proofs.Laws as items
 use Rattle.lint_collect.proofs.Laws as laws
 use Rattle.lint_collect.proofs.later_entries.Goals as goal
 
-pub returns-then-count-j : goal.returns-then-count-j
-returns-then-count-j c = λ k. sym (laws.later_none _ _ _ _ _ c.if-count-j.true)
+pub returns-then-count-from : goal.returns-then-count-from
+returns-then-count-from c = λ k. sym (laws.later_none _ _ _ _ _ c.if-count-from.true)
 
 pub loop-j-init : goal.loop-j-init
 loop-j-init c = ((λ k. refl), refl)

@@ -14,9 +14,6 @@ abbrev pub invariant-loop-j : goal.invariant-loop-j
 invariant-loop-j l =
     ((k : List ℕ) →
     pushes (items_numbers_m (pair_at l.s (names_by l.entities l.invariants l.given) (section_of l.rules l.given.rules) l.i (walk_by l.list l.m))
-    (l.count - l.initial.j) l.initial.j) (board l.initial.findings k l.initial.out) ≡ pushes
+    (l.count - l.from) l.from) (board l.initial.findings k l.initial.out) ≡ pushes
     (items_numbers_m (pair_at l.s (names_by l.entities l.invariants l.given) (section_of l.rules l.given.rules) l.i (walk_by l.list l.m))
     (l.count - l.j) l.j) (board l.findings k l.out)) × (length l.findings ≡ length l.initial.findings)
-
-abbrev pub decreases-loop-j : goal.decreases-loop-j
-decreases-loop-j l = l.count - l.j

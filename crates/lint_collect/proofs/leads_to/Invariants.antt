@@ -9,6 +9,3 @@ abbrev pub invariant-loop-k : goal.invariant-loop-k
 invariant-loop-k l =
     leads_to_m l.s l.star (walk_by l.list l.count) l.at
     ≡ any_list_m (action_leads_m l.s l.star l.at) l.list (l.count - l.k) l.k
-
-abbrev pub decreases-loop-k : goal.decreases-loop-k
-decreases-loop-k l = l.count - l.k

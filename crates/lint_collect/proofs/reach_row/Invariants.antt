@@ -11,6 +11,3 @@ abbrev pub invariant-loop-j : goal.invariant-loop-j
 invariant-loop-j l =
     fill_m (λ j. leads_to_m l.s l.star (walk_by l.list l.count) (get_or l.rules j 0)) (l.n - 0) 0 (replicate 32 false)
     ≡ fill_m (λ j. leads_to_m l.s l.star (walk_by l.list l.count) (get_or l.rules j 0)) (l.n - l.j) l.j l.row
-
-abbrev pub decreases-loop-j : goal.decreases-loop-j
-decreases-loop-j l = l.n - l.j

@@ -15,6 +15,3 @@ invariant-loop-i l =
     (rule_at l.s (names_by l.entities l.invariants l.given) (section_of l.rules l.given.rules)) (l.count - l.i) l.i)
     (board l.findings l.interactions l.out)) × ((length l.findings ≡ length l.initial.findings)
     × (length l.interactions ≡ length l.initial.interactions))
-
-abbrev pub decreases-loop-i : goal.decreases-loop-i
-decreases-loop-i l = l.count - l.i

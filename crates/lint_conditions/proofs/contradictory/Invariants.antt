@@ -3,8 +3,5 @@ use Prim.Native.Nat.{◌-◌}
 use Rattle.lint_conditions.specs.Conditions.{contradictory_from, contradictory_m}
 use Rattle.lint_conditions.proofs.contradictory.Given as goal
 
-abbrev pub invariant-loop-left : goal.invariant-loop-left
-invariant-loop-left l = contradictory_m l.s l.at ≡ contradictory_from l.s l.left l.p
-
-abbrev pub decreases-loop-left : goal.decreases-loop-left
-decreases-loop-left l = l.left
+abbrev pub invariant-loop-i : goal.invariant-loop-i
+invariant-loop-i l = contradictory_m l.s l.at ≡ contradictory_from l.s (l.count - l.i) l.p

@@ -8,6 +8,3 @@ use Rattle.lint_conditions.proofs.delays.Given as goal
 
 abbrev pub invariant-loop-k : goal.invariant-loop-k
 invariant-loop-k l = delays_m l.s (walk_by l.list l.count) ≡ any_list_m (λ p. eqb (kind_m l.s p) 2) l.list (l.count - l.k) l.k
-
-abbrev pub decreases-loop-k : goal.decreases-loop-k
-decreases-loop-k l = l.count - l.k

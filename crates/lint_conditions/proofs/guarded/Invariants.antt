@@ -7,6 +7,3 @@ abbrev pub invariant-loop-k : goal.invariant-loop-k
 invariant-loop-k l =
     any_list_m (guard_m l.s l.x l.v) l.invariants l.count 0
     ≡ any_list_m (guard_m l.s l.x l.v) l.invariants (l.count - l.k) l.k
-
-abbrev pub decreases-loop-k : goal.decreases-loop-k
-decreases-loop-k l = l.count - l.k

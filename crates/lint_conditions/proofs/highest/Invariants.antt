@@ -1,6 +1,6 @@
+use Rattle.model_walk.specs.Walk.{Walked}
 use mathlib.Core.Path.{◌≡◌}
 use Prim.Native.Nat.{◌-◌}
-use Rattle.model_walk.specs.declared.Walked.{Walked}
 use Rattle.lint_conditions.specs.Conditions.{highest_from, highest_m}
 use Rattle.lint_conditions.proofs.highest.Given as goal
 
@@ -9,6 +9,3 @@ invariant-loop-k l =
     (z : Walked) →
     highest_m l.s (record { count = l.count; starts = l.entities; end = z }) l.set
     ≡ highest_from l.s (record { count = l.count; starts = l.entities; end = z }) l.set (l.count - l.k) l.k l.best
-
-abbrev pub decreases-loop-k : goal.decreases-loop-k
-decreases-loop-k l = l.count - l.k

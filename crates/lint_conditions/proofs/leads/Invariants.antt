@@ -4,8 +4,5 @@ use Rattle.lint_conditions.specs.Conditions.{any_m, sets_off_m, leads_m}
 use Rattle.lint_walk.specs.Raw.{past}
 use Rattle.lint_conditions.proofs.leads.Given as goal
 
-abbrev pub invariant-loop-left : goal.invariant-loop-left
-invariant-loop-left l = leads_m l.s l.star l.x l.v l.at ≡ any_m (sets_off_m l.s l.star l.x l.v) (λ q. past l.s q 16) l.left l.p
-
-abbrev pub decreases-loop-left : goal.decreases-loop-left
-decreases-loop-left l = l.left
+abbrev pub invariant-loop : goal.invariant-loop
+invariant-loop l = leads_m l.s l.star l.x l.v l.at ≡ any_m (sets_off_m l.s l.star l.x l.v) (λ q. past l.s q 16) (l.count - l.counter) l.p

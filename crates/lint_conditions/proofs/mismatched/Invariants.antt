@@ -4,8 +4,5 @@ use Rattle.lint_conditions.specs.Conditions.{all_m, mismatch_m, mismatched_m}
 use Rattle.lint_walk.specs.Raw.{past}
 use Rattle.lint_conditions.proofs.mismatched.Given as goal
 
-abbrev pub invariant-loop-left : goal.invariant-loop-left
-invariant-loop-left l = mismatched_m l.s l.at ≡ all_m (mismatch_m l.s l.conditions) (λ q. past l.s q 16) l.left l.p
-
-abbrev pub decreases-loop-left : goal.decreases-loop-left
-decreases-loop-left l = l.left
+abbrev pub invariant-loop : goal.invariant-loop
+invariant-loop l = mismatched_m l.s l.at ≡ all_m (mismatch_m l.s l.conditions) (λ q. past l.s q 16) (l.count - l.counter) l.p

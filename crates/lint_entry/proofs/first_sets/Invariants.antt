@@ -7,6 +7,3 @@ use Rattle.lint_entry.proofs.first_sets.Given as goal
 
 abbrev pub invariant-loop-i : goal.invariant-loop-i
 invariant-loop-i l = first_m l.sets l.n ≡ fill_m (λ i. get_or l.sets i 0) (l.n - l.i) l.i l.list
-
-abbrev pub decreases-loop-i : goal.decreases-loop-i
-decreases-loop-i l = l.n - l.i

@@ -1,13 +1,11 @@
-use borrow.Author.Rules.{rules}
+use Rattle.model_walk.specs.Walk.{Walked}
 use mathlib.Core.Path.{◌≡◌}
 use Prim.Native.Nat.{◌-◌}
-use Rattle.model_walk.specs.declared.Walked.{Walked}
 use lib.ListN.{get_or}
 use Rattle.lint_collect.specs.Collect.{fill_m}
 use Rattle.lint_walk.specs.Walks.{walk_m}
 use Rattle.lint_access.specs.Sets.{reads_m, writes_m}
 use Rattle.lint_entry.specs.Promises.{read_sets, write_sets}
-use Rattle.lint_entry.proofs.rule_sets.Reads as reads
 use Rattle.lint_entry.proofs.rule_sets.Given as goal
 
 abbrev pub invariant-loop-i : goal.invariant-loop-i
@@ -19,6 +17,3 @@ invariant-loop-i l =
     × (write_sets l.s (record { count = l.many; starts = l.entities; end = z }) (record { count = l.n; starts = l.rules; end = y })
     ≡ fill_m (λ k. writes_m l.s (record { count = l.many; starts = l.entities; end = z }) (walk_m l.s (get_or l.rules k 0))) (l.n - l.i)
     l.i l.writes)
-
-abbrev pub decreases-loop-i : goal.decreases-loop-i
-decreases-loop-i l = l.n - l.i

@@ -12,6 +12,3 @@ invariant-loop-k l =
     ((i : List ℕ) → pushes (branches_items l.s l.a (walk_by l.list l.count)) (board l.initial.findings i l.initial.out)
     ≡ pushes (items_numbers_m (branches_at l.s l.a (walk_by l.list l.count)) (l.count - l.k) l.k) (board l.findings i l.out))
     × (length l.findings ≡ length l.initial.findings)
-
-abbrev pub decreases-loop-k : goal.decreases-loop-k
-decreases-loop-k l = l.count - l.k

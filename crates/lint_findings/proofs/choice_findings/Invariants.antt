@@ -9,12 +9,9 @@ use Rattle.lint_walk.specs.Raw.{predicates_end}
 use Rattle.lint_walk.specs.Walks.{list_end}
 use Rattle.lint_findings.proofs.choice_findings.Given as goal
 
-abbrev pub invariant-loop-left : goal.invariant-loop-left
-invariant-loop-left l =
+abbrev pub invariant-loop : goal.invariant-loop
+invariant-loop l =
     ((i : List ℕ) →
-    pushes (items_parts_m (λ q. only_if (contradictory_m l.s q) (finding l.words)) (λ q. list_end l.s (predicates_end l.s q)) l.initial.left l.initial.p)
+    pushes (items_parts_m (λ q. only_if (contradictory_m l.s q) (finding l.words)) (λ q. list_end l.s (predicates_end l.s q)) l.count l.initial.p)
     (board l.initial.findings i l.initial.out) ≡ pushes (items_parts_m (λ q. only_if (contradictory_m l.s q) (finding l.words))
-    (λ q. list_end l.s (predicates_end l.s q)) l.left l.p) (board l.findings i l.out)) × (length l.findings ≡ length l.initial.findings)
-
-abbrev pub decreases-loop-left : goal.decreases-loop-left
-decreases-loop-left l = l.left
+    (λ q. list_end l.s (predicates_end l.s q)) (l.count - l.counter) l.p) (board l.findings i l.out)) × (length l.findings ≡ length l.initial.findings)

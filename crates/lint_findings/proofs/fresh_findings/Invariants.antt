@@ -14,6 +14,3 @@ invariant-loop-k l =
     ≡ pushes (items_numbers_m (λ k. only_if (stale_here_m l.s (section_of l.entities l.extent) l.reads k)
     (finding (about_m l.a 6 1 k l.a.line l.a.column))) (l.count - l.k) l.k) (board l.findings i l.out))
     × (length l.findings ≡ length l.initial.findings)
-
-abbrev pub decreases-loop-k : goal.decreases-loop-k
-decreases-loop-k l = l.count - l.k

@@ -15,6 +15,3 @@ invariant-loop-k l =
     0) (board f l.initial.interactions l.initial.out) ≡ pushes (items_numbers_m
     (λ k. only_if (leads_m l.s l.star l.x l.v (get_or l.rules k 0)) (interaction (l.from ∷ k ∷ l.e ∷ []))) (l.count - l.k) l.k)
     (board f l.interactions l.out)) × (length l.interactions ≡ length l.initial.interactions)
-
-abbrev pub decreases-loop-k : goal.decreases-loop-k
-decreases-loop-k l = l.count - l.k

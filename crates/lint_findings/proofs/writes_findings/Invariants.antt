@@ -15,6 +15,3 @@ invariant-loop-k l =
     (λ k. write_items l.s (names_by l.entities l.invariants l.given) (section_of l.rules l.given.rules) l.a (get_or l.list k 0)) (l.count - l.k) l.k)
     (board l.findings l.interactions l.out)) × ((length l.findings ≡ length l.initial.findings)
     × (length l.interactions ≡ length l.initial.interactions))
-
-abbrev pub decreases-loop-k : goal.decreases-loop-k
-decreases-loop-k l = l.count - l.k

@@ -14,6 +14,3 @@ invariant-loop-i l =
     (spaced (each (λ (j : ℕ). placed (rule_source l.f l.rules j).line (rule_source l.f l.rules j).column) (members l.set)))
     (spaced (each (λ (j : ℕ). placed (rule_source l.f l.rules j).line (rule_source l.f l.rules j).column)
     (loops.from_on 32 (holds l.set) l.i))) l.initial.out l.initial.m l.out l.m × (l.i ≤ 32)
-
-abbrev pub decreases-loop-i : goal.decreases-loop-i
-decreases-loop-i l = 32 - l.i

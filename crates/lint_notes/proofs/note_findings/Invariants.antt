@@ -12,6 +12,3 @@ invariant-loop-j l =
     ((k : List ℕ) → pushes (note_items l.set l.line l.column l.reasons l.count) (board l.initial.findings k l.initial.out)
     ≡ pushes (items_numbers_m (λ j. finding (note_m l.set l.line l.column l.reasons j) ∷ []) (l.count - l.j) l.j) (board l.findings k l.out))
     × (length l.findings ≡ length l.initial.findings)
-
-abbrev pub decreases-loop-j : goal.decreases-loop-j
-decreases-loop-j l = l.count - l.j

@@ -11,6 +11,3 @@ abbrev pub invariant-loop-i : goal.invariant-loop-i
 invariant-loop-i l =
     ((k : List ℕ) (e : Board) → AllNotes l.s l.rules (l.count - l.i) l.i (board l.findings k l.out) e
     → AllNotes l.s l.rules l.rules.count 0 (board l.initial.findings k l.initial.out) e) × (length l.findings ≡ length l.initial.findings)
-
-abbrev pub decreases-loop-i : goal.decreases-loop-i
-decreases-loop-i l = l.count - l.i

@@ -15,6 +15,3 @@ invariant-loop-k l =
     (board l.initial.findings i l.initial.out) ≡ pushes (items_numbers_m
     (λ k. row_items l.s (names_by l.entities l.invariants l.given) l.set (walk_by l.others l.n) (get_or l.list k 0)) (l.m - l.k) l.k)
     (board l.findings i l.out)) × (length l.findings ≡ length l.initial.findings)
-
-abbrev pub decreases-loop-k : goal.decreases-loop-k
-decreases-loop-k l = l.m - l.k

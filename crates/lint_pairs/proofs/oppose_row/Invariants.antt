@@ -15,6 +15,3 @@ invariant-loop-k l =
     (board l.initial.findings i l.initial.out) ≡ pushes (items_numbers_m
     (λ k. oppose_items l.s (names_by l.entities l.invariants l.given) l.set l.at (get_or l.list k 0)) (l.count - l.k) l.k) (board l.findings i l.out))
     × (length l.findings ≡ length l.initial.findings)
-
-abbrev pub decreases-loop-k : goal.decreases-loop-k
-decreases-loop-k l = l.count - l.k

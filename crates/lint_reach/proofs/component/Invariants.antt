@@ -6,6 +6,3 @@ use Rattle.lint_reach.proofs.component.Given as goal
 
 abbrev pub invariant-loop-j : goal.invariant-loop-j
 invariant-loop-j l = (component_m l.reach l.n l.i ≡ collect (both_m l.reach l.i) (l.n - l.j) l.j l.set) × (l.j ≤ l.n)
-
-abbrev pub decreases-loop-j : goal.decreases-loop-j
-decreases-loop-j l = l.n - l.j

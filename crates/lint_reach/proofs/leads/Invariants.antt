@@ -5,6 +5,3 @@ use Rattle.lint_reach.proofs.leads.Given as goal
 
 abbrev pub invariant-loop-j : goal.invariant-loop-j
 invariant-loop-j l = (l.some ≡ leads_m l.row l.j) × (l.j ≤ 32)
-
-abbrev pub decreases-loop-j : goal.decreases-loop-j
-decreases-loop-j l = 32 - l.j

@@ -11,6 +11,3 @@ abbrev pub invariant-loop-i : goal.invariant-loop-i
 invariant-loop-i l =
     (least_from l.from (each (name_place l.f l.section) (members l.set))
     ≡ through (lesser l.from) (each (name_place l.f l.section) (from_on 32 (holds l.set) l.i)) l.best) × (l.i ≤ 32)
-
-abbrev pub decreases-loop-i : goal.decreases-loop-i
-decreases-loop-i l = 32 - l.i

@@ -8,6 +8,3 @@ use Rattle.lint_reads_lines.proofs.rule_from.Given as goal
 
 abbrev pub invariant-loop-i : goal.invariant-loop-i
 invariant-loop-i l = (rule_from l.f l.rules l.from ≡ through (better l.f l.rules l.from) (places (l.rules.count - l.i) l.i) l.found) × (l.i ≤ l.rules.count)
-
-abbrev pub decreases-loop-i : goal.decreases-loop-i
-decreases-loop-i l = l.count - l.i

@@ -10,6 +10,3 @@ abbrev pub invariant-loop-k : goal.invariant-loop-k
 invariant-loop-k l =
     (through (lesser l.from) (strange_places l.r l.i) l.best
     ≡ through (lesser l.from) (each (λ (j : ℕ). get_or l.r.names j 0) (from_on 64 (is_read l.r l.i) l.k)) l.least) × (l.k ≤ 64)
-
-abbrev pub decreases-loop-k : goal.decreases-loop-k
-decreases-loop-k l = 64 - l.k

@@ -7,6 +7,3 @@ use Rattle.lint_undeclared.proofs.awaits.Given as goal
 
 abbrev pub invariant-loop-k : goal.invariant-loop-k
 invariant-loop-k l = awaits_m l.s (walk_by l.list l.count) l.place ≡ any_list_m (await_m l.s l.place) l.list (l.count - l.k) l.k
-
-abbrev pub decreases-loop-k : goal.decreases-loop-k
-decreases-loop-k l = l.count - l.k

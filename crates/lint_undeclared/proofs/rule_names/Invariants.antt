@@ -9,6 +9,3 @@ abbrev pub invariant-loop-place : goal.invariant-loop-place
 invariant-loop-place l =
     names_m l.s (section_of l.entities l.declared) (walk_of l.list l.c) l.i (l.texts - 0) 0 l.initial.v
     ≡ names_m l.s (section_of l.entities l.declared) (walk_of l.list l.c) l.i (l.texts - l.place) l.place l.v
-
-abbrev pub decreases-loop-place : goal.decreases-loop-place
-decreases-loop-place l = l.texts - l.place

@@ -9,6 +9,3 @@ abbrev pub invariant-loop-i : goal.invariant-loop-i
 invariant-loop-i l =
     undeclared_m l.s (section_of l.entities l.declared) (section_of l.rules l.extent) l.texts
     ≡ rules_m l.s (section_of l.entities l.declared) (section_of l.rules l.extent) l.texts (l.count - l.i) l.i l.u
-
-abbrev pub decreases-loop-i : goal.decreases-loop-i
-decreases-loop-i l = l.count - l.i

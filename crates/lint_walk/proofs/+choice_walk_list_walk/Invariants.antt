@@ -10,16 +10,10 @@ decreases-choice_walk l = l.left + l.left + 1
 abbrev pub decreases-list_walk : goal.decreases-list_walk
 decreases-list_walk l = l.left + l.left
 
-abbrev pub invariant-choice_walk-loop-i : goal.invariant-choice_walk-loop-i
-invariant-choice_walk-loop-i l = repeat l.initial.i (branch_m l.s (list_m l.left l.s)) (walk_of l.initial.list l.initial.v) ≡ repeat l.i (branch_m l.s (list_m l.left l.s)) (walk_of l.list l.v)
+abbrev pub invariant-choice_walk-loop : goal.invariant-choice_walk-loop
+invariant-choice_walk-loop l = repeat l.count (branch_m l.s (list_m l.left l.s)) (walk_of l.initial.list l.initial.v) ≡ repeat (l.count - l.counter) (branch_m l.s (list_m l.left l.s)) (walk_of l.list l.v)
 
-abbrev pub decreases-choice_walk-loop-i : goal.decreases-choice_walk-loop-i
-decreases-choice_walk-loop-i l = l.i
-
-abbrev pub invariant-list_walk-loop-i : goal.invariant-list_walk-loop-i
-invariant-list_walk-loop-i l =
-    repeat l.initial.i (action_m l.s (choice_m l.s (list_m (l.left - 1) l.s))) (walk_of l.initial.list l.initial.v)
-    ≡ repeat l.i (action_m l.s (choice_m l.s (list_m (l.left - 1) l.s))) (walk_of l.list l.v)
-
-abbrev pub decreases-list_walk-loop-i : goal.decreases-list_walk-loop-i
-decreases-list_walk-loop-i l = l.i
+abbrev pub invariant-list_walk-loop : goal.invariant-list_walk-loop
+invariant-list_walk-loop l =
+    repeat l.count (action_m l.s (choice_m l.s (list_m (l.left - 1) l.s))) (walk_of l.initial.list l.initial.v)
+    ≡ repeat (l.count - l.counter) (action_m l.s (choice_m l.s (list_m (l.left - 1) l.s))) (walk_of l.list l.v)

@@ -3,7 +3,7 @@ use Rattle.lint_walk.proofs.Laws as laws
 use Rattle.lint_walk.proofs.byte_at.Goals as goal
 
 pub returns-in_default : goal.returns-in_default
-returns-in_default c = sym (laws.byte_is _ _ ∙ laws.value_broken c.u8_at-x.ensures c.in_default.is)
+returns-in_default c = sym (laws.byte_is _ _ ∙ laws.value_broken c.u8_at.ensures c.in_default.is)
 
 pub returns : goal.returns
-returns c = sym (laws.byte_is _ _ ∙ laws.value_got c.u8_at-x.ensures c.in-Is.is)
+returns c = sym (laws.byte_is _ _ ∙ laws.value_got c.u8_at.ensures c.in-Some.is)

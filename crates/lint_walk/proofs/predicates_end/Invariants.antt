@@ -1,9 +1,7 @@
+use Prim.Native.Nat.{◌-◌}
 use mathlib.Core.Path.{◌≡◌}
 use Rattle.lint_walk.specs.Raw.{repeat, predicate_end, predicates_end}
 use Rattle.lint_walk.proofs.predicates_end.Given as goal
 
-abbrev pub invariant-loop-left : goal.invariant-loop-left
-invariant-loop-left l = predicates_end l.s l.at ≡ repeat l.left (predicate_end l.s) l.p
-
-abbrev pub decreases-loop-left : goal.decreases-loop-left
-decreases-loop-left l = l.left
+abbrev pub invariant-loop : goal.invariant-loop
+invariant-loop l = predicates_end l.s l.at ≡ repeat (l.count - l.counter) (predicate_end l.s) l.p

@@ -1,16 +1,17 @@
+use borrow.Author.Rules.{rules}
 use Rattle.show.proofs.Laws as show
 use Rattle.lint_words.proofs.Laws as laws
 use Rattle.lint_words.proofs.put_certainty.Goals as goal
 
-pub returns-then-certainty-eq0 : goal.returns-then-certainty-eq0
-returns-then-certainty-eq0 c =
-    show.is (laws.certainty_0 _ c.if-certainty-eq0.true)
+pub returns-in-0 : goal.returns-in-0
+returns-in-0 c =
+    show.is (laws.certainty_0 _ c.in-0.is)
     c.put.ensures
 
-pub returns-then-certainty-eq1 : goal.returns-then-certainty-eq1
-returns-then-certainty-eq1 c =
-    show.is (laws.certainty_1 _ c.if-certainty-eq1.true)
-    c.put-then-certainty-eq1.ensures
+pub returns-in-1 : goal.returns-in-1
+returns-in-1 c =
+    show.is (laws.certainty_1 _ c.in-1.is)
+    c.put-in-1.ensures
 
-pub returns : goal.returns
-returns c = show.is (laws.certainty_other _ c.if-certainty-eq0.false c.if-certainty-eq1.false) c.put-2.ensures
+pub returns-in_default : goal.returns-in_default
+returns-in_default c = show.is (laws.certainty_other _ (search rules) (search rules)) c.put-in_default.ensures

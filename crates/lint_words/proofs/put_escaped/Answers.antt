@@ -5,18 +5,18 @@ use Rattle.show.proofs.Laws as show
 use Rattle.lint_words.proofs.Laws as laws
 use Rattle.lint_words.proofs.put_escaped.Goals as goal
 
-pub loop-i-init : goal.loop-i-init
-loop-i-init c = (show.is show.no_bytes (show.nothing _ _), search rules)
+pub loop-x-init : goal.loop-x-init
+loop-x-init c = (show.is show.no_bytes (show.nothing _ _), search rules)
 
-pub loop-i-preserved : goal.loop-i-preserved
-loop-i-preserved c = (
-  show.is (show.next_escaped c.args.t.now c.loop-i.i _ refl c.loop-i-test.true)
-      (show.both c.loop-i.invariant.0 c.put_escaped-m.ensures),
+pub loop-x-preserved : goal.loop-x-preserved
+loop-x-preserved c = (
+  show.is (show.next_escaped c.args.t.now c.loop-x.x-index _ refl c.loop-x-test.true)
+      (show.both c.loop-x.invariant.0 c.put_escaped-m.ensures),
   search rules,
 )
 
 pub shape_of-out : goal.shape_of-out
-shape_of-out c = c.loop-i.invariant.0.same
+shape_of-out c = c.loop-x.invariant.0.same
 
 pub returns : goal.returns
-returns c = show.is (laws.whole_escaped _ _ c.loop-i.invariant.1 c.loop-i-test.false) c.loop-i.invariant.0
+returns c = show.is (laws.whole_escaped _ _ c.loop-x.invariant.1 c.loop-x-test.false) c.loop-x.invariant.0

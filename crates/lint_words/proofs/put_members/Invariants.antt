@@ -11,6 +11,3 @@ abbrev pub invariant-loop-i : goal.invariant-loop-i
 invariant-loop-i l =
     loops.Part (spaced (each (λ (j : ℕ). quoted (name_of l.f l.section j)) (members l.set)))
     (spaced (each (λ (j : ℕ). quoted (name_of l.f l.section j)) (loops.from_on 32 (holds l.set) l.i))) l.initial.out l.initial.m l.out l.m × (l.i ≤ 32)
-
-abbrev pub decreases-loop-i : goal.decreases-loop-i
-decreases-loop-i l = 32 - l.i

@@ -1,23 +1,24 @@
+use borrow.Author.Rules.{rules}
 use Rattle.show.proofs.Laws as show
 use Rattle.lint_words.proofs.Laws as laws
 use Rattle.lint_words.proofs.put_tier.Goals as goal
 
-pub returns-then-tier-eq0 : goal.returns-then-tier-eq0
-returns-then-tier-eq0 c = show.is (laws.tier_0 _ c.if-tier-eq0.true) c.put.ensures
+pub returns-in-0 : goal.returns-in-0
+returns-in-0 c = show.is (laws.tier_0 _ c.in-0.is) c.put.ensures
 
-pub returns-then-tier-eq1 : goal.returns-then-tier-eq1
-returns-then-tier-eq1 c = show.is (laws.tier_1 _ c.if-tier-eq1.true) c.put-then-tier-eq1.ensures
+pub returns-in-1 : goal.returns-in-1
+returns-in-1 c = show.is (laws.tier_1 _ c.in-1.is) c.put-in-1.ensures
 
-pub returns-then-tier-eq2 : goal.returns-then-tier-eq2
-returns-then-tier-eq2 c = show.is (laws.tier_2 _ c.if-tier-eq2.true) c.put-then-tier-eq2.ensures
+pub returns-in-2 : goal.returns-in-2
+returns-in-2 c = show.is (laws.tier_2 _ c.in-2.is) c.put-in-2.ensures
 
-pub returns-then-tier-eq3 : goal.returns-then-tier-eq3
-returns-then-tier-eq3 c = show.is (laws.tier_3 _ c.if-tier-eq3.true) c.put-then-tier-eq3.ensures
+pub returns-in-3 : goal.returns-in-3
+returns-in-3 c = show.is (laws.tier_3 _ c.in-3.is) c.put-in-3.ensures
 
-pub returns-then-tier-eq4 : goal.returns-then-tier-eq4
-returns-then-tier-eq4 c = show.is (laws.tier_4 _ c.if-tier-eq4.true) c.put-then-tier-eq4.ensures
+pub returns-in-4 : goal.returns-in-4
+returns-in-4 c = show.is (laws.tier_4 _ c.in-4.is) c.put-in-4.ensures
 
-pub returns : goal.returns
-returns c =
-    show.is (laws.tier_other _ c.if-tier-eq0.false c.if-tier-eq1.false c.if-tier-eq2.false c.if-tier-eq3.false c.if-tier-eq4.false)
-    c.put-2.ensures
+pub returns-in_default : goal.returns-in_default
+returns-in_default c =
+    show.is (laws.tier_other _ (search rules) (search rules) (search rules) (search rules) (search rules))
+    c.put-in_default.ensures

@@ -5,6 +5,3 @@ use Rattle.live_runs.proofs.forget.Given as goal
 
 abbrev pub invariant-loop-i : goal.invariant-loop-i
 invariant-loop-i l = (l.i ≤ 32) × ((length l.live ≡ length l.initial.live) × ((j : ℕ) → j < l.i → get_or l.live j 0 ≡ 0))
-
-abbrev pub decreases-loop-i : goal.decreases-loop-i
-decreases-loop-i l = 32 - l.i

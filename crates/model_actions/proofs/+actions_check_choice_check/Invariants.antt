@@ -10,19 +10,13 @@ decreases-actions_check l = l.left + l.left
 abbrev pub decreases-choice_check : goal.decreases-choice_check
 decreases-choice_check l = l.left + l.left + 1
 
-abbrev pub invariant-actions_check-loop-i : goal.invariant-actions_check-loop-i
-invariant-actions_check-loop-i l =
-    actions_m (declaration l.d l.entities) l.left l.s l.at l.n ≡ times_m l.i
+abbrev pub invariant-actions_check-loop : goal.invariant-actions_check-loop
+invariant-actions_check-loop l =
+    actions_m (declaration l.d l.entities) l.left l.s l.at l.n ≡ times_m (l.count - l.counter)
     (action_m (declaration l.d l.entities) (actions_m (declaration l.d l.entities) (l.left - 1))) l.s l.p l.m
 
-abbrev pub decreases-actions_check-loop-i : goal.decreases-actions_check-loop-i
-decreases-actions_check-loop-i l = l.i
-
-abbrev pub invariant-choice_check-loop-i : goal.invariant-choice_check-loop-i
-invariant-choice_check-loop-i l =
+abbrev pub invariant-choice_check-loop : goal.invariant-choice_check-loop
+invariant-choice_check-loop l =
     choice_m (declaration l.d l.entities) (actions_m (declaration l.d l.entities) l.left) l.s l.at l.n
-    ≡ (times_m l.i (branch_m (declaration l.d l.entities) (actions_m (declaration l.d l.entities) l.left))
+    ≡ (times_m (l.count - l.counter) (branch_m (declaration l.d l.entities) (actions_m (declaration l.d l.entities) l.left))
     ⨾ actions_m (declaration l.d l.entities) l.left) l.s l.p l.m
-
-abbrev pub decreases-choice_check-loop-i : goal.decreases-choice_check-loop-i
-decreases-choice_check-loop-i l = l.i

@@ -1,7 +1,6 @@
-use mathlib.Core.Path.{sym, ◌∙◌}
+use mathlib.Core.Path.{◌≡◌, sym, ◌∙◌}
 use native.Mathlib.Omega.{arith}
 use Rattle.model_check.proofs.Laws as laws
-use Prim.Native.Nat.{◌-◌}
 use Rattle.model_check.proofs.first_of.Goals as goal
 
 pub loop-i-init : goal.loop-i-init
@@ -21,4 +20,6 @@ loop-i-preserved c = (
 )
 
 pub returns : goal.returns
-returns c = (sym (c.loop-i.invariant.0 ∙ laws.first_end _ _ _ _ _ (omega arith)), omega arith)
+returns c =
+    let e : c.args.count ≡ c.loop-i.i = omega arith in
+    (e ∙ sym (c.loop-i.invariant.0 ∙ laws.first_end _ _ _ _ _ (omega arith)), omega arith)

@@ -7,6 +7,3 @@ abbrev pub invariant-loop-i : goal.invariant-loop-i
 invariant-loop-i l =
     (first_from l.starts l.place l.s l.count 0 ≡ first_from l.starts l.place l.s (l.end - l.i) l.i)
     × (l.i ≤ l.end)
-
-abbrev pub decreases-loop-i : goal.decreases-loop-i
-decreases-loop-i l = l.end - l.i

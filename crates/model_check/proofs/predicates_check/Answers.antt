@@ -1,3 +1,6 @@
+use native.Mathlib.Nat.{sub-zero, sub-add-eq}
+use native.Mathlib.Omega.{arith}
+use Prim.Native.Nat.{◌-◌}
 use mathlib.Core.Path.{sym, ◌∙◌}
 use Rattle.model_check.proofs.Laws as laws
 use Rattle.model_check.proofs.predicates_check.Goals as goal
@@ -5,20 +8,21 @@ use Rattle.model_check.proofs.predicates_check.Goals as goal
 pub returns-in_default : goal.returns-in_default
 returns-in_default c =
     sym (laws.predicates_is _ _ _ _ _
-    ∙ laws.by_broken _ _ _ _ _ c.u16_at-x.ensures c.in_default.is)
+    ∙ laws.by_broken _ _ _ _ _ c.u16_at.ensures c.in_default.is)
 
-pub loop-left-init : goal.loop-left-init
-loop-left-init c = laws.predicates_is _ _ _ _ _ ∙ laws.by_is _ _ _ _ _ c.u16_at-x.ensures c.in-Is.is
+pub loop-init : goal.loop-init
+loop-init c =
+    rw sub-zero (laws.predicates_is _ _ _ _ _ ∙ laws.by_is _ _ _ _ _ c.u16_at.ensures c.in-Some.is)
 
 pub returns-in_default-y : goal.returns-in_default-y
 returns-in_default-y c =
-    sym (c.loop-left.invariant ∙ laws.times_more _ _ _ _ _ c.loop-left-test.true
+    sym (c.loop.invariant ∙ laws.times_more _ _ _ _ _ (omega arith)
     ∙ laws.refused _ _ _ _ _ c.predicate_check-y.ensures c.in_default-y.is)
 
-pub loop-left-preserved : goal.loop-left-preserved
-loop-left-preserved c =
-    c.loop-left.invariant ∙ laws.times_more _ _ _ _ _ c.loop-left-test.true
-    ∙ laws.to _ _ _ _ _ c.predicate_check-y.ensures c.in-To.is
+pub loop-preserved : goal.loop-preserved
+loop-preserved c =
+    rw sub-add-eq (c.loop.invariant ∙ laws.times_more _ _ _ _ _ (omega arith)
+    ∙ laws.to _ _ _ _ _ c.predicate_check-y.ensures c.in-To.is)
 
 pub returns : goal.returns
-returns c = sym (c.loop-left.invariant ∙ laws.times_none _ _ _ _ _ c.loop-left-test.false)
+returns c = sym (c.loop.invariant ∙ laws.times_none _ _ _ _ _ (omega arith))

@@ -9,15 +9,15 @@ returns-then-s-gt32768 c = says _ (laws.file_refusal _ _ _ _ _ _ _ _ c.refusal.e
 pub returns-in_default : goal.returns-in_default
 returns-in_default c =
     says _ (laws.file_refusal _ _ _ _ _ _ _ _ c.refusal-in_default.ensures
-    ∙ sym (laws.no_version _ c.if-s-gt32768.false c.u32_at-x.ensures c.in_default.is))
+    ∙ sym (laws.no_version _ c.if-s-gt32768.false c.u32_at.ensures c.in_default.is))
 
-pub returns-in_default-a : goal.returns-in_default-a
-returns-in_default-a c =
-    says _ (laws.file_refusal _ _ _ _ _ _ _ _ c.refusal-in_default-a.ensures
-    ∙ sym (laws.version_is _ c.if-s-gt32768.false c.u32_at-x.ensures c.in-Is.is
-    ∙ laws.on_broken _ _ c.texts_at-a.ensures c.in_default-a.is))
+pub returns-in_default-texts_at : goal.returns-in_default-texts_at
+returns-in_default-texts_at c =
+    says _ (laws.file_refusal _ _ _ _ _ _ _ _ c.refusal-in_default-texts_at.ensures
+    ∙ sym (laws.version_is _ c.if-s-gt32768.false c.u32_at.ensures c.in-Some.is
+    ∙ laws.on_broken _ _ c.texts_at.ensures c.in_default-texts_at.is))
 
 pub returns : goal.returns
 returns c =
-    says _ (c.body_at.ensures _ ∙ sym (laws.version_is _ c.if-s-gt32768.false c.u32_at-x.ensures c.in-Is.is
-    ∙ laws.on_to _ _ c.texts_at-a.ensures c.in-To.is ∙ laws.given_is _ _ c.section_into-b.ensures))
+    says _ (c.body_at.ensures _ ∙ sym (laws.version_is _ c.if-s-gt32768.false c.u32_at.ensures c.in-Some.is
+    ∙ laws.on_to _ _ c.texts_at.ensures c.in-Some-texts_at.is ∙ laws.given_is _ _ c.section_into-b.ensures))

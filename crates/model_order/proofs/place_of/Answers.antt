@@ -1,7 +1,6 @@
-use mathlib.Core.Path.{sym, ◌∙◌}
+use mathlib.Core.Path.{◌≡◌, sym, ◌∙◌}
 use native.Mathlib.Omega.{arith}
 use Rattle.model_order.proofs.Laws as laws
-use Prim.Native.Nat.{◌-◌}
 use Rattle.model_order.proofs.place_of.Goals as goal
 
 pub loop-place-init : goal.loop-place-init
@@ -20,4 +19,6 @@ loop-place-preserved c = (
 )
 
 pub returns : goal.returns
-returns c = sym (c.loop-place.invariant.0 ∙ laws.place_end _ _ _ _ _ (omega arith))
+returns c =
+    let e : c.args.count ≡ c.loop-place.place = omega arith in
+    e ∙ sym (c.loop-place.invariant.0 ∙ laws.place_end _ _ _ _ _ (omega arith))

@@ -7,6 +7,3 @@ abbrev pub invariant-loop-place : goal.invariant-loop-place
 invariant-loop-place l =
     (place_from l.count 0 l.word l.s 6 ≡ place_from (l.count - l.place) l.place l.word l.s l.p)
     × ((l.p ≤ 6 + 256 * l.place) × (l.place ≤ l.count))
-
-abbrev pub decreases-loop-place : goal.decreases-loop-place
-decreases-loop-place l = l.count - l.place

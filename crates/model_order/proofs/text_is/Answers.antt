@@ -1,8 +1,6 @@
 use mathlib.Core.Path.{sym, ◌∙◌}
 use native.Mathlib.Omega.{arith}
-use borrow.Author.Tests.{not-true, not-false}
 use Rattle.model_order.proofs.Laws as laws
-use Prim.Native.Nat.{◌-◌}
 use Rattle.model_order.proofs.text_is.Goals as goal
 
 pub returns-then-not-text_fits : goal.returns-then-not-text_fits

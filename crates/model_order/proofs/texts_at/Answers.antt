@@ -1,5 +1,4 @@
 use mathlib.Core.Path.{sym, ◌∙◌}
-use borrow.Author.Tests.{not-true, not-false}
 use Rattle.model_order.proofs.Laws as laws
 use Rattle.model_order.proofs.texts_at.Goals as goal
 

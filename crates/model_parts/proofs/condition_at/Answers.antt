@@ -1,46 +1,48 @@
 use mathlib.Core.Path.{sym, ◌∙◌}
+use native.Mathlib.Omega.{arith}
 use Rattle.model_parts.proofs.Laws as laws
 use Rattle.model_walk.proofs.Laws as walks
 use Rattle.model_parts.proofs.condition_at.Goals as goal
 
-pub returns-then-kind-eq0 : goal.returns-then-kind-eq0
-returns-then-kind-eq0 c = c.pieces_at.ensures ∙ sym (laws.condition_0 _ _ _ _ c.if-kind-eq0.true)
+pub returns-in-0 : goal.returns-in-0
+returns-in-0 c = c.pieces_at.ensures ∙ sym (laws.condition_0 _ _ _ _ c.in-0.is)
+
+pub returns-in_err-p-in-1 : goal.returns-in_err-p-in-1
+returns-in_err-p-in-1 c =
+    c.from_residual.ensures ∙ sym (laws.condition_1 _ _ _ _ c.in-1.is ∙ walks.broke _ _ _ _ _ c.two_places_at.ensures
+    c.in_err-p-in-1.was)
+
+pub returns-in_ok-p-in-1 : goal.returns-in_ok-p-in-1
+returns-in_ok-p-in-1 c =
+    c.pieces_at-in-1.ensures ∙ sym (laws.condition_1 _ _ _ _ c.in-1.is
+    ∙ walks.to _ _ _ _ _ c.two_places_at.ensures c.in_ok-p-in-1.was)
+
+pub returns-in_err-q-in-2 : goal.returns-in_err-q-in-2
+returns-in_err-q-in-2 c =
+    c.from_residual-in_err-q-in-2.ensures ∙ sym (laws.condition_2 _ _ _ _ c.in-2.is ∙ walks.broke _ _ _ _ _ c.two_places_at-in-2.ensures
+    c.in_err-q-in-2.was)
+
+pub returns-in_ok-q-in-2 : goal.returns-in_ok-q-in-2
+returns-in_ok-q-in-2 c =
+    c.place_at.ensures ∙ sym (laws.condition_2 _ _ _ _ c.in-2.is
+    ∙ walks.to _ _ _ _ _ c.two_places_at-in-2.ensures c.in_ok-q-in-2.was)
+
+pub returns-in_err-t-in-3 : goal.returns-in_err-t-in-3
+returns-in_err-t-in-3 c =
+    c.from_residual-in_err-t-in-3.ensures ∙ sym (laws.condition_3 _ _ _ _ c.in-3.is ∙ walks.broke _ _ _ _ _ c.predicate_at.ensures
+    c.in_err-t-in-3.was)
+
+pub returns-in_err-u-in-3 : goal.returns-in_err-u-in-3
+returns-in_err-u-in-3 c =
+    c.from_residual-in_err-u-in-3.ensures ∙ sym (laws.condition_3 _ _ _ _ c.in-3.is ∙ walks.to _ _ _ _ _ c.predicate_at.ensures c.in_ok-t-in-3.was
+    ∙ walks.broke _ _ _ _ _ c.predicate_at-in-3.ensures c.in_err-u-in-3.was)
+
+pub returns-in_ok-u-in-3 : goal.returns-in_ok-u-in-3
+returns-in_ok-u-in-3 c =
+    c.bytes_at.ensures ∙ sym (laws.condition_3 _ _ _ _ c.in-3.is
+    ∙ walks.to _ _ _ _ _ c.predicate_at.ensures c.in_ok-t-in-3.was
+    ∙ walks.to _ _ _ _ _ c.predicate_at-in-3.ensures c.in_ok-u-in-3.was)
 
 pub returns-in_default : goal.returns-in_default
 returns-in_default c =
-    sym (laws.condition_1 _ _ _ _ c.if-kind-eq1.true ∙ walks.broke _ _ _ _ _ c.two_places_at-a.ensures
-    c.in_default.is)
-
-pub returns-then-kind-eq1 : goal.returns-then-kind-eq1
-returns-then-kind-eq1 c =
-    c.pieces_at-then-kind-eq1.ensures ∙ sym (laws.condition_1 _ _ _ _ c.if-kind-eq1.true
-    ∙ walks.to _ _ _ _ _ c.two_places_at-a.ensures c.in-To.is)
-
-pub returns-in_default-b : goal.returns-in_default-b
-returns-in_default-b c =
-    sym (laws.condition_2 _ _ _ _ c.if-kind-eq2.true ∙ walks.broke _ _ _ _ _ c.two_places_at-b.ensures
-    c.in_default-b.is)
-
-pub returns-then-kind-eq2 : goal.returns-then-kind-eq2
-returns-then-kind-eq2 c =
-    c.place_at.ensures ∙ sym (laws.condition_2 _ _ _ _ c.if-kind-eq2.true
-    ∙ walks.to _ _ _ _ _ c.two_places_at-b.ensures c.in-To-b.is)
-
-pub returns-in_default-d : goal.returns-in_default-d
-returns-in_default-d c =
-    sym (laws.condition_3 _ _ _ _ c.if-kind-eq3.true ∙ walks.broke _ _ _ _ _ c.predicate_at-d.ensures
-    c.in_default-d.is)
-
-pub returns-in_default-e : goal.returns-in_default-e
-returns-in_default-e c =
-    sym (laws.condition_3 _ _ _ _ c.if-kind-eq3.true ∙ walks.to _ _ _ _ _ c.predicate_at-d.ensures c.in-To-d.is
-    ∙ walks.broke _ _ _ _ _ c.predicate_at-e.ensures c.in_default-e.is)
-
-pub returns-then-kind-eq3 : goal.returns-then-kind-eq3
-returns-then-kind-eq3 c =
-    c.bytes_at.ensures ∙ sym (laws.condition_3 _ _ _ _ c.if-kind-eq3.true
-    ∙ walks.to _ _ _ _ _ c.predicate_at-d.ensures c.in-To-d.is
-    ∙ walks.to _ _ _ _ _ c.predicate_at-e.ensures c.in-To-e.is)
-
-pub returns : goal.returns
-returns c = sym (laws.condition_else _ _ _ _ c.if-kind-eq0.false c.if-kind-eq1.false c.if-kind-eq2.false c.if-kind-eq3.false)
+    sym (laws.condition_else _ _ _ _ (λ e. omega arith) (λ e. omega arith) (λ e. omega arith) (λ e. omega arith))

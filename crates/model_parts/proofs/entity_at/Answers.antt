@@ -3,32 +3,32 @@ use Rattle.model_parts.proofs.Laws as laws
 use Rattle.model_walk.proofs.Laws as walks
 use Rattle.model_parts.proofs.entity_at.Goals as goal
 
-pub returns-in_default : goal.returns-in_default
-returns-in_default c =
-    sym (laws.entity_is _ _ _ _ ∙ walks.broke _ _ _ _ _ c.place_at-a.ensures
-    c.in_default.is)
+pub returns-in_err-p : goal.returns-in_err-p
+returns-in_err-p c =
+    c.from_residual.ensures ∙ sym (laws.entity_is _ _ _ _ ∙ walks.broke _ _ _ _ _ c.place_at.ensures
+    c.in_err-p.was)
 
-pub returns-in_default-b : goal.returns-in_default-b
-returns-in_default-b c =
-    sym (laws.entity_is _ _ _ _ ∙ walks.to _ _ _ _ _ c.place_at-a.ensures c.in-To.is
-    ∙ walks.broke _ _ _ _ _ c.pieces_at-b.ensures c.in_default-b.is)
+pub returns-in_err-q : goal.returns-in_err-q
+returns-in_err-q c =
+    c.from_residual-in_err-q.ensures ∙ sym (laws.entity_is _ _ _ _ ∙ walks.to _ _ _ _ _ c.place_at.ensures c.in_ok-p.was
+    ∙ walks.broke _ _ _ _ _ c.pieces_at.ensures c.in_err-q.was)
 
-pub returns-in_default-d : goal.returns-in_default-d
-returns-in_default-d c =
-    sym (laws.entity_is _ _ _ _ ∙ walks.to _ _ _ _ _ c.place_at-a.ensures c.in-To.is
-    ∙ walks.to _ _ _ _ _ c.pieces_at-b.ensures c.in-To-b.is
-    ∙ walks.broke _ _ _ _ _ c.place_at-d.ensures c.in_default-d.is)
+pub returns-in_err-t : goal.returns-in_err-t
+returns-in_err-t c =
+    c.from_residual-in_err-t.ensures ∙ sym (laws.entity_is _ _ _ _ ∙ walks.to _ _ _ _ _ c.place_at.ensures c.in_ok-p.was
+    ∙ walks.to _ _ _ _ _ c.pieces_at.ensures c.in_ok-q.was
+    ∙ walks.broke _ _ _ _ _ c.place_at-2.ensures c.in_err-t.was)
 
-pub returns-in_default-e : goal.returns-in_default-e
-returns-in_default-e c =
-    sym (laws.entity_is _ _ _ _ ∙ walks.to _ _ _ _ _ c.place_at-a.ensures c.in-To.is
-    ∙ walks.to _ _ _ _ _ c.pieces_at-b.ensures c.in-To-b.is
-    ∙ walks.to _ _ _ _ _ c.place_at-d.ensures c.in-To-d.is
-    ∙ walks.broke _ _ _ _ _ c.kind_at-e.ensures c.in_default-e.is)
+pub returns-in_err-u : goal.returns-in_err-u
+returns-in_err-u c =
+    c.from_residual-in_err-u.ensures ∙ sym (laws.entity_is _ _ _ _ ∙ walks.to _ _ _ _ _ c.place_at.ensures c.in_ok-p.was
+    ∙ walks.to _ _ _ _ _ c.pieces_at.ensures c.in_ok-q.was
+    ∙ walks.to _ _ _ _ _ c.place_at-2.ensures c.in_ok-t.was
+    ∙ walks.broke _ _ _ _ _ c.kind_at.ensures c.in_err-u.was)
 
 pub returns : goal.returns
 returns c =
-    c.bytes_at.ensures ∙ sym (laws.entity_is _ _ _ _ ∙ walks.to _ _ _ _ _ c.place_at-a.ensures c.in-To.is
-    ∙ walks.to _ _ _ _ _ c.pieces_at-b.ensures c.in-To-b.is
-    ∙ walks.to _ _ _ _ _ c.place_at-d.ensures c.in-To-d.is
-    ∙ walks.to _ _ _ _ _ c.kind_at-e.ensures c.in-To-e.is)
+    c.bytes_at.ensures ∙ sym (laws.entity_is _ _ _ _ ∙ walks.to _ _ _ _ _ c.place_at.ensures c.in_ok-p.was
+    ∙ walks.to _ _ _ _ _ c.pieces_at.ensures c.in_ok-q.was
+    ∙ walks.to _ _ _ _ _ c.place_at-2.ensures c.in_ok-t.was
+    ∙ walks.to _ _ _ _ _ c.kind_at.ensures c.in_ok-u.was)

@@ -1,10 +1,7 @@
 use mathlib.Core.Path.{◌≡◌}
-use Prim.Native.Nat.{◌+◌}
+use Prim.Native.Nat.{◌-◌, ◌≤◌}
 use Rattle.model_parts.specs.Parts.{section_m, fill, part_m}
 use Rattle.model_parts.proofs.section_into.Given as goal
 
-abbrev pub invariant-loop-left : goal.invariant-loop-left
-invariant-loop-left l = (section_m (part_m l.texts l.part) l.s l.at l.notes ≡ fill l.left l.i l.count (part_m l.texts l.part) l.starts l.s l.p l.n) × (l.i + l.left ≡ l.count)
-
-abbrev pub decreases-loop-left : goal.decreases-loop-left
-decreases-loop-left l = l.left
+abbrev pub invariant-loop-i : goal.invariant-loop-i
+invariant-loop-i l = (section_m (part_m l.texts l.part) l.s l.at l.notes ≡ fill (l.count - l.i) l.i l.count (part_m l.texts l.part) l.starts l.s l.p l.n) × (l.i ≤ l.count)

@@ -10,4 +10,4 @@ returns-in_default c =
 pub returns : goal.returns
 returns c =
     c.events_behind.ensures ∙ sym (laws.span_is _ c.section_at-texts.ensures
-    ∙ laws.behind_to _ _ refl c.in-To.is)
+    ∙ laws.behind_to _ _ refl c.in-Some.is)

@@ -1,4 +1,3 @@
-use Prim.Native.Nat.{◌-◌}
 use lib.ListN.{length, length-take, length-drop, length-append}
 use Rattle.model_rewrite.specs.Written.{first_events, event_at}
 use mathlib.Core.Path.{◌≡◌, refl, ap}

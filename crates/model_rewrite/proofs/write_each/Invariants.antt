@@ -6,6 +6,3 @@ use Rattle.model_rewrite.proofs.write_each.Given as goal
 
 abbrev pub invariant-loop-k : goal.invariant-loop-k
 invariant-loop-k l = (l.k ≤ l.n) × ((length l.out ≡ length l.initial.out) × Wrote (first_events l.events l.k) l.at l.initial.out l.out)
-
-abbrev pub decreases-loop-k : goal.decreases-loop-k
-decreases-loop-k l = l.n - l.k

@@ -5,23 +5,23 @@ use Rattle.model_sections.proofs.entity_rest_check.Goals as goal
 
 pub returns-in_default : goal.returns-in_default
 returns-in_default c =
-    sym (laws.entity_rest_is _ _ _ _ _ _ _ ∙ checks.by_broken _ _ _ _ _ c.u16_at-x.ensures
+    sym (laws.entity_rest_is _ _ _ _ _ _ _ ∙ checks.by_broken _ _ _ _ _ c.u16_at.ensures
     c.in_default.is)
 
 pub returns-in_default-a : goal.returns-in_default-a
 returns-in_default-a c =
-    sym (laws.entity_rest_is _ _ _ _ _ _ _ ∙ checks.by_is _ _ _ _ _ c.u16_at-x.ensures c.in-Is.is
+    sym (laws.entity_rest_is _ _ _ _ _ _ _ ∙ checks.by_is _ _ _ _ _ c.u16_at.ensures c.in-Some.is
     ∙ checks.refused _ _ _ _ _ c.skip-a.ensures c.in_default-a.is)
 
-pub returns-in_default-y : goal.returns-in_default-y
-returns-in_default-y c =
-    sym (laws.entity_rest_is _ _ _ _ _ _ _ ∙ checks.by_is _ _ _ _ _ c.u16_at-x.ensures c.in-Is.is
+pub returns-in_default-u32_at : goal.returns-in_default-u32_at
+returns-in_default-u32_at c =
+    sym (laws.entity_rest_is _ _ _ _ _ _ _ ∙ checks.by_is _ _ _ _ _ c.u16_at.ensures c.in-Some.is
     ∙ checks.to _ _ _ _ _ c.skip-a.ensures c.in-To.is
-    ∙ checks.by_broken _ _ _ _ _ c.u32_at-y.ensures c.in_default-y.is)
+    ∙ checks.by_broken _ _ _ _ _ c.u32_at.ensures c.in_default-u32_at.is)
 
 pub returns : goal.returns
 returns c =
     c.entity_of_check.ensures ∙ sym (laws.entity_rest_is _ _ _ _ _ _ _
-    ∙ checks.by_is _ _ _ _ _ c.u16_at-x.ensures c.in-Is.is
+    ∙ checks.by_is _ _ _ _ _ c.u16_at.ensures c.in-Some.is
     ∙ checks.to _ _ _ _ _ c.skip-a.ensures c.in-To.is
-    ∙ checks.by_is _ _ _ _ _ c.u32_at-y.ensures c.in-Is-y.is)
+    ∙ checks.by_is _ _ _ _ _ c.u32_at.ensures c.in-Some-u32_at.is)

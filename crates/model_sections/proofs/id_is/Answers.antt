@@ -4,13 +4,13 @@ use Rattle.model_sections.proofs.id_is.Goals as goal
 
 pub returns-in_default : goal.returns-in_default
 returns-in_default c =
-    sym (laws.id_broken _ _ _ c.in-Invariant.is c.u8_at-x.ensures
+    sym (laws.id_broken _ _ _ c.in-Invariant.is c.u8_at.ensures
     c.in_default.is)
 
-pub returns-in-Is : goal.returns-in-Is
-returns-in-Is c =
+pub returns-in-Some : goal.returns-in-Some
+returns-in-Some c =
     c.place_is.ensures
-    ∙ sym (laws.id_behind _ _ _ c.in-Invariant.is c.u8_at-x.ensures c.in-Is.is)
+    ∙ sym (laws.id_behind _ _ _ c.in-Invariant.is c.u8_at.ensures c.in-Some.is)
 
 pub returns-in-Entity : goal.returns-in-Entity
 returns-in-Entity c = c.place_is-in-Entity.ensures ∙ sym (laws.id_entity _ _ _ c.in-Entity.is)

@@ -5,6 +5,3 @@ use Rattle.model_sections.proofs.seconds_bad.Given as goal
 
 abbrev pub invariant-loop-j : goal.invariant-loop-j
 invariant-loop-j l = (seconds_bad l.horizon l.events l.s l.count 0 0 ≡ seconds_bad l.horizon l.events l.s (l.end - l.j) l.j l.last) × (l.j ≤ l.end)
-
-abbrev pub decreases-loop-j : goal.decreases-loop-j
-decreases-loop-j l = l.end - l.j

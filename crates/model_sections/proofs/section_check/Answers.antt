@@ -1,7 +1,6 @@
 use mathlib.Core.Path.{sym, ◌∙◌}
 use native.Mathlib.Omega.{arith}
 use Rattle.model_sections.proofs.Laws as laws
-use Prim.Native.Nat.{◌-◌}
 use Rattle.model_sections.proofs.section_check.Goals as goal
 
 pub loop-j-init : goal.loop-j-init

@@ -8,6 +8,3 @@ abbrev pub invariant-loop-j : goal.invariant-loop-j
 invariant-loop-j l =
     (parts_m (declaration l.d l.entities) l.part l.starts l.count 0 l.s l.n ≡ parts_m (declaration l.d l.entities) l.part l.starts (l.end - l.j) l.j l.s l.m)
     × (l.j ≤ l.end)
-
-abbrev pub decreases-loop-j : goal.decreases-loop-j
-decreases-loop-j l = l.end - l.j

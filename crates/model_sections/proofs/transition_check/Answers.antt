@@ -5,31 +5,31 @@ use Rattle.model_sections.proofs.transition_check.Goals as goal
 
 pub returns-in_default : goal.returns-in_default
 returns-in_default c =
-    sym (laws.transition_is _ _ _ _ ∙ checks.by_broken _ _ _ _ _ c.u16_at-x.ensures
+    sym (laws.transition_is _ _ _ _ ∙ checks.by_broken _ _ _ _ _ c.u16_at.ensures
     c.in_default.is)
 
-pub returns-in_default-y : goal.returns-in_default-y
-returns-in_default-y c =
-    sym (laws.transition_is _ _ _ _ ∙ checks.by_is _ _ _ _ _ c.u16_at-x.ensures c.in-Is.is
-    ∙ checks.by_broken _ _ _ _ _ c.u16_at-y.ensures c.in_default-y.is)
+pub returns-in_default-u16_at : goal.returns-in_default-u16_at
+returns-in_default-u16_at c =
+    sym (laws.transition_is _ _ _ _ ∙ checks.by_is _ _ _ _ _ c.u16_at.ensures c.in-Some.is
+    ∙ checks.by_broken _ _ _ _ _ c.u16_at-2.ensures c.in_default-u16_at.is)
 
-pub returns-in_default-z : goal.returns-in_default-z
-returns-in_default-z c =
-    sym (laws.transition_is _ _ _ _ ∙ checks.by_is _ _ _ _ _ c.u16_at-x.ensures c.in-Is.is
-    ∙ checks.by_is _ _ _ _ _ c.u16_at-y.ensures c.in-Is-y.is
-    ∙ checks.by_broken _ _ _ _ _ c.u16_at-z.ensures c.in_default-z.is)
+pub returns-in_default-u16_at-2 : goal.returns-in_default-u16_at-2
+returns-in_default-u16_at-2 c =
+    sym (laws.transition_is _ _ _ _ ∙ checks.by_is _ _ _ _ _ c.u16_at.ensures c.in-Some.is
+    ∙ checks.by_is _ _ _ _ _ c.u16_at-2.ensures c.in-Some-u16_at.is
+    ∙ checks.by_broken _ _ _ _ _ c.u16_at-3.ensures c.in_default-u16_at-2.is)
 
 pub returns-in_default-a : goal.returns-in_default-a
 returns-in_default-a c =
-    sym (laws.transition_is _ _ _ _ ∙ checks.by_is _ _ _ _ _ c.u16_at-x.ensures c.in-Is.is
-    ∙ checks.by_is _ _ _ _ _ c.u16_at-y.ensures c.in-Is-y.is
-    ∙ checks.by_is _ _ _ _ _ c.u16_at-z.ensures c.in-Is-z.is
+    sym (laws.transition_is _ _ _ _ ∙ checks.by_is _ _ _ _ _ c.u16_at.ensures c.in-Some.is
+    ∙ checks.by_is _ _ _ _ _ c.u16_at-2.ensures c.in-Some-u16_at.is
+    ∙ checks.by_is _ _ _ _ _ c.u16_at-3.ensures c.in-Some-u16_at-2.is
     ∙ checks.refused _ _ _ _ _ c.value_check-a.ensures c.in_default-a.is)
 
 pub returns : goal.returns
 returns c =
     c.value_check.ensures ∙ sym (laws.transition_is _ _ _ _
-    ∙ checks.by_is _ _ _ _ _ c.u16_at-x.ensures c.in-Is.is
-    ∙ checks.by_is _ _ _ _ _ c.u16_at-y.ensures c.in-Is-y.is
-    ∙ checks.by_is _ _ _ _ _ c.u16_at-z.ensures c.in-Is-z.is
+    ∙ checks.by_is _ _ _ _ _ c.u16_at.ensures c.in-Some.is
+    ∙ checks.by_is _ _ _ _ _ c.u16_at-2.ensures c.in-Some-u16_at.is
+    ∙ checks.by_is _ _ _ _ _ c.u16_at-3.ensures c.in-Some-u16_at-2.is
     ∙ checks.to _ _ _ _ _ c.value_check-a.ensures c.in-To.is)

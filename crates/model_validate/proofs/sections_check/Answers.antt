@@ -1,7 +1,6 @@
 use mathlib.Core.Path.{sym, ◌∙◌}
 use Rattle.model_check.proofs.Laws as checks
 use Rattle.model_validate.proofs.Laws as laws
-use borrow.Author.Rules.{rules}
 use Rattle.model_validate.proofs.sections_check.Goals as goal
 
 pub returns-in_default : goal.returns-in_default

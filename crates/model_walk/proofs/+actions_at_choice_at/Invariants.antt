@@ -9,16 +9,10 @@ decreases-actions_at l = l.left + l.left
 abbrev pub decreases-choice_at : goal.decreases-choice_at
 decreases-choice_at l = l.left + l.left + 1
 
-abbrev pub invariant-actions_at-loop-i : goal.invariant-actions_at-loop-i
-invariant-actions_at-loop-i l = actions_m l.texts l.left l.s l.at l.notes ≡ times_m l.i (action_m l.texts (actions_m l.texts (l.left - 1))) l.s l.p l.n
+abbrev pub invariant-actions_at-loop : goal.invariant-actions_at-loop
+invariant-actions_at-loop l = actions_m l.texts l.left l.s l.at l.notes ≡ times_m (l.count - l.counter) (action_m l.texts (actions_m l.texts (l.left - 1))) l.s l.p l.n
 
-abbrev pub decreases-actions_at-loop-i : goal.decreases-actions_at-loop-i
-decreases-actions_at-loop-i l = l.i
-
-abbrev pub invariant-choice_at-loop-i : goal.invariant-choice_at-loop-i
-invariant-choice_at-loop-i l =
-    choice_m l.texts (actions_m l.texts l.left) l.s l.at l.notes ≡ (times_m l.i (branch_m l.texts (actions_m l.texts l.left)) ⨾ actions_m l.texts l.left)
+abbrev pub invariant-choice_at-loop : goal.invariant-choice_at-loop
+invariant-choice_at-loop l =
+    choice_m l.texts (actions_m l.texts l.left) l.s l.at l.notes ≡ (times_m (l.count - l.counter) (branch_m l.texts (actions_m l.texts l.left)) ⨾ actions_m l.texts l.left)
     l.s l.p l.n
-
-abbrev pub decreases-choice_at-loop-i : goal.decreases-choice_at-loop-i
-decreases-choice_at-loop-i l = l.i

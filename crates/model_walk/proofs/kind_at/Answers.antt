@@ -1,17 +1,9 @@
 use mathlib.Core.Path.{sym, ◌∙◌}
-use borrow.Author.Tests.{lt-ltb, le-ltb}
 use Rattle.model_walk.proofs.Laws as laws
 use Rattle.model_walk.proofs.kind_at.Goals as goal
 
-pub returns-in_default : goal.returns-in_default
-returns-in_default c = sym (laws.by_broken _ _ _ _ _ c.u8_at-x.ensures c.in_default.is)
-
-pub returns-then-k-limit : goal.returns-then-k-limit
-returns-then-k-limit c =
-    sym (laws.by_is _ _ _ _ _ c.u8_at-x.ensures c.in-Is.is
-    ∙ laws.stay_if _ _ _ (lt-ltb _ _ c.if-k-limit.true))
+pub returns-in_err-k : goal.returns-in_err-k
+returns-in_err-k c = c.from_residual.ensures ∙ sym (laws.by_broken _ _ _ _ _ c.u8_at.ensures c.in_err-k.was)
 
 pub returns : goal.returns
-returns c =
-    sym (laws.by_is _ _ _ _ _ c.u8_at-x.ensures c.in-Is.is
-    ∙ laws.stop_if _ _ _ (le-ltb _ _ c.if-k-limit.false))
+returns c = c.then_some.ensures ∙ laws.staying_is _ _ _ _ ∙ sym (laws.by_is _ _ _ _ _ c.u8_at.ensures c.in_ok-k.was)

@@ -1,22 +1,17 @@
 use mathlib.Core.Path.{sym, ◌∙◌}
-use borrow.Author.Tests.{lt-ltb, le-ltb, eq-eqb, ne_eqb}
+use borrow.Author.Tests.{eq-eqb, ne_eqb}
+use Rattle.model_walk.proofs.optional_at.Goals.{then-place-eq-NO_PLACE, else-place-eq-NO_PLACE}
 use Rattle.model_walk.proofs.Laws as laws
 use Rattle.model_walk.proofs.optional_at.Goals as goal
 
-pub returns-in_default : goal.returns-in_default
-returns-in_default c = sym (laws.by_broken _ _ _ _ _ c.u16_at-x.ensures c.in_default.is)
-
-pub returns-then-place-eq-NO_PLACE : goal.returns-then-place-eq-NO_PLACE
-returns-then-place-eq-NO_PLACE c =
-    sym (laws.by_is _ _ _ _ _ c.u16_at-x.ensures c.in-Is.is
-    ∙ laws.yes_walk _ _ _ _ _ (eq-eqb _ _ c.if-place-eq-NO_PLACE.true) ∙ laws.stayed _ _ _)
-
-pub returns-then-place-texts : goal.returns-then-place-texts
-returns-then-place-texts c =
-    sym (laws.by_is _ _ _ _ _ c.u16_at-x.ensures c.in-Is.is
-    ∙ laws.no_walk _ _ _ _ _ (ne_eqb _ _ c.if-place-eq-NO_PLACE.false) ∙ laws.stay_if _ _ _ (lt-ltb _ _ c.if-place-texts.true))
+pub returns-in_err-place : goal.returns-in_err-place
+returns-in_err-place c = c.from_residual.ensures ∙ sym (laws.by_broken _ _ _ _ _ c.u16_at.ensures c.in_err-place.was)
 
 pub returns : goal.returns
 returns c =
-    sym (laws.by_is _ _ _ _ _ c.u16_at-x.ensures c.in-Is.is
-    ∙ laws.no_walk _ _ _ _ _ (ne_eqb _ _ c.if-place-eq-NO_PLACE.false) ∙ laws.stop_if _ _ _ (le-ltb _ _ c.if-place-texts.false))
+    c.then_some.ensures
+    ∙ (elim c.if-place-eq-NO_PLACE.branch [
+      | then-place-eq-NO_PLACE w ↦ laws.first_stays _ _ _ _ w.then_some-is (eq-eqb _ _ w.if-place-eq-NO_PLACE.true)
+      | else-place-eq-NO_PLACE w ↦ laws.other_stays _ _ _ w.then_some-is (ne_eqb _ _ w.if-place-eq-NO_PLACE.false)
+    ])
+    ∙ sym (laws.by_is _ _ _ _ _ c.u16_at.ensures c.in_ok-place.was)

@@ -1,42 +1,32 @@
-use mathlib.Core.Path.{sym, ◌∙◌}
-use borrow.Author.Tests.{eq-eqb, ne_eqb}
+use mathlib.Core.Path.{◌≡◌, sym, ◌∙◌}
+use native.Mathlib.Omega.{arith}
 use Rattle.model_walk.proofs.Laws as laws
 use Rattle.model_walk.proofs.predicate_at.Goals as goal
 
-pub returns-in_default : goal.returns-in_default
-returns-in_default c =
-    sym (laws.predicate_is _ _ _ _ ∙ laws.by_broken _ _ _ _ _ c.u8_at-x.ensures
-    c.in_default.is)
+pub returns-in_err-k : goal.returns-in_err-k
+returns-in_err-k c =
+    c.from_residual.ensures ∙ sym (laws.predicate_is _ _ _ _ ∙ laws.by_broken _ _ _ _ _ c.u8_at.ensures c.in_err-k.was)
 
-pub returns-then-k-eq0 : goal.returns-then-k-eq0
-returns-then-k-eq0 c =
-    c.two_places_at.ensures ∙ sym (laws.predicate_is _ _ _ _ ∙ laws.by_is _ _ _ _ _
-    c.u8_at-x.ensures c.in-Is.is
-    ∙ laws.yes_walk _ _ _ _ _ (eq-eqb _ _ c.if-k-eq0.true))
+pub returns-in-0 : goal.returns-in-0
+returns-in-0 c =
+    c.two_places_at.ensures
+    ∙ sym (laws.predicate_is _ _ _ _ ∙ laws.by_is _ _ _ _ _ c.u8_at.ensures c.in_ok-k.was ∙ laws.kind_0 _ _ _ _ c.in-0.is)
 
-pub returns-then-k-eq1 : goal.returns-then-k-eq1
-returns-then-k-eq1 c =
-    c.note_at.ensures ∙ sym (laws.predicate_is _ _ _ _ ∙ laws.by_is _ _ _ _ _
-    c.u8_at-x.ensures
-    c.in-Is.is ∙ laws.no_walk _ _ _ _ _ (ne_eqb _ _
-    c.if-k-eq0.false) ∙ laws.yes_walk _ _ _ _ _ (eq-eqb _ _ c.if-k-eq1.true))
+pub returns-in-1 : goal.returns-in-1
+returns-in-1 c =
+    c.note_at.ensures
+    ∙ sym (laws.predicate_is _ _ _ _ ∙ laws.by_is _ _ _ _ _ c.u8_at.ensures c.in_ok-k.was ∙ laws.kind_1 _ _ _ _ c.in-1.is)
 
 pub overflow_sub-predicate_size : goal.overflow_sub-predicate_size
 overflow_sub-predicate_size c = laws.size_some _ _ c.predicate_size.ensures
 
-pub returns-then-k-eq2 : goal.returns-then-k-eq2
-returns-then-k-eq2 c =
-    c.bytes_at.ensures ∙ laws.window_bytes _ _ _ _ _ c.predicate_size.ensures
-    c.if-k-eq2.true ∙ sym (laws.predicate_is _ _ _ _ ∙ laws.by_is _ _ _ _ _
-    c.u8_at-x.ensures
-    c.in-Is.is ∙ laws.no_walk _ _ _ _ _ (ne_eqb _ _
-    c.if-k-eq0.false) ∙ laws.no_walk _ _ _ _ _ (ne_eqb _ _
-    c.if-k-eq1.false) ∙ laws.yes_walk _ _ _ _ _ (eq-eqb _ _ c.if-k-eq2.true))
+pub returns-in-2 : goal.returns-in-2
+returns-in-2 c =
+    c.bytes_at.ensures ∙ laws.window_bytes _ _ _ _ _ c.predicate_size.ensures c.in-2.is
+    ∙ sym (laws.predicate_is _ _ _ _ ∙ laws.by_is _ _ _ _ _ c.u8_at.ensures c.in_ok-k.was ∙ laws.kind_2 _ _ _ _ c.in-2.is)
 
-pub returns : goal.returns
-returns c =
-    sym (laws.predicate_is _ _ _ _ ∙ laws.by_is _ _ _ _ _
-    c.u8_at-x.ensures
-    c.in-Is.is ∙ laws.no_walk _ _ _ _ _ (ne_eqb _ _
-    c.if-k-eq0.false) ∙ laws.no_walk _ _ _ _ _ (ne_eqb _ _ c.if-k-eq1.false)
-    ∙ laws.no_walk _ _ _ _ _ (ne_eqb _ _ c.if-k-eq2.false) ∙ laws.stopped _ _ _)
+pub returns-in_default : goal.returns-in_default
+returns-in_default c =
+    sym (laws.predicate_is _ _ _ _ ∙ laws.by_is _ _ _ _ _ c.u8_at.ensures c.in_ok-k.was
+    ∙ laws.kind_else _ _ _ _ (λ (e : c.in_ok-k.k ≡ 0). omega arith) (λ (e : c.in_ok-k.k ≡ 1). omega arith)
+    (λ (e : c.in_ok-k.k ≡ 2). omega arith))

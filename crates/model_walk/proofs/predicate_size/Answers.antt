@@ -1,12 +1,13 @@
 use mathlib.Core.Path.{sym}
+use native.Mathlib.Omega.{arith}
 use Rattle.model_walk.proofs.Laws as laws
 use Rattle.model_walk.proofs.predicate_size.Goals as goal
 
-pub returns-then-kind-eq0 : goal.returns-then-kind-eq0
-returns-then-kind-eq0 c = sym (laws.size_of_state _ c.if-kind-eq0.true)
+pub returns-in-0 : goal.returns-in-0
+returns-in-0 c = sym (laws.size_of_state _ c.in-0.is)
 
-pub returns-then-kind-eq1 : goal.returns-then-kind-eq1
-returns-then-kind-eq1 c = sym (laws.size_of_note _ c.if-kind-eq1.true)
+pub returns-in-1 : goal.returns-in-1
+returns-in-1 c = sym (laws.size_of_note _ c.in-1.is)
 
-pub returns : goal.returns
-returns c = sym (laws.size_of_other _ c.if-kind-eq0.false c.if-kind-eq1.false)
+pub returns-in_default : goal.returns-in_default
+returns-in_default c = sym (laws.size_of_other _ (λ e. omega arith) (λ e. omega arith))

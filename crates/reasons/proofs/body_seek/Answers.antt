@@ -1,19 +1,15 @@
-use mathlib.Core.Path.{sym, ◌∙◌}
-use Rattle.reasons.proofs.Rendering as rendering
+use borrow.Author.Rules.{rules}
+use mathlib.Core.Path.{◌∙◌, ap}
+use mathlib.Core.List.{◌++◌}
+use Rattle.std.proofs.Common.{append_assoc}
+use Rattle.texts.specs.Texts.{Text}
+use Rattle.texts.specs.Places.{text_at, seek}
+use Rattle.texts.proofs.Laws as places
+use Rattle.reasons.specs.Reasons.{words, body}
 use Rattle.reasons.proofs.body_seek.Goals as goal
 
-pub returns-in-Here : goal.returns-in-Here
-returns-in-Here c =
-    rendering.first_byte _ _ _ c.in-Here.b
-    (sym c.in-Here.is ∙ c.text_seek-s.ensures)
-
-pub returns-in-Here-t : goal.returns-in-Here-t
-returns-in-Here-t c =
-    rendering.words_byte c.args.f.now c.args.r c.args.i c.in-Left.j c.in-Here-t.b
-    (sym c.in-Left.is ∙ c.text_seek-s.ensures) (sym c.in-Here-t.is ∙ c.words_seek-t.ensures)
-
-pub returns-in-Left-t : goal.returns-in-Left-t
-returns-in-Left-t c =
-    c.text_seek.ensures ∙ rendering.second_byte c.args.f.now c.args.r c.args.i c.in-Left.j
-    c.in-Left-t.k (sym c.in-Left.is ∙ c.text_seek-s.ensures)
-    (sym c.in-Left-t.is ∙ c.words_seek-t.ensures)
+pub returns : goal.returns
+unfolding body
+returns c =
+    let a = c.args in let t = text_at a.f.now a.r.first in let u = text_at a.f.now a.r.second in
+    places.seek_or (t ++ words a.r.kind) u a.i _ _ (places.seek_or t (words a.r.kind) a.i _ _ c.text_seek.ensures c.or_else.ensures (λ j p. search rules)) c.or_else-2.ensures (λ k p. search rules) ∙ ap (λ (x : Text). seek x a.i) (append_assoc t (words a.r.kind) u)

@@ -1,14 +1,10 @@
-use mathlib.Core.Path.{sym, ◌∙◌}
+use mathlib.Core.Path.{ap, ◌∙◌}
+use Rattle.std.specs.Prelude.{Result}
+use Rattle.std.specs.Result.{result_unwrap_or}
+use Prim.Native.Nat.{ℕ}
 use Rattle.texts.proofs.Laws as places
 use Rattle.reasons.specs.Reasons.{render}
 use Rattle.reasons.proofs.byte_at.Goals as goal
 
-pub returns-in-Here : goal.returns-in-Here
-returns-in-Here c =
-    let a = c.args in places.got (render a.f.now a.r) a.i c.in-Here.b
-    (sym c.in-Here.is ∙ c.byte_of-s.ensures)
-
-pub returns-in-Left : goal.returns-in-Left
-returns-in-Left c =
-    let a = c.args in places.none (render a.f.now a.r) a.i c.in-Left.field-0
-    (sym c.in-Left.is ∙ c.byte_of-s.ensures)
+pub returns : goal.returns
+returns c = c.unwrap_or.ensures ∙ ap (λ (s : Result ℕ ℕ). result_unwrap_or s 0) c.byte_of.ensures ∙ places.got_or (render c.args.f.now c.args.r) c.args.i

@@ -35,8 +35,8 @@ loop-i-preserved c =
       omega arith,
     )
 
-pub returns-then-i-m : goal.returns-then-i-m
-returns-then-i-m c =
+pub returns-then-n-m : goal.returns-then-n-m
+returns-then-n-m c =
     let a = c.args in sym (c.loop-i.invariant.0
     ∙ compared.shorter (render a.f.now a.a) (render a.f.now a.b) c.loop-i.i (omega arith)
     (omega arith))

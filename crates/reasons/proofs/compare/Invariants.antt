@@ -7,6 +7,3 @@ use Rattle.reasons.proofs.compare.Given as goal
 
 abbrev pub invariant-loop-i : goal.invariant-loop-i
 invariant-loop-i l = (order_t (render l.f l.a) (render l.f l.b) ≡ order_t (drop l.i (render l.f l.a)) (drop l.i (render l.f l.b))) × (l.i ≤ l.n)
-
-abbrev pub decreases-loop-i : goal.decreases-loop-i
-decreases-loop-i l = l.n - l.i

@@ -8,6 +8,3 @@ use Rattle.reasons.proofs.contains.Given as goal
 
 abbrev pub invariant-loop-i : goal.invariant-loop-i
 invariant-loop-i l = mem_t (render l.f l.r) (listed l.f l.n l.a) ≡ mem_t (render l.f l.r) (drop l.i (listed l.f l.n l.a))
-
-abbrev pub decreases-loop-i : goal.decreases-loop-i
-decreases-loop-i l = l.n - l.i

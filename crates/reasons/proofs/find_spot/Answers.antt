@@ -1,9 +1,9 @@
-use Prim.Native.Nat.{◌-◌, ◌*◌}
+use Prim.Native.Nat.{◌*◌}
 use lib.ListN.{drop}
 use Rattle.texts.proofs.Ordering as ordering
 use Rattle.reasons.specs.Reasons.{render}
 use Rattle.reasons.specs.Lists.{reason_of}
-use mathlib.Core.Path.{refl}
+use mathlib.Core.Path.{◌≡◌, refl}
 use native.Mathlib.Omega.{arith}
 use borrow.Author.Rules.{rules}
 use Rattle.reasons.proofs.Listing as listing
@@ -12,8 +12,8 @@ use Rattle.reasons.proofs.find_spot.Goals as goal
 pub loop-i-init : goal.loop-i-init
 loop-i-init c = (search rules, refl)
 
-pub returns-in-Same : goal.returns-in-Same
-returns-in-Same c =
+pub returns-in-Equal : goal.returns-in-Equal
+returns-in-Equal c =
     let a = c.args in listing.there _ _ c.loop-i.i _
     (listing.next a.f.now a.n a.a.now c.loop-i.i c.loop-i-test.true) c.loop-i.invariant.1
     (ordering.is_same _ _ (cc))
@@ -38,7 +38,7 @@ loop-i-preserved c =
 
 pub returns : goal.returns
 returns c =
-    let a = c.args in let l = c.loop-i in (
+    let a = c.args in let l = c.loop-i in let e : l.i ≡ a.n = omega arith in (
       omega (arith, listing.length_listed a.f.now a.n a.a.now),
-      listing.at_end _ _ l.i (omega (arith, listing.length_listed a.f.now a.n a.a.now)) l.invariant.1,
+      rw e at (listing.at_end _ _ l.i (omega (arith, listing.length_listed a.f.now a.n a.a.now)) l.invariant.1),
     )

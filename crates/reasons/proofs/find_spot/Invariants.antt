@@ -9,6 +9,3 @@ use Rattle.reasons.proofs.find_spot.Given as goal
 
 abbrev pub invariant-loop-i : goal.invariant-loop-i
 invariant-loop-i l = (l.i ≤ l.n) × (insert_t (render l.f l.r) (listed l.f l.n l.a) ≡ take l.i (listed l.f l.n l.a) ++ insert_t (render l.f l.r) (drop l.i (listed l.f l.n l.a)))
-
-abbrev pub decreases-loop-i : goal.decreases-loop-i
-decreases-loop-i l = l.n - l.i

@@ -1,15 +1,15 @@
-use Prim.Native.Nat.{◌+◌, ◌-◌}
+use Prim.Native.Nat.{◌+◌}
 use Rattle.reasons.specs.Reasons.{render}
 use Rattle.reasons.specs.Lists.{listed}
-use Rattle.reasons.specs.declared.Spot.TheVariants.{There, At}
+use Rattle.std.specs.Prelude.{Some, None}
 use mathlib.Core.Path.{◌≡◌, sym, ◌∙◌}
 use native.Mathlib.Omega.{arith}
 use Rattle.reasons.proofs.Listing as listing
 use Rattle.reasons.proofs.Cleaning as cleaning
 use Rattle.reasons.proofs.insert_sorted.Goals as goal
 
-pub find_spot-s-requires : goal.find_spot-s-requires
-find_spot-s-requires c =
+pub find_spot-requires : goal.find_spot-requires
+find_spot-requires c =
     let a = c.args in
     omega (
       arith,
@@ -19,8 +19,8 @@ find_spot-s-requires c =
 
 pub insert_at-requires : goal.insert_at-requires
 insert_at-requires c =
-    let a = c.args in let k = c.in-At.k in let e : c.find_spot-s.result ≡ At k = cc in let g =
-    rw e at c.find_spot-s.ensures in (
+    let a = c.args in let k = c.in-Some.k in let e : c.find_spot.result ≡ Some k = cc in let g =
+    rw e at c.find_spot.ensures in (
       omega (arith, listing.length_listed a.f.now a.n a.a.now, g.0),
       omega (
         arith,
@@ -31,25 +31,25 @@ insert_at-requires c =
 
 pub overflow_add-result : goal.overflow_add-result
 overflow_add-result c =
-    let a = c.args in let k = c.in-At.k in let e : c.find_spot-s.result ≡ At k = cc in let g =
-    rw e at c.find_spot-s.ensures in omega (
+    let a = c.args in let k = c.in-Some.k in let e : c.find_spot.result ≡ Some k = cc in let g =
+    rw e at c.find_spot.ensures in omega (
       arith,
       listing.room_insert (render a.f.now a.r) (listed a.f.now a.n a.a.now) k g.1,
       listing.length_listed a.f.now a.n a.a.now,
     )
 
-pub returns-in-There : goal.returns-in-There
-returns-in-There c =
+pub returns-in_default : goal.returns-in_default
+returns-in_default c =
     let a = c.args in
-    let e : c.find_spot-s.result ≡ There = cc in
-    listing.grows_none a.f.now (sym (rw e at c.find_spot-s.ensures))
+    let e : c.find_spot.result ≡ None = cc in
+    listing.grows_none a.f.now (sym (rw e at c.find_spot.ensures))
 
-pub returns-in-At : goal.returns-in-At
-returns-in-At c =
+pub returns : goal.returns
+returns c =
     let a = c.args in
-    let k = c.in-At.k in
-    let e : c.find_spot-s.result ≡ At k = cc in
-    let g = rw e at c.find_spot-s.ensures in
+    let k = c.in-Some.k in
+    let e : c.find_spot.result ≡ Some k = cc in
+    let g = rw e at c.find_spot.ensures in
     let o = c.insert_at.ensures in
     let b = c.insert_at.new.a in
     let t = listing.inserted a.f.now a.n a.a.now b a.r k o.is ∙ sym g.1 in

@@ -9,6 +9,3 @@ invariant-loop-j l =
     (length l.a ≡ length l.initial.a)
     × ((insert_all (listed l.f l.m l.b) (listed l.f l.n l.initial.a) ≡ insert_all (drop l.j (listed l.f l.m l.b)) (listed l.f l.k l.a))
     × (Clean l.f l.m l.b → Clean l.f l.n l.initial.a → Clean l.f l.k l.a))
-
-abbrev pub decreases-loop-j : goal.decreases-loop-j
-decreases-loop-j l = l.m - l.j

@@ -1,18 +1,11 @@
-use mathlib.Core.Path.{sym, ◌∙◌}
-use Rattle.reasons.proofs.Rendering as rendering
+use borrow.Author.Rules.{rules}
+use mathlib.Core.List.{◌∷◌}
+use Rattle.texts.specs.Texts.{decimal}
+use Rattle.texts.specs.Places.{seek}
+use Rattle.texts.proofs.Laws as places
+use Rattle.reasons.specs.Reasons.{placed}
 use Rattle.reasons.proofs.source_seek.Goals as goal
 
-pub returns-then-j-eq0 : goal.returns-then-j-eq0
-returns-then-j-eq0 c =
-    rendering.colon _ _ _ c.in-Left.j
-    (sym c.in-Left.is ∙ c.number_seek-s.ensures) c.if-j-eq0.true
-
-pub returns-in-Here : goal.returns-in-Here
-returns-in-Here c =
-    rendering.line_byte _ _ _ c.in-Here.b
-    (sym c.in-Here.is ∙ c.number_seek-s.ensures)
-
-pub returns-else-j-eq0 : goal.returns-else-j-eq0
-returns-else-j-eq0 c =
-    c.number_seek.ensures ∙ rendering.column_byte _ _ _ c.in-Left.j
-    (sym c.in-Left.is ∙ c.number_seek-s.ensures) c.if-j-eq0.false
+pub returns : goal.returns
+unfolding placed seek
+returns c = places.seek_or (decimal c.args.line) (58 ∷ decimal c.args.column) c.args.i _ _ c.number_seek.ensures c.or_else.ensures (λ j p. search rules)

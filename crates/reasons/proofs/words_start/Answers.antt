@@ -1,9 +1,10 @@
-use native.Mathlib.Omega.{arith}
+use borrow.Author.Rules.{rules}
+use mathlib.Core.Path.{◌≡◌}
+use lib.ListN.{get_or}
 use Rattle.reasons.proofs.Forms as forms
 use Rattle.reasons.proofs.words_start.Goals as goal
 
-pub returns-then-k-lt-KINDS : goal.returns-then-k-lt-KINDS
-returns-then-k-lt-KINDS c = forms.start_is _
-
 pub returns : goal.returns
-returns c = forms.start_past _ (omega arith)
+returns c =
+    let r : c.unwrap_or.result ≡ get_or forms.starts c.args.kind 0 = search rules in
+    rw r (forms.start_is c.args.kind)

@@ -3,12 +3,12 @@ use Rattle.show.proofs.Laws as show
 use Rattle.record_lines.proofs.Laws as laws
 use Rattle.record_lines.proofs.put_rule.Goals as goal
 
-pub returns-in-NoRule : goal.returns-in-NoRule
-returns-in-NoRule c =
+pub returns-in-None : goal.returns-in-None
+returns-in-None c =
     show.is (laws.no_rule c.args.x.now (texts_of c.args.f.now c.args.x.now) c.args.rule (cc))
     c.put_byte.ensures
 
-pub returns-in-Of : goal.returns-in-Of
-returns-in-Of c =
+pub returns-in-Some : goal.returns-in-Some
+returns-in-Some c =
     show.is (laws.some_rule c.args.x.now (texts_of c.args.f.now c.args.x.now) c.args.rule
-    c.in-Of.i _ (cc) c.id_place.ensures) c.put_place.ensures
+    c.in-Some.i _ (cc) c.id_place.ensures) c.put_place.ensures

@@ -2,10 +2,10 @@ use Rattle.show.proofs.Laws as show
 use Rattle.record_lines.proofs.Laws as laws
 use Rattle.record_lines.proofs.put_where.Goals as goal
 
-pub returns-in-Nowhere : goal.returns-in-Nowhere
-returns-in-Nowhere c =
+pub returns-in-None : goal.returns-in-None
+returns-in-None c =
     show.is (laws.nowhere c.args.source (cc))
     c.put_byte.ensures
 
-pub returns-in-From : goal.returns-in-From
-returns-in-From c = show.is (laws.somewhere c.args.source _ _ (cc)) c.put_source.ensures
+pub returns-in-Some : goal.returns-in-Some
+returns-in-Some c = show.is (laws.somewhere c.args.source _ (cc)) c.put_source.ensures

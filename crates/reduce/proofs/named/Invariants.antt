@@ -6,6 +6,3 @@ use Rattle.reduce.proofs.named.Given as goal
 
 abbrev pub invariant-loop-k : goal.invariant-loop-k
 invariant-loop-k l = (among l.violated l.k l.target ≡ false) × ((l.k ≤ l.n) × (l.n ≤ 32))
-
-abbrev pub decreases-loop-k : goal.decreases-loop-k
-decreases-loop-k l = l.n - l.k

@@ -3,6 +3,3 @@ use Rattle.replay.proofs.print_models.Given as goal
 
 abbrev pub invariant-loop-k : goal.invariant-loop-k
 invariant-loop-k l = Unit {0}
-
-abbrev pub decreases-loop-k : goal.decreases-loop-k
-decreases-loop-k l = 4294967295 - l.k

@@ -11,6 +11,3 @@ abbrev pub invariant-loop-k : goal.invariant-loop-k
 invariant-loop-k s =
     (s.k ≤ s.n) × ((s.many ≤ s.k) × ((l : List Run) → Held s.a s.n l →
     tally (run_of s.automation) l ≡ s.many + tally (run_of s.automation) (drop s.k l)))
-
-abbrev pub decreases-loop-k : goal.decreases-loop-k
-decreases-loop-k l = l.n - l.k

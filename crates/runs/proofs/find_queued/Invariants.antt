@@ -11,6 +11,3 @@ abbrev pub invariant-loop-k : goal.invariant-loop-k
 invariant-loop-k s =
     (s.k ≤ s.n) × ((l : List Run) → Held s.a s.n l →
     place_from (in_line s.automation) 0 l ≡ place_from (in_line s.automation) s.k (drop s.k l))
-
-abbrev pub decreases-loop-k : goal.decreases-loop-k
-decreases-loop-k l = l.n - l.k

@@ -11,6 +11,3 @@ abbrev pub invariant-loop-k : goal.invariant-loop-k
 invariant-loop-k s =
     (s.k ≤ s.n) × ((l : List Run) → Held s.a s.n l →
     place_from (is_run s.automation s.sequence) 0 l ≡ place_from (is_run s.automation s.sequence) s.k (drop s.k l))
-
-abbrev pub decreases-loop-k : goal.decreases-loop-k
-decreases-loop-k l = l.n - l.k

@@ -64,16 +64,6 @@ visit-s-requires t c = (
   },
 )
 
-pub overflow_add-k : goal.overflow_add-k
-overflow_add-k t c =
-    omega (
-      arith,
-      c.loop-k-test.true,
-      laws.few_pairs _ _
-          c.requires.fitted.gaps
-          c.requires.fitted.inputs,
-    )
-
 pub loop-k-preserved : goal.loop-k-preserved
 loop-k-preserved t c = (
   omega (arith, c.loop-k.invariant.0, c.visit-s.auto.queue),

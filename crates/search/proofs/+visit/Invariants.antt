@@ -14,6 +14,3 @@ invariant-loop-k l =
     × ((length l.runs ≡ length l.initial.runs) × ((length l.w ≡ length l.initial.w)
     × ((l.k ≤ l.pairs) × Walks l.file (entire l.p l.table l.starts l.notes) (l.remaining - 1) l.placed l.initial.s l.initial.w l.k l.s l.w (length l.initial.queue)
     (length l.initial.records) (length l.initial.runs)))))
-
-abbrev pub decreases-loop-k : goal.decreases-loop-k
-decreases-loop-k l = l.pairs - l.k

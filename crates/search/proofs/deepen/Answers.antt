@@ -18,12 +18,6 @@ visit-s-requires c =
           omega (arith, c.loop-d-test.true, c.requires.0);
     }
 
-pub overflow_add-d : goal.overflow_add-d
-overflow_add-d c = omega (arith, c.loop-d-test.true, c.requires.0)
-
-pub loop-d-smaller : goal.loop-d-smaller
-loop-d-smaller c = omega (arith, c.loop-d-test.true)
-
 pub loop-d-preserved : goal.loop-d-preserved
 loop-d-preserved c = (
   omega (arith, c.loop-d.invariant.0, c.visit-s.auto.queue),
@@ -45,5 +39,5 @@ loop-d-preserved c = (
 
 pub returns : goal.returns
 returns c =
-    visits.depth_end c.args.depth c.loop-d-test.false c.loop-d.invariant.1.1.1.1.0
+    visits.depth_end c.args.depth (omega arith) c.loop-d.invariant.1.1.1.1.0
     c.loop-d.invariant.1.1.1.1.1

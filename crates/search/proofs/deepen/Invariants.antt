@@ -11,6 +11,3 @@ invariant-loop-d l =
     × ((length l.runs ≡ length l.initial.runs) × ((length l.w ≡ length l.initial.w)
     × ((l.d ≤ l.depth + 1) × Depths l.file (entire l.p l.table l.starts l.notes) l.d l.initial.s l.initial.w l.s l.w (length l.initial.queue) (length l.initial.records)
     (length l.initial.runs)))))
-
-abbrev pub decreases-loop-d : goal.decreases-loop-d
-decreases-loop-d l = l.depth + 1 - l.d

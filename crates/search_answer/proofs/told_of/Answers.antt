@@ -1,10 +1,11 @@
+use Rattle.bounds.proofs.Laws as bounds
 use Rattle.search_answer.proofs.Laws as laws
 use mathlib.Core.Path.{refl}
 use borrow.Author.Rules.{rules}
 use Rattle.search_answer.proofs.told_of.Goals as goal
 
 pub merge-reasons-requires : goal.merge-reasons-requires
-merge-reasons-requires c = laws.told_room _ c.args.w.now _ _ c.min_usize-many.ensures.most c.requires (search rules)
+merge-reasons-requires c = laws.told_room _ c.args.w.now _ _ (bounds.smaller c.min-many.ensures).most c.requires (search rules)
 
 pub returns : goal.returns
 returns c =
@@ -28,5 +29,5 @@ returns c =
       written = refl;
       check = refl;
       reasons =
-          laws.told_reasons _ _ c.min_usize-many.ensures c.merge-reasons.ensures;
+          laws.told_reasons _ _ (bounds.smaller c.min-many.ensures) c.merge-reasons.ensures;
     }

@@ -1,3 +1,4 @@
+use Rattle.bounds.proofs.Laws as bounds
 use Rattle.search_cases.proofs.Laws as laws
 use native.Mathlib.Omega.{arith}
 use mathlib.Core.Path.{refl}
@@ -5,8 +6,8 @@ use Rattle.search_cases.proofs.begun.Goals as goal
 
 pub merge-count-requires : goal.merge-count-requires
 merge-count-requires c =
-    laws.merge_room _ _ _ _ 0 (omega (arith, c.min_usize-many.ensures.most))
-    (omega (arith, c.min_usize-many.ensures.most)) c.requires
+    laws.merge_room _ _ _ _ 0 (omega (arith, (bounds.smaller c.min-many.ensures).most))
+    (omega (arith, (bounds.smaller c.min-many.ensures).most)) c.requires
 
 pub returns : goal.returns
 returns c =
@@ -18,5 +19,5 @@ returns c =
       shortest = refl;
       stopped = refl;
       reasons =
-          laws.begins_reasons _ _ _ c.min_usize-many.ensures c.merge-count.ensures;
+          laws.begins_reasons _ _ _ (bounds.smaller c.min-many.ensures) c.merge-count.ensures;
     }

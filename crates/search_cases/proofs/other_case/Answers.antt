@@ -1,13 +1,11 @@
 use Prim.Native.Nat.{ℕ, ◌+◌}
 use mathlib.Core.Path.{refl, ap}
 use borrow.Author.Rules.{rules}
+use Rattle.bounds.proofs.Laws as bounds
 use Rattle.search_cases.proofs.other_case.Goals as goal
 
 pub overflow_add-result : goal.overflow_add-result
 overflow_add-result c = search rules
-
-pub min_u32-requires : goal.min_u32-requires
-min_u32-requires c = search rules
 
 pub overflow_add-result-2 : goal.overflow_add-result-2
 overflow_add-result-2 c = search rules
@@ -18,7 +16,7 @@ returns c =
       refused = refl;
       cases = refl;
       steps = λ h. ap (λ (y : ℕ). c.args.o.steps + y)
-          (c.min_u32.ensures.same h);
+          ((bounds.smaller c.min.ensures).same h);
       reasons = refl;
       found = refl;
       shortest = refl;

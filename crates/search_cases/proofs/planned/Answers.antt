@@ -1,6 +1,7 @@
 use Prim.Native.Nat.{ℕ}
 use mathlib.Core.Path.{refl, subst}
 use Rattle.bounds.specs.Bounds.{AtMost}
+use Rattle.bounds.proofs.Laws as bounds
 use Rattle.search_cases.proofs.planned.Goals as goal
 
 pub returns : goal.returns
@@ -14,5 +15,5 @@ returns c =
           c.gaps_of-gaps.ensures;
       horizon = c.limit-horizon.ensures;
       cases =
-          subst (λ (y : ℕ). AtMost y 2000 c.min_u32-cases.result) c.limit.ensures c.min_u32-cases.ensures;
+          subst (λ (y : ℕ). AtMost y 2000 c.min-cases.result) c.limit.ensures (bounds.smaller c.min-cases.ensures);
     }

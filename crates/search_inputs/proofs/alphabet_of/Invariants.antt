@@ -8,6 +8,3 @@ abbrev pub invariant-loop-k : goal.invariant-loop-k
 invariant-loop-k l =
     ((j : ℕ) → j < l.k → get_or l.words j 0 ≡ input_word l.s l.index j)
     × ((length l.words ≡ 36) × (l.k ≤ 36))
-
-abbrev pub decreases-loop-k : goal.decreases-loop-k
-decreases-loop-k l = 36 - l.k

@@ -8,6 +8,3 @@ abbrev pub invariant-loop-k : goal.invariant-loop-k
 invariant-loop-k l =
     ((j : ℕ) → j < l.k → get_or l.seconds j 0 ≡ gap_word l.s l.index j)
     × ((length l.seconds ≡ 4) × (l.k ≤ 4))
-
-abbrev pub decreases-loop-k : goal.decreases-loop-k
-decreases-loop-k l = 4 - l.k

@@ -5,8 +5,5 @@ use Rattle.show.specs.Lines.{escape}
 use Rattle.show.specs.Writing.{Written}
 use Rattle.show.proofs.put_quoted.Given as goal
 
-abbrev pub invariant-loop-i : goal.invariant-loop-i
-invariant-loop-i l = Written (flat escape (take l.i l.t)) l.initial.out l.initial.m l.out l.m × (l.i ≤ length l.t)
-
-abbrev pub decreases-loop-i : goal.decreases-loop-i
-decreases-loop-i l = length l.t - l.i
+abbrev pub invariant-loop-x : goal.invariant-loop-x
+invariant-loop-x l = Written (flat escape (take l.x-index l.t)) l.initial.out l.initial.m l.out l.m × (l.x-index ≤ length l.t)

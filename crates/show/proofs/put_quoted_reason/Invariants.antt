@@ -10,6 +10,3 @@ abbrev pub invariant-loop-i : goal.invariant-loop-i
 invariant-loop-i l =
     Written (flat escape (take l.i (render l.f l.r))) l.initial.out l.initial.m l.out l.m
     × (l.i ≤ length (render l.f l.r))
-
-abbrev pub decreases-loop-i : goal.decreases-loop-i
-decreases-loop-i l = l.count - l.i

@@ -6,6 +6,3 @@ use Rattle.show.proofs.put_reason.Given as goal
 
 abbrev pub invariant-loop-i : goal.invariant-loop-i
 invariant-loop-i l = Written (take l.i (render l.f l.r)) l.initial.out l.n l.out l.m × (l.i ≤ length (render l.f l.r))
-
-abbrev pub decreases-loop-i : goal.decreases-loop-i
-decreases-loop-i l = l.count - l.i

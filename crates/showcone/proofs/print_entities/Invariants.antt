@@ -5,6 +5,3 @@ use Rattle.showcone.proofs.print_entities.Given as goal
 
 abbrev pub invariant-loop-place : goal.invariant-loop-place
 invariant-loop-place l = length l.out ≡ length l.initial.out
-
-abbrev pub decreases-loop-place : goal.decreases-loop-place
-decreases-loop-place l = l.count - l.place

@@ -6,6 +6,3 @@ use Rattle.simulate_lines.proofs.print_finals.Given as goal
 
 abbrev pub invariant-loop-e : goal.invariant-loop-e
 invariant-loop-e l = (length l.out ≡ length l.initial.out) × Kept l.initial.out l.n l.out l.m
-
-abbrev pub decreases-loop-e : goal.decreases-loop-e
-decreases-loop-e l = l.many - l.e

@@ -6,6 +6,3 @@ use Rattle.simulate_lines.proofs.print_reasons.Given as goal
 
 abbrev pub invariant-loop-i : goal.invariant-loop-i
 invariant-loop-i l = (length l.out ≡ length l.initial.out) × Kept l.initial.out l.n l.out l.m
-
-abbrev pub decreases-loop-i : goal.decreases-loop-i
-decreases-loop-i l = l.many - l.i

@@ -1,14 +1,15 @@
+use borrow.Author.Rules.{rules}
 use Rattle.show.proofs.Laws as show
 use Rattle.simulate_lines.proofs.Laws as laws
 use Rattle.simulate_lines.proofs.put_halted.Goals as goal
 
-pub returns-then-why-eq0 : goal.returns-then-why-eq0
-returns-then-why-eq0 c = show.is (laws.none_spent _ c.if-why-eq0.true) (show.nothing _ _)
+pub returns-in-0 : goal.returns-in-0
+returns-in-0 c = show.is (laws.none_spent _ c.in-0.is) (show.nothing _ _)
 
-pub returns-then-why-eq1 : goal.returns-then-why-eq1
-returns-then-why-eq1 c =
-    show.is (laws.space _ c.if-why-eq1.true)
+pub returns-in-1 : goal.returns-in-1
+returns-in-1 c =
+    show.is (laws.space _ c.in-1.is)
     c.put_text_line.ensures
 
-pub returns : goal.returns
-returns c = show.is (laws.steps _ c.if-why-eq0.false c.if-why-eq1.false) c.put_text_line-2.ensures
+pub returns-in_default : goal.returns-in_default
+returns-in_default c = show.is (laws.steps _ (search rules) (search rules)) c.put_text_line-in_default.ensures
