@@ -1,8 +1,21 @@
-// The smaller of two numbers, where a word becomes an index or the other way round; otherwise that is `min`.
+// The smaller of two numbers: the library's `min` by one definition, with one function for each width; and where a word
+// becomes an index, or the other way round.
 #![tactic(auto)]
 
 ghost use Rattle.std.specs.Prelude.{◌≡◌, ◌≤◌};
-ghost use Rattle.bounds.specs.Bounds.{at_most};
+ghost use Rattle.bounds.specs.Bounds.{at_most, AtMost};
+
+pub fn min_usize(n: usize, most: usize) -> usize
+    ensures { AtMost n most result }
+{
+    n.min(most)
+}
+
+pub fn min_u32(n: u32, most: u32) -> u32
+    ensures { AtMost n most result }
+{
+    n.min(most)
+}
 
 // A word as an index or a count.
 pub fn at_most(n: u32, most: usize) -> usize
