@@ -198,9 +198,9 @@ module _ (f x : List ℕ) (at : ℕ) where
   unfolding never_m unsure_m fails_m failed_m yes_m unknown_m
   never_again ps m = by (all_m f x ps 0 (later at 3)).truth
     where
-      by : (t : Truth) → failed_m (fails_m (yes_m t) ProhibitedState) ≡ false
+      by : (t : Truth) → failed_m (fails_m (yes_m t) (Some ProhibitedState)) ≡ false
           → ◌≡◌ {A = Shown} (record {
-            failure = fails_m (yes_m t) ProhibitedState;
+            failure = fails_m (yes_m t) (Some ProhibitedState);
             memory =
                 unsure_m (unknown_m t) (unsure_m (unknown_m t) m);
           })

@@ -53,7 +53,7 @@ set_m vs e v = if ltb e 32 then set vs e v else vs
 unfoldable pub never_m : (f x : List ℕ) → (at : ℕ) → (present : List ℕ) → Memory → Shown
 never_m f x at present m =
     let t = (all_m f x present 0 (later at 3)).truth in
-    record { failure = fails_m (yes_m t) ProhibitedState; memory = unsure_m (unknown_m t) m }
+    record { failure = fails_m (yes_m t) (Some ProhibitedState); memory = unsure_m (unknown_m t) m }
 
 -- the change sets the guard's entity to its value
 unfoldable pub writes_m : List ℕ → (at : ℕ) → Option Write → Bool
@@ -65,7 +65,7 @@ about_m f at r = eqb r.kind 2 && writes_m f at r.change
 
 -- what a record that the guard is about shows, by the truth of what the guard requires
 unfoldable pub guarded_m : Truth → Memory → Shown
-guarded_m t m = record { failure = fails_m (no_m t) GuardViolated; memory = unsure_m (unknown_m t) m }
+guarded_m t m = record { failure = fails_m (no_m t) (Some GuardViolated); memory = unsure_m (unknown_m t) m }
 
 unfoldable pub guard_m : (f x : List ℕ) → (at : ℕ) → (before : List ℕ) → Record → Memory → Shown
 guard_m f x at before r m =
@@ -77,7 +77,7 @@ passes_m f at None = false
 passes_m f at (Some w) = eqb w.entity (two f (at + 3)) && eqb w.before (two f (at + 5)) && eqb w.after (two f (at + 7))
 
 unfoldable pub transition_m : List ℕ → (at : ℕ) → Record → Memory → Shown
-transition_m f at r m = record { failure = fails_m (passes_m f at r.change) ForbiddenTransition; memory = m }
+transition_m f at r m = record { failure = fails_m (passes_m f at r.change) (Some ForbiddenTransition); memory = m }
 
 -- ---- what a response reads
 

@@ -96,7 +96,7 @@ fn read_never(f: &[u8], x: &Table, at: u32, present: &[u32; 32], m: Memory) -> S
 {
     let judged = evaluate_all(f, x, present, 0, after(at, 3));
     let t = judged.truth;
-    let failure = fails_if(is_yes(t), Failure::ProhibitedState);
+    let failure = fails_if(is_yes(t), Some(Failure::ProhibitedState));
     let memory = unsure(is_unknown(t), m);
     Shown { failure, memory }
 }
@@ -129,7 +129,7 @@ fn is_about(f: &[u8], at: u32, r: Record) -> bool
 fn guarded(t: Truth, m: Memory) -> Shown
     ensures { result ≡ guarded_m t m }
 {
-    let failure = fails_if(is_no(t), Failure::GuardViolated);
+    let failure = fails_if(is_no(t), Some(Failure::GuardViolated));
     let memory = unsure(is_unknown(t), m);
     Shown { failure, memory }
 }
@@ -170,7 +170,7 @@ fn read_transition(f: &[u8], at: u32, r: Record, m: Memory) -> Shown
     ensures { result ≡ transition_m f.now at r m }
 {
     let change = r.change;
-    let failure = fails_if(passes(f, at, change), Failure::ForbiddenTransition);
+    let failure = fails_if(passes(f, at, change), Some(Failure::ForbiddenTransition));
     Shown { failure, memory: m }
 }
 

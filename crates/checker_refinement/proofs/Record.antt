@@ -87,11 +87,11 @@ both_true false b h = absurd (false≢true h)
 -- ---- what a verdict shows
 
 never_is : (t : Truth) (v : kleene.Truth) (m : Memory) → truth_of t ≡ v →
-    shown_of (record { failure = fails_m (yes_m t) ProhibitedState; memory = unsure_m (unknown_m t) m })
+    shown_of (record { failure = fails_m (yes_m t) (Some ProhibitedState); memory = unsure_m (unknown_m t) m })
     ≡ record { failure = fails_if (is_yes v) judge.prohibited_state; memory = judge.unsure (is_unknown v) (memory_of m) }
 unfolding shown_of memory_of unsure_m
 never_is t v m e =
-    rw (← e, ← yes_is t, ← unknown_is t, fails_is (yes_m t) ProhibitedState judge.prohibited_state refl)
+    rw (← e, ← yes_is t, ← unknown_is t, fails_is (yes_m t) (Some ProhibitedState) judge.prohibited_state refl)
 
 guard_is : (about : Bool) (t : Truth) (v : kleene.Truth) (m : Memory) → truth_of t ≡ v →
     shown_of (if about then guarded_m t m else record { failure = None; memory = m })
@@ -102,14 +102,14 @@ guard_is : (about : Bool) (t : Truth) (v : kleene.Truth) (m : Memory) → truth_
     }
 unfolding shown_of memory_of unsure_m guarded_m fails_if
 guard_is true t v m e =
-    rw (← e, ← no_is t, ← unknown_is t, fails_is (no_m t) GuardViolated judge.guard_violated refl)
+    rw (← e, ← no_is t, ← unknown_is t, fails_is (no_m t) (Some GuardViolated) judge.guard_violated refl)
 guard_is false t v m e = rw (or_false m.unknown)
 
 transition_is : (b : Bool) (m : Memory) →
-    shown_of (record { failure = fails_m b ForbiddenTransition; memory = m })
+    shown_of (record { failure = fails_m b (Some ForbiddenTransition); memory = m })
     ≡ record { failure = fails_if b judge.forbidden_transition; memory = memory_of m }
 unfolding shown_of
-transition_is b m = rw (fails_is b ForbiddenTransition judge.forbidden_transition refl)
+transition_is b m = rw (fails_is b (Some ForbiddenTransition) judge.forbidden_transition refl)
 
 same_guard : (ps : List Predicate) {a b c d e v : Text} → a ≡ b → c ≡ d → e ≡ v → guard a c e ps ≡ guard b d v ps
 same_guard ps h i j = rw (h, i, j)

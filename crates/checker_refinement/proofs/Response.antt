@@ -66,7 +66,8 @@ unknown_is Yes = refl
 unknown_is No = refl
 unknown_is Unknown = refl
 
-pub fails_is : (b : Bool) (e : Failure) (g : judge.Failure) → failure_of (Some e) ≡ some g → failure_of (fails_m b e) ≡ fails_if b g
+pub fails_is : (b : Bool) (e : core.Option Failure) (g : judge.Failure) → failure_of e ≡ some g
+    → failure_of (fails_m b e) ≡ fails_if b g
 unfolding fails_m fails_if
 fails_is true e g h = h
 fails_is false e g h = refl
@@ -95,14 +96,14 @@ missed_is : (now : ℕ) (g : Truth) (w : core.Option ℕ) → failure_of (missed
 unfolding missed_m missed
 missed_is now g None = refl
 missed_is now g (Some d) =
-    fails_is (ltb d now && no_m g) (DeadlineMissed d) _ refl
+    fails_is (ltb d now && no_m g) (Some (DeadlineMissed d)) _ refl
     ∙ ap (λ (b : Bool). fails_if (ltb d now && b) (judge.deadline_missed d)) (no_is g)
 
 at_end_is : (now : ℕ) (g : Truth) (w : core.Option ℕ) → failure_of (at_end_m now g w) ≡ missed_at_end now (truth_of g) (wait_of w)
 unfolding at_end_m missed_at_end
 at_end_is now g None = refl
 at_end_is now g (Some d) =
-    fails_is (leb d now && no_m g) (DeadlineMissed d) _ refl
+    fails_is (leb d now && no_m g) (Some (DeadlineMissed d)) _ refl
     ∙ ap (λ (b : Bool). fails_if (leb d now && b) (judge.deadline_missed d)) (no_is g)
 
 -- ---- what waits after a record

@@ -24,9 +24,9 @@ unknown_m Yes = false
 unknown_m No = false
 unknown_m Unknown = true
 
--- a failure, if the test holds
-unfoldable pub fails_m : Bool → Failure → Option Failure
-fails_m b e = if b then Some e else None
+-- a failure, if there is one and the test holds
+unfoldable pub fails_m : Bool → Option Failure → Option Failure
+fails_m b e = if b then e else None
 
 unfoldable pub failed_m : Option Failure → Bool
 failed_m e = is_some e
@@ -44,7 +44,7 @@ overdue_m now (Some d) = ltb d now
 -- a deadline that has passed is missed if the goal did not hold before the record
 unfoldable pub missed_m : (now : ℕ) → (earlier : Truth) → Option ℕ → Option Failure
 missed_m now g None = None
-missed_m now g (Some d) = fails_m (ltb d now && no_m g) (DeadlineMissed d)
+missed_m now g (Some d) = fails_m (ltb d now && no_m g) (Some (DeadlineMissed d))
 
 -- a deadline that has passed is dropped
 unfoldable pub kept_m : (now : ℕ) → Option ℕ → Option ℕ
@@ -65,7 +65,7 @@ waits_m now s held w = if yes_m s.goal then None else begun_m now s.within s.cau
 -- at the horizon what still waits is missed, if its deadline is reached
 unfoldable pub at_end_m : (now : ℕ) → (goal : Truth) → Option ℕ → Option Failure
 at_end_m now g None = None
-at_end_m now g (Some d) = fails_m (leb d now && no_m g) (DeadlineMissed d)
+at_end_m now g (Some d) = fails_m (leb d now && no_m g) (Some (DeadlineMissed d))
 
 unfoldable pub beyond_m : (now : ℕ) → Option ℕ → Bool
 beyond_m now None = false

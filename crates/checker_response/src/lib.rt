@@ -96,12 +96,12 @@ pub fn either(a: bool, b: bool) -> bool
     a || b
 }
 
-// The failure, if the test holds.
+// The failure, if there is one and the test holds.
 #[tactic(auto, unfolding(crate::specs::Response::fails_m))]
-pub fn fails_if(b: bool, e: Failure) -> Option<Failure>
+pub fn fails_if(b: bool, e: Option<Failure>) -> Option<Failure>
     ensures { result ≡ fails_m b e }
 {
-    b.then_some(e)
+    if b { e } else { None }
 }
 
 #[tactic(auto, unfolding(crate::specs::Response::failed_m))]
@@ -129,7 +129,7 @@ fn missed(now: u32, earlier: Truth, w: Option<u64>) -> Option<Failure>
     let d = w?;
     fails_if(
         d < u64::from(now) && is_no(earlier),
-        Failure::DeadlineMissed(d),
+        Some(Failure::DeadlineMissed(d)),
     )
 }
 
@@ -184,7 +184,7 @@ fn missed_at_end(now: u32, goal: Truth, w: Option<u64>) -> Option<Failure>
     let d = w?;
     fails_if(
         d <= u64::from(now) && is_no(goal),
-        Failure::DeadlineMissed(d),
+        Some(Failure::DeadlineMissed(d)),
     )
 }
 
